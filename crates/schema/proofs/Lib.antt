@@ -1,0 +1,3 @@
+pub mod ActionBits
+pub mod ActionLaws
+pub mod Entries

@@ -1,0 +1,16 @@
+-- The one bit fits, so that none is cut off.
+use Rattle.std.proofs.Common.{◌≡◌, ◌*◌, ◌^◌, ◌<◌, arith, ap, ◌∙◌}
+use Rattle.std.specs.Int.RustNames.{bit_or}
+use Rattle.std.proofs.Math.Nat.{mod-eq_of_lt, mod-lt}
+use Rattle.std.proofs.Math.Pow.{pow-lt}
+use Rattle.std.proofs.lemmas.Nat.{or_lt, pow_pos}
+use Rattle.schema.proofs.actions.with_bit.Goals as goal
+
+pub returns-clause-value : goal.returns-clause-value
+returns-clause-value c =
+    let power : 2 ^ c.args.place < 2 ^ 128 = pow-lt c.requires in let small : 1 * 2 ^ c.args.place < 2 ^ 128 = omega (arith, power) in
+    let one : 1 * 2 ^ c.args.place ≡ 2 ^ c.args.place = omega arith in
+    ap (λ n. bit_or c.args.bits n) (mod-eq_of_lt small ∙ one)
+
+pub returns-clause-fits : goal.returns-clause-fits
+returns-clause-fits c = or_lt 128 c.args.bits _ c.ranges.bits.fits (mod-lt _ (pow_pos 128))

@@ -1,0 +1,12 @@
+pub mod Actions
+pub mod NodeData
+pub mod Parts
+pub mod RareTexts
+pub mod RoleNames
+pub mod Roles
+pub mod RunLists
+pub mod Same
+pub mod SameBy
+pub mod TreeIds
+pub mod UpdateData
+pub mod Written

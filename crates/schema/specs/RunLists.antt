@@ -1,0 +1,11 @@
+-- What a text run says of its characters, as plain data.
+use Rattle.std.specs.Prelude.{ℕ, ℤ, List, [], Option, None}
+
+pub record RunListsData : Type 0 where
+  pub lengths : List ℕ
+  pub starts : List ℕ
+  pub positions : Option (List ℤ)
+  pub widths : Option (List ℤ)
+
+abbrev pub no_lists : RunListsData
+no_lists = record { lengths = []; starts = []; positions = None; widths = None }

@@ -1,0 +1,165 @@
+//! Actions, and the sets of them that a node has.
+
+ghost use Rattle.std.specs.Prelude.{◌≡◌, ℕ, ◌<◌, ◌^◌, IsTrue, ◌↔◌, bit_or};
+ghost use Rattle.schema.specs.Actions.{action_number, has_action, with_action, Gains};
+
+use crate::Node;
+use std::marker::Model;
+
+/// What a user may ask of a node.
+#[derive(Clone, Copy, Debug, PartialEq, Eq, Hash)]
+pub enum Action {
+    /// To press it, or to do what it is for.
+    Click,
+    /// To give it the focus.
+    Focus,
+    /// To raise its numeric value by a step.
+    Increment,
+    /// To lower its numeric value by a step.
+    Decrement,
+    /// Another action, by its number.
+    Other(u8),
+}
+
+impl Action {
+    /// The number of the bit that stands for the action in a set.
+    fn number(self) -> u16
+        ensures value { result ≡ action_number self }
+        ensures small { result < 260 }
+    {
+        match self {
+            Action::Click => 0,
+            Action::Focus => 1,
+            Action::Increment => 2,
+            Action::Decrement => 3,
+            Action::Other(n) => 4 + u16::from(n),
+        }
+    }
+}
+
+/// A set of actions, a bit each: the first 128 in `low`, the next 128 in `high`, and the last four in `top`.
+#[derive(Drop)]
+pub(crate) struct ActionSet {
+    low: u128,
+    high: u128,
+    top: u8,
+}
+
+impl Model for ActionSet {
+    ghost use Rattle.std.specs.Prelude.{ℕ, ◌<◌, ◌^◌};
+    ghost use Rattle.schema.specs.Actions.{set_of};
+
+    ghost Value = { ℕ };
+
+    ghost view = { λ a. set_of a.top a.high a.low };
+
+    ghost invariant = { λ a. (a.low < 2 ^ 128) × (a.high < 2 ^ 128) };
+}
+
+impl ActionSet {
+    /// No action.
+    pub(crate) fn new() -> ActionSet
+        ensures { result ≡ 0 }
+    {
+        ActionSet {
+            low: 0,
+            high: 0,
+            top: 0,
+        }
+    }
+
+    /// The same set.
+    pub(crate) fn copy(&self) -> ActionSet
+        ensures { result ≡ self.now }
+    {
+        ActionSet {
+            low: self.low,
+            high: self.high,
+            top: self.top,
+        }
+    }
+
+    /// Whether the set has the action.
+    pub(crate) fn contains(&self, action: Action) -> bool
+        ensures { result ≡ has_action self.now action }
+    {
+        let number = action.number();
+        if number < 128 {
+            return (self.low >> number) & 1 == 1;
+        }
+        if number < 256 {
+            return (self.high >> (number - 128)) & 1 == 1;
+        }
+        (self.top >> (number - 256)) & 1 == 1
+    }
+
+    /// Adds the action, which may be there already.
+    pub(crate) fn add(&mut self, action: Action)
+        ensures { self.new ≡ with_action self.old action }
+    {
+        let number = action.number();
+        if number < 128 {
+            self.low = with_bit(self.low, number);
+        } else if number < 256 {
+            self.high = with_bit(self.high, number - 128);
+        } else {
+            self.top = with_top_bit(self.top, number - 256);
+        }
+    }
+
+    /// Whether the sets have the same members.
+    pub(crate) fn same(&self, other: &ActionSet) -> bool
+        ensures { IsTrue result ↔ (self.now ≡ other.now) }
+    {
+        self.low == other.low && self.high == other.high && self.top == other.top
+    }
+}
+
+/// The bits with one more.
+fn with_bit(bits: u128, place: u16) -> u128
+    requires { place < 128 }
+    ensures value { result ≡ bit_or bits (2 ^ place) }
+    ensures fits { result < 2 ^ 128 }
+{
+    bits | (1 << place)
+}
+
+/// The bits with one more.
+fn with_top_bit(bits: u8, place: u16) -> u8
+    requires { place < 8 }
+    ensures { result ≡ bit_or bits (2 ^ place) }
+{
+    bits | (1 << place)
+}
+
+impl Node {
+    /// Whether the node supports the action.
+    pub fn supports_action(&self, action: Action) -> bool
+        ensures { result ≡ has_action self.now.actions action }
+    {
+        self.actions.contains(action)
+    }
+
+    /// Adds to the actions that the node supports.
+    pub fn add_action(&mut self, action: Action)
+        ensures value { self.new ≡ record self.old { actions = with_action self.old.actions action } }
+        ensures members { Gains self.old.actions self.new.actions action }
+    {
+        self.actions.add(action);
+    }
+
+    /// Whether the node's children support the action.
+    pub fn child_supports_action(&self, action: Action) -> bool
+        ensures { result ≡ has_action self.now.child_actions action }
+    {
+        self.child_actions.contains(action)
+    }
+
+    /// Adds to the actions that the node's children support.
+    pub fn add_child_action(&mut self, action: Action)
+        ensures value { self.new ≡ record self.old { child_actions = with_action self.old.child_actions action } }
+        ensures members { Gains self.old.child_actions self.new.child_actions action }
+    {
+        self.child_actions.add(action);
+    }
+}

@@ -1,0 +1,283 @@
+//! The schema of an accessibility tree: nodes, the updates that bring them, and the writer of text.
+//!
+//! A node is built by [`Node::new`] and its setters, and sent in a [`TreeUpdate`]. Contracts see a node as the
+//! plain record `NodeData` of `specs/`, field by field, and nothing of how the fields are kept in memory.
+#![tactic(auto)]
+
+ghost use Rattle.std.specs.Prelude.{◌≡◌};
+ghost use Rattle.schema.specs.NodeData.{empty_node};
+ghost use Rattle.schema.specs.TreeIds.{root_tree_id};
+
+mod actions;
+mod copies;
+mod equality;
+mod flags;
+mod geometry;
+mod lists;
+mod numbers;
+mod plain_fields;
+mod rare_texts;
+mod roles;
+mod run_lists;
+mod runs;
+mod styles;
+mod text_write;
+mod texts;
+mod update;
+mod values;
+
+pub use actions::Action;
+use actions::ActionSet;
+pub use geometry::{Point, Rect, Translation, WideRect, WideTranslation};
+use plain_fields::PlainFields;
+use rare_texts::RareTexts;
+use run_lists::RunLists;
+use std::alloc::Global;
+use std::marker::Model;
+pub use text_write::{TextBuffer, TextFault, TextWrite};
+pub use update::{TreeInfo, TreeUpdate};
+use uuid::Uuid;
+pub use values::{
+    AriaCurrent, Color, HasPopup, Live, Orientation, SortDirection, TextAlign, TextDecoration,
+    TextDecorationStyle, TextDirection, TextPosition, TextSelection, Toggled, VerticalOffset,
+};
+
+/// Names a node within its tree.
+#[derive(Clone, Copy, Debug, PartialEq, Eq, PartialOrd, Ord, Hash)]
+pub struct NodeId(pub u64);
+
+/// Names a tree.
+#[derive(Clone, Copy, Debug, PartialEq, Eq, PartialOrd, Ord, Hash)]
+pub struct TreeId(pub Uuid);
+
+impl TreeId {
+    /// The root tree's id, which is the nil UUID.
+    pub fn root() -> TreeId
+        ensures { result ≡ root_tree_id }
+    {
+        TreeId(Uuid::nil())
+    }
+}
+
+/// What a node is.
+#[derive(Clone, Copy, Debug)]
+pub enum Role {
+    Unknown,
+    Window,
+    ScrollView,
+    Paragraph,
+    GenericContainer,
+    TextRun,
+    Label,
+    Image,
+    Document,
+    Terminal,
+    TextInput,
+    MultilineTextInput,
+    SearchInput,
+    DateInput,
+    DateTimeInput,
+    WeekInput,
+    MonthInput,
+    TimeInput,
+    EmailInput,
+    NumberInput,
+    PasswordInput,
+    PhoneNumberInput,
+    UrlInput,
+    EditableComboBox,
+    SpinButton,
+    ListBox,
+    TabList,
+    AlertDialog,
+    Dialog,
+    ComboBox,
+    DisclosureTriangle,
+    TreeItem,
+    Button,
+    CheckBox,
+    DefaultButton,
+    Link,
+    MenuItem,
+    MenuItemCheckBox,
+    MenuItemRadio,
+    RadioButton,
+    DocBackLink,
+    DocBiblioRef,
+    DocGlossRef,
+    DocNoteRef,
+    ColorWell,
+    Grid,
+    MenuListPopup,
+    RadioGroup,
+    Slider,
+    Switch,
+    TreeGrid,
+    Article,
+    Definition,
+    DescriptionList,
+    GraphicsDocument,
+    List,
+    ListItem,
+    PdfRoot,
+    ProgressIndicator,
+    RootWebArea,
+    Term,
+    Timer,
+    Toolbar,
+    Tooltip,
+    Comment,
+    Tab,
+    ListBoxOption,
+    MenuListOption,
+    ListGrid,
+    Menu,
+    MenuBar,
+    Tree,
+    /// A role that has no name here, by its number.
+    Other(u16),
+}
+
+/// A node of an accessibility tree: its role, its children and what is known of it. Most fields may be absent.
+#[derive(Drop)]
+pub struct Node {
+    actions: ActionSet,
+    child_actions: ActionSet,
+    children: Vec<NodeId>,
+    labelled_by: Vec<NodeId>,
+    controls: Vec<NodeId>,
+    label: Option<String>,
+    value: Option<String>,
+    texts: RareTexts,
+    run: RunLists,
+    plain: PlainFields,
+    alloc: Global,
+}
+
+impl Model for Node {
+    ghost use Rattle.std.specs.Prelude.{option_map};
+    ghost use Rattle.std.specs.Bool.{then_some};
+    ghost use Rattle.std.specs.String.{string_bytes};
+    ghost use Rattle.schema.specs.NodeData.{NodeData};
+
+    ghost Value = { NodeData };
+
+    ghost view = { λ a. record {
+      role = a.plain.role;
+      children = a.children.items;
+      labelled_by = a.labelled_by.items;
+      controls = a.controls.items;
+      active_descendant = then_some a.plain.has_active_descendant a.plain.active_descendant;
+      previous_on_line = then_some a.plain.has_previous_on_line a.plain.previous_on_line;
+      next_on_line = then_some a.plain.has_next_on_line a.plain.next_on_line;
+      tree_id = a.plain.tree_id;
+      label = option_map string_bytes a.label;
+      value = option_map string_bytes a.value;
+      description = a.texts.description;
+      role_description = a.texts.role_description;
+      placeholder = a.texts.placeholder;
+      url = a.texts.url;
+      author_id = a.texts.author_id;
+      html_id = a.texts.html_id;
+      class_name = a.texts.class_name;
+      braille_label = a.texts.braille_label;
+      braille_role_description = a.texts.braille_role_description;
+      column_index_text = a.texts.column_index_text;
+      row_index_text = a.texts.row_index_text;
+      font_family = a.texts.font_family;
+      language = a.texts.language;
+      hidden = a.plain.hidden;
+      disabled = a.plain.disabled;
+      read_only = a.plain.read_only;
+      busy = a.plain.busy;
+      live_atomic = a.plain.live_atomic;
+      modal = a.plain.modal;
+      multiselectable = a.plain.multiselectable;
+      required = a.plain.required;
+      touch_transparent = a.plain.touch_transparent;
+      italic = a.plain.italic;
+      clips_children = a.plain.clips_children;
+      expanded = a.plain.expanded;
+      selected = a.plain.selected;
+      level = then_some a.plain.has_level a.plain.level;
+      size_of_set = then_some a.plain.has_size_of_set a.plain.size_of_set;
+      position_in_set = then_some a.plain.has_position_in_set a.plain.position_in_set;
+      numeric_value = then_some a.plain.has_numeric_value a.plain.numeric_value;
+      min_numeric_value = then_some a.plain.has_min_numeric_value a.plain.min_numeric_value;
+      max_numeric_value = then_some a.plain.has_max_numeric_value a.plain.max_numeric_value;
+      numeric_value_step = then_some a.plain.has_numeric_value_step a.plain.numeric_value_step;
+      numeric_value_jump = then_some a.plain.has_numeric_value_jump a.plain.numeric_value_jump;
+      scroll_x = then_some a.plain.has_scroll_x a.plain.scroll_x;
+      scroll_x_min = then_some a.plain.has_scroll_x_min a.plain.scroll_x_min;
+      scroll_x_max = then_some a.plain.has_scroll_x_max a.plain.scroll_x_max;
+      scroll_y = then_some a.plain.has_scroll_y a.plain.scroll_y;
+      scroll_y_min = then_some a.plain.has_scroll_y_min a.plain.scroll_y_min;
+      scroll_y_max = then_some a.plain.has_scroll_y_max a.plain.scroll_y_max;
+      bounds = a.plain.bounds;
+      transform = a.plain.transform;
+      actions = a.actions;
+      child_actions = a.child_actions;
+      text_selection = a.plain.text_selection;
+      character_lengths = a.run.lengths;
+      word_starts = a.run.starts;
+      character_positions = a.run.positions;
+      character_widths = a.run.widths;
+      font_size = a.plain.font_size;
+      font_weight = a.plain.font_weight;
+      background_color = a.plain.background_color;
+      foreground_color = a.plain.foreground_color;
+      overline = a.plain.overline;
+      strikethrough = a.plain.strikethrough;
+      underline = a.plain.underline;
+      toggled = a.plain.toggled;
+      orientation = a.plain.orientation;
+      sort_direction = a.plain.sort_direction;
+      aria_current = a.plain.aria_current;
+      has_popup = a.plain.has_popup;
+      live = a.plain.live;
+      text_direction = a.plain.text_direction;
+      text_align = a.plain.text_align;
+      vertical_offset = a.plain.vertical_offset;
+    } };
+}
+
+/// A tree may have a hundred thousand nodes.
+const _: () = prove!(size_of::<Node>() <= 600);
+
+impl Node {
+    /// A node with nothing but a role. What it is given later is kept in memory from `alloc`.
+    pub fn new(alloc: Global, role: Role) -> Node
+        ensures { result ≡ empty_node role }
+    {
+        Node {
+            actions: ActionSet::new(),
+            child_actions: ActionSet::new(),
+            children: Vec::new(alloc),
+            labelled_by: Vec::new(alloc),
+            controls: Vec::new(alloc),
+            label: None,
+            value: None,
+            texts: RareTexts::new(alloc),
+            run: RunLists::new(),
+            plain: PlainFields {
+                role,
+                ..PlainFields::EMPTY
+            },
+            alloc,
+        }
+    }
+
+    /// What the node is.
+    pub fn role(&self) -> Role
+        ensures { result ≡ self.now.role }
+    {
+        self.plain.role
+    }
+
+    /// Sets [`Node::role`].
+    pub fn set_role(&mut self, role: Role)
+        ensures { self.new ≡ record self.old { role = role } }
+    {
+        self.plain.role = role;
+    }
+}

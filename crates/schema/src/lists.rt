@@ -1,0 +1,198 @@
+//! The links of a node to others of its tree.
+
+ghost use Rattle.std.specs.Prelude.{◌≡◌, ◌++◌, [], ◌∷◌, None, Some, OnOk, OnErr};
+
+use crate::{Node, NodeId, TreeId};
+use std::alloc::AllocError;
+
+impl Node {
+    /// The ids of the node's children, in order. They name nodes of the node's own tree.
+    pub fn children(&self) -> &[NodeId]
+        ensures { result.now ≡ self.now.children }
+    {
+        self.children.as_slice()
+    }
+
+    /// Sets [`Node::children`] to a copy of the list.
+    pub fn set_children(&mut self, ids: &[NodeId]) -> Result<(), AllocError>
+        ensures ok { OnOk result (self.new ≡ record self.old { children = ids.now }) }
+        ensures err { OnErr result (self.new ≡ self.old) }
+    {
+        self.children = Vec::from_slice(self.alloc, ids)?;
+        Ok(())
+    }
+
+    /// Adds an id at the end of [`Node::children`].
+    pub fn push_child(&mut self, id: NodeId) -> Result<(), AllocError>
+        ensures ok { OnOk result (self.new ≡ record self.old { children = self.old.children ++ id ∷ [] }) }
+        ensures err { OnErr result (self.new ≡ self.old) }
+    {
+        self.children.push(id)?;
+        Ok(())
+    }
+
+    /// Empties [`Node::children`].
+    pub fn clear_children(&mut self)
+        ensures { self.new ≡ record self.old { children = [] } }
+    {
+        self.children = Vec::new(self.alloc);
+    }
+
+    /// The ids of the nodes that label this one, in the order of their texts.
+    pub fn labelled_by(&self) -> &[NodeId]
+        ensures { result.now ≡ self.now.labelled_by }
+    {
+        self.labelled_by.as_slice()
+    }
+
+    /// Sets [`Node::labelled_by`] to a copy of the list.
+    pub fn set_labelled_by(&mut self, ids: &[NodeId]) -> Result<(), AllocError>
+        ensures ok { OnOk result (self.new ≡ record self.old { labelled_by = ids.now }) }
+        ensures err { OnErr result (self.new ≡ self.old) }
+    {
+        self.labelled_by = Vec::from_slice(self.alloc, ids)?;
+        Ok(())
+    }
+
+    /// Adds an id at the end of [`Node::labelled_by`].
+    pub fn push_labelled_by(&mut self, id: NodeId) -> Result<(), AllocError>
+        ensures ok { OnOk result
+            (self.new ≡ record self.old { labelled_by = self.old.labelled_by ++ id ∷ [] }) }
+        ensures err { OnErr result (self.new ≡ self.old) }
+    {
+        self.labelled_by.push(id)?;
+        Ok(())
+    }
+
+    /// Empties [`Node::labelled_by`].
+    pub fn clear_labelled_by(&mut self)
+        ensures { self.new ≡ record self.old { labelled_by = [] } }
+    {
+        self.labelled_by = Vec::new(self.alloc);
+    }
+
+    /// The ids of the nodes that this one controls.
+    pub fn controls(&self) -> &[NodeId]
+        ensures { result.now ≡ self.now.controls }
+    {
+        self.controls.as_slice()
+    }
+
+    /// Sets [`Node::controls`] to a copy of the list.
+    pub fn set_controls(&mut self, ids: &[NodeId]) -> Result<(), AllocError>
+        ensures ok { OnOk result (self.new ≡ record self.old { controls = ids.now }) }
+        ensures err { OnErr result (self.new ≡ self.old) }
+    {
+        self.controls = Vec::from_slice(self.alloc, ids)?;
+        Ok(())
+    }
+
+    /// Adds an id at the end of [`Node::controls`].
+    pub fn push_controls(&mut self, id: NodeId) -> Result<(), AllocError>
+        ensures ok { OnOk result (self.new ≡ record self.old { controls = self.old.controls ++ id ∷ [] }) }
+        ensures err { OnErr result (self.new ≡ self.old) }
+    {
+        self.controls.push(id)?;
+        Ok(())
+    }
+
+    /// Empties [`Node::controls`].
+    pub fn clear_controls(&mut self)
+        ensures { self.new ≡ record self.old { controls = [] } }
+    {
+        self.controls = Vec::new(self.alloc);
+    }
+
+    /// The node of the same tree that stands for this one while this one has the focus.
+    pub fn active_descendant(&self) -> Option<NodeId>
+        ensures { result ≡ self.now.active_descendant }
+    {
+        self.plain
+            .has_active_descendant
+            .then_some(self.plain.active_descendant)
+    }
+
+    /// Sets [`Node::active_descendant`].
+    pub fn set_active_descendant(&mut self, value: NodeId)
+        ensures { self.new ≡ record self.old { active_descendant = Some value } }
+    {
+        self.plain.active_descendant = value;
+        self.plain.has_active_descendant = true;
+    }
+
+    /// Takes [`Node::active_descendant`] back.
+    pub fn clear_active_descendant(&mut self)
+        ensures { self.new ≡ record self.old { active_descendant = None } }
+    {
+        self.plain.has_active_descendant = false;
+    }
+
+    /// The text run before this one on the same line.
+    pub fn previous_on_line(&self) -> Option<NodeId>
+        ensures { result ≡ self.now.previous_on_line }
+    {
+        self.plain
+            .has_previous_on_line
+            .then_some(self.plain.previous_on_line)
+    }
+
+    /// Sets [`Node::previous_on_line`].
+    pub fn set_previous_on_line(&mut self, value: NodeId)
+        ensures { self.new ≡ record self.old { previous_on_line = Some value } }
+    {
+        self.plain.previous_on_line = value;
+        self.plain.has_previous_on_line = true;
+    }
+
+    /// Takes [`Node::previous_on_line`] back.
+    pub fn clear_previous_on_line(&mut self)
+        ensures { self.new ≡ record self.old { previous_on_line = None } }
+    {
+        self.plain.has_previous_on_line = false;
+    }
+
+    /// The text run after this one on the same line.
+    pub fn next_on_line(&self) -> Option<NodeId>
+        ensures { result ≡ self.now.next_on_line }
+    {
+        self.plain
+            .has_next_on_line
+            .then_some(self.plain.next_on_line)
+    }
+
+    /// Sets [`Node::next_on_line`].
+    pub fn set_next_on_line(&mut self, value: NodeId)
+        ensures { self.new ≡ record self.old { next_on_line = Some value } }
+    {
+        self.plain.next_on_line = value;
+        self.plain.has_next_on_line = true;
+    }
+
+    /// Takes [`Node::next_on_line`] back.
+    pub fn clear_next_on_line(&mut self)
+        ensures { self.new ≡ record self.old { next_on_line = None } }
+    {
+        self.plain.has_next_on_line = false;
+    }
+
+    /// The tree that is grafted here: its root is this node's only child.
+    pub fn tree_id(&self) -> Option<TreeId>
+        ensures { result ≡ self.now.tree_id }
+    {
+        self.plain.tree_id
+    }
+
+    /// Sets [`Node::tree_id`].
+    pub fn set_tree_id(&mut self, value: TreeId)
+        ensures { self.new ≡ record self.old { tree_id = Some value } }
+    {
+        self.plain.tree_id = Some(value);
+    }
+
+    /// Takes [`Node::tree_id`] back.
+    pub fn clear_tree_id(&mut self)
+        ensures { self.new ≡ record self.old { tree_id = None } }
+    {
+        self.plain.tree_id = None;
+    }
+}

@@ -1,0 +1,151 @@
+//! The rarer texts of a node: a list with an entry for each that is given, so that a node without them stays small.
+
+ghost use Rattle.std.specs.Prelude.{◌≡◌, ◌++◌, [], ◌∷◌, ◌==◌, not, filter, map, None, Some, OnOk, OnErr, IfOk, option_copied, string_bytes, vec_len, vec_capacity, ◌≤◌};
+ghost use Rattle.schema.specs.RareTexts.{key_number, is_under, text_at, seen, no_texts, text_under, with_text};
+
+use std::alloc::{AllocError, Global};
+use std::marker::Model;
+
+/// Which of the rarer texts.
+#[derive(Clone, Copy)]
+pub(crate) enum RareText {
+    Description,
+    RoleDescription,
+    Placeholder,
+    Url,
+    AuthorId,
+    HtmlId,
+    ClassName,
+    BrailleLabel,
+    BrailleRoleDescription,
+    ColumnIndexText,
+    RowIndexText,
+    FontFamily,
+    Language,
+}
+
+impl RareText {
+    /// Its place in the list.
+    fn number(self) -> u8
+        ensures { result ≡ key_number self }
+    {
+        match self {
+            RareText::Description => 0,
+            RareText::RoleDescription => 1,
+            RareText::Placeholder => 2,
+            RareText::Url => 3,
+            RareText::AuthorId => 4,
+            RareText::HtmlId => 5,
+            RareText::ClassName => 6,
+            RareText::BrailleLabel => 7,
+            RareText::BrailleRoleDescription => 8,
+            RareText::ColumnIndexText => 9,
+            RareText::RowIndexText => 10,
+            RareText::FontFamily => 11,
+            RareText::Language => 12,
+        }
+    }
+}
+
+/// The rarer texts of a node.
+#[derive(Drop)]
+pub(crate) struct RareTexts {
+    entries: Vec<(RareText, String)>,
+}
+
+impl Model for RareTexts {
+    ghost use Rattle.schema.specs.RareTexts.{RareTextsData, texts_of};
+
+    ghost Value = { RareTextsData };
+
+    ghost view = { λ a. texts_of a.entries.items };
+}
+
+impl RareTexts {
+    /// None of the texts.
+    pub(crate) fn new(alloc: Global) -> RareTexts
+        ensures { result ≡ no_texts }
+    {
+        RareTexts {
+            entries: Vec::new(alloc),
+        }
+    }
+
+    /// One of the texts.
+    pub(crate) fn get(&self, key: RareText) -> Option<&str>
+        ensures { option_copied result ≡ text_under key self.now }
+    {
+        entry_of(self.entries.as_slice(), key)
+    }
+
+    /// Sets one of the texts.
+    pub(crate) fn set(&mut self, key: RareText, text: String) -> Result<(), AllocError>
+        ensures ok { OnOk result (self.new ≡ with_text key (Some (string_bytes text)) self.old) }
+        ensures err { OnErr result (self.new ≡ self.old) }
+    {
+        put(&mut self.entries, key, text)?;
+        Ok(())
+    }
+
+    /// Takes one of the texts back.
+    pub(crate) fn clear(&mut self, key: RareText)
+        ensures { self.new ≡ with_text key None self.old }
+    {
+        take_out(&mut self.entries, key);
+    }
+
+    /// A copy of the texts.
+    pub(crate) fn copy(&self, alloc: Global) -> Result<RareTexts, AllocError>
+        ensures { IfOk result (λ copy. copy ≡ self.now) }
+    {
+        let entries = copy_of_entries(alloc, self.entries.as_slice())?;
+        Ok(RareTexts { entries })
+    }
+}
+
+/// The text of the first entry under the key.
+fn entry_of(entries: &[(RareText, String)], key: RareText) -> Option<&str>
+    ensures { option_copied result ≡ text_at entries.now key }
+{
+    entries
+        .iter()
+        .find(|entry| entry.0.number() == key.number())
+        .map(|entry| entry.1.as_str())
+}
+
+/// Puts an entry in the place of those under its key. Room is made first, so that a refusal changes nothing.
+fn put(entries: &mut Vec<(RareText, String)>, key: RareText, text: String) -> Result<(), AllocError>
+    ensures ok { OnOk result (
+        entries.new.items ≡ filter (λ e. not (is_under key e)) entries.old.items ++ (key, text) ∷ []
+        ) }
+    ensures err { OnErr result (entries.new.items ≡ entries.old.items) }
+{
+    entries.reserve_exact(1)?;
+    take_out(entries, key);
+    entries.push((key, text))?;
+    Ok(())
+}
+
+/// Takes out the entries under a key.
+fn take_out(entries: &mut Vec<(RareText, String)>, key: RareText)
+    ensures items { entries.new.items ≡ filter (λ e. not (is_under key e)) entries.old.items }
+    ensures len { vec_len entries.new ≤ vec_len entries.old }
+    ensures capacity { vec_capacity entries.new ≡ vec_capacity entries.old }
+{
+    entries.retain(|entry| entry.0.number() != key.number());
+}
+
+/// The same entries, with copies of their texts.
+fn copy_of_entries(
+    alloc: Global,
+    entries: &[(RareText, String)],
+) -> Result<Vec<(RareText, String)>, AllocError>
+    ensures { IfOk result (λ copy. map seen copy.items ≡ map seen entries.now) }
+{
+    let mut copy = Vec::with_capacity(alloc, entries.len())?;
+    for entry in entries {
+        let text = String::from_str(alloc, entry.1.as_str())?;
+        copy.push((entry.0, text))?;
+    }
+    Ok(copy)
+}

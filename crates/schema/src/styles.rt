@@ -1,0 +1,347 @@
+//! How the text of a node looks, and what kind of control it is.
+
+ghost use Rattle.std.specs.Prelude.{◌≡◌, None, Some};
+
+use crate::Node;
+use crate::values::{
+    AriaCurrent, Color, HasPopup, Live, Orientation, SortDirection, TextAlign, TextDecoration,
+    TextDirection, Toggled, VerticalOffset,
+};
+
+impl Node {
+    /// The size of the font, in hundredths of a pixel.
+    pub fn font_size(&self) -> Option<u32>
+        ensures { result ≡ self.now.font_size }
+    {
+        self.plain.font_size
+    }
+
+    /// Sets [`Node::font_size`].
+    pub fn set_font_size(&mut self, value: u32)
+        ensures { self.new ≡ record self.old { font_size = Some value } }
+    {
+        self.plain.font_size = Some(value);
+    }
+
+    /// Takes [`Node::font_size`] back.
+    pub fn clear_font_size(&mut self)
+        ensures { self.new ≡ record self.old { font_size = None } }
+    {
+        self.plain.font_size = None;
+    }
+
+    /// The weight of the font: 400 is the usual one, 700 bold.
+    pub fn font_weight(&self) -> Option<u16>
+        ensures { result ≡ self.now.font_weight }
+    {
+        self.plain.font_weight
+    }
+
+    /// Sets [`Node::font_weight`].
+    pub fn set_font_weight(&mut self, value: u16)
+        ensures { self.new ≡ record self.old { font_weight = Some value } }
+    {
+        self.plain.font_weight = Some(value);
+    }
+
+    /// Takes [`Node::font_weight`] back.
+    pub fn clear_font_weight(&mut self)
+        ensures { self.new ≡ record self.old { font_weight = None } }
+    {
+        self.plain.font_weight = None;
+    }
+
+    /// The colour behind the text.
+    pub fn background_color(&self) -> Option<Color>
+        ensures { result ≡ self.now.background_color }
+    {
+        self.plain.background_color
+    }
+
+    /// Sets [`Node::background_color`].
+    pub fn set_background_color(&mut self, value: Color)
+        ensures { self.new ≡ record self.old { background_color = Some value } }
+    {
+        self.plain.background_color = Some(value);
+    }
+
+    /// Takes [`Node::background_color`] back.
+    pub fn clear_background_color(&mut self)
+        ensures { self.new ≡ record self.old { background_color = None } }
+    {
+        self.plain.background_color = None;
+    }
+
+    /// The colour of the text.
+    pub fn foreground_color(&self) -> Option<Color>
+        ensures { result ≡ self.now.foreground_color }
+    {
+        self.plain.foreground_color
+    }
+
+    /// Sets [`Node::foreground_color`].
+    pub fn set_foreground_color(&mut self, value: Color)
+        ensures { self.new ≡ record self.old { foreground_color = Some value } }
+    {
+        self.plain.foreground_color = Some(value);
+    }
+
+    /// Takes [`Node::foreground_color`] back.
+    pub fn clear_foreground_color(&mut self)
+        ensures { self.new ≡ record self.old { foreground_color = None } }
+    {
+        self.plain.foreground_color = None;
+    }
+
+    /// The line above the text.
+    pub fn overline(&self) -> Option<TextDecoration>
+        ensures { result ≡ self.now.overline }
+    {
+        self.plain.overline
+    }
+
+    /// Sets [`Node::overline`].
+    pub fn set_overline(&mut self, value: TextDecoration)
+        ensures { self.new ≡ record self.old { overline = Some value } }
+    {
+        self.plain.overline = Some(value);
+    }
+
+    /// Takes [`Node::overline`] back.
+    pub fn clear_overline(&mut self)
+        ensures { self.new ≡ record self.old { overline = None } }
+    {
+        self.plain.overline = None;
+    }
+
+    /// The line through the text.
+    pub fn strikethrough(&self) -> Option<TextDecoration>
+        ensures { result ≡ self.now.strikethrough }
+    {
+        self.plain.strikethrough
+    }
+
+    /// Sets [`Node::strikethrough`].
+    pub fn set_strikethrough(&mut self, value: TextDecoration)
+        ensures { self.new ≡ record self.old { strikethrough = Some value } }
+    {
+        self.plain.strikethrough = Some(value);
+    }
+
+    /// Takes [`Node::strikethrough`] back.
+    pub fn clear_strikethrough(&mut self)
+        ensures { self.new ≡ record self.old { strikethrough = None } }
+    {
+        self.plain.strikethrough = None;
+    }
+
+    /// The line below the text.
+    pub fn underline(&self) -> Option<TextDecoration>
+        ensures { result ≡ self.now.underline }
+    {
+        self.plain.underline
+    }
+
+    /// Sets [`Node::underline`].
+    pub fn set_underline(&mut self, value: TextDecoration)
+        ensures { self.new ≡ record self.old { underline = Some value } }
+    {
+        self.plain.underline = Some(value);
+    }
+
+    /// Takes [`Node::underline`] back.
+    pub fn clear_underline(&mut self)
+        ensures { self.new ≡ record self.old { underline = None } }
+    {
+        self.plain.underline = None;
+    }
+
+    /// The state of a control that can be toggled.
+    pub fn toggled(&self) -> Option<Toggled>
+        ensures { result ≡ self.now.toggled }
+    {
+        self.plain.toggled
+    }
+
+    /// Sets [`Node::toggled`].
+    pub fn set_toggled(&mut self, value: Toggled)
+        ensures { self.new ≡ record self.old { toggled = Some value } }
+    {
+        self.plain.toggled = Some(value);
+    }
+
+    /// Takes [`Node::toggled`] back.
+    pub fn clear_toggled(&mut self)
+        ensures { self.new ≡ record self.old { toggled = None } }
+    {
+        self.plain.toggled = None;
+    }
+
+    /// Along which axis the node lies.
+    pub fn orientation(&self) -> Option<Orientation>
+        ensures { result ≡ self.now.orientation }
+    {
+        self.plain.orientation
+    }
+
+    /// Sets [`Node::orientation`].
+    pub fn set_orientation(&mut self, value: Orientation)
+        ensures { self.new ≡ record self.old { orientation = Some value } }
+    {
+        self.plain.orientation = Some(value);
+    }
+
+    /// Takes [`Node::orientation`] back.
+    pub fn clear_orientation(&mut self)
+        ensures { self.new ≡ record self.old { orientation = None } }
+    {
+        self.plain.orientation = None;
+    }
+
+    /// In which order a column or row is sorted.
+    pub fn sort_direction(&self) -> Option<SortDirection>
+        ensures { result ≡ self.now.sort_direction }
+    {
+        self.plain.sort_direction
+    }
+
+    /// Sets [`Node::sort_direction`].
+    pub fn set_sort_direction(&mut self, value: SortDirection)
+        ensures { self.new ≡ record self.old { sort_direction = Some value } }
+    {
+        self.plain.sort_direction = Some(value);
+    }
+
+    /// Takes [`Node::sort_direction`] back.
+    pub fn clear_sort_direction(&mut self)
+        ensures { self.new ≡ record self.old { sort_direction = None } }
+    {
+        self.plain.sort_direction = None;
+    }
+
+    /// As what the node is the current one of its set.
+    pub fn aria_current(&self) -> Option<AriaCurrent>
+        ensures { result ≡ self.now.aria_current }
+    {
+        self.plain.aria_current
+    }
+
+    /// Sets [`Node::aria_current`].
+    pub fn set_aria_current(&mut self, value: AriaCurrent)
+        ensures { self.new ≡ record self.old { aria_current = Some value } }
+    {
+        self.plain.aria_current = Some(value);
+    }
+
+    /// Takes [`Node::aria_current`] back.
+    pub fn clear_aria_current(&mut self)
+        ensures { self.new ≡ record self.old { aria_current = None } }
+    {
+        self.plain.aria_current = None;
+    }
+
+    /// What pops up from the node.
+    pub fn has_popup(&self) -> Option<HasPopup>
+        ensures { result ≡ self.now.has_popup }
+    {
+        self.plain.has_popup
+    }
+
+    /// Sets [`Node::has_popup`].
+    pub fn set_has_popup(&mut self, value: HasPopup)
+        ensures { self.new ≡ record self.old { has_popup = Some value } }
+    {
+        self.plain.has_popup = Some(value);
+    }
+
+    /// Takes [`Node::has_popup`] back.
+    pub fn clear_has_popup(&mut self)
+        ensures { self.new ≡ record self.old { has_popup = None } }
+    {
+        self.plain.has_popup = None;
+    }
+
+    /// How a change of the node is told.
+    pub fn live(&self) -> Option<Live>
+        ensures { result ≡ self.now.live }
+    {
+        self.plain.live
+    }
+
+    /// Sets [`Node::live`].
+    pub fn set_live(&mut self, value: Live)
+        ensures { self.new ≡ record self.old { live = Some value } }
+    {
+        self.plain.live = Some(value);
+    }
+
+    /// Takes [`Node::live`] back.
+    pub fn clear_live(&mut self)
+        ensures { self.new ≡ record self.old { live = None } }
+    {
+        self.plain.live = None;
+    }
+
+    /// The direction of the text.
+    pub fn text_direction(&self) -> Option<TextDirection>
+        ensures { result ≡ self.now.text_direction }
+    {
+        self.plain.text_direction
+    }
+
+    /// Sets [`Node::text_direction`].
+    pub fn set_text_direction(&mut self, value: TextDirection)
+        ensures { self.new ≡ record self.old { text_direction = Some value } }
+    {
+        self.plain.text_direction = Some(value);
+    }
+
+    /// Takes [`Node::text_direction`] back.
+    pub fn clear_text_direction(&mut self)
+        ensures { self.new ≡ record self.old { text_direction = None } }
+    {
+        self.plain.text_direction = None;
+    }
+
+    /// How the text is aligned.
+    pub fn text_align(&self) -> Option<TextAlign>
+        ensures { result ≡ self.now.text_align }
+    {
+        self.plain.text_align
+    }
+
+    /// Sets [`Node::text_align`].
+    pub fn set_text_align(&mut self, value: TextAlign)
+        ensures { self.new ≡ record self.old { text_align = Some value } }
+    {
+        self.plain.text_align = Some(value);
+    }
+
+    /// Takes [`Node::text_align`] back.
+    pub fn clear_text_align(&mut self)
+        ensures { self.new ≡ record self.old { text_align = None } }
+    {
+        self.plain.text_align = None;
+    }
+
+    /// Whether the text is raised or lowered.
+    pub fn vertical_offset(&self) -> Option<VerticalOffset>
+        ensures { result ≡ self.now.vertical_offset }
+    {
+        self.plain.vertical_offset
+    }
+
+    /// Sets [`Node::vertical_offset`].
+    pub fn set_vertical_offset(&mut self, value: VerticalOffset)
+        ensures { self.new ≡ record self.old { vertical_offset = Some value } }
+    {
+        self.plain.vertical_offset = Some(value);
+    }
+
+    /// Takes [`Node::vertical_offset`] back.
+    pub fn clear_vertical_offset(&mut self)
+        ensures { self.new ≡ record self.old { vertical_offset = None } }
+    {
+        self.plain.vertical_offset = None;
+    }
+}

@@ -1,0 +1,127 @@
+//! Writers of text, which count the calls that fail.
+
+ghost use Rattle.std.specs.Prelude.{◌≡◌, ℕ, ◌+◌, ◌<◌, ◌^◌, List, [], ◌++◌, Some, OnOk, OnErr, codes, encode_utf8, string_bytes};
+
+use std::alloc::Global;
+use std::error::Error;
+use std::fmt;
+use std::marker::Model;
+
+/// A writer took no text.
+#[derive(Clone, Copy, Debug, PartialEq, Eq)]
+pub struct TextFault;
+
+impl fmt::Display for TextFault {
+    ghost output = { λ _. Some (codes "a writer took no text") };
+
+    fn fmt<W: fmt::Write>(&self, f: &mut fmt::Formatter<W>) -> fmt::Result {
+        write!(f, "a writer took no text")
+    }
+}
+
+impl Error for TextFault {}
+
+/// A receiver of text. Each call gives it a whole text or nothing, and the calls that failed are counted.
+pub trait TextWrite {
+    /// The bytes of the text received.
+    ghost received: { Self → List ℕ };
+
+    /// How many calls have failed.
+    ghost faults: { Self → ℕ };
+
+    /// How many calls have failed.
+    fn failures(&self) -> u128
+        ensures { result ≡ faults self.now };
+
+    /// Receives the whole text, or none of it.
+    fn write_str(&mut self, text: &str) -> Result<(), TextFault>
+        requires { faults self.old + 1 < 2 ^ 128 }
+        ensures ok { OnOk result (
+            (received self.new ≡ received self.old ++ text.now)
+            × (faults self.new ≡ faults self.old)
+            ) }
+        ensures err { OnErr result (
+            (received self.new ≡ received self.old)
+            × (faults self.new ≡ faults self.old + 1)
+            ) };
+
+    /// Receives one character, or nothing.
+    fn write_char(&mut self, character: char) -> Result<(), TextFault>
+        requires { faults self.old + 1 < 2 ^ 128 }
+        ensures ok { OnOk result (
+            (received self.new ≡ received self.old ++ encode_utf8 character)
+            × (faults self.new ≡ faults self.old)
+            ) }
+        ensures err { OnErr result (
+            (received self.new ≡ received self.old)
+            × (faults self.new ≡ faults self.old + 1)
+            ) };
+}
+
+/// A text in memory. A write to it fails only where a growth was refused.
+#[derive(Drop)]
+pub struct TextBuffer {
+    text: String,
+    failures: u128,
+}
+
+impl Model for TextBuffer {
+    ghost use Rattle.std.specs.String.{string_bytes};
+    ghost use Rattle.schema.specs.Written.{Written};
+
+    ghost Value = { Written };
+
+    ghost view = { λ b. record { text = string_bytes b.text; failures = b.failures } };
+}
+
+impl TextBuffer {
+    /// An empty text, which grows in memory from `alloc`.
+    pub fn new(alloc: Global) -> TextBuffer
+        ensures { result ≡ record { text = []; failures = 0 } }
+    {
+        TextBuffer {
+            text: String::new(alloc),
+            failures: 0,
+        }
+    }
+
+    /// The text received.
+    pub fn as_str(&self) -> &str
+        ensures { result.now ≡ self.now.text }
+    {
+        self.text.as_str()
+    }
+
+    /// The text received.
+    pub fn into_string(self) -> String
+        ensures { string_bytes result ≡ self.text }
+    {
+        self.text
+    }
+}
+
+impl TextWrite for TextBuffer {
+    ghost received = { λ b. b.text };
+
+    ghost faults = { λ b. b.failures };
+
+    fn failures(&self) -> u128 {
+        self.failures
+    }
+
+    fn write_str(&mut self, text: &str) -> Result<(), TextFault> {
+        if self.text.push_str(text).is_err() {
+            self.failures += 1;
+            return Err(TextFault);
+        }
+        Ok(())
+    }
+
+    fn write_char(&mut self, character: char) -> Result<(), TextFault> {
+        if self.text.push(character).is_err() {
+            self.failures += 1;
+            return Err(TextFault);
+        }
+        Ok(())
+    }
+}

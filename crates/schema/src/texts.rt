@@ -1,0 +1,360 @@
+//! The texts of a node.
+
+ghost use Rattle.std.specs.Prelude.{◌≡◌, None, Some, OnOk, OnErr, option_copied};
+
+use crate::Node;
+use crate::rare_texts::RareText;
+use std::alloc::AllocError;
+
+impl Node {
+    /// The label, as a screen reader speaks it.
+    pub fn label(&self) -> Option<&str>
+        ensures { option_copied result ≡ self.now.label }
+    {
+        match &self.label {
+            Some(text) => Some(text.as_str()),
+            None => None,
+        }
+    }
+
+    /// Sets [`Node::label`] to a copy of the text.
+    pub fn set_label(&mut self, text: &str) -> Result<(), AllocError>
+        ensures ok { OnOk result (self.new ≡ record self.old { label = Some text.now }) }
+        ensures err { OnErr result (self.new ≡ self.old) }
+    {
+        self.label = Some(String::from_str(self.alloc, text)?);
+        Ok(())
+    }
+
+    /// Takes [`Node::label`] back.
+    pub fn clear_label(&mut self)
+        ensures { self.new ≡ record self.old { label = None } }
+    {
+        self.label = None;
+    }
+
+    /// The value, as a text: what is typed, chosen or shown.
+    pub fn value(&self) -> Option<&str>
+        ensures { option_copied result ≡ self.now.value }
+    {
+        match &self.value {
+            Some(text) => Some(text.as_str()),
+            None => None,
+        }
+    }
+
+    /// Sets [`Node::value`] to a copy of the text.
+    pub fn set_value(&mut self, text: &str) -> Result<(), AllocError>
+        ensures ok { OnOk result (self.new ≡ record self.old { value = Some text.now }) }
+        ensures err { OnErr result (self.new ≡ self.old) }
+    {
+        self.value = Some(String::from_str(self.alloc, text)?);
+        Ok(())
+    }
+
+    /// Takes [`Node::value`] back.
+    pub fn clear_value(&mut self)
+        ensures { self.new ≡ record self.old { value = None } }
+    {
+        self.value = None;
+    }
+
+    /// A description beyond the label.
+    pub fn description(&self) -> Option<&str>
+        ensures { option_copied result ≡ self.now.description }
+    {
+        self.texts.get(RareText::Description)
+    }
+
+    /// Sets [`Node::description`] to a copy of the text.
+    pub fn set_description(&mut self, text: &str) -> Result<(), AllocError>
+        ensures ok { OnOk result (self.new ≡ record self.old { description = Some text.now }) }
+        ensures err { OnErr result (self.new ≡ self.old) }
+    {
+        let copy = String::from_str(self.alloc, text)?;
+        self.texts.set(RareText::Description, copy)
+    }
+
+    /// Takes [`Node::description`] back.
+    pub fn clear_description(&mut self)
+        ensures { self.new ≡ record self.old { description = None } }
+    {
+        self.texts.clear(RareText::Description);
+    }
+
+    /// What to call the role, in place of its usual name.
+    pub fn role_description(&self) -> Option<&str>
+        ensures { option_copied result ≡ self.now.role_description }
+    {
+        self.texts.get(RareText::RoleDescription)
+    }
+
+    /// Sets [`Node::role_description`] to a copy of the text.
+    pub fn set_role_description(&mut self, text: &str) -> Result<(), AllocError>
+        ensures ok { OnOk result (self.new ≡ record self.old { role_description = Some text.now }) }
+        ensures err { OnErr result (self.new ≡ self.old) }
+    {
+        let copy = String::from_str(self.alloc, text)?;
+        self.texts.set(RareText::RoleDescription, copy)
+    }
+
+    /// Takes [`Node::role_description`] back.
+    pub fn clear_role_description(&mut self)
+        ensures { self.new ≡ record self.old { role_description = None } }
+    {
+        self.texts.clear(RareText::RoleDescription);
+    }
+
+    /// The hint that stands in an empty text input.
+    pub fn placeholder(&self) -> Option<&str>
+        ensures { option_copied result ≡ self.now.placeholder }
+    {
+        self.texts.get(RareText::Placeholder)
+    }
+
+    /// Sets [`Node::placeholder`] to a copy of the text.
+    pub fn set_placeholder(&mut self, text: &str) -> Result<(), AllocError>
+        ensures ok { OnOk result (self.new ≡ record self.old { placeholder = Some text.now }) }
+        ensures err { OnErr result (self.new ≡ self.old) }
+    {
+        let copy = String::from_str(self.alloc, text)?;
+        self.texts.set(RareText::Placeholder, copy)
+    }
+
+    /// Takes [`Node::placeholder`] back.
+    pub fn clear_placeholder(&mut self)
+        ensures { self.new ≡ record self.old { placeholder = None } }
+    {
+        self.texts.clear(RareText::Placeholder);
+    }
+
+    /// Where a link leads.
+    pub fn url(&self) -> Option<&str>
+        ensures { option_copied result ≡ self.now.url }
+    {
+        self.texts.get(RareText::Url)
+    }
+
+    /// Sets [`Node::url`] to a copy of the text.
+    pub fn set_url(&mut self, text: &str) -> Result<(), AllocError>
+        ensures ok { OnOk result (self.new ≡ record self.old { url = Some text.now }) }
+        ensures err { OnErr result (self.new ≡ self.old) }
+    {
+        let copy = String::from_str(self.alloc, text)?;
+        self.texts.set(RareText::Url, copy)
+    }
+
+    /// Takes [`Node::url`] back.
+    pub fn clear_url(&mut self)
+        ensures { self.new ≡ record self.old { url = None } }
+    {
+        self.texts.clear(RareText::Url);
+    }
+
+    /// The author's own id of the node.
+    pub fn author_id(&self) -> Option<&str>
+        ensures { option_copied result ≡ self.now.author_id }
+    {
+        self.texts.get(RareText::AuthorId)
+    }
+
+    /// Sets [`Node::author_id`] to a copy of the text.
+    pub fn set_author_id(&mut self, text: &str) -> Result<(), AllocError>
+        ensures ok { OnOk result (self.new ≡ record self.old { author_id = Some text.now }) }
+        ensures err { OnErr result (self.new ≡ self.old) }
+    {
+        let copy = String::from_str(self.alloc, text)?;
+        self.texts.set(RareText::AuthorId, copy)
+    }
+
+    /// Takes [`Node::author_id`] back.
+    pub fn clear_author_id(&mut self)
+        ensures { self.new ≡ record self.old { author_id = None } }
+    {
+        self.texts.clear(RareText::AuthorId);
+    }
+
+    /// The id of the HTML element that the node stands for.
+    pub fn html_id(&self) -> Option<&str>
+        ensures { option_copied result ≡ self.now.html_id }
+    {
+        self.texts.get(RareText::HtmlId)
+    }
+
+    /// Sets [`Node::html_id`] to a copy of the text.
+    pub fn set_html_id(&mut self, text: &str) -> Result<(), AllocError>
+        ensures ok { OnOk result (self.new ≡ record self.old { html_id = Some text.now }) }
+        ensures err { OnErr result (self.new ≡ self.old) }
+    {
+        let copy = String::from_str(self.alloc, text)?;
+        self.texts.set(RareText::HtmlId, copy)
+    }
+
+    /// Takes [`Node::html_id`] back.
+    pub fn clear_html_id(&mut self)
+        ensures { self.new ≡ record self.old { html_id = None } }
+    {
+        self.texts.clear(RareText::HtmlId);
+    }
+
+    /// The class of the control that the node stands for.
+    pub fn class_name(&self) -> Option<&str>
+        ensures { option_copied result ≡ self.now.class_name }
+    {
+        self.texts.get(RareText::ClassName)
+    }
+
+    /// Sets [`Node::class_name`] to a copy of the text.
+    pub fn set_class_name(&mut self, text: &str) -> Result<(), AllocError>
+        ensures ok { OnOk result (self.new ≡ record self.old { class_name = Some text.now }) }
+        ensures err { OnErr result (self.new ≡ self.old) }
+    {
+        let copy = String::from_str(self.alloc, text)?;
+        self.texts.set(RareText::ClassName, copy)
+    }
+
+    /// Takes [`Node::class_name`] back.
+    pub fn clear_class_name(&mut self)
+        ensures { self.new ≡ record self.old { class_name = None } }
+    {
+        self.texts.clear(RareText::ClassName);
+    }
+
+    /// The label for a braille display.
+    pub fn braille_label(&self) -> Option<&str>
+        ensures { option_copied result ≡ self.now.braille_label }
+    {
+        self.texts.get(RareText::BrailleLabel)
+    }
+
+    /// Sets [`Node::braille_label`] to a copy of the text.
+    pub fn set_braille_label(&mut self, text: &str) -> Result<(), AllocError>
+        ensures ok { OnOk result (self.new ≡ record self.old { braille_label = Some text.now }) }
+        ensures err { OnErr result (self.new ≡ self.old) }
+    {
+        let copy = String::from_str(self.alloc, text)?;
+        self.texts.set(RareText::BrailleLabel, copy)
+    }
+
+    /// Takes [`Node::braille_label`] back.
+    pub fn clear_braille_label(&mut self)
+        ensures { self.new ≡ record self.old { braille_label = None } }
+    {
+        self.texts.clear(RareText::BrailleLabel);
+    }
+
+    /// What to call the role on a braille display.
+    pub fn braille_role_description(&self) -> Option<&str>
+        ensures { option_copied result ≡ self.now.braille_role_description }
+    {
+        self.texts.get(RareText::BrailleRoleDescription)
+    }
+
+    /// Sets [`Node::braille_role_description`] to a copy of the text.
+    pub fn set_braille_role_description(&mut self, text: &str) -> Result<(), AllocError>
+        ensures ok { OnOk result (self.new ≡ record self.old { braille_role_description = Some text.now }) }
+        ensures err { OnErr result (self.new ≡ self.old) }
+    {
+        let copy = String::from_str(self.alloc, text)?;
+        self.texts.set(RareText::BrailleRoleDescription, copy)
+    }
+
+    /// Takes [`Node::braille_role_description`] back.
+    pub fn clear_braille_role_description(&mut self)
+        ensures { self.new ≡ record self.old { braille_role_description = None } }
+    {
+        self.texts.clear(RareText::BrailleRoleDescription);
+    }
+
+    /// What to call the node's column.
+    pub fn column_index_text(&self) -> Option<&str>
+        ensures { option_copied result ≡ self.now.column_index_text }
+    {
+        self.texts.get(RareText::ColumnIndexText)
+    }
+
+    /// Sets [`Node::column_index_text`] to a copy of the text.
+    pub fn set_column_index_text(&mut self, text: &str) -> Result<(), AllocError>
+        ensures ok { OnOk result (self.new ≡ record self.old { column_index_text = Some text.now }) }
+        ensures err { OnErr result (self.new ≡ self.old) }
+    {
+        let copy = String::from_str(self.alloc, text)?;
+        self.texts.set(RareText::ColumnIndexText, copy)
+    }
+
+    /// Takes [`Node::column_index_text`] back.
+    pub fn clear_column_index_text(&mut self)
+        ensures { self.new ≡ record self.old { column_index_text = None } }
+    {
+        self.texts.clear(RareText::ColumnIndexText);
+    }
+
+    /// What to call the node's row.
+    pub fn row_index_text(&self) -> Option<&str>
+        ensures { option_copied result ≡ self.now.row_index_text }
+    {
+        self.texts.get(RareText::RowIndexText)
+    }
+
+    /// Sets [`Node::row_index_text`] to a copy of the text.
+    pub fn set_row_index_text(&mut self, text: &str) -> Result<(), AllocError>
+        ensures ok { OnOk result (self.new ≡ record self.old { row_index_text = Some text.now }) }
+        ensures err { OnErr result (self.new ≡ self.old) }
+    {
+        let copy = String::from_str(self.alloc, text)?;
+        self.texts.set(RareText::RowIndexText, copy)
+    }
+
+    /// Takes [`Node::row_index_text`] back.
+    pub fn clear_row_index_text(&mut self)
+        ensures { self.new ≡ record self.old { row_index_text = None } }
+    {
+        self.texts.clear(RareText::RowIndexText);
+    }
+
+    /// The name of the font family.
+    pub fn font_family(&self) -> Option<&str>
+        ensures { option_copied result ≡ self.now.font_family }
+    {
+        self.texts.get(RareText::FontFamily)
+    }
+
+    /// Sets [`Node::font_family`] to a copy of the text.
+    pub fn set_font_family(&mut self, text: &str) -> Result<(), AllocError>
+        ensures ok { OnOk result (self.new ≡ record self.old { font_family = Some text.now }) }
+        ensures err { OnErr result (self.new ≡ self.old) }
+    {
+        let copy = String::from_str(self.alloc, text)?;
+        self.texts.set(RareText::FontFamily, copy)
+    }
+
+    /// Takes [`Node::font_family`] back.
+    pub fn clear_font_family(&mut self)
+        ensures { self.new ≡ record self.old { font_family = None } }
+    {
+        self.texts.clear(RareText::FontFamily);
+    }
+
+    /// The language of the text, as a BCP 47 tag.
+    pub fn language(&self) -> Option<&str>
+        ensures { option_copied result ≡ self.now.language }
+    {
+        self.texts.get(RareText::Language)
+    }
+
+    /// Sets [`Node::language`] to a copy of the text.
+    pub fn set_language(&mut self, text: &str) -> Result<(), AllocError>
+        ensures ok { OnOk result (self.new ≡ record self.old { language = Some text.now }) }
+        ensures err { OnErr result (self.new ≡ self.old) }
+    {
+        let copy = String::from_str(self.alloc, text)?;
+        self.texts.set(RareText::Language, copy)
+    }
+
+    /// Takes [`Node::language`] back.
+    pub fn clear_language(&mut self)
+        ensures { self.new ≡ record self.old { language = None } }
+    {
+        self.texts.clear(RareText::Language);
+    }
+}
