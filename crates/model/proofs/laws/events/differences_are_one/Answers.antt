@@ -1,0 +1,5 @@
+use Rattle.model.proofs.DifferenceLists.{differences_unique}
+use Rattle.model.proofs.laws.events.differences_are_one.Goals as goal
+
+pub returns : goal.returns
+returns c = differences_unique

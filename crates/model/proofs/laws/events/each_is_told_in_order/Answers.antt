@@ -1,0 +1,5 @@
+use Rattle.model.proofs.Reasons.{in_order}
+use Rattle.model.proofs.laws.events.each_is_told_in_order.Goals as goal
+
+pub returns : goal.returns
+returns c = in_order

@@ -1,0 +1,5 @@
+use Rattle.model.proofs.SameWorlds.{nothing_to_tell as nothing}
+use Rattle.model.proofs.laws.events.nothing_to_tell.Goals as goal
+
+pub returns : goal.returns
+returns c = nothing

@@ -1,0 +1,5 @@
+use Rattle.model.proofs.Repeated.{repeat_tells_nothing as tells}
+use Rattle.model.proofs.laws.events.repeat_tells_nothing.Goals as goal
+
+pub returns : goal.returns
+returns c = tells

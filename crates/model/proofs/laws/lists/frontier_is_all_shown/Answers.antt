@@ -1,0 +1,5 @@
+use Rattle.model.proofs.Shown.{shown_is}
+use Rattle.model.proofs.laws.lists.frontier_is_all_shown.Goals as goal
+
+pub returns : goal.returns
+returns c = shown_is

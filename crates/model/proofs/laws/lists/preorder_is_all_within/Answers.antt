@@ -1,0 +1,5 @@
+use Rattle.model.proofs.Within.{in_preorder}
+use Rattle.model.proofs.laws.lists.preorder_is_all_within.Goals as goal
+
+pub returns : goal.returns
+returns c = in_preorder

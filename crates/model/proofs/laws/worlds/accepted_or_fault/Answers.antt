@@ -1,0 +1,5 @@
+use Rattle.model.proofs.Choices.{accepted_or_fault}
+use Rattle.model.proofs.laws.worlds.accepted_or_fault.Goals as goal
+
+pub returns : goal.returns
+returns c = accepted_or_fault

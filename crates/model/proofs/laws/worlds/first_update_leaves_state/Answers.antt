@@ -1,0 +1,5 @@
+use Rattle.model.proofs.Accepted.{first_leaves_state}
+use Rattle.model.proofs.laws.worlds.first_update_leaves_state.Goals as goal
+
+pub returns : goal.returns
+returns c = first_leaves_state

@@ -1,0 +1,5 @@
+use Rattle.model.proofs.HostFocus.{host_leaves_state}
+use Rattle.model.proofs.laws.worlds.host_focus_leaves_state.Goals as goal
+
+pub returns : goal.returns
+returns c = host_leaves_state

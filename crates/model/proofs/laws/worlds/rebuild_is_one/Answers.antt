@@ -1,0 +1,5 @@
+use Rattle.model.proofs.Rebuilds.{rebuild_unique}
+use Rattle.model.proofs.laws.worlds.rebuild_is_one.Goals as goal
+
+pub returns : goal.returns
+returns c = rebuild_unique

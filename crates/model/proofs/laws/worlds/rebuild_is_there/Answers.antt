@@ -1,0 +1,5 @@
+use Rattle.model.proofs.RebuildThere.{rebuild_exists}
+use Rattle.model.proofs.laws.worlds.rebuild_is_there.Goals as goal
+
+pub returns : goal.returns
+returns c = rebuild_exists

@@ -1,0 +1,101 @@
+-- What is proved of events and differences.
+use Rattle.std.specs.Prelude.{◌≡◌, ◌≢◌, ℕ, ◌≤◌, Bool, List, [], ◌∷◌, ◌++◌, length, take, Contains, Option, Some, None, IfSome, ◌↔◌, ◌⊎◌}
+use Rattle.std.specs.List.{AllZip, AllPairs}
+use Rattle.model.specs.declared.FullNodeId.{FullNodeId}
+use Rattle.model.specs.World.{World, IsNode, in_tree}
+use Rattle.model.specs.Focus.{IsFocus}
+use Rattle.model.specs.Update.{UpdateData, InfoData, index_for}
+use Rattle.model.specs.State.{IsState, with_host}
+use Rattle.model.specs.Events.{Event, NodeUpdated, Told, seen_in}
+use Rattle.model.specs.Differences.{Difference, Updated, AreOfFocus, AreDifferences, events, told_root}
+use Rattle.model.specs.Repeats.{Repeats}
+use Rattle.model.specs.Reasons.{Reason, MayPrecede}
+use Rattle.model.specs.Run.{CommandData, ToUpdate, ReplyData, Accepted, Does, Runs, RunsUpTo, AreAlike, WantAlike}
+use Rattle.model.specs.Work.{Work, IsWorkOf}
+use Rattle.model.specs.Mirror.{Records, Mirrors, MirrorsWhileKept, AreRecordsOf}
+
+-- two worlds have one list of differences
+abbrev pub DifferencesAreOne : Type 0
+DifferencesAreOne = (old new : World) (root : Option FullNodeId) (xs ys : List Difference) → AreDifferences old new root xs → AreDifferences old new root ys → xs ≡ ys
+
+-- and two states have one
+abbrev pub DifferencesExist : Type 0
+DifferencesExist = (old new : World) (root : Option FullNodeId) → IsState old → IsState new → (differences : List Difference) × AreDifferences old new root differences
+
+-- each difference has its reason, and what has a reason is told
+abbrev pub EachHasAReason : Type 0
+EachHasAReason =
+    (old new : World) (root : Option FullNodeId) (differences : List Difference) → AreDifferences old new root differences
+    → (difference : Difference) → Contains differences difference ↔ Reason old new root difference
+
+-- each difference is told once, and the groups are told in order
+abbrev pub EachIsToldInOrder : Type 0
+EachIsToldInOrder = (old new : World) (root : Option FullNodeId) (differences : List Difference) → AreDifferences old new root differences → AllPairs MayPrecede differences
+
+-- where the world stays as it is, nothing is told without tree info, nor of the root tree
+abbrev pub NothingToTell : Type 0
+NothingToTell =
+    (focus : Option FullNodeId) (w : World) → IsFocus w focus
+    → ((info : Option InfoData) → AreDifferences w w (told_root 0 info) []) × ((index : ℕ) → AreDifferences w w (told_root index None) [])
+
+-- but the root of another tree is told of by tree info
+abbrev pub RootIsTold : Type 0
+RootIsTold =
+    (focus : Option FullNodeId) (w : World) (index : ℕ) (info : InfoData) → IsFocus w focus → index ≢ 0 → IsNode w (in_tree index info.root)
+    → AreDifferences w w (told_root index (Some info)) (Updated (in_tree index info.root) ∷ [])
+
+-- where only the host's focus changes, the list is the focus's part alone
+abbrev pub HostChangeTellsFocus : Type 0
+HostChangeTellsFocus = (w : World) (focused : Bool) (differences : List Difference) → AreDifferences w (with_host w focused) None differences ↔ AreOfFocus w (with_host w focused) [] differences
+
+-- the records of a world, stepped by its differences to the next world, are the next world's
+abbrev pub RecordsFollow : Type 0
+RecordsFollow =
+    (old new : World) (root : Option FullNodeId) (differences : List Difference) (before after : Records)
+    → AreDifferences old new root differences → AreRecordsOf old before → Told Mirrors before (events old new differences) after → AreRecordsOf new after
+
+-- and so over a run
+abbrev pub RecordsFollowRun : Type 0
+RecordsFollowRun =
+    (old new : World) (commands : List CommandData) (told : List Event) (replies : List ReplyData) (before after : Records)
+    → Runs old commands new told replies → AreRecordsOf old before → Told Mirrors before told after → AreRecordsOf new after
+
+-- A mirror that may find no memory has the records of the world that a run comes to, or none.
+abbrev pub KeptRecordsFollowRun : Type 0
+KeptRecordsFollowRun =
+    (old new : World) (commands : List CommandData) (told : List Event) (replies : List ReplyData) (before : Records) (after : Option Records)
+    → Runs old commands new told replies → AreRecordsOf old before → Told MirrorsWhileKept (Some before) told after → IfSome after (AreRecordsOf new)
+
+-- Two runs of the same commands, in which memory was wanting at the same ones, come to one world, tell the same, and reply alike.
+abbrev pub RunsAreOne : Type 0
+RunsAreOne =
+    (old v w : World) (commands : List CommandData) (told heard : List Event) (replies answers : List ReplyData)
+    → Runs old commands v told replies → Runs old commands w heard answers → AllZip WantAlike replies answers → (v ≡ w) × (told ≡ heard) × AllZip AreAlike replies answers
+
+-- a run leaves a state
+abbrev pub RunLeavesState : Type 0
+RunLeavesState = (old new : World) (commands : List CommandData) (told : List Event) (replies : List ReplyData) → Runs old commands new told replies → IsState old → IsState new
+
+-- an update that repeats what a state has changes nothing, and tells nothing if it has no tree info or is for the root tree
+abbrev pub RepeatTellsNothing : Type 0
+RepeatTellsNothing = (w : World) (u : UpdateData) → IsState w → Repeats w u → (u.info ≡ None) ⊎ (index_for w u.name ≡ 0) → Does w (ToUpdate u) w [] Accepted
+
+-- one of another tree that has tree info tells that tree's root
+abbrev pub RepeatTellsRoot : Type 0
+RepeatTellsRoot =
+    (w : World) (u : UpdateData) (info : InfoData) → IsState w → Repeats w u → u.info ≡ Some info → index_for w u.name ≢ 0
+    → Does w (ToUpdate u) w (NodeUpdated (seen_in w (in_tree (index_for w u.name) info.root)) (seen_in w (in_tree (index_for w u.name) info.root)) ∷ []) Accepted
+
+-- What a stopped run has done is the beginning of what the whole run does.
+abbrev pub StoppedRunBegins : Type 0
+StoppedRunBegins =
+    (old new : World) (commands : List CommandData) (done : ℕ) (told : List Event) (replies : List ReplyData) → Runs old commands new told replies → done ≤ length commands
+    → (at : World) × (first rest : List Event) × RunsUpTo done old commands at first (take done replies) × (told ≡ first ++ rest)
+
+-- there is only one set of records of a world
+abbrev pub RecordsAreOne : Type 0
+RecordsAreOne = (w : World) (r s : Records) → AreRecordsOf w r → AreRecordsOf w s → r ≡ s
+
+-- an update has one set of numbers
+abbrev pub WorkIsOne : Type 0
+WorkIsOne = (old new : World) (u : UpdateData) (a b : Work) → IsState new → IsWorkOf old u new a → IsWorkOf old u new b → a ≡ b

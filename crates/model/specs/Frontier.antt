@@ -1,0 +1,30 @@
+-- What a filter shows of what is below a node.
+use Rattle.std.specs.Prelude.{◌≡◌, List, [], ◌∷◌, ◌++◌, ◌⊎◌}
+use Rattle.model.specs.declared.FullNodeId.{FullNodeId}
+use Rattle.model.specs.declared.filters.FilterResult.{FilterResult}
+use Rattle.model.specs.declared.filters.FilterResult.TheVariants.{Include, ExcludeNode, ExcludeSubtree}
+use Rattle.model.specs.World.{World, Place}
+use Rattle.model.specs.Forest.{Forest, empty, tree, below, above}
+
+-- what stands in a frontier for a node that is answered so, where inner is the frontier of what is below it
+abbrev pub shown : FilterResult → FullNodeId → List FullNodeId → List FullNodeId
+shown Include c inner = c ∷ []
+shown ExcludeNode c inner = inner
+shown ExcludeSubtree c inner = []
+
+abbrev pub frontier : (FullNodeId → FilterResult) → Forest → List FullNodeId
+frontier f empty = []
+frontier f (tree c inner rest) = shown (f c) c (frontier f inner) ++ frontier f rest
+
+-- the frontier of a node: what the filter shows of its children
+abbrev pub filtered_children : (FullNodeId → FilterResult) → World → FullNodeId → List FullNodeId
+filtered_children f w id = frontier f (below w id)
+
+-- these places lead up to top, and each node that they pass on the way is left out alone
+abbrev pub LeadsUpTo : (FullNodeId → FilterResult) → FullNodeId → List Place → Type 0
+LeadsUpTo f top [] = ⊥
+LeadsUpTo f top (p ∷ up) = (p.0 ≡ top) ⊎ ((f p.0 ≡ ExcludeNode) × LeadsUpTo f top up)
+
+-- the filter shows the node below top
+abbrev pub IsShown : (FullNodeId → FilterResult) → World → FullNodeId → FullNodeId → Type 0
+IsShown f w top id = (f id ≡ Include) × LeadsUpTo f top (above w id)

@@ -1,0 +1,54 @@
+-- A run: commands one after another, what they do to the world, what is told and what is replied.
+use Rattle.std.specs.Prelude.{◌≡◌, ℕ, Bool, List, [], ◌∷◌, ◌++◌, length, take, ◌≤◌, ◌↔◌, ⊤}
+use Rattle.model.specs.World.{World}
+use Rattle.model.specs.Update.{UpdateData, Fault, index_for, Stands, IsAccepted}
+use Rattle.model.specs.State.{empty_world, with_host}
+use Rattle.model.specs.Events.{Event}
+use Rattle.model.specs.Differences.{Difference, events, told_root, AreOfFocus, AreDifferences}
+
+pub data CommandData : Type 0 where
+  ToUpdate : (update : UpdateData) → CommandData
+  ToHostFocus : (focused : Bool) → CommandData
+
+pub data ReplyData : Type 0 where
+  Accepted : ReplyData
+  Refused : (fault : Fault) → ReplyData
+  OutOfMemory : ReplyData
+
+-- the world that the first update makes; it tells nothing
+abbrev pub Begins : Bool → UpdateData → World → Type 0
+Begins host_focused u new = IsAccepted (empty_world host_focused) u new
+
+-- what an accepted update tells
+abbrev pub AreToldBy : World → UpdateData → World → List Difference → Type 0
+AreToldBy old u new differences = AreDifferences old new (told_root (index_for old u.name) u.info) differences
+
+-- What a command makes of a world, what is told of it, and its reply. A refusal, and want of memory, leave all as it is.
+abbrev pub Does : World → CommandData → World → List Event → ReplyData → Type 0
+Does old (ToUpdate u) new told Accepted =
+    IsAccepted old u new × (differences : List Difference) × AreToldBy old u new differences × (told ≡ events old new differences)
+Does old (ToUpdate u) new told (Refused fault) = Stands old u fault × (new ≡ old) × (told ≡ [])
+Does old (ToUpdate u) new told OutOfMemory = (new ≡ old) × (told ≡ [])
+Does old (ToHostFocus focused) new told Accepted = (new ≡ with_host old focused) × (differences : List Difference) × AreOfFocus old new [] differences × (told ≡ events old new differences)
+Does old (ToHostFocus focused) new told (Refused fault) = ⊥
+Does old (ToHostFocus focused) new told OutOfMemory = ⊥
+
+-- The commands in turn take the world w to v; these events are told, and there is a reply to each command.
+abbrev pub Runs : World → List CommandData → World → List Event → List ReplyData → Type 0
+Runs w [] v told replies = (w ≡ v) × (told ≡ []) × (replies ≡ [])
+Runs w (c ∷ cs) v told replies =
+    (next : World) × (first rest : List Event) × (reply : ReplyData) × (others : List ReplyData)
+    × Does w c next first reply × Runs next cs v rest others × (told ≡ first ++ rest) × (replies ≡ reply ∷ others)
+
+-- the same reply, but for the fault that is named
+abbrev pub AreAlike : ReplyData → ReplyData → Type 0
+AreAlike (Refused f) (Refused g) = ⊤
+AreAlike r s = r ≡ s
+
+-- memory was wanting at both or at neither
+abbrev pub WantAlike : ReplyData → ReplyData → Type 0
+WantAlike r s = (r ≡ OutOfMemory) ↔ (s ≡ OutOfMemory)
+
+-- A run that stops is the run of its first commands; the others didn't run.
+abbrev pub RunsUpTo : ℕ → World → List CommandData → World → List Event → List ReplyData → Type 0
+RunsUpTo done w cs v told replies = (done ≤ length cs) × Runs w (take done cs) v told replies

@@ -1,0 +1,28 @@
+-- Updates of trees within trees, and what they tell.
+use Rattle.std.specs.Prelude.{◌≡◌, [], ◌∷◌}
+use Rattle.model.specs.Events.{NodeAdded, NodeUpdated, NodeRemoved, seen_in}
+use Rattle.model.specs.Run.{ToUpdate, Accepted, Does}
+use Rattle.model.specs.Work.{IsWorkOf, allowed}
+use Rattle.model.specs.Examples.{at, nested, graft_moves_out, moved_out, empty_graft, pushed_tree, pushed, document_again, labelled}
+
+-- A graft moves out of a tree that goes: its tree's root has a new place, and the node below that root isn't told.
+abbrev pub GraftMovesOut : Type 0
+GraftMovesOut =
+    Does nested (ToUpdate graft_moves_out) moved_out
+    (NodeAdded (seen_in moved_out (at 0 2))
+    ∷ NodeUpdated (seen_in nested (at 0 0)) (seen_in moved_out (at 0 0)) ∷ NodeUpdated (seen_in nested (at 2 0)) (seen_in moved_out (at 2 0))
+    ∷ NodeRemoved (seen_in nested (at 0 1)) ∷ NodeRemoved (seen_in nested (at 1 0)) ∷ NodeRemoved (seen_in nested (at 1 1)) ∷ [])
+    Accepted
+
+-- The tree of an empty graft comes: the graft itself isn't told.
+abbrev pub GraftedTreeComes : Type 0
+GraftedTreeComes = Does empty_graft (ToUpdate pushed_tree) pushed (NodeAdded (seen_in pushed (at 1 0)) ∷ NodeAdded (seen_in pushed (at 1 1)) ∷ []) Accepted
+
+-- Its root gets a label.
+abbrev pub GraftedRootIsLabelled : Type 0
+GraftedRootIsLabelled = Does pushed (ToUpdate document_again) labelled (NodeUpdated (seen_in pushed (at 1 0)) (seen_in labelled (at 1 0)) ∷ []) Accepted
+
+-- The work of the graft that moves out: two nodes are named, their child lists have 0:1 before and 0:2 after, three nodes go, the graft stands one below the root, three names are known.
+abbrev pub GraftMovesOutWork : Type 0
+GraftMovesOutWork =
+    IsWorkOf nested graft_moves_out moved_out (record { named = 2; children = 2; removed = 3; depths = 1; known = 3 }) × (allowed (record { named = 2; children = 2; removed = 3; depths = 1; known = 3 }) ≡ 208)

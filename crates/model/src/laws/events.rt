@@ -1,0 +1,144 @@
+//! Laws of events and of the differences of two worlds.
+ghost use Rattle.model.specs.EventLaws.{DifferencesAreOne, DifferencesExist, EachHasAReason, EachIsToldInOrder, HostChangeTellsFocus, KeptRecordsFollowRun, NothingToTell, RepeatTellsNothing, RepeatTellsRoot, RootIsTold, RunLeavesState, RecordsAreOne, RecordsFollow, RecordsFollowRun, RunsAreOne, StoppedRunBegins, WorkIsOne};
+ghost use Rattle.model.specs.ToldExamples.{GraftMovesOut, GraftedTreeComes, GraftedRootIsLabelled, GraftMovesOutWork};
+ghost use Rattle.model.specs.EventExamples.{ButtonGoes, FocusGoesToButton, FocusedButtonGoes, ButtonsChangePlaces, HostLosesFocus, LabelIsLittleWork, PicturedChange};
+
+/// Two worlds have one list of differences.
+pub fn differences_are_one()
+    ensures { DifferencesAreOne }
+{}
+
+/// Two states have a list of differences.
+pub fn differences_exist()
+    ensures { DifferencesExist }
+{}
+
+/// Each difference has its reason, and what has a reason is told.
+pub fn each_has_a_reason()
+    ensures { EachHasAReason }
+{}
+
+/// Each difference is told once, and the groups are told in order.
+pub fn each_is_told_in_order()
+    ensures { EachIsToldInOrder }
+{}
+
+/// A world that stays as it is tells nothing without tree info, nor of the root tree.
+pub fn nothing_to_tell()
+    ensures { NothingToTell }
+{}
+
+/// The root of another tree is told as updated by tree info, though nothing changed.
+pub fn root_is_told()
+    ensures { RootIsTold }
+{}
+
+/// A change of the host's focus is told by the focus alone.
+pub fn host_change_tells_focus()
+    ensures { HostChangeTellsFocus }
+{}
+
+/// The records of a world, stepped by its differences to the next world, are the next world's.
+pub fn records_follow()
+    ensures { RecordsFollow }
+{}
+
+/// A mirror that is told of all that a run tells mirrors the world that the run comes to.
+pub fn records_follow_run()
+    ensures { RecordsFollowRun }
+{}
+
+/// A mirror that may find no memory mirrors the world that a run comes to, or keeps nothing.
+pub fn kept_records_follow_run()
+    ensures { KeptRecordsFollowRun }
+{}
+
+/// A world has one set of records.
+pub fn records_are_one()
+    ensures { RecordsAreOne }
+{}
+
+/// Two runs of the same commands, in which memory was wanting at the same ones, come to one world, tell the same, and reply alike.
+pub fn runs_are_one()
+    ensures { RunsAreOne }
+{}
+
+/// A run leaves a state.
+pub fn run_leaves_state()
+    ensures { RunLeavesState }
+{}
+
+/// An update that repeats what a state has changes nothing; without tree info, or for the root tree, it tells nothing.
+pub fn repeat_tells_nothing()
+    ensures { RepeatTellsNothing }
+{}
+
+/// For another tree, with tree info, it tells that tree's root.
+pub fn repeat_tells_root()
+    ensures { RepeatTellsRoot }
+{}
+
+/// What a stopped run has done is the beginning of what the whole run does.
+pub fn stopped_run_begins()
+    ensures { StoppedRunBegins }
+{}
+
+/// The numbers of an update's work are fixed by it.
+pub fn work_is_one()
+    ensures { WorkIsOne }
+{}
+
+/// The only button of a window goes: its window is updated, and it is removed.
+pub fn button_goes()
+    ensures { ButtonGoes }
+{}
+
+/// The focus goes from a window to its button: both are updated, and then it moves.
+pub fn focus_goes_to_button()
+    ensures { FocusGoesToButton }
+{}
+
+/// The focused button goes: the focus moves before it is told as removed.
+pub fn focused_button_goes()
+    ensures { FocusedButtonGoes }
+{}
+
+/// Two buttons change places: they are updated as their window is.
+pub fn buttons_change_places()
+    ensures { ButtonsChangePlaces }
+{}
+
+/// A run in which the host loses its focus twice: the second time nothing is told.
+pub fn host_loses_focus()
+    ensures { HostLosesFocus }
+{}
+
+/// A label for a button below the root allows 80 look-ups.
+pub fn label_is_little_work()
+    ensures { LabelIsLittleWork }
+{}
+
+/// A button goes, another comes, the one between them moves up, and the focus goes to it.
+pub fn pictured_change()
+    ensures { PicturedChange }
+{}
+
+/// A graft moves out of a tree that goes: its tree's root is updated, and the node below that root isn't.
+pub fn graft_moves_out_is_told()
+    ensures { GraftMovesOut }
+{}
+
+/// The tree of an empty graft comes: its nodes are added, and the graft isn't told.
+pub fn grafted_tree_comes()
+    ensures { GraftedTreeComes }
+{}
+
+/// The root of a grafted tree gets a label: it alone is updated.
+pub fn grafted_root_is_labelled()
+    ensures { GraftedRootIsLabelled }
+{}
+
+/// The work of the graft that moves out allows 208 look-ups.
+pub fn graft_moves_out_work()
+    ensures { GraftMovesOutWork }
+{}

@@ -1,0 +1,114 @@
+//! Laws of places and of the lists of a tree.
+ghost use Rattle.model.specs.ListExamples.{pictured, PicturedLists};
+ghost use Rattle.model.specs.State.{IsState};
+ghost use Rattle.model.specs.ListLaws.{StatesAreFormed, PlaceIsWhereItStands, BelowAreTheChildren, AboveIsTheParent, PreorderIsOfChildren, PreorderIsAllWithin, PreorderHasNoneTwice, RootPreorderIsAllNodes, RootPreorderCountsNodes, PreorderIsPathOrder, PathTellsNodes, DepthIsPathLength, PathOfChild, PathWithin, SiblingsAreAround, RootsHaveNoSiblings, DeepestIsOfChild, FrontierIsOfChildren, FrontierIsAllShown, FrontierIsPathOrder};
+
+/// In a state no node stands at two places, and the way up from each ends.
+pub fn states_are_formed()
+    ensures { StatesAreFormed }
+{}
+
+/// The place of a node is the one at which it stands.
+pub fn place_is_where_it_stands()
+    ensures { PlaceIsWhereItStands }
+{}
+
+/// What is below a node are its children, each with what is below it.
+pub fn below_are_the_children()
+    ensures { BelowAreTheChildren }
+{}
+
+/// Above a child are its place and what is above its parent.
+pub fn above_is_the_parent()
+    ensures { AboveIsTheParent }
+{}
+
+/// A pre-order is the node, and then the pre-order of each child in turn.
+pub fn preorder_is_of_children()
+    ensures { PreorderIsOfChildren }
+{}
+
+/// A pre-order has the nodes that lie within its first one, and no others.
+pub fn preorder_is_all_within()
+    ensures { PreorderIsAllWithin }
+{}
+
+/// No node is in a pre-order twice.
+pub fn preorder_has_none_twice()
+    ensures { PreorderHasNoneTwice }
+{}
+
+/// The pre-order of a state's root has the nodes of the state, and nothing else.
+pub fn root_preorder_is_all_nodes()
+    ensures { RootPreorderIsAllNodes }
+{}
+
+/// The pre-order of a state's root is as long as the state has nodes.
+pub fn root_preorder_counts_nodes()
+    ensures { RootPreorderCountsNodes }
+{}
+
+/// Pre-order is the lexicographic order of index paths.
+pub fn preorder_is_path_order()
+    ensures { PreorderIsPathOrder }
+{}
+
+/// Two nodes of a state with one index path are one.
+pub fn path_tells_nodes()
+    ensures { PathTellsNodes }
+{}
+
+/// A node is as deep as its index path is long.
+pub fn depth_is_path_length()
+    ensures { DepthIsPathLength }
+{}
+
+/// A child's index path is its parent's and the child's index.
+pub fn path_of_child()
+    ensures { PathOfChild }
+{}
+
+/// The path of a node is that of a node that it lies within, and the relative path.
+pub fn path_within()
+    ensures { PathWithin }
+{}
+
+/// The parent's children are the preceding siblings from the farthest on, the node, and the following ones.
+pub fn siblings_are_around()
+    ensures { SiblingsAreAround }
+{}
+
+/// The root of a tree has no siblings.
+pub fn roots_have_no_siblings()
+    ensures { RootsHaveNoSiblings }
+{}
+
+/// The deepest first child is that of the first child, or the first child where it has none; and likewise the last.
+pub fn deepest_is_of_child()
+    ensures { DeepestIsOfChild }
+{}
+
+/// A frontier has each child that is included, and the frontier of each that is left out alone.
+pub fn frontier_is_of_children()
+    ensures { FrontierIsOfChildren }
+{}
+
+/// The filtered children are the nodes that are included, with no node between that is included or left out with its subtree.
+pub fn frontier_is_all_shown()
+    ensures { FrontierIsAllShown }
+{}
+
+/// The filtered children stand in the order of their index paths.
+pub fn frontier_is_path_order()
+    ensures { FrontierIsPathOrder }
+{}
+
+/// The lists of a small interface of two trees, written out.
+pub fn pictured_lists()
+    ensures { PicturedLists }
+{}
+
+/// The small interface is a state.
+pub fn pictured_is_state()
+    ensures { IsState pictured }
+{}

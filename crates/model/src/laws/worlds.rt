@@ -1,0 +1,122 @@
+//! Laws of worlds, updates, states, focus and ids.
+ghost use Rattle.std.specs.Prelude.{◌≡◌};
+ghost use Rattle.model.specs.FullIds.{full_number};
+ghost use Rattle.model.specs.IdLaws.{OrderIsByTreeThenNode, OrderIsTotal, EqualIdsAreOne};
+ghost use Rattle.model.specs.WorldLaws.{RebuildIsOne, RebuildIsThere, AcceptedOrFault, RulesOrFault, StateIsItsOwnRebuild, UpdateLeavesState, FirstLeavesState, HostFocusLeavesState, LaterWorldsAreStates, NamesKeepTheirIndex, PlaceIsOne, RootStandsAtGraft, RootHasNoPlace, EffectiveFocusIsOne, EffectiveFocusIsThere, ActiveDialogIsOne, FocusIsOne, FocusIsThere, ActiveDialogIsOne, ToolkitIsTheRootTrees};
+
+use crate::FullNodeId;
+
+/// A merged world has one rebuild.
+pub fn rebuild_is_one()
+    ensures { RebuildIsOne }
+{}
+
+/// Each world has a rebuild.
+pub fn rebuild_is_there()
+    ensures { RebuildIsThere }
+{}
+
+/// An update is accepted, or some fault stands for it.
+pub fn accepted_or_fault()
+    ensures { AcceptedOrFault }
+{}
+
+/// The rules of an update are kept exactly where no fault stands.
+pub fn rules_or_fault()
+    ensures { RulesOrFault }
+{}
+
+/// A state breaks no rule and is its own rebuild.
+pub fn state_is_its_own_rebuild()
+    ensures { StateIsItsOwnRebuild }
+{}
+
+/// An accepted update of a state leaves a state.
+pub fn update_leaves_state()
+    ensures { UpdateLeavesState }
+{}
+
+/// An accepted first update leaves a state.
+pub fn first_update_leaves_state()
+    ensures { FirstLeavesState }
+{}
+
+/// A change of the host's focus leaves a state.
+pub fn host_focus_leaves_state()
+    ensures { HostFocusLeavesState }
+{}
+
+/// After the first accepted update every world is a state.
+pub fn later_worlds_are_states()
+    ensures { LaterWorldsAreStates }
+{}
+
+/// A tree that was dropped and comes again has its old index.
+pub fn names_keep_their_index()
+    ensures { NamesKeepTheirIndex }
+{}
+
+/// Each node of a state but the root tree's root stands at one place, and its parent is a node.
+pub fn place_is_one()
+    ensures { PlaceIsOne }
+{}
+
+/// The root of another tree than the root tree stands at the graft of its tree and 0.
+pub fn root_stands_at_graft()
+    ensures { RootStandsAtGraft }
+{}
+
+/// The root tree's root stands nowhere.
+pub fn root_has_no_place()
+    ensures { RootHasNoPlace }
+{}
+
+/// A world has at most one effective focus.
+pub fn effective_focus_is_one()
+    ensures { EffectiveFocusIsOne }
+{}
+
+/// A state has an effective focus, and it is a node.
+pub fn effective_focus_is_there()
+    ensures { EffectiveFocusIsThere }
+{}
+
+/// A world has at most one answer of `focus`.
+pub fn focus_is_one()
+    ensures { FocusIsOne }
+{}
+
+/// A state has an answer of `focus`.
+pub fn focus_is_there()
+    ensures { FocusIsThere }
+{}
+
+/// A state has at most one answer of `active_dialog`.
+pub fn active_dialog_is_one()
+    ensures { ActiveDialogIsOne }
+{}
+
+/// Tree info for the root tree replaces both toolkit texts, and that of another tree neither.
+pub fn toolkit_is_the_root_trees()
+    ensures { ToolkitIsTheRootTrees }
+{}
+
+/// Ids are ordered by tree index, and then by node id.
+pub fn order_is_by_tree_then_node()
+    ensures { OrderIsByTreeThenNode }
+{}
+
+/// The order of ids is total.
+pub fn order_is_total()
+    ensures { OrderIsTotal }
+{}
+
+/// `cmp` answers `Equal`, and `==` holds, only for an id and itself.
+pub fn equal_ids_are_one()
+    ensures { EqualIdsAreOne }
+{}
+
+/// `u128::from` is equal only for equal ids.
+pub fn number_is_of_one_id(a: FullNodeId, b: FullNodeId)
+    ensures { full_number a ≡ full_number b → a ≡ b }
+{}

@@ -1,0 +1,26 @@
+//! The worlds that the contracts of the tree speak of, and their laws.
+#![tactic(auto)]
+
+ghost use Rattle.model.specs.FullIds.{full_number};
+ghost use Rattle.std.specs.Prelude.{◌≡◌};
+
+pub mod filters;
+pub mod laws;
+
+use schema::NodeId;
+
+/// Names a node of a state.
+#[derive(Clone, Copy, Debug, PartialEq, Eq, PartialOrd, Ord, Hash)]
+pub struct FullNodeId {
+    pub tree: u32,
+    pub node: NodeId,
+}
+
+/// The node id, shifted left by 64 bits, over the tree's index.
+impl From<FullNodeId> for u128 {
+    ghost from_gives = { λ id number. number ≡ full_number id };
+
+    fn from(id: FullNodeId) -> u128 {
+        (u128::from(id.node.0) << 64) | u128::from(id.tree)
+    }
+}
