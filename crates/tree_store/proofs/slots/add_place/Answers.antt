@@ -1,0 +1,8 @@
+use Rattle.std.proofs.Common.{refl, sym, ◌∙◌, Some, None}
+use Rattle.tree_store.proofs.Places.{blank_same, record_none}
+use Rattle.tree_store.proofs.slots.add_place.Goals as goal
+
+pub returns-clause-same : goal.returns-clause-same
+returns-clause-same c =
+    blank_same c.args.slots.now.entries c.insert.new.self.entries c.args.id (Some None) refl c.in_ok-insert.ensures.updates.0
+    (record_none c.args.slots.now.entries c.args.id (sym c.contains_key.ensures ∙ c.if-contains_key.false))

@@ -1,0 +1,28 @@
+-- What a store keeps, as its contracts see it.
+use Rattle.std.specs.Prelude.{◌≡◌, Bool, [], None, refl, is_some}
+use Rattle.std.specs.FinMap as map
+use Rattle.std.specs.Coded.{Coded, Coded-set, Π_prop, code_by, coded×, coded_bool}
+use Rattle.std.specs.FinSet.{FinSet, contains, code}
+use Rattle.model.specs.declared.FullNodeId.{FullNodeId}
+use Rattle.model.specs.FullIds.{full_cmp, coded_full}
+use Rattle.model.specs.World.{World, data_of}
+use Rattle.model.specs.Codes.{coded_world}
+
+-- a world, and the ids that there is a place for
+pub record Kept : Type 0 where
+  pub world : World
+  pub places : FinSet full_cmp
+
+abbrev pub coded_kept : Coded Kept
+coded_kept = code_by (World × FinSet full_cmp) (coded× coded_world (code coded_full)) (λ k. (k.world, k.places)) (λ p. record { world = p.0; places = p.1 }) (λ _. refl)
+
+-- there is a place for the nodes, and for no more
+abbrev pub IsTight : Kept → Type 0
+IsTight k = (id : FullNodeId) → contains k.places id ≡ is_some (data_of k.world id)
+
+pub IsTight-prop : (k : Kept) → IsProp (IsTight k)
+IsTight-prop k = Π_prop (λ id. Coded-set coded_bool (contains k.places id) (is_some (data_of k.world id)))
+
+-- the world before the first update
+abbrev pub empty_world : Bool → World
+empty_world host_focused = record { known = []; trees = map.empty; nodes = map.empty; toolkit = (None, None); host_focused = host_focused }

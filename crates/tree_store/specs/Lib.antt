@@ -1,0 +1,8 @@
+pub mod Looks
+pub mod Plans
+pub mod Sound
+pub mod Kept
+pub mod Stored
+pub mod Shown
+pub mod Laying
+pub mod Overlays

@@ -1,0 +1,48 @@
+//! The whole decision on an update.
+use crate::look_ups::TreeRecord;
+use model::FullNodeId;
+use schema::Node;
+
+/// What becomes of a node: it has this place, and new data where they are given; or it is gone.
+#[derive(Drop)]
+pub enum NodeChange {
+    Put {
+        place: Option<(FullNodeId, usize)>,
+        node: Option<Node>,
+    },
+    Gone,
+}
+
+/// A change of one record.
+#[derive(Drop)]
+pub enum Change {
+    /// The node has this place; where `node` is `None` its data stay.
+    Put {
+        id: FullNodeId,
+        place: Option<(FullNodeId, usize)>,
+        node: Option<Node>,
+    },
+    /// The node is no longer there.
+    Gone(FullNodeId),
+    /// The tree's record afterwards. Without index and graft there is no record any more.
+    Tree(TreeRecord),
+}
+
+/// An event that a handler is to be told of, by its ids.
+#[derive(Clone, Copy, Debug, PartialEq, Eq)]
+pub enum PlanEvent {
+    Added(FullNodeId),
+    Updated(FullNodeId),
+    FocusMoved(Option<FullNodeId>, Option<FullNodeId>),
+    Removed(FullNodeId),
+}
+
+/// What an accepted update does: one change for each record that it adds, changes or removes, the events in order,
+/// the toolkit's texts where they are replaced, and the effective focus afterwards.
+#[derive(Drop)]
+pub struct Plan {
+    pub changes: Vec<Change>,
+    pub events: Vec<PlanEvent>,
+    pub toolkit: Option<(Option<String>, Option<String>)>,
+    pub focus: FullNodeId,
+}
