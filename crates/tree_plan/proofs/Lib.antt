@@ -1,0 +1,9 @@
+pub mod Maps
+pub mod Steps
+pub mod Reaching
+pub mod Leaving
+pub mod Focuses
+pub mod Laid
+pub mod Sounds
+pub mod Trees
+pub mod Tellings

@@ -1,0 +1,8 @@
+pub mod Overwritten
+pub mod Whole
+pub mod Verdicts
+pub mod Walks
+pub mod Removals
+pub mod Focusing
+pub mod Lists
+pub mod Planned
