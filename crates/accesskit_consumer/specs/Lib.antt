@@ -1,0 +1,4 @@
+pub mod Laid
+pub mod Views
+pub mod Nodes
+pub mod Told

@@ -1,0 +1,9 @@
+//! The tree of an interface as adapters for assistive technology read it: states, their nodes, and the changes between
+//! them.
+#![tactic(auto)]
+
+pub mod node;
+pub mod tree;
+
+pub use node::{FullNodeId, NodeRef};
+pub use tree::{StateRef, Tree, TreeChangeHandler, TreeState, UpdateError};

@@ -1,0 +1,19 @@
+//! A view of a node.
+ghost use Rattle.std.specs.Prelude.{◌≡◌, Some};
+ghost use Rattle.std.specs.Coded.{Coded-set, coded_option};
+ghost use Rattle.schema.specs.contracts.Node.{the_row as node_row};
+ghost use Rattle.model.specs.World.{data_of};
+ghost use Rattle.accesskit_consumer.specs.Views.{world_of};
+
+use crate::tree::StateRef;
+use model::FullNodeId;
+use schema::Node;
+
+/// A node of a state, as it is read.
+#[derive(Clone, Copy)]
+pub struct NodeRef<'a> {
+    pub(crate) state: StateRef<'a>,
+    pub(crate) id: FullNodeId,
+    pub(crate) node: &'a Node,
+    ghost known: { data_of (world_of state) id ≡ Some node.now } by { Coded-set (coded_option node_row.coded) (data_of (world_of state) id) (Some node.now) },
+}

@@ -1,0 +1,192 @@
+//! What is read of a state.
+ghost use Rattle.std.specs.Prelude.{◌≡◌, ◌↔◌, IsTrue, true, false, Some, MatchOption, IfSome, IsSome, option_copied, option_map};
+ghost use Rattle.model.specs.World.{IsNode, name_of, root_of, located, toolkit_name, toolkit_version};
+ghost use Rattle.model.specs.Focus.{IsEffectiveFocus, IsFocusId, IsFocus};
+ghost use Rattle.accesskit_consumer.specs.Views.{world_of};
+ghost use Rattle.accesskit_consumer.specs.Nodes.{world_at, id_at, ShowsThe, IsView};
+
+use crate::node::NodeRef;
+use crate::tree::StateRef;
+use model::FullNodeId;
+use schema::{NodeId, TreeId};
+
+impl<'a> StateRef<'a> {
+    /// The view of a node that is there.
+    pub(crate) fn node(self, id: FullNodeId) -> NodeRef<'a>
+        requires { IsNode (world_of self) id }
+        ensures { IsView (world_of self.entry) id result }
+    {
+        let node = self.data(id).unwrap();
+        NodeRef {
+            state: self,
+            id,
+            node,
+        }
+    }
+
+    /// The view of the node that is named, where one is.
+    pub(crate) fn optional_node(self, id: Option<FullNodeId>) -> Option<NodeRef<'a>>
+        requires { IfSome id (IsNode (world_of self)) }
+        ensures world { IfSome result (λ node. world_at node ≡ world_of self.entry) }
+        ensures node { option_map id_at result ≡ id }
+    {
+        match id {
+            Some(id) => Some(self.node(id)),
+            None => None,
+        }
+    }
+
+    /// The root tree's root, which is there.
+    pub(crate) fn checked_root(self) -> FullNodeId
+        ensures root { root_of (world_of self.entry) 0 ≡ Some result }
+        ensures there { IsNode (world_of self.entry) result }
+    {
+        let _focus = self.known_focus();
+        self.known_root()
+    }
+
+    /// The effective focus, which is there.
+    pub(crate) fn checked_focus(self) -> FullNodeId
+        ensures focus { IsEffectiveFocus (world_of self.entry) result }
+        ensures there { IsNode (world_of self.entry) result }
+    {
+        self.known_focus()
+    }
+
+    /// The name of the tree of a node that is there.
+    pub(crate) fn tree_of(self, id: FullNodeId) -> TreeId
+        requires { IsNode (world_of self) id }
+        ensures { name_of (world_of self.entry) id.tree ≡ Some result }
+    {
+        let _focus = self.known_focus();
+        self.tree_id(id.tree).unwrap()
+    }
+
+    /// Whether the node is in the state.
+    pub fn has_node(&self, id: FullNodeId) -> bool
+        ensures { IsTrue result ↔ IsNode (world_of self.now) id }
+    {
+        self.data(id).is_some()
+    }
+
+    /// The node with this id, if it is in the state.
+    pub fn node_by_id(&self, id: FullNodeId) -> Option<NodeRef<'a>>
+        ensures { ShowsThe (world_of self.now) (λ it. (it ≡ id) × IsNode (world_of self.now) it) result }
+    {
+        let state = *self;
+        match state.data(id) {
+            Some(node) => Some(NodeRef { state, id, node }),
+            None => None,
+        }
+    }
+
+    /// The node with this id within the tree of this name, if it is in the state.
+    pub fn node_by_tree_local_id(&self, node: NodeId, tree: TreeId) -> Option<NodeRef<'a>>
+        ensures { ShowsThe (world_of self.now) (λ it. located (world_of self.now) it ≡ Some (node, tree)) result }
+    {
+        let _focus = self.known_focus();
+        match self.tree_index(tree) {
+            Some(tree) => self.node_by_id(FullNodeId { tree, node }),
+            None => None,
+        }
+    }
+
+    /// The id of the root tree's root.
+    pub fn root_id(&self) -> FullNodeId
+        ensures { root_of (world_of self.now) 0 ≡ Some result }
+    {
+        self.checked_root()
+    }
+
+    /// The root tree's root.
+    pub fn root(&self) -> NodeRef<'a>
+        ensures world { world_at result ≡ world_of self.now }
+        ensures node { root_of (world_of self.now) 0 ≡ Some (id_at result) }
+    {
+        self.node(self.checked_root())
+    }
+
+    /// The effective focus, whether or not the host is focused: the root tree's declared focus, or behind a graft the
+    /// declared focus of the tree that it names.
+    pub fn focus_id_in_tree(&self) -> FullNodeId
+        ensures { IsEffectiveFocus (world_of self.now) result }
+    {
+        self.checked_focus()
+    }
+
+    /// The effective focus, whether or not the host is focused.
+    pub fn focus_in_tree(&self) -> NodeRef<'a>
+        ensures world { world_at result ≡ world_of self.now }
+        ensures node { IsEffectiveFocus (world_of self.now) (id_at result) }
+    {
+        self.node(self.checked_focus())
+    }
+
+    /// The effective focus while the host is focused.
+    pub fn focus_id(&self) -> Option<FullNodeId>
+        ensures { IsFocusId (world_of self.now) result }
+    {
+        if self.is_host_focused() {
+            Some(self.focus_id_in_tree())
+        } else {
+            None
+        }
+    }
+
+    /// While the host is focused the effective focus, or in its place the node that it names as its active
+    /// descendant, if that is a node of its tree.
+    pub fn focus(&self) -> Option<NodeRef<'a>>
+        ensures world { IfSome result (λ node. world_at node ≡ world_of self.now) }
+        ensures node { IsFocus (world_of self.now) (option_map id_at result) }
+    {
+        if !self.is_host_focused() {
+            return None;
+        }
+        let focus = self.focus_in_tree();
+        match focus.active_descendant() {
+            Some(active) => Some(active),
+            None => Some(focus),
+        }
+    }
+
+    /// The id of what `focus` answers.
+    pub(crate) fn shown_focus(self) -> Option<FullNodeId>
+        ensures { IsFocus (world_of self.entry) result }
+    {
+        match self.focus() {
+            Some(node) => Some(node.id),
+            None => None,
+        }
+    }
+
+    /// The toolkit's name: `AccessKit` if none was given.
+    pub fn toolkit_name(&self) -> &'a str
+        ensures { result.now ≡ toolkit_name (world_of self.now) }
+    {
+        match self.given_toolkit_name() {
+            Some(name) => name,
+            None => "AccessKit",
+        }
+    }
+
+    /// The toolkit's version, given only together with a name.
+    pub fn toolkit_version(&self) -> Option<&'a str>
+        ensures { option_copied result ≡ toolkit_version (world_of self.now) }
+    {
+        if self.given_toolkit_name().is_none() {
+            return None;
+        }
+        self.given_toolkit_version()
+    }
+
+    /// The id within its tree, and the tree's name, of a node that is in the state.
+    pub fn locate_node(&self, id: FullNodeId) -> Option<(NodeId, TreeId)>
+        ensures { result ≡ located (world_of self.now) id }
+    {
+        if self.has_node(id) {
+            Some((id.node, self.tree_of(id)))
+        } else {
+            None
+        }
+    }
+}

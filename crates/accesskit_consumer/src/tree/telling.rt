@@ -1,0 +1,49 @@
+//! Tells a handler of a plan's events.
+ghost use Rattle.std.specs.Prelude.{◌≡◌, All};
+ghost use Rattle.std.specs.Option.{option_map};
+ghost use Rattle.model.specs.World.{World, IsNode};
+ghost use Rattle.model.specs.Events.{Told};
+ghost use Rattle.model.specs.Differences.{event};
+ghost use Rattle.tree_store.specs.Sound.{IsTellable};
+ghost use Rattle.accesskit_consumer.specs.Views.{world_of};
+ghost use Rattle.accesskit_consumer.specs.Told.{difference, told_events};
+
+use crate::tree::{StateRef, TreeChangeHandler};
+use tree_store::PlanEvent;
+
+/// Tells of one event: its old nodes are seen in the old state, and its new ones in the new state.
+pub(crate) fn tell<H: TreeChangeHandler>(
+    old: StateRef,
+    new: StateRef,
+    told: PlanEvent,
+    handler: &mut H,
+)
+    requires { IsTellable (world_of old) (world_of new) told }
+    ensures { H.steps handler.old (event (world_of old.entry) (world_of new.entry) (difference told)) handler.new }
+{
+    match told {
+        PlanEvent::Added(id) => handler.node_added(&new.node(id)),
+        PlanEvent::Updated(id) => handler.node_updated(&old.node(id), &new.node(id)),
+        PlanEvent::FocusMoved(before, after) => {
+            let before = old.optional_node(before);
+            let after = new.optional_node(after);
+            handler.focus_moved(before.as_ref(), after.as_ref());
+        }
+        PlanEvent::Removed(id) => handler.node_removed(&old.node(id)),
+    }
+}
+
+/// Tells of the events in turn.
+pub(crate) fn tell_all<H: TreeChangeHandler>(
+    old: StateRef,
+    new: StateRef,
+    events: &[PlanEvent],
+    handler: &mut H,
+)
+    requires { All (IsTellable (world_of old) (world_of new)) events.now }
+    ensures { Told H.steps handler.old (told_events (world_of old.entry) (world_of new.entry) events.now) handler.new }
+{
+    for event in events {
+        tell(old, new, *event, handler);
+    }
+}
