@@ -1,0 +1,23 @@
+-- What is printed of an event.
+use Rattle.std.specs.Prelude.{ℕ, List, ◌++◌, codes, Option, Some, None}
+use Rattle.std.specs.Fmt.{decimal}
+use Rattle.model.specs.declared.FullNodeId.{FullNodeId}
+use Rattle.model.specs.Events.{Event, NodeAdded, NodeUpdated, FocusMoved, NodeRemoved, Seen}
+
+-- a node's id, as 1:2
+abbrev pub shown : FullNodeId → List ℕ
+shown id = decimal id.tree ++ codes ":" ++ decimal id.node.0
+
+abbrev pub shown_or_dash : Option FullNodeId → List ℕ
+shown_or_dash None = codes "-"
+shown_or_dash (Some id) = shown id
+
+abbrev pub seen_id : Option Seen → Option FullNodeId
+seen_id None = None
+seen_id (Some s) = Some s.id
+
+abbrev pub printed : Event → List ℕ
+printed (NodeAdded new) = codes "added " ++ shown new.id ++ codes "\n"
+printed (NodeUpdated old new) = codes "updated " ++ shown new.id ++ codes "\n"
+printed (FocusMoved old new) = codes "focus " ++ shown_or_dash (seen_id old) ++ codes " " ++ shown_or_dash (seen_id new) ++ codes "\n"
+printed (NodeRemoved old) = codes "removed " ++ shown old.id ++ codes "\n"

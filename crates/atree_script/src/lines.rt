@@ -1,0 +1,264 @@
+//! The lines of a script.
+//!
+//! Words stand with one space between them. Numbers are decimal and without a sign; a text stands in double quotes.
+
+ghost use Rattle.std.specs.Prelude.{◌<◌, ◌≤◌, length, IfOk, OnOk, option_copied};
+ghost use Rattle.atree_script.specs.Words.{left};
+
+use crate::roles::role_named;
+use schema::{Node, NodeId, TreeId, TreeInfo, TreeUpdate};
+use std::alloc::{AllocError, AllocFailed, Global};
+use std::io;
+use uuid::Uuid;
+
+/// What a line says.
+#[derive(Drop)]
+pub(crate) enum Line {
+    /// An empty line or a comment.
+    Nothing,
+    /// Begins an update, still without nodes.
+    Update(TreeUpdate),
+    /// A node of the update.
+    Node(NodeId, Node),
+    /// Ends the update and sends it.
+    End,
+    /// The host has the focus, or has lost it.
+    HostFocus(bool),
+    /// Asks for the tree.
+    Print,
+}
+
+/// Why a run stops before the end of its input.
+#[derive(Clone, Copy, Debug, PartialEq, Eq)]
+pub(crate) enum Stop {
+    /// The line is not a line of a script, or is out of place.
+    BadLine,
+    /// The input gave an error.
+    ReadFault,
+    /// An output gave an error.
+    WriteFault,
+    /// There was no memory, outside an update.
+    Memory,
+}
+
+impl From<AllocError> for Stop {
+    fn from(_refused: AllocError) -> Stop {
+        Stop::Memory
+    }
+}
+
+impl<T: Drop> From<AllocFailed<T>> for Stop {
+    fn from(_refused: AllocFailed<T>) -> Stop {
+        Stop::Memory
+    }
+}
+
+impl From<io::Error> for Stop {
+    fn from(_fault: io::Error) -> Stop {
+        Stop::WriteFault
+    }
+}
+
+/// Reads a line, without its line end.
+pub(crate) fn read_line(alloc: Global, line: &str) -> Result<Line, Stop> {
+    if line.is_empty() || line.starts_with('#') {
+        return Ok(Line::Nothing);
+    }
+    let mut words = Words { rest: Some(line) };
+    match words.word()? {
+        "update" => Ok(Line::Update(update_line(alloc, words)?)),
+        "node" => {
+            let (id, node) = node_line(alloc, words)?;
+            Ok(Line::Node(id, node))
+        }
+        "host" => match words.last_word()? {
+            "on" => Ok(Line::HostFocus(true)),
+            "off" => Ok(Line::HostFocus(false)),
+            _ => Err(Stop::BadLine),
+        },
+        "end" if words.rest.is_none() => Ok(Line::End),
+        "print" if words.rest.is_none() => Ok(Line::Print),
+        _ => Err(Stop::BadLine),
+    }
+}
+
+/// `update TREE focus=ID [root=ID] [toolkit="t"] [version="t"]`, from `TREE` on. The fields come in any order; those of
+/// the toolkit ask for `root=`.
+fn update_line(alloc: Global, mut words: Words) -> Result<TreeUpdate, Stop> {
+    let tree_id = tree_named(words.word()?).ok_or(Stop::BadLine)?;
+    let mut focus = None;
+    let mut root = None;
+    let mut toolkit_name = None;
+    let mut toolkit_version = None;
+    while words.rest.is_some() {
+        match words.field()? {
+            "focus" if focus.is_none() => focus = Some(words.id()?),
+            "root" if root.is_none() => root = Some(words.id()?),
+            "toolkit" if toolkit_name.is_none() => toolkit_name = Some(words.text(alloc)?),
+            "version" if toolkit_version.is_none() => toolkit_version = Some(words.text(alloc)?),
+            _ => return Err(Stop::BadLine),
+        }
+    }
+    let focus = focus.ok_or(Stop::BadLine)?;
+    let tree = match root {
+        Some(root) => Some(TreeInfo {
+            root,
+            toolkit_name,
+            toolkit_version,
+        }),
+        None if toolkit_name.is_some() || toolkit_version.is_some() => return Err(Stop::BadLine),
+        None => None,
+    };
+    Ok(TreeUpdate {
+        nodes: Vec::new(alloc),
+        tree,
+        tree_id,
+        focus,
+    })
+}
+
+/// `node ID ROLE [children=ID,ID..] [label="t"] [active=ID]`, from `ID` on. The fields come in any order.
+fn node_line(alloc: Global, mut words: Words) -> Result<(NodeId, Node), Stop> {
+    let id = words.id()?;
+    let role = role_named(words.word()?).ok_or(Stop::BadLine)?;
+    let mut node = Node::new(alloc, role);
+    while words.rest.is_some() {
+        match words.field()? {
+            "children" if node.children().is_empty() => {
+                let children = ids(alloc, words.word()?)?;
+                node.set_children(&children)?;
+            }
+            "label" if node.label().is_none() => {
+                let label = words.text(alloc)?;
+                node.set_label(&label)?;
+            }
+            "active" if node.active_descendant().is_none() => {
+                node.set_active_descendant(words.id()?);
+            }
+            _ => return Err(Stop::BadLine),
+        }
+    }
+    Ok((id, node))
+}
+
+/// What is left of a line: `None` at its end, and else what comes after a space.
+#[derive(Drop)]
+struct Words<'a> {
+    rest: Option<&'a str>,
+}
+
+impl<'a> Words<'a> {
+    /// The next word.
+    fn word(&mut self) -> Result<&'a str, Stop>
+        ensures { OnOk result (left (option_copied self.new.rest) < left (option_copied self.old.rest)) }
+    {
+        let rest = self.rest.ok_or(Stop::BadLine)?;
+        let (word, after) = match rest.split_once(' ') {
+            Some((word, after)) => (word, Some(after)),
+            None => (rest, None),
+        };
+        self.rest = after;
+        if word.is_empty() {
+            return Err(Stop::BadLine);
+        }
+        Ok(word)
+    }
+
+    /// The next word, which is the last.
+    fn last_word(&mut self) -> Result<&'a str, Stop> {
+        let word = self.word()?;
+        if self.rest.is_some() {
+            return Err(Stop::BadLine);
+        }
+        Ok(word)
+    }
+
+    /// The next word, which is a node's id.
+    fn id(&mut self) -> Result<NodeId, Stop>
+        ensures { OnOk result (left (option_copied self.new.rest) < left (option_copied self.old.rest)) }
+    {
+        let number = number(self.word()?).ok_or(Stop::BadLine)?;
+        Ok(NodeId(number))
+    }
+
+    /// The name of the next field. Its value comes next.
+    fn field(&mut self) -> Result<&'a str, Stop>
+        ensures { OnOk result (left (option_copied self.new.rest) < left (option_copied self.old.rest)) }
+    {
+        let rest = self.rest.ok_or(Stop::BadLine)?;
+        let (name, value) = rest.split_once('=').ok_or(Stop::BadLine)?;
+        self.rest = Some(value);
+        Ok(name)
+    }
+
+    /// The next text, which stands in quotes. In it `\"`, `\\` and `\n` are a quote, a backslash and a newline.
+    fn text(&mut self, alloc: Global) -> Result<String, Stop>
+        ensures { OnOk result (left (option_copied self.new.rest) < left (option_copied self.old.rest)) }
+    {
+        let rest = self.rest.ok_or(Stop::BadLine)?;
+        let inner = rest.strip_prefix('"').ok_or(Stop::BadLine)?;
+        let mut chars = inner.chars();
+        let mut text = String::new(alloc);
+        while let Some(c) = chars.next() {
+            match c {
+                '"' => {
+                    self.rest = after_text(chars.as_str())?;
+                    return Ok(text);
+                }
+                '\\' => {
+                    let escape = chars.next().ok_or(Stop::BadLine)?;
+                    text.push(escaped(escape)?)?;
+                }
+                _ => text.push(c)?,
+            }
+        }
+        Err(Stop::BadLine)
+    }
+}
+
+/// What comes after a text's closing quote: the end of the line, or a space and more.
+fn after_text(rest: &str) -> Result<Option<&str>, Stop>
+    ensures { IfOk result (λ after. left (option_copied after) ≤ length rest.now) }
+{
+    if rest.is_empty() {
+        return Ok(None);
+    }
+    let after = rest.strip_prefix(' ').ok_or(Stop::BadLine)?;
+    Ok(Some(after))
+}
+
+/// What a backslash and this character stand for.
+fn escaped(c: char) -> Result<char, Stop> {
+    match c {
+        'n' => Ok('\n'),
+        '"' | '\\' => Ok(c),
+        _ => Err(Stop::BadLine),
+    }
+}
+
+/// A decimal number without a sign.
+pub(crate) fn number(word: &str) -> Option<u64> {
+    if word.starts_with('+') {
+        return None;
+    }
+    word.parse().ok()
+}
+
+/// Node ids with one comma between them.
+fn ids(alloc: Global, word: &str) -> Result<Vec<NodeId>, Stop> {
+    let mut ids = Vec::new(alloc);
+    for part in word.split(',') {
+        let number = number(part).ok_or(Stop::BadLine)?;
+        ids.push(NodeId(number))?;
+    }
+    Ok(ids)
+}
+
+/// The tree that a word names: `root`, or a UUID in any form that `uuid` reads.
+fn tree_named(word: &str) -> Option<TreeId> {
+    if word == "root" {
+        return Some(TreeId(Uuid::nil()));
+    }
+    let id = Uuid::parse_str(word).ok()?;
+    Some(TreeId(id))
+}

@@ -1,0 +1,51 @@
+//! Prints a tree as an outline.
+
+use crate::lines::Stop;
+use crate::printer::ShownId;
+use accesskit_consumer::node::{FullNodeId, NodeRef};
+use accesskit_consumer::tree::StateRef;
+use std::alloc::Global;
+use std::io::{self, Write};
+
+/// Prints each node on a line, a parent before its children, with two spaces for each level below the root.
+pub(crate) fn print_outline<O: Write>(
+    alloc: Global,
+    state: StateRef,
+    out: &mut O,
+) -> Result<(), Stop> {
+    // What is still to be printed, with its depth; the last comes first.
+    let mut waiting = Vec::new(alloc);
+    waiting.push((state.root().id(), 0usize))?;
+    for _ in 0..u64::MAX {
+        let Some((id, depth)) = waiting.pop() else {
+            break;
+        };
+        let Some(node) = state.node_by_id(id) else {
+            continue;
+        };
+        print_node(node, depth, out)?;
+        let below = depth.saturating_add(1);
+        for child in node.data().children().iter().rev() {
+            let id = FullNodeId {
+                tree: id.tree,
+                node: *child,
+            };
+            waiting.push((id, below))?;
+        }
+    }
+    Ok(())
+}
+
+/// Prints the node's id and role, and a star if it is focused.
+fn print_node<O: Write>(node: NodeRef, depth: usize, out: &mut O) -> io::Result<()> {
+    for _ in 0..depth {
+        out.write_all(b"  ")?;
+    }
+    let id = ShownId(node.id());
+    let role = node.role();
+    write!(out, "{id} {role}")?;
+    if node.is_focused() {
+        out.write_all(b" *")?;
+    }
+    out.write_all(b"\n")
+}

@@ -1,0 +1,119 @@
+//! Prints what a tree tells of its changes.
+ghost use Rattle.std.specs.Prelude.{◌≡◌, Some, None, IfNone, OnOk};
+ghost use Rattle.std.specs.Io.KnownBytes.{Appends};
+ghost use Rattle.atree_script.specs.Printed.{shown, shown_or_dash, seen_id, printed};
+ghost use Rattle.accesskit_consumer.specs.Nodes.{seen_through};
+
+use accesskit_consumer::node::{FullNodeId, NodeRef};
+use accesskit_consumer::tree::TreeChangeHandler;
+use std::fmt;
+use std::io::{self, Write};
+
+/// A node's id, printed as `1:2`: the index of its tree, and its id in the tree.
+#[derive(Clone, Copy)]
+pub(crate) struct ShownId(pub FullNodeId);
+
+impl fmt::Display for ShownId {
+    ghost output = { λ s. Some (shown s.0) };
+
+    fn fmt<W: fmt::Write>(&self, f: &mut fmt::Formatter<W>) -> fmt::Result {
+        let tree = self.0.tree;
+        let node = self.0.node.0;
+        write!(f, "{tree}:{node}")
+    }
+}
+
+/// An id, or `-` for none.
+#[derive(Clone, Copy)]
+struct ShownFocus(Option<FullNodeId>);
+
+impl fmt::Display for ShownFocus {
+    ghost output = { λ s. Some (shown_or_dash s.0) };
+
+    fn fmt<W: fmt::Write>(&self, f: &mut fmt::Formatter<W>) -> fmt::Result {
+        match self.0 {
+            Some(id) => {
+                let id = ShownId(id);
+                write!(f, "{id}")
+            }
+            None => f.write_str("-"),
+        }
+    }
+}
+
+/// Prints each event on a line, up to the first fault of the writer.
+#[derive(Drop)]
+pub(crate) struct Printer<W> {
+    out: W,
+    fault: Option<io::Error>,
+}
+
+impl<W: Write + Drop> Printer<W> {
+    pub(crate) fn new(out: W) -> Printer<W>
+        ensures out { result.out ≡ out }
+        ensures fault { result.fault ≡ None }
+    {
+        Printer { out, fault: None }
+    }
+
+    /// The first fault, if there was one.
+    pub(crate) fn finish(self) -> io::Result<()>
+        ensures { OnOk result (self.fault ≡ None) }
+    {
+        match self.fault {
+            Some(fault) => Err(fault),
+            None => Ok(()),
+        }
+    }
+}
+
+impl<W: Write + Drop> TreeChangeHandler for Printer<W> {
+    ghost steps = { λ s e t. IfNone t.fault ((s.fault ≡ None) × Appends (W.contents s.out) (W.contents t.out) (printed e)) };
+
+    fn node_added(&mut self, node: &NodeRef) {
+        if self.fault.is_none() {
+            let id = ShownId(node.id());
+            if let Err(fault) = writeln!(self.out, "added {id}") {
+                self.fault = Some(fault);
+            }
+        }
+    }
+
+    fn node_updated(&mut self, _old_node: &NodeRef, new_node: &NodeRef) {
+        if self.fault.is_none() {
+            let id = ShownId(new_node.id());
+            if let Err(fault) = writeln!(self.out, "updated {id}") {
+                self.fault = Some(fault);
+            }
+        }
+    }
+
+    fn focus_moved(&mut self, old_node: Option<&NodeRef>, new_node: Option<&NodeRef>) {
+        if self.fault.is_none() {
+            let old = ShownFocus(id_of(old_node));
+            let new = ShownFocus(id_of(new_node));
+            if let Err(fault) = writeln!(self.out, "focus {old} {new}") {
+                self.fault = Some(fault);
+            }
+        }
+    }
+
+    fn node_removed(&mut self, node: &NodeRef) {
+        if self.fault.is_none() {
+            let id = ShownId(node.id());
+            if let Err(fault) = writeln!(self.out, "removed {id}") {
+                self.fault = Some(fault);
+            }
+        }
+    }
+}
+
+/// The id of a node, if there is one.
+fn id_of(node: Option<&NodeRef>) -> Option<FullNodeId>
+    ensures { result ≡ seen_id (seen_through node.entry) }
+{
+    match node {
+        Some(node) => Some(node.id()),
+        None => None,
+    }
+}
