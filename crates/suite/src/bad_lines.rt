@@ -1,0 +1,138 @@
+//! Lines that no script has.
+
+use crate::scripts::run;
+use std::test::Fail;
+
+/// Each of these lines is bad where no update is open.
+static OUTSIDE: [&str; 49] = [
+    "bogus",
+    " print",
+    "print ",
+    "print print",
+    "Print",
+    "end",
+    "end ",
+    "node 0 Window",
+    "host",
+    "host ",
+    "host  on",
+    "host On",
+    "host on off",
+    "label 1 root",
+    "children 0 root",
+    "focus",
+    "update",
+    "update root",
+    "update  root focus=0",
+    "update root  focus=0",
+    "update root focus=0 ",
+    "update root root=0",
+    "update root focus=",
+    "update root focus=-0",
+    "update root focus=+0",
+    "update root focus=0x1",
+    "update root focus=18446744073709551616",
+    "update root focus=0 focus=0",
+    "update root focus=0 root=0 root=0",
+    "update root focus=0 toolkit=\"t\"",
+    "update root focus=0 version=\"t\"",
+    "update root focus=0 root=0 toolkit=t",
+    "update root focus=0 root=0 toolkit=\"t",
+    "update root focus=0 root=0 toolkit=\"t\"x",
+    "update root focus=0 root=0 toolkit=\"t\" ",
+    "update root focus=0 root=0 toolkit=\"\\t\"",
+    "update root focus=0 root=0 toolkit=\"\\",
+    "update root focus=0 root=0 toolkit=\"t\" toolkit=\"t\"",
+    "update root focus=0 root=0 version=\"t\" version=\"t\"",
+    "update root focus=0 hidden",
+    "update root focus=0 role=1",
+    "update Root focus=0",
+    "update 0 focus=0",
+    "update focus=0 root",
+    "print\r\r",
+    " ",
+    "\t",
+    " # no comment",
+    "update root focus=0\r root=0",
+];
+
+/// Each of these lines is bad inside an update.
+static INSIDE: [&str; 33] = [
+    "host on",
+    "print",
+    "update root focus=0",
+    "node",
+    "node ",
+    "node 0",
+    "node 0 ",
+    "node Window 0",
+    "node -0 Window",
+    "node +0 Window",
+    "node 0 window",
+    "node 0 Bogus",
+    "node 0 Other",
+    "node 0 Other()",
+    "node 0 Other(+7)",
+    "node 0 Other(-0)",
+    "node 0 Other(65536)",
+    "node 0 Other(7",
+    "node 0 Window ",
+    "node 0 Window hidden",
+    "node 0 Window value=\"v\"",
+    "node 0 Window tree=root",
+    "node 0 Window children=",
+    "node 0 Window children=1,",
+    "node 0 Window children=,1",
+    "node 0 Window children=1,,2",
+    "node 0 Window children=1, 2",
+    "node 0 Window children=1 children=2",
+    "node 0 Window active=1 active=1",
+    "node 0 Window label=\"\" label=\"\"",
+    "node 0 Window label=OK",
+    "node 0 Window label=\"a\"b\"",
+    "end 0",
+];
+
+#[test]
+fn bad_lines_are_numbered(rt: HostRuntime) -> Result<(), Fail> {
+    for line in &OUTSIDE {
+        let script = format!(in rt.alloc(); "print\n\n{line}\nprint\n")?;
+        let (status, output, errors) = run(rt.alloc(), script.as_bytes());
+        assert_eq!(rt; status, 2, "{line:?}");
+        assert_eq!(rt; output.as_slice(), b"no tree\n".as_slice(), "{line:?}");
+        assert_eq!(rt;
+            errors.as_slice(),
+            b"line 3: bad line\n".as_slice(),
+            "{line:?}"
+        );
+    }
+    for line in &INSIDE {
+        let script = format!(in rt.alloc(); "print\n#\nupdate root focus=0 root=0\n{line}\nend\n")?;
+        let (status, output, errors) = run(rt.alloc(), script.as_bytes());
+        assert_eq!(rt; status, 2, "{line:?}");
+        assert_eq!(rt; output.as_slice(), b"no tree\n".as_slice(), "{line:?}");
+        assert_eq!(rt;
+            errors.as_slice(),
+            b"line 4: bad line\n".as_slice(),
+            "{line:?}"
+        );
+    }
+    Ok(())
+}
+
+/// The end of the input inside an update, and bytes that are not text, are bad lines too.
+#[test]
+fn other_ends_are_numbered(rt: HostRuntime) {
+    let cases: [(&[u8], &[u8]); 5] = [
+        (b"update root focus=0", b"line 1: bad line\n"),
+        (b"update root focus=0\n", b"line 1: bad line\n"),
+        (b"\nupdate root focus=0\n\n#\n", b"line 4: bad line\n"),
+        (b"print\n# \xff\n", b"line 2: bad line\n"),
+        (b"print\nprint\n\xc3", b"line 3: bad line\n"),
+    ];
+    for (script, told) in cases {
+        let (status, _, errors) = run(rt.alloc(), script);
+        assert_eq!(rt; status, 2);
+        assert_eq!(rt; errors.as_slice(), told);
+    }
+}
