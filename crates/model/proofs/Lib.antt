@@ -45,6 +45,7 @@ pub mod OwnRebuild
 pub mod HowMany
 pub mod ToldTools
 pub mod ToldExamples
+pub mod ToldMoves
 pub mod Dialogs
 pub mod Closure
 pub mod RebuildThere

@@ -3,7 +3,7 @@ use Rattle.std.specs.Prelude.{◌≡◌, [], ◌∷◌}
 use Rattle.model.specs.Events.{NodeAdded, NodeUpdated, NodeRemoved, seen_in}
 use Rattle.model.specs.Run.{ToUpdate, Accepted, Does}
 use Rattle.model.specs.Work.{IsWorkOf, allowed}
-use Rattle.model.specs.Examples.{at, nested, graft_moves_out, moved_out, empty_graft, pushed_tree, pushed, document_again, labelled}
+use Rattle.model.specs.Examples.{at, before_move, whole_move, after_move, nested, graft_moves_out, moved_out, empty_graft, pushed_tree, pushed, document_again, labelled}
 
 -- A graft moves out of a tree that goes: its tree's root has a new place, and the node below that root isn't told.
 abbrev pub GraftMovesOut : Type 0
@@ -12,6 +12,14 @@ GraftMovesOut =
     (NodeAdded (seen_in moved_out (at 0 2))
     ∷ NodeUpdated (seen_in nested (at 0 0)) (seen_in moved_out (at 0 0)) ∷ NodeUpdated (seen_in nested (at 2 0)) (seen_in moved_out (at 2 0))
     ∷ NodeRemoved (seen_in nested (at 0 1)) ∷ NodeRemoved (seen_in nested (at 1 0)) ∷ NodeRemoved (seen_in nested (at 1 1)) ∷ [])
+    Accepted
+
+-- A button moves from one container to another: both containers are told for their lists, and the button for its place.
+abbrev pub ButtonMoves : Type 0
+ButtonMoves =
+    Does before_move (ToUpdate whole_move) after_move
+    (NodeUpdated (seen_in before_move (at 0 1)) (seen_in after_move (at 0 1)) ∷ NodeUpdated (seen_in before_move (at 0 2)) (seen_in after_move (at 0 2))
+    ∷ NodeUpdated (seen_in before_move (at 0 3)) (seen_in after_move (at 0 3)) ∷ [])
     Accepted
 
 -- The tree of an empty graft comes: the graft itself isn't told.

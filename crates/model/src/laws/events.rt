@@ -1,6 +1,6 @@
 //! Laws of events and of the differences of two worlds.
 ghost use Rattle.model.specs.EventLaws.{DifferencesAreOne, DifferencesExist, EachHasAReason, EachIsToldInOrder, HostChangeTellsFocus, KeptRecordsFollowRun, NothingToTell, RepeatTellsNothing, RepeatTellsRoot, RootIsTold, RunLeavesState, RecordsAreOne, RecordsFollow, RecordsFollowRun, RunsAreOne, StoppedRunBegins, WorkIsOne};
-ghost use Rattle.model.specs.ToldExamples.{GraftMovesOut, GraftedTreeComes, GraftedRootIsLabelled, GraftMovesOutWork};
+ghost use Rattle.model.specs.ToldExamples.{ButtonMoves, GraftMovesOut, GraftedTreeComes, GraftedRootIsLabelled, GraftMovesOutWork};
 ghost use Rattle.model.specs.EventExamples.{ButtonGoes, FocusGoesToButton, FocusedButtonGoes, ButtonsChangePlaces, HostLosesFocus, LabelIsLittleWork, PicturedChange};
 
 /// Two worlds have one list of differences.
@@ -121,6 +121,11 @@ pub fn label_is_little_work()
 /// A button goes, another comes, the one between them moves up, and the focus goes to it.
 pub fn pictured_change()
     ensures { PicturedChange }
+{}
+
+/// A button moves to another container: both containers are updated, and so is the button, for its place.
+pub fn button_moves_is_told()
+    ensures { ButtonMoves }
 {}
 
 /// A graft moves out of a tree that goes: its tree's root is updated, and the node below that root isn't.
