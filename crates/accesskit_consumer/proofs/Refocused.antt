@@ -7,8 +7,8 @@ use Rattle.model.specs.World.{World, IsNode}
 use Rattle.model.specs.Focus.{IsFocus}
 use Rattle.model.specs.Events.{Event, Told}
 use Rattle.model.specs.Differences.{Difference, Updated, Refocused, IsToldForFocus, AreOfFocus, event, events}
-use Rattle.model.proofs.Ascending.{contains_none}
 use Rattle.model.proofs.Tellings.{told_append, told_more}
+use Rattle.model.proofs.Members.{contains_none}
 
 -- a handler that is told of a change from one world to another
 module _ {H : Type 0} (steps : H → Event → H → Type 0) (old new : World) where

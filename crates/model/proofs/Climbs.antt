@@ -9,8 +9,8 @@ use Rattle.model.specs.Lists.{ancestors, IsWithin}
 use Rattle.model.specs.Paths.{depth, index_path, relative_index_path}
 use Rattle.model.proofs.PlaceOf.{stands_at_place}
 use Rattle.model.proofs.Grown.{above_child, above_root, depth_child}
-use Rattle.model.proofs.Within.{contains_nothing, contains_head, contains_later, contains_cases}
 use Rattle.model.proofs.ListFacts.{path_length, path_child, path_splits}
+use Rattle.model.proofs.Members.{contains_cases, contains_head, contains_later, contains_none}
 
 module _ (w : World) (formed : IsFormed w) where
   -- what lies within a node are the node and what lies within its children
@@ -24,7 +24,7 @@ module _ (w : World) (formed : IsFormed w) where
   within_parent top c (inr m) = go (place_of w c) refl
     where
       go : (o : Option Place) → place_of w c ≡ o → (c ≡ top) ⊎ ((p : Place) × StandsAt w p c × IsWithin w top p.0)
-      go None e = contains_nothing top (rw (above_root w formed c e) at m)
+      go None e = absurd (contains_none top (rw (above_root w formed c e) at m))
       go (Some p) e =
           let stands : StandsAt w p c = stands_at_place w c p e in
           let found : Contains (p.0 ∷ ancestors w p.0) top = rw (above_child w formed p c stands) at m in
@@ -36,7 +36,7 @@ module _ (w : World) (formed : IsFormed w) where
   -- the root lies within no other node
   pub within_root : (top c : FullNodeId) → place_of w c ≡ None → IsWithin w top c → c ≡ top
   within_root top c e (inl same) = same
-  within_root top c e (inr m) = contains_nothing top (rw (above_root w formed c e) at m)
+  within_root top c e (inr m) = absurd (contains_none top (rw (above_root w formed c e) at m))
 
   -- a parent is less deep, and every node less deep than there are nodes
   pub depth_parent : (p : Place) (c : FullNodeId) → StandsAt w p c → depth w p.0 < depth w c

@@ -9,7 +9,7 @@ use Rattle.schema.specs.Same.{same_node, same_node-decides}
 use Rattle.model.specs.declared.FullNodeId.{FullNodeId}
 use Rattle.model.specs.FullIds.{coded_full}
 use Rattle.model.specs.World.{World, IsNode, data_of}
-use Rattle.model.proofs.Ascending.{contains_none, contains_first, contains_later, contains_cases}
+use Rattle.model.proofs.Members.{contains_cases, contains_first, contains_later, contains_none}
 
 by_test : {P : Type 0} (b : Bool) → Decides b P → P ⊎ ¬ P
 by_test true d = inl (d.0 refl)

@@ -16,9 +16,9 @@ use Rattle.model.specs.World.{World, IsNode, data_of}
 use Rattle.model.specs.Forest.{place_of}
 use Rattle.model.specs.Focus.{IsFocus}
 use Rattle.model.specs.Differences.{Difference, Added, Updated, Refocused, Removed, IsAscendingListOf, IsInBoth, IsAdded, IsUpdated, IsAloneIf, IsToldForFocus, AreOfFocus, AreDifferences}
-use Rattle.model.proofs.Ascending.{contains_none, contains_first, contains_later, contains_cases}
 use Rattle.model.proofs.Decisions.{same_or_not, data_same_or_not, node_or_not, contained_or_not}
 use Rattle.model.proofs.Written.{found_key}
+use Rattle.model.proofs.Members.{contains_cases, contains_first, contains_later, contains_none}
 
 -- ---- the ids with P among ascending ids
 

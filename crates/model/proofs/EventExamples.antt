@@ -18,10 +18,10 @@ use Rattle.model.specs.Work.{HasDepthInTree, at_root, at_child, IsChildOfNamed}
 use Rattle.model.specs.Differences.{Difference, Added, Updated, Refocused, Removed, IsAscendingListOf, IsAdded, IsInBoth, IsUpdated, IsAloneIf, AreOfFocus, AreDifferences}
 use Rattle.model.specs.Examples.{node, at, window, button}
 use Rattle.model.specs.EventExamples.{root_tree, window_alone, window_with_button, window_with_buttons, ButtonGoes, FocusedButtonGoes, FocusGoesToButton, ButtonsChangePlaces, HostLosesFocus, labelled_button, label_button, window_with_label, LabelIsLittleWork, pictured_before, pictured_after, PicturedChange}
-use Rattle.model.proofs.Ascending.{contains_none, contains_first, contains_later, contains_cases}
 use Rattle.model.proofs.HostChanges.{none_ascend}
 use Rattle.model.proofs.ToldTools.{listed_so, each_contained, first_of, children_in, other_children}
 use Rattle.model.proofs.Written.{data_written, node_written, place_is, place_written, AreNodes}
+use Rattle.model.proofs.Members.{contains_cases, contains_first, contains_later, contains_none}
 
 -- ---- root trees written out
 

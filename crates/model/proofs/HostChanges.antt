@@ -10,7 +10,8 @@ use Rattle.model.specs.World.{World, children}
 use Rattle.model.specs.Forest.{place_of, place_among, is_same}
 use Rattle.model.specs.Differences.{Difference, Added, Updated, Removed, IsAscendingListOf, IsAdded, IsUpdated, AreOfFocus, AreDifferences}
 use Rattle.model.specs.State.{with_host}
-use Rattle.model.proofs.Ascending.{contains_none, ascending_list_unique}
+use Rattle.model.proofs.Ascending.{ascending_list_unique}
+use Rattle.model.proofs.Members.{contains_none}
 
 pub none_ascend : (P : FullNodeId → Type 0) → ((id : FullNodeId) → ¬ (P id)) → IsAscendingListOf P []
 unfolding IsStrictlySortedBy

@@ -32,6 +32,7 @@ pub mod Repeated
 pub mod Written
 pub mod EventExamples
 pub mod Rebuilt
+pub mod Members
 pub mod Merges
 pub mod Accepted
 pub mod FocusThere

@@ -13,7 +13,8 @@ use Rattle.model.specs.Lists.{nodes_of, IsWithin, following_siblings, preceding_
 use Rattle.model.specs.Paths.{depth, index_path, relative_index_path}
 use Rattle.model.proofs.Grown.{below_is, above_child}
 use Rattle.model.proofs.Preorder.{hangs_below, Under, all_under, reverse_cons, indices, path_under}
-use Rattle.model.proofs.Within.{contains_cases, in_preorder}
+use Rattle.model.proofs.Within.{in_preorder}
+use Rattle.model.proofs.Members.{contains_cases}
 
 -- ---- siblings
 

@@ -11,10 +11,10 @@ use Rattle.model.specs.Focus.{IsFocus}
 use Rattle.model.specs.Events.{Told}
 use Rattle.model.specs.Differences.{Difference, Added, Updated, Refocused, Removed, events, IsAdded, AreOfFocus, AreDifferences}
 use Rattle.model.specs.Mirror.{Mirrored, Records, IsRecordOf, Mirrors, AreRecordsOf}
-use Rattle.model.proofs.Ascending.{contains_none, contains_cases, contains_first, contains_later}
 use Rattle.model.proofs.Decisions.{same_unless, same_data_unless, node_or_not, contained_or_not}
 use Rattle.model.proofs.Foci.{focus_unique}
 use Rattle.model.proofs.Mirroring.{IsOf, Mention, AllFit, moved_to, after_events, focus_after}
+use Rattle.model.proofs.Members.{contains_cases, contains_first, contains_later, contains_none}
 
 -- ---- lists of differences
 

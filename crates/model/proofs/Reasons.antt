@@ -14,9 +14,9 @@ use Rattle.model.specs.World.{World, data_of}
 use Rattle.model.specs.Forest.{place_of}
 use Rattle.model.specs.Differences.{Difference, Added, Updated, Refocused, Removed, IsInBoth, IsUpdated, IsToldForFocus, AreOfFocus, AreDifferences}
 use Rattle.model.specs.Reasons.{FocusGoes, FocusGoesAt, Reason, rank, MayPrecede}
-use Rattle.model.proofs.Ascending.{contains_none, contains_first, contains_later, contains_cases}
 use Rattle.model.proofs.Decisions.{contained_or_not}
 use Rattle.model.proofs.Foci.{focus_unique}
+use Rattle.model.proofs.Members.{contains_cases, contains_first, contains_later, contains_none}
 
 -- ---- members of lists that are mapped and joined
 

@@ -26,7 +26,7 @@ use Rattle.model.proofs.States.{IsSome_is, root_named_parts}
 use Rattle.model.proofs.Merges.{tree_named, tree_elsewhere, known_stays}
 use Rattle.model.proofs.Accepted.{not_first}
 use Rattle.model.proofs.OwnRebuild.{own_rebuild}
-use Rattle.model.proofs.Ascending.{contains_first, contains_later, contains_cases, contains_none}
+use Rattle.model.proofs.Members.{contains_cases, contains_first, contains_later, contains_none}
 
 no_some : {A : Type 0} (o : Option A) → o ≡ None → IsSome o → ⊥
 no_some o e there = cc

@@ -8,8 +8,8 @@ use Rattle.model.specs.World.{World, IsNode, in_tree}
 use Rattle.model.specs.Update.{InfoData}
 use Rattle.model.specs.Focus.{IsFocus}
 use Rattle.model.specs.Differences.{Updated, IsAscendingListOf, IsAdded, IsUpdated, AreDifferences, told_root}
-use Rattle.model.proofs.Ascending.{contains_none, contains_first, contains_cases}
 use Rattle.model.proofs.HostChanges.{none_ascend}
+use Rattle.model.proofs.Members.{contains_cases, contains_first, contains_none}
 
 module _ (w : World) where
   no_new : (id : FullNodeId) → ¬ (IsAdded w w id)

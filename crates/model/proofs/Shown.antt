@@ -16,8 +16,8 @@ use Rattle.model.specs.Frontier.{shown, frontier, filtered_children, LeadsUpTo, 
 use Rattle.model.proofs.PlaceOf.{stands_at_place}
 use Rattle.model.proofs.Grown.{above_child}
 use Rattle.model.proofs.Preorder.{HangsAt, hangs_below, Under, under_child, under_deeper, under_lower, all_append, all_weaker, sorted_append, Precedes, under_before, by_path}
-use Rattle.model.proofs.Within.{contains_head}
 use Rattle.model.proofs.Frontiers.{frontier_is}
+use Rattle.model.proofs.Members.{contains_head}
 
 module _ (f : FullNodeId → FilterResult) (w : World) (formed : IsFormed w) where
   -- the place of a node and those above its parent, from all above the node

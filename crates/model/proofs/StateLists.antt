@@ -18,7 +18,8 @@ use Rattle.std.proofs.lemmas.List.{get_or_default}
 use Rattle.model.specs.Paths.{index_path, IsBefore}
 use Rattle.model.proofs.Preorder.{preorder_rises, not_before_itself}
 use Rattle.model.proofs.Climbs.{within_child}
-use Rattle.model.proofs.Within.{contains_nothing, in_preorder}
+use Rattle.model.proofs.Within.{in_preorder}
+use Rattle.model.proofs.Members.{contains_none}
 
 module _ {w : World} (s : IsState w) where
   root_above : (r : FullNodeId) → root_of w 0 ≡ Some r → (c : FullNodeId) → Ends w c → IsNode w c → IsWithin w r c
@@ -38,7 +39,7 @@ module _ {w : World} (s : IsState w) where
   within_is_node r is c (inr m) = go (place_of w c) refl
     where
       go : (o : Option Place) → place_of w c ≡ o → IsNode w c
-      go None e = contains_nothing r (rw (above_root w (state_formed s) c e) at m)
+      go None e = absurd (contains_none r (rw (above_root w (state_formed s) c e) at m))
       go (Some p) e = child_is_node s p c (stands_at_place w c p e)
 
   -- the pre-order of the root has the nodes

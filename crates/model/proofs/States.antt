@@ -10,6 +10,7 @@ use Rattle.model.specs.World.{ROOT_NAME, World, Tree, IsNode, HasData, data_of, 
 use Rattle.model.specs.World as world
 use Rattle.model.specs.State.{IsState, Lists}
 use Rattle.model.proofs.Names.{known-index_of, index_of_once}
+use Rattle.model.proofs.PlaceOf.{parent_is_node}
 
 -- where an option's map or step gives something, so did the option
 pub map_some : {A B : Type 0} (f : A → B) (o : Option A) (y : B) → option_map f o ≡ Some y → (x : A) × (o ≡ Some x) × (f x ≡ y)
@@ -76,9 +77,6 @@ lister_is_node w p id at = by_data (data_of w p.0) at
     by_data : (o : Option NodeData) → slice_get (option_map_or (λ d. map (in_tree p.0.tree) d.children) o []) p.1 ≡ Some id → IsSome o
     by_data None at = cc
     by_data (Some d) at = refl
-
-pub parent_is_node : (w : World) (p : Place) (id : FullNodeId) → StandsAt w p id → IsNode w p.0
-parent_is_node w p id at = ⊎_elim (λ l. lister_is_node w p id l.1) (λ g. graft_is_node w p.0 g.0 g.1) (by_place w p id at)
 
 module _ {w : World} (s : IsState w) where
   pub child_is_node : (p : Place) (id : FullNodeId) → StandsAt w p id → IsNode w id

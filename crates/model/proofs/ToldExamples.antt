@@ -16,11 +16,11 @@ use Rattle.model.specs.State.{Lists}
 use Rattle.model.specs.Work.{HasDepthInTree, at_root, at_child, IsChildOfNamed}
 use Rattle.std.specs.Option.{option_map_or}
 use Rattle.model.proofs.Examples.Tools.{EachAt, each_at, lists_at, entries-from_entries, get_is}
-use Rattle.model.proofs.Ascending.{contains_none, contains_cases}
 use Rattle.model.proofs.Examples.MovesOut.{graft_that_moves_out_keeps_its_tree}
 use Rattle.model.proofs.Examples.Pushes.{grafted_tree_is_accepted}
 use Rattle.model.proofs.Examples.RootsAgain.{root_sent_again_keeps_its_place}
 use Rattle.model.proofs.ToldTools.{listed_so, place_in, AreChildren, data_at, is_there, is_away, among, place_at, lists, grafts_one, grafts_none, children_in, label_in, tree_in, other_children, other_label, other_first, other_parent, same_still, nothing_there}
+use Rattle.model.proofs.Members.{contains_cases, contains_none}
 
 -- ---- a graft moves out
 

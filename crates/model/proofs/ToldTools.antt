@@ -12,9 +12,9 @@ use Rattle.model.specs.FullIds.{full_cmp}
 use Rattle.model.specs.World.{World, IsNode, data_of, in_tree, children, root_named, Place}
 use Rattle.model.specs.Forest.{place_of, place_among, is_same}
 use Rattle.model.specs.Differences.{IsAscendingListOf, IsUpdated}
-use Rattle.model.proofs.Ascending.{contains_none, contains_cases}
 use Rattle.model.proofs.Written.{found_key, children_written}
 use Rattle.model.proofs.Examples.Tools.{get_is}
+use Rattle.model.proofs.Members.{contains_cases, contains_none}
 
 -- ---- lists whose members are told one by one
 

@@ -1,6 +1,6 @@
 -- A pre-order has the nodes that lie within its first one, and no others.
-use Rattle.std.proofs.Common.{◌≡◌, ℕ, ◌+◌, ◌<◌, ◌≤◌, List, [], ◌∷◌, ◌++◌, length, suc, zero, refl, sym, ◌∙◌, ap, arith, map, inl, inr, get_or}
-use Rattle.std.specs.Prelude.{Option, Some, None, slice_get, Contains, ◌⊎◌, ◌↔◌}
+use Rattle.std.proofs.Common.{◌≡◌, ℕ, ◌+◌, ◌≤◌, List, [], ◌∷◌, ◌++◌, suc, zero, refl, sym, ◌∙◌, ap, arith, map, inl, inr}
+use Rattle.std.specs.Prelude.{Option, Some, None, slice_get, Contains, ◌↔◌}
 use Rattle.std.specs.FinMap.{len}
 use Rattle.std.proofs.lemmas.Option.{none-some, same_Some}
 use Rattle.std.proofs.lemmas.List.{map-append}
@@ -13,27 +13,7 @@ use Rattle.model.specs.Paths.{depth}
 use Rattle.model.proofs.PlaceOf.{stands_at_place}
 use Rattle.model.proofs.Grown.{depth_child, grown_same, below_is}
 use Rattle.model.proofs.Preorder.{hangs_below, Under, all_under}
-
--- ---- elements of lists
-
-pub contains_nothing : {A B : Type 0} (x : A) → Contains [] x → B
-contains_nothing x c = absurd (omega (arith, c.1))
-
-pub contains_first : {A : Type 0} (x : A) (xs : List A) → Contains (x ∷ xs) x
-contains_first x xs = (0, omega arith, refl)
-
-pub contains_head : {A : Type 0} (x y : A) (xs : List A) → x ≡ y → Contains (x ∷ xs) y
-contains_head x y xs e = (0, omega arith, e)
-
-pub contains_later : {A : Type 0} (x y : A) (xs : List A) → Contains xs y → Contains (x ∷ xs) y
-contains_later x y xs c = (suc c.0, omega (arith, c.1), c.2)
-
-pub contains_cases : {A : Type 0} (x y : A) (xs : List A) → Contains (x ∷ xs) y → (x ≡ y) ⊎ Contains xs y
-contains_cases x y xs c = go c.0 c.1 c.2
-  where
-    go : (k : ℕ) → k < length (x ∷ xs) → get_or (x ∷ xs) k y ≡ y → (x ≡ y) ⊎ Contains xs y
-    go zero l e = inl e
-    go (suc k) l e = inr (k, omega arith, e)
+use Rattle.model.proofs.Members.{contains_first, contains_head, contains_later, contains_cases}
 
 -- ---- each tree in a forest has below it all that is below its node
 

@@ -10,7 +10,7 @@ use Rattle.model.specs.declared.FullNodeId.{FullNodeId}
 use Rattle.model.specs.FullIds.{full_cmp, exact_full}
 use Rattle.model.specs.World.{World, data_of, IsNode, HasData, in_tree, children, Place}
 use Rattle.model.specs.Forest.{place_of, place_among, is_same}
-use Rattle.model.proofs.Ascending.{contains_first, contains_later}
+use Rattle.model.proofs.Members.{contains_first, contains_later}
 
 found_cases : (q k : FullNodeId) (d : NodeData) (o : Option NodeData) (ks : List FullNodeId) (b : Bool) → eq_by_cmp full_cmp q k ≡ b → IsSome (cond b (Some d) o) → (IsSome o → Contains ks q) → Contains (k ∷ ks) q
 found_cases q k d o ks true e h f = subst (λ x. Contains (k ∷ ks) x) (sym (tells_apart exact_full q k e)) (contains_first k ks)

@@ -15,7 +15,7 @@ use Rattle.tree_store.specs.declared.overlay.Overlay.{Overlay}
 use Rattle.tree_store.specs.declared.plan.NodeChange.{NodeChange}
 use Rattle.tree_store.specs.declared.plan.NodeChange.TheVariants as node
 use Rattle.tree_store.specs.declared.records.PresentTree.{PresentTree}
-use Rattle.tree_store.specs.Kept.{empty_world}
+use Rattle.model.specs.State.{empty_world}
 use Rattle.tree_store.specs.declared.records.Record.{Record}
 use Rattle.tree_store.specs.declared.store.Store.TheInside.{Inside}
 use Rattle.tree_store.specs.Overlays.{overlaid, IsSoundOverlay}

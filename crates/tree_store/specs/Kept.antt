@@ -1,6 +1,5 @@
 -- What a store keeps, as its contracts see it.
-use Rattle.std.specs.Prelude.{◌≡◌, Bool, [], None, refl, is_some}
-use Rattle.std.specs.FinMap as map
+use Rattle.std.specs.Prelude.{◌≡◌, refl, is_some}
 use Rattle.std.specs.Coded.{Coded, Coded-set, Π_prop, code_by, coded×, coded_bool}
 use Rattle.std.specs.FinSet.{FinSet, contains, code}
 use Rattle.model.specs.declared.FullNodeId.{FullNodeId}
@@ -22,7 +21,3 @@ IsTight k = (id : FullNodeId) → contains k.places id ≡ is_some (data_of k.wo
 
 pub IsTight-prop : (k : Kept) → IsProp (IsTight k)
 IsTight-prop k = Π_prop (λ id. Coded-set coded_bool (contains k.places id) (is_some (data_of k.world id)))
-
--- the world before the first update
-abbrev pub empty_world : Bool → World
-empty_world host_focused = record { known = []; trees = map.empty; nodes = map.empty; toolkit = (None, None); host_focused = host_focused }

@@ -1,7 +1,7 @@
 //! Look-ups in a state that is borrowed, and where there is none yet.
 ghost use Rattle.std.specs.Prelude.{◌≡◌, is_some, IfSome};
 ghost use Rattle.model.specs.World.{data_of};
-ghost use Rattle.tree_store.specs.Kept.{empty_world};
+ghost use Rattle.model.specs.State.{empty_world};
 ghost use Rattle.tree_store.specs.Looks.{IsNodeRecord, IsTreeRecord, raised};
 
 use crate::look_ups::{LookUps, NodeRecord, TreeRecord};

@@ -2,7 +2,7 @@
 ghost use Rattle.std.specs.Prelude.{◌≡◌, List, [], map, OnOk, OnErr, IfOk};
 ghost use Rattle.model.specs.Events.{Told};
 ghost use Rattle.model.specs.Differences.{Difference, AreOfFocus, events};
-ghost use Rattle.tree_store.specs.Kept.{empty_world};
+ghost use Rattle.model.specs.State.{empty_world};
 ghost use Rattle.tree_store.specs.Plans.{planned};
 ghost use Rattle.tree_store.specs.Sound.{IsSoundPlan};
 ghost use Rattle.tree_plan.specs.Whole.{IsWhole};

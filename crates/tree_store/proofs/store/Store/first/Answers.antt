@@ -3,7 +3,7 @@ use Rattle.std.specs.FinMap as map
 use Rattle.std.specs.Option.{option_map}
 use Rattle.std.specs.Ordering.{nat_cmp}
 use Rattle.tree_store.specs.declared.store.Store.TheInside.{Inside}
-use Rattle.tree_store.specs.Kept.{empty_world}
+use Rattle.model.specs.State.{empty_world}
 use Rattle.tree_store.specs.Overlays.{overlaid}
 use Rattle.tree_store.specs.Stored.{tree_of}
 use Rattle.tree_store.proofs.Commits.{tight, first_world, first_stored, root_tree_missing}
