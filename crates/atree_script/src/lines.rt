@@ -2,7 +2,8 @@
 //!
 //! Words stand with one space between them. Numbers are decimal and without a sign; a text stands in double quotes.
 
-ghost use Rattle.std.specs.Prelude.{◌<◌, ◌≤◌, length, IfOk, OnOk, option_copied};
+ghost use Rattle.std.specs.Prelude.{◌≡◌, ◌<◌, ◌≤◌, length, IfOk, OnOk, option_copied};
+ghost use Rattle.atree_script.specs.declared.lines.Stop.TheVariants.{Memory, WriteFault};
 ghost use Rattle.atree_script.specs.Words.{left};
 
 use crate::roles::role_named;
@@ -42,18 +43,24 @@ pub(crate) enum Stop {
 }
 
 impl From<AllocError> for Stop {
+    ghost from_gives = { λ _ stop. stop ≡ Memory };
+
     fn from(_refused: AllocError) -> Stop {
         Stop::Memory
     }
 }
 
 impl<T: Drop> From<AllocFailed<T>> for Stop {
+    ghost from_gives = { λ _ stop. stop ≡ Memory };
+
     fn from(_refused: AllocFailed<T>) -> Stop {
         Stop::Memory
     }
 }
 
 impl From<io::Error> for Stop {
+    ghost from_gives = { λ _ stop. stop ≡ WriteFault };
+
     fn from(_fault: io::Error) -> Stop {
         Stop::WriteFault
     }
@@ -257,7 +264,7 @@ fn ids(alloc: Global, word: &str) -> Result<Vec<NodeId>, Stop> {
 /// The tree that a word names: `root`, or a UUID in any form that `uuid` reads.
 fn tree_named(word: &str) -> Option<TreeId> {
     if word == "root" {
-        return Some(TreeId(Uuid::nil()));
+        return Some(TreeId::root());
     }
     let id = Uuid::parse_str(word).ok()?;
     Some(TreeId(id))

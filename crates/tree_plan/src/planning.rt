@@ -22,7 +22,6 @@ use schema::{Node, NodeId, TreeId, TreeInfo, TreeUpdate};
 use std::alloc::Global;
 use std::collections::BTreeMap;
 use tree_store::{Change, LookUps, Plan, PlanEvent, TreeRecord, UpdateError};
-use uuid::Uuid;
 
 /// Adds a node that the update names.
 fn name_node(
@@ -82,7 +81,7 @@ fn root_tree(root: NodeId, focus: NodeId) -> TreeRecord
     ensures { result ≡ record_of (tree_of root focus) }
 {
     TreeRecord {
-        id: TreeId(Uuid::nil()),
+        id: TreeId::root(),
         index: Some(0),
         graft: None,
         root: Some(root),
@@ -157,7 +156,7 @@ fn old_tree<L: LookUps>(look_ups: &mut L) -> (NodeId, NodeId)
     ensures world { L.world look_ups.new ≡ L.world look_ups.old }
     ensures tree { get (L.world look_ups.old).trees 0 ≡ Some (tree_of result.0 result.1) }
 {
-    let record = look_ups.tree(TreeId(Uuid::nil())).unwrap();
+    let record = look_ups.tree(TreeId::root()).unwrap();
     (record.root.unwrap(), record.focus.unwrap())
 }
 

@@ -12,7 +12,6 @@ use schema::{Node, NodeId, TreeId};
 use std::alloc::Global;
 use std::collections::BTreeMap;
 use tree_store::{LookUps, UpdateError};
-use uuid::Uuid;
 
 /// The walk, so far.
 #[derive(Drop)]
@@ -33,7 +32,7 @@ pub struct Walk {
 pub fn is_root_tree(name: &TreeId) -> bool
     ensures { IsTrue result ↔ (name.now ≡ ROOT_NAME) }
 {
-    name.0 == Uuid::nil()
+    *name == TreeId::root()
 }
 
 /// A node of the root tree.

@@ -21,7 +21,6 @@ use model::FullNodeId;
 use schema::TreeId;
 use std::alloc::{AllocError, Global};
 use std::collections::BTreeMap;
-use uuid::Uuid;
 
 impl Store {
     /// Makes a place for each change of the overlay, so that it can be committed. Where memory is refused all that was
@@ -116,7 +115,7 @@ fn first_names(alloc: Global) -> Result<Vec<TreeId>, AllocError>
     ensures { IfOk result (λ known. known.items ≡ ROOT_NAME ∷ []) }
 {
     let mut known = Vec::new(alloc);
-    known.push(TreeId(Uuid::nil()))?;
+    known.push(TreeId::root())?;
     Ok(known)
 }
 
