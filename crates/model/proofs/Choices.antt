@@ -24,11 +24,11 @@ equal Equal e = refl
 equal Greater e = cc
 
 -- x is one of these
-abbrev IsIn : {A : Type 0} → A → List A → Type 0
+abbrev pub IsIn : {A : Type 0} → A → List A → Type 0
 IsIn x [] = ⊥
 IsIn x (y ∷ ys) = (y ≡ x) ⊎ IsIn x ys
 
-decide_any : {A : Type 0} (Q : A → Type 0) → ((x : A) → IsDecided (Q x)) → (xs : List A) → IsDecided ((x : A) × IsIn x xs × Q x)
+pub decide_any : {A : Type 0} (Q : A → Type 0) → ((x : A) → IsDecided (Q x)) → (xs : List A) → IsDecided ((x : A) × IsIn x xs × Q x)
 decide_any Q decide [] = inr (λ h. h.1)
 decide_any {A} Q decide (y ∷ ys) = go (decide y) (decide_any Q decide ys)
   where
@@ -41,11 +41,11 @@ decide_any {A} Q decide (y ∷ ys) = go (decide y) (decide_any Q decide ys)
     go (inr q) (inl d) = inl (d.0, inr d.1, d.2)
     go (inr q) (inr d) = inr (λ h. out h.0 h.1 h.2 q d)
 
-decide_not : {P : Type 0} → IsDecided P → IsDecided (P → ⊥)
+pub decide_not : {P : Type 0} → IsDecided P → IsDecided (P → ⊥)
 decide_not (inl p) = inr (λ n. n p)
 decide_not (inr n) = inl n
 
-decide_either : {P Q : Type 0} → IsDecided P → IsDecided Q → IsDecided (P ⊎ Q)
+pub decide_either : {P Q : Type 0} → IsDecided P → IsDecided Q → IsDecided (P ⊎ Q)
 decide_either (inl p) q = inl (inl p)
 decide_either (inr p) (inl q) = inl (inr q)
 decide_either (inr p) (inr q) = inr (λ h. ⊎_elim p q h)
@@ -90,11 +90,11 @@ is_entry {K} {X} {R} exact m q x is = go (entries m) (sym (get-entries m q) ∙ 
     go [] is = cc
     go (e ∷ es) is = tied e es (eq_by_cmp R q e.0) refl is (go es)
 
-decide_id : (o : Option FullNodeId) (id : FullNodeId) → IsDecided (o ≡ Some id)
+pub decide_id : (o : Option FullNodeId) (id : FullNodeId) → IsDecided (o ≡ Some id)
 decide_id None id = inr (λ e. cc)
 decide_id (Some x) id = decide_by (ap Some) (same_Some x id) (cases_id x id)
 
-decide_name : (o : Option TreeId) (name : TreeId) → IsDecided (o ≡ Some name)
+pub decide_name : (o : Option TreeId) (name : TreeId) → IsDecided (o ≡ Some name)
 decide_name None name = inr (λ e. cc)
 decide_name (Some k) name = decide_by (ap Some) (same_Some k name) (cases_name k name)
 
@@ -103,14 +103,14 @@ decide_none None = inl refl
 decide_none (Some x) = inr (λ e. cc)
 
 module _ (w : World) where
-  keys : List FullNodeId
+  pub keys : List FullNodeId
   keys = map (λ e. e.0) (entries w.nodes)
 
-  is_key : (id : FullNodeId) → IsNode w id → IsIn id keys
+  pub is_key : (id : FullNodeId) → IsNode w id → IsIn id keys
   unfolding keys
   is_key id there = let d = value_of (data_of w id) there in is_in_map (λ e. e.0) (entries w.nodes) (id, d.0) (is_entry exact_full w.nodes id d.0 d.1)
 
-  places : List FullNodeId → List (Place × FullNodeId)
+  pub places : List FullNodeId → List (Place × FullNodeId)
   places [] = []
   places (k ∷ ks) = placed k 0 (listed w k) ++ places ks
 
@@ -121,7 +121,7 @@ module _ (w : World) where
       is_in_append (placed k 0 (listed w k)) (places ks) (p, child) (inl (subst (λ j. IsIn (p, child) (placed j 0 (listed w j))) (sym e) (placed_in p.0 0 (listed w p.0) p.1 p.1 child (omega arith) at)))
   is_place_of (k ∷ ks) p child (inr h) at = is_in_append (placed k 0 (listed w k)) (places ks) (p, child) (inr (is_place_of ks p child h at))
 
-  is_place : (p : Place) (child : FullNodeId) → Lists w p child → IsIn (p, child) (places keys)
+  pub is_place : (p : Place) (child : FullNodeId) → Lists w p child → IsIn (p, child) (places keys)
   is_place p child at = is_place_of keys p child (is_key p.0 (lister_is_node w p child at)) at
 
   focuses : List FullNodeId
@@ -212,7 +212,7 @@ module _ (old : World) (u : UpdateData) where
   abbrev names : List NodeId
   names = map (λ e. e.0) u.nodes
 
-  decide_named : (id : FullNodeId) → IsDecided (IsNamed old u id)
+  pub decide_named : (id : FullNodeId) → IsDecided (IsNamed old u id)
   decide_named id = decide_both (cases_eq id.tree (index_for old u.name)) (decide_by (in_contains names id.node) (λ c. contains_in names id.node c.0 c.1 c.2) (decide_in names id.node))
 
   decide_counts : (id : FullNodeId) → IsDecided (Counts old u id)

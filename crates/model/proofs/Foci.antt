@@ -10,7 +10,7 @@ pub not_graft : (w : World) (id : FullNodeId) (d : NodeData) → HasData w id d 
 not_graft w id d is none = rw is none
 
 -- the focus goes from x on to y in any number of steps
-data Leads (w : World) (x : FullNodeId) : FullNodeId → Type 0 where
+pub data Leads (w : World) (x : FullNodeId) : FullNodeId → Type 0 where
   here : Leads w x x
   step : (y z : FullNodeId) → Leads w x y → GoesOn w y z → Leads w x z
 
@@ -24,26 +24,27 @@ module _ {w : World} where
   from_first t is e (first t' is') = let same : t ≡ t' = cc in subst (λ u. Leads w (in_tree 0 t.focus) (in_tree 0 u.focus)) same here
   from_first t is e (next graft id on goes) = step graft id (from_first t is graft on) goes
 
-  by_head : (x e : FullNodeId) → Leads w x e → (x ≡ e) ⊎ ((y : FullNodeId) × GoesOn w x y × Leads w y e)
+  pub by_head : (x e : FullNodeId) → Leads w x e → (x ≡ e) ⊎ ((y : FullNodeId) × GoesOn w x y × Leads w y e)
   by_head x e here = inl refl
   by_head x e (step y z leads goes) = elim (by_head x y leads) [ inl same ↦ inr (z, subst (λ u. GoesOn w u z) (sym same) goes, here) | inr h ↦ inr (h.0, h.1, step y z h.2 goes) ]
 
-  ends : (e y : FullNodeId) → graft_name w e ≡ None → GoesOn w e y → ⊥
-  ends e y none goes = cc (goes.grafts)
+  pub ends : (e : FullNodeId) → graft_name w e ≡ None → (y : FullNodeId) → ¬ (GoesOn w e y)
+  ends e none y goes = cc (goes.grafts)
 
-  leads_to_end : (x e : FullNodeId) → OnChain w x → OnChain w e → graft_name w e ≡ None → Leads w x e
-  leads_to_end x e (first t is) on none = from_first t is e on
-  leads_to_end x e (next graft id before goes) on none = elim (by_head graft e (leads_to_end graft e before on none)) [
-    | inl same ↦ absurd (ends e id none (subst (λ u. GoesOn w u id) same goes))
+  -- from each node on the chain the focus goes on to the one from which it goes no further
+  pub leads_to_end : (x e : FullNodeId) → OnChain w x → OnChain w e → ((y : FullNodeId) → ¬ (GoesOn w e y)) → Leads w x e
+  leads_to_end x e (first t is) on last = from_first t is e on
+  leads_to_end x e (next graft id before goes) on last = elim (by_head graft e (leads_to_end graft e before on last)) [
+    | inl same ↦ absurd (last id (subst (λ u. GoesOn w u id) same goes))
     | inr h ↦ subst (λ u. Leads w u e) (goes_on_once graft h.0 id h.1 goes) h.2
   ]
 
-  chain_end_unique : (a b : FullNodeId) → OnChain w a → OnChain w b → graft_name w a ≡ None → graft_name w b ≡ None → a ≡ b
-  chain_end_unique a b p q none_a none_b = elim (by_head a b (leads_to_end a b p q none_b)) [ inl same ↦ same | inr h ↦ absurd (ends a h.0 none_a h.1) ]
+  pub chain_end_unique : (a b : FullNodeId) → OnChain w a → OnChain w b → ((y : FullNodeId) → ¬ (GoesOn w a y)) → ((y : FullNodeId) → ¬ (GoesOn w b y)) → a ≡ b
+  chain_end_unique a b p q last_a last_b = elim (by_head a b (leads_to_end a b p q last_b)) [ inl same ↦ same | inr h ↦ absurd (last_a h.0 h.1) ]
 
 pub effective_focus_unique : (w : World) (a b : FullNodeId) → IsEffectiveFocus w a → IsEffectiveFocus w b → a ≡ b
 effective_focus_unique w a b p q =
-    chain_end_unique a b p.0 q.0 (not_graft w a p.1 p.2 p.3) (not_graft w b q.1 q.2 q.3)
+    chain_end_unique a b p.0 q.0 (ends a (not_graft w a p.1 p.2 p.3)) (ends b (not_graft w b q.1 q.2 q.3))
 
 pub resolves_to_one : (w : World) (id a b : FullNodeId) → Resolves w id a → Resolves w id b → a ≡ b
 resolves_to_one w id a b p q =

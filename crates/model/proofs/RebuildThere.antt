@@ -35,7 +35,7 @@ module _ {A : Type 0} (source : FullNodeId → A) (Target : FullNodeId → A →
   edge_parts (x ∷ xs) p a (inl e) = (x, e.0, e.1)
   edge_parts (x ∷ xs) p a (inr e) = edge_parts xs p a e
 
-decide_listed : (xs : List FullNodeId) (id : FullNodeId) → IsDecided ((i : ℕ) × (slice_get xs i ≡ Some id))
+pub decide_listed : (xs : List FullNodeId) (id : FullNodeId) → IsDecided ((i : ℕ) × (slice_get xs i ≡ Some id))
 decide_listed [] id = inr (λ h. nothing h.0 h.1)
   where
     nothing : (i : ℕ) → slice_get [] i ≡ Some id → ⊥

@@ -44,7 +44,7 @@ module _ (w : World) (name : TreeId) where
       (λ h. let d = found w h.0 (graft_is_node w h.0 name h.1) in edge_at (λ id. 0) Names (entries w.nodes) h.0 d.0 0 d.1 h.1)
       (decide_among (map (λ e. e.0) (entries w.nodes)))
 
-no_some : {A : Type 0} (o : Option A) → o ≡ None → IsSome o → ⊥
+pub no_some : {A : Type 0} (o : Option A) → o ≡ None → IsSome o → ⊥
 no_some o e there = cc
 
 is_none : {A : Type 0} (o : Option A) → (IsSome o → ⊥) → o ≡ None

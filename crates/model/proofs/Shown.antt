@@ -21,7 +21,7 @@ use Rattle.model.proofs.Members.{contains_head}
 
 module _ (f : FullNodeId → FilterResult) (w : World) (formed : IsFormed w) where
   -- the place of a node and those above its parent, from all above the node
-  above_parts : (d : FullNodeId) (q : Place) (up : List Place) → above w d ≡ q ∷ up → StandsAt w q d × (above w q.0 ≡ up)
+  pub above_parts : (d : FullNodeId) (q : Place) (up : List Place) → above w d ≡ q ∷ up → StandsAt w q d × (above w q.0 ≡ up)
   above_parts d q up e = go (place_of w d) refl
     where
       go : (o : Option Place) → place_of w d ≡ o → StandsAt w q d × (above w q.0 ≡ up)
@@ -85,16 +85,16 @@ module _ (f : FullNodeId → FilterResult) (w : World) (formed : IsFormed w) whe
   -- ---- the order
 
   -- below child k of p, or it
-  abbrev At : FullNodeId → ℕ → FullNodeId → Type 0
+  abbrev pub At : FullNodeId → ℕ → FullNodeId → Type 0
   At p k d = (u : Under w p k d) × (u.index ≡ k)
 
-  shown_at : (p : FullNodeId) (k : ℕ) (c : FullNodeId) → StandsAt w (p, k) c → (r : FilterResult) (inner : List FullNodeId) → AllByRecursion (Under w c 0) inner → AllByRecursion (At p k) (shown r c inner)
+  pub shown_at : (p : FullNodeId) (k : ℕ) (c : FullNodeId) → StandsAt w (p, k) c → (r : FilterResult) (inner : List FullNodeId) → AllByRecursion (Under w c 0) inner → AllByRecursion (At p k) (shown r c inner)
   unfolding under_child under_deeper
   shown_at p k c stands Include inner a = ((under_child w formed p k c stands, refl), tt)
   shown_at p k c stands ExcludeNode inner a = all_weaker (Under w c 0) (At p k) (λ d u. (under_deeper w formed p k c d 0 stands u, refl)) inner a
   shown_at p k c stands ExcludeSubtree inner a = tt
 
-  all_below : (p : FullNodeId) (k : ℕ) (t : Forest) → HangsAt w p k t → AllByRecursion (Under w p k) (frontier f t)
+  pub all_below : (p : FullNodeId) (k : ℕ) (t : Forest) → HangsAt w p k t → AllByRecursion (Under w p k) (frontier f t)
   unfolding HangsAt
   all_below p k empty h = tt
   all_below p k (tree c inner rest) h =

@@ -76,7 +76,7 @@ module _ (w : World) (formed : IsFormed w) where
             | inr r ↦ child_in_whole (below w top) (whole_below top) p id stands (deeper (rw first at others) r)
           ]
 
-  above_under : (top id : FullNodeId) → Under w top 0 id → Contains (ancestors w id) top
+  pub above_under : (top id : FullNodeId) → Under w top 0 id → Contains (ancestors w id) top
   above_under top id u =
       rw (ap (map (λ (p : Place). p.0)) u.way ∙ map-append (λ (p : Place). p.0) u.inner ((top, u.index) ∷ above w top))
       (Contains-append_right (map (λ (p : Place). p.0) u.inner) (top ∷ ancestors w top) top (contains_first top (ancestors w top)))

@@ -8,7 +8,7 @@ use Rattle.model.specs.Work.{Work, HasDepthInTree, at_root, at_child, IsSumOfDep
 use Rattle.model.proofs.Ascending.{ascending_list_unique}
 
 module _ (w : World) (state : IsState w) where
-  depth_unique : (id : FullNodeId) (a b : ℕ) → HasDepthInTree w id a → HasDepthInTree w id b → a ≡ b
+  pub depth_unique : (id : FullNodeId) (a b : ℕ) → HasDepthInTree w id a → HasDepthInTree w id b → a ≡ b
   depth_unique id a b (at_root index _ e) (at_root other _ f) = refl
   depth_unique id a b (at_root index _ e) (at_child p _ depth h l) = absurd (state.root_unlisted p index id e l)
   depth_unique id a b (at_child p _ depth h l) (at_root index _ e) = absurd (state.root_unlisted p index id e l)

@@ -3,4 +3,8 @@
 pub mod events;
 pub mod examples;
 pub mod lists;
+pub mod siblings;
+pub mod surgery;
+pub mod texts;
+pub mod views;
 pub mod worlds;

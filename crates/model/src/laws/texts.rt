@@ -1,0 +1,192 @@
+//! The words for texts, values and labels, tried on small texts, and their laws.
+ghost use Rattle.model.specs.TextExamples.{TwoLines, EmptyLineLast, Nothing, LongRun, WideCharacter, LinkedRuns, TwoRuns, TwoSecrets, Measured, SomeMakeTexts, Styled, MeasuredAlike, Stacked, Turned, Upright};
+ghost use Rattle.model.specs.ValueExamples.{Values, Placeholders, ShownRuns};
+ghost use Rattle.model.specs.LabelExamples.{LabelsOf};
+ghost use Rattle.model.specs.OutlineLaws.{OutlineShows};
+ghost use Rattle.model.specs.SecretExamples.{SecretsAreAlike};
+ghost use Rattle.model.specs.TextLaws.{AnswersWhetherText, TextsAreWhole, HasValueIfThere, HasLabelIfThere, BiasKeepsOffset, EqualAtOneOffset, SidesAreBiases, IndexesComeBack, TextIsCharacters, SearchesGoRunByRun, ShapeKeepsSecret, CharactersHaveLength, MarksAreWordStarts, WordStartIsNearest, WordStartBeforeIsNearest, TextsHaveLines};
+
+/// Two lines, a word each.
+pub fn two_lines()
+    ensures { TwoLines }
+{}
+
+/// A line, and an empty one after it.
+pub fn empty_line_last()
+    ensures { EmptyLineLast }
+{}
+
+/// One empty run.
+pub fn nothing()
+    ensures { Nothing }
+{}
+
+/// Words begin past the 256th character, too.
+pub fn long_run()
+    ensures { LongRun }
+{}
+
+/// A character of two units of UTF-16.
+pub fn wide_character()
+    ensures { WideCharacter }
+{}
+
+/// Two runs on one line, and one on a line of its own.
+pub fn linked_runs()
+    ensures { LinkedRuns }
+{}
+
+/// Ranges over two runs.
+pub fn two_runs()
+    ensures { TwoRuns }
+{}
+
+/// A masked password.
+pub fn two_secrets()
+    ensures { TwoSecrets }
+{}
+
+/// Boxes and points of three letters.
+pub fn measured()
+    ensures { Measured }
+{}
+
+/// Two runs of one size, and one of another.
+pub fn styled()
+    ensures { Styled }
+{}
+
+/// A password that is told of by its first characters.
+pub fn measured_alike()
+    ensures { MeasuredAlike }
+{}
+
+/// Runs one above the other.
+pub fn stacked()
+    ensures { Stacked }
+{}
+
+/// Runs that make a text, and runs that don't.
+pub fn some_make_texts()
+    ensures { SomeMakeTexts }
+{}
+
+/// The answer is that of the eight conditions.
+pub fn answers_whether_text()
+    ensures { AnswersWhetherText }
+{}
+
+/// A well-formed text has a run, empty ones only last, links both ways, and words that rise.
+pub fn texts_are_whole()
+    ensures { TextsAreWhole }
+{}
+
+/// There is a value exactly if its text is there.
+pub fn has_value_if_there()
+    ensures { HasValueIfThere }
+{}
+
+/// There is a label exactly if its text is there.
+pub fn has_label_if_there()
+    ensures { HasLabelIfThere }
+{}
+
+/// A bias keeps the offset.
+pub fn bias_keeps_offset()
+    ensures { BiasKeepsOffset }
+{}
+
+/// Two positions compare as equal exactly if their offsets are equal.
+pub fn equal_at_one_offset()
+    ensures { EqualAtOneOffset }
+{}
+
+/// The sides of a position's offset are the position's biases.
+pub fn sides_are_biases()
+    ensures { SidesAreBiases }
+{}
+
+/// The position of the index of a position is its start side.
+pub fn indexes_come_back()
+    ensures { IndexesComeBack }
+{}
+
+/// The text of a range is its characters.
+pub fn text_is_characters()
+    ensures { TextIsCharacters }
+{}
+
+/// A search for a run goes run by run.
+pub fn searches_go_run_by_run()
+    ensures { SearchesGoRunByRun }
+{}
+
+/// A masked password is one text in all worlds of its shape.
+pub fn shape_keeps_secret()
+    ensures { ShapeKeepsSecret }
+{}
+
+/// Two worlds that differ in the characters of a password alone.
+pub fn secrets_are_alike()
+    ensures { SecretsAreAlike }
+{}
+
+/// What reads the outline of a world alone.
+pub fn outline_shows()
+    ensures { OutlineShows }
+{}
+
+/// Values, masked and raw.
+pub fn values()
+    ensures { Values }
+{}
+
+/// Placeholders, by the runs.
+pub fn placeholders()
+    ensures { Placeholders }
+{}
+
+/// Labels, own and by parts.
+pub fn labels()
+    ensures { LabelsOf }
+{}
+
+/// What a flat text has of its world.
+pub fn shown_runs()
+    ensures { ShownRuns }
+{}
+
+/// A run whose rectangle was sent from right to left.
+pub fn turned()
+    ensures { Turned }
+{}
+
+/// Runs from top to bottom and from bottom to top.
+pub fn upright()
+    ensures { Upright }
+{}
+
+/// A character of a well-formed text has a scalar, and so a unit of UTF-16.
+pub fn characters_have_length()
+    ensures { CharactersHaveLength }
+{}
+
+/// The marks of words are the positions where words begin.
+pub fn marks_are_word_starts()
+    ensures { MarksAreWordStarts }
+{}
+
+/// A move to the next word comes to the nearest start of a word, or else to the end.
+pub fn word_start_is_nearest()
+    ensures { WordStartIsNearest }
+{}
+
+/// Likewise back to a word.
+pub fn word_start_before_is_nearest()
+    ensures { WordStartBeforeIsNearest }
+{}
+
+/// The lines are the greatest groups of joined runs, and each run is in one.
+pub fn texts_have_lines()
+    ensures { TextsHaveLines }
+{}

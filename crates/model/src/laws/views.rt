@@ -1,0 +1,126 @@
+//! Laws of filters and views, and small interfaces on which their definitions were tried.
+ghost use Rattle.model.specs.ViewLaws.{IsWithinIsTested, TransformIsWithinAndAbove, UncutIsOfChildren, UncutIsPreorder, FocusIsFound, FocusedNodeIsFound, CommonFilterIsSixSteps, SixStepsAreOneFilter, CutOffIsClippedOnTheWay, SaidUpwardIsOfParent, TransformIsOfParent, InheritedIsOfParent};
+ghost use Rattle.schema.specs.declared.values.Live.{Live};
+ghost use Rattle.std.specs.Prelude.{List, ℕ};
+ghost use Rattle.model.specs.ViewExamples.{NestedAnswers, CoveredViews, CommonAnswers, PushedLists, ClippedAnswers, FilteredLists, PlacedViews, UpwardViews, CountedSets, OwnViews, BoxedViews};
+ghost use Rattle.model.specs.RoleExamples.{RoleLists};
+
+/// The effective focus that is found is the one that a state has.
+pub fn focus_is_found()
+    ensures { FocusIsFound }
+{}
+
+/// The test says of each node of a state whether it is focused.
+pub fn focused_node_is_found()
+    ensures { FocusedNodeIsFound }
+{}
+
+/// The common filter goes by its six steps.
+pub fn common_filter_is_six_steps()
+    ensures { CommonFilterIsSixSteps }
+{}
+
+/// No other filter goes by them.
+pub fn six_steps_are_one_filter()
+    ensures { SixStepsAreOneFilter }
+{}
+
+/// Where nothing is settled of a node, it is cut off exactly if a node on the way up is clipped.
+pub fn cut_off_is_clipped_on_the_way()
+    ensures { CutOffIsClippedOnTheWay }
+{}
+
+/// A flag is on a node or above it if it is on the node, or on the parent or above that.
+pub fn said_upward_is_of_parent()
+    ensures { SaidUpwardIsOfParent }
+{}
+
+/// A node is moved by its own translation and by all that moves its parent.
+pub fn transform_is_of_parent()
+    ensures { TransformIsOfParent }
+{}
+
+/// A node gives its own, or hands on what its parent has: said of a setting and of a text.
+pub fn inherited_is_of_parent()
+    ensures { InheritedIsOfParent Live × InheritedIsOfParent (List ℕ) }
+{}
+
+/// What the common filter answers, in small interfaces.
+pub fn common_answers()
+    ensures { CommonAnswers }
+{}
+
+/// Filtered children and the focus across a graft.
+pub fn pushed_lists()
+    ensures { PushedLists }
+{}
+
+/// What is clipped in a view that scrolls.
+pub fn clipped_answers()
+    ensures { ClippedAnswers }
+{}
+
+/// Filtered children and filtered siblings, written out.
+pub fn filtered_lists()
+    ensures { FilteredLists }
+{}
+
+/// A box, and what is hit.
+pub fn placed_views()
+    ensures { PlacedViews }
+{}
+
+/// What is inherited, and an action of the filtered parent.
+pub fn upward_views()
+    ensures { UpwardViews }
+{}
+
+/// Sizes of sets, and positions in them.
+pub fn counted_sets()
+    ensures { CountedSets }
+{}
+
+/// What a node's own data answers.
+pub fn own_views()
+    ensures { OwnViews }
+{}
+
+/// Items, containers and controls.
+pub fn boxed_views()
+    ensures { BoxedViews }
+{}
+
+/// The classes of roles, as lists.
+pub fn role_lists()
+    ensures { RoleLists }
+{}
+
+/// What is in a clipped node.
+pub fn nested_answers()
+    ensures { NestedAnswers }
+{}
+
+/// Reversed rectangles, and what is not hit.
+pub fn covered_views()
+    ensures { CoveredViews }
+{}
+
+/// The test of within says what within says.
+pub fn within_is_tested()
+    ensures { IsWithinIsTested }
+{}
+
+/// What moves a node is what moves it within an upper one, and what moves that.
+pub fn transform_is_within_and_above()
+    ensures { TransformIsWithinAndAbove }
+{}
+
+/// A pre-order without what is cut off is the node, and then that of each child in turn.
+pub fn uncut_is_of_children()
+    ensures { UncutIsOfChildren }
+{}
+
+/// Where nothing is cut off it is the pre-order.
+pub fn uncut_is_preorder()
+    ensures { UncutIsPreorder }
+{}
