@@ -2,26 +2,19 @@
 use Rattle.std.proofs.Common.{◌≡◌, List, [], ◌∷◌, map, refl, ap, subst}
 use Rattle.model.specs.World.{World}
 use Rattle.model.specs.Events.{Event, Told}
-use Rattle.model.specs.Differences.{Difference, AreOfFocus, event, events}
-use Rattle.tree_store.specs.declared.plan.PlanEvent.{PlanEvent}
-use Rattle.accesskit_consumer.specs.Told.{difference, told_events}
-
-as_events : (old new : World) (es : List PlanEvent) → told_events old new es ≡ events old new (map difference es)
-as_events old new [] = refl
-as_events old new (e ∷ es) = ap (λ rest. event old new (difference e) ∷ rest) (as_events old new es)
+use Rattle.model.specs.Differences.{PlanEvent, AreOfFocus, event, events}
 
 -- what is told between views of these worlds is told of these worlds
-pub told_differences : {H : Type 0} (steps : H → Event → H → Type 0) (s t : H) (v old u new : World) (es fs : List PlanEvent) → v ≡ old → u ≡ new → es ≡ fs → Told steps s (told_events v u es) t → Told steps s (events old new (map difference fs)) t
+pub told_differences : {H : Type 0} (steps : H → Event → H → Type 0) (s t : H) (v old u new : World) (es fs : List PlanEvent) → v ≡ old → u ≡ new → es ≡ fs → Told steps s (events v u es) t → Told steps s (events old new fs) t
 told_differences steps s t v old u new es fs is_old is_new same h =
-    let a : Told steps s (told_events old u es) t = subst (λ x. Told steps s (told_events x u es) t) is_old h in
-    let b : Told steps s (told_events old new es) t = subst (λ x. Told steps s (told_events old x es) t) is_new a in
-    let c : Told steps s (told_events old new fs) t = subst (λ x. Told steps s (told_events old new x) t) same b in
-    subst (λ list. Told steps s list t) (as_events old new fs) c
+    let a : Told steps s (events old u es) t = subst (λ x. Told steps s (events x u es) t) is_old h in
+    let b : Told steps s (events old new es) t = subst (λ x. Told steps s (events old x es) t) is_new a in
+    subst (λ x. Told steps s (events old new x) t) same b
 
 -- and so is what is told of the focus
 pub told_refocused : {H : Type 0} (steps : H → Event → H → Type 0) (s t : H) (v old u new : World) → v ≡ old → u ≡ new
-    → (differences : List Difference) × AreOfFocus v u [] differences × Told steps s (events v u differences) t
-    → (differences : List Difference) × AreOfFocus old new [] differences × Told steps s (events old new differences) t
+    → (differences : List PlanEvent) × AreOfFocus v u [] differences × Told steps s (events v u differences) t
+    → (differences : List PlanEvent) × AreOfFocus old new [] differences × Told steps s (events old new differences) t
 told_refocused steps s t v old u new is_old is_new h =
-    subst (λ x. (differences : List Difference) × AreOfFocus old x [] differences × Told steps s (events old x differences) t) is_new
-    (subst (λ x. (differences : List Difference) × AreOfFocus x u [] differences × Told steps s (events x u differences) t) is_old h)
+    subst (λ x. (differences : List PlanEvent) × AreOfFocus old x [] differences × Told steps s (events old x differences) t) is_new
+    (subst (λ x. (differences : List PlanEvent) × AreOfFocus x u [] differences × Told steps s (events x u differences) t) is_old h)

@@ -2,7 +2,7 @@
 use Rattle.std.proofs.Common.{◌≡◌, List, [], ◌∷◌, ◌++◌, Option, Some, None, ◌⊎◌, inl, inr, sym, ap, subst, ◌∙◌, map}
 use Rattle.model.specs.declared.FullNodeId.{FullNodeId}
 use Rattle.model.specs.World.{World}
-use Rattle.model.specs.Differences.{Difference, Added, Updated, Refocused, Removed, IsAloneIf, IsToldForFocus, AreOfFocus, AreDifferences}
+use Rattle.model.specs.Differences.{PlanEvent, Added, Updated, Refocused, Removed, IsAloneIf, IsToldForFocus, AreOfFocus, AreDifferences}
 use Rattle.model.proofs.Foci.{focus_unique}
 use Rattle.model.proofs.Ascending.{ascending_list_unique}
 
@@ -17,13 +17,13 @@ told_for_focus_unique old new told None xs ys a b = a ∙ sym b
 told_for_focus_unique old new told (Some id) xs ys a b = alone_unique _ id xs ys a b
 
 -- the part of the focus, where the two foci are known
-abbrev IsMove : World → World → List FullNodeId → Option FullNodeId → Option FullNodeId → List Difference → Type 0
+abbrev IsMove : World → World → List FullNodeId → Option FullNodeId → Option FullNodeId → List PlanEvent → Type 0
 IsMove old new told before after ds =
     ((before ≡ after) × (ds ≡ []))
     ⊎ ((¬ (before ≡ after)) × (left entered : List FullNodeId) × IsToldForFocus old new told before left × IsToldForFocus old new told after entered
     × (ds ≡ map Updated left ++ map Updated entered ++ Refocused before after ∷ []))
 
-move_unique : (old new : World) (told : List FullNodeId) (before after : Option FullNodeId) (xs ys : List Difference) → IsMove old new told before after xs → IsMove old new told before after ys → xs ≡ ys
+move_unique : (old new : World) (told : List FullNodeId) (before after : Option FullNodeId) (xs ys : List PlanEvent) → IsMove old new told before after xs → IsMove old new told before after ys → xs ≡ ys
 move_unique old new told before after xs ys (inl a) (inl b) = a.1 ∙ sym b.1
 move_unique old new told before after xs ys (inl a) (inr b) = absurd (b.0 a.0)
 move_unique old new told before after xs ys (inr a) (inl b) = absurd (a.0 b.0)
@@ -32,13 +32,13 @@ move_unique old new told before after xs ys (inr a) (inr b) =
     let entered : a.2 ≡ b.2 = told_for_focus_unique old new told after a.2 b.2 a.4 b.4 in
     a.5 ∙ ap (λ l. map Updated l ++ map Updated a.2 ++ Refocused before after ∷ []) left ∙ ap (λ e. map Updated b.1 ++ map Updated e ++ Refocused before after ∷ []) entered ∙ sym b.5
 
-pub of_focus_unique : (old new : World) (told : List FullNodeId) (xs ys : List Difference) → AreOfFocus old new told xs → AreOfFocus old new told ys → xs ≡ ys
+pub of_focus_unique : (old new : World) (told : List FullNodeId) (xs ys : List PlanEvent) → AreOfFocus old new told xs → AreOfFocus old new told ys → xs ≡ ys
 of_focus_unique old new told xs ys a b =
     let before : a.0 ≡ b.0 = focus_unique old a.0 b.0 a.2 b.2 in
     let after : a.1 ≡ b.1 = focus_unique new a.1 b.1 a.3 b.3 in
     move_unique old new told b.0 b.1 xs ys (subst (λ f. IsMove old new told f b.1 xs) before (subst (λ f. IsMove old new told a.0 f xs) after a.4)) b.4
 
-pub differences_unique : (old new : World) (root : Option FullNodeId) (xs ys : List Difference) → AreDifferences old new root xs → AreDifferences old new root ys → xs ≡ ys
+pub differences_unique : (old new : World) (root : Option FullNodeId) (xs ys : List PlanEvent) → AreDifferences old new root xs → AreDifferences old new root ys → xs ≡ ys
 differences_unique old new root xs ys a b =
     let added : a.added ≡ b.added = ascending_list_unique _ a.added b.added a.are_added b.are_added in
     let updated : a.updated ≡ b.updated = ascending_list_unique _ a.updated b.updated a.are_updated b.are_updated in

@@ -15,7 +15,7 @@ use Rattle.model.specs.FullIds.{full_cmp, coded_full}
 use Rattle.model.specs.World.{World, IsNode, data_of}
 use Rattle.model.specs.Forest.{place_of}
 use Rattle.model.specs.Focus.{IsFocus}
-use Rattle.model.specs.Differences.{Difference, Added, Updated, Refocused, Removed, IsAscendingListOf, IsInBoth, IsAdded, IsUpdated, IsAloneIf, IsToldForFocus, AreOfFocus, AreDifferences}
+use Rattle.model.specs.Differences.{PlanEvent, Added, Updated, Refocused, Removed, IsAscendingListOf, IsInBoth, IsAdded, IsUpdated, IsAloneIf, IsToldForFocus, AreOfFocus, AreDifferences}
 use Rattle.model.proofs.Decisions.{same_or_not, data_same_or_not, node_or_not, contained_or_not}
 use Rattle.model.proofs.Written.{found_key}
 use Rattle.model.proofs.Members.{contains_cases, contains_first, contains_later, contains_none}
@@ -137,7 +137,7 @@ module _ (old new : World) where
   told_for_focus_exists told None = ([], refl)
   told_for_focus_exists told (Some id) = alone_exists _ id (both_decided (in_both_decided id) (not_decided (contained_or_not id told)))
 
-  of_focus_exists : (told : List FullNodeId) (before after : Option FullNodeId) → IsFocus old before → IsFocus new after → (part : List Difference) × AreOfFocus old new told part
+  of_focus_exists : (told : List FullNodeId) (before after : Option FullNodeId) → IsFocus old before → IsFocus new after → (part : List PlanEvent) × AreOfFocus old new told part
   of_focus_exists told before after h g = elim (same_or_not (coded_option coded_full) before after) [
     | inl same ↦ ([], (before, after, h, g, inl (same, refl)))
     | inr apart ↦
@@ -158,7 +158,7 @@ updated_exist old new root =
     (either_decided (not_decided (same_or_not (coded_option (coded× coded_full coded_ℕ)) (place_of old id) (place_of new id))) (same_or_not (coded_option coded_full) root (Some id)))))
     (ids_of old) (ids_sorted old) (λ id h. among_ids old id h.0.0)
 
-pub differences_exist : (old new : World) (root before after : Option FullNodeId) → IsFocus old before → IsFocus new after → (ds : List Difference) × AreDifferences old new root ds
+pub differences_exist : (old new : World) (root before after : Option FullNodeId) → IsFocus old before → IsFocus new after → (ds : List PlanEvent) × AreDifferences old new root ds
 differences_exist old new root before after h g =
     let added = added_exist old new in
     let updated = updated_exist old new root in

@@ -15,7 +15,7 @@ use Rattle.model.specs.Focus.{first, IsEffectiveFocus, Resolves, IsFocus}
 use Rattle.model.specs.State.{with_host, Lists}
 use Rattle.model.specs.Run.{Accepted}
 use Rattle.model.specs.Work.{HasDepthInTree, at_root, at_child, IsChildOfNamed}
-use Rattle.model.specs.Differences.{Difference, Added, Updated, Refocused, Removed, IsAscendingListOf, IsAdded, IsInBoth, IsUpdated, IsAloneIf, AreOfFocus, AreDifferences}
+use Rattle.model.specs.Differences.{PlanEvent, Added, Updated, Refocused, Removed, IsAscendingListOf, IsAdded, IsInBoth, IsUpdated, IsAloneIf, AreOfFocus, AreDifferences}
 use Rattle.model.specs.Examples.{node, at, window, button}
 use Rattle.model.specs.EventExamples.{root_tree, window_alone, window_with_button, window_with_buttons, ButtonGoes, FocusedButtonGoes, FocusGoesToButton, ButtonsChangePlaces, HostLosesFocus, labelled_button, label_button, window_with_label, LabelIsLittleWork, pictured_before, pictured_after, PicturedChange}
 use Rattle.model.proofs.HostChanges.{none_ascend}
@@ -96,7 +96,7 @@ module _ (f : ℕ) where
   told_already : (P : Type 0) → ¬ (P × ¬ (Contains (at 0 0 ∷ []) (at 0 0)))
   told_already P h = h.1 (contains_first (at 0 0) [])
 
-  with_focus : (part ds : List Difference) → AreOfFocus old window_alone (at 0 0 ∷ []) part → ds ≡ map Added [] ++ map Updated (at 0 0 ∷ []) ++ part ++ map Removed (at 0 1 ∷ []) → AreDifferences old window_alone None ds
+  with_focus : (part ds : List PlanEvent) → AreOfFocus old window_alone (at 0 0 ∷ []) part → ds ≡ map Added [] ++ map Updated (at 0 0 ∷ []) ++ part ++ map Removed (at 0 1 ∷ []) → AreDifferences old window_alone None ds
   with_focus part ds h all = record {
     added = [];
     updated = at 0 0 ∷ [];

@@ -8,7 +8,7 @@ use Rattle.std.proofs.lemmas.List.{append-nil}
 use Rattle.model.specs.declared.FullNodeId.{FullNodeId}
 use Rattle.model.specs.World.{World, children}
 use Rattle.model.specs.Forest.{place_of, place_among, is_same}
-use Rattle.model.specs.Differences.{Difference, Added, Updated, Removed, IsAscendingListOf, IsAdded, IsUpdated, AreOfFocus, AreDifferences}
+use Rattle.model.specs.Differences.{PlanEvent, Added, Updated, Removed, IsAscendingListOf, IsAdded, IsUpdated, AreOfFocus, AreDifferences}
 use Rattle.model.specs.State.{with_host}
 use Rattle.model.proofs.Ascending.{ascending_list_unique}
 use Rattle.model.proofs.Members.{contains_none}
@@ -35,7 +35,7 @@ module _ (w : World) (focused : Bool) where
   none_removed : (id : FullNodeId) → ¬ (IsAdded (with_host w focused) w id)
   none_removed id h = h.1 h.0
 
-  pub differences_of_host : (ds : List Difference) → AreOfFocus w (with_host w focused) [] ds → AreDifferences w (with_host w focused) None ds
+  pub differences_of_host : (ds : List PlanEvent) → AreOfFocus w (with_host w focused) [] ds → AreDifferences w (with_host w focused) None ds
   differences_of_host ds h = record {
     added = [];
     updated = [];
@@ -48,7 +48,7 @@ module _ (w : World) (focused : Bool) where
     all = sym (append-nil ds);
   }
 
-  pub host_differences : (ds : List Difference) → AreDifferences w (with_host w focused) None ds → AreOfFocus w (with_host w focused) [] ds
+  pub host_differences : (ds : List PlanEvent) → AreDifferences w (with_host w focused) None ds → AreOfFocus w (with_host w focused) [] ds
   host_differences ds h =
       let added : h.added ≡ [] = ascending_list_unique _ h.added [] h.are_added (none_ascend _ none_added) in
       let updated : h.updated ≡ [] = ascending_list_unique _ h.updated [] h.are_updated (none_ascend _ none_updated) in

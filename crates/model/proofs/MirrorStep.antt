@@ -9,7 +9,7 @@ use Rattle.model.specs.World.{World, IsNode, data_of}
 use Rattle.model.specs.Forest.{place_of}
 use Rattle.model.specs.Focus.{IsFocus}
 use Rattle.model.specs.Events.{Told}
-use Rattle.model.specs.Differences.{Difference, Added, Updated, Refocused, Removed, events, IsAdded, AreOfFocus, AreDifferences}
+use Rattle.model.specs.Differences.{PlanEvent, Added, Updated, Refocused, Removed, events, IsAdded, AreOfFocus, AreDifferences}
 use Rattle.model.specs.Mirror.{Mirrored, Records, IsRecordOf, Mirrors, AreRecordsOf}
 use Rattle.model.proofs.Decisions.{same_unless, same_data_unless, node_or_not, contained_or_not}
 use Rattle.model.proofs.Foci.{focus_unique}
@@ -18,21 +18,21 @@ use Rattle.model.proofs.Members.{contains_cases, contains_first, contains_later,
 
 -- ---- lists of differences
 
-mention_left : (ds es : List Difference) (j : FullNodeId) → Mention ds j → Mention (ds ++ es) j
+mention_left : (ds es : List PlanEvent) (j : FullNodeId) → Mention ds j → Mention (ds ++ es) j
 mention_left [] es j h = absurd h
 mention_left (d ∷ ds) es j (inl h) = inl h
 mention_left (d ∷ ds) es j (inr h) = inr (mention_left ds es j h)
 
-mention_right : (ds es : List Difference) (j : FullNodeId) → Mention es j → Mention (ds ++ es) j
+mention_right : (ds es : List PlanEvent) (j : FullNodeId) → Mention es j → Mention (ds ++ es) j
 mention_right [] es j h = h
 mention_right (d ∷ ds) es j h = inr (mention_right ds es j h)
 
-mention_each : (f : FullNodeId → Difference) → ((id : FullNodeId) → IsOf (f id) id) → (ids : List FullNodeId) (j : FullNodeId) → Contains ids j → Mention (map f ids) j
+mention_each : (f : FullNodeId → PlanEvent) → ((id : FullNodeId) → IsOf (f id) id) → (ids : List FullNodeId) (j : FullNodeId) → Contains ids j → Mention (map f ids) j
 mention_each f of [] j h = absurd (contains_none j h)
 mention_each f of (x ∷ ids) j h = elim (contains_cases x j ids h) [ inl e ↦ inl (subst (λ y. IsOf (f x) y) e (of x)) | inr g ↦ inr (mention_each f of ids j g) ]
 
 module _ (new : World) where
-  fit_append : (ds es : List Difference) → AllFit new ds → AllFit new es → AllFit new (ds ++ es)
+  fit_append : (ds es : List PlanEvent) → AllFit new ds → AllFit new es → AllFit new (ds ++ es)
   fit_append [] es h g = g
   fit_append (d ∷ ds) es h g = (h.0, fit_append ds es h.1 g)
 
@@ -48,7 +48,7 @@ module _ (new : World) where
   fit_removed [] gone = tt
   fit_removed (x ∷ ids) gone = (gone x (contains_first x ids), fit_removed ids (λ j h. gone j (contains_later x j ids h)))
 
-moved_append : (focus : Option FullNodeId) (ds es : List Difference) → moved_to focus (ds ++ es) ≡ moved_to (moved_to focus ds) es
+moved_append : (focus : Option FullNodeId) (ds es : List PlanEvent) → moved_to focus (ds ++ es) ≡ moved_to (moved_to focus ds) es
 moved_append focus [] es = refl
 moved_append focus (Added id ∷ ds) es = moved_append focus ds es
 moved_append focus (Updated id ∷ ds) es = moved_append focus ds es
@@ -70,13 +70,13 @@ moved_removed focus (x ∷ ids) = moved_removed focus ids
 -- ---- the part of the focus
 
 -- the foci of the two worlds, and where the part of the focus moves a focus to
-focus_part : (old new : World) (told : List FullNodeId) (ds : List Difference) (h : AreOfFocus old new told ds) → moved_to h.0 ds ≡ h.1
+focus_part : (old new : World) (told : List FullNodeId) (ds : List PlanEvent) (h : AreOfFocus old new told ds) → moved_to h.0 ds ≡ h.1
 focus_part old new told ds h = elim (h.4) [
   | inl same ↦ ap (moved_to h.0) same.1 ∙ same.0
   | inr moved ↦ ap (moved_to h.0) moved.5 ∙ moved_append h.0 (map Updated moved.1 ++ map Updated moved.2) (Refocused h.0 h.1 ∷ [])
 ]
 
-fit_focus : (old new : World) (told : List FullNodeId) (ds : List Difference) → AreOfFocus old new told ds → AllFit new ds
+fit_focus : (old new : World) (told : List FullNodeId) (ds : List PlanEvent) → AreOfFocus old new told ds → AllFit new ds
 fit_focus old new told ds h = elim (h.4) [
   | inl same ↦ subst (AllFit new) (sym same.1) tt
   | inr moved ↦ subst (AllFit new) (sym moved.5) (fit_append new (map Updated moved.1 ++ map Updated moved.2) _ (fit_append new (map Updated moved.1) _ (fit_updated new moved.1) (fit_updated new moved.2)) (tt, tt))
@@ -93,7 +93,7 @@ module _ (old new : World) where
   unchanged_still j None alike place h = subst (λ x. ¬ (IsSome x)) alike h
   unchanged_still j (Some m) alike place h = (h.0 ∙ place, sym alike ∙ h.1)
 
-module _ (old new : World) (root : Option FullNodeId) (ds : List Difference) (h : AreDifferences old new root ds) where
+module _ (old new : World) (root : Option FullNodeId) (ds : List PlanEvent) (h : AreDifferences old new root ds) where
   -- the groups, with the parts of the list that they are
   in_added : (j : FullNodeId) → Mention (map Added h.added) j → Mention ds j
   in_added j m = subst (λ x. Mention x j) (sym h.all) (mention_left _ (map Removed h.removed) j (mention_left _ h.of_focus j (mention_left _ (map Updated h.updated) j m)))

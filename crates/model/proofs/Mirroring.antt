@@ -9,34 +9,34 @@ use Rattle.model.specs.declared.FullNodeId.{FullNodeId}
 use Rattle.model.specs.FullIds.{full_cmp, full_total, exact_full}
 use Rattle.model.specs.World.{World, IsNode}
 use Rattle.model.specs.Events.{Told, seen_in}
-use Rattle.model.specs.Differences.{Difference, Added, Updated, Refocused, Removed, event, events}
+use Rattle.model.specs.Differences.{PlanEvent, Added, Updated, Refocused, Removed, event, events}
 use Rattle.model.specs.Mirror.{Mirrored, Records, Shows, IsRecordOf, Notes, Mirrors}
 
 -- the difference is one of this node
-abbrev pub IsOf : Difference → FullNodeId → Type 0
+abbrev pub IsOf : PlanEvent → FullNodeId → Type 0
 IsOf (Added id) j = id ≡ j
 IsOf (Updated id) j = id ≡ j
 IsOf (Refocused before after) j = ⊥
 IsOf (Removed id) j = id ≡ j
 
 -- one of the differences is of this node
-abbrev pub Mention : List Difference → FullNodeId → Type 0
+abbrev pub Mention : List PlanEvent → FullNodeId → Type 0
 Mention [] j = ⊥
 Mention (d ∷ ds) j = IsOf d j ⊎ Mention ds j
 
 -- nothing is removed that is a node of the new world
-abbrev pub Fits : World → Difference → Type 0
+abbrev pub Fits : World → PlanEvent → Type 0
 Fits new (Added id) = Unit {0}
 Fits new (Updated id) = Unit {0}
 Fits new (Refocused before after) = Unit {0}
 Fits new (Removed id) = ¬ (IsNode new id)
 
-abbrev pub AllFit : World → List Difference → Type 0
+abbrev pub AllFit : World → List PlanEvent → Type 0
 AllFit new [] = Unit {0}
 AllFit new (d ∷ ds) = Fits new d × AllFit new ds
 
 -- the focus that the last move names
-abbrev pub moved_to : Option FullNodeId → List Difference → Option FullNodeId
+abbrev pub moved_to : Option FullNodeId → List PlanEvent → Option FullNodeId
 moved_to focus [] = focus
 moved_to focus (Added id ∷ ds) = moved_to focus ds
 moved_to focus (Updated id ∷ ds) = moved_to focus ds
@@ -66,20 +66,20 @@ module _ (old new : World) where
   after_move r s after j h before = subst (λ (x : Records). IsRecordOf new j (get x.nodes j)) (sym h) before
 
   -- one event leaves a right record right, and makes that of its own node right
-  after_event : (d : Difference) (r s : Records) (j : FullNodeId) → Fits new d → Mirrors r (event old new d) s → IsOf d j ⊎ IsRecordOf new j (get r.nodes j) → IsRecordOf new j (get s.nodes j)
+  after_event : (d : PlanEvent) (r s : Records) (j : FullNodeId) → Fits new d → Mirrors r (event old new d) s → IsOf d j ⊎ IsRecordOf new j (get r.nodes j) → IsRecordOf new j (get s.nodes j)
   after_event (Added id) r s j fits h before = after_notes r s id j h before
   after_event (Updated id) r s j fits h before = after_notes r s id j h before
   after_event (Refocused left entered) r s j fits h (inl none) = absurd none
   after_event (Refocused left entered) r s j fits h (inr before) = after_move r s _ j h before
   after_event (Removed id) r s j fits h before = after_removal r s id j h fits before
 
-  after_first : (d : Difference) (ds : List Difference) (r s : Records) (j : FullNodeId) → Fits new d → Mirrors r (event old new d) s → (IsOf d j ⊎ Mention ds j) ⊎ IsRecordOf new j (get r.nodes j) → Mention ds j ⊎ IsRecordOf new j (get s.nodes j)
+  after_first : (d : PlanEvent) (ds : List PlanEvent) (r s : Records) (j : FullNodeId) → Fits new d → Mirrors r (event old new d) s → (IsOf d j ⊎ Mention ds j) ⊎ IsRecordOf new j (get r.nodes j) → Mention ds j ⊎ IsRecordOf new j (get s.nodes j)
   after_first d ds r s j fits h (inl (inl here)) = inr (after_event d r s j fits h (inl here))
   after_first d ds r s j fits h (inl (inr later)) = inl later
   after_first d ds r s j fits h (inr before) = inr (after_event d r s j fits h (inr before))
 
   -- after all events the record of a node is right, if one of them is of this node or it was right before
-  pub after_events : (ds : List Difference) (r s : Records) (j : FullNodeId) → AllFit new ds → Told Mirrors r (events old new ds) s → Mention ds j ⊎ IsRecordOf new j (get r.nodes j) → IsRecordOf new j (get s.nodes j)
+  pub after_events : (ds : List PlanEvent) (r s : Records) (j : FullNodeId) → AllFit new ds → Told Mirrors r (events old new ds) s → Mention ds j ⊎ IsRecordOf new j (get r.nodes j) → IsRecordOf new j (get s.nodes j)
   after_events [] r s j fits told (inl none) = absurd none
   after_events [] r s j fits told (inr before) = subst (λ (x : Records). IsRecordOf new j (get x.nodes j)) told before
   after_events (d ∷ ds) r s j fits told before = after_events ds told.0 s j fits.1 told.1.1 (after_first d ds r told.0 j fits.0 told.1.0 before)
@@ -88,7 +88,7 @@ module _ (old new : World) where
   id_seen w None = refl
   id_seen w (Some id) = refl
 
-  pub focus_after : (ds : List Difference) (r s : Records) → Told Mirrors r (events old new ds) s → s.focus ≡ moved_to r.focus ds
+  pub focus_after : (ds : List PlanEvent) (r s : Records) → Told Mirrors r (events old new ds) s → s.focus ≡ moved_to r.focus ds
   focus_after [] r s told = ap (λ (x : Records). x.focus) (sym told)
   focus_after (Added id ∷ ds) r s told = focus_after ds told.0 s told.1.1 ∙ ap (λ (x : Records). moved_to x.focus ds) told.1.0.2
   focus_after (Updated id ∷ ds) r s told = focus_after ds told.0 s told.1.1 ∙ ap (λ (x : Records). moved_to x.focus ds) told.1.0.2

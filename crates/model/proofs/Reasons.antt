@@ -12,7 +12,7 @@ use Rattle.model.specs.declared.FullNodeId.{FullNodeId}
 use Rattle.model.specs.FullIds.{full_cmp, full_total}
 use Rattle.model.specs.World.{World, data_of}
 use Rattle.model.specs.Forest.{place_of}
-use Rattle.model.specs.Differences.{Difference, Added, Updated, Refocused, Removed, IsInBoth, IsUpdated, IsToldForFocus, AreOfFocus, AreDifferences}
+use Rattle.model.specs.Differences.{PlanEvent, Added, Updated, Refocused, Removed, IsInBoth, IsUpdated, IsToldForFocus, AreOfFocus, AreDifferences}
 use Rattle.model.specs.Reasons.{FocusGoes, FocusGoesAt, Reason, rank, MayPrecede}
 use Rattle.model.proofs.Decisions.{contained_or_not}
 use Rattle.model.proofs.Foci.{focus_unique}
@@ -20,18 +20,18 @@ use Rattle.model.proofs.Members.{contains_cases, contains_first, contains_later,
 
 -- ---- members of lists that are mapped and joined
 
-each_of_map : (f : FullNodeId → Difference) (P : Difference → Type 0) (xs : List FullNodeId) → ((x : FullNodeId) → Contains xs x → P (f x)) → (d : Difference) → Contains (map f xs) d → P d
+each_of_map : (f : FullNodeId → PlanEvent) (P : PlanEvent → Type 0) (xs : List FullNodeId) → ((x : FullNodeId) → Contains xs x → P (f x)) → (d : PlanEvent) → Contains (map f xs) d → P d
 each_of_map f P [] h d c = absurd (contains_none d c)
 each_of_map f P (x ∷ xs) h d c = elim (contains_cases (f x) d (map f xs) c) [ inl e ↦ subst P e (h x (contains_first x xs)) | inr g ↦ each_of_map f P xs (λ y m. h y (contains_later x y xs m)) d g ]
 
-of_map : (f : FullNodeId → Difference) (xs : List FullNodeId) (x : FullNodeId) → Contains xs x → Contains (map f xs) (f x)
+of_map : (f : FullNodeId → PlanEvent) (xs : List FullNodeId) (x : FullNodeId) → Contains xs x → Contains (map f xs) (f x)
 of_map f [] x c = absurd (contains_none x c)
 of_map f (y ∷ ys) x c = elim (contains_cases y x ys c) [ inl e ↦ subst (λ z. Contains (map f (y ∷ ys)) (f z)) e (contains_first (f y) (map f ys)) | inr g ↦ contains_later (f y) (f x) (map f ys) (of_map f ys x g) ]
 
-each_of_append : (P : Difference → Type 0) (xs ys : List Difference) → ((d : Difference) → Contains xs d → P d) → ((d : Difference) → Contains ys d → P d) → (d : Difference) → Contains (xs ++ ys) d → P d
+each_of_append : (P : PlanEvent → Type 0) (xs ys : List PlanEvent) → ((d : PlanEvent) → Contains xs d → P d) → ((d : PlanEvent) → Contains ys d → P d) → (d : PlanEvent) → Contains (xs ++ ys) d → P d
 each_of_append P xs ys h g d c = elim (Contains-append_cases xs ys d c) [ inl a ↦ h d a | inr b ↦ g d b ]
 
-each_of_one : (P : Difference → Type 0) (x : Difference) → P x → (d : Difference) → Contains (x ∷ []) d → P d
+each_of_one : (P : PlanEvent → Type 0) (x : PlanEvent) → P x → (d : PlanEvent) → Contains (x ∷ []) d → P d
 each_of_one P x h d c = elim (contains_cases x d [] c) [ inl e ↦ subst P e h | inr g ↦ absurd (contains_none d g) ]
 
 -- ---- the part of the focus
@@ -55,7 +55,7 @@ module _ (old new : World) (root : Option FullNodeId) where
   entered_reason : (told : List FullNodeId) (before after : Option FullNodeId) (ids : List FullNodeId) → FocusGoes old new before after → IsToldForFocus old new told after ids → (x : FullNodeId) → Contains ids x → Reason old new root (Updated x)
   entered_reason told before after ids goes h x c = let t = told_is old new told after ids h x c in (t.1, inr (inr (inr (before, after, goes, inr t.0))))
 
-  focus_reason : (told : List FullNodeId) (part : List Difference) → AreOfFocus old new told part → (d : Difference) → Contains part d → Reason old new root d
+  focus_reason : (told : List FullNodeId) (part : List PlanEvent) → AreOfFocus old new told part → (d : PlanEvent) → Contains part d → Reason old new root d
   focus_reason told part h d c = elim (h.4) [
     | inl same ↦ absurd (contains_none d (subst (λ xs. Contains xs d) same.1 c))
     | inr moved ↦
@@ -69,7 +69,7 @@ module _ (old new : World) (root : Option FullNodeId) where
 
   -- ---- each difference has its reason, and each reason is told
 
-  pub has_reason : (ds : List Difference) → AreDifferences old new root ds → (d : Difference) → Contains ds d → Reason old new root d
+  pub has_reason : (ds : List PlanEvent) → AreDifferences old new root ds → (d : PlanEvent) → Contains ds d → Reason old new root d
   has_reason ds h d c =
       each_of_append (Reason old new root) (map Added h.added ++ map Updated h.updated ++ h.of_focus) (map Removed h.removed)
       (each_of_append (Reason old new root) (map Added h.added ++ map Updated h.updated) h.of_focus
@@ -84,17 +84,17 @@ module _ (old new : World) (root : Option FullNodeId) where
       updated_reason x (inr (inl b)) = inr (inl b)
       updated_reason x (inr (inr c)) = inr (inr (inl c))
 
-  module _ (ds : List Difference) (h : AreDifferences old new root ds) where
-    in_added : (d : Difference) → Contains (map Added h.added) d → Contains ds d
+  module _ (ds : List PlanEvent) (h : AreDifferences old new root ds) where
+    in_added : (d : PlanEvent) → Contains (map Added h.added) d → Contains ds d
     in_added d m = subst (λ xs. Contains xs d) (sym h.all) (Contains-append_left _ (map Removed h.removed) d (Contains-append_left _ h.of_focus d (Contains-append_left _ (map Updated h.updated) d m)))
 
-    in_updated : (d : Difference) → Contains (map Updated h.updated) d → Contains ds d
+    in_updated : (d : PlanEvent) → Contains (map Updated h.updated) d → Contains ds d
     in_updated d m = subst (λ xs. Contains xs d) (sym h.all) (Contains-append_left _ (map Removed h.removed) d (Contains-append_left _ h.of_focus d (Contains-append_right (map Added h.added) _ d m)))
 
-    in_focus : (d : Difference) → Contains h.of_focus d → Contains ds d
+    in_focus : (d : PlanEvent) → Contains h.of_focus d → Contains ds d
     in_focus d m = subst (λ xs. Contains xs d) (sym h.all) (Contains-append_left _ (map Removed h.removed) d (Contains-append_right (map Added h.added ++ map Updated h.updated) _ d m))
 
-    in_removed : (d : Difference) → Contains (map Removed h.removed) d → Contains ds d
+    in_removed : (d : PlanEvent) → Contains (map Removed h.removed) d → Contains ds d
     in_removed d m = subst (λ xs. Contains xs d) (sym h.all) (Contains-append_right (map Added h.added ++ map Updated h.updated ++ h.of_focus) _ d m)
 
     updated_is_told : (id : FullNodeId) → IsUpdated old new root id → Contains ds (Updated id)
@@ -131,7 +131,7 @@ module _ (old new : World) (root : Option FullNodeId) where
         let part = part_of before after goes in
         in_focus (Refocused before after) (subst (λ xs. Contains xs (Refocused before after)) (sym part.4) (Contains-append_right (map Updated part.0 ++ map Updated part.1) (Refocused before after ∷ []) (Refocused before after) (contains_first (Refocused before after) [])))
 
-    pub is_told_for : (d : Difference) → Reason old new root d → Contains ds d
+    pub is_told_for : (d : PlanEvent) → Reason old new root d → Contains ds d
     is_told_for (Added id) r = in_added (Added id) (of_map Added h.added id ((h.are_added.members id).1 r))
     is_told_for (Updated id) r = elim (r.1) [
       | inl a ↦ updated_is_told id (r.0, inl a)
@@ -144,20 +144,20 @@ module _ (old new : World) (root : Option FullNodeId) where
 
 -- ---- the order
 
-abbrev InOrder : List Difference → Type 0
+abbrev InOrder : List PlanEvent → Type 0
 InOrder [] = Unit {0}
-InOrder (d ∷ ds) = ((e : Difference) → Contains ds e → MayPrecede d e) × InOrder ds
+InOrder (d ∷ ds) = ((e : PlanEvent) → Contains ds e → MayPrecede d e) × InOrder ds
 
-pairs_in_order : (ds : List Difference) → InOrder ds → AllPairs MayPrecede ds
+pairs_in_order : (ds : List PlanEvent) → InOrder ds → AllPairs MayPrecede ds
 pairs_in_order [] h = λ i j d less within. absurd (omega arith)
 pairs_in_order (x ∷ ds) h = AllPairs-cons MayPrecede x ds (λ k d within. h.0 _ (Contains-get_or ds k d within)) (pairs_in_order ds h.1)
 
-order_append : (xs ys : List Difference) → InOrder xs → InOrder ys → ((d e : Difference) → Contains xs d → Contains ys e → MayPrecede d e) → InOrder (xs ++ ys)
+order_append : (xs ys : List PlanEvent) → InOrder xs → InOrder ys → ((d e : PlanEvent) → Contains xs d → Contains ys e → MayPrecede d e) → InOrder (xs ++ ys)
 order_append [] ys h g across = g
 order_append (x ∷ xs) ys h g across =
     (each_of_append (MayPrecede x) xs ys h.0 (λ e c. across x e (contains_first x xs) c), order_append xs ys h.1 g (λ d e c m. across d e (contains_later x d xs c) m))
 
-order_of_map : (f : FullNodeId → Difference) → ((x y : FullNodeId) → x ≢ y → MayPrecede (f x) (f y)) → (ids : List FullNodeId) → IsStrictlySortedBy full_cmp ids → InOrder (map f ids)
+order_of_map : (f : FullNodeId → PlanEvent) → ((x y : FullNodeId) → x ≢ y → MayPrecede (f x) (f y)) → (ids : List FullNodeId) → IsStrictlySortedBy full_cmp ids → InOrder (map f ids)
 order_of_map f h [] sorted = tt
 order_of_map f h (x ∷ ids) sorted =
     (each_of_map f (MayPrecede (f x)) ids (λ y c. h x y (λ e. apart x y e (All-contains (λ q. full_cmp x q ≡ Less) ids y (All-after_first full_cmp x ids sorted) c))), order_of_map f h ids (sorted_tail full_cmp x ids sorted))
@@ -165,7 +165,7 @@ order_of_map f h (x ∷ ids) sorted =
     apart : (x y : FullNodeId) → x ≡ y → full_cmp x y ≡ Less → ⊥
     apart x y e less = let tied : full_cmp x y ≡ Equal = subst (λ z. full_cmp x z ≡ Equal) e (tied_itself full_total x) in cc
 
-across_maps : (f g : FullNodeId → Difference) (xs ys : List FullNodeId) → ((x y : FullNodeId) → Contains xs x → Contains ys y → MayPrecede (f x) (g y)) → (d e : Difference) → Contains (map f xs) d → Contains (map g ys) e → MayPrecede d e
+across_maps : (f g : FullNodeId → PlanEvent) (xs ys : List FullNodeId) → ((x y : FullNodeId) → Contains xs x → Contains ys y → MayPrecede (f x) (g y)) → (d e : PlanEvent) → Contains (map f xs) d → Contains (map g ys) e → MayPrecede d e
 across_maps f g xs ys h d e c m = each_of_map f (λ a. MayPrecede a e) xs (λ x l. each_of_map g (MayPrecede (f x)) ys (λ y n. h x y l n) e m) d c
 
 one_at_most : (old new : World) (told : List FullNodeId) (focus : Option FullNodeId) (ids : List FullNodeId) → IsToldForFocus old new told focus ids → InOrder (map Updated ids)
@@ -174,7 +174,7 @@ one_at_most old new told (Some id) ids (inl h) = subst (λ xs. InOrder (map Upda
 one_at_most old new told (Some id) ids (inr h) = subst (λ xs. InOrder (map Updated xs)) (sym h.1) tt
 
 module _ (old new : World) (told : List FullNodeId) where
-  focus_order : (part : List Difference) → AreOfFocus old new told part → InOrder part
+  focus_order : (part : List PlanEvent) → AreOfFocus old new told part → InOrder part
   focus_order part h = elim (h.4) [
     | inl same ↦ subst InOrder (sym same.1) tt
     | inr moved ↦ subst InOrder (sym moved.5)
@@ -200,16 +200,16 @@ module _ (old new : World) (told : List FullNodeId) where
       before_move x before after = (omega arith, λ e. cc)
 
   -- what the part of the focus tells: no addition or removal, and no update of a node that was told
-  abbrev IsOfFocus : Difference → Type 0
+  abbrev IsOfFocus : PlanEvent → Type 0
   IsOfFocus d = (1 ≤ rank d) × (rank d ≤ 2) × ((x : FullNodeId) → Contains told x → Updated x ≢ d)
 
-  one_of_focus : (focus : Option FullNodeId) (ids : List FullNodeId) → IsToldForFocus old new told focus ids → (d : Difference) → Contains (map Updated ids) d → IsOfFocus d
+  one_of_focus : (focus : Option FullNodeId) (ids : List FullNodeId) → IsToldForFocus old new told focus ids → (d : PlanEvent) → Contains (map Updated ids) d → IsOfFocus d
   one_of_focus focus ids h = each_of_map Updated IsOfFocus ids (λ x c. (omega arith, omega arith, λ y m e. (told_is old new told focus ids h x c).2 (subst (Contains told) (same_ids y x e) m)))
     where
       same_ids : (x y : FullNodeId) → Updated x ≡ Updated y → x ≡ y
       same_ids x y e = cc
 
-  all_of_focus : (part : List Difference) → AreOfFocus old new told part → (d : Difference) → Contains part d → IsOfFocus d
+  all_of_focus : (part : List PlanEvent) → AreOfFocus old new told part → (d : PlanEvent) → Contains part d → IsOfFocus d
   all_of_focus part h d c = elim (h.4) [
     | inl same ↦ absurd (contains_none d (subst (λ xs. Contains xs d) same.1 c))
     | inr moved ↦
@@ -219,10 +219,10 @@ module _ (old new : World) (told : List FullNodeId) where
   ]
 
 -- a lesser rank comes first
-by_rank : (d e : Difference) → rank d < rank e → MayPrecede d e
+by_rank : (d e : PlanEvent) → rank d < rank e → MayPrecede d e
 by_rank d e less = (omega arith, λ same. let equal : rank d ≡ rank e = ap rank same in absurd (omega arith))
 
-pub in_order : (old new : World) (root : Option FullNodeId) (ds : List Difference) → AreDifferences old new root ds → AllPairs MayPrecede ds
+pub in_order : (old new : World) (root : Option FullNodeId) (ds : List PlanEvent) → AreDifferences old new root ds → AllPairs MayPrecede ds
 in_order old new root ds h =
     let added : InOrder (map Added h.added) = order_of_map Added (λ x y n. (omega arith, λ e. n (same_added x y e))) h.added h.are_added.ascending in
     let updated : InOrder (map Updated h.updated) = order_of_map Updated (λ x y n. (omega arith, λ e. n (same_updated x y e))) h.updated h.are_updated.ascending in

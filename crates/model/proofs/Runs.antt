@@ -4,7 +4,7 @@ use Rattle.std.proofs.lemmas.List.{append-nil, take_more}
 use Rattle.model.specs.World.{World}
 use Rattle.model.specs.Update.{index_for}
 use Rattle.model.specs.Events.{Event, Told}
-use Rattle.model.specs.Differences.{Difference, events, told_root, AreOfFocus}
+use Rattle.model.specs.Differences.{PlanEvent, events, told_root, AreOfFocus}
 use Rattle.model.specs.Mirror.{Records, Mirrors, AreRecordsOf}
 use Rattle.model.specs.State.{IsState, with_host}
 use Rattle.model.specs.Run.{CommandData, ToUpdate, ToHostFocus, ReplyData, Accepted, Refused, OutOfMemory, Does, Runs}
@@ -42,7 +42,7 @@ replies_length w v (c ∷ cs) told replies h = ap length h.8 ∙ ap suc (replies
 
 -- ---- a mirror over a run
 
-follow_host : (w : World) (focused : Bool) (ds : List Difference) (r s : Records) → AreOfFocus w (with_host w focused) [] ds → AreRecordsOf w r → Told Mirrors r (events w (with_host w focused) ds) s → AreRecordsOf (with_host w focused) s
+follow_host : (w : World) (focused : Bool) (ds : List PlanEvent) (r s : Records) → AreOfFocus w (with_host w focused) [] ds → AreRecordsOf w r → Told Mirrors r (events w (with_host w focused) ds) s → AreRecordsOf (with_host w focused) s
 follow_host w focused ds r s h are t = records_follow w (with_host w focused) None ds (differences_of_host w focused ds h) r s are t
 
 follow_command : (w v : World) (c : CommandData) (told : List Event) (reply : ReplyData) (r s : Records) → Does w c v told reply → AreRecordsOf w r → Told Mirrors r told s → AreRecordsOf v s

@@ -4,7 +4,7 @@ use Rattle.std.specs.List.{AllZip}
 use Rattle.model.specs.World.{World}
 use Rattle.model.specs.Update.{UpdateData, IsAccepted, index_for, merged}
 use Rattle.model.specs.Events.{Event}
-use Rattle.model.specs.Differences.{Difference, events, told_root, AreOfFocus}
+use Rattle.model.specs.Differences.{PlanEvent, events, told_root, AreOfFocus}
 use Rattle.model.specs.State.{with_host}
 use Rattle.model.specs.Run.{CommandData, ToUpdate, ToHostFocus, ReplyData, Accepted, Refused, OutOfMemory, Does, Runs, AreAlike, WantAlike, AreToldBy}
 use Rattle.model.proofs.Rebuilds.{rebuild_unique}
@@ -13,16 +13,16 @@ use Rattle.model.proofs.DifferenceLists.{differences_unique, of_focus_unique}
 abbrev Agree : World → List Event → ReplyData → World → List Event → ReplyData → Type 0
 Agree v told r w heard s = (v ≡ w) × (told ≡ heard) × AreAlike r s
 
-same_told : (old v w : World) (ds es : List Difference) (told heard : List Event) → v ≡ w → ds ≡ es → told ≡ events old v ds → heard ≡ events old w es → told ≡ heard
+same_told : (old v w : World) (ds es : List PlanEvent) (told heard : List Event) → v ≡ w → ds ≡ es → told ≡ events old v ds → heard ≡ events old w es → told ≡ heard
 same_told old v w ds es told heard p q a b = a ∙ ap (λ x. events old x ds) p ∙ ap (events old w) q ∙ sym b
 
-accepted_agree : (old v w : World) (u : UpdateData) (ds es : List Difference) (told heard : List Event) → IsAccepted old u v → IsAccepted old u w → AreToldBy old u v ds → AreToldBy old u w es → told ≡ events old v ds → heard ≡ events old w es → Agree v told Accepted w heard Accepted
+accepted_agree : (old v w : World) (u : UpdateData) (ds es : List PlanEvent) (told heard : List Event) → IsAccepted old u v → IsAccepted old u w → AreToldBy old u v ds → AreToldBy old u w es → told ≡ events old v ds → heard ≡ events old w es → Agree v told Accepted w heard Accepted
 accepted_agree old v w u ds es told heard h g d e a b =
     let same : v ≡ w = rebuild_unique (merged old u) v w h.1 g.1 in
     let all : ds ≡ es = differences_unique old w (told_root (index_for old u.name) u.info) ds es (subst (λ x. AreToldBy old u x ds) same d) e in
     (same, same_told old v w ds es told heard same all a b, refl)
 
-host_agree : (old v w : World) (focused : Bool) (ds es : List Difference) (told heard : List Event) → v ≡ with_host old focused → w ≡ with_host old focused → AreOfFocus old v [] ds → AreOfFocus old w [] es → told ≡ events old v ds → heard ≡ events old w es → Agree v told Accepted w heard Accepted
+host_agree : (old v w : World) (focused : Bool) (ds es : List PlanEvent) (told heard : List Event) → v ≡ with_host old focused → w ≡ with_host old focused → AreOfFocus old v [] ds → AreOfFocus old w [] es → told ≡ events old v ds → heard ≡ events old w es → Agree v told Accepted w heard Accepted
 host_agree old v w focused ds es told heard h g d e a b =
     let same : v ≡ w = h ∙ sym g in
     let all : ds ≡ es = of_focus_unique old w [] ds es (subst (λ x. AreOfFocus old x [] ds) same d) e in

@@ -8,22 +8,18 @@ use Rattle.model.specs.World.{World, data_of, in_tree, IsNode}
 use Rattle.model.specs.Forest.{place_of}
 use Rattle.model.specs.Update.{InfoData}
 use Rattle.model.specs.Focus.{IsFocus}
+pub use Rattle.model.specs.declared.events.PlanEvent.{PlanEvent}
+pub use Rattle.model.specs.declared.events.PlanEvent.TheVariants.{Added, Updated, FocusMoved as Refocused, Removed}
 use Rattle.model.specs.Events.{Event, NodeAdded, NodeUpdated, FocusMoved, NodeRemoved, seen_in}
 
-pub data Difference : Type 0 where
-  Added : (id : FullNodeId) → Difference
-  Updated : (id : FullNodeId) → Difference
-  Refocused : (before after : Option FullNodeId) → Difference
-  Removed : (id : FullNodeId) → Difference
-
 -- the call that tells of a difference
-abbrev pub event : World → World → Difference → Event
+abbrev pub event : World → World → PlanEvent → Event
 event old new (Added id) = NodeAdded (seen_in new id)
 event old new (Updated id) = NodeUpdated (seen_in old id) (seen_in new id)
 event old new (Refocused before after) = FocusMoved (option_map (seen_in old) before) (option_map (seen_in new) after)
 event old new (Removed id) = NodeRemoved (seen_in old id)
 
-abbrev pub events : World → World → List Difference → List Event
+abbrev pub events : World → World → List PlanEvent → List Event
 events old new differences = map (event old new) differences
 
 -- the ids with P, ascending, each once
@@ -56,7 +52,7 @@ IsToldForFocus old new told None ids = ids ≡ []
 IsToldForFocus old new told (Some id) ids = IsAloneIf (IsInBoth old new id × ¬ (Contains told id)) id ids
 
 -- What is told of the focus, after these ids were told as updated: nothing where it is the same; else its old node, its new node, and the move.
-abbrev pub AreOfFocus : World → World → List FullNodeId → List Difference → Type 0
+abbrev pub AreOfFocus : World → World → List FullNodeId → List PlanEvent → Type 0
 AreOfFocus old new told differences =
     (before after : Option FullNodeId) × IsFocus old before × IsFocus new after
     × (((before ≡ after) × (differences ≡ []))
@@ -64,10 +60,10 @@ AreOfFocus old new told differences =
     × (differences ≡ map Updated left ++ map Updated entered ++ Refocused before after ∷ [])))
 
 -- All that is told of a change of worlds, in order. The root is the one that is told as updated even where it is unchanged.
-pub record AreDifferences (old new : World) (root : Option FullNodeId) (differences : List Difference) : Type 0 where
+pub record AreDifferences (old new : World) (root : Option FullNodeId) (differences : List PlanEvent) : Type 0 where
   pub added : List FullNodeId
   pub updated : List FullNodeId
-  pub of_focus : List Difference
+  pub of_focus : List PlanEvent
   pub removed : List FullNodeId
   pub are_added : IsAscendingListOf (IsAdded old new) added
   pub are_updated : IsAscendingListOf (IsUpdated old new root) updated

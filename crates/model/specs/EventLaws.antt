@@ -7,7 +7,7 @@ use Rattle.model.specs.Focus.{IsFocus}
 use Rattle.model.specs.Update.{UpdateData, InfoData, index_for}
 use Rattle.model.specs.State.{IsState, with_host}
 use Rattle.model.specs.Events.{Event, NodeUpdated, Told, seen_in}
-use Rattle.model.specs.Differences.{Difference, Updated, AreOfFocus, AreDifferences, events, told_root}
+use Rattle.model.specs.Differences.{PlanEvent, Updated, AreOfFocus, AreDifferences, events, told_root}
 use Rattle.model.specs.Repeats.{Repeats}
 use Rattle.model.specs.Reasons.{Reason, MayPrecede}
 use Rattle.model.specs.Run.{CommandData, ToUpdate, ReplyData, Accepted, Does, Runs, RunsUpTo, AreAlike, WantAlike}
@@ -16,21 +16,21 @@ use Rattle.model.specs.Mirror.{Records, Mirrors, MirrorsWhileKept, AreRecordsOf}
 
 -- two worlds have one list of differences
 abbrev pub DifferencesAreOne : Type 0
-DifferencesAreOne = (old new : World) (root : Option FullNodeId) (xs ys : List Difference) → AreDifferences old new root xs → AreDifferences old new root ys → xs ≡ ys
+DifferencesAreOne = (old new : World) (root : Option FullNodeId) (xs ys : List PlanEvent) → AreDifferences old new root xs → AreDifferences old new root ys → xs ≡ ys
 
 -- and two states have one
 abbrev pub DifferencesExist : Type 0
-DifferencesExist = (old new : World) (root : Option FullNodeId) → IsState old → IsState new → (differences : List Difference) × AreDifferences old new root differences
+DifferencesExist = (old new : World) (root : Option FullNodeId) → IsState old → IsState new → (differences : List PlanEvent) × AreDifferences old new root differences
 
 -- each difference has its reason, and what has a reason is told
 abbrev pub EachHasAReason : Type 0
 EachHasAReason =
-    (old new : World) (root : Option FullNodeId) (differences : List Difference) → AreDifferences old new root differences
-    → (difference : Difference) → Contains differences difference ↔ Reason old new root difference
+    (old new : World) (root : Option FullNodeId) (differences : List PlanEvent) → AreDifferences old new root differences
+    → (difference : PlanEvent) → Contains differences difference ↔ Reason old new root difference
 
 -- each difference is told once, and the groups are told in order
 abbrev pub EachIsToldInOrder : Type 0
-EachIsToldInOrder = (old new : World) (root : Option FullNodeId) (differences : List Difference) → AreDifferences old new root differences → AllPairs MayPrecede differences
+EachIsToldInOrder = (old new : World) (root : Option FullNodeId) (differences : List PlanEvent) → AreDifferences old new root differences → AllPairs MayPrecede differences
 
 -- where the world stays as it is, nothing is told without tree info, nor of the root tree
 abbrev pub NothingToTell : Type 0
@@ -46,12 +46,12 @@ RootIsTold =
 
 -- where only the host's focus changes, the list is the focus's part alone
 abbrev pub HostChangeTellsFocus : Type 0
-HostChangeTellsFocus = (w : World) (focused : Bool) (differences : List Difference) → AreDifferences w (with_host w focused) None differences ↔ AreOfFocus w (with_host w focused) [] differences
+HostChangeTellsFocus = (w : World) (focused : Bool) (differences : List PlanEvent) → AreDifferences w (with_host w focused) None differences ↔ AreOfFocus w (with_host w focused) [] differences
 
 -- the records of a world, stepped by its differences to the next world, are the next world's
 abbrev pub RecordsFollow : Type 0
 RecordsFollow =
-    (old new : World) (root : Option FullNodeId) (differences : List Difference) (before after : Records)
+    (old new : World) (root : Option FullNodeId) (differences : List PlanEvent) (before after : Records)
     → AreDifferences old new root differences → AreRecordsOf old before → Told Mirrors before (events old new differences) after → AreRecordsOf new after
 
 -- and so over a run

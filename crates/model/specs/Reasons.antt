@@ -4,7 +4,7 @@ use Rattle.model.specs.declared.FullNodeId.{FullNodeId}
 use Rattle.model.specs.World.{World, data_of, IsNode}
 use Rattle.model.specs.Forest.{place_of}
 use Rattle.model.specs.Focus.{IsFocus}
-use Rattle.model.specs.Differences.{Difference, Added, Updated, Refocused, Removed}
+use Rattle.model.specs.Differences.{PlanEvent, Added, Updated, Refocused, Removed}
 
 -- the focus goes from the one to the other
 abbrev pub FocusGoes : World → World → Option FullNodeId → Option FullNodeId → Type 0
@@ -14,7 +14,7 @@ FocusGoes old new before after = IsFocus old before × IsFocus new after × (bef
 abbrev pub FocusGoesAt : World → World → FullNodeId → Type 0
 FocusGoesAt old new id = (before after : Option FullNodeId) × FocusGoes old new before after × ((before ≡ Some id) ⊎ (after ≡ Some id))
 
-abbrev pub Reason : World → World → Option FullNodeId → Difference → Type 0
+abbrev pub Reason : World → World → Option FullNodeId → PlanEvent → Type 0
 Reason old new root (Added id) = IsNode new id × ¬ (IsNode old id)
 Reason old new root (Updated id) =
     (IsNode old id × IsNode new id) × (data_of old id ≢ data_of new id ⊎ place_of old id ≢ place_of new id ⊎ root ≡ Some id ⊎ FocusGoesAt old new id)
@@ -22,11 +22,11 @@ Reason old new root (Refocused before after) = FocusGoes old new before after
 Reason old new root (Removed id) = IsNode old id × ¬ (IsNode new id)
 
 -- added nodes, then updated ones, then the move of the focus, then removed nodes
-abbrev pub rank : Difference → ℕ
+abbrev pub rank : PlanEvent → ℕ
 rank (Added id) = 0
 rank (Updated id) = 1
 rank (Refocused before after) = 2
 rank (Removed id) = 3
 
-abbrev pub MayPrecede : Difference → Difference → Type 0
+abbrev pub MayPrecede : PlanEvent → PlanEvent → Type 0
 MayPrecede d e = (rank d ≤ rank e) × (d ≢ e)

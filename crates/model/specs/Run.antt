@@ -4,7 +4,7 @@ use Rattle.model.specs.World.{World}
 use Rattle.model.specs.Update.{UpdateData, Fault, index_for, Stands, IsAccepted}
 use Rattle.model.specs.State.{empty_world, with_host}
 use Rattle.model.specs.Events.{Event}
-use Rattle.model.specs.Differences.{Difference, events, told_root, AreOfFocus, AreDifferences}
+use Rattle.model.specs.Differences.{PlanEvent, events, told_root, AreOfFocus, AreDifferences}
 
 pub data CommandData : Type 0 where
   ToUpdate : (update : UpdateData) → CommandData
@@ -20,16 +20,16 @@ abbrev pub Begins : Bool → UpdateData → World → Type 0
 Begins host_focused u new = IsAccepted (empty_world host_focused) u new
 
 -- what an accepted update tells
-abbrev pub AreToldBy : World → UpdateData → World → List Difference → Type 0
+abbrev pub AreToldBy : World → UpdateData → World → List PlanEvent → Type 0
 AreToldBy old u new differences = AreDifferences old new (told_root (index_for old u.name) u.info) differences
 
 -- What a command makes of a world, what is told of it, and its reply. A refusal, and want of memory, leave all as it is.
 abbrev pub Does : World → CommandData → World → List Event → ReplyData → Type 0
 Does old (ToUpdate u) new told Accepted =
-    IsAccepted old u new × (differences : List Difference) × AreToldBy old u new differences × (told ≡ events old new differences)
+    IsAccepted old u new × (differences : List PlanEvent) × AreToldBy old u new differences × (told ≡ events old new differences)
 Does old (ToUpdate u) new told (Refused fault) = Stands old u fault × (new ≡ old) × (told ≡ [])
 Does old (ToUpdate u) new told OutOfMemory = (new ≡ old) × (told ≡ [])
-Does old (ToHostFocus focused) new told Accepted = (new ≡ with_host old focused) × (differences : List Difference) × AreOfFocus old new [] differences × (told ≡ events old new differences)
+Does old (ToHostFocus focused) new told Accepted = (new ≡ with_host old focused) × (differences : List PlanEvent) × AreOfFocus old new [] differences × (told ≡ events old new differences)
 Does old (ToHostFocus focused) new told (Refused fault) = ⊥
 Does old (ToHostFocus focused) new told OutOfMemory = ⊥
 

@@ -4,8 +4,11 @@
 ghost use Rattle.model.specs.FullIds.{full_number};
 ghost use Rattle.std.specs.Prelude.{◌≡◌};
 
+mod events;
 pub mod filters;
 pub mod laws;
+
+pub use events::PlanEvent;
 
 use schema::NodeId;
 

@@ -17,8 +17,8 @@ use Rattle.model.specs.World.{World, data_of}
 use Rattle.model.specs.Focus.{IsFocus}
 use Rattle.tree_store.specs.declared.plan.Plan.{Plan}
 use Rattle.tree_store.specs.declared.plan.NodeChange.{NodeChange}
-use Rattle.tree_store.specs.declared.plan.PlanEvent.{PlanEvent}
-use Rattle.tree_store.specs.declared.plan.PlanEvent.TheVariants as event
+use Rattle.model.specs.declared.events.PlanEvent.{PlanEvent}
+use Rattle.model.specs.declared.events.PlanEvent.TheVariants as event
 use Rattle.tree_store.specs.Plans.{planned, node_changes}
 use Rattle.tree_store.specs.Sound.{IsTellable, IsSoundPlan}
 use Rattle.tree_plan.specs.declared.verdicts.Verdict.{Verdict}

@@ -6,8 +6,8 @@ use Rattle.tree_store.specs.declared.plan.Change.{Change}
 use Rattle.tree_store.specs.declared.plan.Change.TheVariants as change
 use Rattle.tree_store.specs.declared.plan.NodeChange.{NodeChange}
 use Rattle.tree_store.specs.declared.plan.NodeChange.TheVariants as node
-use Rattle.tree_store.specs.declared.plan.PlanEvent.{PlanEvent}
-use Rattle.tree_store.specs.declared.plan.PlanEvent.TheVariants as event
+use Rattle.model.specs.declared.events.PlanEvent.{PlanEvent}
+use Rattle.model.specs.declared.events.PlanEvent.TheVariants as event
 use Rattle.tree_plan.specs.declared.verdicts.Verdict.{Verdict}
 use Rattle.tree_plan.specs.declared.verdicts.Verdict.TheVariants.{Added, Updated, Removed}
 use Rattle.tree_plan.specs.declared.lists.Group.{Group}

@@ -7,7 +7,7 @@ use Rattle.schema.specs.declared.NodeId.{NodeId}
 use Rattle.model.specs.declared.FullNodeId.{FullNodeId}
 use Rattle.model.specs.World.{World, Tree, ROOT_NAME}
 use Rattle.tree_plan.specs.Overwritten.{overwritten}
-use Rattle.tree_store.specs.declared.plan.PlanEvent.{PlanEvent}
+use Rattle.model.specs.declared.events.PlanEvent.{PlanEvent}
 use Rattle.tree_store.specs.declared.plan.Change.{Change}
 use Rattle.tree_store.specs.declared.plan.Change.TheVariants.{Tree as TreeChange}
 use Rattle.tree_store.specs.declared.look_ups.TreeRecord.{TreeRecord}

@@ -4,7 +4,7 @@ ghost use Rattle.std.specs.List.{flat_map};
 ghost use Rattle.std.specs.BTreeMap.{IsOrdered};
 ghost use Rattle.model.specs.FullIds.{full_cmp};
 ghost use Rattle.model.specs.declared.FullNodeId.{FullNodeId};
-ghost use Rattle.tree_store.specs.declared.plan.PlanEvent.{PlanEvent};
+ghost use Rattle.model.specs.declared.events.PlanEvent.{PlanEvent};
 ghost use Rattle.tree_plan.specs.declared.verdicts.Verdict.{Verdict};
 ghost use Rattle.tree_plan.specs.Verdicts.{at};
 ghost use Rattle.tree_plan.specs.Lists.{change_of, group_of, event_in, told_of, untold, IsMove};

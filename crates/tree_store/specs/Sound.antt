@@ -12,8 +12,8 @@ use Rattle.model.specs.World.{World, ROOT_NAME, Place, StandsAt, IsNode, in_tree
 use Rattle.model.specs.Focus.{IsFocus}
 use Rattle.tree_store.specs.declared.plan.NodeChange.{NodeChange}
 use Rattle.tree_store.specs.declared.plan.NodeChange.TheVariants as node
-use Rattle.tree_store.specs.declared.plan.PlanEvent.{PlanEvent}
-use Rattle.tree_store.specs.declared.plan.PlanEvent.TheVariants.{Added, Updated, FocusMoved, Removed}
+use Rattle.model.specs.declared.events.PlanEvent.{PlanEvent}
+use Rattle.model.specs.declared.events.PlanEvent.TheVariants.{Added, Updated, FocusMoved, Removed}
 use Rattle.tree_store.specs.declared.plan.Plan.{Plan}
 use Rattle.tree_store.specs.Plans.{node_changes, planned}
 

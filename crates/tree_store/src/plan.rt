@@ -1,6 +1,6 @@
 //! The whole decision on an update.
 use crate::look_ups::TreeRecord;
-use model::FullNodeId;
+use model::{FullNodeId, PlanEvent};
 use schema::Node;
 
 /// What becomes of a node: it has this place, and new data where they are given; or it is gone.
@@ -26,15 +26,6 @@ pub enum Change {
     Gone(FullNodeId),
     /// The tree's record afterwards. Without index and graft there is no record any more.
     Tree(TreeRecord),
-}
-
-/// An event that a handler is to be told of, by its ids.
-#[derive(Clone, Copy, Debug, PartialEq, Eq)]
-pub enum PlanEvent {
-    Added(FullNodeId),
-    Updated(FullNodeId),
-    FocusMoved(Option<FullNodeId>, Option<FullNodeId>),
-    Removed(FullNodeId),
 }
 
 /// What an accepted update does: one change for each record that it adds, changes or removes, the events in order,

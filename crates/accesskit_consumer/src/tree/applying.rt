@@ -1,12 +1,11 @@
 //! How changes come into a state.
-ghost use Rattle.std.specs.Prelude.{◌≡◌, List, [], map, OnOk, OnErr, IfOk};
+ghost use Rattle.std.specs.Prelude.{◌≡◌, List, [], OnOk, OnErr, IfOk};
 ghost use Rattle.model.specs.Events.{Told};
-ghost use Rattle.model.specs.Differences.{Difference, AreOfFocus, events};
+ghost use Rattle.model.specs.Differences.{PlanEvent, AreOfFocus, events};
 ghost use Rattle.model.specs.State.{empty_world};
 ghost use Rattle.tree_store.specs.Plans.{planned};
 ghost use Rattle.tree_store.specs.Sound.{IsSoundPlan};
 ghost use Rattle.tree_plan.specs.Whole.{IsWhole};
-ghost use Rattle.accesskit_consumer.specs.Told.{difference};
 
 use crate::tree::refocusing::tell_focus;
 use crate::tree::telling::tell_all;
@@ -41,8 +40,7 @@ impl TreeState {
         requires sound { IsSoundPlan self.old plan }
         requires whole { IsWhole (planned self.old plan) }
         ensures state { OnOk result (self.new ≡ planned self.old plan) }
-        ensures told { let differences = map difference plan.events.items in
-            OnOk result (Told H.steps handler.old (events self.old self.new differences) handler.new) }
+        ensures told { OnOk result (Told H.steps handler.old (events self.old self.new plan.events.items) handler.new) }
         ensures err { OnErr result ((self.new ≡ self.old) × (handler.new ≡ handler.old)) }
     {
         let Plan {
@@ -66,7 +64,7 @@ impl TreeState {
     /// Sets whether the host is focused, and tells the handler where the focus is another one then.
     pub(crate) fn refocus<H: TreeChangeHandler>(&mut self, is_host_focused: bool, handler: &mut H)
         ensures state { self.new ≡ record self.old { host_focused = is_host_focused } }
-        ensures told { (differences : List Difference) × AreOfFocus self.old self.new [] differences
+        ensures told { (differences : List PlanEvent) × AreOfFocus self.old self.new [] differences
             × Told H.steps handler.old (events self.old self.new differences) handler.new }
     {
         tell_focus(

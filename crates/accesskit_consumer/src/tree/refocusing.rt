@@ -2,7 +2,7 @@
 ghost use Rattle.std.specs.Prelude.{◌≡◌, ◌↔◌, List, [], map, IsTrue};
 ghost use Rattle.model.specs.declared.FullNodeId.{FullNodeId};
 ghost use Rattle.model.specs.Events.{Told};
-ghost use Rattle.model.specs.Differences.{Difference, Updated, AreOfFocus, IsToldForFocus, events};
+ghost use Rattle.model.specs.Differences.{PlanEvent, Updated, AreOfFocus, IsToldForFocus, events};
 ghost use Rattle.accesskit_consumer.specs.Views.{world_of};
 
 use crate::tree::telling::tell;
@@ -44,7 +44,7 @@ fn tell_in_both<H: TreeChangeHandler>(
 pub(crate) fn tell_focus<H: TreeChangeHandler>(old: StateRef, new: StateRef, handler: &mut H)
     ensures { let before = world_of old.entry in
         let after = world_of new.entry in
-        (differences : List Difference) × AreOfFocus before after [] differences
+        (differences : List PlanEvent) × AreOfFocus before after [] differences
         × Told H.steps handler.old (events before after differences) handler.new }
 {
     let before = old.shown_focus();

@@ -3,10 +3,9 @@ ghost use Rattle.std.specs.Prelude.{◌≡◌, All};
 ghost use Rattle.std.specs.Option.{option_map};
 ghost use Rattle.model.specs.World.{World, IsNode};
 ghost use Rattle.model.specs.Events.{Told};
-ghost use Rattle.model.specs.Differences.{event};
+ghost use Rattle.model.specs.Differences.{event, events};
 ghost use Rattle.tree_store.specs.Sound.{IsTellable};
 ghost use Rattle.accesskit_consumer.specs.Views.{world_of};
-ghost use Rattle.accesskit_consumer.specs.Told.{difference, told_events};
 
 use crate::tree::{StateRef, TreeChangeHandler};
 use tree_store::PlanEvent;
@@ -19,7 +18,7 @@ pub(crate) fn tell<H: TreeChangeHandler>(
     handler: &mut H,
 )
     requires { IsTellable (world_of old) (world_of new) told }
-    ensures { H.steps handler.old (event (world_of old.entry) (world_of new.entry) (difference told)) handler.new }
+    ensures { H.steps handler.old (event (world_of old.entry) (world_of new.entry) told) handler.new }
 {
     match told {
         PlanEvent::Added(id) => handler.node_added(&new.node(id)),
@@ -41,7 +40,7 @@ pub(crate) fn tell_all<H: TreeChangeHandler>(
     handler: &mut H,
 )
     requires { All (IsTellable (world_of old) (world_of new)) events.now }
-    ensures { Told H.steps handler.old (told_events (world_of old.entry) (world_of new.entry) events.now) handler.new }
+    ensures { Told H.steps handler.old (events (world_of old.entry) (world_of new.entry) events.now) handler.new }
 {
     for event in events {
         tell(old, new, *event, handler);

@@ -1,7 +1,7 @@
 //! A tree, and its updates.
 ghost use Rattle.std.specs.Prelude.{◌≡◌, [], List, OnOk, OnErr, IfOk};
 ghost use Rattle.model.specs.Events.{Told};
-ghost use Rattle.model.specs.Differences.{Difference, AreOfFocus, events};
+ghost use Rattle.model.specs.Differences.{PlanEvent, AreOfFocus, events};
 ghost use Rattle.tree_store.specs.Plans.{planned};
 ghost use Rattle.tree_store.specs.Sound.{IsSoundPlan};
 ghost use Rattle.tree_plan.specs.Whole.{IsWhole};
@@ -73,7 +73,7 @@ impl Tree {
         update: TreeUpdate,
         handler: &mut H,
     ) -> Result<(), UpdateError>
-        ensures ok { OnOk result ((differences : List Difference)
+        ensures ok { OnOk result ((differences : List PlanEvent)
             × Told H.steps handler.old (events self.old self.new differences) handler.new) }
         ensures err { OnErr result ((self.new ≡ self.old) × (handler.new ≡ handler.old)) }
     {
@@ -90,7 +90,7 @@ impl Tree {
         handler: &mut H,
     )
         ensures state { self.new ≡ record self.old { host_focused = is_host_focused } }
-        ensures told { (differences : List Difference) × AreOfFocus self.old self.new [] differences
+        ensures told { (differences : List PlanEvent) × AreOfFocus self.old self.new [] differences
             × Told H.steps handler.old (events self.old self.new differences) handler.new }
     {
         self.state.refocus(is_host_focused, handler);
