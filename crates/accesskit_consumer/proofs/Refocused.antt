@@ -6,7 +6,9 @@ use Rattle.model.specs.declared.FullNodeId.{FullNodeId}
 use Rattle.model.specs.World.{World, IsNode}
 use Rattle.model.specs.Focus.{IsFocus}
 use Rattle.model.specs.Events.{Event, Told}
-use Rattle.model.specs.Differences.{PlanEvent, Updated, Refocused, IsToldForFocus, AreOfFocus, event, events}
+use Rattle.model.specs.declared.events.PlanEvent.{PlanEvent}
+use Rattle.model.specs.declared.events.PlanEvent.TheVariants.{Updated, FocusMoved as Refocused}
+use Rattle.model.specs.Differences.{IsToldForFocus, AreOfFocus, event, events}
 use Rattle.model.proofs.Tellings.{told_append, told_more}
 use Rattle.model.proofs.Members.{contains_none}
 

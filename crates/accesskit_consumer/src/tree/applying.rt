@@ -1,7 +1,8 @@
 //! How changes come into a state.
 ghost use Rattle.std.specs.Prelude.{◌≡◌, List, [], OnOk, OnErr, IfOk};
 ghost use Rattle.model.specs.Events.{Told};
-ghost use Rattle.model.specs.Differences.{PlanEvent, AreOfFocus, events};
+ghost use Rattle.model.specs.declared.events.PlanEvent.{PlanEvent};
+ghost use Rattle.model.specs.Differences.{AreOfFocus, events};
 ghost use Rattle.model.specs.State.{empty_world};
 ghost use Rattle.tree_store.specs.Plans.{planned};
 ghost use Rattle.tree_store.specs.Sound.{IsSoundPlan};

@@ -2,7 +2,9 @@
 ghost use Rattle.std.specs.Prelude.{◌≡◌, ◌↔◌, List, [], map, IsTrue};
 ghost use Rattle.model.specs.declared.FullNodeId.{FullNodeId};
 ghost use Rattle.model.specs.Events.{Told};
-ghost use Rattle.model.specs.Differences.{PlanEvent, Updated, AreOfFocus, IsToldForFocus, events};
+ghost use Rattle.model.specs.declared.events.PlanEvent.{PlanEvent};
+ghost use Rattle.model.specs.declared.events.PlanEvent.TheVariants.{Updated};
+ghost use Rattle.model.specs.Differences.{AreOfFocus, IsToldForFocus, events};
 ghost use Rattle.accesskit_consumer.specs.Views.{world_of};
 
 use crate::tree::telling::tell;

@@ -36,13 +36,13 @@ pub(crate) fn tell<H: TreeChangeHandler>(
 pub(crate) fn tell_all<H: TreeChangeHandler>(
     old: StateRef,
     new: StateRef,
-    events: &[PlanEvent],
+    told: &[PlanEvent],
     handler: &mut H,
 )
-    requires { All (IsTellable (world_of old) (world_of new)) events.now }
-    ensures { Told H.steps handler.old (events (world_of old.entry) (world_of new.entry) events.now) handler.new }
+    requires { All (IsTellable (world_of old) (world_of new)) told.now }
+    ensures { Told H.steps handler.old (events (world_of old.entry) (world_of new.entry) told.now) handler.new }
 {
-    for event in events {
+    for event in told {
         tell(old, new, *event, handler);
     }
 }

@@ -9,5 +9,5 @@ use Rattle.accesskit_consumer.proofs.tree.telling.tell_all.Goals as goal
 pub loop-event-preserved : goal.loop-event-preserved
 loop-event-preserved g c =
     let d : PlanEvent = plan.Added (record { tree = 0; node = record { 0 = 0 } }) in
-    told_next g.H.TreeChangeHandler.steps (λ e. event (world_of c.args.old) (world_of c.args.new) e) c.args.events.now c.loop-event.event-index d
+    told_next g.H.TreeChangeHandler.steps (λ e. event (world_of c.args.old) (world_of c.args.new) e) c.args.told.now c.loop-event.event-index d
     c.args.handler.now c.loop-event.handler c.tell.new.handler _ c.loop-event-test.true c.loop-event.invariant c.tell.ensures refl

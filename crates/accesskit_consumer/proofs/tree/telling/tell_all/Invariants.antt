@@ -5,4 +5,4 @@ use Rattle.model.specs.Differences.{events}
 use Rattle.accesskit_consumer.proofs.tree.telling.tell_all.Given as goal
 
 abbrev pub invariant-loop-event : goal.invariant-loop-event
-invariant-loop-event g l = Told g.H.TreeChangeHandler.steps l.fn.handler (events (world_of l.fn.old) (world_of l.fn.new) (take l.event-index l.events)) l.handler
+invariant-loop-event g l = Told g.H.TreeChangeHandler.steps l.fn.handler (events (world_of l.fn.old) (world_of l.fn.new) (take l.event-index l.told)) l.handler
