@@ -1,7 +1,7 @@
 //! What a filter says of a node.
 
-/// What a filter makes of a node.
-#[derive(Clone, Copy, Debug, PartialEq, Eq)]
+/// What a filter makes of a node. An answer that leaves more out is the greater one.
+#[derive(Clone, Copy, Debug, PartialEq, Eq, PartialOrd, Ord, Hash)]
 pub enum FilterResult {
     /// The node is shown.
     Include,

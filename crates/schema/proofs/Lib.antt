@@ -1,3 +1,4 @@
 pub mod ActionBits
 pub mod ActionLaws
 pub mod Entries
+pub mod RoleTable

@@ -4,7 +4,9 @@
 //! plain record `NodeData` of `specs/`, field by field, and nothing of how the fields are kept in memory.
 #![tactic(auto)]
 
-ghost use Rattle.std.specs.Prelude.{◌≡◌};
+ghost use Rattle.std.specs.Prelude.{◌≡◌, Some};
+ghost use Rattle.std.specs.Fmt.{decimal};
+ghost use Rattle.uuid.specs.Text.{hyphenated_text, lower};
 ghost use Rattle.schema.specs.NodeData.{empty_node};
 ghost use Rattle.schema.specs.TreeIds.{root_tree_id};
 
@@ -31,8 +33,10 @@ use actions::ActionSet;
 pub use geometry::{Point, Rect, Translation, WideRect, WideTranslation};
 use plain_fields::PlainFields;
 use rare_texts::RareTexts;
+pub use roles::named_roles;
 use run_lists::RunLists;
 use std::alloc::Global;
+use std::fmt;
 use std::marker::Model;
 pub use text_write::{TextBuffer, TextFault, TextWrite};
 pub use update::{TreeInfo, TreeUpdate};
@@ -46,6 +50,16 @@ pub use values::{
 #[derive(Clone, Copy, Debug, PartialEq, Eq, PartialOrd, Ord, Hash)]
 pub struct NodeId(pub u64);
 
+/// A node's id prints in decimal.
+impl fmt::Display for NodeId {
+    ghost output = { λ id. Some (decimal id.0) };
+
+    fn fmt<W: fmt::Write>(&self, f: &mut fmt::Formatter<W>) -> fmt::Result {
+        let number = self.0;
+        write!(f, "{number}")
+    }
+}
+
 /// Names a tree.
 #[derive(Clone, Copy, Debug, PartialEq, Eq, PartialOrd, Ord, Hash)]
 pub struct TreeId(pub Uuid);
@@ -56,6 +70,16 @@ impl TreeId {
         ensures { result ≡ root_tree_id }
     {
         TreeId(Uuid::nil())
+    }
+}
+
+/// A tree's id prints as a UUID does: hyphenated, in lower case.
+impl fmt::Display for TreeId {
+    ghost output = { λ id. Some (hyphenated_text lower id.0) };
+
+    fn fmt<W: fmt::Write>(&self, f: &mut fmt::Formatter<W>) -> fmt::Result {
+        let uuid = self.0;
+        write!(f, "{uuid}")
     }
 }
 

@@ -1,11 +1,96 @@
 //! Roles: when two are equal, and how they print.
 
-ghost use Rattle.std.specs.Prelude.{◌≡◌, ◌↔◌, IsTrue, Some};
+ghost use Rattle.std.specs.Prelude.{◌≡◌, ◌↔◌, IsTrue, Some, map};
+ghost use Rattle.std.specs.List.{range_with_len};
 ghost use Rattle.schema.specs.RoleNames.{role_name, other_number, role_text};
 ghost use Rattle.schema.specs.Roles.{role_number, same_role, same_role_laws, same_role_equivalence};
 
 use crate::Role;
 use std::fmt;
+
+/// What [`named_roles`] shows.
+static ROLE_NAMES: [(&str, Role); 72] = [
+    ("Unknown", Role::Unknown),
+    ("Window", Role::Window),
+    ("ScrollView", Role::ScrollView),
+    ("Paragraph", Role::Paragraph),
+    ("GenericContainer", Role::GenericContainer),
+    ("TextRun", Role::TextRun),
+    ("Label", Role::Label),
+    ("Image", Role::Image),
+    ("Document", Role::Document),
+    ("Terminal", Role::Terminal),
+    ("TextInput", Role::TextInput),
+    ("MultilineTextInput", Role::MultilineTextInput),
+    ("SearchInput", Role::SearchInput),
+    ("DateInput", Role::DateInput),
+    ("DateTimeInput", Role::DateTimeInput),
+    ("WeekInput", Role::WeekInput),
+    ("MonthInput", Role::MonthInput),
+    ("TimeInput", Role::TimeInput),
+    ("EmailInput", Role::EmailInput),
+    ("NumberInput", Role::NumberInput),
+    ("PasswordInput", Role::PasswordInput),
+    ("PhoneNumberInput", Role::PhoneNumberInput),
+    ("UrlInput", Role::UrlInput),
+    ("EditableComboBox", Role::EditableComboBox),
+    ("SpinButton", Role::SpinButton),
+    ("ListBox", Role::ListBox),
+    ("TabList", Role::TabList),
+    ("AlertDialog", Role::AlertDialog),
+    ("Dialog", Role::Dialog),
+    ("ComboBox", Role::ComboBox),
+    ("DisclosureTriangle", Role::DisclosureTriangle),
+    ("TreeItem", Role::TreeItem),
+    ("Button", Role::Button),
+    ("CheckBox", Role::CheckBox),
+    ("DefaultButton", Role::DefaultButton),
+    ("Link", Role::Link),
+    ("MenuItem", Role::MenuItem),
+    ("MenuItemCheckBox", Role::MenuItemCheckBox),
+    ("MenuItemRadio", Role::MenuItemRadio),
+    ("RadioButton", Role::RadioButton),
+    ("DocBackLink", Role::DocBackLink),
+    ("DocBiblioRef", Role::DocBiblioRef),
+    ("DocGlossRef", Role::DocGlossRef),
+    ("DocNoteRef", Role::DocNoteRef),
+    ("ColorWell", Role::ColorWell),
+    ("Grid", Role::Grid),
+    ("MenuListPopup", Role::MenuListPopup),
+    ("RadioGroup", Role::RadioGroup),
+    ("Slider", Role::Slider),
+    ("Switch", Role::Switch),
+    ("TreeGrid", Role::TreeGrid),
+    ("Article", Role::Article),
+    ("Definition", Role::Definition),
+    ("DescriptionList", Role::DescriptionList),
+    ("GraphicsDocument", Role::GraphicsDocument),
+    ("List", Role::List),
+    ("ListItem", Role::ListItem),
+    ("PdfRoot", Role::PdfRoot),
+    ("ProgressIndicator", Role::ProgressIndicator),
+    ("RootWebArea", Role::RootWebArea),
+    ("Term", Role::Term),
+    ("Timer", Role::Timer),
+    ("Toolbar", Role::Toolbar),
+    ("Tooltip", Role::Tooltip),
+    ("Comment", Role::Comment),
+    ("Tab", Role::Tab),
+    ("ListBoxOption", Role::ListBoxOption),
+    ("MenuListOption", Role::MenuListOption),
+    ("ListGrid", Role::ListGrid),
+    ("Menu", Role::Menu),
+    ("MenuBar", Role::MenuBar),
+    ("Tree", Role::Tree),
+];
+
+/// Each role but `Other` with its name, in the order of the roles.
+pub fn named_roles() -> &'static [(&'static str, Role)]
+    ensures names { map (λ entry. entry.0.now) result.now ≡ map (λ entry. role_name entry.1) result.now }
+    ensures roles { map (λ entry. role_number entry.1) result.now ≡ range_with_len 0 72 }
+{
+    &ROLE_NAMES
+}
 
 impl PartialEq for Role {
     ghost eq = { same_role };
@@ -133,80 +218,9 @@ impl Role {
     fn name(self) -> &'static str
         ensures { result.now ≡ role_name self }
     {
-        match self {
-            Role::Unknown => "Unknown",
-            Role::Window => "Window",
-            Role::ScrollView => "ScrollView",
-            Role::Paragraph => "Paragraph",
-            Role::GenericContainer => "GenericContainer",
-            Role::TextRun => "TextRun",
-            Role::Label => "Label",
-            Role::Image => "Image",
-            Role::Document => "Document",
-            Role::Terminal => "Terminal",
-            Role::TextInput => "TextInput",
-            Role::MultilineTextInput => "MultilineTextInput",
-            Role::SearchInput => "SearchInput",
-            Role::DateInput => "DateInput",
-            Role::DateTimeInput => "DateTimeInput",
-            Role::WeekInput => "WeekInput",
-            Role::MonthInput => "MonthInput",
-            Role::TimeInput => "TimeInput",
-            Role::EmailInput => "EmailInput",
-            Role::NumberInput => "NumberInput",
-            Role::PasswordInput => "PasswordInput",
-            Role::PhoneNumberInput => "PhoneNumberInput",
-            Role::UrlInput => "UrlInput",
-            Role::EditableComboBox => "EditableComboBox",
-            Role::SpinButton => "SpinButton",
-            Role::ListBox => "ListBox",
-            Role::TabList => "TabList",
-            Role::AlertDialog => "AlertDialog",
-            Role::Dialog => "Dialog",
-            Role::ComboBox => "ComboBox",
-            Role::DisclosureTriangle => "DisclosureTriangle",
-            Role::TreeItem => "TreeItem",
-            Role::Button => "Button",
-            Role::CheckBox => "CheckBox",
-            Role::DefaultButton => "DefaultButton",
-            Role::Link => "Link",
-            Role::MenuItem => "MenuItem",
-            Role::MenuItemCheckBox => "MenuItemCheckBox",
-            Role::MenuItemRadio => "MenuItemRadio",
-            Role::RadioButton => "RadioButton",
-            Role::DocBackLink => "DocBackLink",
-            Role::DocBiblioRef => "DocBiblioRef",
-            Role::DocGlossRef => "DocGlossRef",
-            Role::DocNoteRef => "DocNoteRef",
-            Role::ColorWell => "ColorWell",
-            Role::Grid => "Grid",
-            Role::MenuListPopup => "MenuListPopup",
-            Role::RadioGroup => "RadioGroup",
-            Role::Slider => "Slider",
-            Role::Switch => "Switch",
-            Role::TreeGrid => "TreeGrid",
-            Role::Article => "Article",
-            Role::Definition => "Definition",
-            Role::DescriptionList => "DescriptionList",
-            Role::GraphicsDocument => "GraphicsDocument",
-            Role::List => "List",
-            Role::ListItem => "ListItem",
-            Role::PdfRoot => "PdfRoot",
-            Role::ProgressIndicator => "ProgressIndicator",
-            Role::RootWebArea => "RootWebArea",
-            Role::Term => "Term",
-            Role::Timer => "Timer",
-            Role::Toolbar => "Toolbar",
-            Role::Tooltip => "Tooltip",
-            Role::Comment => "Comment",
-            Role::Tab => "Tab",
-            Role::ListBoxOption => "ListBoxOption",
-            Role::MenuListOption => "MenuListOption",
-            Role::ListGrid => "ListGrid",
-            Role::Menu => "Menu",
-            Role::MenuBar => "MenuBar",
-            Role::Tree => "Tree",
-            Role::Other(_) => "Other",
+        if let Role::Other(_) = self {
+            return "Other";
         }
+        named_roles()[self.number() as usize].0
     }
 }
