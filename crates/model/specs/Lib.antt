@@ -24,6 +24,7 @@ pub mod Beside
 pub mod Geometry
 pub mod Hits
 pub mod Filters
+pub mod FilterLaws
 pub mod Views
 pub mod Styles
 pub mod TextRuns

@@ -2,6 +2,8 @@
 
 pub mod events;
 pub mod examples;
+pub mod filters;
+pub mod ids;
 pub mod lists;
 pub mod siblings;
 pub mod surgery;
