@@ -30,18 +30,16 @@ pub(crate) fn write_refusal<O: Write>(refusal: UpdateError, out: &mut O) -> io::
     }
 }
 
-/// A node's id is printed in decimal.
-fn write_node_refusal<O: Write>(name: &str, id: NodeId, out: &mut O) -> io::Result<()>
-    ensures { OnOk result (Appends (O.contents out.old) (O.contents out.new) (refused_node name.now id)) }
+/// Writes a refusal that names a node.
+fn write_node_refusal<O: Write>(name: &str, node: NodeId, out: &mut O) -> io::Result<()>
+    ensures { OnOk result (Appends (O.contents out.old) (O.contents out.new) (refused_node name.now node)) }
 {
-    let NodeId(number) = id;
-    writeln!(out, "refused {name} {number}")
+    writeln!(out, "refused {name} {node}")
 }
 
-/// A tree's id is printed hyphenated, in lower case.
-fn write_tree_refusal<O: Write>(name: &str, id: TreeId, out: &mut O) -> io::Result<()>
-    ensures { OnOk result (Appends (O.contents out.old) (O.contents out.new) (refused_tree name.now id)) }
+/// Writes a refusal that names a tree.
+fn write_tree_refusal<O: Write>(name: &str, tree: TreeId, out: &mut O) -> io::Result<()>
+    ensures { OnOk result (Appends (O.contents out.old) (O.contents out.new) (refused_tree name.now tree)) }
 {
-    let TreeId(uuid) = id;
-    writeln!(out, "refused {name} {uuid}")
+    writeln!(out, "refused {name} {tree}")
 }

@@ -13,27 +13,27 @@ pub enum UpdateError {
     MissingTreeInfo,
     #[error("the first update is not for the root tree")]
     NotRootTree,
-    #[error("node {0:?} is the root or listed as a child, and has no data")]
+    #[error("no data for node {0}")]
     MissingData(NodeId),
-    #[error("node {0:?} is named and not reached from the root")]
+    #[error("node {0} is named and not reached from the root")]
     NotReached(NodeId),
-    #[error("node {0:?} is named twice")]
+    #[error("node {0} is named twice")]
     NamedTwice(NodeId),
-    #[error("node {0:?} is listed at two places, or is the root and listed")]
+    #[error("node {0} is listed at two places, or is the root and listed")]
     ListedTwice(NodeId),
-    #[error("node {0:?} grafts the root tree")]
+    #[error("node {0} grafts the root tree")]
     RootTreeGrafted(NodeId),
-    #[error("node {0:?} is a graft and lists children")]
+    #[error("node {0} is a graft and lists children")]
     GraftWithChildren(NodeId),
-    #[error("tree {0:?} is grafted twice")]
+    #[error("tree {0} is grafted twice")]
     GraftedTwice(TreeId),
-    #[error("no node grafts tree {0:?}")]
+    #[error("no node grafts tree {0}")]
     NoGraft(TreeId),
-    #[error("tree {0:?} is not present, and the update has no tree info")]
+    #[error("tree {0} is not present, and the update has no tree info")]
     NoFirstTreeInfo(TreeId),
-    #[error("the focus {0:?} is not reached")]
+    #[error("the focus {0} is not reached")]
     FocusMissing(NodeId),
-    #[error("the focus is on a graft of tree {0:?}, which is not present")]
+    #[error("the focus is on a graft of tree {0}, which is not present")]
     FocusOnEmptyGraft(TreeId),
     #[error("all tree indexes are used up")]
     IndexesUsedUp,

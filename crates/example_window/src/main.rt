@@ -1,0 +1,110 @@
+//! Makes a window with a button, sends a second update, and prints what changed.
+#![tactic(auto)]
+
+ghost use Rattle.std.specs.Prelude.{◌≡◌};
+ghost use Rattle.example_window.specs.Changes.{after};
+
+use accesskit_consumer::{FullNodeId, NodeRef, StateRef, Tree, TreeChangeHandler};
+use schema::{Node, NodeId, Role, TreeId, TreeInfo, TreeUpdate};
+use std::alloc::{AllocError, Global};
+use std::io;
+
+const WINDOW: NodeId = NodeId(0);
+
+const BUTTON: NodeId = NodeId(1);
+
+const INPUT: NodeId = NodeId(2);
+
+/// A window with these children.
+fn window(alloc: Global, children: &[NodeId]) -> Result<(NodeId, Node), AllocError> {
+    let mut window = Node::new(alloc, Role::Window);
+    window.set_children(children)?;
+    Ok((WINDOW, window))
+}
+
+/// A window with a button, which has the focus. A first update names the root.
+fn first_update(alloc: Global) -> Result<TreeUpdate, AllocError> {
+    let mut button = Node::new(alloc, Role::Button);
+    button.set_label("Send")?;
+    Ok(TreeUpdate {
+        nodes: vec![in alloc; window(alloc, &[BUTTON])?, (BUTTON, button)]?,
+        tree: Some(TreeInfo::new(WINDOW)),
+        tree_id: TreeId::root(),
+        focus: BUTTON,
+    })
+}
+
+/// The window has these children now, and the text input has the focus. The button stays as it was.
+fn next_update(alloc: Global, children: &[NodeId]) -> Result<TreeUpdate, AllocError> {
+    let input = Node::new(alloc, Role::TextInput);
+    Ok(TreeUpdate {
+        nodes: vec![in alloc; window(alloc, children)?, (INPUT, input)]?,
+        tree: None,
+        tree_id: TreeId::root(),
+        focus: INPUT,
+    })
+}
+
+/// How many nodes were added, updated and removed, and where the focus has come to.
+#[derive(Clone, Copy, Default)]
+struct Changes {
+    added: u64,
+    updated: u64,
+    removed: u64,
+    focus: Option<FullNodeId>,
+}
+
+impl TreeChangeHandler for Changes {
+    ghost steps = { λ old event new. new ≡ after old event };
+
+    fn node_added(&mut self, _node: &NodeRef) {
+        self.added = self.added.saturating_add(1);
+    }
+
+    fn node_updated(&mut self, _old_node: &NodeRef, _new_node: &NodeRef) {
+        self.updated = self.updated.saturating_add(1);
+    }
+
+    fn focus_moved(&mut self, _old_node: Option<&NodeRef>, new_node: Option<&NodeRef>) {
+        self.focus = new_node.map(|node| node.id());
+    }
+
+    fn node_removed(&mut self, _node: &NodeRef) {
+        self.removed = self.removed.saturating_add(1);
+    }
+}
+
+/// Prints each child of the root, and where the focus is.
+fn print_state(rt: &impl Print, state: StateRef) -> io::Result<()> {
+    for id in state.root().data().children() {
+        if let Some(child) = state.node_by_tree_local_id(*id, TreeId::root()) {
+            println!(rt; "node {id} {} {:?}", child.role(), child.data().label())?;
+        }
+    }
+    if let Some(focus) = state.focus() {
+        println!(rt; "focus {}", focus.id().node)?;
+    }
+    Ok(())
+}
+
+fn main(rt: HostRuntime) -> anyhow::Result<()> {
+    let alloc = rt.alloc();
+    let mut tree = Tree::new(alloc, first_update(alloc)?, true)?;
+    print_state(&rt, tree.state().view())?;
+
+    let mut changes = Changes::default();
+    let update = next_update(alloc, &[BUTTON, INPUT])?;
+    tree.update_and_process_changes(update, &mut changes)?;
+    println!(rt;
+        "added {} updated {} removed {}",
+        changes.added, changes.updated, changes.removed
+    )?;
+    print_state(&rt, tree.state().view())?;
+
+    // Node 9 has no data: the tree stays as it is, and the handler hears nothing.
+    let update = next_update(alloc, &[BUTTON, INPUT, NodeId(9)])?;
+    if let Err(refusal) = tree.update_and_process_changes(update, &mut changes) {
+        println!(rt; "refused: {refusal}")?;
+    }
+    Ok(())
+}
