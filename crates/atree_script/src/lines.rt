@@ -38,7 +38,7 @@ pub(crate) enum Stop {
     ReadFault,
     /// An output gave an error.
     WriteFault,
-    /// There was no memory, outside an update.
+    /// There was no memory while a line was read or a tree printed.
     Memory,
 }
 

@@ -17,13 +17,13 @@ const DONE: u8 = 0;
 const BAD_LINE: u8 = 2;
 /// The exit status where the input or an output gave an error.
 const FAULT: u8 = 3;
-/// The exit status for want of memory outside an update.
+/// The exit status for want of memory while a line is read or a tree printed.
 const NO_MEMORY: u8 = 4;
 
 /// Runs a script to its end, or to what stops it, and answers the exit status: 0 at the end of the input; 2 for a line
 /// that is not read, whose number is told on `errors`; 3 for an error of the input or an output, after which nothing
-/// more is written; 4 for want of memory outside an update, which is told on `errors` too. What was printed before
-/// stands in each case.
+/// more is written; 4 for want of memory while a line is read or a tree printed, which is told on `errors` too. What was
+/// printed before stands in each case.
 pub fn run_script<R: BufRead, O: Write, E: Write>(
     alloc: Global,
     input: &mut R,
