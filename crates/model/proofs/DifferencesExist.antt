@@ -77,7 +77,7 @@ module _ (P : FullNodeId → Type 0) (decided : (id : FullNodeId) → P id ⊎ �
   sorted_chosen (x ∷ xs) h = sorted_first x (decided x) (chosen xs) (all_chosen (λ y. full_cmp x y ≡ Less) xs h.0) (sorted_chosen xs h.1)
 
   -- where all with P are among these, there is an ascending list of those with P
-  list_of : (xs : List FullNodeId) → IsStrictlySortedBy full_cmp xs → ((id : FullNodeId) → P id → Contains xs id) → (ids : List FullNodeId) × IsAscendingListOf P ids
+  pub list_of : (xs : List FullNodeId) → IsStrictlySortedBy full_cmp xs → ((id : FullNodeId) → P id → Contains xs id) → (ids : List FullNodeId) × IsAscendingListOf P ids
   list_of xs sorted within = (chosen xs, record { ascending = sorted_chosen xs sorted; members = λ id. (λ c. (chosen_from id xs c).0, λ p. from_chosen id xs p (within id p)) })
 
 -- ---- the ids of a world
@@ -100,13 +100,13 @@ unfolding IsStrictlySortedBy
 sorted_keys [] h = tt
 sorted_keys (e ∷ es) h = let parts = both_true _ _ h in (below_keys e.0 es parts.0, sorted_keys es parts.1)
 
-abbrev ids_of : World → List FullNodeId
+abbrev pub ids_of : World → List FullNodeId
 ids_of w = map (λ e. e.0) (entries w.nodes)
 
-ids_sorted : (w : World) → IsStrictlySortedBy full_cmp (ids_of w)
+pub ids_sorted : (w : World) → IsStrictlySortedBy full_cmp (ids_of w)
 ids_sorted w = sorted_keys (entries w.nodes) (entries_sorted w.nodes)
 
-among_ids : (w : World) (id : FullNodeId) → IsNode w id → Contains (ids_of w) id
+pub among_ids : (w : World) (id : FullNodeId) → IsNode w id → Contains (ids_of w) id
 among_ids w id h = found_key id (entries w.nodes) (subst IsSome (get-entries w.nodes id) h)
 
 -- ---- the list of differences
@@ -137,7 +137,7 @@ module _ (old new : World) where
   told_for_focus_exists told None = ([], refl)
   told_for_focus_exists told (Some id) = alone_exists _ id (both_decided (in_both_decided id) (not_decided (contained_or_not id told)))
 
-  of_focus_exists : (told : List FullNodeId) (before after : Option FullNodeId) → IsFocus old before → IsFocus new after → (part : List PlanEvent) × AreOfFocus old new told part
+  pub of_focus_exists : (told : List FullNodeId) (before after : Option FullNodeId) → IsFocus old before → IsFocus new after → (part : List PlanEvent) × AreOfFocus old new told part
   of_focus_exists told before after h g = elim (same_or_not (coded_option coded_full) before after) [
     | inl same ↦ ([], (before, after, h, g, inl (same, refl)))
     | inr apart ↦
@@ -146,7 +146,7 @@ module _ (old new : World) where
         (map Updated left.0 ++ map Updated entered.0 ++ Refocused before after ∷ [], (before, after, h, g, inr (apart, left.0, entered.0, left.1, entered.1, refl)))
   ]
 
-added_exist : (old new : World) → (ids : List FullNodeId) × IsAscendingListOf (IsAdded old new) ids
+pub added_exist : (old new : World) → (ids : List FullNodeId) × IsAscendingListOf (IsAdded old new) ids
 added_exist old new =
     list_of (IsAdded old new) (λ id. both_decided (node_or_not new id) (not_decided (node_or_not old id))) (ids_of new) (ids_sorted new) (λ id h. among_ids new id h.0)
 

@@ -93,3 +93,9 @@ pub mod Between
 pub mod Hits
 pub mod Sets
 pub mod WalkLaws
+pub mod FocusAnswers
+pub mod DialogThere
+pub mod Locations
+pub mod CommandsDone
+pub mod MirrorGoesOn
+pub mod WorkThere

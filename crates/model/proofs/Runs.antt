@@ -79,7 +79,7 @@ runs_split w v (suc n) (c ∷ cs) told replies h =
 
 -- ---- states
 
-after_command : (w v : World) (c : CommandData) (told : List Event) (reply : ReplyData) → Does w c v told reply → IsState w → IsState v
+pub after_command : (w v : World) (c : CommandData) (told : List Event) (reply : ReplyData) → Does w c v told reply → IsState w → IsState v
 after_command w v (ToUpdate u) told Accepted h s = update_leaves_state w u v s h.0
 after_command w v (ToUpdate u) told (Refused fault) h s = subst IsState (sym h.1) s
 after_command w v (ToUpdate u) told OutOfMemory h s = subst IsState (sym h.0) s

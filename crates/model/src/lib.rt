@@ -9,7 +9,6 @@ pub mod filters;
 pub mod laws;
 
 pub use events::PlanEvent;
-
 use schema::NodeId;
 
 /// Names a node of a state.

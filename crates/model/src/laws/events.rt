@@ -1,5 +1,5 @@
 //! Laws of events and of the differences of two worlds.
-ghost use Rattle.model.specs.EventLaws.{DifferencesAreOne, DifferencesExist, EachHasAReason, EachIsToldInOrder, HostChangeTellsFocus, KeptRecordsFollowRun, NothingToTell, RepeatTellsNothing, RepeatTellsRoot, RootIsTold, RunLeavesState, RecordsAreOne, RecordsFollow, RecordsFollowRun, RunsAreOne, StoppedRunBegins, WorkIsOne};
+ghost use Rattle.model.specs.EventLaws.{DifferencesAreOne, DifferencesExist, EachHasAReason, EachIsToldInOrder, HostChangeTellsFocus, KeptRecordsFollowRun, NothingToTell, RepeatTellsNothing, RepeatTellsRoot, RootIsTold, RecordsAreThere, RecordsGoOn, RecordsGoOnOverRun, CommandIsDone, RunIsThere, RunLeavesState, RecordsAreOne, RecordsFollow, RecordsFollowRun, RunsAreOne, StoppedRunBegins, WorkIsOne, WorkIsThere};
 ghost use Rattle.model.specs.ToldExamples.{ButtonMoves, GraftMovesOut, GraftedTreeComes, GraftedRootIsLabelled, GraftMovesOutWork};
 ghost use Rattle.model.specs.EventExamples.{ButtonGoes, FocusGoesToButton, FocusedButtonGoes, ButtonsChangePlaces, HostLosesFocus, LabelIsLittleWork, PicturedChange};
 
@@ -43,6 +43,21 @@ pub fn records_follow()
     ensures { RecordsFollow }
 {}
 
+/// A state has records.
+pub fn records_are_there()
+    ensures { RecordsAreThere }
+{}
+
+/// From any records there are some that follow the differences of two worlds.
+pub fn records_go_on()
+    ensures { RecordsGoOn }
+{}
+
+/// From any records there are some that follow all that a run tells.
+pub fn records_go_on_over_run()
+    ensures { RecordsGoOnOverRun }
+{}
+
 /// A mirror that is told of all that a run tells mirrors the world that the run comes to.
 pub fn records_follow_run()
     ensures { RecordsFollowRun }
@@ -61,6 +76,18 @@ pub fn records_are_one()
 /// Two runs of the same commands, in which memory was wanting at the same ones, come to one world, tell the same, and reply alike.
 pub fn runs_are_one()
     ensures { RunsAreOne }
+{}
+
+/// Each command of a state is done, where memory isn't wanting.
+#[tactic(auto, using(crate::proofs::CommandsDone::command_done))]
+pub fn command_is_done()
+    ensures { CommandIsDone }
+{}
+
+/// Each list of commands has a run from each state, in which memory isn't wanting.
+#[tactic(auto, using(crate::proofs::CommandsDone::run_exists))]
+pub fn run_is_there()
+    ensures { RunIsThere }
 {}
 
 /// A run leaves a state.
@@ -86,6 +113,12 @@ pub fn stopped_run_begins()
 /// The numbers of an update's work are fixed by it.
 pub fn work_is_one()
     ensures { WorkIsOne }
+{}
+
+/// An accepted update of a state has the numbers of its work.
+#[tactic(auto, using(crate::proofs::WorkThere::state_work_exists))]
+pub fn work_is_there()
+    ensures { WorkIsThere }
 {}
 
 /// The only button of a window goes: its window is updated, and it is removed.

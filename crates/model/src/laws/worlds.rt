@@ -2,7 +2,7 @@
 ghost use Rattle.std.specs.Prelude.{◌≡◌};
 ghost use Rattle.model.specs.FullIds.{full_number};
 ghost use Rattle.model.specs.IdLaws.{OrderIsByTreeThenNode, OrderIsTotal, EqualIdsAreOne};
-ghost use Rattle.model.specs.WorldLaws.{RebuildIsOne, RebuildIsThere, AcceptedOrFault, RulesOrFault, StateIsItsOwnRebuild, UpdateLeavesState, FirstLeavesState, HostFocusLeavesState, LaterWorldsAreStates, NamesKeepTheirIndex, PlaceIsOne, RootStandsAtGraft, RootHasNoPlace, EffectiveFocusIsOne, EffectiveFocusIsThere, ActiveDialogIsOne, FocusIsOne, FocusIsThere, ActiveDialogIsOne, ToolkitIsTheRootTrees};
+ghost use Rattle.model.specs.WorldLaws.{RebuildIsOne, RebuildIsThere, AcceptedOrFault, RulesOrFault, StateIsItsOwnRebuild, UpdateLeavesState, FirstLeavesState, HostFocusLeavesState, LaterWorldsAreStates, NamesKeepTheirIndex, PlaceIsOne, RootStandsAtGraft, RootHasNoPlace, EffectiveFocusIsOne, EffectiveFocusIsThere, FocusIdIsOne, FocusIdIsThere, FocusIsOne, FocusIsThere, FocusedNodeIsTheFocus, ActiveDialogIsOne, ActiveDialogIsThere, NodesAreLocated, ToolkitIsTheRootTrees};
 
 use crate::FullNodeId;
 
@@ -91,9 +91,39 @@ pub fn focus_is_there()
     ensures { FocusIsThere }
 {}
 
+/// A world has at most one answer of `focus_id`.
+#[tactic(auto, using(crate::proofs::FocusAnswers::focus_id_unique))]
+pub fn focus_id_is_one()
+    ensures { FocusIdIsOne }
+{}
+
+/// A state has an answer of `focus_id`.
+#[tactic(auto, using(crate::proofs::FocusAnswers::focus_id_exists))]
+pub fn focus_id_is_there()
+    ensures { FocusIdIsThere }
+{}
+
+/// A node that says that it is focused is the answer of `focus`.
+#[tactic(auto, using(crate::proofs::FocusAnswers::focused_node_is_focus))]
+pub fn focused_node_is_the_focus()
+    ensures { FocusedNodeIsTheFocus }
+{}
+
 /// A state has at most one answer of `active_dialog`.
 pub fn active_dialog_is_one()
     ensures { ActiveDialogIsOne }
+{}
+
+/// A state has an answer of `active_dialog`.
+#[tactic(auto, using(crate::proofs::DialogThere::active_dialog_exists))]
+pub fn active_dialog_is_there()
+    ensures { ActiveDialogIsThere }
+{}
+
+/// A node of a state is located by its id in its tree and the tree's name, and nothing else is located.
+#[tactic(auto, using(crate::proofs::Locations::located_or_not))]
+pub fn nodes_are_located()
+    ensures { NodesAreLocated }
 {}
 
 /// Tree info for the root tree replaces both toolkit texts, and that of another tree neither.
