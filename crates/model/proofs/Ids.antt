@@ -1,10 +1,11 @@
 -- The order, the equality and the number of ids.
-use Rattle.std.proofs.Common.{◌≡◌, ◌<◌, ◌^◌, ◌&&◌, eqb, eq-eqb, eqb-true, Equal, refl, true, subst, arith}
+use Rattle.std.proofs.Common.{◌≡◌, ◌<◌, ◌^◌, ◌&&◌, eqb, eq-eqb, eqb-true, Equal, refl, true, ap, subst, arith}
 use Rattle.std.proofs.lemmas.Bool.{and_parts, and_from}
 use Rattle.std.proofs.lemmas.Cmp.{tied_itself}
 use Rattle.model.specs.declared.FullNodeId.{FullNodeId}
 use Rattle.model.specs.FullIds.{full_cmp, full_total, exact_full, full_number}
-use Rattle.model.specs.IdLaws.{OrderIsByTreeThenNode, EqualIdsAreOne}
+use Rattle.model.specs.IdLaws.{OrderIsByTreeThenNode, EqualIdsAreOne, EqualIdsHashAlike, AnswersAscend}
+use Rattle.model.specs.contracts.FullNodeIdHash.TheImpl as hash
 
 pub by_tree_then_node : OrderIsByTreeThenNode
 by_tree_then_node a b = refl
@@ -21,6 +22,12 @@ equal_ids_are_one a b = ((exact_full a b, λ same. subst (λ x. full_cmp a x ≡
 
     itself : (eqb a.tree a.tree && eqb a.node.0 a.node.0) ≡ true
     itself = and_from (eqb a.tree a.tree) (eqb a.node.0 a.node.0) (eq-eqb a.tree a.tree refl) (eq-eqb a.node.0 a.node.0 refl)
+
+pub equal_ids_hash_alike : EqualIdsHashAlike
+equal_ids_hash_alike a b e = ap hash.ghosts.hash_input ((equal_ids_are_one a b).1.0 e)
+
+pub answers_ascend : AnswersAscend
+answers_ascend = (refl, refl)
 
 -- ids whose numbers are in range have a number each
 pub number_once : (a b : FullNodeId) → a.tree < 2 ^ 32 → b.tree < 2 ^ 32 → full_number a ≡ full_number b → a ≡ b

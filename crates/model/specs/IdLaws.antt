@@ -1,11 +1,14 @@
--- What is proved of the order, the equality and the number of ids.
+-- What is proved of the order, the equality, the hash and the number of ids, and of the order of filters' answers.
 use Rattle.std.specs.Prelude.{◌≡◌, true, ◌↔◌}
-use Rattle.std.specs.declared.cmp.Ordering.TheVariants.{Equal}
+use Rattle.std.specs.declared.cmp.Ordering.TheVariants.{Less, Equal}
 use Rattle.std.specs.Cmp.{IsTotalOrder}
 use Rattle.model.specs.declared.FullNodeId.{FullNodeId}
 use Rattle.model.specs.FullIds.{full_cmp}
+use Rattle.model.specs.declared.filters.FilterResult.TheVariants.{Include, ExcludeNode, ExcludeSubtree}
 use Rattle.model.specs.contracts.FullNodeIdOrd.TheImpl as ord
 use Rattle.model.specs.contracts.FullNodeIdPartialEq.TheImpl as eq
+use Rattle.model.specs.contracts.FullNodeIdHash.TheImpl as hash
+use Rattle.model.specs.contracts.filters.FilterResultOrd.TheImpl as answers
 
 -- `cmp` of two ids goes by tree, and then by node
 abbrev pub OrderIsByTreeThenNode : Type 0
@@ -17,3 +20,11 @@ OrderIsTotal = IsTotalOrder full_cmp
 
 abbrev pub EqualIdsAreOne : Type 0
 EqualIdsAreOne = (a b : FullNodeId) → ((full_cmp a b ≡ Equal) ↔ (a ≡ b)) × ((eq.ghosts.eq a b ≡ true) ↔ (a ≡ b))
+
+-- ids that are equal by `==` feed a hasher alike
+abbrev pub EqualIdsHashAlike : Type 0
+EqualIdsHashAlike = (a b : FullNodeId) → eq.ghosts.eq a b ≡ true → hash.ghosts.hash_input a ≡ hash.ghosts.hash_input b
+
+-- a filter's answers ascend by how much they leave out
+abbrev pub AnswersAscend : Type 0
+AnswersAscend = (answers.ghosts.cmp Include ExcludeNode ≡ Less) × (answers.ghosts.cmp ExcludeNode ExcludeSubtree ≡ Less)

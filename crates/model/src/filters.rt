@@ -1,7 +1,7 @@
 //! What a filter says of a node.
 
-/// What a filter makes of a node.
-#[derive(Clone, Copy, Debug, PartialEq, Eq)]
+/// What a filter makes of a node, in the order of how much it leaves out.
+#[derive(Clone, Copy, Debug, PartialEq, Eq, PartialOrd, Ord, Hash)]
 pub enum FilterResult {
     /// The node is shown.
     Include,

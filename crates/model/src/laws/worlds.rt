@@ -1,7 +1,7 @@
 //! Laws of worlds, updates, states, focus and ids.
 ghost use Rattle.std.specs.Prelude.{◌≡◌};
 ghost use Rattle.model.specs.FullIds.{full_number};
-ghost use Rattle.model.specs.IdLaws.{OrderIsByTreeThenNode, OrderIsTotal, EqualIdsAreOne};
+ghost use Rattle.model.specs.IdLaws.{OrderIsByTreeThenNode, OrderIsTotal, EqualIdsAreOne, EqualIdsHashAlike, AnswersAscend};
 ghost use Rattle.model.specs.WorldLaws.{RebuildIsOne, RebuildIsThere, AcceptedOrFault, RulesOrFault, StateIsItsOwnRebuild, UpdateLeavesState, FirstLeavesState, HostFocusLeavesState, LaterWorldsAreStates, NamesKeepTheirIndex, PlaceIsOne, RootStandsAtGraft, RootHasNoPlace, EffectiveFocusIsOne, EffectiveFocusIsThere, FocusIdIsOne, FocusIdIsThere, FocusIsOne, FocusIsThere, FocusedNodeIsTheFocus, ActiveDialogIsOne, ActiveDialogIsThere, NodesAreLocated, ToolkitIsTheRootTrees};
 
 use crate::FullNodeId;
@@ -144,6 +144,18 @@ pub fn order_is_total()
 /// `cmp` answers `Equal`, and `==` holds, only for an id and itself.
 pub fn equal_ids_are_one()
     ensures { EqualIdsAreOne }
+{}
+
+/// Ids that are equal by `==` hash alike.
+#[tactic(auto, using(crate::proofs::Ids::equal_ids_hash_alike))]
+pub fn equal_ids_hash_alike()
+    ensures { EqualIdsHashAlike }
+{}
+
+/// A filter's answers ascend by how much they leave out.
+#[tactic(auto, using(crate::proofs::Ids::answers_ascend))]
+pub fn answers_ascend()
+    ensures { AnswersAscend }
 {}
 
 /// `u128::from` is equal only for equal ids.
