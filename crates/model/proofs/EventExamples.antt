@@ -16,8 +16,8 @@ use Rattle.model.specs.State.{with_host, Lists}
 use Rattle.model.specs.Run.{Accepted}
 use Rattle.model.specs.Work.{HasDepthInTree, at_root, at_child, IsChildOfNamed}
 use Rattle.model.specs.Differences.{PlanEvent, Added, Updated, Refocused, Removed, IsAscendingListOf, IsAdded, IsInBoth, IsUpdated, IsAloneIf, AreOfFocus, AreDifferences}
-use Rattle.model.specs.Examples.{node, at, window, button}
-use Rattle.model.specs.EventExamples.{root_tree, window_alone, window_with_button, window_with_buttons, ButtonGoes, FocusedButtonGoes, FocusGoesToButton, ButtonsChangePlaces, HostLosesFocus, labelled_button, label_button, window_with_label, LabelIsLittleWork, pictured_before, pictured_after, PicturedChange}
+use Rattle.model.specs.Examples.{node, at, window, button, labelled_button}
+use Rattle.model.specs.EventExamples.{root_tree, window_alone, window_with_button, window_with_buttons, ButtonGoes, FocusedButtonGoes, FocusGoesToButton, ButtonsChangePlaces, HostLosesFocus, label_button, window_with_label, LabelIsLittleWork, pictured_before, pictured_after, PicturedChange}
 use Rattle.model.proofs.HostChanges.{none_ascend}
 use Rattle.model.proofs.ToldTools.{listed_so, each_contained, first_of, children_in, other_children}
 use Rattle.model.proofs.Written.{data_written, node_written, place_is, place_written, AreNodes}

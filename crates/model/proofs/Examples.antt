@@ -12,3 +12,6 @@ pub mod ListBoxes
 pub mod Toolkits
 pub mod FirstUpdates
 pub mod CutGrafts
+pub mod InnerFocus
+pub mod Dialogs
+pub mod InnerWork

@@ -1,10 +1,10 @@
 -- Small worlds, and what is told of their changes.
-use Rattle.std.specs.Prelude.{◌≡◌, ℕ, List, [], ◌∷◌, true, false, Some, None, codes}
+use Rattle.std.specs.Prelude.{◌≡◌, ℕ, List, [], ◌∷◌, true, false, Some, None}
 use Rattle.std.specs.FinMap.{from_sorted}
 use Rattle.schema.specs.NodeData.{NodeData}
 use Rattle.model.specs.declared.FullNodeId.{FullNodeId}
 use Rattle.model.specs.World.{ROOT_NAME, World}
-use Rattle.model.specs.Examples.{node, at, window, button}
+use Rattle.model.specs.Examples.{node, at, window, button, labelled_button}
 use Rattle.model.specs.Update.{UpdateData}
 use Rattle.model.specs.State.{with_host}
 use Rattle.model.specs.Differences.{Added, Updated, Refocused, Removed, AreDifferences}
@@ -69,9 +69,6 @@ HostLosesFocus =
     Runs (window_with_button 0) (ToHostFocus false ∷ ToHostFocus false ∷ []) (with_host (window_with_button 0) false)
     (NodeUpdated (seen_in (window_with_button 0) (at 0 0)) (seen_in (with_host (window_with_button 0) false) (at 0 0)) ∷ FocusMoved (Some (seen_in (window_with_button 0) (at 0 0))) None ∷ [])
     (Accepted ∷ Accepted ∷ [])
-
-abbrev pub labelled_button : NodeData
-labelled_button = record button { label = Some (codes "OK") }
 
 abbrev pub label_button : UpdateData
 label_button = record { nodes = (node 1, labelled_button) ∷ []; info = None; name = ROOT_NAME; focus = node 0 }

@@ -1,6 +1,6 @@
 //! Laws of events and of the differences of two worlds.
 ghost use Rattle.model.specs.EventLaws.{DifferencesAreOne, DifferencesExist, EachHasAReason, EachIsToldInOrder, HostChangeTellsFocus, KeptRecordsFollowRun, NothingToTell, RepeatTellsNothing, RepeatTellsRoot, RootIsTold, RecordsAreThere, RecordsGoOn, RecordsGoOnOverRun, CommandIsDone, RunIsThere, RunLeavesState, RecordsAreOne, RecordsFollow, RecordsFollowRun, RunsAreOne, StoppedRunBegins, WorkIsOne, WorkIsThere};
-ghost use Rattle.model.specs.ToldExamples.{ButtonMoves, GraftMovesOut, GraftedTreeComes, GraftedRootIsLabelled, GraftMovesOutWork};
+ghost use Rattle.model.specs.ToldExamples.{ButtonMoves, GraftMovesOut, GraftedTreeComes, GraftedRootIsLabelled, FocusGoesInside, FocusComesBack, InnerLabelWork, GraftMovesOutWork};
 ghost use Rattle.model.specs.EventExamples.{ButtonGoes, FocusGoesToButton, FocusedButtonGoes, ButtonsChangePlaces, HostLosesFocus, LabelIsLittleWork, PicturedChange};
 
 /// Two worlds have one list of differences.
@@ -179,4 +179,22 @@ pub fn grafted_root_is_labelled()
 /// The work of the graft that moves out allows 208 look-ups.
 pub fn graft_moves_out_work()
     ensures { GraftMovesOutWork }
+{}
+
+/// The focus goes from a window into the document that it grafts, to the button that the document's tree declares focused.
+#[tactic(auto, using(crate::proofs::Examples::InnerFocus::focus_goes_inside))]
+pub fn focus_goes_inside()
+    ensures { FocusGoesInside }
+{}
+
+/// And it comes back to the window.
+#[tactic(auto, using(crate::proofs::Examples::InnerFocus::focus_comes_back))]
+pub fn focus_comes_back()
+    ensures { FocusComesBack }
+{}
+
+/// The work of a label in a grafted document counts how deep the node stands in its own tree.
+#[tactic(auto, using(crate::proofs::Examples::InnerWork::inner_label_work))]
+pub fn inner_label_work()
+    ensures { InnerLabelWork }
 {}

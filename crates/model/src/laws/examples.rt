@@ -1,10 +1,11 @@
 //! The definitions, tried on small worlds.
 ghost use Rattle.std.specs.Prelude.{false, codes, ◌≡◌, Some, None};
+ghost use Rattle.schema.specs.declared.Role.TheVariants.{AlertDialog, Dialog, Document};
 ghost use Rattle.model.specs.World.{World, index_of, StandsAt, toolkit_name, toolkit_version};
-ghost use Rattle.model.specs.Focus.{IsFocusId, IsFocus, IsFocusedNode};
+ghost use Rattle.model.specs.Focus.{IsActiveDialog, IsFocusId, IsFocus, IsFocusedNode};
 ghost use Rattle.model.specs.Update.{MissingData, NotReached, NamedTwice, ListedTwice, NoGraft, NoFirstTreeInfo, FocusMissing, FocusOnEmptyGraft, Stands, IsAccepted};
 ghost use Rattle.model.specs.State.{empty_world};
-ghost use Rattle.model.specs.Examples.{first_update, tree_without_info, focus_on_cut_graft, at, node, name, before_move, after_move, half_a_move, whole_move, nested, graft_moves_out, moved_out, plain, an_island, button_twice, child_without_data, button_goes, window_alone, empty_graft, focus_on_graft, ungrafted_tree, pushed_tree, pushed, document_again, labelled, focused_list};
+ghost use Rattle.model.specs.Examples.{dialogs, first_update, tree_without_info, focus_on_cut_graft, at, node, name, before_move, after_move, half_a_move, whole_move, nested, graft_moves_out, moved_out, plain, an_island, button_twice, child_without_data, button_goes, window_alone, empty_graft, focus_on_graft, ungrafted_tree, pushed_tree, pushed, document_again, labelled, focused_list};
 
 /// A child that moves is listed twice where its old parent isn't named.
 pub fn moved_child_without_its_old_parent_is_listed_twice()
@@ -74,6 +75,24 @@ pub fn active_descendant_has_the_focus()
 /// A node that names itself as its active descendant is the answer of `focus`, and says that it isn't focused.
 pub fn own_active_descendant_is_not_focused()
     ensures { IsFocus (focused_list 1) (Some (at 0 1)) × ¬ (IsFocusedNode (focused_list 1) (at 0 1)) }
+{}
+
+/// An active descendant that isn't there is passed over: the node has the focus, and says so.
+#[tactic(auto, using(crate::proofs::Examples::ListBoxes::gone_active_descendant_is_passed_over))]
+pub fn gone_active_descendant_is_passed_over()
+    ensures { IsFocus (focused_list 9) (Some (at 0 1)) × IsFocusedNode (focused_list 9) (at 0 1) }
+{}
+
+/// An alert dialog around a graft is the active one, where no dialog is nearer to the focus within.
+#[tactic(auto, using(crate::proofs::Examples::Dialogs::alert_dialog_is_active_across_a_graft))]
+pub fn alert_dialog_is_active_across_a_graft()
+    ensures { IsActiveDialog (dialogs AlertDialog Document) (Some (at 0 1)) }
+{}
+
+/// Of two dialogs the nearer one to the focus is the active one.
+#[tactic(auto, using(crate::proofs::Examples::Dialogs::nearest_dialog_is_active))]
+pub fn nearest_dialog_is_active()
+    ensures { IsActiveDialog (dialogs AlertDialog Dialog) (Some (at 1 0)) }
 {}
 
 /// Without a toolkit's name it is `AccessKit`, and there is no version.

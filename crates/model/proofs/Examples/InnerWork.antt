@@ -1,0 +1,69 @@
+-- The work of a label in a grafted document.
+use Rattle.std.proofs.Common.{◌≡◌, ℕ, List, [], ◌∷◌, nat_cmp, Some, None, option_map, slice_get, map, inl, inr, refl, sym, ap, ◌∙◌, subst, Contains, ◌⊎◌, IsSome}
+use Rattle.std.specs.Cmp.{nat_cmp_total}
+use Rattle.std.specs.FinMap.{get, find}
+use Rattle.std.specs.Option.{option_map_or}
+use Rattle.std.specs.List.Sorted.{IsStrictlySortedBy}
+use Rattle.schema.specs.NodeData.{NodeData}
+use Rattle.model.specs.declared.FullNodeId.{FullNodeId}
+use Rattle.model.specs.FullIds.{full_cmp, full_total}
+use Rattle.model.specs.World.{World, Tree, Place, IsNode, HasData, in_tree, listed}
+use Rattle.model.specs.State.{Lists}
+use Rattle.model.specs.Differences.{IsAdded}
+use Rattle.model.specs.Work.{HasDepthInTree, at_root, at_child, IsChildOfNamed}
+use Rattle.model.specs.Examples.{at, node, name, window, document, graft, button, plain_tree, pushed, labelled_button, label_inner_button, labelled_inside}
+use Rattle.model.specs.ToldExamples.{InnerLabelWork}
+use Rattle.model.proofs.HostChanges.{none_ascend}
+use Rattle.model.proofs.Members.{contains_cases, contains_none}
+use Rattle.model.proofs.ToldTools.{Each, each_contained, is_there, among}
+use Rattle.model.proofs.Examples.Tools.{entries-from_entries, get_is, lists_at}
+
+abbrev nodes : NodeData → List (FullNodeId × NodeData)
+nodes d = (at 0 0, window (1 ∷ [])) ∷ (at 0 1, graft (name 1)) ∷ (at 1 0, document (1 ∷ [])) ∷ (at 1 1, d) ∷ []
+
+old_has : HasData pushed (at 1 1) button
+old_has = get_is pushed.nodes (nodes button) (entries-from_entries full_total (nodes button)) (at 1 1)
+
+new_has : (id : FullNodeId) → get labelled_inside.nodes id ≡ find full_cmp id (nodes labelled_button)
+new_has id = get_is labelled_inside.nodes (nodes labelled_button) (entries-from_entries full_total (nodes labelled_button)) id
+
+lists_none : (w : World) (d : NodeData) → HasData w (at 1 1) d → d.children ≡ [] → (p : Place) (id : FullNodeId) → at 1 1 ≡ p.0 → ¬ (Lists w p id)
+lists_none w d is none p id same at_place =
+    let empty : listed w p.0 ≡ [] = subst (λ x. listed w x ≡ []) same (ap (λ o. option_map_or (λ x. map (in_tree 1) x.children) o []) is ∙ ap (map (in_tree 1)) none) in
+    let nothing : slice_get [] p.1 ≡ Some id = subst (λ xs. slice_get xs p.1 ≡ Some id) empty at_place in
+    cc
+
+no_children : (id : FullNodeId) → ¬ (IsChildOfNamed pushed label_inner_button labelled_inside id)
+no_children id h =
+    let same : at 1 1 ≡ h.0.0 = elim (contains_cases (at 1 1) h.0.0 [] h.1) [ inl e ↦ e | inr g ↦ absurd (contains_none h.0.0 g) ] in
+    elim (h.2) [ inl before ↦ lists_none pushed button old_has refl h.0 id same before | inr after ↦ lists_none labelled_inside labelled_button (new_has (at 1 1)) refl h.0 id same after ]
+
+none_gone : (id : FullNodeId) → ¬ (IsAdded labelled_inside pushed id)
+none_gone id h = h.1 (each_contained (IsNode labelled_inside) (at 0 0 ∷ at 0 1 ∷ at 1 0 ∷ at 1 1 ∷ []) (there (at 0 0) refl, (there (at 0 1) refl, (there (at 1 0) refl, (there (at 1 1) refl, tt)))) id (among pushed (nodes button) (entries-from_entries full_total (nodes button)) id h.0))
+  where
+    there : (id : FullNodeId) → IsSome (find full_cmp id (nodes labelled_button)) → IsNode labelled_inside id
+    there = is_there labelled_inside (nodes labelled_button) (entries-from_entries full_total (nodes labelled_button))
+
+document_depth : HasDepthInTree labelled_inside (at 1 0) 0
+document_depth =
+    let tree : get labelled_inside.trees 1 ≡ Some plain_tree = get_is labelled_inside.trees ((0, plain_tree) ∷ (1, plain_tree) ∷ []) (entries-from_entries nat_cmp_total ((0, plain_tree) ∷ (1, plain_tree) ∷ [])) 1 in
+    at_root 1 (at 1 0) (ap (option_map (λ t. in_tree 1 t.root)) tree)
+
+button_depth : HasDepthInTree labelled_inside (at 1 1) 1
+button_depth = at_child (at 1 0, 0) (at 1 1) 0 document_depth (lists_at labelled_inside (at 1 0) (document (1 ∷ [])) 0 (at 1 1) (new_has (at 1 0)) refl)
+
+pub inner_label_work : InnerLabelWork
+inner_label_work = (
+  record {
+    children = [];
+    removed = [];
+    are_children = none_ascend _ no_children;
+    are_removed = none_ascend _ none_gone;
+    count_named = refl;
+    count_children = refl;
+    count_removed = refl;
+    sum_depths = (1, 0, button_depth, refl, refl);
+    count_known = refl;
+  },
+  refl,
+)
