@@ -2,7 +2,7 @@
 use Rattle.std.proofs.Common.{◌≡◌, List, [], ◌∷◌, ◌++◌, Option, Some, None, ◌⊎◌, inl, inr, sym, ap, subst, ◌∙◌, map}
 use Rattle.model.specs.declared.FullNodeId.{FullNodeId}
 use Rattle.model.specs.World.{World}
-use Rattle.model.specs.Differences.{PlanEvent, Added, Updated, Refocused, Removed, IsAloneIf, IsToldForFocus, AreOfFocus, AreDifferences}
+use Rattle.model.specs.Differences.{PlanEvent, Added, Updated, FocusMoved, Removed, IsAloneIf, IsToldForFocus, AreOfFocus, AreDifferences}
 use Rattle.model.proofs.Foci.{focus_unique}
 use Rattle.model.proofs.Ascending.{ascending_list_unique}
 
@@ -21,7 +21,7 @@ abbrev IsMove : World → World → List FullNodeId → Option FullNodeId → Op
 IsMove old new told before after ds =
     ((before ≡ after) × (ds ≡ []))
     ⊎ ((¬ (before ≡ after)) × (left entered : List FullNodeId) × IsToldForFocus old new told before left × IsToldForFocus old new told after entered
-    × (ds ≡ map Updated left ++ map Updated entered ++ Refocused before after ∷ []))
+    × (ds ≡ map Updated left ++ map Updated entered ++ FocusMoved before after ∷ []))
 
 move_unique : (old new : World) (told : List FullNodeId) (before after : Option FullNodeId) (xs ys : List PlanEvent) → IsMove old new told before after xs → IsMove old new told before after ys → xs ≡ ys
 move_unique old new told before after xs ys (inl a) (inl b) = a.1 ∙ sym b.1
@@ -30,7 +30,7 @@ move_unique old new told before after xs ys (inr a) (inl b) = absurd (a.0 b.0)
 move_unique old new told before after xs ys (inr a) (inr b) =
     let left : a.1 ≡ b.1 = told_for_focus_unique old new told before a.1 b.1 a.3 b.3 in
     let entered : a.2 ≡ b.2 = told_for_focus_unique old new told after a.2 b.2 a.4 b.4 in
-    a.5 ∙ ap (λ l. map Updated l ++ map Updated a.2 ++ Refocused before after ∷ []) left ∙ ap (λ e. map Updated b.1 ++ map Updated e ++ Refocused before after ∷ []) entered ∙ sym b.5
+    a.5 ∙ ap (λ l. map Updated l ++ map Updated a.2 ++ FocusMoved before after ∷ []) left ∙ ap (λ e. map Updated b.1 ++ map Updated e ++ FocusMoved before after ∷ []) entered ∙ sym b.5
 
 pub of_focus_unique : (old new : World) (told : List FullNodeId) (xs ys : List PlanEvent) → AreOfFocus old new told xs → AreOfFocus old new told ys → xs ≡ ys
 of_focus_unique old new told xs ys a b =

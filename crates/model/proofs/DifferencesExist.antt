@@ -15,7 +15,7 @@ use Rattle.model.specs.FullIds.{full_cmp, coded_full}
 use Rattle.model.specs.World.{World, IsNode, data_of}
 use Rattle.model.specs.Forest.{place_of}
 use Rattle.model.specs.Focus.{IsFocus}
-use Rattle.model.specs.Differences.{PlanEvent, Added, Updated, Refocused, Removed, IsAscendingListOf, IsInBoth, IsAdded, IsUpdated, IsAloneIf, IsToldForFocus, AreOfFocus, AreDifferences}
+use Rattle.model.specs.Differences.{PlanEvent, Added, Updated, FocusMoved, Removed, IsAscendingListOf, IsInBoth, IsAdded, IsUpdated, IsAloneIf, IsToldForFocus, AreOfFocus, AreDifferences}
 use Rattle.model.proofs.Decisions.{same_or_not, data_same_or_not, node_or_not, contained_or_not}
 use Rattle.model.proofs.Written.{found_key}
 use Rattle.model.proofs.Members.{contains_cases, contains_first, contains_later, contains_none}
@@ -143,7 +143,7 @@ module _ (old new : World) where
     | inr apart ↦
         let left = told_for_focus_exists told before in
         let entered = told_for_focus_exists told after in
-        (map Updated left.0 ++ map Updated entered.0 ++ Refocused before after ∷ [], (before, after, h, g, inr (apart, left.0, entered.0, left.1, entered.1, refl)))
+        (map Updated left.0 ++ map Updated entered.0 ++ FocusMoved before after ∷ [], (before, after, h, g, inr (apart, left.0, entered.0, left.1, entered.1, refl)))
   ]
 
 pub added_exist : (old new : World) → (ids : List FullNodeId) × IsAscendingListOf (IsAdded old new) ids

@@ -15,7 +15,7 @@ use Rattle.model.specs.Focus.{first, IsEffectiveFocus, Resolves, IsFocus}
 use Rattle.model.specs.State.{with_host, Lists}
 use Rattle.model.specs.Run.{Accepted}
 use Rattle.model.specs.Work.{HasDepthInTree, at_root, at_child, IsChildOfNamed}
-use Rattle.model.specs.Differences.{PlanEvent, Added, Updated, Refocused, Removed, IsAscendingListOf, IsAdded, IsInBoth, IsUpdated, IsAloneIf, AreOfFocus, AreDifferences}
+use Rattle.model.specs.Differences.{PlanEvent, Added, Updated, FocusMoved, Removed, IsAscendingListOf, IsAdded, IsInBoth, IsUpdated, IsAloneIf, AreOfFocus, AreDifferences}
 use Rattle.model.specs.Examples.{node, at, window, button, labelled_button}
 use Rattle.model.specs.EventExamples.{root_tree, window_alone, window_with_button, window_with_buttons, ButtonGoes, FocusedButtonGoes, FocusGoesToButton, ButtonsChangePlaces, HostLosesFocus, label_button, window_with_label, LabelIsLittleWork, pictured_before, pictured_after, PicturedChange}
 use Rattle.model.proofs.HostChanges.{none_ascend}
@@ -123,7 +123,7 @@ other_ids e = not_zero 1 refl (ap number_of e)
 
 pub focused_button_goes : FocusedButtonGoes
 focused_button_goes =
-    with_focus 1 (Refocused (Some (at 0 1)) (Some (at 0 0)) ∷ []) _ (
+    with_focus 1 (FocusMoved (Some (at 0 1)) (Some (at 0 0)) ∷ []) _ (
       Some (at 0 1),
       Some (at 0 0),
       has_focus 1 with_button tt button refl refl refl,
@@ -154,7 +154,7 @@ pub focus_goes_to_button : FocusGoesToButton
 focus_goes_to_button = record {
   added = [];
   updated = [];
-  of_focus = Updated (at 0 0) ∷ Updated (at 0 1) ∷ Refocused (Some (at 0 0)) (Some (at 0 1)) ∷ [];
+  of_focus = Updated (at 0 0) ∷ Updated (at 0 1) ∷ FocusMoved (Some (at 0 0)) (Some (at 0 1)) ∷ [];
   removed = [];
   are_added = none_ascend _ (no_nodes_added 0 1 with_button tt);
   are_updated = none_ascend _ (nothing_differs 0 1 with_button tt (button_nodes 0) (button_nodes 1));
@@ -239,7 +239,7 @@ some_not_none x e = cc
 pub host_loses_focus : HostLosesFocus
 host_loses_focus =
     let both : IsInBoth (window_with_button 0) (with_host (window_with_button 0) false) (at 0 0) = (is_node 0 with_button tt (at 0 0) _ refl, is_node 0 with_button tt (at 0 0) _ refl) in
-    let part : AreOfFocus (window_with_button 0) (with_host (window_with_button 0) false) [] (Updated (at 0 0) ∷ Refocused (Some (at 0 0)) None ∷ []) = (
+    let part : AreOfFocus (window_with_button 0) (with_host (window_with_button 0) false) [] (Updated (at 0 0) ∷ FocusMoved (Some (at 0 0)) None ∷ []) = (
       Some (at 0 0),
       None,
       has_focus 0 with_button tt (window (1 ∷ [])) refl refl refl,
@@ -371,7 +371,7 @@ pub pictured_change : PicturedChange
 pictured_change = record {
   added = at 0 3 ∷ [];
   updated = at 0 0 ∷ at 0 2 ∷ [];
-  of_focus = Refocused (Some (at 0 1)) (Some (at 0 2)) ∷ [];
+  of_focus = FocusMoved (Some (at 0 1)) (Some (at 0 2)) ∷ [];
   removed = at 0 1 ∷ [];
   are_added = pictured_added;
   are_updated = pictured_updated;

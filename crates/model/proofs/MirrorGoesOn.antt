@@ -9,7 +9,7 @@ use Rattle.model.specs.FullIds.{full_cmp}
 use Rattle.model.specs.World.{World, IsNode, data_of}
 use Rattle.model.specs.Forest.{place_of}
 use Rattle.model.specs.Events.{Event, Told, seen_in}
-use Rattle.model.specs.Differences.{PlanEvent, Added, Updated, Refocused, Removed, event, events, AreDifferences, AreOfFocus, told_root}
+use Rattle.model.specs.Differences.{PlanEvent, Added, Updated, FocusMoved, Removed, event, events, AreDifferences, AreOfFocus, told_root}
 use Rattle.model.specs.Reasons.{Reason}
 use Rattle.model.specs.Mirror.{Mirrored, Records, IsRecordOf, Notes, Mirrors, AreRecordsOf}
 use Rattle.model.specs.State.{IsState, empty_world, with_host}
@@ -38,7 +38,7 @@ module _ (old new : World) where
   goes_on_once : (root : Option FullNodeId) (d : PlanEvent) (r : Records) → Reason old new root d → (s : Records) × Mirrors r (event old new d) s
   goes_on_once root (Added id) r why = noted r id why.0
   goes_on_once root (Updated id) r why = noted r id why.0.1
-  goes_on_once root (Refocused before after) r why = (_, refl)
+  goes_on_once root (FocusMoved before after) r why = (_, refl)
   goes_on_once root (Removed id) r why = (_, refl)
 
   goes_on : (root : Option FullNodeId) (ds : List PlanEvent) (r : Records) → ((d : PlanEvent) → Contains ds d → Reason old new root d) → GoesOn r (events old new ds)

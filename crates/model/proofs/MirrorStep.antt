@@ -9,7 +9,7 @@ use Rattle.model.specs.World.{World, IsNode, data_of}
 use Rattle.model.specs.Forest.{place_of}
 use Rattle.model.specs.Focus.{IsFocus}
 use Rattle.model.specs.Events.{Told}
-use Rattle.model.specs.Differences.{PlanEvent, Added, Updated, Refocused, Removed, events, IsAdded, AreOfFocus, AreDifferences}
+use Rattle.model.specs.Differences.{PlanEvent, Added, Updated, FocusMoved, Removed, events, IsAdded, AreOfFocus, AreDifferences}
 use Rattle.model.specs.Mirror.{Mirrored, Records, IsRecordOf, Mirrors, AreRecordsOf}
 use Rattle.model.proofs.Decisions.{same_unless, same_data_unless, node_or_not, contained_or_not}
 use Rattle.model.proofs.Foci.{focus_unique}
@@ -52,7 +52,7 @@ moved_append : (focus : Option FullNodeId) (ds es : List PlanEvent) → moved_to
 moved_append focus [] es = refl
 moved_append focus (Added id ∷ ds) es = moved_append focus ds es
 moved_append focus (Updated id ∷ ds) es = moved_append focus ds es
-moved_append focus (Refocused before after ∷ ds) es = moved_append after ds es
+moved_append focus (FocusMoved before after ∷ ds) es = moved_append after ds es
 moved_append focus (Removed id ∷ ds) es = moved_append focus ds es
 
 moved_added : (focus : Option FullNodeId) (ids : List FullNodeId) → moved_to focus (map Added ids) ≡ focus
@@ -73,7 +73,7 @@ moved_removed focus (x ∷ ids) = moved_removed focus ids
 focus_part : (old new : World) (told : List FullNodeId) (ds : List PlanEvent) (h : AreOfFocus old new told ds) → moved_to h.0 ds ≡ h.1
 focus_part old new told ds h = elim (h.4) [
   | inl same ↦ ap (moved_to h.0) same.1 ∙ same.0
-  | inr moved ↦ ap (moved_to h.0) moved.5 ∙ moved_append h.0 (map Updated moved.1 ++ map Updated moved.2) (Refocused h.0 h.1 ∷ [])
+  | inr moved ↦ ap (moved_to h.0) moved.5 ∙ moved_append h.0 (map Updated moved.1 ++ map Updated moved.2) (FocusMoved h.0 h.1 ∷ [])
 ]
 
 fit_focus : (old new : World) (told : List FullNodeId) (ds : List PlanEvent) → AreOfFocus old new told ds → AllFit new ds

@@ -9,14 +9,14 @@ use Rattle.model.specs.declared.FullNodeId.{FullNodeId}
 use Rattle.model.specs.FullIds.{full_cmp, full_total, exact_full}
 use Rattle.model.specs.World.{World, IsNode}
 use Rattle.model.specs.Events.{Told, seen_in}
-use Rattle.model.specs.Differences.{PlanEvent, Added, Updated, Refocused, Removed, event, events}
+use Rattle.model.specs.Differences.{PlanEvent, Added, Updated, FocusMoved, Removed, event, events}
 use Rattle.model.specs.Mirror.{Mirrored, Records, Shows, IsRecordOf, Notes, Mirrors}
 
 -- the difference is one of this node
 abbrev pub IsOf : PlanEvent → FullNodeId → Type 0
 IsOf (Added id) j = id ≡ j
 IsOf (Updated id) j = id ≡ j
-IsOf (Refocused before after) j = ⊥
+IsOf (FocusMoved before after) j = ⊥
 IsOf (Removed id) j = id ≡ j
 
 -- one of the differences is of this node
@@ -28,7 +28,7 @@ Mention (d ∷ ds) j = IsOf d j ⊎ Mention ds j
 abbrev pub Fits : World → PlanEvent → Type 0
 Fits new (Added id) = Unit {0}
 Fits new (Updated id) = Unit {0}
-Fits new (Refocused before after) = Unit {0}
+Fits new (FocusMoved before after) = Unit {0}
 Fits new (Removed id) = ¬ (IsNode new id)
 
 abbrev pub AllFit : World → List PlanEvent → Type 0
@@ -40,7 +40,7 @@ abbrev pub moved_to : Option FullNodeId → List PlanEvent → Option FullNodeId
 moved_to focus [] = focus
 moved_to focus (Added id ∷ ds) = moved_to focus ds
 moved_to focus (Updated id ∷ ds) = moved_to focus ds
-moved_to focus (Refocused before after ∷ ds) = moved_to after ds
+moved_to focus (FocusMoved before after ∷ ds) = moved_to after ds
 moved_to focus (Removed id ∷ ds) = moved_to focus ds
 
 same_key : (j id : FullNodeId) → id ≡ j → eq_by_cmp full_cmp j id ≡ true
@@ -69,8 +69,8 @@ module _ (old new : World) where
   after_event : (d : PlanEvent) (r s : Records) (j : FullNodeId) → Fits new d → Mirrors r (event old new d) s → IsOf d j ⊎ IsRecordOf new j (get r.nodes j) → IsRecordOf new j (get s.nodes j)
   after_event (Added id) r s j fits h before = after_notes r s id j h before
   after_event (Updated id) r s j fits h before = after_notes r s id j h before
-  after_event (Refocused left entered) r s j fits h (inl none) = absurd none
-  after_event (Refocused left entered) r s j fits h (inr before) = after_move r s _ j h before
+  after_event (FocusMoved left entered) r s j fits h (inl none) = absurd none
+  after_event (FocusMoved left entered) r s j fits h (inr before) = after_move r s _ j h before
   after_event (Removed id) r s j fits h before = after_removal r s id j h fits before
 
   after_first : (d : PlanEvent) (ds : List PlanEvent) (r s : Records) (j : FullNodeId) → Fits new d → Mirrors r (event old new d) s → (IsOf d j ⊎ Mention ds j) ⊎ IsRecordOf new j (get r.nodes j) → Mention ds j ⊎ IsRecordOf new j (get s.nodes j)
@@ -92,5 +92,5 @@ module _ (old new : World) where
   focus_after [] r s told = ap (λ (x : Records). x.focus) (sym told)
   focus_after (Added id ∷ ds) r s told = focus_after ds told.0 s told.1.1 ∙ ap (λ (x : Records). moved_to x.focus ds) told.1.0.2
   focus_after (Updated id ∷ ds) r s told = focus_after ds told.0 s told.1.1 ∙ ap (λ (x : Records). moved_to x.focus ds) told.1.0.2
-  focus_after (Refocused left entered ∷ ds) r s told = focus_after ds told.0 s told.1.1 ∙ ap (λ (x : Records). moved_to x.focus ds) told.1.0 ∙ ap (λ f. moved_to f ds) (id_seen new entered)
+  focus_after (FocusMoved left entered ∷ ds) r s told = focus_after ds told.0 s told.1.1 ∙ ap (λ (x : Records). moved_to x.focus ds) told.1.0 ∙ ap (λ f. moved_to f ds) (id_seen new entered)
   focus_after (Removed id ∷ ds) r s told = focus_after ds told.0 s told.1.1 ∙ ap (λ (x : Records). moved_to x.focus ds) told.1.0

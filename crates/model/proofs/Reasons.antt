@@ -12,7 +12,7 @@ use Rattle.model.specs.declared.FullNodeId.{FullNodeId}
 use Rattle.model.specs.FullIds.{full_cmp, full_total}
 use Rattle.model.specs.World.{World, data_of}
 use Rattle.model.specs.Forest.{place_of}
-use Rattle.model.specs.Differences.{PlanEvent, Added, Updated, Refocused, Removed, IsInBoth, IsUpdated, IsToldForFocus, AreOfFocus, AreDifferences}
+use Rattle.model.specs.Differences.{PlanEvent, Added, Updated, FocusMoved, Removed, IsInBoth, IsUpdated, IsToldForFocus, AreOfFocus, AreDifferences}
 use Rattle.model.specs.Reasons.{FocusGoes, FocusGoesAt, Reason, rank, MayPrecede}
 use Rattle.model.proofs.Decisions.{contained_or_not}
 use Rattle.model.proofs.Foci.{focus_unique}
@@ -60,11 +60,11 @@ module _ (old new : World) (root : Option FullNodeId) where
     | inl same ↦ absurd (contains_none d (subst (λ xs. Contains xs d) same.1 c))
     | inr moved ↦
         let goes : FocusGoes old new h.0 h.1 = (h.2, h.3, moved.0) in
-        each_of_append (Reason old new root) (map Updated moved.1 ++ map Updated moved.2) (Refocused h.0 h.1 ∷ [])
+        each_of_append (Reason old new root) (map Updated moved.1 ++ map Updated moved.2) (FocusMoved h.0 h.1 ∷ [])
         (each_of_append (Reason old new root) (map Updated moved.1) (map Updated moved.2)
         (each_of_map Updated (Reason old new root) moved.1 (left_reason told h.0 h.1 moved.1 goes moved.3))
         (each_of_map Updated (Reason old new root) moved.2 (entered_reason told h.0 h.1 moved.2 goes moved.4)))
-        (each_of_one (Reason old new root) (Refocused h.0 h.1) goes) d (subst (λ xs. Contains xs d) moved.5 c)
+        (each_of_one (Reason old new root) (FocusMoved h.0 h.1) goes) d (subst (λ xs. Contains xs d) moved.5 c)
   ]
 
   -- ---- each difference has its reason, and each reason is told
@@ -102,7 +102,7 @@ module _ (old new : World) (root : Option FullNodeId) where
 
     -- where the focus goes from the one to the other, the part of the focus is that of these two
     abbrev Part : Option FullNodeId → Option FullNodeId → Type 0
-    Part before after = (left entered : List FullNodeId) × IsToldForFocus old new h.updated before left × IsToldForFocus old new h.updated after entered × (h.of_focus ≡ map Updated left ++ map Updated entered ++ Refocused before after ∷ [])
+    Part before after = (left entered : List FullNodeId) × IsToldForFocus old new h.updated before left × IsToldForFocus old new h.updated after entered × (h.of_focus ≡ map Updated left ++ map Updated entered ++ FocusMoved before after ∷ [])
 
     part_of : (before after : Option FullNodeId) → FocusGoes old new before after → Part before after
     part_of before after goes =
@@ -120,16 +120,16 @@ module _ (old new : World) (root : Option FullNodeId) where
           | inl e ↦ Contains-append_left (map Updated part.0) (map Updated part.1) (Updated id) (of_map Updated part.0 id (is_told old new h.updated goes.0 part.0 id part.2 e both not))
           | inr e ↦ Contains-append_right (map Updated part.0) (map Updated part.1) (Updated id) (of_map Updated part.1 id (is_told old new h.updated goes.1 part.1 id part.3 e both not))
         ] in
-        in_focus (Updated id) (subst (λ xs. Contains xs (Updated id)) (sym part.4) (Contains-append_left (map Updated part.0 ++ map Updated part.1) (Refocused goes.0 goes.1 ∷ []) (Updated id) inside))
+        in_focus (Updated id) (subst (λ xs. Contains xs (Updated id)) (sym part.4) (Contains-append_left (map Updated part.0 ++ map Updated part.1) (FocusMoved goes.0 goes.1 ∷ []) (Updated id) inside))
 
     focus_or_updated : (id : FullNodeId) → IsInBoth old new id → Contains h.updated id ⊎ ¬ (Contains h.updated id) → FocusGoesAt old new id → Contains ds (Updated id)
     focus_or_updated id both (inl c) goes = in_updated (Updated id) (of_map Updated h.updated id c)
     focus_or_updated id both (inr not) goes = focus_is_told id both not goes
 
-    move_is_told : (before after : Option FullNodeId) → FocusGoes old new before after → Contains ds (Refocused before after)
+    move_is_told : (before after : Option FullNodeId) → FocusGoes old new before after → Contains ds (FocusMoved before after)
     move_is_told before after goes =
         let part = part_of before after goes in
-        in_focus (Refocused before after) (subst (λ xs. Contains xs (Refocused before after)) (sym part.4) (Contains-append_right (map Updated part.0 ++ map Updated part.1) (Refocused before after ∷ []) (Refocused before after) (contains_first (Refocused before after) [])))
+        in_focus (FocusMoved before after) (subst (λ xs. Contains xs (FocusMoved before after)) (sym part.4) (Contains-append_right (map Updated part.0 ++ map Updated part.1) (FocusMoved before after ∷ []) (FocusMoved before after) (contains_first (FocusMoved before after) [])))
 
     pub is_told_for : (d : PlanEvent) → Reason old new root d → Contains ds d
     is_told_for (Added id) r = in_added (Added id) (of_map Added h.added id ((h.are_added.members id).1 r))
@@ -139,7 +139,7 @@ module _ (old new : World) (root : Option FullNodeId) where
       | inr (inr (inl c)) ↦ updated_is_told id (r.0, inr (inr c))
       | inr (inr (inr goes)) ↦ focus_or_updated id r.0 (contained_or_not id h.updated) goes
     ]
-    is_told_for (Refocused before after) r = move_is_told before after r
+    is_told_for (FocusMoved before after) r = move_is_told before after r
     is_told_for (Removed id) r = in_removed (Removed id) (of_map Removed h.removed id ((h.are_removed.members id).1 r))
 
 -- ---- the order
@@ -178,7 +178,7 @@ module _ (old new : World) (told : List FullNodeId) where
   focus_order part h = elim (h.4) [
     | inl same ↦ subst InOrder (sym same.1) tt
     | inr moved ↦ subst InOrder (sym moved.5)
-        (order_append (map Updated moved.1 ++ map Updated moved.2) (Refocused h.0 h.1 ∷ [])
+        (order_append (map Updated moved.1 ++ map Updated moved.2) (FocusMoved h.0 h.1 ∷ [])
         (order_append (map Updated moved.1) (map Updated moved.2) (one_at_most old new told h.0 moved.1 moved.3) (one_at_most old new told h.1 moved.2 moved.4)
         (across_maps Updated Updated moved.1 moved.2 (λ x y c m. (
           omega arith,
@@ -188,15 +188,15 @@ module _ (old new : World) (told : List FullNodeId) where
               moved.0 (left.0 ∙ ap Some (same_id x y e) ∙ sym entered.0),
         ))))
         (λ e c. absurd (contains_none e c), tt)
-        (λ d e c m. each_of_one (MayPrecede d) (Refocused h.0 h.1) (each_of_append (λ a. MayPrecede a (Refocused h.0 h.1)) (map Updated moved.1) (map Updated moved.2)
-        (each_of_map Updated (λ a. MayPrecede a (Refocused h.0 h.1)) moved.1 (λ x n. before_move x h.0 h.1))
-        (each_of_map Updated (λ a. MayPrecede a (Refocused h.0 h.1)) moved.2 (λ x n. before_move x h.0 h.1)) d c) e m))
+        (λ d e c m. each_of_one (MayPrecede d) (FocusMoved h.0 h.1) (each_of_append (λ a. MayPrecede a (FocusMoved h.0 h.1)) (map Updated moved.1) (map Updated moved.2)
+        (each_of_map Updated (λ a. MayPrecede a (FocusMoved h.0 h.1)) moved.1 (λ x n. before_move x h.0 h.1))
+        (each_of_map Updated (λ a. MayPrecede a (FocusMoved h.0 h.1)) moved.2 (λ x n. before_move x h.0 h.1)) d c) e m))
   ]
     where
       same_id : (x y : FullNodeId) → Updated x ≡ Updated y → x ≡ y
       same_id x y e = cc
 
-      before_move : (x : FullNodeId) (before after : Option FullNodeId) → MayPrecede (Updated x) (Refocused before after)
+      before_move : (x : FullNodeId) (before after : Option FullNodeId) → MayPrecede (Updated x) (FocusMoved before after)
       before_move x before after = (omega arith, λ e. cc)
 
   -- what the part of the focus tells: no addition or removal, and no update of a node that was told
@@ -213,9 +213,9 @@ module _ (old new : World) (told : List FullNodeId) where
   all_of_focus part h d c = elim (h.4) [
     | inl same ↦ absurd (contains_none d (subst (λ xs. Contains xs d) same.1 c))
     | inr moved ↦
-        each_of_append IsOfFocus (map Updated moved.1 ++ map Updated moved.2) (Refocused h.0 h.1 ∷ [])
+        each_of_append IsOfFocus (map Updated moved.1 ++ map Updated moved.2) (FocusMoved h.0 h.1 ∷ [])
         (each_of_append IsOfFocus (map Updated moved.1) (map Updated moved.2) (one_of_focus h.0 moved.1 moved.3) (one_of_focus h.1 moved.2 moved.4))
-        (each_of_one IsOfFocus (Refocused h.0 h.1) (omega arith, omega arith, λ y m e. cc)) d (subst (λ xs. Contains xs d) moved.5 c)
+        (each_of_one IsOfFocus (FocusMoved h.0 h.1) (omega arith, omega arith, λ y m e. cc)) d (subst (λ xs. Contains xs d) moved.5 c)
   ]
 
 -- a lesser rank comes first

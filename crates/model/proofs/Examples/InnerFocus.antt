@@ -12,7 +12,7 @@ use Rattle.model.specs.World as world
 use Rattle.model.specs.Forest.{place_of}
 use Rattle.model.specs.Focus.{OnChain, first, next, GoesOn, IsEffectiveFocus, IsFocus, Resolves}
 use Rattle.model.specs.Update.{IsAccepted, merged}
-use Rattle.model.specs.Differences.{Updated, Refocused, AreDifferences}
+use Rattle.model.specs.Differences.{Updated, FocusMoved, AreDifferences}
 use Rattle.model.specs.Examples.{at, node, name, window, document, graft, button, with_inner_focus, focus_on}
 use Rattle.model.specs.ToldExamples.{FocusGoesInside, FocusComesBack}
 use Rattle.model.proofs.HostChanges.{none_ascend}
@@ -156,11 +156,11 @@ module _ (f g : ℕ) (is_there : IsSome (find full_cmp (at 0 g) nodes)) where
   focus_accepted : IsAccepted (with_inner_focus f) (focus_on g) (with_inner_focus g)
   focus_accepted = accepted_by_chain shown chain_met (λ id k on grafts. subst (λ n. IsSome (root_named m n)) (names_document id k grafts) (subst IsSome (sym root_of_1) refl))
 
-  focus_told : (x y : FullNodeId) → IsFocus (with_inner_focus f) (Some x) → IsFocus (with_inner_focus g) (Some y) → x ≢ y → IsNode (with_inner_focus f) x → IsNode (with_inner_focus f) y → AreDifferences (with_inner_focus f) (with_inner_focus g) None (Updated x ∷ Updated y ∷ Refocused (Some x) (Some y) ∷ [])
+  focus_told : (x y : FullNodeId) → IsFocus (with_inner_focus f) (Some x) → IsFocus (with_inner_focus g) (Some y) → x ≢ y → IsNode (with_inner_focus f) x → IsNode (with_inner_focus f) y → AreDifferences (with_inner_focus f) (with_inner_focus g) None (Updated x ∷ Updated y ∷ FocusMoved (Some x) (Some y) ∷ [])
   focus_told x y before after other x_there y_there = record {
     added = [];
     updated = [];
-    of_focus = Updated x ∷ Updated y ∷ Refocused (Some x) (Some y) ∷ [];
+    of_focus = Updated x ∷ Updated y ∷ FocusMoved (Some x) (Some y) ∷ [];
     removed = [];
     are_added = none_ascend _ (λ id h. h.1 h.0);
     are_updated = none_ascend _ (λ id. same_still (with_inner_focus f) (with_inner_focus g) None id refl (place f id ∙ sym (place g id)) (nothing_there id));
