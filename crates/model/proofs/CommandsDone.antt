@@ -1,8 +1,8 @@
 -- Each command of a state is done, and each list of commands has a run.
-use Rattle.std.proofs.Common.{◌≡◌, ◌≢◌, List, [], ◌∷◌, ◌++◌, None, ◌⊎◌, inl, inr, refl, subst, Bool}
+use Rattle.std.proofs.Common.{◌≢◌, List, [], ◌∷◌, ◌++◌, inl, inr, refl, Bool}
 use Rattle.std.specs.Prelude.{Contains}
 use Rattle.model.specs.World.{World}
-use Rattle.model.specs.Update.{UpdateData, Fault, Stands, IsAccepted, index_for}
+use Rattle.model.specs.Update.{UpdateData, IsAccepted, index_for}
 use Rattle.model.specs.State.{IsState, with_host}
 use Rattle.model.specs.Events.{Event}
 use Rattle.model.specs.Differences.{events, told_root}

@@ -5,7 +5,7 @@ use Rattle.schema.specs.NodeData.{NodeData}
 use Rattle.schema.specs.contracts.Role.{the_row as role_row}
 use Rattle.schema.specs.declared.Role.TheVariants.{AlertDialog, Dialog}
 use Rattle.model.specs.declared.FullNodeId.{FullNodeId}
-use Rattle.model.specs.World.{World, Place, StandsAt, HasData, data_of}
+use Rattle.model.specs.World.{World, Place, HasData, data_of}
 use Rattle.model.specs.Focus.{IsFocus, IsDialog, IsNearestDialog, itself, above, IsActiveDialog}
 use Rattle.model.specs.Forest.{place_of}
 use Rattle.model.specs.State.{IsState}

@@ -1,8 +1,8 @@
 -- What `focus_id` and `focus` answer, and which node says that it is focused.
-use Rattle.std.proofs.Common.{◌≡◌, Bool, true, false, Option, Some, None, ◌⊎◌, inl, inr, refl, sym, ap}
+use Rattle.std.proofs.Common.{◌≡◌, Bool, true, false, Option, Some, None, inl, inr, refl, ap}
 use Rattle.model.specs.declared.FullNodeId.{FullNodeId}
 use Rattle.model.specs.World.{World}
-use Rattle.model.specs.Focus.{IsEffectiveFocus, IsFocusId, IsFocus, IsFocusedNode, Resolves}
+use Rattle.model.specs.Focus.{IsFocusId, IsFocus, IsFocusedNode}
 use Rattle.model.specs.State.{IsState}
 use Rattle.model.proofs.Foci.{effective_focus_unique}
 use Rattle.model.proofs.FocusThere.{effective_focus_exists}

@@ -13,7 +13,8 @@ use Rattle.model.specs.Forest.{Forest, empty, tree, plant, grown, is_same, place
 use Rattle.model.specs.Lists.{nodes_of, preorder, following_siblings, preceding_siblings, deepest_first, deepest_last}
 use Rattle.model.specs.Paths.{depth, index_path}
 use Rattle.model.specs.Frontier.{frontier}
-use Rattle.model.specs.ListExamples.{node, pictured_nodes, pictured_trees, pictured, PicturedLists, some_nodes, no_document}
+use Rattle.model.specs.ListExamples.{pictured_nodes, pictured_trees, pictured, PicturedLists, some_nodes, no_document}
+use Rattle.model.specs.Examples.{at}
 
 -- ---- what computes: children from the written entries, places from the written children, and the forest and the climb from these
 
@@ -109,28 +110,28 @@ map_same f g h (c ∷ cs) =
 
 -- ---- so its lists are these
 
-window_forest : below pictured (node 0 0)
-    ≡ tree (node 0 1) empty (tree (node 0 2) (tree (node 1 0) (tree (node 1 1) empty (tree (node 1 2) empty empty)) empty) (tree (node 0 3) (tree (node 0 4) empty empty) empty))
-window_forest = below_are (node 0 0)
+window_forest : below pictured (at 0 0)
+    ≡ tree (at 0 1) empty (tree (at 0 2) (tree (at 1 0) (tree (at 1 1) empty (tree (at 1 2) empty empty)) empty) (tree (at 0 3) (tree (at 0 4) empty empty) empty))
+window_forest = below_are (at 0 0)
 
-graft_forest : below pictured (node 0 2) ≡ tree (node 1 0) (tree (node 1 1) empty (tree (node 1 2) empty empty)) empty
-graft_forest = below_are (node 0 2)
+graft_forest : below pictured (at 0 2) ≡ tree (at 1 0) (tree (at 1 1) empty (tree (at 1 2) empty empty)) empty
+graft_forest = below_are (at 0 2)
 
-label_forest : below pictured (node 0 4) ≡ empty
-label_forest = below_are (node 0 4)
+label_forest : below pictured (at 0 4) ≡ empty
+label_forest = below_are (at 0 4)
 
 nodes : List FullNodeId
-nodes = node 0 0 ∷ node 0 1 ∷ node 0 2 ∷ node 1 0 ∷ node 1 1 ∷ node 1 2 ∷ node 0 3 ∷ node 0 4 ∷ []
+nodes = at 0 0 ∷ at 0 1 ∷ at 0 2 ∷ at 1 0 ∷ at 1 1 ∷ at 1 2 ∷ at 0 3 ∷ at 0 4 ∷ []
 
-window_order : preorder pictured (node 0 0) ≡ nodes
+window_order : preorder pictured (at 0 0) ≡ nodes
 unfolding nodes
-window_order = ap (λ t. node 0 0 ∷ nodes_of t) window_forest
+window_order = ap (λ t. at 0 0 ∷ nodes_of t) window_forest
 
 window_paths : map written_path nodes ≡ [] ∷ (0 ∷ []) ∷ (1 ∷ []) ∷ (1 ∷ 0 ∷ []) ∷ (1 ∷ 0 ∷ 0 ∷ []) ∷ (1 ∷ 0 ∷ 1 ∷ []) ∷ (2 ∷ []) ∷ (2 ∷ 0 ∷ []) ∷ []
 unfolding nodes
 window_paths = refl
 
-window_places : map written_place nodes ≡ None ∷ Some (node 0 0, 0) ∷ Some (node 0 0, 1) ∷ Some (node 0 2, 0) ∷ Some (node 1 0, 0) ∷ Some (node 1 0, 1) ∷ Some (node 0 0, 2) ∷ Some (node 0 3, 0) ∷ []
+window_places : map written_place nodes ≡ None ∷ Some (at 0 0, 0) ∷ Some (at 0 0, 1) ∷ Some (at 0 2, 0) ∷ Some (at 1 0, 0) ∷ Some (at 1 0, 1) ∷ Some (at 0 0, 2) ∷ Some (at 0 3, 0) ∷ []
 unfolding nodes
 window_places = refl
 
@@ -138,11 +139,11 @@ window_depths : map (λ id. length (climbed_by written_place 8 id)) nodes ≡ 0 
 unfolding nodes
 window_depths = refl
 
-last_above : above pictured (node 1 2) ≡ (node 1 0, 1) ∷ (node 0 2, 0) ∷ (node 0 0, 1) ∷ []
-last_above = above_are (node 1 2)
+last_above : above pictured (at 1 2) ≡ (at 1 0, 1) ∷ (at 0 2, 0) ∷ (at 0 0, 1) ∷ []
+last_above = above_are (at 1 2)
 
-graft_above : above pictured (node 0 2) ≡ (node 0 0, 1) ∷ []
-graft_above = above_are (node 0 2)
+graft_above : above pictured (at 0 2) ≡ (at 0 0, 1) ∷ []
+graft_above = above_are (at 0 2)
 
 siblings_after : (id : FullNodeId) (p : Place) (cs : List FullNodeId) → place_of pictured id ≡ Some p → children pictured p.0 ≡ cs → following_siblings pictured id ≡ drop (p.1 + 1) cs
 siblings_after id p cs e f = rw e (ap (drop (p.1 + 1)) f)
@@ -151,7 +152,7 @@ siblings_before : (id : FullNodeId) (p : Place) (cs : List FullNodeId) → place
 siblings_before id p cs e f = rw e (ap (λ xs. reverse (take p.1 xs)) f)
 
 abbrev in_window : List FullNodeId
-in_window = node 0 1 ∷ node 0 2 ∷ node 0 3 ∷ []
+in_window = at 0 1 ∷ at 0 2 ∷ at 0 3 ∷ []
 
 pub pictured_lists : PicturedLists
 unfolding nodes
@@ -160,20 +161,20 @@ pictured_lists = record {
   paths = ap (map (index_path pictured)) window_order ∙ map_same (index_path pictured) written_path path_is nodes ∙ window_paths;
   places = ap (map (place_of pictured)) window_order ∙ map_same (place_of pictured) written_place place_is nodes ∙ window_places;
   depths = ap (map (depth pictured)) window_order ∙ map_same (depth pictured) (λ id. length (climbed_by written_place 8 id)) (λ id. ap length (above_are id)) nodes ∙ window_depths;
-  graft_order = ap (λ t. node 0 2 ∷ nodes_of t) graft_forest;
+  graft_order = ap (λ t. at 0 2 ∷ nodes_of t) graft_forest;
   last_above = last_above;
   last_ancestors = ap (map (λ (p : Place). p.0)) last_above;
-  button_following = siblings_after (node 0 1) (node 0 0, 0) in_window (place_is (node 0 1)) (children_are (node 0 0));
-  group_preceding = siblings_before (node 0 3) (node 0 0, 2) in_window (place_is (node 0 3)) (children_are (node 0 0));
-  inner_following = siblings_after (node 1 0) (node 0 2, 0) (node 1 0 ∷ []) (place_is (node 1 0)) (children_are (node 0 2));
-  inner_preceding = siblings_before (node 1 0) (node 0 2, 0) (node 1 0 ∷ []) (place_is (node 1 0)) (children_are (node 0 2));
+  button_following = siblings_after (at 0 1) (at 0 0, 0) in_window (place_is (at 0 1)) (children_are (at 0 0));
+  group_preceding = siblings_before (at 0 3) (at 0 0, 2) in_window (place_is (at 0 3)) (children_are (at 0 0));
+  inner_following = siblings_after (at 1 0) (at 0 2, 0) (at 1 0 ∷ []) (place_is (at 1 0)) (children_are (at 0 2));
+  inner_preceding = siblings_before (at 1 0) (at 0 2, 0) (at 1 0 ∷ []) (place_is (at 1 0)) (children_are (at 0 2));
   first_of_window = ap deepest_first window_forest;
   first_of_graft = ap deepest_first graft_forest;
   first_of_label = ap deepest_first label_forest;
   last_of_window = ap deepest_last window_forest;
   last_of_graft = ap deepest_last graft_forest;
   last_of_label = ap deepest_last label_forest;
-  from_graft = ap (λ (ps : List Place). drop (length (above pictured (node 0 2))) (reverse (map (λ (p : Place). p.1) ps))) last_above ∙ ap (λ (ps : List Place). drop (length ps) (1 ∷ 0 ∷ 1 ∷ [])) graft_above;
+  from_graft = ap (λ (ps : List Place). drop (length (above pictured (at 0 2))) (reverse (map (λ (p : Place). p.1) ps))) last_above ∙ ap (λ (ps : List Place). drop (length ps) (1 ∷ 0 ∷ 1 ∷ [])) graft_above;
   some_shown = ap (frontier some_nodes) window_forest;
   no_document_shown = ap (frontier no_document) window_forest;
 }

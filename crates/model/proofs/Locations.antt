@@ -1,6 +1,5 @@
 -- A node of a state is located, and nothing else is.
 use Rattle.std.proofs.Common.{◌≡◌, ◌∙◌, Option, Some, None, IsSome, get_or, ap, refl}
-use Rattle.schema.specs.declared.NodeId.{NodeId}
 use Rattle.schema.specs.declared.TreeId.{TreeId}
 use Rattle.schema.specs.NodeData.{NodeData}
 use Rattle.std.specs.Option.{option_map}

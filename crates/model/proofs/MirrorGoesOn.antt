@@ -1,8 +1,7 @@
 -- A state has records, and each difference of two worlds can be noted.
-use Rattle.std.proofs.Common.{◌≡◌, ◌++◌, List, [], ◌∷◌, Option, Some, None, refl, sym, subst, ap, Bool, false}
+use Rattle.std.proofs.Common.{◌≡◌, List, [], ◌∷◌, Option, None, refl, sym, subst, Bool, false}
 use Rattle.std.specs.Prelude.{Contains, IsSome}
-use Rattle.std.specs.FinMap.{get, insert, remove, empty, get-empty}
-use Rattle.std.specs.Option.{option_map}
+use Rattle.std.specs.FinMap.{get, insert, empty, get-empty}
 use Rattle.schema.specs.NodeData.{NodeData}
 use Rattle.model.specs.declared.FullNodeId.{FullNodeId}
 use Rattle.model.specs.FullIds.{full_cmp}

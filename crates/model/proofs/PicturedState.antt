@@ -18,7 +18,8 @@ use Rattle.model.specs.World.{ROOT_NAME, Tree, data_of, IsNode, in_tree, listed,
 use Rattle.model.specs.Focus.{OnChain, first, next}
 use Rattle.model.specs.State.{IsState, Lists}
 use Rattle.model.specs.Forest.{is_same}
-use Rattle.model.specs.ListExamples.{node, INNER_NAME, pictured_nodes, pictured_trees, pictured}
+use Rattle.model.specs.ListExamples.{pictured_nodes, pictured_trees, pictured}
+use Rattle.model.specs.Examples.{at, name}
 use Rattle.model.proofs.States.{lister_is_node, graft_is_node, root_of_parts, IsSome_is}
 use Rattle.model.proofs.Written.{node_written}
 use Rattle.model.proofs.ListExamples.{written_root, place_by}
@@ -68,7 +69,7 @@ abbrev lister : FullNodeId → Option Place
 lister c = place_by written_listed c (map (λ (e : FullNodeId × NodeData). e.0) pictured_nodes)
 
 abbrev is_root : FullNodeId → Bool
-is_root c = is_same c (node 0 0) || is_same c (node 1 0)
+is_root c = is_same c (at 0 0) || is_same c (at 1 0)
 
 -- what is said of a node that is listed at this place
 abbrev IsListedAt : FullNodeId → ℕ → FullNodeId → Type 0
@@ -84,19 +85,19 @@ listed_at p c e = at_each (IsListedAt p.0) (written_listed p.0) (each_node (λ i
 -- ---- the graft and the roots
 
 is_name : FullNodeId → Type 0
-is_name id = (name : TreeId) → written_graft id ≡ Some name → (id ≡ node 0 2) × (name ≡ INNER_NAME) × (written_listed id ≡ [])
+is_name id = (k : TreeId) → written_graft id ≡ Some k → (id ≡ at 0 2) × (k ≡ name 1) × (written_listed id ≡ [])
 
 no_name : (id : FullNodeId) → written_graft id ≡ None → is_name id
 unfolding is_name
-no_name id e name f = absurd (none-some name (sym e ∙ f))
+no_name id e k f = absurd (none-some k (sym e ∙ f))
 
 all_grafts : AllByRecursion is_name (map (λ (e : FullNodeId × NodeData). e.0) pictured_nodes)
 unfolding is_name
-all_grafts = (no_name (node 0 0) refl, (no_name (node 0 1) refl, ((λ name e. (refl, sym (same_Some INNER_NAME name e), refl)), (no_name (node 0 3) refl, (no_name (node 0 4) refl, (no_name (node 1 0) refl, (no_name (node 1 1) refl, (no_name (node 1 2) refl, tt))))))))
+all_grafts = (no_name (at 0 0) refl, (no_name (at 0 1) refl, ((λ k e. (refl, sym (same_Some (name 1) k e), refl)), (no_name (at 0 3) refl, (no_name (at 0 4) refl, (no_name (at 1 0) refl, (no_name (at 1 1) refl, (no_name (at 1 2) refl, tt))))))))
 
-grafts : (id : FullNodeId) (name : TreeId) → graft_name pictured id ≡ Some name → (id ≡ node 0 2) × (name ≡ INNER_NAME) × (written_listed id ≡ [])
+grafts : (id : FullNodeId) (k : TreeId) → graft_name pictured id ≡ Some k → (id ≡ at 0 2) × (k ≡ name 1) × (written_listed id ≡ [])
 unfolding is_name
-grafts id name e = each_node is_name all_grafts id (graft_is_node pictured id name e) name (sym (graft_is id) ∙ e)
+grafts id k e = each_node is_name all_grafts id (graft_is_node pictured id k e) k (sym (graft_is id) ∙ e)
 
 by_first : (i : ℕ) (t : Tree) (a b : Bool) → eq_by_cmp nat_cmp i 0 ≡ a → eq_by_cmp nat_cmp i 1 ≡ b → IsSome (cond a (Some t) (cond b (Some t) None)) → (i ≡ 0) ⊎ (i ≡ 1)
 by_first i t true b e f g = inl (tells_apart exact_unsigned i 0 e)
@@ -109,21 +110,21 @@ tree_index i h = by_first i (record { root = record { 0 = 0 }; focus = record { 
 tree_known : (index : ℕ) → IsSome (get pictured.trees index) → (index ≡ 0) ⊎ (index ≡ 1)
 tree_known index h = tree_index index (subst IsSome (get-from_sorted nat_cmp pictured_trees index tt) h)
 
-root_known : (index : ℕ) (id : FullNodeId) → root_of pictured index ≡ Some id → (node 0 0 ≡ id) ⊎ (node 1 0 ≡ id)
+root_known : (index : ℕ) (id : FullNodeId) → root_of pictured index ≡ Some id → (at 0 0 ≡ id) ⊎ (at 1 0 ≡ id)
 root_known index id e =
     let tree = root_of_parts pictured index id e in
     elim (tree_known index (IsSome_is tree.0 tree.1)) [
-      | inl at ↦ inl (same_Some (node 0 0) id (sym (root_is 0) ∙ ap (root_of pictured) (sym at) ∙ e))
-      | inr at ↦ inr (same_Some (node 1 0) id (sym (root_is 1) ∙ ap (root_of pictured) (sym at) ∙ e))
+      | inl here ↦ inl (same_Some (at 0 0) id (sym (root_is 0) ∙ ap (root_of pictured) (sym here) ∙ e))
+      | inr here ↦ inr (same_Some (at 1 0) id (sym (root_is 1) ∙ ap (root_of pictured) (sym here) ∙ e))
     ]
 
-names_apart : ROOT_NAME ≢ INNER_NAME
+names_apart : ROOT_NAME ≢ (name 1)
 names_apart e = let last : ◌≡◌ {A = ℕ} 0 1 = ap (λ (n : TreeId). get_or n.0 15 0) e in absurd (omega arith)
 
-known_cases : (i : ℕ) (name : TreeId) → slice_get pictured.known i ≡ Some name → ((i ≡ 0) × (ROOT_NAME ≡ name)) ⊎ ((i ≡ 1) × (INNER_NAME ≡ name))
-known_cases zero name e = inl (refl, same_Some ROOT_NAME name e)
-known_cases (suc zero) name e = inr (refl, same_Some INNER_NAME name e)
-known_cases (suc (suc i)) name e = absurd (none-some name e)
+known_cases : (i : ℕ) (k : TreeId) → slice_get pictured.known i ≡ Some k → ((i ≡ 0) × (ROOT_NAME ≡ k)) ⊎ ((i ≡ 1) × (name 1 ≡ k))
+known_cases zero k e = inl (refl, same_Some ROOT_NAME k e)
+known_cases (suc zero) k e = inr (refl, same_Some (name 1) k e)
+known_cases (suc (suc i)) k e = absurd (none-some k e)
 
 -- ---- what is reached and kept
 
@@ -133,52 +134,52 @@ reached_root index id e = let tree = root_of_parts pictured index id e in subst 
 step : (id c : FullNodeId) (i : ℕ) → slice_get (written_listed id) i ≡ Some c → Reached pictured id → Reached pictured c
 step id c i e r = child id c i r (rw (listed_is id) e)
 
-window_reached : Reached pictured (node 0 0)
-window_reached = reached_root 0 (node 0 0) (root_is 0)
+window_reached : Reached pictured (at 0 0)
+window_reached = reached_root 0 (at 0 0) (root_is 0)
 
-document_reached : Reached pictured (node 1 0)
-document_reached = reached_root 1 (node 1 0) (root_is 1)
+document_reached : Reached pictured (at 1 0)
+document_reached = reached_root 1 (at 1 0) (root_is 1)
 
-group_reached : Reached pictured (node 0 3)
-group_reached = step (node 0 0) (node 0 3) 2 refl window_reached
+group_reached : Reached pictured (at 0 3)
+group_reached = step (at 0 0) (at 0 3) 2 refl window_reached
 
 all_reached : AllByRecursion (Reached pictured) (map (λ (e : FullNodeId × NodeData). e.0) pictured_nodes)
 all_reached =
-    (window_reached, (step (node 0 0) (node 0 1) 0 refl window_reached, (step (node 0 0) (node 0 2) 1 refl window_reached, (group_reached, (step (node 0 3) (node 0 4) 0 refl group_reached, (document_reached, (step (node 1 0) (node 1 1) 0 refl document_reached, (step (node 1 0) (node 1 2) 1 refl document_reached, tt))))))))
+    (window_reached, (step (at 0 0) (at 0 1) 0 refl window_reached, (step (at 0 0) (at 0 2) 1 refl window_reached, (group_reached, (step (at 0 3) (at 0 4) 0 refl group_reached, (document_reached, (step (at 1 0) (at 1 1) 0 refl document_reached, (step (at 1 0) (at 1 2) 1 refl document_reached, tt))))))))
 
 inner_kept : Kept pictured 1
-inner_kept = grafted (node 0 2) (node 1 0) INNER_NAME root (step (node 0 0) (node 0 2) 1 refl window_reached) (graft_is (node 0 2)) (root_is 1)
+inner_kept = grafted (at 0 2) (at 1 0) (name 1) root (step (at 0 0) (at 0 2) 1 refl window_reached) (graft_is (at 0 2)) (root_is 1)
 
-bare : (id : FullNodeId) (name : TreeId) → id ≡ node 0 0 → graft_name pictured id ≡ Some name → ⊥
-bare id name is e = let same : ◌≡◌ {A = ℕ} 0 2 = ap (λ (x : FullNodeId). x.node.0) (sym is ∙ (grafts id name e).0) in absurd (omega arith)
+bare : (id : FullNodeId) (k : TreeId) → id ≡ at 0 0 → graft_name pictured id ≡ Some k → ⊥
+bare id k is e = let same : ◌≡◌ {A = ℕ} 0 2 = ap (λ (x : FullNodeId). x.node.0) (sym is ∙ (grafts id k e).0) in absurd (omega arith)
 
 -- the chain of the focus is the window
-chain_is : (id : FullNodeId) → OnChain pictured id → id ≡ node 0 0
+chain_is : (id : FullNodeId) → OnChain pictured id → id ≡ at 0 0
 chain_is id (first t e) = ap (λ (x : Tree). in_tree 0 x.focus) (sym (same_Some (record { root = record { 0 = 0 }; focus = record { 0 = 0 } }) t (sym (get-from_sorted nat_cmp pictured_trees 0 tt) ∙ e)))
 chain_is id (next graft _ c goes) = absurd (bare graft goes.name (chain_is graft c) goes.grafts)
 
-known_once : (i j : ℕ) (name : TreeId) → slice_get pictured.known i ≡ Some name → slice_get pictured.known j ≡ Some name → i ≡ j
-known_once i j name e f = by_both (known_cases i name e) (known_cases j name f)
+known_once : (i j : ℕ) (k : TreeId) → slice_get pictured.known i ≡ Some k → slice_get pictured.known j ≡ Some k → i ≡ j
+known_once i j k e f = by_both (known_cases i k e) (known_cases j k f)
   where
-    by_both : ((i ≡ 0) × (ROOT_NAME ≡ name)) ⊎ ((i ≡ 1) × (INNER_NAME ≡ name)) → ((j ≡ 0) × (ROOT_NAME ≡ name)) ⊎ ((j ≡ 1) × (INNER_NAME ≡ name)) → i ≡ j
+    by_both : ((i ≡ 0) × (ROOT_NAME ≡ k)) ⊎ ((i ≡ 1) × (name 1 ≡ k)) → ((j ≡ 0) × (ROOT_NAME ≡ k)) ⊎ ((j ≡ 1) × (name 1 ≡ k)) → i ≡ j
     by_both (inl a) (inl b) = a.0 ∙ sym b.0
     by_both (inl a) (inr b) = absurd (names_apart (a.1 ∙ sym b.1))
     by_both (inr a) (inl b) = absurd (names_apart (b.1 ∙ sym a.1))
     by_both (inr a) (inr b) = a.0 ∙ sym b.0
 
 present_kept : (index : ℕ) → IsSome (get pictured.trees index) → Kept pictured index
-present_kept index h = elim (tree_known index h) [ inl at ↦ subst (Kept pictured) (sym at) root | inr at ↦ subst (Kept pictured) (sym at) inner_kept ]
+present_kept index h = elim (tree_known index h) [ inl here ↦ subst (Kept pictured) (sym here) root | inr here ↦ subst (Kept pictured) (sym here) inner_kept ]
 
 present_known : (index : ℕ) → IsSome (get pictured.trees index) → index < length pictured.known
-present_known index h = elim (tree_known index h) [ inl at ↦ omega arith | inr at ↦ omega arith ]
+present_known index h = elim (tree_known index h) [ inl here ↦ omega arith | inr here ↦ omega arith ]
 
 roots_are_nodes : (index : ℕ) (id : FullNodeId) → root_of pictured index ≡ Some id → IsNode pictured id
-roots_are_nodes index id e = elim (root_known index id e) [ inl same ↦ subst (IsNode pictured) same (is_node (node 0 0) refl) | inr same ↦ subst (IsNode pictured) same (is_node (node 1 0) refl) ]
+roots_are_nodes index id e = elim (root_known index id e) [ inl same ↦ subst (IsNode pictured) same (is_node (at 0 0) refl) | inr same ↦ subst (IsNode pictured) same (is_node (at 1 0) refl) ]
 
 roots_are_unlisted : (p : Place) (index : ℕ) (id : FullNodeId) → root_of pictured index ≡ Some id → Lists pictured p id → ⊥
-roots_are_unlisted p index id e at = false≢true (sym (listed_at p id at).2 ∙ told (root_known index id e))
+roots_are_unlisted p index id e there = false≢true (sym (listed_at p id there).2 ∙ told (root_known index id e))
   where
-    told : (node 0 0 ≡ id) ⊎ (node 1 0 ≡ id) → is_root id ≡ true
+    told : (at 0 0 ≡ id) ⊎ (at 1 0 ≡ id) → is_root id ≡ true
     told (inl same) = ap is_root (sym same)
     told (inr same) = ap is_root (sym same)
 
@@ -196,9 +197,9 @@ pictured_state = record {
   listed_is_node = λ p c e. is_node c (listed_at p c e).0;
   listed_once = λ p q c e f. same_Some p q (sym (listed_at p c e).1 ∙ (listed_at q c f).1);
   root_unlisted = roots_are_unlisted;
-  graft_childless = λ id name e. listed_is id ∙ (grafts id name e).2;
+  graft_childless = λ id k e. listed_is id ∙ (grafts id k e).2;
   root_ungrafted = λ id e. names_apart (grafts id ROOT_NAME e).1;
-  grafted_once = λ a b name e f. (grafts a name e).0 ∙ sym (grafts b name f).0;
-  focus_is_node = λ id c. subst (IsNode pictured) (sym (chain_is id c)) (is_node (node 0 0) refl);
-  focus_goes_on = λ id name c e. absurd (bare id name (chain_is id c) e);
+  grafted_once = λ a b k e f. (grafts a k e).0 ∙ sym (grafts b k f).0;
+  focus_is_node = λ id c. subst (IsNode pictured) (sym (chain_is id c)) (is_node (at 0 0) refl);
+  focus_goes_on = λ id k c e. absurd (bare id k (chain_is id c) e);
 }

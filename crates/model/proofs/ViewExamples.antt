@@ -4,7 +4,8 @@ use Rattle.std.specs.Prelude.{true, None, Some}
 use Rattle.schema.specs.declared.Role.TheVariants.{ListBoxOption}
 use Rattle.model.specs.declared.filters.FilterResult.TheVariants.{Include, ExcludeSubtree}
 use Rattle.model.specs.Filters.{common_filter}
-use Rattle.model.specs.ListExamples.{node, parent}
+use Rattle.model.specs.ListExamples.{parent}
+use Rattle.model.specs.Examples.{at}
 use Rattle.model.specs.ViewExamples as example
 use Rattle.model.proofs.WrittenViews.{data_at, above_at, below_at, focus_is, data_in, above_in, below_in, focus_in, root_in}
 
@@ -39,37 +40,37 @@ pushed_lists = record {
 pub clipped_answers : example.ClippedAnswers
 clipped_answers = record { each = λ i. at_1 i ∷ at_2 i ∷ at_3 i ∷ at_4 i ∷ at_5 i ∷ at_6 i ∷ at_7 i ∷ at_8 i ∷ at_9 i ∷ at_10 i ∷ at_11 i ∷ [] }
   where
-    at_1 : common_filter (example.one_tree None example.scrolled) (node 0 1) ≡ ExcludeSubtree
+    at_1 : common_filter (example.one_tree None example.scrolled) (at 0 1) ≡ ExcludeSubtree
     at_1 = simp (above_in None example.scrolled tt, data_in None example.scrolled tt, below_in None example.scrolled tt)
 
-    at_2 : common_filter (example.one_tree None example.scrolled) (node 0 2) ≡ ExcludeSubtree
+    at_2 : common_filter (example.one_tree None example.scrolled) (at 0 2) ≡ ExcludeSubtree
     at_2 = simp (above_in None example.scrolled tt, data_in None example.scrolled tt, below_in None example.scrolled tt)
 
-    at_3 : common_filter (example.one_tree None example.scrolled) (node 0 3) ≡ Include
+    at_3 : common_filter (example.one_tree None example.scrolled) (at 0 3) ≡ Include
     at_3 = simp (above_in None example.scrolled tt, data_in None example.scrolled tt, below_in None example.scrolled tt)
 
-    at_4 : common_filter (example.one_tree None example.scrolled) (node 0 4) ≡ ExcludeSubtree
+    at_4 : common_filter (example.one_tree None example.scrolled) (at 0 4) ≡ ExcludeSubtree
     at_4 = simp (above_in None example.scrolled tt, data_in None example.scrolled tt)
 
-    at_5 : common_filter (example.one_tree None example.scrolled) (node 0 5) ≡ Include
+    at_5 : common_filter (example.one_tree None example.scrolled) (at 0 5) ≡ Include
     at_5 = simp (above_in None example.scrolled tt, data_in None example.scrolled tt, below_in None example.scrolled tt)
 
-    at_6 : common_filter (example.one_tree None example.scrolled) (node 0 6) ≡ Include
+    at_6 : common_filter (example.one_tree None example.scrolled) (at 0 6) ≡ Include
     at_6 = simp (above_in None example.scrolled tt, data_in None example.scrolled tt, below_in None example.scrolled tt)
 
-    at_7 : common_filter (example.one_tree None example.scrolled) (node 0 7) ≡ Include
+    at_7 : common_filter (example.one_tree None example.scrolled) (at 0 7) ≡ Include
     at_7 = simp (above_in None example.scrolled tt, data_in None example.scrolled tt, below_in None example.scrolled tt)
 
-    at_8 : common_filter (example.one_tree None example.scrolled) (node 0 8) ≡ ExcludeSubtree
+    at_8 : common_filter (example.one_tree None example.scrolled) (at 0 8) ≡ ExcludeSubtree
     at_8 = simp (above_in None example.scrolled tt, data_in None example.scrolled tt)
 
-    at_9 : common_filter (example.one_tree None example.scrolled) (node 0 9) ≡ Include
+    at_9 : common_filter (example.one_tree None example.scrolled) (at 0 9) ≡ Include
     at_9 = simp (above_in None example.scrolled tt, data_in None example.scrolled tt, below_in None example.scrolled tt)
 
-    at_10 : common_filter (example.one_tree None example.scrolled) (node 0 10) ≡ ExcludeSubtree
+    at_10 : common_filter (example.one_tree None example.scrolled) (at 0 10) ≡ ExcludeSubtree
     at_10 = simp (above_in None example.scrolled tt, data_in None example.scrolled tt, below_in None example.scrolled tt)
 
-    at_11 : common_filter (example.one_tree None example.scrolled) (node 0 11) ≡ ExcludeSubtree
+    at_11 : common_filter (example.one_tree None example.scrolled) (at 0 11) ≡ ExcludeSubtree
     at_11 = simp (above_in None example.scrolled tt, data_in None example.scrolled tt, below_in None example.scrolled tt)
 
 pub filtered_lists : example.FilteredLists

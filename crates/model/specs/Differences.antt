@@ -58,7 +58,7 @@ AreOfFocus old new told differences =
     (before after : Option FullNodeId) × IsFocus old before × IsFocus new after
     × (((before ≡ after) × (differences ≡ []))
     ⊎ ((before ≢ after) × (left entered : List FullNodeId) × IsToldForFocus old new told before left × IsToldForFocus old new told after entered
-    × (differences ≡ map Updated left ++ map Updated entered ++ Refocused before after ∷ [])))
+    × (differences ≡ map Updated left ++ map Updated entered ++ FocusMoved before after ∷ [])))
 
 -- All that is told of a change of worlds, in order. The root is the one that is told as updated even where it is unchanged.
 pub record AreDifferences (old new : World) (root : Option FullNodeId) (differences : List PlanEvent) : Type 0 where

@@ -1,5 +1,5 @@
 -- The focus goes from a window into the document that it grafts, and back.
-use Rattle.std.proofs.Common.{◌≡◌, ◌≢◌, ℕ, List, [], ◌∷◌, nat_cmp, Option, Some, None, IsSome, option_map, inl, inr, refl, sym, ap, ◌∙◌, subst, arith, ◌⊎◌}
+use Rattle.std.proofs.Common.{◌≡◌, ◌≢◌, ℕ, List, [], ◌∷◌, nat_cmp, Some, None, IsSome, option_map, inl, inr, refl, sym, ap, ◌∙◌, subst, arith}
 use Rattle.std.specs.Cmp.{nat_cmp_total}
 use Rattle.std.specs.FinMap.{get, entries, find}
 use Rattle.std.proofs.lemmas.Option.{same_Some}
@@ -10,7 +10,7 @@ use Rattle.model.specs.FullIds.{full_cmp, full_total}
 use Rattle.model.specs.World.{World, Tree, IsNode, HasData, in_tree, Reached, Kept, graft_name, root_named, focus_named}
 use Rattle.model.specs.World as world
 use Rattle.model.specs.Forest.{place_of}
-use Rattle.model.specs.Focus.{OnChain, first, next, GoesOn, IsEffectiveFocus, IsFocus, Resolves}
+use Rattle.model.specs.Focus.{OnChain, first, next, GoesOn, IsFocus, Resolves}
 use Rattle.model.specs.Update.{IsAccepted, merged}
 use Rattle.model.specs.Differences.{Updated, FocusMoved, AreDifferences}
 use Rattle.model.specs.Examples.{at, node, name, window, document, graft, button, with_inner_focus, focus_on}
@@ -18,7 +18,7 @@ use Rattle.model.specs.ToldExamples.{FocusGoesInside, FocusComesBack}
 use Rattle.model.proofs.HostChanges.{none_ascend}
 use Rattle.model.proofs.Members.{contains_none}
 use Rattle.model.proofs.Merges.{tree_named, tree_elsewhere}
-use Rattle.model.proofs.ToldTools.{place_in, AreChildren, place_at, lists, grafts_one, same_still, nothing_there}
+use Rattle.model.proofs.ToldTools.{place_in, place_at, lists, grafts_one, same_still, nothing_there}
 use Rattle.model.proofs.Examples.Tools.{◌▸◌, entries-from_entries, get_is, node_at, lists_at, grafts_at, other_root, names_apart}
 use Rattle.model.proofs.Examples.Evidence.{IsShownApart, each_graft, accepted_by_chain}
 

@@ -1,21 +1,20 @@
 -- The work of a label in a grafted document.
-use Rattle.std.proofs.Common.{◌≡◌, ℕ, List, [], ◌∷◌, nat_cmp, Some, None, option_map, slice_get, map, inl, inr, refl, sym, ap, ◌∙◌, subst, Contains, ◌⊎◌, IsSome}
+use Rattle.std.proofs.Common.{◌≡◌, List, [], ◌∷◌, Some, option_map, slice_get, map, inl, inr, refl, ap, ◌∙◌, subst, IsSome}
 use Rattle.std.specs.Cmp.{nat_cmp_total}
 use Rattle.std.specs.FinMap.{get, find}
 use Rattle.std.specs.Option.{option_map_or}
-use Rattle.std.specs.List.Sorted.{IsStrictlySortedBy}
 use Rattle.schema.specs.NodeData.{NodeData}
 use Rattle.model.specs.declared.FullNodeId.{FullNodeId}
 use Rattle.model.specs.FullIds.{full_cmp, full_total}
-use Rattle.model.specs.World.{World, Tree, Place, IsNode, HasData, in_tree, listed}
+use Rattle.model.specs.World.{World, Place, IsNode, HasData, in_tree, listed}
 use Rattle.model.specs.State.{Lists}
 use Rattle.model.specs.Differences.{IsAdded}
 use Rattle.model.specs.Work.{HasDepthInTree, at_root, at_child, IsChildOfNamed}
-use Rattle.model.specs.Examples.{at, node, name, window, document, graft, button, plain_tree, pushed, labelled_button, label_inner_button, labelled_inside}
+use Rattle.model.specs.Examples.{at, name, window, document, graft, button, plain_tree, pushed, labelled_button, label_inner_button, labelled_inside}
 use Rattle.model.specs.ToldExamples.{InnerLabelWork}
 use Rattle.model.proofs.HostChanges.{none_ascend}
 use Rattle.model.proofs.Members.{contains_cases, contains_none}
-use Rattle.model.proofs.ToldTools.{Each, each_contained, is_there, among}
+use Rattle.model.proofs.ToldTools.{each_contained, is_there, among}
 use Rattle.model.proofs.Examples.Tools.{entries-from_entries, get_is, lists_at}
 
 abbrev nodes : NodeData → List (FullNodeId × NodeData)

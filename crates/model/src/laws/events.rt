@@ -29,6 +29,7 @@ pub fn nothing_to_tell()
 {}
 
 /// The root of another tree is told as updated by tree info, though nothing changed.
+#[tactic(auto, using(crate::proofs::SameWorlds::root_to_tell))]
 pub fn root_is_told()
     ensures { RootIsTold }
 {}
@@ -59,11 +60,13 @@ pub fn records_go_on_over_run()
 {}
 
 /// A mirror that is told of all that a run tells mirrors the world that the run comes to.
+#[tactic(auto, using(crate::proofs::Runs::records_follow_run))]
 pub fn records_follow_run()
     ensures { RecordsFollowRun }
 {}
 
 /// A mirror that may find no memory mirrors the world that a run comes to, or keeps nothing.
+#[tactic(auto, using(crate::proofs::MirrorKept::kept_records_follow_run))]
 pub fn kept_records_follow_run()
     ensures { KeptRecordsFollowRun }
 {}
@@ -74,6 +77,7 @@ pub fn records_are_one()
 {}
 
 /// Two runs of the same commands, in which memory was wanting at the same ones, come to one world, tell the same, and reply alike.
+#[tactic(auto, using(crate::proofs::RunsAreOne::runs_agree))]
 pub fn runs_are_one()
     ensures { RunsAreOne }
 {}
@@ -91,6 +95,7 @@ pub fn run_is_there()
 {}
 
 /// A run leaves a state.
+#[tactic(auto, using(crate::proofs::Runs::run_leaves_state))]
 pub fn run_leaves_state()
     ensures { RunLeavesState }
 {}
@@ -122,61 +127,73 @@ pub fn work_is_there()
 {}
 
 /// The only button of a window goes: its window is updated, and it is removed.
+#[tactic(auto, using(crate::proofs::EventExamples::button_goes))]
 pub fn button_goes()
     ensures { ButtonGoes }
 {}
 
 /// The focus goes from a window to its button: both are updated, and then it moves.
+#[tactic(auto, using(crate::proofs::EventExamples::focus_goes_to_button))]
 pub fn focus_goes_to_button()
     ensures { FocusGoesToButton }
 {}
 
 /// The focused button goes: the focus moves before it is told as removed.
+#[tactic(auto, using(crate::proofs::EventExamples::focused_button_goes))]
 pub fn focused_button_goes()
     ensures { FocusedButtonGoes }
 {}
 
 /// Two buttons change places: they are updated as their window is.
+#[tactic(auto, using(crate::proofs::EventExamples::buttons_change_places))]
 pub fn buttons_change_places()
     ensures { ButtonsChangePlaces }
 {}
 
 /// A run in which the host loses its focus twice: the second time nothing is told.
+#[tactic(auto, using(crate::proofs::EventExamples::host_loses_focus))]
 pub fn host_loses_focus()
     ensures { HostLosesFocus }
 {}
 
 /// A label for a button below the root allows 80 look-ups.
+#[tactic(auto, using(crate::proofs::EventExamples::label_is_little_work))]
 pub fn label_is_little_work()
     ensures { LabelIsLittleWork }
 {}
 
 /// A button goes, another comes, the one between them moves up, and the focus goes to it.
+#[tactic(auto, using(crate::proofs::EventExamples::pictured_change))]
 pub fn pictured_change()
     ensures { PicturedChange }
 {}
 
 /// A button moves to another container: both containers are updated, and so is the button, for its place.
+#[tactic(auto, using(crate::proofs::ToldMoves::button_moves_is_told))]
 pub fn button_moves_is_told()
     ensures { ButtonMoves }
 {}
 
 /// A graft moves out of a tree that goes: its tree's root is updated, and the node below that root isn't.
+#[tactic(auto, using(crate::proofs::ToldExamples::graft_moves_out_is_told))]
 pub fn graft_moves_out_is_told()
     ensures { GraftMovesOut }
 {}
 
 /// The tree of an empty graft comes: its nodes are added, and the graft isn't told.
+#[tactic(auto, using(crate::proofs::ToldExamples::grafted_tree_comes))]
 pub fn grafted_tree_comes()
     ensures { GraftedTreeComes }
 {}
 
 /// The root of a grafted tree gets a label: it alone is updated.
+#[tactic(auto, using(crate::proofs::ToldExamples::grafted_root_is_labelled))]
 pub fn grafted_root_is_labelled()
     ensures { GraftedRootIsLabelled }
 {}
 
 /// The work of the graft that moves out allows 208 look-ups.
+#[tactic(auto, using(crate::proofs::ToldExamples::graft_moves_out_work))]
 pub fn graft_moves_out_work()
     ensures { GraftMovesOutWork }
 {}
