@@ -19,7 +19,7 @@ use Rattle.model.specs.Differences.{PlanEvent, Added, Updated, FocusMoved, Remov
 use Rattle.model.specs.Examples.{node, at, window, button, labelled_button}
 use Rattle.model.specs.EventExamples.{root_tree, window_alone, window_with_button, window_with_buttons, ButtonGoes, FocusedButtonGoes, FocusGoesToButton, ButtonsChangePlaces, HostLosesFocus, label_button, window_with_label, LabelIsLittleWork, pictured_before, pictured_after, PicturedChange}
 use Rattle.model.proofs.HostChanges.{none_ascend}
-use Rattle.model.proofs.ToldTools.{listed_so, each_contained, first_of, children_in, other_children}
+use Rattle.model.proofs.ToldTools.{leaf_work, listed_so, each_contained, first_of, children_in, other_children}
 use Rattle.model.proofs.Written.{data_written, node_written, place_is, place_written, AreNodes}
 use Rattle.model.proofs.Members.{contains_cases, contains_first, contains_later, contains_none}
 
@@ -265,22 +265,8 @@ labelled = (at 0 0, window (1 ∷ [])) ∷ (at 0 1, labelled_button) ∷ []
 listed_here : (w : World) (id : FullNodeId) (d : NodeData) → data_of w id ≡ Some d → listed w id ≡ map (in_tree id.tree) d.children
 listed_here w id d e = ap (λ o. option_map_or (λ x. map (in_tree id.tree) x.children) o []) e
 
-lists_none : (w : World) (d : NodeData) → data_of w (at 0 1) ≡ Some d → d.children ≡ [] → (p : Place) (id : FullNodeId) → at 0 1 ≡ p.0 → ¬ (Lists w p id)
-lists_none w d e none p id same h =
-    let empty : listed w p.0 ≡ [] = subst (λ x. listed w x ≡ []) same (listed_here w (at 0 1) d e ∙ ap (map (in_tree 0)) none) in
-    some_not_none id (sym h ∙ ap (λ (xs : List FullNodeId). slice_get xs p.1) empty)
-
-no_children : (id : FullNodeId) → ¬ (IsChildOfNamed (window_with_button 0) label_button window_with_label id)
-no_children id h =
-    let same : at 0 1 ≡ h.0.0 = elim (contains_cases (at 0 1) h.0.0 [] h.1) [ inl e ↦ e | inr g ↦ absurd (contains_none h.0.0 g) ] in
-    elim (h.2) [
-      | inl before ↦ lists_none (window_with_button 0) button (data_here 0 with_button tt (at 0 1)) refl h.0 id same before
-      | inr after ↦ lists_none window_with_label labelled_button (data_here 0 labelled tt (at 0 1)) refl h.0 id same after
-    ]
-
-none_goes : (id : FullNodeId) → ¬ (IsAdded window_with_label (window_with_button 0) id)
-none_goes id h =
-    h.1 (each_contained (IsNode window_with_label) (at 0 0 ∷ at 0 1 ∷ []) (is_node 0 labelled tt (at 0 0) _ refl, (is_node 0 labelled tt (at 0 1) _ refl, tt)) id (among_keys 0 with_button tt id h.0))
+stays : (id : FullNodeId) → IsNode (window_with_button 0) id → IsNode window_with_label id
+stays id h = each_contained (IsNode window_with_label) (at 0 0 ∷ at 0 1 ∷ []) (is_node 0 labelled tt (at 0 0) _ refl, (is_node 0 labelled tt (at 0 1) _ refl, tt)) id (among_keys 0 with_button tt id h)
 
 button_depth : HasDepthInTree window_with_label (at 0 1) (0 + 1)
 button_depth =
@@ -288,20 +274,7 @@ button_depth =
     (ap (λ (xs : List FullNodeId). slice_get xs 0) (listed_here window_with_label (at 0 0) _ (data_here 0 labelled tt (at 0 0))))
 
 pub label_is_little_work : LabelIsLittleWork
-label_is_little_work = (
-  record {
-    children = [];
-    removed = [];
-    are_children = none_ascend _ no_children;
-    are_removed = none_ascend _ none_goes;
-    count_named = refl;
-    count_children = refl;
-    count_removed = refl;
-    sum_depths = (1, 0, button_depth, refl, refl);
-    count_known = refl;
-  },
-  refl,
-)
+label_is_little_work = (leaf_work (window_with_button 0) window_with_label label_button (at 0 1) button labelled_button refl (data_here 0 with_button tt (at 0 1)) (data_here 0 labelled tt (at 0 1)) refl refl stays button_depth, refl)
 
 -- ---- the pictured change
 

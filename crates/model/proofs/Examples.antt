@@ -1,6 +1,8 @@
 -- The definitions, tried on small worlds.
 pub mod Tools
 pub mod Evidence
+pub mod Tested
+pub mod Worlds
 pub mod Moves
 pub mod MovesOut
 pub mod Refusals

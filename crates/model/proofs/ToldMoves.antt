@@ -11,21 +11,9 @@ use Rattle.model.specs.Forest.{place_of}
 use Rattle.model.specs.Differences.{Updated, IsAscendingListOf, IsAdded, IsUpdated}
 use Rattle.model.specs.Examples.{at, node, window, container, button, before_move, after_move}
 use Rattle.model.specs.ToldExamples.{ButtonMoves}
-use Rattle.model.proofs.Examples.Tools.{entries-from_entries}
+use Rattle.model.proofs.Examples.Worlds.{before_move_nodes, after_move_nodes, before_move_written, after_move_written}
 use Rattle.model.proofs.Examples.Moves.{moved_child_with_both_parents_is_accepted}
 use Rattle.model.proofs.ToldTools.{listed_so, place_in, AreChildren, data_at, is_there, among, place_at, lists, children_in, other_children, other_first, same_still, nothing_there}
-
-abbrev nodes_before : List (FullNodeId × NodeData)
-nodes_before = (at 0 0, window (1 ∷ 2 ∷ [])) ∷ (at 0 1, container (3 ∷ [])) ∷ (at 0 2, container []) ∷ (at 0 3, button) ∷ []
-
-abbrev nodes_after : List (FullNodeId × NodeData)
-nodes_after = (at 0 0, window (1 ∷ 2 ∷ [])) ∷ (at 0 1, container []) ∷ (at 0 2, container (3 ∷ [])) ∷ (at 0 3, button) ∷ []
-
-are_before : entries before_move.nodes ≡ nodes_before
-are_before = entries-from_entries full_total nodes_before
-
-are_after : entries after_move.nodes ≡ nodes_after
-are_after = entries-from_entries full_total nodes_after
 
 abbrev children_before : List (FullNodeId × List FullNodeId)
 children_before = (at 0 0, at 0 1 ∷ at 0 2 ∷ []) ∷ (at 0 1, at 0 3 ∷ []) ∷ (at 0 2, []) ∷ (at 0 3, []) ∷ []
@@ -35,47 +23,47 @@ children_after = (at 0 0, at 0 1 ∷ at 0 2 ∷ []) ∷ (at 0 1, []) ∷ (at 0 2
 
 listed_before : AreChildren before_move children_before
 listed_before = (
-  lists before_move nodes_before are_before (at 0 0) _ refl refl,
-  (lists before_move nodes_before are_before (at 0 1) _ refl refl, (lists before_move nodes_before are_before (at 0 2) _ refl refl, (lists before_move nodes_before are_before (at 0 3) _ refl refl, tt))),
+  lists before_move before_move_nodes before_move_written.nodes (at 0 0) _ refl refl,
+  (lists before_move before_move_nodes before_move_written.nodes (at 0 1) _ refl refl, (lists before_move before_move_nodes before_move_written.nodes (at 0 2) _ refl refl, (lists before_move before_move_nodes before_move_written.nodes (at 0 3) _ refl refl, tt))),
 )
 
 listed_after : AreChildren after_move children_after
 listed_after = (
-  lists after_move nodes_after are_after (at 0 0) _ refl refl,
-  (lists after_move nodes_after are_after (at 0 1) _ refl refl, (lists after_move nodes_after are_after (at 0 2) _ refl refl, (lists after_move nodes_after are_after (at 0 3) _ refl refl, tt))),
+  lists after_move after_move_nodes after_move_written.nodes (at 0 0) _ refl refl,
+  (lists after_move after_move_nodes after_move_written.nodes (at 0 1) _ refl refl, (lists after_move after_move_nodes after_move_written.nodes (at 0 2) _ refl refl, (lists after_move after_move_nodes after_move_written.nodes (at 0 3) _ refl refl, tt))),
 )
 
 place_before : (id : FullNodeId) → place_of before_move id ≡ place_in id children_before
-place_before = place_at before_move nodes_before are_before children_before refl listed_before
+place_before = place_at before_move before_move_nodes before_move_written.nodes children_before refl listed_before
 
 place_after : (id : FullNodeId) → place_of after_move id ≡ place_in id children_after
-place_after = place_at after_move nodes_after are_after children_after refl listed_after
+place_after = place_at after_move after_move_nodes after_move_written.nodes children_after refl listed_after
 
-was : (id : FullNodeId) → IsSome (find full_cmp id nodes_before) → IsNode before_move id
-was = is_there before_move nodes_before are_before
+was : (id : FullNodeId) → IsSome (find full_cmp id before_move_nodes) → IsNode before_move id
+was = is_there before_move before_move_nodes before_move_written.nodes
 
-is : (id : FullNodeId) → IsSome (find full_cmp id nodes_after) → IsNode after_move id
-is = is_there after_move nodes_after are_after
+is : (id : FullNodeId) → IsSome (find full_cmp id after_move_nodes) → IsNode after_move id
+is = is_there after_move after_move_nodes after_move_written.nodes
 
 none_added : IsAscendingListOf (IsAdded before_move after_move) []
 unfolding IsStrictlySortedBy
 none_added =
-    listed_so _ [] (at 0 0 ∷ at 0 1 ∷ at 0 2 ∷ at 0 3 ∷ []) tt tt (λ y h. among after_move nodes_after are_after y h.0)
+    listed_so _ [] (at 0 0 ∷ at 0 1 ∷ at 0 2 ∷ at 0 3 ∷ []) tt tt (λ y h. among after_move after_move_nodes after_move_written.nodes y h.0)
     (inr (λ h. h.1 (was (at 0 0) refl)), (inr (λ h. h.1 (was (at 0 1) refl)), (inr (λ h. h.1 (was (at 0 2) refl)), (inr (λ h. h.1 (was (at 0 3) refl)), tt))))
 
 none_removed : IsAscendingListOf (IsAdded after_move before_move) []
 unfolding IsStrictlySortedBy
 none_removed =
-    listed_so _ [] (at 0 0 ∷ at 0 1 ∷ at 0 2 ∷ at 0 3 ∷ []) tt tt (λ y h. among before_move nodes_before are_before y h.0)
+    listed_so _ [] (at 0 0 ∷ at 0 1 ∷ at 0 2 ∷ at 0 3 ∷ []) tt tt (λ y h. among before_move before_move_nodes before_move_written.nodes y h.0)
     (inr (λ h. h.1 (is (at 0 0) refl)), (inr (λ h. h.1 (is (at 0 1) refl)), (inr (λ h. h.1 (is (at 0 2) refl)), (inr (λ h. h.1 (is (at 0 3) refl)), tt))))
 
 first_differs : data_of before_move (at 0 1) ≢ data_of after_move (at 0 1)
 first_differs =
-    other_children _ _ (node 3 ∷ []) [] (ap children_in (data_at before_move nodes_before are_before (at 0 1))) (ap children_in (data_at after_move nodes_after are_after (at 0 1))) (other_first (node 3 ∷ []) [] (omega arith))
+    other_children _ _ (node 3 ∷ []) [] (ap children_in (data_at before_move before_move_nodes before_move_written.nodes (at 0 1))) (ap children_in (data_at after_move after_move_nodes after_move_written.nodes (at 0 1))) (other_first (node 3 ∷ []) [] (omega arith))
 
 second_differs : data_of before_move (at 0 2) ≢ data_of after_move (at 0 2)
 second_differs =
-    other_children _ _ [] (node 3 ∷ []) (ap children_in (data_at before_move nodes_before are_before (at 0 2))) (ap children_in (data_at after_move nodes_after are_after (at 0 2))) (other_first [] (node 3 ∷ []) (omega arith))
+    other_children _ _ [] (node 3 ∷ []) (ap children_in (data_at before_move before_move_nodes before_move_written.nodes (at 0 2))) (ap children_in (data_at after_move after_move_nodes after_move_written.nodes (at 0 2))) (other_first [] (node 3 ∷ []) (omega arith))
 
 -- places below other parents, by the number of the parent in its tree
 abbrev parent_number : Option Place → ℕ
@@ -88,7 +76,7 @@ button_moves e =
 
 window_stays : ¬ (IsUpdated before_move after_move None (at 0 0))
 window_stays =
-    same_still before_move after_move None (at 0 0) (data_at before_move nodes_before are_before (at 0 0) ∙ sym (data_at after_move nodes_after are_after (at 0 0)))
+    same_still before_move after_move None (at 0 0) (data_at before_move before_move_nodes before_move_written.nodes (at 0 0) ∙ sym (data_at after_move after_move_nodes after_move_written.nodes (at 0 0)))
     (place_before (at 0 0) ∙ sym (place_after (at 0 0))) (nothing_there (at 0 0))
 
 updated_three : IsAscendingListOf (IsUpdated before_move after_move None) (at 0 1 ∷ at 0 2 ∷ at 0 3 ∷ [])
@@ -96,7 +84,7 @@ unfolding IsStrictlySortedBy
 updated_three =
     listed_so _ (at 0 1 ∷ at 0 2 ∷ at 0 3 ∷ []) (at 0 0 ∷ at 0 1 ∷ at 0 2 ∷ at 0 3 ∷ []) ((refl, (refl, tt)), ((refl, tt), (tt, tt)))
     (((was (at 0 1) refl, is (at 0 1) refl), inl first_differs), (((was (at 0 2) refl, is (at 0 2) refl), inl second_differs), (((was (at 0 3) refl, is (at 0 3) refl), inr (inl button_moves)), tt)))
-    (λ y h. among before_move nodes_before are_before y h.0.0)
+    (λ y h. among before_move before_move_nodes before_move_written.nodes y h.0.0)
     (inr window_stays, (inl (0, omega arith, refl), (inl (1, omega arith, refl), (inl (2, omega arith, refl), tt))))
 
 pub button_moves_is_told : ButtonMoves

@@ -1,5 +1,5 @@
 -- How the differences of two small worlds are shown, from the entries of each and the children of each node.
-use Rattle.std.proofs.Common.{◌≡◌, ◌≢◌, ℕ, not, List, [], ◌∷◌, Option, Some, None, ◌⊎◌, inl, inr, refl, sym, ap, subst, ◌∙◌, map}
+use Rattle.std.proofs.Common.{length, slice_get, ◌≡◌, ◌≢◌, ℕ, not, List, [], ◌∷◌, Option, Some, None, ◌⊎◌, inl, inr, refl, sym, ap, subst, ◌∙◌, map}
 use Rattle.std.specs.Prelude.{Contains, IsSome, position, option_map}
 use Rattle.std.specs.Option.{option_or, option_map_or}
 use Rattle.std.specs.FinMap.{find, entries}
@@ -9,9 +9,13 @@ use Rattle.schema.specs.declared.NodeId.{NodeId}
 use Rattle.schema.specs.declared.TreeId.{TreeId}
 use Rattle.model.specs.declared.FullNodeId.{FullNodeId}
 use Rattle.model.specs.FullIds.{full_cmp}
-use Rattle.model.specs.World.{World, IsNode, data_of, in_tree, children, root_named, Place}
+use Rattle.model.specs.World.{World, IsNode, data_of, in_tree, listed, children, root_named, Place}
+use Rattle.model.specs.State.{Lists}
+use Rattle.model.specs.Update.{UpdateData}
+use Rattle.model.specs.Work.{HasDepthInTree, IsSumOfDepths, IsChildOfNamed, IsWorkOf, named_ids}
 use Rattle.model.specs.Forest.{place_of, place_among, is_same}
 use Rattle.model.specs.Differences.{IsAscendingListOf, IsUpdated}
+use Rattle.model.proofs.HostChanges.{none_ascend}
 use Rattle.model.proofs.Written.{found_key, children_written}
 use Rattle.model.proofs.Examples.Tools.{get_is}
 use Rattle.model.proofs.Members.{contains_cases, contains_none}
@@ -113,3 +117,30 @@ nothing_there id e = cc
 
 abbrev pub tree_in : Option FullNodeId → ℕ
 tree_in o = option_map_or (λ id. id.tree) o 0
+
+-- ---- the work of an update that names one node, without children before and after
+
+lists_none : (w : World) (id : FullNodeId) (d : NodeData) → data_of w id ≡ Some d → d.children ≡ [] → (p : Place) (c : FullNodeId) → id ≡ p.0 → ¬ (Lists w p c)
+lists_none w id d is none p c same at_place =
+    let empty : listed w p.0 ≡ [] = subst (λ x. listed w x ≡ []) same (ap (λ o. option_map_or (λ x. map (in_tree id.tree) x.children) o []) is ∙ ap (map (in_tree id.tree)) none) in
+    let nothing : slice_get [] p.1 ≡ Some c = subst (λ xs. slice_get xs p.1 ≡ Some c) empty at_place in
+    cc
+
+pub leaf_work : (old new : World) (u : UpdateData) (id : FullNodeId) (d e : NodeData) → named_ids old u ≡ id ∷ [] → data_of old id ≡ Some d → data_of new id ≡ Some e → d.children ≡ [] → e.children ≡ []
+    → ((x : FullNodeId) → IsNode old x → IsNode new x) → HasDepthInTree new id 1 → IsWorkOf old u new (record { named = length u.nodes; children = 0; removed = 0; depths = 1; known = length new.known })
+leaf_work old new u id d e named was is no_old no_new stays depth = record {
+  children = [];
+  removed = [];
+  are_children = none_ascend _ no_children;
+  are_removed = none_ascend _ (λ x h. h.1 (stays x h.0));
+  count_named = refl;
+  count_children = refl;
+  count_removed = refl;
+  sum_depths = subst (λ ids. IsSumOfDepths new ids 1) (sym named) (1, 0, depth, refl, refl);
+  count_known = refl;
+}
+  where
+    no_children : (c : FullNodeId) → ¬ (IsChildOfNamed old u new c)
+    no_children c h =
+        let same : id ≡ h.0.0 = elim (contains_cases id h.0.0 [] (subst (λ ids. Contains ids h.0.0) named h.1)) [ inl e ↦ e | inr g ↦ absurd (contains_none h.0.0 g) ] in
+        elim (h.2) [ inl before ↦ lists_none old id d was no_old h.0 c same before | inr after ↦ lists_none new id e is no_new h.0 c same after ]

@@ -26,19 +26,8 @@ old_has = get_is pushed.nodes (nodes button) (entries-from_entries full_total (n
 new_has : (id : FullNodeId) → get labelled_inside.nodes id ≡ find full_cmp id (nodes labelled_button)
 new_has id = get_is labelled_inside.nodes (nodes labelled_button) (entries-from_entries full_total (nodes labelled_button)) id
 
-lists_none : (w : World) (d : NodeData) → HasData w (at 1 1) d → d.children ≡ [] → (p : Place) (id : FullNodeId) → at 1 1 ≡ p.0 → ¬ (Lists w p id)
-lists_none w d is none p id same at_place =
-    let empty : listed w p.0 ≡ [] = subst (λ x. listed w x ≡ []) same (ap (λ o. option_map_or (λ x. map (in_tree 1) x.children) o []) is ∙ ap (map (in_tree 1)) none) in
-    let nothing : slice_get [] p.1 ≡ Some id = subst (λ xs. slice_get xs p.1 ≡ Some id) empty at_place in
-    cc
-
-no_children : (id : FullNodeId) → ¬ (IsChildOfNamed pushed label_inner_button labelled_inside id)
-no_children id h =
-    let same : at 1 1 ≡ h.0.0 = elim (contains_cases (at 1 1) h.0.0 [] h.1) [ inl e ↦ e | inr g ↦ absurd (contains_none h.0.0 g) ] in
-    elim (h.2) [ inl before ↦ lists_none pushed button old_has refl h.0 id same before | inr after ↦ lists_none labelled_inside labelled_button (new_has (at 1 1)) refl h.0 id same after ]
-
-none_gone : (id : FullNodeId) → ¬ (IsAdded labelled_inside pushed id)
-none_gone id h = h.1 (each_contained (IsNode labelled_inside) (at 0 0 ∷ at 0 1 ∷ at 1 0 ∷ at 1 1 ∷ []) (there (at 0 0) refl, (there (at 0 1) refl, (there (at 1 0) refl, (there (at 1 1) refl, tt)))) id (among pushed (nodes button) (entries-from_entries full_total (nodes button)) id h.0))
+stays : (id : FullNodeId) → IsNode pushed id → IsNode labelled_inside id
+stays id h = each_contained (IsNode labelled_inside) (at 0 0 ∷ at 0 1 ∷ at 1 0 ∷ at 1 1 ∷ []) (there (at 0 0) refl, (there (at 0 1) refl, (there (at 1 0) refl, (there (at 1 1) refl, tt)))) id (among pushed (nodes button) (entries-from_entries full_total (nodes button)) id h)
   where
     there : (id : FullNodeId) → IsSome (find full_cmp id (nodes labelled_button)) → IsNode labelled_inside id
     there = is_there labelled_inside (nodes labelled_button) (entries-from_entries full_total (nodes labelled_button))
@@ -52,17 +41,4 @@ button_depth : HasDepthInTree labelled_inside (at 1 1) 1
 button_depth = at_child (at 1 0, 0) (at 1 1) 0 document_depth (lists_at labelled_inside (at 1 0) (document (1 ∷ [])) 0 (at 1 1) (new_has (at 1 0)) refl)
 
 pub inner_label_work : InnerLabelWork
-inner_label_work = (
-  record {
-    children = [];
-    removed = [];
-    are_children = none_ascend _ no_children;
-    are_removed = none_ascend _ none_gone;
-    count_named = refl;
-    count_children = refl;
-    count_removed = refl;
-    sum_depths = (1, 0, button_depth, refl, refl);
-    count_known = refl;
-  },
-  refl,
-)
+inner_label_work = (leaf_work pushed labelled_inside label_inner_button (at 1 1) button labelled_button refl old_has (new_has (at 1 1)) refl refl stays button_depth, refl)
