@@ -12,16 +12,16 @@ use Rattle.model.specs.FullIds.{full_cmp}
 use Rattle.model.specs.World.{World, Place, data_of, IsNode, in_tree, listed}
 use Rattle.model.specs.Forest.{place_of}
 use Rattle.model.specs.Focus.{first, IsEffectiveFocus, Resolves, IsFocus}
-use Rattle.model.specs.State.{with_host, Lists}
+use Rattle.model.specs.State.{with_host}
 use Rattle.model.specs.Run.{Accepted}
-use Rattle.model.specs.Work.{HasDepthInTree, at_root, at_child, IsChildOfNamed}
+use Rattle.model.specs.Work.{HasDepthInTree, at_root, at_child}
 use Rattle.model.specs.Differences.{PlanEvent, Added, Updated, FocusMoved, Removed, IsAscendingListOf, IsAdded, IsInBoth, IsUpdated, IsAloneIf, AreOfFocus, AreDifferences}
 use Rattle.model.specs.Examples.{node, at, window, button, labelled_button}
 use Rattle.model.specs.EventExamples.{root_tree, window_alone, window_with_button, window_with_buttons, ButtonGoes, FocusedButtonGoes, FocusGoesToButton, ButtonsChangePlaces, HostLosesFocus, label_button, window_with_label, LabelIsLittleWork, pictured_before, pictured_after, PicturedChange}
 use Rattle.model.proofs.HostChanges.{none_ascend}
 use Rattle.model.proofs.ToldTools.{leaf_work, listed_so, each_contained, first_of, children_in, other_children}
 use Rattle.model.proofs.Written.{data_written, node_written, place_is, place_written, AreNodes}
-use Rattle.model.proofs.Members.{contains_cases, contains_first, contains_later, contains_none}
+use Rattle.model.proofs.Members.{contains_first, contains_later, contains_none}
 
 -- ---- root trees written out
 

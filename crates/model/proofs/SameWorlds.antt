@@ -1,5 +1,5 @@
 -- What is told where a world stays as it is.
-use Rattle.std.proofs.Common.{◌≡◌, ◌≢◌, ℕ, [], ◌∷◌, Option, Some, None, inl, inr, refl, sym, subst}
+use Rattle.std.proofs.Common.{◌≡◌, ◌≢◌, ℕ, List, [], ◌∷◌, ◌++◌, map, Option, Some, None, inl, inr, refl, sym, subst}
 use Rattle.std.specs.Prelude.{Contains}
 use Rattle.std.specs.List.Sorted.{IsStrictlySortedBy}
 use Rattle.std.proofs.lemmas.Bool.{ne_eqb}
@@ -7,9 +7,25 @@ use Rattle.model.specs.declared.FullNodeId.{FullNodeId}
 use Rattle.model.specs.World.{World, IsNode, in_tree}
 use Rattle.model.specs.Update.{InfoData}
 use Rattle.model.specs.Focus.{IsFocus}
-use Rattle.model.specs.Differences.{Updated, IsAscendingListOf, IsAdded, IsUpdated, AreDifferences, told_root}
+use Rattle.model.specs.Differences.{Added, Updated, Removed, IsAscendingListOf, IsAdded, IsUpdated, AreDifferences, told_root}
 use Rattle.model.proofs.HostChanges.{none_ascend}
 use Rattle.model.proofs.Members.{contains_cases, contains_first, contains_none}
+
+-- where the focus stays, what is told is what is added, updated and removed
+pub with_same_focus : (old new : World) (root focus : Option FullNodeId) → IsFocus old focus → IsFocus new focus → {added updated removed : List FullNodeId}
+    → IsAscendingListOf (IsAdded old new) added → IsAscendingListOf (IsUpdated old new root) updated → IsAscendingListOf (IsAdded new old) removed
+    → AreDifferences old new root (map Added added ++ map Updated updated ++ [] ++ map Removed removed)
+with_same_focus old new root focus before after {added} {updated} {removed} are_added are_updated are_removed = record {
+  added = added;
+  updated = updated;
+  of_focus = [];
+  removed = removed;
+  are_added = are_added;
+  are_updated = are_updated;
+  are_of_focus = (focus, focus, before, after, inl (refl, refl));
+  are_removed = are_removed;
+  all = refl;
+}
 
 module _ (w : World) where
   no_new : (id : FullNodeId) → ¬ (IsAdded w w id)
@@ -35,30 +51,10 @@ module _ (w : World) where
   }
 
   pub nothing_told : (focus : Option FullNodeId) → IsFocus w focus → AreDifferences w w None []
-  nothing_told focus h = record {
-    added = [];
-    updated = [];
-    of_focus = [];
-    removed = [];
-    are_added = none_ascend _ no_new;
-    are_updated = none_ascend _ none_updated;
-    are_of_focus = (focus, focus, h, h, inl (refl, refl));
-    are_removed = none_ascend _ no_new;
-    all = refl;
-  }
+  nothing_told focus h = with_same_focus w w None focus h h (none_ascend _ no_new) (none_ascend _ none_updated) (none_ascend _ no_new)
 
   pub root_told : (focus : Option FullNodeId) (id : FullNodeId) → IsFocus w focus → IsNode w id → AreDifferences w w (Some id) (Updated id ∷ [])
-  root_told focus id h is = record {
-    added = [];
-    updated = id ∷ [];
-    of_focus = [];
-    removed = [];
-    are_added = none_ascend _ no_new;
-    are_updated = one_updated id is;
-    are_of_focus = (focus, focus, h, h, inl (refl, refl));
-    are_removed = none_ascend _ no_new;
-    all = refl;
-  }
+  root_told focus id h is = with_same_focus w w (Some id) focus h h (none_ascend _ no_new) (one_updated id is) (none_ascend _ no_new)
 
 no_root_told : (info : Option InfoData) → told_root 0 info ≡ None
 no_root_told None = refl

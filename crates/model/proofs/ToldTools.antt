@@ -1,23 +1,19 @@
 -- How the differences of two small worlds are shown, from the entries of each and the children of each node.
 use Rattle.std.proofs.Common.{length, slice_get, ◌≡◌, ◌≢◌, ℕ, not, List, [], ◌∷◌, Option, Some, None, ◌⊎◌, inl, inr, refl, sym, ap, subst, ◌∙◌, map}
-use Rattle.std.specs.Prelude.{Contains, IsSome, position, option_map}
-use Rattle.std.specs.Option.{option_or, option_map_or}
-use Rattle.std.specs.FinMap.{find, entries}
+use Rattle.std.specs.Prelude.{Contains}
+use Rattle.std.specs.Option.{option_map_or}
 use Rattle.std.specs.List.Sorted.{IsStrictlySortedBy}
 use Rattle.schema.specs.NodeData.{NodeData}
 use Rattle.schema.specs.declared.NodeId.{NodeId}
-use Rattle.schema.specs.declared.TreeId.{TreeId}
 use Rattle.model.specs.declared.FullNodeId.{FullNodeId}
 use Rattle.model.specs.FullIds.{full_cmp}
-use Rattle.model.specs.World.{World, IsNode, data_of, in_tree, listed, children, root_named, Place}
+use Rattle.model.specs.World.{World, IsNode, data_of, in_tree, listed, Place}
 use Rattle.model.specs.State.{Lists}
 use Rattle.model.specs.Update.{UpdateData}
 use Rattle.model.specs.Work.{HasDepthInTree, IsSumOfDepths, IsChildOfNamed, IsWorkOf, named_ids}
-use Rattle.model.specs.Forest.{place_of, place_among, is_same}
+use Rattle.model.specs.Forest.{place_of}
 use Rattle.model.specs.Differences.{IsAscendingListOf, IsUpdated}
 use Rattle.model.proofs.HostChanges.{none_ascend}
-use Rattle.model.proofs.Written.{found_key, children_written}
-use Rattle.model.proofs.Examples.Tools.{get_is}
 use Rattle.model.proofs.Members.{contains_cases, contains_none}
 
 -- ---- lists whose members are told one by one
@@ -35,49 +31,6 @@ settled P ids all h y c p = elim (each_contained (λ x. Contains ids x ⊎ ¬ (P
 
 pub listed_so : (P : FullNodeId → Type 0) (ids all : List FullNodeId) → IsStrictlySortedBy full_cmp ids → Each P ids → ((y : FullNodeId) → P y → Contains all y) → Each (λ x. Contains ids x ⊎ ¬ (P x)) all → IsAscendingListOf P ids
 listed_so P ids all sorted each within h = record { ascending = sorted; members = λ y. (each_contained P ids each y, λ p. settled P ids all h y (within y p) p) }
-
--- ---- places, from the children of each node
-
--- the place of a node among these children
-abbrev pub place_in : FullNodeId → List (FullNodeId × List FullNodeId) → Option Place
-place_in c [] = None
-place_in c (k ∷ ks) = option_or (option_map (λ i. (k.0, i)) (position (is_same c) k.1)) (place_in c ks)
-
-abbrev pub AreChildren : World → List (FullNodeId × List FullNodeId) → Type 0
-AreChildren w [] = Unit {0}
-AreChildren w (k ∷ ks) = (children w k.0 ≡ k.1) × AreChildren w ks
-
-place_among_in : (w : World) (c : FullNodeId) (ks : List (FullNodeId × List FullNodeId)) → AreChildren w ks → place_among w c (map (λ k. k.0) ks) ≡ place_in c ks
-place_among_in w c [] h = refl
-place_among_in w c (k ∷ ks) h =
-    ap (λ cs. option_or (option_map (λ i. (k.0, i)) (position (is_same c) cs)) (place_among w c (map (λ x. x.0) ks))) h.0
-    ∙ ap (option_or (option_map (λ i. (k.0, i)) (position (is_same c) k.1))) (place_among_in w c ks h.1)
-
-module _ (w : World) (es : List (FullNodeId × NodeData)) (are : entries w.nodes ≡ es) where
-  pub data_at : (id : FullNodeId) → data_of w id ≡ find full_cmp id es
-  data_at id = get_is w.nodes es are id
-
-  pub is_there : (id : FullNodeId) → IsSome (find full_cmp id es) → IsNode w id
-  is_there id h = subst IsSome (sym (data_at id)) h
-
-  pub is_away : (id : FullNodeId) → find full_cmp id es ≡ None → ¬ (IsNode w id)
-  is_away id e h = let f : IsSome {T = NodeData} None = subst IsSome (data_at id ∙ e) h in cc
-
-  pub among : (id : FullNodeId) → IsNode w id → Contains (map (λ e. e.0) es) id
-  among id h = found_key id es (subst IsSome (data_at id) h)
-
-  pub place_at : (ks : List (FullNodeId × List FullNodeId)) → map (λ e. e.0) es ≡ map (λ k. k.0) ks → AreChildren w ks → (id : FullNodeId) → place_of w id ≡ place_in id ks
-  unfolding place_of
-  place_at ks same h id = ap (place_among w id) (ap (map (λ (e : FullNodeId × NodeData). e.0)) are ∙ same) ∙ place_among_in w id ks h
-
-  pub lists : (id : FullNodeId) (d : NodeData) → find full_cmp id es ≡ Some d → d.tree_id ≡ None → children w id ≡ map (in_tree id.tree) d.children
-  lists id d e bare = children_written w id d (data_at id ∙ e) bare
-
-  pub grafts_one : (id root : FullNodeId) (d : NodeData) (name : TreeId) → find full_cmp id es ≡ Some d → d.tree_id ≡ Some name → root_named w name ≡ Some root → children w id ≡ root ∷ []
-  grafts_one id root d name e graft is = let has : data_of w id ≡ Some d = data_at id ∙ e in rw has (rw graft (rw is refl))
-
-  pub grafts_none : (id : FullNodeId) (d : NodeData) (name : TreeId) → find full_cmp id es ≡ Some d → d.tree_id ≡ Some name → root_named w name ≡ None → children w id ≡ []
-  grafts_none id d name e graft is = let has : data_of w id ≡ Some d = data_at id ∙ e in rw has (rw graft (rw is refl))
 
 -- ---- what differs
 

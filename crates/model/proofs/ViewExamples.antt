@@ -1,7 +1,8 @@
 -- The small interfaces, worked out.
-use Rattle.std.proofs.Common.{◌≡◌, [], ◌∷◌, refl}
+use Rattle.std.proofs.Common.{◌≡◌, ℕ, [], ◌∷◌, refl}
 use Rattle.std.specs.Prelude.{true, None, Some}
 use Rattle.schema.specs.declared.Role.TheVariants.{ListBoxOption}
+use Rattle.model.specs.declared.filters.FilterResult.{FilterResult}
 use Rattle.model.specs.declared.filters.FilterResult.TheVariants.{Include, ExcludeSubtree}
 use Rattle.model.specs.Filters.{common_filter}
 use Rattle.model.specs.ListExamples.{parent}
@@ -37,41 +38,20 @@ pushed_lists = record {
   focused = simp (focus_is example.pushed.known example.pushed_trees example.pushed_nodes true tt tt, data_at example.pushed.known example.pushed_trees example.pushed_nodes true tt tt);
 }
 
+abbrev answer : ℕ → FilterResult
+answer n = common_filter (example.one_tree None example.scrolled) (at 0 n)
+
 pub clipped_answers : example.ClippedAnswers
-clipped_answers = record { each = λ i. at_1 i ∷ at_2 i ∷ at_3 i ∷ at_4 i ∷ at_5 i ∷ at_6 i ∷ at_7 i ∷ at_8 i ∷ at_9 i ∷ at_10 i ∷ at_11 i ∷ [] }
+clipped_answers = record { each = λ i. above.0 i ∷ above.1 i ∷ above.2 i ∷ above.3 i ∷ seen.0 i ∷ seen.1 i ∷ seen.2 i ∷ below.0 i ∷ below.1 i ∷ below.2 i ∷ below.3 i ∷ [] }
   where
-    at_1 : common_filter (example.one_tree None example.scrolled) (at 0 1) ≡ ExcludeSubtree
-    at_1 = simp (above_in None example.scrolled tt, data_in None example.scrolled tt, below_in None example.scrolled tt)
+    above : (answer 1 ≡ ExcludeSubtree) × (answer 2 ≡ ExcludeSubtree) × (answer 3 ≡ Include) × (answer 4 ≡ ExcludeSubtree)
+    above = (simp (above_in None example.scrolled tt, data_in None example.scrolled tt, below_in None example.scrolled tt), simp (above_in None example.scrolled tt, data_in None example.scrolled tt, below_in None example.scrolled tt), simp (above_in None example.scrolled tt, data_in None example.scrolled tt, below_in None example.scrolled tt), simp (above_in None example.scrolled tt, data_in None example.scrolled tt))
 
-    at_2 : common_filter (example.one_tree None example.scrolled) (at 0 2) ≡ ExcludeSubtree
-    at_2 = simp (above_in None example.scrolled tt, data_in None example.scrolled tt, below_in None example.scrolled tt)
+    seen : (answer 5 ≡ Include) × (answer 6 ≡ Include) × (answer 7 ≡ Include)
+    seen = (simp (above_in None example.scrolled tt, data_in None example.scrolled tt, below_in None example.scrolled tt), simp (above_in None example.scrolled tt, data_in None example.scrolled tt, below_in None example.scrolled tt), simp (above_in None example.scrolled tt, data_in None example.scrolled tt, below_in None example.scrolled tt))
 
-    at_3 : common_filter (example.one_tree None example.scrolled) (at 0 3) ≡ Include
-    at_3 = simp (above_in None example.scrolled tt, data_in None example.scrolled tt, below_in None example.scrolled tt)
-
-    at_4 : common_filter (example.one_tree None example.scrolled) (at 0 4) ≡ ExcludeSubtree
-    at_4 = simp (above_in None example.scrolled tt, data_in None example.scrolled tt)
-
-    at_5 : common_filter (example.one_tree None example.scrolled) (at 0 5) ≡ Include
-    at_5 = simp (above_in None example.scrolled tt, data_in None example.scrolled tt, below_in None example.scrolled tt)
-
-    at_6 : common_filter (example.one_tree None example.scrolled) (at 0 6) ≡ Include
-    at_6 = simp (above_in None example.scrolled tt, data_in None example.scrolled tt, below_in None example.scrolled tt)
-
-    at_7 : common_filter (example.one_tree None example.scrolled) (at 0 7) ≡ Include
-    at_7 = simp (above_in None example.scrolled tt, data_in None example.scrolled tt, below_in None example.scrolled tt)
-
-    at_8 : common_filter (example.one_tree None example.scrolled) (at 0 8) ≡ ExcludeSubtree
-    at_8 = simp (above_in None example.scrolled tt, data_in None example.scrolled tt)
-
-    at_9 : common_filter (example.one_tree None example.scrolled) (at 0 9) ≡ Include
-    at_9 = simp (above_in None example.scrolled tt, data_in None example.scrolled tt, below_in None example.scrolled tt)
-
-    at_10 : common_filter (example.one_tree None example.scrolled) (at 0 10) ≡ ExcludeSubtree
-    at_10 = simp (above_in None example.scrolled tt, data_in None example.scrolled tt, below_in None example.scrolled tt)
-
-    at_11 : common_filter (example.one_tree None example.scrolled) (at 0 11) ≡ ExcludeSubtree
-    at_11 = simp (above_in None example.scrolled tt, data_in None example.scrolled tt, below_in None example.scrolled tt)
+    below : (answer 8 ≡ ExcludeSubtree) × (answer 9 ≡ Include) × (answer 10 ≡ ExcludeSubtree) × (answer 11 ≡ ExcludeSubtree)
+    below = (simp (above_in None example.scrolled tt, data_in None example.scrolled tt), simp (above_in None example.scrolled tt, data_in None example.scrolled tt, below_in None example.scrolled tt), simp (above_in None example.scrolled tt, data_in None example.scrolled tt, below_in None example.scrolled tt), simp (above_in None example.scrolled tt, data_in None example.scrolled tt, below_in None example.scrolled tt))
 
 pub filtered_lists : example.FilteredLists
 filtered_lists = record {

@@ -1,5 +1,6 @@
 -- Updates of trees within trees, and what they tell.
-use Rattle.std.specs.Prelude.{◌≡◌, [], ◌∷◌, Some}
+use Rattle.std.specs.Prelude.{◌≡◌, ℕ, [], ◌∷◌, Some}
+use Rattle.model.specs.declared.FullNodeId.{FullNodeId}
 use Rattle.model.specs.Events.{NodeAdded, NodeUpdated, FocusMoved, NodeRemoved, seen_in}
 use Rattle.model.specs.Run.{ToUpdate, Accepted, Does}
 use Rattle.model.specs.Work.{IsWorkOf, allowed}
@@ -30,21 +31,21 @@ GraftedTreeComes = Does empty_graft (ToUpdate pushed_tree) pushed (NodeAdded (se
 abbrev pub GraftedRootIsLabelled : Type 0
 GraftedRootIsLabelled = Does pushed (ToUpdate document_again) labelled (NodeUpdated (seen_in pushed (at 1 0)) (seen_in labelled (at 1 0)) ∷ []) Accepted
 
--- The focus goes from the window to the graft, and so to the document's button, which the document's tree declares focused.
-abbrev pub FocusGoesInside : Type 0
-FocusGoesInside =
-    Does (with_inner_focus 0) (ToUpdate (focus_on 1)) (with_inner_focus 1)
-    (NodeUpdated (seen_in (with_inner_focus 0) (at 0 0)) (seen_in (with_inner_focus 1) (at 0 0)) ∷ NodeUpdated (seen_in (with_inner_focus 0) (at 1 1)) (seen_in (with_inner_focus 1) (at 1 1))
-    ∷ FocusMoved (Some (seen_in (with_inner_focus 0) (at 0 0))) (Some (seen_in (with_inner_focus 1) (at 1 1))) ∷ [])
+-- The root tree declares another of its nodes focused, and the focus goes from x to y: both are told as updated, and then it moves.
+abbrev pub InnerFocusGoes : ℕ → ℕ → FullNodeId → FullNodeId → Type 0
+InnerFocusGoes before after x y =
+    Does (with_inner_focus before) (ToUpdate (focus_on after)) (with_inner_focus after)
+    (NodeUpdated (seen_in (with_inner_focus before) x) (seen_in (with_inner_focus after) x) ∷ NodeUpdated (seen_in (with_inner_focus before) y) (seen_in (with_inner_focus after) y)
+    ∷ FocusMoved (Some (seen_in (with_inner_focus before) x)) (Some (seen_in (with_inner_focus after) y)) ∷ [])
     Accepted
+
+-- from the window to the graft, and so to the document's button, which the document's tree declares focused
+abbrev pub FocusGoesInside : Type 0
+FocusGoesInside = InnerFocusGoes 0 1 (at 0 0) (at 1 1)
 
 -- and back
 abbrev pub FocusComesBack : Type 0
-FocusComesBack =
-    Does (with_inner_focus 1) (ToUpdate (focus_on 0)) (with_inner_focus 0)
-    (NodeUpdated (seen_in (with_inner_focus 1) (at 1 1)) (seen_in (with_inner_focus 0) (at 1 1)) ∷ NodeUpdated (seen_in (with_inner_focus 1) (at 0 0)) (seen_in (with_inner_focus 0) (at 0 0))
-    ∷ FocusMoved (Some (seen_in (with_inner_focus 1) (at 1 1))) (Some (seen_in (with_inner_focus 0) (at 0 0))) ∷ [])
-    Accepted
+FocusComesBack = InnerFocusGoes 1 0 (at 1 1) (at 0 0)
 
 -- The work of a label in the document: one node is named, which lists nothing and stands one below its tree's root, though three below the window; two names are known.
 abbrev pub InnerLabelWork : Type 0

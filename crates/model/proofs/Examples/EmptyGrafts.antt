@@ -9,7 +9,7 @@ use Rattle.model.specs.Examples.{at, node, name, empty_graft, focus_on_graft}
 use Rattle.model.proofs.Examples.Tools.{◌▸◌}
 use Rattle.model.proofs.Examples.Evidence.{none_stands_apart}
 use Rattle.model.proofs.Examples.Tested.{IsWritten, IsTested, merged_written, tree_at, reached_by, grafts_in, is_present, tested_apart}
-use Rattle.model.proofs.Examples.Worlds.{one_tree, empty_graft_nodes, empty_graft_written, written}
+use Rattle.model.proofs.Examples.Worlds.{empty_graft_nodes, empty_graft_written, written}
 
 abbrev focused : List (ℕ × Tree)
 focused = (0, record { root = node 0; focus = node 1 }) ∷ []
@@ -29,7 +29,7 @@ shown = record {
   before = before;
   after = written _ focused empty_graft_nodes;
   same = (refl, refl, refl);
-  occasion = inr (record { later = λ e. cc; grafted = inl refl; has_root = inl (is_present empty_graft one_tree empty_graft_nodes empty_graft_written 0 refl); index_left = inl refl });
+  occasion = inr (record { later = λ e. cc; grafted = inl refl; has_root = inl (is_present empty_graft_written 0 refl); index_left = inl refl });
   found = (refl ▸ tt, refl ▸ refl ▸ tt);
   passes = refl;
 }
@@ -37,5 +37,5 @@ shown = record {
 pub focus_on_an_empty_graft_is_refused : Stands empty_graft focus_on_graft (FocusOnEmptyGraft (name 1))
 focus_on_an_empty_graft_is_refused = (
   none_stands_apart (tested_apart shown),
-  (at 0 1, first (record { root = node 0; focus = node 1 }) (tree_at m focused empty_graft_nodes before 0), world.Kept.root, reached_by m focused empty_graft_nodes before 1 (at 0 1) refl, grafts_in m focused empty_graft_nodes before (at 0 1), refl),
+  (at 0 1, first (record { root = node 0; focus = node 1 }) (tree_at before 0), world.Kept.root, reached_by before 1 (at 0 1) refl, grafts_in before (at 0 1), refl),
 )

@@ -1,7 +1,7 @@
 -- The focus goes from a window into the document that it grafts, and back.
 use Rattle.std.proofs.Common.{◌≡◌, ◌≢◌, ℕ, List, [], ◌∷◌, nat_cmp, Some, None, IsSome, option_map, inl, inr, refl, sym, ap, ◌∙◌, subst, arith}
 use Rattle.std.specs.Cmp.{nat_cmp_total}
-use Rattle.std.specs.FinMap.{get, entries, find}
+use Rattle.std.specs.FinMap.{get, find}
 use Rattle.std.proofs.lemmas.Option.{same_Some}
 use Rattle.schema.specs.NodeData.{NodeData}
 use Rattle.schema.specs.declared.TreeId.{TreeId}
@@ -9,7 +9,6 @@ use Rattle.model.specs.declared.FullNodeId.{FullNodeId}
 use Rattle.model.specs.FullIds.{full_cmp, full_total}
 use Rattle.model.specs.World.{World, Tree, IsNode, HasData, in_tree, Reached, Kept, graft_name, root_named, focus_named}
 use Rattle.model.specs.World as world
-use Rattle.model.specs.Forest.{place_of}
 use Rattle.model.specs.Focus.{OnChain, first, next, GoesOn, IsFocus, Resolves}
 use Rattle.model.specs.Update.{IsAccepted, merged}
 use Rattle.model.specs.Differences.{Updated, FocusMoved, AreDifferences}
@@ -17,10 +16,10 @@ use Rattle.model.specs.Examples.{at, node, name, window, document, graft, button
 use Rattle.model.specs.ToldExamples.{FocusGoesInside, FocusComesBack}
 use Rattle.model.proofs.HostChanges.{none_ascend}
 use Rattle.model.proofs.Members.{contains_none}
-use Rattle.model.proofs.ToldTools.{place_in, place_at, lists, grafts_one, same_still, nothing_there}
+use Rattle.model.proofs.ToldTools.{same_still, nothing_there}
 use Rattle.model.proofs.Examples.Tools.{◌▸◌, entries-from_entries}
 use Rattle.model.proofs.Examples.Evidence.{each_graft, accepted_by_chain}
-use Rattle.model.proofs.Examples.Tested.{IsWritten, IsTested, merged_written, tree_at, node_in, is_there, is_present, reached_by, grafts_in, tested_apart}
+use Rattle.model.proofs.Examples.Tested.{IsWritten, IsTested, merged_written, tree_at, node_in, is_there, is_present, reached_by, grafts_in, place_read, tested_apart}
 
 abbrev nodes : List (FullNodeId × NodeData)
 nodes = (at 0 0, window (1 ∷ [])) ∷ (at 0 1, graft (name 1)) ∷ (at 1 0, document (1 ∷ [])) ∷ (at 1 1, button) ∷ []
@@ -41,25 +40,16 @@ module _ (f : ℕ) where
   written = record { trees = entries-from_entries nat_cmp_total (trees f); nodes = entries-from_entries full_total nodes }
 
   has : (id : FullNodeId) → get w.nodes id ≡ find full_cmp id nodes
-  has = node_in w (trees f) nodes written
+  has = node_in written
 
   there : (id : FullNodeId) → IsSome (find full_cmp id nodes) → IsNode w id
-  there = is_there w (trees f) nodes written
+  there = is_there written
 
   tree_here : (index : ℕ) → get w.trees index ≡ find nat_cmp index (trees f)
-  tree_here = tree_at w (trees f) nodes written
+  tree_here = tree_at written
 
   inner_root : root_named w (name 1) ≡ Some (at 1 0)
   inner_root = ap (option_map (λ t. in_tree 1 t.root)) (tree_here 1)
-
-  abbrev children_of : List (FullNodeId × List FullNodeId)
-  children_of = (at 0 0, at 0 1 ∷ []) ∷ (at 0 1, at 1 0 ∷ []) ∷ (at 1 0, at 1 1 ∷ []) ∷ (at 1 1, []) ∷ []
-
-  place : (id : FullNodeId) → place_of w id ≡ place_in id children_of
-  place = place_at w nodes written.nodes children_of refl (
-    lists w nodes written.nodes (at 0 0) _ refl refl,
-    (grafts_one w nodes written.nodes (at 0 1) (at 1 0) _ (name 1) refl refl inner_root, (lists w nodes written.nodes (at 1 0) _ refl refl, (lists w nodes written.nodes (at 1 1) _ refl refl, tt))),
-  )
 
   plain : (id : FullNodeId) (d : NodeData) → HasData w id d → d.active_descendant ≡ None → (a : FullNodeId) → ¬ (Resolves w id a)
   plain id d is none a h = let same : h.0 ≡ d = same_Some h.0 d (sym h.1 ∙ is) in cc (h.2, none, ap (λ x. x.active_descendant) same)
@@ -73,9 +63,9 @@ on_button = (refl, at 1 1, (next (at 0 1) (at 1 1) (first (tree_of 1) (tree_here
     goes : GoesOn (with_inner_focus 1) (at 0 1) (at 1 1)
     goes = record {
       kept = world.Kept.root;
-      reached = reached_by (with_inner_focus 1) (trees 1) nodes (written 1) 1 (at 0 1) refl;
+      reached = reached_by (written 1) 1 (at 0 1) refl;
       name = name 1;
-      grafts = grafts_in (with_inner_focus 1) (trees 1) nodes (written 1) (at 0 1);
+      grafts = grafts_in (written 1) (at 0 1);
       declared = ap (option_map (λ t. in_tree 1 t.focus)) (tree_here 1 1);
     }
 
@@ -93,13 +83,13 @@ module _ (f g : ℕ) (stays : IsSome (find full_cmp (at 0 g) nodes)) where
     before = before;
     after = written g;
     same = (refl, refl, refl);
-    occasion = inr (record { later = λ e. cc; grafted = inl refl; has_root = inl (is_present (with_inner_focus f) (trees f) nodes (written f) 0 refl); index_left = inl refl });
+    occasion = inr (record { later = λ e. cc; grafted = inl refl; has_root = inl (is_present (written f) 0 refl); index_left = inl refl });
     found = (refl ▸ refl ▸ tt, refl ▸ refl ▸ refl ▸ refl ▸ tt);
     passes = refl;
   }
 
   m_tree : (index : ℕ) → get m.trees index ≡ find nat_cmp index (trees g)
-  m_tree = tree_at m (trees g) nodes before
+  m_tree = tree_at before
 
   -- what is grafted is the document
   names_document : (id : FullNodeId) (k : TreeId) → graft_name m id ≡ Some k → name 1 ≡ k
@@ -121,7 +111,7 @@ module _ (f g : ℕ) (stays : IsSome (find full_cmp (at 0 g) nodes)) where
     of_focus = Updated x ∷ Updated y ∷ FocusMoved (Some x) (Some y) ∷ [];
     removed = [];
     are_added = none_ascend _ (λ id h. h.1 h.0);
-    are_updated = none_ascend _ (λ id. same_still (with_inner_focus f) (with_inner_focus g) None id refl (place f id ∙ sym (place g id)) (nothing_there id));
+    are_updated = none_ascend _ (λ id. same_still (with_inner_focus f) (with_inner_focus g) None id refl (place_read (written f) id ∙ sym (place_read (written g) id)) (nothing_there id));
     are_of_focus = (Some x, Some y, before, after, inr (λ e. other (same_Some x y e), x ∷ [], y ∷ [], inl (((x_there, x_there), contains_none x), refl), inl (((y_there, y_there), contains_none y), refl), refl));
     are_removed = none_ascend _ (λ id h. h.1 h.0);
     all = refl;

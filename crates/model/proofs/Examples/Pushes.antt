@@ -5,7 +5,7 @@ use Rattle.model.specs.Examples.{at, node, name, plain_tree, empty_graft, ungraf
 use Rattle.model.proofs.Examples.Tools.{◌▸◌, names_apart}
 use Rattle.model.proofs.Examples.Evidence.{each_graft}
 use Rattle.model.proofs.Examples.Tested.{tree_at, grafts_in, accepted_by_tests}
-use Rattle.model.proofs.Examples.Worlds.{one_tree, empty_graft_nodes, empty_graft_written, pushed_written}
+use Rattle.model.proofs.Examples.Worlds.{empty_graft_nodes, empty_graft_written, pushed_written}
 
 -- no node grafts tree 2
 pub tree_without_a_graft_is_refused : Stands empty_graft ungrafted_tree (NoGraft (name 2))
@@ -19,9 +19,9 @@ tree_without_a_graft_is_refused = (
 pub grafted_tree_is_accepted : IsAccepted empty_graft pushed_tree pushed
 grafted_tree_is_accepted =
     accepted_by_tests pushed_tree empty_graft_written (node 0) refl pushed_written (refl, refl, refl)
-    (inr (record { later = λ e. cc; grafted = inr (at 0 1, grafts_in empty_graft one_tree empty_graft_nodes empty_graft_written (at 0 1)); has_root = inr refl; index_left = inr (omega arith) }))
+    (inr (record { later = λ e. cc; grafted = inr (at 0 1, grafts_in empty_graft_written (at 0 1)); has_root = inr refl; index_left = inr (omega arith) }))
     (refl ▸ refl ▸ tt, refl ▸ refl ▸ refl ▸ refl ▸ tt) refl plain_tree refl refl refl
 
 -- it can't come without tree info
 pub first_tree_info_is_needed : Stands empty_graft tree_without_info (NoFirstTreeInfo (name 1))
-first_tree_info_is_needed = ((λ e. cc), refl, tree_at empty_graft one_tree empty_graft_nodes empty_graft_written 1, refl)
+first_tree_info_is_needed = ((λ e. cc), refl, tree_at empty_graft_written 1, refl)

@@ -4,10 +4,10 @@ use Rattle.model.specs.Update.{IsAccepted}
 use Rattle.model.specs.Examples.{node, plain_tree, plain, button_goes, window_alone}
 use Rattle.model.proofs.Examples.Tools.{◌▸◌}
 use Rattle.model.proofs.Examples.Tested.{is_present, accepted_by_tests}
-use Rattle.model.proofs.Examples.Worlds.{one_tree, plain_nodes, plain_written, window_written}
+use Rattle.model.proofs.Examples.Worlds.{plain_written, window_written}
 
 pub child_that_is_listed_no_more_goes : IsAccepted plain button_goes window_alone
 child_that_is_listed_no_more_goes =
     accepted_by_tests button_goes plain_written (node 0) refl window_written (refl, refl, refl)
-    (inr (record { later = λ e. cc; grafted = inl refl; has_root = inl (is_present plain one_tree plain_nodes plain_written 0 refl); index_left = inl refl }))
+    (inr (record { later = λ e. cc; grafted = inl refl; has_root = inl (is_present plain_written 0 refl); index_left = inl refl }))
     (refl ▸ tt, refl ▸ tt) refl plain_tree refl refl refl

@@ -1,26 +1,26 @@
 -- Small worlds written out: that an update of one is accepted, and leaves another, is tested on their entries.
-use Rattle.std.proofs.Common.{◌≡◌, ◌≢◌, ℕ, zero, suc, Bool, true, false, not, cond, eqb, ◌&&◌, ◌||◌, List, [], ◌∷◌, map, nat_cmp, position, slice_get, Option, Some, None, IsSome, is_some, option_map, option_and_then, unwrap_or, ◌⊎◌, inl, inr, refl, sym, ap, ◌∙◌, subst}
+use Rattle.std.proofs.Common.{◌≡◌, ◌≢◌, ℕ, zero, suc, Bool, true, false, not, cond, eqb, ◌&&◌, ◌||◌, List, [], ◌∷◌, map, nat_cmp, position, slice_get, Option, Some, None, IsSome, is_some, Contains, option_map, option_and_then, unwrap_or, ◌⊎◌, inl, inr, refl, sym, ap, ◌∙◌, subst}
 use Rattle.std.specs.Option.{option_or, option_map_or, IfSome}
 use Rattle.std.specs.List.{AllByRecursion}
 use Rattle.std.specs.Cmp.{nat_cmp_total}
 use Rattle.std.specs.FinMap.{get, insert, entries, find, put, entries-insert}
 use Rattle.std.proofs.lemmas.Bool.{and_parts, or_cases, eqb-true, false≢true}
-use Rattle.std.proofs.lemmas.Option.{same_Some, none-some}
 use Rattle.schema.specs.NodeData.{NodeData}
 use Rattle.schema.specs.declared.NodeId.{NodeId}
 use Rattle.schema.specs.declared.TreeId.{TreeId}
 use Rattle.model.specs.declared.FullNodeId.{FullNodeId}
-use Rattle.model.specs.FullIds.{full_cmp, full_total}
-use Rattle.model.specs.World.{ROOT_NAME, World, Tree, HasData, IsNode, index_of, in_tree, listed, graft_name, root_of, root_named, Place, Reached, Kept}
+use Rattle.model.specs.FullIds.{full_cmp}
+use Rattle.model.specs.World.{ROOT_NAME, World, Tree, HasData, IsNode, index_of, in_tree, listed, graft_name, root_of, root_named, at_most_one, children, Place, Reached, Kept}
 use Rattle.model.specs.World as world
-use Rattle.model.specs.Forest.{is_same}
-use Rattle.model.specs.Update.{UpdateData, IsAccepted, IsFirst, index_for, root_after, merged}
-use Rattle.model.proofs.Names.{is_name, is_name-true, is_name-itself}
+use Rattle.model.specs.Forest.{place_of, place_among, is_same}
+use Rattle.model.specs.Update.{UpdateData, IsAccepted, index_for, root_after, merged}
+use Rattle.model.proofs.Names.{is_name, is_name-itself}
 use Rattle.model.proofs.PlaceOf.{same_from_test, test_self}
+use Rattle.model.proofs.Written.{found_key}
 use Rattle.model.proofs.Spots.{root_reached}
 use Rattle.model.proofs.States.{and_then_some}
 use Rattle.model.proofs.Examples.Tools.{get_is, over, entries-overwritten, EachAt}
-use Rattle.model.proofs.Examples.Evidence.{EachListed, EachGraft, IsShownApart, IsShownFirst, IsShownLater, IsShownAccepted, accepted_shown}
+use Rattle.model.proofs.Examples.Evidence.{EachListed, EachGraft, IsShownApart, IsShownFirst, IsShownLater, accepted_shown}
 
 -- a world whose trees and nodes are these
 pub record IsWritten (w : World) (ts : List (ℕ × Tree)) (es : List (FullNodeId × NodeData)) : Type 0 where
@@ -72,6 +72,14 @@ graft_in es id = option_and_then (λ d. d.tree_id) (find full_cmp id es)
 abbrev named_in : World → List (ℕ × Tree) → TreeId → Option FullNodeId
 named_in w ts name = option_and_then (root_in ts) (index_of w name)
 
+abbrev children_in : World → List (ℕ × Tree) → List (FullNodeId × NodeData) → FullNodeId → List FullNodeId
+children_in w ts es id = option_map_or (λ name. at_most_one (named_in w ts name)) (graft_in es id) (listed_in es id)
+
+-- the first place of a node among the children of some of these nodes
+abbrev pub place_read_among : World → List (ℕ × Tree) → List (FullNodeId × NodeData) → FullNodeId → List (FullNodeId × NodeData) → Option Place
+place_read_among w ts es id [] = None
+place_read_among w ts es id (e ∷ some) = option_or (option_map (λ i. (e.0, i)) (position (is_same id) (children_in w ts es e.0))) (place_read_among w ts es id some)
+
 -- the first place at which a node is listed, and the first node that grafts a tree
 abbrev lister : List (FullNodeId × NodeData) → FullNodeId → Option Place
 lister [] id = None
@@ -102,65 +110,89 @@ module _ (w : World) (ts : List (ℕ × Tree)) (es : List (FullNodeId × NodeDat
       (λ graft. option_map_or (λ inner. eqb index inner.tree) (option_and_then (named_in w ts) (graft_in es graft)) false && climbs 3 graft && leads_out n graft.tree)
       (option_and_then (grafter es) (slice_get w.known index)) false
 
-  module _ (is : IsWritten w ts es) where
-    pub tree_at : (index : ℕ) → get w.trees index ≡ find nat_cmp index ts
-    tree_at index = get_is w.trees ts is.trees index
+module _ {w : World} {ts : List (ℕ × Tree)} {es : List (FullNodeId × NodeData)} (is : IsWritten w ts es) where
+  pub tree_at : (index : ℕ) → get w.trees index ≡ find nat_cmp index ts
+  tree_at index = get_is w.trees ts is.trees index
 
-    pub node_in : (id : FullNodeId) → get w.nodes id ≡ find full_cmp id es
-    node_in id = get_is w.nodes es is.nodes id
+  pub node_in : (id : FullNodeId) → get w.nodes id ≡ find full_cmp id es
+  node_in id = get_is w.nodes es is.nodes id
 
-    root_at : (index : ℕ) → root_of w index ≡ root_in ts index
-    root_at index = ap (option_map (λ t. in_tree index t.root)) (tree_at index)
+  root_at : (index : ℕ) → root_of w index ≡ root_in ts index
+  root_at index = ap (option_map (λ t. in_tree index t.root)) (tree_at index)
 
-    pub is_there : (id : FullNodeId) → has_node es id ≡ true → IsNode w id
-    is_there id e = subst IsSome (sym (node_in id)) e
+  pub is_there : (id : FullNodeId) → has_node es id ≡ true → IsNode w id
+  is_there id e = subst IsSome (sym (node_in id)) e
 
-    pub is_present : (index : ℕ) → has_tree ts index ≡ true → IsSome (get w.trees index)
-    is_present index e = subst IsSome (sym (tree_at index)) e
+  pub is_present : (index : ℕ) → has_tree ts index ≡ true → IsSome (get w.trees index)
+  is_present index e = subst IsSome (sym (tree_at index)) e
 
-    pub grafts_in : (id : FullNodeId) → graft_name w id ≡ graft_in es id
-    grafts_in id = ap (option_and_then (λ d. d.tree_id)) (node_in id)
+  pub grafts_in : (id : FullNodeId) → graft_name w id ≡ graft_in es id
+  grafts_in id = ap (option_and_then (λ d. d.tree_id)) (node_in id)
 
-    named_at : (name : TreeId) → root_named w name ≡ named_in w ts name
-    named_at name = at_index (index_of w name)
-      where
-        at_index : (o : Option ℕ) → option_and_then (root_of w) o ≡ option_and_then (root_in ts) o
-        at_index None = refl
-        at_index (Some index) = root_at index
+  named_at : (name : TreeId) → root_named w name ≡ named_in w ts name
+  named_at name = at_index (index_of w name)
+    where
+      at_index : (o : Option ℕ) → option_and_then (root_of w) o ≡ option_and_then (root_in ts) o
+      at_index None = refl
+      at_index (Some index) = root_at index
 
-    pub no_root : (id : FullNodeId) → is_root_in ts id ≡ false → root_of w id.tree ≢ Some id
-    no_root id e same = false≢true (sym e ∙ ap (λ o. option_map_or (is_same id) o false) (sym (root_at id.tree) ∙ same) ∙ test_self id)
+  pub no_root : (id : FullNodeId) → is_root_in ts id ≡ false → root_of w id.tree ≢ Some id
+  no_root id e same = false≢true (sym e ∙ ap (λ o. option_map_or (is_same id) o false) (sym (root_at id.tree) ∙ same) ∙ test_self id)
 
-    from_root : (id : FullNodeId) → is_root_in ts id ≡ true → Reached w id
-    from_root id e =
-        let r = passed (is_same id) (root_in ts id.tree) e in
-        root_reached w id.tree id (root_at id.tree ∙ r.1 ∙ ap Some (sym (same_from_test id r.0 r.2)))
+  from_root : (id : FullNodeId) → is_root_in ts id ≡ true → Reached w id
+  from_root id e =
+      let r = passed (is_same id) (root_in ts id.tree) e in
+      root_reached w id.tree id (root_at id.tree ∙ r.1 ∙ ap Some (sym (same_from_test id r.0 r.2)))
 
-    pub reached_by : (n : ℕ) (id : FullNodeId) → climbs n id ≡ true → Reached w id
-    reached_by zero id e = from_root id e
-    reached_by (suc n) id e = elim (or_cases (is_root_in ts id) _ e) [
-      | inl root ↦ from_root id root
-      | inr up ↦
-          let p = passed (λ (p : Place). option_map_or (is_same id) (slice_get (listed_in es p.0) p.1) false && climbs n p.0) (lister es id) up in
-          let both = and_parts (option_map_or (is_same id) (slice_get (listed_in es p.0.0) p.0.1) false) (climbs n p.0.0) p.2 in
-          let c = passed (is_same id) (slice_get (listed_in es p.0.0) p.0.1) both.0 in
-          let lists : slice_get (listed w p.0.0) p.0.1 ≡ Some id = ap (λ o. slice_get (option_map_or (λ d. map (in_tree p.0.0.tree) d.children) o []) p.0.1) (node_in p.0.0) ∙ c.1 ∙ ap Some (sym (same_from_test id c.0 c.2)) in
-          world.Reached.child p.0.0 id p.0.1 (reached_by n p.0.0 both.1) lists
-    ]
+  pub reached_by : (n : ℕ) (id : FullNodeId) → climbs w ts es n id ≡ true → Reached w id
+  reached_by zero id e = from_root id e
+  reached_by (suc n) id e = elim (or_cases (is_root_in ts id) _ e) [
+    | inl root ↦ from_root id root
+    | inr up ↦
+        let p = passed (λ (p : Place). option_map_or (is_same id) (slice_get (listed_in es p.0) p.1) false && climbs w ts es n p.0) (lister es id) up in
+        let both = and_parts (option_map_or (is_same id) (slice_get (listed_in es p.0.0) p.0.1) false) (climbs w ts es n p.0.0) p.2 in
+        let c = passed (is_same id) (slice_get (listed_in es p.0.0) p.0.1) both.0 in
+        let lists : slice_get (listed w p.0.0) p.0.1 ≡ Some id = ap (λ o. slice_get (option_map_or (λ d. map (in_tree p.0.0.tree) d.children) o []) p.0.1) (node_in p.0.0) ∙ c.1 ∙ ap Some (sym (same_from_test id c.0 c.2)) in
+        world.Reached.child p.0.0 id p.0.1 (reached_by n p.0.0 both.1) lists
+  ]
 
-    pub kept_by : (n index : ℕ) → leads_out n index ≡ true → Kept w index
-    kept_by zero index e = subst (Kept w) (sym (eqb-true index 0 e)) world.Kept.root
-    kept_by (suc n) index e = elim (or_cases (eqb index 0) _ e) [
-      | inl root ↦ subst (Kept w) (sym (eqb-true index 0 root)) world.Kept.root
-      | inr out ↦
-          let g = passed _ (option_and_then (grafter es) (slice_get w.known index)) out in
-          let both = and_parts (option_map_or (λ inner. eqb index inner.tree) (option_and_then (named_in w ts) (graft_in es g.0)) false && climbs 3 g.0) (leads_out n g.0.tree) g.2 in
-          let here = and_parts (option_map_or (λ inner. eqb index inner.tree) (option_and_then (named_in w ts) (graft_in es g.0)) false) (climbs 3 g.0) both.0 in
-          let inner = passed (λ (inner : FullNodeId). eqb index inner.tree) (option_and_then (named_in w ts) (graft_in es g.0)) here.0 in
-          let name = and_then_some (named_in w ts) (graft_in es g.0) inner.0 inner.1 in
-          subst (Kept w) (sym (eqb-true index inner.0.tree inner.2))
-          (world.Kept.grafted g.0 inner.0 name.0 (kept_by n g.0.tree both.1) (reached_by 3 g.0 here.1) (grafts_in g.0 ∙ name.1) (named_at name.0 ∙ name.2))
-    ]
+  pub kept_by : (n index : ℕ) → leads_out w ts es n index ≡ true → Kept w index
+  kept_by zero index e = subst (Kept w) (sym (eqb-true index 0 e)) world.Kept.root
+  kept_by (suc n) index e = elim (or_cases (eqb index 0) _ e) [
+    | inl root ↦ subst (Kept w) (sym (eqb-true index 0 root)) world.Kept.root
+    | inr out ↦
+        let g = passed _ (option_and_then (grafter es) (slice_get w.known index)) out in
+        let both = and_parts (option_map_or (λ inner. eqb index inner.tree) (option_and_then (named_in w ts) (graft_in es g.0)) false && climbs w ts es 3 g.0) (leads_out w ts es n g.0.tree) g.2 in
+        let here = and_parts (option_map_or (λ inner. eqb index inner.tree) (option_and_then (named_in w ts) (graft_in es g.0)) false) (climbs w ts es 3 g.0) both.0 in
+        let inner = passed (λ (inner : FullNodeId). eqb index inner.tree) (option_and_then (named_in w ts) (graft_in es g.0)) here.0 in
+        let name = and_then_some (named_in w ts) (graft_in es g.0) inner.0 inner.1 in
+        subst (Kept w) (sym (eqb-true index inner.0.tree inner.2))
+        (world.Kept.grafted g.0 inner.0 name.0 (kept_by n g.0.tree both.1) (reached_by 3 g.0 here.1) (grafts_in g.0 ∙ name.1) (named_at name.0 ∙ name.2))
+  ]
+
+  pub is_away : (id : FullNodeId) → find full_cmp id es ≡ None → ¬ (IsNode w id)
+  is_away id e h = let f : IsSome {T = NodeData} None = subst IsSome (node_in id ∙ e) h in cc
+
+  pub among : (id : FullNodeId) → IsNode w id → Contains (map (λ e. e.0) es) id
+  among id h = found_key id es (subst IsSome (node_in id) h)
+
+  children_read : (id : FullNodeId) → children w id ≡ children_in w ts es id
+  children_read id = by_graft (graft_name w id) ∙ ap (λ o. option_map_or (λ name. at_most_one (named_in w ts name)) o (listed w id)) (grafts_in id) ∙ ap (option_map_or (λ name. at_most_one (named_in w ts name)) (graft_in es id)) (ap (λ o. option_map_or (λ d. map (in_tree id.tree) d.children) o []) (node_in id))
+    where
+      by_graft : (o : Option TreeId) → option_map_or (λ name. at_most_one (root_named w name)) o (listed w id) ≡ option_map_or (λ name. at_most_one (named_in w ts name)) o (listed w id)
+      by_graft None = refl
+      by_graft (Some name) = ap at_most_one (named_at name)
+
+  among_read : (id : FullNodeId) (some : List (FullNodeId × NodeData)) → place_among w id (map (λ e. e.0) some) ≡ place_read_among w ts es id some
+  among_read id [] = refl
+  among_read id (e ∷ some) =
+      ap (λ cs. option_or (option_map (λ i. (e.0, i)) (position (is_same id) cs)) (place_among w id (map (λ x. x.0) some))) (children_read e.0)
+      ∙ ap (option_or (option_map (λ i. (e.0, i)) (position (is_same id) (children_in w ts es e.0)))) (among_read id some)
+
+  -- the place of a node, read off the entries
+  pub place_read : (id : FullNodeId) → place_of w id ≡ place_read_among w ts es id es
+  unfolding place_of
+  place_read id = ap (λ (xs : List (FullNodeId × NodeData)). place_among w id (map (λ x. x.0) xs)) is.nodes ∙ among_read id es
 
 -- ---- tests of all entries
 
@@ -292,13 +324,13 @@ module _ {w : World} {u : UpdateData} {new : World} {mts : List (ℕ × Tree)} {
           host = s.same.2;
           trees = each_passed (λ e. leads_out m mts mes 3 e.0 && has_node es (in_tree e.0 e.1.root)) _ _ tree_shown ts s.found.0 entries_pass.0;
           nodes = each_passed (λ e. climbs m mts mes 3 e.0 && has_tree ts e.0.tree) _ _ node_shown es s.found.1 entries_pass.1;
-          root_tree = is_present new ts es s.after 0 both_trees.0;
-          children = pass_each_listed _ (λ p c. IsNode new c) (λ p c e. is_there new ts es s.after c (list_parts p c e).0) es lists_and_grafts.0;
+          root_tree = is_present s.after 0 both_trees.0;
+          children = pass_each_listed _ (λ p c. IsNode new c) (λ p c e. is_there s.after c (list_parts p c e).0) es lists_and_grafts.0;
           grafts = pass_each_graft _ _ (λ id d name e. inner_stays name (graft_parts id d name e).1) es lists_and_grafts.1;
         };
         occasion = s.occasion;
-        named_tree = is_present new ts es s.after (index_for w u.name) both_trees.1;
-        named = pass_each _ _ (λ e passes. is_there new ts es s.after (in_tree (index_for w u.name) e.0) passes) u.nodes present.1;
+        named_tree = is_present s.after (index_for w u.name) both_trees.1;
+        named = pass_each _ _ (λ e passes. is_there s.after (in_tree (index_for w u.name) e.0) passes) u.nodes present.1;
         entry_of = entry_in (map (λ e. e.0) u.nodes);
         named_once = pass_each_at _ _ (λ i n e. eqb-true (entry_in (map (λ e. e.0) u.nodes) n) i e) 0 (map (λ e. e.0) u.nodes) named.1;
         place_of = place_in es;
@@ -310,18 +342,18 @@ module _ {w : World} {u : UpdateData} {new : World} {mts : List (ℕ × Tree)} {
       tree_shown : (e : ℕ × Tree) → find nat_cmp e.0 mts ≡ Some e.1 → (leads_out m mts mes 3 e.0 && has_node es (in_tree e.0 e.1.root)) ≡ true → (get m.trees e.0 ≡ Some e.1) × Kept m e.0 × IsNode new (in_tree e.0 e.1.root)
       tree_shown e is passes =
           let both = and_parts (leads_out m mts mes 3 e.0) (has_node es (in_tree e.0 e.1.root)) passes in
-          (tree_at m mts mes s.before e.0 ∙ is, kept_by m mts mes s.before 3 e.0 both.0, is_there new ts es s.after (in_tree e.0 e.1.root) both.1)
+          (tree_at s.before e.0 ∙ is, kept_by s.before 3 e.0 both.0, is_there s.after (in_tree e.0 e.1.root) both.1)
 
       node_shown : (e : FullNodeId × NodeData) → find full_cmp e.0 mes ≡ Some e.1 → (climbs m mts mes 3 e.0 && has_tree ts e.0.tree) ≡ true → HasData m e.0 e.1 × Reached m e.0 × IsSome (get new.trees e.0.tree)
       node_shown e is passes =
           let both = and_parts (climbs m mts mes 3 e.0) (has_tree ts e.0.tree) passes in
-          (node_in m mts mes s.before e.0 ∙ is, reached_by m mts mes s.before 3 e.0 both.0, is_present new ts es s.after e.0.tree both.1)
+          (node_in s.before e.0 ∙ is, reached_by s.before 3 e.0 both.0, is_present s.after e.0.tree both.1)
 
       list_parts : (p : Place) (c : FullNodeId) → ((has_node es c && is_same_place p (place_in es c)) && not (is_root_in mts c)) ≡ true → (has_node es c ≡ true) × (p ≡ place_in es c) × (root_of m c.tree ≢ Some c)
       list_parts p c e =
           let outer = and_parts (has_node es c && is_same_place p (place_in es c)) (not (is_root_in mts c)) e in
           let here = and_parts (has_node es c) (is_same_place p (place_in es c)) outer.0 in
-          (here.0, same_place_passed p (place_in es c) here.1, no_root m mts mes s.before c (false_passed (is_root_in mts c) outer.1))
+          (here.0, same_place_passed p (place_in es c) here.1, no_root s.before c (false_passed (is_root_in mts c) outer.1))
 
       graft_parts : (id : FullNodeId) (d : NodeData) (name : TreeId) → (((is_nil d.children && not (is_name ROOT_NAME name)) && is_same id (graft_of es name)) && option_map_or (λ inner. has_tree ts inner.tree) (named_in m mts name) true) ≡ true
           → ((d.children ≡ []) × (name ≢ ROOT_NAME) × (id ≡ graft_of es name)) × (option_map_or (λ inner. has_tree ts inner.tree) (named_in m mts name) true ≡ true)
@@ -333,16 +365,16 @@ module _ {w : World} {u : UpdateData} {new : World} {mts : List (ℕ × Tree)} {
           ((nil_passed d.children own.0, λ same. false≢true (sym other ∙ ap (is_name ROOT_NAME) same ∙ is_name-itself ROOT_NAME), same_from_test id (graft_of es name) here.1), outer.1)
 
       inner_stays : (name : TreeId) → option_map_or (λ inner. has_tree ts inner.tree) (named_in m mts name) true ≡ true → (inner : FullNodeId) → root_named m name ≡ Some inner → IsSome (get new.trees inner.tree)
-      inner_stays name e inner is = is_present new ts es s.after inner.tree (ap (λ o. option_map_or (λ i. has_tree ts i.tree) o true) (sym (sym (named_at m mts mes s.before name) ∙ is)) ∙ e)
+      inner_stays name e inner is = is_present s.after inner.tree (ap (λ o. option_map_or (λ i. has_tree ts i.tree) o true) (sym (sym (named_at s.before name) ∙ is)) ∙ e)
 
   -- the update is accepted where the root tree's declared focus is a node and no graft
   pub accepted_tested : (focus : Tree) → find nat_cmp 0 mts ≡ Some focus → has_node es (in_tree 0 focus.focus) ≡ true → graft_in mes (in_tree 0 focus.focus) ≡ None → IsAccepted w u new
   accepted_tested focus is stays ends = accepted_shown (record {
     apart = tested_apart;
     focus = focus;
-    is_focus = tree_at m mts mes s.before 0 ∙ is;
-    focus_there = is_there new ts es s.after (in_tree 0 focus.focus) stays;
-    focus_ends = grafts_in m mts mes s.before (in_tree 0 focus.focus) ∙ ends;
+    is_focus = tree_at s.before 0 ∙ is;
+    focus_there = is_there s.after (in_tree 0 focus.focus) stays;
+    focus_ends = grafts_in s.before (in_tree 0 focus.focus) ∙ ends;
   })
 
 -- an update of a written world is accepted and leaves another, where the tests pass and the root tree's declared focus is a node and no graft
