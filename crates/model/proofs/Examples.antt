@@ -17,3 +17,15 @@ pub mod CutGrafts
 pub mod InnerFocus
 pub mod Dialogs
 pub mod InnerWork
+pub mod EventExamples
+pub mod ToldExamples
+pub mod ToldMoves
+pub mod ToldTools
+pub mod ListExamples
+pub mod PicturedState
+pub mod ViewExamples
+pub mod WrittenViews
+pub mod RoleExamples
+pub mod SecretExamples
+pub mod ValueExamples
+pub mod LabelExamples

@@ -10,7 +10,7 @@ use Rattle.model.specs.Focus.{OnChain, first, next}
 use Rattle.model.specs.Update.{FocusMissing, Stands, merged}
 use Rattle.model.specs.Examples as examples
 use Rattle.model.specs.Examples.{at, node, name, window, document, graft, button, plain_tree, nested, focus_on_cut_graft}
-use Rattle.model.proofs.States.{listed_tree}
+use Rattle.model.proofs.State.StatePlaces.{listed_tree}
 use Rattle.model.proofs.Examples.Tools.{◌▸◌}
 use Rattle.model.proofs.Examples.Evidence.{each_listed, none_stands_apart}
 use Rattle.model.proofs.Examples.Tested.{IsWritten, IsTested, merged_written, tree_at, is_present, tested_apart}

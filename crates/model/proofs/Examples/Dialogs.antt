@@ -12,7 +12,7 @@ use Rattle.model.specs.World.{World, Tree, HasData, in_tree, Reached}
 use Rattle.model.specs.World as world
 use Rattle.model.specs.Focus.{first, next, GoesOn, IsEffectiveFocus, IsFocus, Resolves, IsDialog, IsNearestDialog, itself, above, IsActiveDialog}
 use Rattle.model.specs.Examples.{at, node, name, window, graft, button, holder, dialogs}
-use Rattle.model.proofs.States.{stands_listed, stands_grafted}
+use Rattle.model.proofs.State.StatePlaces.{stands_listed, stands_grafted}
 use Rattle.model.proofs.Examples.Tools.{entries-from_entries, get_is, lists_at, grafts_at}
 
 not_dialog : (w : World) (id : FullNodeId) (d : NodeData) → HasData w id d → d.role ≢ AlertDialog → d.role ≢ Dialog → ¬ (IsDialog w id)

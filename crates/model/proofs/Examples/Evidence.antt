@@ -15,9 +15,9 @@ use Rattle.model.specs.World as world
 use Rattle.model.specs.Focus.{OnChain, first, next}
 use Rattle.model.specs.Update.{UpdateData, Fault, MissingTreeInfo, NotRootTree, MissingData, NotReached, NamedTwice, ListedTwice, RootTreeGrafted, GraftWithChildren, GraftedTwice, NoGraft, NoFirstTreeInfo, FocusMissing, FocusOnEmptyGraft, IndexesUsedUp, StandsApart, Stands, Counts, IsNamed, IsFirst, named_at, IsRebuild, IsAccepted, index_for, merged}
 use Rattle.model.specs.State.{Lists}
-use Rattle.model.proofs.States.{and_then_some, value_of, IsSome_is, root_of_parts, lister_is_node, listed_tree}
-use Rattle.model.proofs.Rebuilt.{listed_same, graft_same, node_kept, node_old}
-use Rattle.model.proofs.Names.{same_id}
+use Rattle.model.proofs.State.StatePlaces.{and_then_some, value_of, IsSome_is, root_of_parts, lister_is_node, listed_tree}
+use Rattle.model.proofs.Update.RebuildKeeps.{listed_same, graft_same, node_kept, node_old}
+use Rattle.model.proofs.Worlds.Names.{same_id}
 use Rattle.model.proofs.Examples.Tools.{got, EachAt, each_at}
 
 -- the children of a node of the new world and the grafts of it, entry by entry

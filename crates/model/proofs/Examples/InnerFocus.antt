@@ -14,9 +14,9 @@ use Rattle.model.specs.Update.{IsAccepted, merged}
 use Rattle.model.specs.Differences.{Updated, FocusMoved, AreDifferences}
 use Rattle.model.specs.Examples.{at, node, name, window, document, graft, button, with_inner_focus, focus_on}
 use Rattle.model.specs.ToldExamples.{FocusGoesInside, FocusComesBack}
-use Rattle.model.proofs.HostChanges.{none_ascend}
+use Rattle.model.proofs.Differences.HostChanges.{none_ascend}
 use Rattle.model.proofs.Members.{contains_none}
-use Rattle.model.proofs.ToldTools.{same_still, nothing_there}
+use Rattle.model.proofs.Examples.ToldTools.{same_still, nothing_there}
 use Rattle.model.proofs.Examples.Tools.{◌▸◌, entries-from_entries}
 use Rattle.model.proofs.Examples.Evidence.{each_graft, accepted_by_chain}
 use Rattle.model.proofs.Examples.Tested.{IsWritten, IsTested, merged_written, tree_at, node_in, is_there, is_present, reached_by, grafts_in, place_read, tested_apart}

@@ -5,7 +5,7 @@ use Rattle.model.specs.World.{IsNode, in_tree}
 use Rattle.model.specs.Work.{HasDepthInTree, at_root, at_child}
 use Rattle.model.specs.Examples.{at, document, button, pushed, labelled_button, label_inner_button, labelled_inside}
 use Rattle.model.specs.ToldExamples.{InnerLabelWork}
-use Rattle.model.proofs.ToldTools.{each_contained, leaf_work}
+use Rattle.model.proofs.Examples.ToldTools.{each_contained, leaf_work}
 use Rattle.model.proofs.Examples.Tested.{IsWritten, node_in, is_there, among, tree_at}
 use Rattle.model.proofs.Examples.Worlds.{two_trees, document_nodes, pushed_written, written}
 use Rattle.model.proofs.Examples.Tools.{lists_at}

@@ -10,8 +10,8 @@ use Rattle.model.specs.FullIds.{full_cmp, full_total}
 use Rattle.model.specs.World.{Tree, IsNode}
 use Rattle.model.specs.Focus.{first, IsEffectiveFocus, IsFocusId, IsFocus, IsFocusedNode, Resolves}
 use Rattle.model.specs.Examples.{at, node, window, list_box, focused_list}
-use Rattle.model.proofs.Names.{same_id}
-use Rattle.model.proofs.Foci.{effective_focus_unique}
+use Rattle.model.proofs.Worlds.Names.{same_id}
+use Rattle.model.proofs.Focus.FocusIsOne.{effective_focus_unique}
 use Rattle.model.proofs.Examples.Tools.{entries-from_entries, get_is, node_at}
 
 module _ (active : ℕ) where

@@ -3,7 +3,7 @@ use Rattle.std.proofs.Common.{inl, inr, refl, ap, option_map}
 use Rattle.model.specs.World.{StandsAt, in_tree}
 use Rattle.model.specs.Update.{IsAccepted}
 use Rattle.model.specs.Examples.{at, node, name, plain_tree, pushed, document_again, labelled}
-use Rattle.model.proofs.States.{stands_grafted}
+use Rattle.model.proofs.State.StatePlaces.{stands_grafted}
 use Rattle.model.proofs.Examples.Tools.{◌▸◌}
 use Rattle.model.proofs.Examples.Tested.{tree_at, is_present, grafts_in, accepted_by_tests}
 use Rattle.model.proofs.Examples.Worlds.{pushed_written, labelled_written}

@@ -14,11 +14,11 @@ use Rattle.model.specs.World.{ROOT_NAME, World, Tree, HasData, IsNode, index_of,
 use Rattle.model.specs.World as world
 use Rattle.model.specs.Forest.{place_of, place_among, is_same}
 use Rattle.model.specs.Update.{UpdateData, IsAccepted, index_for, root_after, merged}
-use Rattle.model.proofs.Names.{is_name, is_name-itself}
-use Rattle.model.proofs.PlaceOf.{same_from_test, test_self}
-use Rattle.model.proofs.Written.{found_key}
-use Rattle.model.proofs.Spots.{root_reached}
-use Rattle.model.proofs.States.{and_then_some}
+use Rattle.model.proofs.Worlds.Names.{is_name, is_name-itself}
+use Rattle.model.proofs.Forest.PlaceOf.{same_from_test, test_self}
+use Rattle.model.proofs.Worlds.Written.{found_key}
+use Rattle.model.proofs.Surgery.Spots.{root_reached}
+use Rattle.model.proofs.State.StatePlaces.{and_then_some}
 use Rattle.model.proofs.Examples.Tools.{get_is, over, entries-overwritten, EachAt}
 use Rattle.model.proofs.Examples.Evidence.{EachListed, EachGraft, IsShownApart, IsShownFirst, IsShownLater, accepted_shown}
 

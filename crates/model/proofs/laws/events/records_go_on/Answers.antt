@@ -1,4 +1,4 @@
-use Rattle.model.proofs.MirrorGoesOn.{records_go_on as lemma}
+use Rattle.model.proofs.Mirror.RecordsGoOn.{records_go_on as lemma}
 use Rattle.model.proofs.laws.events.records_go_on.Goals as goal
 
 pub returns : goal.returns
