@@ -48,9 +48,6 @@ module _ (f : ℕ) where
   tree_here : (index : ℕ) → get w.trees index ≡ find nat_cmp index (trees f)
   tree_here = tree_at written
 
-  inner_root : root_named w (name 1) ≡ Some (at 1 0)
-  inner_root = ap (option_map (λ t. in_tree 1 t.root)) (tree_here 1)
-
   plain : (id : FullNodeId) (d : NodeData) → HasData w id d → d.active_descendant ≡ None → (a : FullNodeId) → ¬ (Resolves w id a)
   plain id d is none a h = let same : h.0 ≡ d = same_Some h.0 d (sym h.1 ∙ is) in cc (h.2, none, ap (λ x. x.active_descendant) same)
 

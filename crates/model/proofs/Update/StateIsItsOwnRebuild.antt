@@ -6,7 +6,7 @@ use Rattle.std.proofs.lemmas.Bool.{cases_eq}
 use Rattle.model.specs.declared.FullNodeId.{FullNodeId}
 use Rattle.model.specs.World.{ROOT_NAME, World, Tree, IsNode, index_of, in_tree, root_of, root_named, Place, Reached, Kept}
 use Rattle.model.specs.World as world
-use Rattle.model.specs.Update.{UpdateData, Fault, MissingTreeInfo, NotRootTree, MissingData, NotReached, NamedTwice, ListedTwice, RootTreeGrafted, GraftWithChildren, GraftedTwice, NoGraft, NoFirstTreeInfo, FocusMissing, FocusOnEmptyGraft, IndexesUsedUp, StandsApart, Stands, IsListedAt, IsRebuild, IsAccepted, index_for, root_after, merged}
+use Rattle.model.specs.Update.{Fault, MissingTreeInfo, NotRootTree, MissingData, NotReached, NamedTwice, ListedTwice, RootTreeGrafted, GraftWithChildren, GraftedTwice, NoGraft, NoFirstTreeInfo, FocusMissing, FocusOnEmptyGraft, IndexesUsedUp, StandsApart, Stands, IsListedAt, IsRebuild, IsAccepted, index_for, root_after, merged}
 use Rattle.model.specs.State.{IsState, idle_update}
 use Rattle.model.proofs.Worlds.Names.{index_of-known}
 use Rattle.model.proofs.State.StatePlaces.{IsSome_is}
@@ -31,9 +31,6 @@ no_some : {A : Type 0} (o : Option A) → o ≡ None → IsSome o → ⊥
 no_some o e there = cc
 
 module _ (w : World) (t : Tree) (s : IsState w) (is : get w.trees 0 ≡ Some t) where
-  idle : UpdateData
-  idle = idle_update t.focus
-
   root_known : index_of w ROOT_NAME ≡ Some 0
   root_known = index_of-known w ROOT_NAME 0 s.known_once s.known_first
 
