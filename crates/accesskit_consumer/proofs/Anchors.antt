@@ -7,7 +7,7 @@ use Rattle.schema.specs.declared.TreeId.{TreeId}
 use Rattle.model.specs.declared.FullNodeId.{FullNodeId}
 use Rattle.model.specs.World.{World, Tree, ROOT_NAME, data_of, IsNode, in_tree, root_of, Reached, root, child}
 use Rattle.model.specs.Focus.{OnChain, first, IsEffectiveFocus}
-use Rattle.model.proofs.Names.{IsKnownOnce}
+use Rattle.model.proofs.Worlds.Names.{IsKnownOnce}
 use Rattle.tree_plan.specs.Whole.{IsWhole}
 use Rattle.tree_store.specs.Sound.{IsAnchored, root_of as root_node}
 

@@ -4,7 +4,7 @@ use Rattle.std.specs.Prelude.{◌≢◌, ◌↔◌, IsTrue, is_some}
 use Rattle.model.specs.declared.FullNodeId.{FullNodeId}
 use Rattle.model.specs.World.{World}
 use Rattle.model.specs.Focus.{IsEffectiveFocus, IsFocus, IsFocusedNode, Resolves}
-use Rattle.model.proofs.Foci.{effective_focus_unique, resolves_to_one}
+use Rattle.model.proofs.Focus.FocusIsOne.{effective_focus_unique, resolves_to_one}
 use Rattle.accesskit_consumer.specs.declared.node.node_ref.NodeRef.{NodeRef}
 use Rattle.accesskit_consumer.specs.Nodes.{id_at, ShowsThe}
 

@@ -9,8 +9,8 @@ use Rattle.schema.specs.declared.TreeId.{TreeId}
 use Rattle.model.specs.declared.FullNodeId.{FullNodeId}
 use Rattle.model.specs.World.{World, Place, StandsAt, IsNode, data_of, index_of, name_of, located}
 use Rattle.model.specs.Forest.{place_of}
-use Rattle.model.proofs.Names.{IsKnownOnce, known-index_of, unknown-index_of, index_of-known, same_id}
-use Rattle.model.proofs.PlaceOf.{stands_at_place, place_found}
+use Rattle.model.proofs.Worlds.Names.{IsKnownOnce, known-index_of, unknown-index_of, index_of-known, same_id}
+use Rattle.model.proofs.Forest.PlaceOf.{stands_at_place, place_found}
 use Rattle.accesskit_consumer.specs.declared.node.node_ref.NodeRef.{NodeRef}
 use Rattle.accesskit_consumer.specs.Nodes.{ShowsThe}
 

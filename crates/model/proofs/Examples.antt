@@ -1,6 +1,8 @@
 -- The definitions, tried on small worlds.
 pub mod Tools
 pub mod Evidence
+pub mod Tested
+pub mod Worlds
 pub mod Moves
 pub mod MovesOut
 pub mod Refusals
@@ -12,3 +14,18 @@ pub mod ListBoxes
 pub mod Toolkits
 pub mod FirstUpdates
 pub mod CutGrafts
+pub mod InnerFocus
+pub mod Dialogs
+pub mod InnerWork
+pub mod EventExamples
+pub mod ToldExamples
+pub mod ToldMoves
+pub mod ToldTools
+pub mod ListExamples
+pub mod PicturedState
+pub mod ViewExamples
+pub mod WrittenViews
+pub mod RoleExamples
+pub mod SecretExamples
+pub mod ValueExamples
+pub mod LabelExamples

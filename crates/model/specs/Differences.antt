@@ -9,14 +9,15 @@ use Rattle.model.specs.Forest.{place_of}
 use Rattle.model.specs.Update.{InfoData}
 use Rattle.model.specs.Focus.{IsFocus}
 pub use Rattle.model.specs.declared.events.PlanEvent.{PlanEvent}
-pub use Rattle.model.specs.declared.events.PlanEvent.TheVariants.{Added, Updated, FocusMoved as Refocused, Removed}
-use Rattle.model.specs.Events.{Event, NodeAdded, NodeUpdated, FocusMoved, NodeRemoved, seen_in}
+pub use Rattle.model.specs.declared.events.PlanEvent.TheVariants.{Added, Updated, FocusMoved, Removed}
+use Rattle.model.specs.Events.{Event, NodeAdded, NodeUpdated, NodeRemoved, seen_in}
+use Rattle.model.specs.Events as handler
 
 -- the call that tells of a difference
 abbrev pub event : World → World → PlanEvent → Event
 event old new (Added id) = NodeAdded (seen_in new id)
 event old new (Updated id) = NodeUpdated (seen_in old id) (seen_in new id)
-event old new (Refocused before after) = FocusMoved (option_map (seen_in old) before) (option_map (seen_in new) after)
+event old new (FocusMoved before after) = handler.Event.FocusMoved (option_map (seen_in old) before) (option_map (seen_in new) after)
 event old new (Removed id) = NodeRemoved (seen_in old id)
 
 abbrev pub events : World → World → List PlanEvent → List Event
@@ -57,7 +58,7 @@ AreOfFocus old new told differences =
     (before after : Option FullNodeId) × IsFocus old before × IsFocus new after
     × (((before ≡ after) × (differences ≡ []))
     ⊎ ((before ≢ after) × (left entered : List FullNodeId) × IsToldForFocus old new told before left × IsToldForFocus old new told after entered
-    × (differences ≡ map Updated left ++ map Updated entered ++ Refocused before after ∷ [])))
+    × (differences ≡ map Updated left ++ map Updated entered ++ FocusMoved before after ∷ [])))
 
 -- All that is told of a change of worlds, in order. The root is the one that is told as updated even where it is unchanged.
 pub record AreDifferences (old new : World) (root : Option FullNodeId) (differences : List PlanEvent) : Type 0 where

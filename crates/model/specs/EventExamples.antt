@@ -1,14 +1,15 @@
 -- Small worlds, and what is told of their changes.
-use Rattle.std.specs.Prelude.{◌≡◌, ℕ, List, [], ◌∷◌, true, false, Some, None, codes}
+use Rattle.std.specs.Prelude.{◌≡◌, ℕ, List, [], ◌∷◌, true, false, Some, None}
 use Rattle.std.specs.FinMap.{from_sorted}
 use Rattle.schema.specs.NodeData.{NodeData}
 use Rattle.model.specs.declared.FullNodeId.{FullNodeId}
 use Rattle.model.specs.World.{ROOT_NAME, World}
-use Rattle.model.specs.Examples.{node, at, window, button}
+use Rattle.model.specs.Examples.{node, at, window, button, labelled_button}
 use Rattle.model.specs.Update.{UpdateData}
 use Rattle.model.specs.State.{with_host}
-use Rattle.model.specs.Differences.{Added, Updated, Refocused, Removed, AreDifferences}
-use Rattle.model.specs.Events.{NodeUpdated, FocusMoved, seen_in}
+use Rattle.model.specs.Differences.{Added, Updated, FocusMoved, Removed, AreDifferences}
+use Rattle.model.specs.Events.{NodeUpdated, seen_in}
+use Rattle.model.specs.Events as handler
 use Rattle.model.specs.Run.{ToHostFocus, Accepted, Runs}
 use Rattle.model.specs.Work.{IsWorkOf, allowed}
 
@@ -40,12 +41,12 @@ ButtonGoes = AreDifferences (window_with_button 0) window_alone None (Updated (a
 -- the focus goes from the window to the button
 abbrev pub FocusGoesToButton : Type 0
 FocusGoesToButton =
-    AreDifferences (window_with_button 0) (window_with_button 1) None (Updated (at 0 0) ∷ Updated (at 0 1) ∷ Refocused (Some (at 0 0)) (Some (at 0 1)) ∷ [])
+    AreDifferences (window_with_button 0) (window_with_button 1) None (Updated (at 0 0) ∷ Updated (at 0 1) ∷ FocusMoved (Some (at 0 0)) (Some (at 0 1)) ∷ [])
 
 -- the button goes, and the focus was on it: the removal is told last
 abbrev pub FocusedButtonGoes : Type 0
 FocusedButtonGoes =
-    AreDifferences (window_with_button 1) window_alone None (Updated (at 0 0) ∷ Refocused (Some (at 0 1)) (Some (at 0 0)) ∷ Removed (at 0 1) ∷ [])
+    AreDifferences (window_with_button 1) window_alone None (Updated (at 0 0) ∷ FocusMoved (Some (at 0 1)) (Some (at 0 0)) ∷ Removed (at 0 1) ∷ [])
 
 -- two buttons change places: their own data is the same
 abbrev pub ButtonsChangePlaces : Type 0
@@ -61,17 +62,14 @@ pictured_after = root_tree 2 ((at 0 0, window (2 ∷ 3 ∷ [])) ∷ (at 0 2, but
 abbrev pub PicturedChange : Type 0
 PicturedChange =
     AreDifferences pictured_before pictured_after None
-    (Added (at 0 3) ∷ Updated (at 0 0) ∷ Updated (at 0 2) ∷ Refocused (Some (at 0 1)) (Some (at 0 2)) ∷ Removed (at 0 1) ∷ [])
+    (Added (at 0 3) ∷ Updated (at 0 0) ∷ Updated (at 0 2) ∷ FocusMoved (Some (at 0 1)) (Some (at 0 2)) ∷ Removed (at 0 1) ∷ [])
 
 -- The host loses its focus, and is told so again: the window that had the focus is updated, and then there is no focus; the second time nothing is told.
 abbrev pub HostLosesFocus : Type 0
 HostLosesFocus =
     Runs (window_with_button 0) (ToHostFocus false ∷ ToHostFocus false ∷ []) (with_host (window_with_button 0) false)
-    (NodeUpdated (seen_in (window_with_button 0) (at 0 0)) (seen_in (with_host (window_with_button 0) false) (at 0 0)) ∷ FocusMoved (Some (seen_in (window_with_button 0) (at 0 0))) None ∷ [])
+    (NodeUpdated (seen_in (window_with_button 0) (at 0 0)) (seen_in (with_host (window_with_button 0) false) (at 0 0)) ∷ handler.Event.FocusMoved (Some (seen_in (window_with_button 0) (at 0 0))) None ∷ [])
     (Accepted ∷ Accepted ∷ [])
-
-abbrev pub labelled_button : NodeData
-labelled_button = record button { label = Some (codes "OK") }
 
 abbrev pub label_button : UpdateData
 label_button = record { nodes = (node 1, labelled_button) ∷ []; info = None; name = ROOT_NAME; focus = node 0 }

@@ -4,13 +4,13 @@ use Rattle.std.specs.List.{AllZip, AllPairs}
 use Rattle.model.specs.declared.FullNodeId.{FullNodeId}
 use Rattle.model.specs.World.{World, IsNode, in_tree}
 use Rattle.model.specs.Focus.{IsFocus}
-use Rattle.model.specs.Update.{UpdateData, InfoData, index_for}
+use Rattle.model.specs.Update.{UpdateData, InfoData, IsAccepted, index_for}
 use Rattle.model.specs.State.{IsState, with_host}
 use Rattle.model.specs.Events.{Event, NodeUpdated, Told, seen_in}
 use Rattle.model.specs.Differences.{PlanEvent, Updated, AreOfFocus, AreDifferences, events, told_root}
 use Rattle.model.specs.Repeats.{Repeats}
 use Rattle.model.specs.Reasons.{Reason, MayPrecede}
-use Rattle.model.specs.Run.{CommandData, ToUpdate, ReplyData, Accepted, Does, Runs, RunsUpTo, AreAlike, WantAlike}
+use Rattle.model.specs.Run.{CommandData, ToUpdate, ReplyData, Accepted, OutOfMemory, Does, Runs, RunsUpTo, AreAlike, WantAlike}
 use Rattle.model.specs.Work.{Work, IsWorkOf}
 use Rattle.model.specs.Mirror.{Records, Mirrors, MirrorsWhileKept, AreRecordsOf}
 
@@ -54,7 +54,23 @@ RecordsFollow =
     (old new : World) (root : Option FullNodeId) (differences : List PlanEvent) (before after : Records)
     → AreDifferences old new root differences → AreRecordsOf old before → Told Mirrors before (events old new differences) after → AreRecordsOf new after
 
+-- a state has records
+abbrev pub RecordsAreThere : Type 0
+RecordsAreThere = (w : World) → IsState w → (r : Records) × AreRecordsOf w r
+
+-- and each difference can be noted, so that there are records after all of them
+abbrev pub RecordsGoOn : Type 0
+RecordsGoOn =
+    (old new : World) (root : Option FullNodeId) (differences : List PlanEvent) (before : Records)
+    → AreDifferences old new root differences → (after : Records) × Told Mirrors before (events old new differences) after
+
 -- and so over a run
+abbrev pub RecordsGoOnOverRun : Type 0
+RecordsGoOnOverRun =
+    (old new : World) (commands : List CommandData) (told : List Event) (replies : List ReplyData) (before : Records)
+    → Runs old commands new told replies → (after : Records) × Told Mirrors before told after
+
+-- the records that follow each event of a run are those of the world that it comes to
 abbrev pub RecordsFollowRun : Type 0
 RecordsFollowRun =
     (old new : World) (commands : List CommandData) (told : List Event) (replies : List ReplyData) (before after : Records)
@@ -71,6 +87,18 @@ abbrev pub RunsAreOne : Type 0
 RunsAreOne =
     (old v w : World) (commands : List CommandData) (told heard : List Event) (replies answers : List ReplyData)
     → Runs old commands v told replies → Runs old commands w heard answers → AllZip WantAlike replies answers → (v ≡ w) × (told ≡ heard) × AllZip AreAlike replies answers
+
+-- each command of a state is done, where memory isn't wanting
+abbrev pub CommandIsDone : Type 0
+CommandIsDone =
+    (old : World) (command : CommandData) → IsState old
+    → (new : World) × (told : List Event) × (reply : ReplyData) × Does old command new told reply × (reply ≢ OutOfMemory)
+
+-- and each list of commands has a run
+abbrev pub RunIsThere : Type 0
+RunIsThere =
+    (old : World) (commands : List CommandData) → IsState old
+    → (new : World) × (told : List Event) × (replies : List ReplyData) × Runs old commands new told replies × ¬ (Contains replies OutOfMemory)
 
 -- a run leaves a state
 abbrev pub RunLeavesState : Type 0
@@ -99,3 +127,7 @@ RecordsAreOne = (w : World) (r s : Records) → AreRecordsOf w r → AreRecordsO
 -- an update has one set of numbers
 abbrev pub WorkIsOne : Type 0
 WorkIsOne = (old new : World) (u : UpdateData) (a b : Work) → IsState new → IsWorkOf old u new a → IsWorkOf old u new b → a ≡ b
+
+-- and an accepted update of a state has them
+abbrev pub WorkIsThere : Type 0
+WorkIsThere = (old new : World) (u : UpdateData) → IsState old → IsAccepted old u new → (work : Work) × IsWorkOf old u new work

@@ -5,6 +5,7 @@ use Rattle.std.specs.FinMap.{from_entries}
 use Rattle.schema.specs.NodeData.{NodeData, empty_node}
 use Rattle.schema.specs.declared.NodeId.{NodeId}
 use Rattle.schema.specs.declared.TreeId.{TreeId}
+use Rattle.schema.specs.declared.Role.{Role}
 use Rattle.schema.specs.declared.Role.TheVariants.{Window, GenericContainer, Document, Button, ListBox, ListBoxOption}
 use Rattle.model.specs.declared.FullNodeId.{FullNodeId}
 use Rattle.model.specs.World.{ROOT_NAME, World, Tree}
@@ -105,8 +106,12 @@ window_alone = world (ROOT_NAME ∷ []) ((0, plain_tree) ∷ []) ((at 0 0, windo
 abbrev pub empty_graft : World
 empty_graft = world (ROOT_NAME ∷ []) ((0, plain_tree) ∷ []) ((at 0 0, window (1 ∷ [])) ∷ (at 0 1, graft (name 1)) ∷ [])
 
+-- the root tree declares this node focused
+abbrev pub focus_on : ℕ → UpdateData
+focus_on n = record { nodes = []; info = None; name = ROOT_NAME; focus = node n }
+
 abbrev pub focus_on_graft : UpdateData
-focus_on_graft = record { nodes = []; info = None; name = ROOT_NAME; focus = node 1 }
+focus_on_graft = focus_on 1
 
 -- a tree that nothing grafts
 abbrev pub ungrafted_tree : UpdateData
@@ -132,6 +137,32 @@ document_again = record { nodes = (node 0, labelled_document) ∷ []; info = Non
 
 abbrev pub labelled : World
 labelled = world (ROOT_NAME ∷ name 1 ∷ []) ((0, plain_tree) ∷ (1, plain_tree) ∷ []) ((at 0 0, window (1 ∷ [])) ∷ (at 0 1, graft (name 1)) ∷ (at 1 0, labelled_document) ∷ (at 1 1, button) ∷ [])
+
+-- The same trees, where the document's tree declares its button focused, and the root tree this node; the host is focused.
+abbrev pub with_inner_focus : ℕ → World
+with_inner_focus focus = record pushed {
+  trees = from_entries {R = nat_cmp} ((0, record { root = node 0; focus = node focus }) ∷ (1, record { root = node 0; focus = node 1 }) ∷ []);
+  host_focused = true;
+}
+
+-- the button in the document gets a label
+abbrev pub labelled_button : NodeData
+labelled_button = record button { label = Some (codes "OK") }
+
+abbrev pub label_inner_button : UpdateData
+label_inner_button = record { nodes = (node 1, labelled_button) ∷ []; info = None; name = name 1; focus = node 0 }
+
+abbrev pub labelled_inside : World
+labelled_inside = world (ROOT_NAME ∷ name 1 ∷ []) ((0, plain_tree) ∷ (1, plain_tree) ∷ []) ((at 0 0, window (1 ∷ [])) ∷ (at 0 1, graft (name 1)) ∷ (at 1 0, document (1 ∷ [])) ∷ (at 1 1, labelled_button) ∷ [])
+
+-- A window 0 with a node 1 of this role, and in it the graft 2 of tree 1, whose root 0 has this role; in that is a button 1, which has the focus. The host is focused.
+abbrev pub holder : Role → ℕ → NodeData
+holder role child = record (empty_node role) { children = node child ∷ [] }
+
+abbrev pub dialogs : Role → Role → World
+dialogs outer inner =
+    record (world (ROOT_NAME ∷ name 1 ∷ []) ((0, record { root = node 0; focus = node 2 }) ∷ (1, record { root = node 0; focus = node 1 }) ∷ [])
+    ((at 0 0, window (1 ∷ [])) ∷ (at 0 1, holder outer 2) ∷ (at 0 2, graft (name 1)) ∷ (at 1 0, holder inner 1) ∷ (at 1 1, button) ∷ [])) { host_focused = true }
 
 -- A window 0 with a list box 1, where the focus is, and its child 2; the list box names this node as its active descendant. The host is focused.
 abbrev pub list_box : ℕ → NodeData

@@ -20,8 +20,8 @@ pub record Range : Type 0 where
   pub end : Position
 
 -- the range of two positions: the one of lesser offset is the start
-abbrev pub between : FlatText → Position → Position → Range
-between t p q = if nat_lt (offset t q) (offset t p) then record { start = q; end = p } else record { start = p; end = q }
+abbrev pub range_between : FlatText → Position → Position → Range
+range_between t p q = if nat_lt (offset t q) (offset t p) then record { start = q; end = p } else record { start = p; end = q }
 
 abbrev pub document_range : FlatText → Range
 document_range t = record { start = document_start; end = document_end t }
@@ -172,7 +172,7 @@ abbrev pub selection_focus : World → FullNodeId → Option Position
 selection_focus w root = option_and_then (λ s. nearest_named (flat_text w root) s.focus) (selection_of w root)
 
 abbrev pub selection : World → FullNodeId → Option Range
-selection w root = option_and_then (λ p. option_map (between (flat_text w root) p) (selection_focus w root)) (selection_anchor w root)
+selection w root = option_and_then (λ p. option_map (range_between (flat_text w root) p) (selection_focus w root)) (selection_anchor w root)
 
 -- ---- ranges that outlive a state
 
@@ -201,4 +201,4 @@ pub record IsWeak (w : World) (root : FullNodeId) (r : Range) (weak : WeakRange)
 abbrev pub upgraded : World → WeakRange → Option Range
 upgraded w weak =
     let t = flat_text w weak.root in
-    if supports_text_ranges w weak.root then option_and_then (λ p. option_map (between t p) (position_named t weak.end)) (position_named t weak.start) else None
+    if supports_text_ranges w weak.root then option_and_then (λ p. option_map (range_between t p) (position_named t weak.end)) (position_named t weak.start) else None

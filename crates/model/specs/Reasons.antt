@@ -4,7 +4,7 @@ use Rattle.model.specs.declared.FullNodeId.{FullNodeId}
 use Rattle.model.specs.World.{World, data_of, IsNode}
 use Rattle.model.specs.Forest.{place_of}
 use Rattle.model.specs.Focus.{IsFocus}
-use Rattle.model.specs.Differences.{PlanEvent, Added, Updated, Refocused, Removed}
+use Rattle.model.specs.Differences.{PlanEvent, Added, Updated, FocusMoved, Removed}
 
 -- the focus goes from the one to the other
 abbrev pub FocusGoes : World → World → Option FullNodeId → Option FullNodeId → Type 0
@@ -18,14 +18,14 @@ abbrev pub Reason : World → World → Option FullNodeId → PlanEvent → Type
 Reason old new root (Added id) = IsNode new id × ¬ (IsNode old id)
 Reason old new root (Updated id) =
     (IsNode old id × IsNode new id) × (data_of old id ≢ data_of new id ⊎ place_of old id ≢ place_of new id ⊎ root ≡ Some id ⊎ FocusGoesAt old new id)
-Reason old new root (Refocused before after) = FocusGoes old new before after
+Reason old new root (FocusMoved before after) = FocusGoes old new before after
 Reason old new root (Removed id) = IsNode old id × ¬ (IsNode new id)
 
 -- added nodes, then updated ones, then the move of the focus, then removed nodes
 abbrev pub rank : PlanEvent → ℕ
 rank (Added id) = 0
 rank (Updated id) = 1
-rank (Refocused before after) = 2
+rank (FocusMoved before after) = 2
 rank (Removed id) = 3
 
 abbrev pub MayPrecede : PlanEvent → PlanEvent → Type 0

@@ -4,7 +4,8 @@ use Rattle.schema.specs.NodeData.{NodeData, empty_node}
 use Rattle.schema.specs.declared.Role.TheVariants.{PasswordInput, TextRun}
 use Rattle.model.specs.declared.FullNodeId.{FullNodeId}
 use Rattle.model.specs.World.{World}
-use Rattle.model.specs.ListExamples.{node, parent}
+use Rattle.model.specs.ListExamples.{parent}
+use Rattle.model.specs.Examples.{at}
 use Rattle.model.specs.ViewExamples.{one_tree}
 use Rattle.model.specs.Values.{bullets, value_of}
 use Rattle.model.specs.Shape.{EqualShape}
@@ -18,7 +19,7 @@ run_node value lengths = record (empty_node TextRun) { value = Some value; chara
 
 -- a password 0 with this value of its own, and two runs
 abbrev pub secret_nodes : List ℕ → NodeData → NodeData → List (FullNodeId × NodeData)
-secret_nodes value first second = (node 0 0, field_node value) ∷ (node 0 1, first) ∷ (node 0 2, second) ∷ []
+secret_nodes value first second = (at 0 0, field_node value) ∷ (at 0 1, first) ∷ (at 0 2, second) ∷ []
 
 abbrev pub secret : List ℕ → NodeData → NodeData → World
 secret value first second = one_tree None (secret_nodes value first second)
@@ -43,8 +44,8 @@ abbrev pub shorter_secret : World
 shorter_secret = secret (codes "secret") (run_node (codes "xy") (1 ∷ 1 ∷ [])) (run_node (codes "z") (1 ∷ []))
 
 pub record SecretsAreAlike : Type 0 where
-  pub shape : EqualShape (node 0 0) one_secret other_secret
-  pub shown : value_of one_secret (node 0 0) ≡ Some (bullets 4)
-  pub other_shown : value_of other_secret (node 0 0) ≡ Some (bullets 4)
-  pub labels_are_told : ¬ (EqualShape (node 0 0) one_secret labelled_secret)
-  pub counts_are_told : ¬ (EqualShape (node 0 0) one_secret shorter_secret)
+  pub shape : EqualShape (at 0 0) one_secret other_secret
+  pub shown : value_of one_secret (at 0 0) ≡ Some (bullets 4)
+  pub other_shown : value_of other_secret (at 0 0) ≡ Some (bullets 4)
+  pub labels_are_told : ¬ (EqualShape (at 0 0) one_secret labelled_secret)
+  pub counts_are_told : ¬ (EqualShape (at 0 0) one_secret shorter_secret)

@@ -12,7 +12,7 @@ use Rattle.model.specs.Geometry.{no_move}
 use Rattle.model.specs.Styles.{Style}
 use Rattle.model.specs.TextRuns.{SentRun, lie_in_tree, are_cut, have_rising_words, are_empty_last, are_linked_in_order, are_measured}
 use Rattle.model.specs.FlatText.{FlatText, ShownRun, Position, BULLET, offset, document_start, document_end, is_word_start, is_paragraph_end, is_paragraph_separator, biased_to_start, biased_to_end}
-use Rattle.model.specs.Ranges.{Range, Piece, pieces, between, with_start, with_end, document_range, text_of, bounding_boxes}
+use Rattle.model.specs.Ranges.{Range, Piece, pieces, range_between, with_start, with_end, document_range, text_of, bounding_boxes}
 use Rattle.model.specs.Points.{position_at_point}
 use Rattle.model.specs.Moves.{forward_to_format_start, forward_to_format_end, backward_to_format_start, forward_to_line_start, forward_to_line_end, backward_to_line_start, forward_to_paragraph_end, backward_to_paragraph_start, backward_to_character_start, forward_to_character_start, forward_to_character_end, forward_to_word_start, forward_to_word_end, backward_to_word_start, forward_to_paragraph_start, line_range, to_line_index, position_from_usv, position_from_utf16, to_global_usv_index, to_global_utf16_index}
 
@@ -154,9 +154,9 @@ two_runs = run_of (letters (97 ∷ 98 ∷ [])) ∷ run_of (letters (99 ∷ 100 �
 
 pub record TwoRuns : Type 0 where
   pub one_paragraph : forward_to_paragraph_end two_runs (at 0 0) ≡ at 1 2
-  pub nothing_selected : text_of two_runs (between two_runs (at 1 0) (at 0 2)) ≡ []
-  pub starts_with_anchor : between two_runs (at 1 0) (at 0 2) ≡ range (at 1 0) (at 0 2)
-  pub selected : text_of two_runs (between two_runs (at 0 2) (at 1 1)) ≡ 99 ∷ []
+  pub nothing_selected : text_of two_runs (range_between two_runs (at 1 0) (at 0 2)) ≡ []
+  pub starts_with_anchor : range_between two_runs (at 1 0) (at 0 2) ≡ range (at 1 0) (at 0 2)
+  pub selected : text_of two_runs (range_between two_runs (at 0 2) (at 1 1)) ≡ 99 ∷ []
   pub over_both : text_of two_runs (range (at 0 1) (at 1 1)) ≡ 98 ∷ 99 ∷ []
   pub caret_piece : pieces two_runs (range (at 1 0) (at 0 2)) ≡ piece 1 0 0 ∷ []
   pub two_pieces : pieces two_runs (range (at 0 1) (at 1 1)) ≡ piece 0 1 2 ∷ piece 1 0 1 ∷ []

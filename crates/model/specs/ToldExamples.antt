@@ -1,9 +1,10 @@
 -- Updates of trees within trees, and what they tell.
-use Rattle.std.specs.Prelude.{◌≡◌, [], ◌∷◌}
-use Rattle.model.specs.Events.{NodeAdded, NodeUpdated, NodeRemoved, seen_in}
+use Rattle.std.specs.Prelude.{◌≡◌, ℕ, [], ◌∷◌, Some}
+use Rattle.model.specs.declared.FullNodeId.{FullNodeId}
+use Rattle.model.specs.Events.{NodeAdded, NodeUpdated, FocusMoved, NodeRemoved, seen_in}
 use Rattle.model.specs.Run.{ToUpdate, Accepted, Does}
 use Rattle.model.specs.Work.{IsWorkOf, allowed}
-use Rattle.model.specs.Examples.{at, before_move, whole_move, after_move, nested, graft_moves_out, moved_out, empty_graft, pushed_tree, pushed, document_again, labelled}
+use Rattle.model.specs.Examples.{at, before_move, whole_move, after_move, nested, graft_moves_out, moved_out, empty_graft, pushed_tree, pushed, document_again, labelled, focus_on, with_inner_focus, label_inner_button, labelled_inside}
 
 -- A graft moves out of a tree that goes: its tree's root has a new place, and the node below that root isn't told.
 abbrev pub GraftMovesOut : Type 0
@@ -29,6 +30,27 @@ GraftedTreeComes = Does empty_graft (ToUpdate pushed_tree) pushed (NodeAdded (se
 -- Its root gets a label.
 abbrev pub GraftedRootIsLabelled : Type 0
 GraftedRootIsLabelled = Does pushed (ToUpdate document_again) labelled (NodeUpdated (seen_in pushed (at 1 0)) (seen_in labelled (at 1 0)) ∷ []) Accepted
+
+-- The root tree declares another of its nodes focused, and the focus goes from x to y: both are told as updated, and then it moves.
+abbrev pub InnerFocusGoes : ℕ → ℕ → FullNodeId → FullNodeId → Type 0
+InnerFocusGoes before after x y =
+    Does (with_inner_focus before) (ToUpdate (focus_on after)) (with_inner_focus after)
+    (NodeUpdated (seen_in (with_inner_focus before) x) (seen_in (with_inner_focus after) x) ∷ NodeUpdated (seen_in (with_inner_focus before) y) (seen_in (with_inner_focus after) y)
+    ∷ FocusMoved (Some (seen_in (with_inner_focus before) x)) (Some (seen_in (with_inner_focus after) y)) ∷ [])
+    Accepted
+
+-- from the window to the graft, and so to the document's button, which the document's tree declares focused
+abbrev pub FocusGoesInside : Type 0
+FocusGoesInside = InnerFocusGoes 0 1 (at 0 0) (at 1 1)
+
+-- and back
+abbrev pub FocusComesBack : Type 0
+FocusComesBack = InnerFocusGoes 1 0 (at 1 1) (at 0 0)
+
+-- The work of a label in the document: one node is named, which lists nothing and stands one below its tree's root, though three below the window; two names are known.
+abbrev pub InnerLabelWork : Type 0
+InnerLabelWork =
+    IsWorkOf pushed label_inner_button labelled_inside (record { named = 1; children = 0; removed = 0; depths = 1; known = 2 }) × (allowed (record { named = 1; children = 0; removed = 0; depths = 1; known = 2 }) ≡ 96)
 
 -- The work of the graft that moves out: two nodes are named, their child lists have 0:1 before and 0:2 after, three nodes go, the graft stands one below the root, three names are known.
 abbrev pub GraftMovesOutWork : Type 0

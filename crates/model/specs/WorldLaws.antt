@@ -1,10 +1,10 @@
 -- What is proved of worlds, updates, states and focus.
-use Rattle.std.specs.Prelude.{◌≡◌, ◌≢◌, ℕ, Bool, Option, Some, ◌⊎◌, ◌↔◌}
+use Rattle.std.specs.Prelude.{◌≡◌, ◌≢◌, ℕ, Bool, Option, Some, None, ◌⊎◌, ◌↔◌}
 use Rattle.std.specs.FinMap.{get}
 use Rattle.schema.specs.declared.TreeId.{TreeId}
 use Rattle.model.specs.declared.FullNodeId.{FullNodeId}
-use Rattle.model.specs.World.{World, Tree, IsNode, graft_name, index_of, root_of, Place, StandsAt}
-use Rattle.model.specs.Focus.{IsEffectiveFocus, IsFocus, IsActiveDialog}
+use Rattle.model.specs.World.{World, Tree, IsNode, graft_name, index_of, name_of, root_of, located, Place, StandsAt}
+use Rattle.model.specs.Focus.{IsEffectiveFocus, IsFocusId, IsFocus, IsFocusedNode, IsActiveDialog}
 use Rattle.model.specs.Update.{UpdateData, InfoData, Fault, Stands, KeepsRules, IsRebuild, IsAccepted, index_for, merged}
 use Rattle.model.specs.State.{IsState, IsLater, empty_world, with_host, idle_update}
 
@@ -78,9 +78,32 @@ FocusIsOne = (w : World) (a b : Option FullNodeId) → IsFocus w a → IsFocus w
 abbrev pub FocusIsThere : Type 0
 FocusIsThere = (w : World) → IsState w → (answer : Option FullNodeId) × IsFocus w answer
 
+-- a world has at most one answer of `focus_id`
+abbrev pub FocusIdIsOne : Type 0
+FocusIdIsOne = (w : World) (a b : Option FullNodeId) → IsFocusId w a → IsFocusId w b → a ≡ b
+
+-- a state has one
+abbrev pub FocusIdIsThere : Type 0
+FocusIdIsThere = (w : World) → IsState w → (answer : Option FullNodeId) × IsFocusId w answer
+
+-- a node that says that it is focused is the answer of `focus`; so none says so where the host isn't focused
+abbrev pub FocusedNodeIsTheFocus : Type 0
+FocusedNodeIsTheFocus = (w : World) (id : FullNodeId) → IsFocusedNode w id → IsFocus w (Some id)
+
 -- a state has at most one answer of `active_dialog`
 abbrev pub ActiveDialogIsOne : Type 0
 ActiveDialogIsOne = (w : World) (a b : Option FullNodeId) → IsState w → IsActiveDialog w a → IsActiveDialog w b → a ≡ b
+
+-- and it has one
+abbrev pub ActiveDialogIsThere : Type 0
+ActiveDialogIsThere = (w : World) → IsState w → (answer : Option FullNodeId) × IsActiveDialog w answer
+
+-- a node of a state is located by its id in its tree and by the name of that tree, and what is no node isn't located
+abbrev pub NodesAreLocated : Type 0
+NodesAreLocated =
+    (w : World) → IsState w → (id : FullNodeId)
+    → (IsNode w id → (name : TreeId) × (name_of w id.tree ≡ Some name) × (located w id ≡ Some (id.node, name)))
+    × (¬ (IsNode w id) → located w id ≡ None)
 
 -- tree info for the root tree replaces both toolkit texts, and that of another tree neither
 abbrev pub ToolkitIsTheRootTrees : Type 0

@@ -15,9 +15,9 @@ use Rattle.model.specs.World as world
 use Rattle.model.specs.Focus.{OnChain, first, next}
 use Rattle.model.specs.Update.{UpdateData, Fault, MissingTreeInfo, NotRootTree, MissingData, NotReached, NamedTwice, ListedTwice, RootTreeGrafted, GraftWithChildren, GraftedTwice, NoGraft, NoFirstTreeInfo, FocusMissing, FocusOnEmptyGraft, IndexesUsedUp, StandsApart, Stands, Counts, IsNamed, IsFirst, named_at, IsRebuild, IsAccepted, index_for, merged}
 use Rattle.model.specs.State.{Lists}
-use Rattle.model.proofs.States.{and_then_some, value_of, IsSome_is, root_of_parts, lister_is_node, listed_tree}
-use Rattle.model.proofs.Rebuilt.{listed_same, graft_same, node_kept, node_old}
-use Rattle.model.proofs.Names.{same_id}
+use Rattle.model.proofs.State.StatePlaces.{and_then_some, value_of, IsSome_is, root_of_parts, lister_is_node, listed_tree}
+use Rattle.model.proofs.Update.RebuildKeeps.{listed_same, graft_same, node_kept, node_old}
+use Rattle.model.proofs.Worlds.Names.{same_id}
 use Rattle.model.proofs.Examples.Tools.{got, EachAt, each_at}
 
 -- the children of a node of the new world and the grafts of it, entry by entry
@@ -218,14 +218,18 @@ module _ {old : World} {u : UpdateData} {new : World} {ts : List (ℕ × Tree)} 
       (λ (o : IsShownLater old u). ⊎_elim (λ there. nothing (index_of old u.name) h.1 there) (λ left. let far = h.2 in omega arith) o.index_left)
       s.occasion
 
+  -- where the chain of the focus meets nodes alone, and no graft of a tree that isn't present, no fault stands at all
+  pub accepted_by_chain : ((id : FullNodeId) → OnChain (merged old u) id → IsNode new id) → ((id : FullNodeId) (name : TreeId) → OnChain (merged old u) id → graft_name (merged old u) id ≡ Some name → IsSome (root_named (merged old u) name)) → IsAccepted old u new
+  accepted_by_chain meets goes_on = (none, is_rebuild)
+    where
+      none : (f : Fault) → ¬ (Stands old u f)
+      none (FocusMissing n) h = h.5 (node_kept is_rebuild h.2 (meets h.2 h.4)).1
+      none (FocusOnEmptyGraft name) h = let at = h.1 in nothing (root_named (merged old u) name) at.5 (goes_on at.0 name at.1 at.4)
+      none f h = none_stands_apart f h
+
 module _ {old : World} {u : UpdateData} {new : World} {ts : List (ℕ × Tree)} {es : List (FullNodeId × NodeData)} (s : IsShownAccepted old u new ts es) where
   pub accepted_shown : IsAccepted old u new
-  accepted_shown = (none, is_rebuild s.apart)
+  accepted_shown = accepted_by_chain s.apart (λ id on. subst (IsNode new) (sym (ends id on)) s.focus_there) (λ id name on grafts. absurd (nothing (graft_name (merged old u) id) (ap (graft_name (merged old u)) (ends id on) ∙ s.focus_ends) (IsSome_is name grafts)))
     where
       ends : (id : FullNodeId) → OnChain (merged old u) id → id ≡ in_tree 0 s.focus.focus
       ends id on = chain_ends (merged old u) s.focus s.is_focus s.focus_ends id on
-
-      none : (f : Fault) → ¬ (Stands old u f)
-      none (FocusMissing n) h = h.5 (node_kept (is_rebuild s.apart) h.2 (subst (IsNode new) (sym (ends h.2 h.4)) s.focus_there)).1
-      none (FocusOnEmptyGraft name) h = let at = h.1 in nothing (graft_name (merged old u) at.0) (ap (graft_name (merged old u)) (ends at.0 at.1) ∙ s.focus_ends) (IsSome_is name at.4)
-      none f h = none_stands_apart s.apart f h

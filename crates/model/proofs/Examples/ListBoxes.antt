@@ -1,7 +1,8 @@
 -- The focus on a list box, with an active descendant or with itself in its place.
-use Rattle.std.proofs.Common.{◌≡◌, ◌≢◌, ℕ, List, [], ◌∷◌, Some, IsSome, ◌⊎◌, inl, inr, refl, sym, ap, subst, arith}
+use Rattle.std.proofs.Common.{◌≡◌, ◌≢◌, ℕ, List, [], ◌∷◌, Some, None, IsSome, ◌⊎◌, inl, inr, refl, sym, ap, ◌∙◌, subst, arith}
 use Rattle.std.specs.Cmp.{nat_cmp_total}
 use Rattle.std.specs.FinMap.{get, find}
+use Rattle.std.proofs.lemmas.Option.{same_Some}
 use Rattle.schema.specs.NodeData.{NodeData, empty_node}
 use Rattle.schema.specs.declared.Role.TheVariants.{ListBoxOption}
 use Rattle.model.specs.declared.FullNodeId.{FullNodeId}
@@ -9,7 +10,8 @@ use Rattle.model.specs.FullIds.{full_cmp, full_total}
 use Rattle.model.specs.World.{Tree, IsNode}
 use Rattle.model.specs.Focus.{first, IsEffectiveFocus, IsFocusId, IsFocus, IsFocusedNode, Resolves}
 use Rattle.model.specs.Examples.{at, node, window, list_box, focused_list}
-use Rattle.model.proofs.Foci.{effective_focus_unique}
+use Rattle.model.proofs.Worlds.Names.{same_id}
+use Rattle.model.proofs.Focus.FocusIsOne.{effective_focus_unique}
 use Rattle.model.proofs.Examples.Tools.{entries-from_entries, get_is, node_at}
 
 module _ (active : ℕ) where
@@ -53,3 +55,15 @@ own_active_descendant_is_not_focused = ((refl, at 0 1, effective 1, inl resolves
     not_focused : (e : FullNodeId) → IsEffectiveFocus (focused_list 1) e → (((at 0 1 ≡ e) × ((a : FullNodeId) → ¬ (Resolves (focused_list 1) e a))) ⊎ ((at 0 1 ≢ e) × Resolves (focused_list 1) e (at 0 1))) → ⊥
     not_focused e is (inl h) = subst (λ x. (a : FullNodeId) → ¬ (Resolves (focused_list 1) x a)) (sym h.0) h.1 (at 0 1) resolves
     not_focused e is (inr h) = h.0 (effective_focus_unique (focused_list 1) (at 0 1) e (effective 1) is)
+
+-- an active descendant that isn't there isn't one: the list box has the focus, and says so
+pub gone_active_descendant_is_passed_over : IsFocus (focused_list 9) (Some (at 0 1)) × IsFocusedNode (focused_list 9) (at 0 1)
+unfolding nodes
+gone_active_descendant_is_passed_over = ((refl, at 0 1, effective 9, inr (refl, unresolved)), (refl, at 0 1, effective 9, inl (refl, unresolved)))
+  where
+    unresolved : (a : FullNodeId) → ¬ (Resolves (focused_list 9) (at 0 1) a)
+    unresolved a h =
+        let same : h.0 ≡ list_box 9 = same_Some h.0 (list_box 9) (sym h.1 ∙ has 9) in
+        let named : a.node ≡ node 9 = same_Some a.node (node 9) (sym h.2 ∙ ap (λ d. d.active_descendant) same) in
+        let away : IsSome {T = NodeData} None = subst IsSome (ap (get (focused_list 9).nodes) (same_id a (at 0 9) h.3 named) ∙ get_is (focused_list 9).nodes (nodes 9) (entries-from_entries full_total (nodes 9)) (at 0 9)) h.4 in
+        cc

@@ -10,8 +10,8 @@ use Rattle.model.specs.World.{World, Tree, IsNode, Place, Reached, Kept}
 use Rattle.model.specs.World as world
 use Rattle.model.specs.Update.{MissingData, NotReached, NamedTwice, Stands, merged}
 use Rattle.model.specs.Examples.{at, node, window, container, button, plain_tree, plain, an_island, button_twice, child_without_data}
-use Rattle.model.proofs.States.{listed_tree}
-use Rattle.model.proofs.Merges.{tree_named}
+use Rattle.model.proofs.State.StatePlaces.{listed_tree}
+use Rattle.model.proofs.Update.Merges.{tree_named}
 use Rattle.model.proofs.Examples.Tools.{◌▸◌, entries-from_entries, entries-overwritten, get_is, over, lists_at}
 use Rattle.model.proofs.Examples.Evidence.{EachListed, each_listed, nothing}
 

@@ -1,6 +1,6 @@
 //! Laws of events and of the differences of two worlds.
-ghost use Rattle.model.specs.EventLaws.{DifferencesAreOne, DifferencesExist, EachHasAReason, EachIsToldInOrder, HostChangeTellsFocus, KeptRecordsFollowRun, NothingToTell, RepeatTellsNothing, RepeatTellsRoot, RootIsTold, RunLeavesState, RecordsAreOne, RecordsFollow, RecordsFollowRun, RunsAreOne, StoppedRunBegins, WorkIsOne};
-ghost use Rattle.model.specs.ToldExamples.{ButtonMoves, GraftMovesOut, GraftedTreeComes, GraftedRootIsLabelled, GraftMovesOutWork};
+ghost use Rattle.model.specs.EventLaws.{DifferencesAreOne, DifferencesExist, EachHasAReason, EachIsToldInOrder, HostChangeTellsFocus, KeptRecordsFollowRun, NothingToTell, RepeatTellsNothing, RepeatTellsRoot, RootIsTold, RecordsAreThere, RecordsGoOn, RecordsGoOnOverRun, CommandIsDone, RunIsThere, RunLeavesState, RecordsAreOne, RecordsFollow, RecordsFollowRun, RunsAreOne, StoppedRunBegins, WorkIsOne, WorkIsThere};
+ghost use Rattle.model.specs.ToldExamples.{ButtonMoves, GraftMovesOut, GraftedTreeComes, GraftedRootIsLabelled, FocusGoesInside, FocusComesBack, InnerLabelWork, GraftMovesOutWork};
 ghost use Rattle.model.specs.EventExamples.{ButtonGoes, FocusGoesToButton, FocusedButtonGoes, ButtonsChangePlaces, HostLosesFocus, LabelIsLittleWork, PicturedChange};
 
 /// Two worlds have one list of differences.
@@ -29,6 +29,7 @@ pub fn nothing_to_tell()
 {}
 
 /// The root of another tree is told as updated by tree info, though nothing changed.
+#[tactic(auto, using(crate::proofs::Differences::SameWorlds::root_to_tell))]
 pub fn root_is_told()
     ensures { RootIsTold }
 {}
@@ -43,12 +44,29 @@ pub fn records_follow()
     ensures { RecordsFollow }
 {}
 
+/// A state has records.
+pub fn records_are_there()
+    ensures { RecordsAreThere }
+{}
+
+/// From any records there are some that follow the differences of two worlds.
+pub fn records_go_on()
+    ensures { RecordsGoOn }
+{}
+
+/// From any records there are some that follow all that a run tells.
+pub fn records_go_on_over_run()
+    ensures { RecordsGoOnOverRun }
+{}
+
 /// A mirror that is told of all that a run tells mirrors the world that the run comes to.
+#[tactic(auto, using(crate::proofs::Run::Runs::records_follow_run))]
 pub fn records_follow_run()
     ensures { RecordsFollowRun }
 {}
 
 /// A mirror that may find no memory mirrors the world that a run comes to, or keeps nothing.
+#[tactic(auto, using(crate::proofs::Mirror::KeptRecords::kept_records_follow_run))]
 pub fn kept_records_follow_run()
     ensures { KeptRecordsFollowRun }
 {}
@@ -59,11 +77,25 @@ pub fn records_are_one()
 {}
 
 /// Two runs of the same commands, in which memory was wanting at the same ones, come to one world, tell the same, and reply alike.
+#[tactic(auto, using(crate::proofs::Run::RunsAreOne::runs_agree))]
 pub fn runs_are_one()
     ensures { RunsAreOne }
 {}
 
+/// Each command of a state is done, where memory isn't wanting.
+#[tactic(auto, using(crate::proofs::Run::RunIsThere::command_done))]
+pub fn command_is_done()
+    ensures { CommandIsDone }
+{}
+
+/// Each list of commands has a run from each state, in which memory isn't wanting.
+#[tactic(auto, using(crate::proofs::Run::RunIsThere::run_exists))]
+pub fn run_is_there()
+    ensures { RunIsThere }
+{}
+
 /// A run leaves a state.
+#[tactic(auto, using(crate::proofs::Run::Runs::run_leaves_state))]
 pub fn run_leaves_state()
     ensures { RunLeavesState }
 {}
@@ -88,62 +120,98 @@ pub fn work_is_one()
     ensures { WorkIsOne }
 {}
 
+/// An accepted update of a state has the numbers of its work.
+#[tactic(auto, using(crate::proofs::Work::WorkIsThere::state_work_exists))]
+pub fn work_is_there()
+    ensures { WorkIsThere }
+{}
+
 /// The only button of a window goes: its window is updated, and it is removed.
+#[tactic(auto, using(crate::proofs::Examples::EventExamples::button_goes))]
 pub fn button_goes()
     ensures { ButtonGoes }
 {}
 
 /// The focus goes from a window to its button: both are updated, and then it moves.
+#[tactic(auto, using(crate::proofs::Examples::EventExamples::focus_goes_to_button))]
 pub fn focus_goes_to_button()
     ensures { FocusGoesToButton }
 {}
 
 /// The focused button goes: the focus moves before it is told as removed.
+#[tactic(auto, using(crate::proofs::Examples::EventExamples::focused_button_goes))]
 pub fn focused_button_goes()
     ensures { FocusedButtonGoes }
 {}
 
 /// Two buttons change places: they are updated as their window is.
+#[tactic(auto, using(crate::proofs::Examples::EventExamples::buttons_change_places))]
 pub fn buttons_change_places()
     ensures { ButtonsChangePlaces }
 {}
 
 /// A run in which the host loses its focus twice: the second time nothing is told.
+#[tactic(auto, using(crate::proofs::Examples::EventExamples::host_loses_focus))]
 pub fn host_loses_focus()
     ensures { HostLosesFocus }
 {}
 
 /// A label for a button below the root allows 80 look-ups.
+#[tactic(auto, using(crate::proofs::Examples::EventExamples::label_is_little_work))]
 pub fn label_is_little_work()
     ensures { LabelIsLittleWork }
 {}
 
 /// A button goes, another comes, the one between them moves up, and the focus goes to it.
+#[tactic(auto, using(crate::proofs::Examples::EventExamples::pictured_change))]
 pub fn pictured_change()
     ensures { PicturedChange }
 {}
 
 /// A button moves to another container: both containers are updated, and so is the button, for its place.
+#[tactic(auto, using(crate::proofs::Examples::ToldMoves::button_moves_is_told))]
 pub fn button_moves_is_told()
     ensures { ButtonMoves }
 {}
 
 /// A graft moves out of a tree that goes: its tree's root is updated, and the node below that root isn't.
+#[tactic(auto, using(crate::proofs::Examples::ToldExamples::graft_moves_out_is_told))]
 pub fn graft_moves_out_is_told()
     ensures { GraftMovesOut }
 {}
 
 /// The tree of an empty graft comes: its nodes are added, and the graft isn't told.
+#[tactic(auto, using(crate::proofs::Examples::ToldExamples::grafted_tree_comes))]
 pub fn grafted_tree_comes()
     ensures { GraftedTreeComes }
 {}
 
 /// The root of a grafted tree gets a label: it alone is updated.
+#[tactic(auto, using(crate::proofs::Examples::ToldExamples::grafted_root_is_labelled))]
 pub fn grafted_root_is_labelled()
     ensures { GraftedRootIsLabelled }
 {}
 
 /// The work of the graft that moves out allows 208 look-ups.
+#[tactic(auto, using(crate::proofs::Examples::ToldExamples::graft_moves_out_work))]
 pub fn graft_moves_out_work()
     ensures { GraftMovesOutWork }
+{}
+
+/// The focus goes from a window into the document that it grafts, to the button that the document's tree declares focused.
+#[tactic(auto, using(crate::proofs::Examples::InnerFocus::focus_goes_inside))]
+pub fn focus_goes_inside()
+    ensures { FocusGoesInside }
+{}
+
+/// And it comes back to the window.
+#[tactic(auto, using(crate::proofs::Examples::InnerFocus::focus_comes_back))]
+pub fn focus_comes_back()
+    ensures { FocusComesBack }
+{}
+
+/// The work of a label in a grafted document counts how deep the node stands in its own tree.
+#[tactic(auto, using(crate::proofs::Examples::InnerWork::inner_label_work))]
+pub fn inner_label_work()
+    ensures { InnerLabelWork }
 {}

@@ -7,6 +7,7 @@ pub fn hash_is_of_tree_and_node()
 {}
 
 /// Ids that are equal by `==` feed a hasher alike.
+#[tactic(auto, using(crate::proofs::Worlds::Ids::equal_ids_hash_alike))]
 pub fn equal_ids_hash_alike()
     ensures { EqualIdsHashAlike }
 {}

@@ -82,11 +82,13 @@ pub fn texts_are_whole()
 {}
 
 /// There is a value exactly if its text is there.
+#[tactic(auto, using(crate::proofs::Text::TextFacts::has_value_is))]
 pub fn has_value_if_there()
     ensures { HasValueIfThere }
 {}
 
 /// There is a label exactly if its text is there.
+#[tactic(auto, using(crate::proofs::Text::TextFacts::has_label_is))]
 pub fn has_label_if_there()
     ensures { HasLabelIfThere }
 {}
@@ -112,6 +114,7 @@ pub fn indexes_come_back()
 {}
 
 /// The text of a range is its characters.
+#[tactic(auto, using(crate::proofs::Text::RangeTexts::range_text))]
 pub fn text_is_characters()
     ensures { TextIsCharacters }
 {}
@@ -127,31 +130,37 @@ pub fn shape_keeps_secret()
 {}
 
 /// Two worlds that differ in the characters of a password alone.
+#[tactic(auto, using(crate::proofs::Examples::SecretExamples::secrets_are_alike))]
 pub fn secrets_are_alike()
     ensures { SecretsAreAlike }
 {}
 
 /// What reads the outline of a world alone.
+#[tactic(auto, using(crate::proofs::Text::Outlines::outline_shows))]
 pub fn outline_shows()
     ensures { OutlineShows }
 {}
 
 /// Values, masked and raw.
+#[tactic(auto, using(crate::proofs::Examples::ValueExamples::values))]
 pub fn values()
     ensures { Values }
 {}
 
 /// Placeholders, by the runs.
+#[tactic(auto, using(crate::proofs::Examples::ValueExamples::placeholders))]
 pub fn placeholders()
     ensures { Placeholders }
 {}
 
 /// Labels, own and by parts.
+#[tactic(auto, using(crate::proofs::Examples::LabelExamples::labels))]
 pub fn labels()
     ensures { LabelsOf }
 {}
 
 /// What a flat text has of its world.
+#[tactic(auto, using(crate::proofs::Examples::ValueExamples::shown_runs))]
 pub fn shown_runs()
     ensures { ShownRuns }
 {}
@@ -177,16 +186,19 @@ pub fn marks_are_word_starts()
 {}
 
 /// A move to the next word comes to the nearest start of a word, or else to the end.
+#[tactic(auto, using(crate::proofs::Text::WordMarks::word_start_is_nearest))]
 pub fn word_start_is_nearest()
     ensures { WordStartIsNearest }
 {}
 
 /// Likewise back to a word.
+#[tactic(auto, using(crate::proofs::Text::WordMarks::word_start_before_is_nearest))]
 pub fn word_start_before_is_nearest()
     ensures { WordStartBeforeIsNearest }
 {}
 
 /// The lines are the greatest groups of joined runs, and each run is in one.
+#[tactic(auto, using(crate::proofs::Text::Lines::texts_have_lines))]
 pub fn texts_have_lines()
     ensures { TextsHaveLines }
 {}

@@ -2,7 +2,7 @@
 ghost use Rattle.std.specs.Prelude.{◌≡◌};
 ghost use Rattle.model.specs.FullIds.{full_number};
 ghost use Rattle.model.specs.IdLaws.{OrderIsByTreeThenNode, OrderIsTotal, EqualIdsAreOne};
-ghost use Rattle.model.specs.WorldLaws.{RebuildIsOne, RebuildIsThere, AcceptedOrFault, RulesOrFault, StateIsItsOwnRebuild, UpdateLeavesState, FirstLeavesState, HostFocusLeavesState, LaterWorldsAreStates, NamesKeepTheirIndex, PlaceIsOne, RootStandsAtGraft, RootHasNoPlace, EffectiveFocusIsOne, EffectiveFocusIsThere, ActiveDialogIsOne, FocusIsOne, FocusIsThere, ActiveDialogIsOne, ToolkitIsTheRootTrees};
+ghost use Rattle.model.specs.WorldLaws.{RebuildIsOne, RebuildIsThere, AcceptedOrFault, RulesOrFault, StateIsItsOwnRebuild, UpdateLeavesState, FirstLeavesState, HostFocusLeavesState, LaterWorldsAreStates, NamesKeepTheirIndex, PlaceIsOne, RootStandsAtGraft, RootHasNoPlace, EffectiveFocusIsOne, EffectiveFocusIsThere, FocusIdIsOne, FocusIdIsThere, FocusIsOne, FocusIsThere, FocusedNodeIsTheFocus, ActiveDialogIsOne, ActiveDialogIsThere, NodesAreLocated, ToolkitIsTheRootTrees};
 
 use crate::FullNodeId;
 
@@ -22,6 +22,7 @@ pub fn accepted_or_fault()
 {}
 
 /// The rules of an update are kept exactly where no fault stands.
+#[tactic(auto, using(crate::proofs::Update::RulesOrFault::rules_or_fault))]
 pub fn rules_or_fault()
     ensures { RulesOrFault }
 {}
@@ -47,26 +48,31 @@ pub fn host_focus_leaves_state()
 {}
 
 /// After the first accepted update every world is a state.
+#[tactic(auto, using(crate::proofs::State::LaterWorlds::empty_or_state))]
 pub fn later_worlds_are_states()
     ensures { LaterWorldsAreStates }
 {}
 
 /// A tree that was dropped and comes again has its old index.
+#[tactic(auto, using(crate::proofs::State::LaterWorlds::name_keeps_index))]
 pub fn names_keep_their_index()
     ensures { NamesKeepTheirIndex }
 {}
 
 /// Each node of a state but the root tree's root stands at one place, and its parent is a node.
+#[tactic(auto, using(crate::proofs::State::StatePlaces::one_place))]
 pub fn place_is_one()
     ensures { PlaceIsOne }
 {}
 
 /// The root of another tree than the root tree stands at the graft of its tree and 0.
+#[tactic(auto, using(crate::proofs::State::StatePlaces::graft_place))]
 pub fn root_stands_at_graft()
     ensures { RootStandsAtGraft }
 {}
 
 /// The root tree's root stands nowhere.
+#[tactic(auto, using(crate::proofs::State::StatePlaces::root_has_no_place))]
 pub fn root_has_no_place()
     ensures { RootHasNoPlace }
 {}
@@ -82,36 +88,73 @@ pub fn effective_focus_is_there()
 {}
 
 /// A world has at most one answer of `focus`.
+#[tactic(auto, using(crate::proofs::Focus::FocusIsOne::focus_unique))]
 pub fn focus_is_one()
     ensures { FocusIsOne }
 {}
 
 /// A state has an answer of `focus`.
+#[tactic(auto, using(crate::proofs::Focus::FocusIsThere::focus_exists))]
 pub fn focus_is_there()
     ensures { FocusIsThere }
 {}
 
+/// A world has at most one answer of `focus_id`.
+#[tactic(auto, using(crate::proofs::Focus::FocusAnswers::focus_id_unique))]
+pub fn focus_id_is_one()
+    ensures { FocusIdIsOne }
+{}
+
+/// A state has an answer of `focus_id`.
+#[tactic(auto, using(crate::proofs::Focus::FocusAnswers::focus_id_exists))]
+pub fn focus_id_is_there()
+    ensures { FocusIdIsThere }
+{}
+
+/// A node that says that it is focused is the answer of `focus`.
+#[tactic(auto, using(crate::proofs::Focus::FocusAnswers::focused_node_is_focus))]
+pub fn focused_node_is_the_focus()
+    ensures { FocusedNodeIsTheFocus }
+{}
+
 /// A state has at most one answer of `active_dialog`.
+#[tactic(auto, using(crate::proofs::Focus::DialogIsOne::active_dialog_unique))]
 pub fn active_dialog_is_one()
     ensures { ActiveDialogIsOne }
 {}
 
+/// A state has an answer of `active_dialog`.
+#[tactic(auto, using(crate::proofs::Focus::DialogIsThere::active_dialog_exists))]
+pub fn active_dialog_is_there()
+    ensures { ActiveDialogIsThere }
+{}
+
+/// A node of a state is located by its id in its tree and the tree's name, and nothing else is located.
+#[tactic(auto, using(crate::proofs::State::Locations::located_or_not))]
+pub fn nodes_are_located()
+    ensures { NodesAreLocated }
+{}
+
 /// Tree info for the root tree replaces both toolkit texts, and that of another tree neither.
+#[tactic(auto, using(crate::proofs::Examples::Toolkits::toolkit_is_the_root_trees))]
 pub fn toolkit_is_the_root_trees()
     ensures { ToolkitIsTheRootTrees }
 {}
 
 /// Ids are ordered by tree index, and then by node id.
+#[tactic(auto, using(crate::proofs::Worlds::Ids::by_tree_then_node))]
 pub fn order_is_by_tree_then_node()
     ensures { OrderIsByTreeThenNode }
 {}
 
 /// The order of ids is total.
+#[tactic(auto, using(crate::specs::FullIds::full_total))]
 pub fn order_is_total()
     ensures { OrderIsTotal }
 {}
 
 /// `cmp` answers `Equal`, and `==` holds, only for an id and itself.
+#[tactic(auto, using(crate::proofs::Worlds::Ids::equal_ids_are_one))]
 pub fn equal_ids_are_one()
     ensures { EqualIdsAreOne }
 {}

@@ -1,6 +1,6 @@
 use Rattle.std.proofs.Common.{refl}
 use Rattle.accesskit_consumer.specs.Views.{world_of}
-use Rattle.model.proofs.Tellings.{told_next}
+use Rattle.model.proofs.Differences.Tellings.{told_next}
 use Rattle.model.specs.Differences.{event}
 use Rattle.model.specs.declared.events.PlanEvent.{PlanEvent}
 use Rattle.model.specs.declared.events.PlanEvent.TheVariants as plan

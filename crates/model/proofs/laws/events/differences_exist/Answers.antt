@@ -1,5 +1,5 @@
-use Rattle.model.proofs.DifferencesExist.{differences_exist as exist}
-use Rattle.model.proofs.FocusThere.{focus_exists}
+use Rattle.model.proofs.Differences.DifferencesExist.{differences_exist as exist}
+use Rattle.model.proofs.Focus.FocusIsThere.{focus_exists}
 use Rattle.model.proofs.laws.events.differences_exist.Goals as goal
 
 pub returns : goal.returns

@@ -1,4 +1,4 @@
-use Rattle.model.proofs.Reasons.{has_reason, is_told_for}
+use Rattle.model.proofs.Differences.Reasons.{has_reason, is_told_for}
 use Rattle.model.proofs.laws.events.each_has_a_reason.Goals as goal
 
 pub returns : goal.returns

@@ -1,4 +1,4 @@
-use Rattle.model.proofs.Reasons.{in_order}
+use Rattle.model.proofs.Differences.Reasons.{in_order}
 use Rattle.model.proofs.laws.events.each_is_told_in_order.Goals as goal
 
 pub returns : goal.returns

@@ -1,4 +1,4 @@
-use Rattle.model.proofs.HostChanges.{host_differences, differences_of_host}
+use Rattle.model.proofs.Differences.HostChanges.{host_differences, differences_of_host}
 use Rattle.model.proofs.laws.events.host_change_tells_focus.Goals as goal
 
 pub returns : goal.returns

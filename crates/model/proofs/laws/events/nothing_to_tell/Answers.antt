@@ -1,4 +1,4 @@
-use Rattle.model.proofs.SameWorlds.{nothing_to_tell as nothing}
+use Rattle.model.proofs.Differences.SameWorlds.{nothing_to_tell as nothing}
 use Rattle.model.proofs.laws.events.nothing_to_tell.Goals as goal
 
 pub returns : goal.returns

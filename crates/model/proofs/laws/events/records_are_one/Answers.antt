@@ -1,4 +1,4 @@
-use Rattle.model.proofs.MirrorsAreOne.{records_unique}
+use Rattle.model.proofs.Mirror.RecordsAreOne.{records_unique}
 use Rattle.model.proofs.laws.events.records_are_one.Goals as goal
 
 pub returns : goal.returns

@@ -1,4 +1,4 @@
-use Rattle.model.proofs.MirrorStep.{records_follow as follow}
+use Rattle.model.proofs.Mirror.RecordsFollow.{records_follow as follow}
 use Rattle.model.proofs.laws.events.records_follow.Goals as goal
 
 pub returns : goal.returns

@@ -1,4 +1,4 @@
-use Rattle.model.proofs.Runs.{runs_split}
+use Rattle.model.proofs.Run.Runs.{runs_split}
 use Rattle.model.proofs.laws.events.stopped_run_begins.Goals as goal
 
 pub returns : goal.returns

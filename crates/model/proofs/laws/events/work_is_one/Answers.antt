@@ -1,4 +1,4 @@
-use Rattle.model.proofs.WorkIsOne.{work_unique}
+use Rattle.model.proofs.Work.WorkIsOne.{work_unique}
 use Rattle.model.proofs.laws.events.work_is_one.Goals as goal
 
 pub returns : goal.returns

@@ -1,4 +1,4 @@
-use Rattle.model.proofs.Choices.{accepted_or_fault}
+use Rattle.model.proofs.Update.AcceptedOrFault.{accepted_or_fault}
 use Rattle.model.proofs.laws.worlds.accepted_or_fault.Goals as goal
 
 pub returns : goal.returns

@@ -1,4 +1,4 @@
-use Rattle.model.proofs.FocusThere.{effective_focus_exists}
+use Rattle.model.proofs.Focus.FocusIsThere.{effective_focus_exists}
 use Rattle.model.proofs.laws.worlds.effective_focus_is_there.Goals as goal
 
 pub returns : goal.returns

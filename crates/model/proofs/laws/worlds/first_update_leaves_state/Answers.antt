@@ -1,4 +1,4 @@
-use Rattle.model.proofs.Accepted.{first_leaves_state}
+use Rattle.model.proofs.Update.UpdateLeavesState.{first_leaves_state}
 use Rattle.model.proofs.laws.worlds.first_update_leaves_state.Goals as goal
 
 pub returns : goal.returns

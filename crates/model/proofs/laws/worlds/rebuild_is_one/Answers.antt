@@ -1,4 +1,4 @@
-use Rattle.model.proofs.Rebuilds.{rebuild_unique}
+use Rattle.model.proofs.Update.RebuildIsOne.{rebuild_unique}
 use Rattle.model.proofs.laws.worlds.rebuild_is_one.Goals as goal
 
 pub returns : goal.returns

@@ -1,4 +1,4 @@
-use Rattle.model.proofs.RebuildThere.{rebuild_exists}
+use Rattle.model.proofs.Update.RebuildIsThere.{rebuild_exists}
 use Rattle.model.proofs.laws.worlds.rebuild_is_there.Goals as goal
 
 pub returns : goal.returns

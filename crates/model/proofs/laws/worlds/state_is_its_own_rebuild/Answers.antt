@@ -1,4 +1,4 @@
-use Rattle.model.proofs.OwnRebuild.{idle_merged, idle_accepted}
+use Rattle.model.proofs.Update.StateIsItsOwnRebuild.{idle_merged, idle_accepted}
 use Rattle.model.proofs.laws.worlds.state_is_its_own_rebuild.Goals as goal
 
 pub returns : goal.returns

@@ -1,4 +1,4 @@
-use Rattle.model.proofs.Accepted.{update_leaves_state}
+use Rattle.model.proofs.Update.UpdateLeavesState.{update_leaves_state}
 use Rattle.model.proofs.laws.worlds.update_leaves_state.Goals as goal
 
 pub returns : goal.returns

@@ -1,6 +1,6 @@
 use Rattle.std.proofs.Common.{sym}
 use Rattle.accesskit_consumer.specs.Views.{world_of}
-use Rattle.model.proofs.PlaceOf.{parent_is_node, stands_at_place}
+use Rattle.model.proofs.Forest.PlaceOf.{parent_is_node, stands_at_place}
 use Rattle.accesskit_consumer.proofs.node.node_ref.NodeRef.parent_and_index.Goals as goal
 
 pub node-requires : goal.node-requires

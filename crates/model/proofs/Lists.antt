@@ -1,0 +1,8 @@
+-- The lists of a tree.
+pub mod Preorder
+pub mod Within
+pub mod ListFacts
+pub mod StateLists
+pub mod PreorderCount
+pub mod Frontiers
+pub mod Shown

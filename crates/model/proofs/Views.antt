@@ -1,0 +1,2 @@
+-- Filters and views.
+pub mod ViewFacts

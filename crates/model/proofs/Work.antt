@@ -1,0 +1,3 @@
+-- The numbers that bound an update.
+pub mod WorkIsOne
+pub mod WorkIsThere
