@@ -18,6 +18,9 @@ pub struct FullNodeId {
     pub node: NodeId,
 }
 
+/// A parent, and the index among its children.
+pub type Place = (FullNodeId, usize);
+
 /// The node id, shifted left by 64 bits, over the tree's index.
 impl From<FullNodeId> for u128 {
     ghost from_gives = { λ id number. number ≡ full_number id };

@@ -21,7 +21,7 @@ use model::FullNodeId;
 use schema::{Node, NodeId, TreeId, TreeInfo, TreeUpdate};
 use std::alloc::Global;
 use std::collections::BTreeMap;
-use tree_store::{Change, LookUps, Plan, PlanEvent, TreeRecord, UpdateError};
+use tree_store::{Change, LookUps, Plan, PlanEvent, ToolkitTexts, TreeRecord, UpdateError};
 
 /// Adds a node that the update names.
 fn name_node(
@@ -124,7 +124,7 @@ fn root_after(info: &Option<TreeInfo>, root: NodeId) -> NodeId {
     }
 }
 
-fn texts(info: Option<TreeInfo>) -> Option<(Option<String>, Option<String>)> {
+fn texts(info: Option<TreeInfo>) -> Option<ToolkitTexts> {
     match info {
         Some(info) => Some((info.toolkit_name, info.toolkit_version)),
         None => None,
@@ -167,7 +167,7 @@ struct Order {
     root: NodeId,
     old_focus: NodeId,
     focus: NodeId,
-    toolkit: Option<(Option<String>, Option<String>)>,
+    toolkit: Option<ToolkitTexts>,
 }
 
 /// Refuses an update of another tree than the root tree: no node grafts one that could be present.

@@ -1,7 +1,7 @@
 //! What an update makes of a node.
 ghost use Rattle.std.specs.Prelude.{◌≡◌, ◌↔◌, IsTrue};
 
-use model::FullNodeId;
+use model::Place;
 use schema::Node;
 
 /// What becomes of a node that is not as it was.
@@ -9,12 +9,12 @@ use schema::Node;
 pub enum Verdict {
     /// It is new.
     Added {
-        place: Option<(FullNodeId, usize)>,
+        place: Option<Place>,
         node: Node,
     },
     /// It has other data, which are given then, or another place.
     Updated {
-        place: Option<(FullNodeId, usize)>,
+        place: Option<Place>,
         node: Option<Node>,
     },
     /// It is gone.
@@ -22,7 +22,7 @@ pub enum Verdict {
 }
 
 /// Whether two places are one.
-pub fn same_place(a: Option<(FullNodeId, usize)>, b: Option<(FullNodeId, usize)>) -> bool
+pub fn same_place(a: Option<Place>, b: Option<Place>) -> bool
     ensures { IsTrue result ↔ (a ≡ b) }
 {
     let Some((parent, index)) = a else {

@@ -7,7 +7,7 @@ ghost use Rattle.tree_plan.specs.Verdicts.{at, KeepsData, Settles, AllowsGraft, 
 ghost use Rattle.tree_plan.specs.Walks.{PlacesEach, IsEntered, IsStep, IsWalked, IsFresh, over};
 
 use crate::verdicts::{Verdict, same_place};
-use model::FullNodeId;
+use model::{FullNodeId, Place};
 use schema::{Node, NodeId, TreeId};
 use std::alloc::Global;
 use std::collections::BTreeMap;
@@ -19,7 +19,7 @@ pub struct Walk {
     /// The update's nodes that the walk hasn't come to.
     pub named: BTreeMap<FullNodeId, Node>,
     /// The place of each node that is reached.
-    pub places: BTreeMap<FullNodeId, Option<(FullNodeId, usize)>>,
+    pub places: BTreeMap<FullNodeId, Option<Place>>,
     /// The reached nodes, in the order in which they were found.
     pub queue: Vec<FullNodeId>,
     /// The names that reached nodes graft, and by which.
@@ -55,7 +55,7 @@ fn news(node: Node, old: &Node) -> Option<Node>
 
 /// Gives each child its place, below its parent, and queues it.
 fn place_children(
-    places: &mut BTreeMap<FullNodeId, Option<(FullNodeId, usize)>>,
+    places: &mut BTreeMap<FullNodeId, Option<Place>>,
     queue: &mut Vec<FullNodeId>,
     parent: FullNodeId,
     children: &[NodeId],
@@ -134,7 +134,7 @@ impl Walk {
         &mut self,
         look_ups: &mut L,
         id: FullNodeId,
-        place: Option<(FullNodeId, usize)>,
+        place: Option<Place>,
         node: Node,
     ) -> Result<(), UpdateError>
         requires { at self.old.verdicts id ≡ None }
@@ -166,7 +166,7 @@ impl Walk {
         &mut self,
         look_ups: &mut L,
         id: FullNodeId,
-        place: Option<(FullNodeId, usize)>,
+        place: Option<Place>,
     ) -> Result<(), UpdateError>
         requires { at self.old.verdicts id ≡ None }
         ensures world { L.world look_ups.new ≡ L.world look_ups.old }
@@ -196,8 +196,8 @@ impl Walk {
     fn keep(
         &mut self,
         id: FullNodeId,
-        place: Option<(FullNodeId, usize)>,
-        was: Option<(FullNodeId, usize)>,
+        place: Option<Place>,
+        was: Option<Place>,
     ) -> Result<(), UpdateError>
         requires { at self.old.verdicts id ≡ None }
         ensures verdict { OnOk result (KeepsData place was (at self.new.verdicts id)) }
@@ -212,7 +212,7 @@ impl Walk {
     }
 
     /// The place of a node that is reached.
-    fn place(&self, id: FullNodeId) -> Option<(FullNodeId, usize)>
+    fn place(&self, id: FullNodeId) -> Option<Place>
         requires { IsSome (at self.now.places id) }
         ensures { at self.now.places id ≡ Some result }
     {

@@ -13,7 +13,7 @@ ghost use Rattle.tree_store.specs.Stored.{texts_shown, record_at, after_change, 
 ghost use Rattle.tree_store.specs.Overlays.{overlaid, IsReadyFor, IsSoundOverlay};
 
 use crate::overlay::Overlay;
-use crate::plan::NodeChange;
+use crate::plan::{NodeChange, ToolkitTexts};
 use crate::records::{PresentTree, Record};
 use crate::slots::{make_room, write_all};
 use crate::store::Store;
@@ -129,10 +129,7 @@ fn set_root_tree(trees: &mut BTreeMap<u32, PresentTree>, tree: PresentTree)
     }
 }
 
-fn set_texts(
-    texts: &mut (Option<String>, Option<String>),
-    given: Option<(Option<String>, Option<String>)>,
-)
+fn set_texts(texts: &mut ToolkitTexts, given: Option<ToolkitTexts>)
     ensures { texts_shown texts.new ≡ replaced_texts given (texts_shown texts.old) }
 {
     if let Some(given) = given {

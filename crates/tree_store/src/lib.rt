@@ -13,9 +13,9 @@ mod store_look_ups;
 
 pub use error::UpdateError;
 pub use look_ups::{LookUps, NodeRecord, TreeRecord};
-pub use overlay::Overlay;
 pub use model::PlanEvent;
-pub use plan::{Change, NodeChange, Plan};
+pub use overlay::Overlay;
+pub use plan::{Change, NodeChange, Plan, ToolkitTexts};
 pub use records::PresentTree;
 pub use store::Store;
 pub use store_look_ups::{NoRecords, StoreLookUps};

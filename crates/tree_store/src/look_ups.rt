@@ -5,13 +5,13 @@ ghost use mathlib.Core.Option.{none};
 ghost use Rattle.model.specs.World.{World, data_of};
 ghost use Rattle.tree_store.specs.Looks.{IsNodeRecord, IsTreeRecord, raised};
 
-use model::FullNodeId;
+use model::{FullNodeId, Place};
 use schema::{Node, NodeId, TreeId};
 
 /// A node's place and data. The place is the parent and the index among the parent's children.
 #[derive(Clone, Copy)]
 pub struct NodeRecord<'a> {
-    pub place: Option<(FullNodeId, usize)>,
+    pub place: Option<Place>,
     pub node: &'a Node,
 }
 

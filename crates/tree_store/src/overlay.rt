@@ -13,10 +13,10 @@ ghost use Rattle.tree_store.specs.Laying.{with_node, with_tree};
 ghost use Rattle.tree_store.specs.Overlays.{overlaid, IsLaid};
 
 use crate::look_ups::TreeRecord;
-use crate::plan::{Change, NodeChange};
+use crate::plan::{Change, NodeChange, ToolkitTexts};
 use crate::records::PresentTree;
 use crate::store::Store;
-use model::FullNodeId;
+use model::{FullNodeId, Place};
 use schema::{Node, TreeId};
 use std::alloc::{AllocError, Global};
 use std::collections::BTreeMap;
@@ -26,13 +26,13 @@ use std::collections::BTreeMap;
 pub struct Overlay {
     pub nodes: BTreeMap<FullNodeId, NodeChange>,
     pub trees: Vec<TreeRecord>,
-    pub toolkit: Option<(Option<String>, Option<String>)>,
+    pub toolkit: Option<ToolkitTexts>,
     pub focus: FullNodeId,
 }
 
 impl NodeChange {
     /// The place after the change.
-    pub fn place(&self) -> Option<(FullNodeId, usize)>
+    pub fn place(&self) -> Option<Place>
         ensures { result ≡ place_in self.now }
     {
         let NodeChange::Put { place, .. } = self else {
@@ -88,7 +88,7 @@ impl Overlay {
     pub fn lay(
         alloc: Global,
         changes: Vec<Change>,
-        toolkit: Option<(Option<String>, Option<String>)>,
+        toolkit: Option<ToolkitTexts>,
         focus: FullNodeId,
     ) -> Result<Overlay, AllocError>
         requires { AllPairs (λ a b. full_cmp a b ≡ Less) (map (λ c. c.0) (node_changes changes.items)) }

@@ -1,13 +1,16 @@
 //! The whole decision on an update.
 use crate::look_ups::TreeRecord;
-use model::{FullNodeId, PlanEvent};
+use model::{FullNodeId, Place, PlanEvent};
 use schema::Node;
+
+/// The texts of the toolkit's name and version, as they were sent.
+pub type ToolkitTexts = (Option<String>, Option<String>);
 
 /// What becomes of a node: it has this place, and new data where they are given; or it is gone.
 #[derive(Drop)]
 pub enum NodeChange {
     Put {
-        place: Option<(FullNodeId, usize)>,
+        place: Option<Place>,
         node: Option<Node>,
     },
     Gone,
@@ -19,7 +22,7 @@ pub enum Change {
     /// The node has this place; where `node` is `None` its data stay.
     Put {
         id: FullNodeId,
-        place: Option<(FullNodeId, usize)>,
+        place: Option<Place>,
         node: Option<Node>,
     },
     /// The node is no longer there.
@@ -34,6 +37,6 @@ pub enum Change {
 pub struct Plan {
     pub changes: Vec<Change>,
     pub events: Vec<PlanEvent>,
-    pub toolkit: Option<(Option<String>, Option<String>)>,
+    pub toolkit: Option<ToolkitTexts>,
     pub focus: FullNodeId,
 }

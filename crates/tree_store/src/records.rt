@@ -1,11 +1,11 @@
 //! What is kept of a node and of a tree.
-use model::FullNodeId;
+use model::Place;
 use schema::{Node, NodeId};
 
 /// A node as it is kept: its place, and its data.
 #[derive(Drop)]
 pub(crate) struct Record {
-    pub(crate) place: Option<(FullNodeId, usize)>,
+    pub(crate) place: Option<Place>,
     pub(crate) node: Node,
 }
 

@@ -9,7 +9,7 @@ ghost use Rattle.tree_store.specs.Stored.{slot_at, record_at, record_after, afte
 
 use crate::plan::NodeChange;
 use crate::records::Record;
-use model::FullNodeId;
+use model::{FullNodeId, Place};
 use std::alloc::AllocError;
 use std::collections::BTreeMap;
 
@@ -137,7 +137,7 @@ fn changed_record(change: NodeChange, before: Option<Record>) -> Option<Record>
 }
 
 // the record with another place
-fn moved_record(place: Option<(FullNodeId, usize)>, before: Option<Record>) -> Option<Record>
+fn moved_record(place: Option<Place>, before: Option<Record>) -> Option<Record>
     ensures { result ≡ option_map (λ (r : Record). record { place = place; node = r.node }) before }
 {
     match before {

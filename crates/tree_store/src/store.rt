@@ -5,8 +5,9 @@ ghost use Rattle.model.specs.World.{World, Place, StandsAt, IsNode, data_of, ind
 ghost use Rattle.tree_store.specs.Sound.{IsAnchored, root_of};
 ghost use Rattle.tree_store.specs.Stored.{tree_of};
 
+use crate::plan::ToolkitTexts;
 use crate::records::{PresentTree, Record};
-use model::FullNodeId;
+use model::{FullNodeId, Place};
 use schema::{Node, TreeId};
 use std::collections::BTreeMap;
 use std::marker::Model;
@@ -19,7 +20,7 @@ pub struct Store {
     pub(crate) nodes: BTreeMap<FullNodeId, Option<Record>>,
     pub(crate) known: Vec<TreeId>,
     pub(crate) trees: BTreeMap<u32, PresentTree>,
-    pub(crate) toolkit: (Option<String>, Option<String>),
+    pub(crate) toolkit: ToolkitTexts,
     pub(crate) host_focused: bool,
     pub(crate) focus: FullNodeId,
 }
@@ -54,7 +55,7 @@ impl Store {
     }
 
     /// Where a node that is there stands: its parent, and its index among the parent's children.
-    pub fn place(&self, id: FullNodeId) -> Option<(FullNodeId, usize)>
+    pub fn place(&self, id: FullNodeId) -> Option<Place>
         requires { IsNode self.now.world id }
         ensures { (p : Place) → (result ≡ Some p) ↔ StandsAt self.now.world p id }
     {

@@ -1,7 +1,7 @@
 //! A view of a state.
 ghost use Rattle.accesskit_consumer.specs.Laid.{IsSound, IsSound-prop};
 
-use model::FullNodeId;
+use model::{FullNodeId, Place};
 use schema::{Node, TreeId};
 use tree_store::{Overlay, Store};
 
@@ -68,7 +68,7 @@ impl<'a> StateRef<'a> {
     }
 
     /// Where a node that is there stands: its parent, and its index among the parent's children.
-    pub(crate) fn place(self, id: FullNodeId) -> Option<(FullNodeId, usize)>
+    pub(crate) fn place(self, id: FullNodeId) -> Option<Place>
         requires { IsNode (world_of self) id }
         ensures { result ≡ place_of (world_of self.entry) id }
     {
