@@ -22,8 +22,8 @@ use Rattle.tree_store.specs.Overlays.{overlaid, IsSoundOverlay}
 use Rattle.tree_store.specs.Plans.{put_all, put_trees, replaced_texts}
 use Rattle.tree_store.specs.Shown.{world_shown}
 use Rattle.tree_store.specs.Sound.{NodeChanges, IsAnchored, change_at, place_in, PutsTrue, KeepsTrue}
-use Rattle.tree_store.specs.Stored.{Records, nodes_shown, trees_shown, texts_shown, places_shown, tree_of, record_at, record_after, after_change, PlacesAreTrue, IsStored, HasNoSpare, HasRoomFor}
-use Rattle.tree_store.proofs.Maps.{node_in, get-nodes_shown, get-trees_shown, contains-places_shown}
+use Rattle.tree_store.specs.Stored.{Records, nodes_shown, trees_shown, texts_shown, slots_shown, tree_of, record_at, record_after, after_change, PlacesAreTrue, IsStored, HasNoSpare, HasRoomFor}
+use Rattle.tree_store.proofs.Maps.{node_in, get-nodes_shown, get-trees_shown, contains-slots_shown}
 use Rattle.tree_store.proofs.Overlays.{effect, get-put_all}
 use Rattle.tree_store.proofs.Trees.{tied_apart}
 
@@ -38,25 +38,25 @@ some_node (Some r) = refl
 shown_some : (es : Records) (q : FullNodeId) → is_some (get (nodes_shown es) q) ≡ is_some (record_at es q)
 shown_some es q = ap is_some (get-nodes_shown es q) ∙ some_node (record_at es q)
 
--- room as the world and the places show it, and as the records do
-pub no_spare : (es : Records) → ((id : FullNodeId) → set.contains (places_shown es) id ≡ is_some (get (nodes_shown es) id)) → HasNoSpare es
-no_spare es h id = sym (contains-places_shown es id) ∙ h id ∙ shown_some es id
+-- room as the world and the slots show it, and as the records do
+pub no_spare : (es : Records) → ((id : FullNodeId) → set.contains (slots_shown es) id ≡ is_some (get (nodes_shown es) id)) → HasNoSpare es
+no_spare es h id = sym (contains-slots_shown es id) ∙ h id ∙ shown_some es id
 
-pub tight : (es : Records) → HasNoSpare es → (id : FullNodeId) → set.contains (places_shown es) id ≡ is_some (get (nodes_shown es) id)
-tight es h id = contains-places_shown es id ∙ h id ∙ sym (shown_some es id)
+pub tight : (es : Records) → HasNoSpare es → (id : FullNodeId) → set.contains (slots_shown es) id ≡ is_some (get (nodes_shown es) id)
+tight es h id = contains-slots_shown es id ∙ h id ∙ sym (shown_some es id)
 
-pub room_for : (es : Records) (cs : NodeChanges) → ((id : FullNodeId) → set.contains (places_shown es) id ≡ (is_some (get (nodes_shown es) id) || is_some (change_at cs id))) → HasRoomFor es cs
-room_for es cs h id = sym (contains-places_shown es id) ∙ h id ∙ ap (λ b. b || is_some (change_at cs id)) (shown_some es id)
+pub room_for : (es : Records) (cs : NodeChanges) → ((id : FullNodeId) → set.contains (slots_shown es) id ≡ (is_some (get (nodes_shown es) id) || is_some (change_at cs id))) → HasRoomFor es cs
+room_for es cs h id = sym (contains-slots_shown es id) ∙ h id ∙ ap (λ b. b || is_some (change_at cs id)) (shown_some es id)
 
-pub ready : (es : Records) (cs : NodeChanges) → HasRoomFor es cs → (id : FullNodeId) → set.contains (places_shown es) id ≡ (is_some (get (nodes_shown es) id) || is_some (change_at cs id))
-ready es cs h id = contains-places_shown es id ∙ h id ∙ ap (λ b. b || is_some (change_at cs id)) (sym (shown_some es id))
+pub ready : (es : Records) (cs : NodeChanges) → HasRoomFor es cs → (id : FullNodeId) → set.contains (slots_shown es) id ≡ (is_some (get (nodes_shown es) id) || is_some (change_at cs id))
+ready es cs h id = contains-slots_shown es id ∙ h id ∙ ap (λ b. b || is_some (change_at cs id)) (sym (shown_some es id))
 
 module _ (es fs : Records) (same : (id : FullNodeId) → record_at fs id ≡ record_at es id) where
   pub same_nodes : nodes_shown fs ≡ nodes_shown es
   same_nodes = same_map full_total exact_full _ _ (λ q. get-nodes_shown fs q ∙ ap node_in (same q) ∙ sym (get-nodes_shown es q))
 
-  pub same_room : HasNoSpare es → HasNoSpare fs → places_shown fs ≡ places_shown es
-  same_room old new = set.same_set full_total exact_full _ _ (λ q. contains-places_shown fs q ∙ new q ∙ ap is_some (same q) ∙ sym (old q) ∙ sym (contains-places_shown es q))
+  pub same_room : HasNoSpare es → HasNoSpare fs → slots_shown fs ≡ slots_shown es
+  same_room old new = set.same_set full_total exact_full _ _ (λ q. contains-slots_shown fs q ∙ new q ∙ ap is_some (same q) ∙ sym (old q) ∙ sym (contains-slots_shown es q))
 
   pub same_stored : (focus : FullNodeId) (w v : World) → v ≡ w → IsStored es focus w → IsStored fs focus v
   same_stored focus w v e s =

@@ -2,5 +2,5 @@ pub mod Commits
 pub mod Laying
 pub mod Maps
 pub mod Overlays
-pub mod Places
+pub mod SlotFacts
 pub mod Trees

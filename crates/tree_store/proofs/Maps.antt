@@ -15,7 +15,7 @@ use Rattle.model.specs.World.{Tree}
 use Rattle.tree_store.specs.declared.records.Record.{Record}
 use Rattle.tree_store.specs.declared.records.PresentTree.{PresentTree}
 use Rattle.tree_store.specs.Plans.{set_at, set_tree}
-use Rattle.tree_store.specs.Stored.{Records, nodes_shown, trees_shown, places_shown, tree_of, slot_at, record_at, filled}
+use Rattle.tree_store.specs.Stored.{Records, nodes_shown, trees_shown, slots_shown, tree_of, slot_at, record_at, filled}
 
 pub get-set_at : (m : FinMap full_cmp NodeData) (k : FullNodeId) (d : Option NodeData) (q : FullNodeId) → get (set_at m k d) q ≡ cond (eq_by_cmp full_cmp q k) d (get m q)
 get-set_at m k (Some d) q = get-insert full_total m k d q
@@ -55,9 +55,9 @@ get-trees_shown (e ∷ es) q =
     ∙ ap (cond (is_at (nat_cmp q) e.0) (Some (tree_of e.1))) (get-trees_shown es q)
     ∙ map-cond tree_of (is_at (nat_cmp q) e.0) e.1 (lookup (is_at (nat_cmp q)) es)
 
-pub contains-places_shown : (es : Records) (q : FullNodeId) → set.contains (places_shown es) q ≡ is_some (slot_at es q)
-contains-places_shown [] q = set.contains-empty full_cmp q
-contains-places_shown (e ∷ es) q =
-    set.contains-insert full_total (places_shown es) e.0 q
-    ∙ ap (λ b. is_at (full_cmp q) e.0 || b) (contains-places_shown es q)
+pub contains-slots_shown : (es : Records) (q : FullNodeId) → set.contains (slots_shown es) q ≡ is_some (slot_at es q)
+contains-slots_shown [] q = set.contains-empty full_cmp q
+contains-slots_shown (e ∷ es) q =
+    set.contains-insert full_total (slots_shown es) e.0 q
+    ∙ ap (λ b. is_at (full_cmp q) e.0 || b) (contains-slots_shown es q)
     ∙ or-some (is_at (full_cmp q) e.0) e.1 (slot_at es q)

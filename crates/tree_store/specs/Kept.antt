@@ -7,17 +7,17 @@ use Rattle.model.specs.FullIds.{full_cmp, coded_full}
 use Rattle.model.specs.World.{World, data_of}
 use Rattle.model.specs.Codes.{coded_world}
 
--- a world, and the ids that there is a place for
+-- a world, and the ids that have a slot
 pub record Kept : Type 0 where
   pub world : World
-  pub places : FinSet full_cmp
+  pub slots : FinSet full_cmp
 
 abbrev pub coded_kept : Coded Kept
-coded_kept = code_by (World × FinSet full_cmp) (coded× coded_world (code coded_full)) (λ k. (k.world, k.places)) (λ p. record { world = p.0; places = p.1 }) (λ _. refl)
+coded_kept = code_by (World × FinSet full_cmp) (coded× coded_world (code coded_full)) (λ k. (k.world, k.slots)) (λ p. record { world = p.0; slots = p.1 }) (λ _. refl)
 
--- there is a place for the nodes, and for no more
+-- there is a slot for each node, and no more
 abbrev pub IsTight : Kept → Type 0
-IsTight k = (id : FullNodeId) → contains k.places id ≡ is_some (data_of k.world id)
+IsTight k = (id : FullNodeId) → contains k.slots id ≡ is_some (data_of k.world id)
 
 pub IsTight-prop : (k : Kept) → IsProp (IsTight k)
-IsTight-prop k = Π_prop (λ id. Coded-set coded_bool (contains k.places id) (is_some (data_of k.world id)))
+IsTight-prop k = Π_prop (λ id. Coded-set coded_bool (contains k.slots id) (is_some (data_of k.world id)))

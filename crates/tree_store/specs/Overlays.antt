@@ -27,6 +27,6 @@ pub record IsSoundOverlay (w : World) (o : Overlay) : Type 0 where
   pub keeps : KeepsTrue w (overlaid w o) o.nodes.entries
   pub anchored : IsAnchored (overlaid w o) o.focus
 
--- there is a place for the nodes and for each change, and for no more
+-- there is a slot for each node and for each change, and no more
 abbrev pub IsReadyFor : Kept → Overlay → Type 0
-IsReadyFor k o = (id : FullNodeId) → contains k.places id ≡ (is_some (data_of k.world id) || is_some (change_at o.nodes.entries id))
+IsReadyFor k o = (id : FullNodeId) → contains k.slots id ≡ (is_some (data_of k.world id) || is_some (change_at o.nodes.entries id))

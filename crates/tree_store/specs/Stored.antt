@@ -23,7 +23,7 @@ use Rattle.tree_store.specs.Sound.{IsAnchored, NodeChanges, change_at}
 abbrev pub Records : Type 0
 Records = List (FullNodeId × Option Record)
 
--- the data of the records; an empty place shows nothing
+-- the data of the records; an empty slot shows nothing
 abbrev pub nodes_shown : Records → FinMap full_cmp NodeData
 nodes_shown [] = empty
 nodes_shown (e ∷ es) = set_at (nodes_shown es) e.0 (option_map (λ r. r.node) e.1)
@@ -35,15 +35,15 @@ abbrev pub trees_shown : List (ℕ × PresentTree) → FinMap nat_cmp Tree
 trees_shown [] = empty
 trees_shown (e ∷ es) = insert (trees_shown es) e.0 (tree_of e.1)
 
--- the ids that there is a place for, filled or empty
-abbrev pub places_shown : Records → set.FinSet full_cmp
-places_shown [] = set.empty
-places_shown (e ∷ es) = set.insert (places_shown es) e.0
+-- the ids that have a slot, filled or empty
+abbrev pub slots_shown : Records → set.FinSet full_cmp
+slots_shown [] = set.empty
+slots_shown (e ∷ es) = set.insert (slots_shown es) e.0
 
 abbrev pub texts_shown : Option (String Global) × Option (String Global) → Option (List ℕ) × Option (List ℕ)
 texts_shown texts = (option_map string_bytes texts.0, option_map string_bytes texts.1)
 
--- what is kept at an id: nothing, an empty place, or a record
+-- what is kept at an id: nothing, an empty slot, or a record
 abbrev pub slot_at : Records → FullNodeId → Option (Option Record)
 slot_at es id = lookup (is_at (full_cmp id)) es
 
@@ -75,10 +75,10 @@ abbrev pub after_change : Option NodeChange → Option Record → Option Record
 after_change None before = before
 after_change (Some c) before = record_after c before
 
--- there is a place for the records, and for no more
+-- there is a slot for each record, and no more
 abbrev pub HasNoSpare : Records → Type 0
 HasNoSpare es = (id : FullNodeId) → is_some (slot_at es id) ≡ is_some (record_at es id)
 
--- there is a place for the records and for each change, and for no more
+-- there is a slot for each record and for each change, and no more
 abbrev pub HasRoomFor : Records → NodeChanges → Type 0
 HasRoomFor es cs = (id : FullNodeId) → is_some (slot_at es id) ≡ (is_some (record_at es id) || is_some (change_at cs id))

@@ -23,7 +23,7 @@ use std::alloc::{AllocError, Global};
 use std::collections::BTreeMap;
 
 impl Store {
-    /// Makes a place for each change of the overlay, so that it can be committed. Where memory is refused all that was
+    /// Makes a slot for each change of the overlay, so that it can be committed. Where memory is refused all that was
     /// made is taken back.
     pub fn reserve(&mut self, overlay: &Overlay) -> Result<(), AllocError>
         requires { IsTight self.old }
@@ -119,7 +119,7 @@ fn first_names(alloc: Global) -> Result<Vec<TreeId>, AllocError>
     Ok(known)
 }
 
-// puts the root tree in the place of the one that is there
+// replaces the root tree, which is there
 fn set_root_tree(trees: &mut BTreeMap<u32, PresentTree>, tree: PresentTree)
     requires { IsSome (lookup (is_at (nat_cmp 0)) trees.old.entries) }
     ensures { (index : ℕ) → lookup (is_at (nat_cmp index)) trees.new.entries ≡ cond (is_at (nat_cmp 0) index) (Some tree) (lookup (is_at (nat_cmp index)) trees.old.entries) }

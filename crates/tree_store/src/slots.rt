@@ -1,4 +1,4 @@
-//! The places for records, filled and empty.
+//! The slots for records, filled and empty.
 ghost use Rattle.std.specs.Prelude.{◌≡◌, None, Some, is_some, IsSome, IsTrue, ◌||◌, cond, OnOk, OnErr, option_map};
 ghost use Rattle.tree_store.specs.declared.records.Record.{Record};
 ghost use Rattle.std.specs.BTreeMap.{is_at};
@@ -13,7 +13,7 @@ use model::{FullNodeId, Place};
 use std::alloc::AllocError;
 use std::collections::BTreeMap;
 
-/// Makes an empty place for each change that has none. Where one is refused all are taken back.
+/// Makes an empty slot for each change that has none. Where one is refused all are taken back.
 pub(crate) fn make_room(
     slots: &mut BTreeMap<FullNodeId, Option<Record>>,
     changes: &BTreeMap<FullNodeId, NodeChange>,
@@ -24,7 +24,7 @@ pub(crate) fn make_room(
     ensures err { OnErr result (HasNoSpare slots.new.entries) }
 {
     for id in changes.keys() {
-        if add_place(slots, *id).is_err() {
+        if add_slot(slots, *id).is_err() {
             take_back(slots, changes);
             return Err(AllocError);
         }
@@ -32,7 +32,7 @@ pub(crate) fn make_room(
     Ok(())
 }
 
-fn add_place(
+fn add_slot(
     slots: &mut BTreeMap<FullNodeId, Option<Record>>,
     id: FullNodeId,
 ) -> Result<(), AllocError>
@@ -47,7 +47,7 @@ fn add_place(
     Ok(())
 }
 
-// takes away the empty places of changes
+// takes away the empty slots of changes
 fn take_back(
     slots: &mut BTreeMap<FullNodeId, Option<Record>>,
     changes: &BTreeMap<FullNodeId, NodeChange>,
@@ -79,7 +79,7 @@ fn has_record(slots: &BTreeMap<FullNodeId, Option<Record>>, id: FullNodeId) -> b
     }
 }
 
-/// Writes the changes into their places. Nothing is allocated.
+/// Writes the changes into their slots. Nothing is allocated.
 pub(crate) fn write_all(
     slots: &mut BTreeMap<FullNodeId, Option<Record>>,
     changes: BTreeMap<FullNodeId, NodeChange>,
@@ -105,7 +105,7 @@ fn write(slots: &mut BTreeMap<FullNodeId, Option<Record>>, id: FullNodeId, chang
     }
 }
 
-// puts a record in a place that is there, and gives the one that was in it
+// puts a record in a slot that is there, and gives the one that was in it
 fn fill(
     slots: &mut BTreeMap<FullNodeId, Option<Record>>,
     id: FullNodeId,

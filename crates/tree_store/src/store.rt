@@ -13,10 +13,10 @@ use std::collections::BTreeMap;
 use std::marker::Model;
 
 /// A state: each node's data and place, the known trees, the toolkit's texts and the focus. A clause sees the world that it
-/// shows, as `store.now.world`, and the ids that there is a place for.
+/// shows, as `store.now.world`, and the ids that have a slot.
 #[derive(Drop)]
 pub struct Store {
-    // an empty place is one that a commit fills
+    // an empty slot is one that a commit fills
     pub(crate) nodes: BTreeMap<FullNodeId, Option<Record>>,
     pub(crate) known: Vec<TreeId>,
     pub(crate) trees: BTreeMap<u32, PresentTree>,
@@ -32,10 +32,10 @@ impl Model for Store {
 
     ghost coded = { coded_kept };
 
-    ghost use Rattle.tree_store.specs.Stored.{places_shown, IsStored};
+    ghost use Rattle.tree_store.specs.Stored.{slots_shown, IsStored};
     ghost use Rattle.tree_store.specs.Shown.{world_shown};
 
-    ghost view = { λ a. record { world = world_shown a; places = places_shown a.nodes.entries } };
+    ghost view = { λ a. record { world = world_shown a; slots = slots_shown a.nodes.entries } };
 
     ghost invariant = { λ a. IsStored a.nodes.entries a.focus (world_shown a) };
 }

@@ -5,7 +5,7 @@ use Rattle.std.specs.Map.{keys_of}
 use Rattle.model.specs.FullIds.{full_cmp}
 use Rattle.tree_store.specs.Sound.{NodeChanges, change_at}
 use Rattle.tree_store.specs.Stored.{record_at, after_change}
-use Rattle.tree_store.proofs.Places.{written_next, roomy_next, rest_sorted}
+use Rattle.tree_store.proofs.SlotFacts.{written_next, roomy_next, rest_sorted}
 use Rattle.tree_store.proofs.slots.write_all.Goals as goal
 
 pub loop-id-preserved : goal.loop-id-preserved

@@ -25,5 +25,5 @@ pub returns-clause-err : goal.returns-clause-err
 returns-clause-err c =
     on_err c.make_room.result _ _ (λ h.
     let nodes = same_nodes c.self.inside.nodes.entries c.make_room.new.slots.entries c.make_room.ensures.same in
-    let places = same_room c.self.inside.nodes.entries c.make_room.new.slots.entries c.make_room.ensures.same (no_spare c.self.inside.nodes.entries (subst IsTight (sym c.self.view_is) c.requires)) h in
-    (λ i. record { world = record (world_shown c.self.inside) { nodes = nodes i }; places = places i }) ∙ c.self.view_is) c.make_room.ensures.err
+    let slots = same_room c.self.inside.nodes.entries c.make_room.new.slots.entries c.make_room.ensures.same (no_spare c.self.inside.nodes.entries (subst IsTight (sym c.self.view_is) c.requires)) h in
+    (λ i. record { world = record (world_shown c.self.inside) { nodes = nodes i }; slots = slots i }) ∙ c.self.view_is) c.make_room.ensures.err

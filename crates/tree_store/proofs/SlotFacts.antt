@@ -1,4 +1,4 @@
--- Places that are made, filled and taken away.
+-- Slots that are made, filled and taken away.
 use Rattle.std.proofs.Common.{◌≡◌, [], ◌∷◌, Bool, true, false, cond, Option, Some, None, refl, sym, ap, subst, ◌∙◌}
 use Rattle.std.specs.Prelude.{◌||◌, is_some}
 use Rattle.std.specs.BTreeMap.{is_at}
@@ -26,7 +26,7 @@ blank_by : (b : Bool) (x o : Option (Option Record)) → filled x ≡ None → (
 blank_by true x o e h = e ∙ sym (h refl)
 blank_by false x o e h = refl
 
--- where there is no record, to make or take away an empty place changes none
+-- where there is no record, to make or take away an empty slot changes none
 pub blank_same : (es fs : Records) (k : FullNodeId) (x : Option (Option Record)) → filled x ≡ None → ((q : FullNodeId) → slot_at fs q ≡ cond (is_at (full_cmp k) q) x (slot_at es q)) → record_at es k ≡ None → (q : FullNodeId) → record_at fs q ≡ record_at es q
 blank_same es fs k x blank up none q = ap filled (up q) ∙ blank_by (is_at (full_cmp k) q) x (slot_at es q) blank (λ b. subst (λ i. record_at es i ≡ None) (same_id k q b) none)
 

@@ -1,6 +1,6 @@
 use Rattle.std.proofs.Common.{refl, sym, ◌∙◌, Some, None}
-use Rattle.tree_store.proofs.Places.{blank_same, record_none}
-use Rattle.tree_store.proofs.slots.add_place.Goals as goal
+use Rattle.tree_store.proofs.SlotFacts.{blank_same, record_none}
+use Rattle.tree_store.proofs.slots.add_slot.Goals as goal
 
 pub returns-clause-same : goal.returns-clause-same
 returns-clause-same c =
