@@ -9,7 +9,7 @@ use Rattle.model.specs.World.{World, Tree, ROOT_NAME, data_of, IsNode, in_tree, 
 use Rattle.model.specs.Focus.{OnChain, first, IsEffectiveFocus}
 use Rattle.model.proofs.Worlds.Names.{IsKnownOnce}
 use Rattle.tree_plan.specs.Whole.{IsWhole}
-use Rattle.tree_store.specs.Sound.{IsAnchored, root_of as root_node}
+use Rattle.tree_store.specs.Sound.{IsAnchored, root_id_of}
 
 -- the host's focus is not among it
 pub at_host : (w : World) (focus : FullNodeId) (host : Bool) → IsAnchored w focus → IsAnchored (record w { host_focused = host }) focus
@@ -44,7 +44,7 @@ root_by : (o : Option Tree) (focus : FullNodeId) → option_map (λ t. in_tree 0
 root_by None focus h = cc
 root_by (Some t) focus h = refl
 
-pub root_there : (w : World) (focus id : FullNodeId) → IsAnchored w focus → id ≡ in_tree 0 (root_node w) → (root_of w 0 ≡ Some id) × IsNode w id
+pub root_there : (w : World) (focus id : FullNodeId) → IsAnchored w focus → id ≡ in_tree 0 (root_id_of w) → (root_of w 0 ≡ Some id) × IsNode w id
 root_there w focus id a e = (root_by (get w.trees 0) focus a.declared ∙ ap Some (sym e), subst (IsNode w) (sym e) a.root)
 
 pub focus_moved : (w : World) (a b : FullNodeId) → IsEffectiveFocus w a → b ≡ a → IsEffectiveFocus w b

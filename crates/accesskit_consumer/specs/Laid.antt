@@ -11,7 +11,7 @@ use Rattle.model.specs.Codes.{coded_tree}
 use Rattle.model.specs.World.{World, Place, StandsAt, data_of, child_at, in_tree, graft_name}
 use Rattle.tree_store.specs.declared.overlay.Overlay.{Overlay}
 use Rattle.tree_store.specs.declared.plan.NodeChange.{NodeChange}
-use Rattle.tree_store.specs.Sound.{NodeChanges, place_in, PutsTrue, KeepsTrue, IsAnchored, root_of}
+use Rattle.tree_store.specs.Sound.{NodeChanges, place_in, PutsTrue, KeepsTrue, IsAnchored, root_id_of}
 use Rattle.tree_store.specs.Overlays.{overlaid, IsSoundOverlay}
 
 abbrev pub laid : World → Option (Bor Overlay) → World
@@ -42,7 +42,7 @@ IsAnchored-prop w focus a b = λ i. record {
   known = Coded-set (coded_list name_row.coded) w.known _ a.known b.known i;
   alone = λ index positive. Coded-set (coded_option coded_tree) (get w.trees index) None (a.alone index positive) (b.alone index positive) i;
   inside = λ id there. Coded-set coded_ℕ id.tree 0 (a.inside id there) (b.inside id there) i;
-  root = Coded-set coded_bool (is_some (data_of w (in_tree 0 (root_of w)))) true a.root b.root i;
+  root = Coded-set coded_bool (is_some (data_of w (in_tree 0 (root_id_of w)))) true a.root b.root i;
   declared = Coded-set (coded_option coded_full) (option_map (λ t. in_tree 0 t.focus) (get w.trees 0)) (Some focus) a.declared b.declared i;
   there = Coded-set coded_bool (is_some (data_of w focus)) true a.there b.there i;
   ends = Coded-set (coded_option name_row.coded) (graft_name w focus) None a.ends b.ends i;

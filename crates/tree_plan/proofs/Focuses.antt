@@ -6,23 +6,23 @@ use Rattle.schema.specs.declared.NodeId.{NodeId}
 use Rattle.model.specs.declared.FullNodeId.{FullNodeId}
 use Rattle.model.specs.World.{World, IsNode, data_of, in_tree}
 use Rattle.model.specs.Focus.{IsFocus, IsEffectiveFocus, Resolves}
-use Rattle.tree_plan.specs.Focusing.{focus_of, IsDeclared}
+use Rattle.tree_plan.specs.Focusing.{shown_focus_of, IsDeclared}
 
-pub focus_there : (host : Bool) (e : FullNodeId) (act : Option NodeId) (n : NodeId) (there : FullNodeId → Bool) → host ≡ true → act ≡ Some n → there (in_tree 0 n) ≡ true → Some (in_tree 0 n) ≡ focus_of host e act there
+pub focus_there : (host : Bool) (e : FullNodeId) (act : Option NodeId) (n : NodeId) (there : FullNodeId → Bool) → host ≡ true → act ≡ Some n → there (in_tree 0 n) ≡ true → Some (in_tree 0 n) ≡ shown_focus_of host e act there
 focus_there false e act n there h a t = cc
 focus_there true e None n there h a t = cc
 focus_there true e (Some m) n there h a t =
     let s : m ≡ n = cc in
     sym (ap (λ x. if there (in_tree 0 x) then Some (in_tree 0 x) else Some e) s ∙ ap (λ b. if b then Some (in_tree 0 n) else Some e) t)
 
-pub focus_not_there : (host : Bool) (e : FullNodeId) (act : Option NodeId) (n : NodeId) (there : FullNodeId → Bool) → host ≡ true → act ≡ Some n → there (in_tree 0 n) ≡ false → Some e ≡ focus_of host e act there
+pub focus_not_there : (host : Bool) (e : FullNodeId) (act : Option NodeId) (n : NodeId) (there : FullNodeId → Bool) → host ≡ true → act ≡ Some n → there (in_tree 0 n) ≡ false → Some e ≡ shown_focus_of host e act there
 focus_not_there false e act n there h a t = cc
 focus_not_there true e None n there h a t = cc
 focus_not_there true e (Some m) n there h a t =
     let s : m ≡ n = cc in
     sym (ap (λ x. if there (in_tree 0 x) then Some (in_tree 0 x) else Some e) s ∙ ap (λ b. if b then Some (in_tree 0 n) else Some e) t)
 
-focus_alike : (host : Bool) (e : FullNodeId) (act : Option NodeId) (f g : FullNodeId → Bool) → ((q : FullNodeId) → f q ≡ g q) → focus_of host e act f ≡ focus_of host e act g
+focus_alike : (host : Bool) (e : FullNodeId) (act : Option NodeId) (f g : FullNodeId → Bool) → ((q : FullNodeId) → f q ≡ g q) → shown_focus_of host e act f ≡ shown_focus_of host e act g
 focus_alike false e act f g h = refl
 focus_alike true e None f g h = refl
 focus_alike true e (Some n) f g h = ap (λ b. if b then Some (in_tree 0 n) else Some e) (h (in_tree 0 n))
@@ -40,7 +40,7 @@ module _ (w : World) (e : FullNodeId) (d : NodeData) (h : IsDeclared w e d) wher
   plain : w.host_focused ≡ true → ((a : FullNodeId) → ¬ (Resolves w e a)) → IsFocus w (Some e)
   plain host none = (host, e, effective, inr (refl, none))
 
-  by_active : (b : Bool) (act : Option NodeId) → w.host_focused ≡ b → d.active_descendant ≡ act → IsFocus w (focus_of b e act (λ q. is_some (data_of w q)))
+  by_active : (b : Bool) (act : Option NodeId) → w.host_focused ≡ b → d.active_descendant ≡ act → IsFocus w (shown_focus_of b e act (λ q. is_some (data_of w q)))
   by_active false act host is = host
   by_active true None host is = plain host (λ a r. let f : None ≡ Some a.node = sym is ∙ (named_by a r).0 in cc)
   by_active true (Some n) host is =
@@ -56,5 +56,5 @@ module _ (w : World) (e : FullNodeId) (d : NodeData) (h : IsDeclared w e d) wher
             let yes : is_some (data_of w a) ≡ true = f.2 in cc)
       ] refl
 
-  pub focus_is : (act : Option NodeId) (there : FullNodeId → Bool) → d.active_descendant ≡ act → ((q : FullNodeId) → there q ≡ is_some (data_of w q)) → IsFocus w (focus_of w.host_focused e act there)
+  pub focus_is : (act : Option NodeId) (there : FullNodeId → Bool) → d.active_descendant ≡ act → ((q : FullNodeId) → there q ≡ is_some (data_of w q)) → IsFocus w (shown_focus_of w.host_focused e act there)
   focus_is act there is alike = subst (λ o. IsFocus w o) (sym (focus_alike w.host_focused e act there (λ q. is_some (data_of w q)) alike)) (by_active w.host_focused act refl is)

@@ -8,7 +8,7 @@ use Rattle.schema.specs.declared.NodeId.{NodeId}
 use Rattle.model.specs.declared.FullNodeId.{FullNodeId}
 use Rattle.model.specs.FullIds.{full_cmp, full_total}
 use Rattle.model.specs.World.{World, data_of, in_tree}
-use Rattle.tree_plan.specs.Overwritten.{overwritten}
+use Rattle.tree_plan.specs.Overwritten.{world_overwritten}
 use Rattle.tree_store.specs.declared.plan.NodeChange.{NodeChange}
 use Rattle.tree_store.specs.Plans.{changed, set_at, put_all}
 use Rattle.tree_store.specs.Sound.{NodeChanges, change_at}
@@ -17,7 +17,7 @@ use Rattle.std.specs.Cmp.{eq_by_cmp_equiv}
 use Rattle.tree_plan.proofs.Maps.{same_id}
 
 -- one more node over a world
-pub overwritten_push : (w : World) (es : List (NodeId × NodeData)) (n : NodeId) (d : NodeData) (q : FullNodeId) → data_of (overwritten w 0 (es ++ (n, d) ∷ [])) q ≡ cond (is_at (full_cmp (in_tree 0 n)) q) (Some d) (data_of (overwritten w 0 es) q)
+pub overwritten_push : (w : World) (es : List (NodeId × NodeData)) (n : NodeId) (d : NodeData) (q : FullNodeId) → data_of (world_overwritten w 0 (es ++ (n, d) ∷ [])) q ≡ cond (is_at (full_cmp (in_tree 0 n)) q) (Some d) (data_of (world_overwritten w 0 es) q)
 overwritten_push w [] n d q = get-insert full_total w.nodes (in_tree 0 n) d q ∙ ap (λ b. cond b (Some d) (data_of w q)) ((eq_by_cmp_equiv full_total).symm q (in_tree 0 n))
 overwritten_push w (e ∷ es) n d q = overwritten_push (record w { nodes = insert w.nodes (in_tree 0 e.0) e.1 }) es n d q
 

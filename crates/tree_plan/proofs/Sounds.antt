@@ -16,11 +16,11 @@ use Rattle.model.specs.FullIds.{full_cmp}
 use Rattle.model.specs.World.{World, Tree, Place, ROOT_NAME, StandsAt, IsNode, data_of, in_tree, listed, children, at_most_one, root_named, index_of, Reached, root, child}
 use Rattle.model.specs.Focus.{first}
 use Rattle.model.specs.Focus.{IsFocus}
-use Rattle.tree_plan.specs.Focusing.{focus_of, IsDeclared}
+use Rattle.tree_plan.specs.Focusing.{shown_focus_of, IsDeclared}
 use Rattle.tree_plan.proofs.Focuses.{focus_is}
 use Rattle.tree_store.specs.declared.plan.Plan.{Plan}
 use Rattle.tree_store.specs.Plans.{planned, node_changes}
-use Rattle.tree_store.specs.Sound.{root_of, IsAnchored, change_at, place_in, PutsTrue, KeepsTrue}
+use Rattle.tree_store.specs.Sound.{root_id_of, IsAnchored, change_at, place_in, PutsTrue, KeepsTrue}
 use Rattle.tree_plan.specs.declared.verdicts.Verdict.{Verdict}
 use Rattle.tree_plan.specs.declared.verdicts.Verdict.TheVariants.{Added, Updated, Removed}
 use Rattle.tree_plan.specs.declared.walking.Walk.{Walk}
@@ -28,8 +28,8 @@ use Rattle.tree_plan.specs.Whole.{IsWhole}
 use Rattle.tree_plan.specs.Verdicts.{at, IsPlace, Settles, AllowsGraft}
 use Rattle.tree_plan.specs.Walks.{IsWalked}
 use Rattle.tree_plan.specs.Removals.{RemovesOnly}
-use Rattle.tree_plan.specs.Lists.{node_change_of}
-use Rattle.tree_plan.specs.Planned.{tree_of}
+use Rattle.tree_plan.specs.PlanLists.{node_change_of}
+use Rattle.tree_plan.specs.Planned.{tree_said}
 use Rattle.tree_plan.proofs.Maps.{is_none_or, some_is, not_some, get_nil}
 use Rattle.tree_plan.proofs.Reaching.{listed_is}
 use Rattle.tree_plan.proofs.Laid.{changed_by, get_put_all}
@@ -95,7 +95,7 @@ pub record IsListed (w m : World) (top focus : NodeId) (a b : Walk) (n : Plan) :
   pub roots : (i : ℕ) (t : Tree) → get m.trees i ≡ Some t → in_tree i t.root ≡ in_tree 0 top
   pub nodes : node_changes n.changes.items ≡ map (λ e. (e.0, node_change_of e.1)) b.verdicts.entries
   pub known : (planned w n).known ≡ ROOT_NAME ∷ []
-  pub tree : get (planned w n).trees 0 ≡ Some (tree_of top focus)
+  pub tree : get (planned w n).trees 0 ≡ Some (tree_said top focus)
   pub alone : (i : ℕ) → 0 < i → get (planned w n).trees i ≡ None
   pub declared : n.focus ≡ in_tree 0 focus
   pub aimed : IsSome (at a.places (in_tree 0 focus))
@@ -223,7 +223,7 @@ module _ (w m : World) (top focus : NodeId) (a b : Walk) (n : Plan) (L : IsListe
     | inr s ↦ absurd (let f : None ≡ Some (node_change_of s.0) = sym e ∙ change_is q ∙ ap (option_map node_change_of) s.1 in cc)
   ]
 
-  top_is : root_of (planned w n) ≡ top
+  top_is : root_id_of (planned w n) ≡ top
   top_is = ap (λ o. option_map_or (λ t. t.root) o (record { 0 = 0 })) L.tree
 
   focus_has : data_of (planned w n) (in_tree 0 focus) ≡ Some (L.walked.done (in_tree 0 focus) L.aimed).d
@@ -248,7 +248,7 @@ module _ (w m : World) (top focus : NodeId) (a b : Walk) (n : Plan) (L : IsListe
   reached_new : (q : FullNodeId) → Reached m q → IsSome (at a.places q) × Reached (planned w n) q
   reached_new _ (root index t e) =
       let same : in_tree 0 top ≡ in_tree index t.root = sym (L.roots index t e) in
-      subst (λ x. IsSome (at a.places x) × Reached (planned w n) x) same (some_is (at a.places (in_tree 0 top)) None L.walked.reached.top, root 0 (tree_of top focus) L.tree)
+      subst (λ x. IsSome (at a.places x) × Reached (planned w n) x) same (some_is (at a.places (in_tree 0 top)) None L.walked.reached.top, root 0 (tree_said top focus) L.tree)
   reached_new _ (child parent id index up e) =
       let f = reached_new parent up in
       (some_is (at a.places id) (Some (parent, index)) ((L.walked.done parent f.0).children index id e), child parent id index f.1 (ap (λ xs. slice_get xs index) (same_lists parent f.0) ∙ e))
@@ -261,7 +261,7 @@ module _ (w m : World) (top focus : NodeId) (a b : Walk) (n : Plan) (L : IsListe
 
   pub focus_declared : IsDeclared (planned w n) (in_tree 0 focus) (L.walked.done (in_tree 0 focus) L.aimed).d
   focus_declared = let D = L.walked.done (in_tree 0 focus) L.aimed in record {
-    chain = first (tree_of top focus) L.tree;
+    chain = first (tree_said top focus) L.tree;
     has = focus_has;
     ends = L.ends D.d D.place D.settles;
     inside = refl;
@@ -271,9 +271,9 @@ module _ (w m : World) (top focus : NodeId) (a b : Walk) (n : Plan) (L : IsListe
   is_there q = same_tests (is_some (at a.places q)) (is_some (data_of (planned w n) q)) (node_in q) (node_out q)
 
   -- where the focus is afterwards
-  pub new_focus_is : (active : Option NodeId) → ((d : NodeData) (place : Option Place) → Settles w (in_tree 0 focus) d place (at a.verdicts (in_tree 0 focus)) → active ≡ d.active_descendant) → IsFocus (planned w n) (focus_of w.host_focused (in_tree 0 focus) active (λ q. is_some (at a.places q)))
-  new_focus_is active aim = let D = L.walked.done (in_tree 0 focus) L.aimed in
-      focus_is (planned w n) (in_tree 0 focus) D.d focus_declared active (λ q. is_some (at a.places q)) (sym (aim D.d D.place D.settles)) is_there
+  pub new_focus_is : (active : Option NodeId) → ((d : NodeData) (place : Option Place) → Settles w (in_tree 0 focus) d place (at a.verdicts (in_tree 0 focus)) → active ≡ d.active_descendant) → IsFocus (planned w n) (shown_focus_of w.host_focused (in_tree 0 focus) active (λ q. is_some (at a.places q)))
+  new_focus_is active declares = let D = L.walked.done (in_tree 0 focus) L.aimed in
+      focus_is (planned w n) (in_tree 0 focus) D.d focus_declared active (λ q. is_some (at a.places q)) (sym (declares D.d D.place D.settles)) is_there
 
   -- what a node's verdict says of it
   pub verdict_says : (q : FullNodeId) (v : Verdict) → at b.verdicts q ≡ Some v → (IsSome (at a.places q) × (d : NodeData) × (place : Option Place) × Settles w q d place (Some v)) ⊎ ((v ≡ Removed) × IsNode w q)

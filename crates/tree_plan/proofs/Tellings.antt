@@ -27,7 +27,7 @@ use Rattle.tree_plan.specs.declared.lists.Group.{Group}
 use Rattle.tree_plan.specs.declared.lists.Group.TheVariants as group
 use Rattle.tree_plan.specs.declared.walking.Walk.{Walk}
 use Rattle.tree_plan.specs.Verdicts.{at}
-use Rattle.tree_plan.specs.Lists.{told_of, untold, IsMove, node_change_of}
+use Rattle.tree_plan.specs.PlanLists.{told_of, untold, IsMove, node_change_of}
 use Rattle.tree_plan.specs.Planned.{AreEvents}
 use Rattle.tree_plan.proofs.Sounds.{IsListed, node_in, verdict_says, unjudged_in, settled_updated, puts_are, keeps_are, anchored_is}
 

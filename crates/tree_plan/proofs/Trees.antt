@@ -14,7 +14,7 @@ use Rattle.model.specs.World.{World, Tree, Place, ROOT_NAME, in_tree, data_of, S
 use Rattle.model.specs.Focus.{first}
 use Rattle.model.specs.Focus.{IsFocus}
 use Rattle.tree_store.specs.Sound.{IsAnchored}
-use Rattle.tree_plan.specs.Focusing.{focus_of}
+use Rattle.tree_plan.specs.Focusing.{shown_focus_of}
 use Rattle.tree_plan.proofs.Focuses.{focus_is}
 use Rattle.tree_plan.proofs.Sounds.{IsListed, no_children}
 use Rattle.tree_plan.proofs.Leaving.{removes_none}
@@ -31,8 +31,8 @@ use Rattle.tree_plan.specs.Whole.{IsWhole, IsBlank}
 use Rattle.tree_plan.specs.Verdicts.{at, Settles}
 use Rattle.tree_plan.specs.Walks.{IsWalked}
 use Rattle.tree_plan.specs.Removals.{RemovesOthers}
-use Rattle.tree_plan.specs.Lists.{change_of, node_change_of}
-use Rattle.tree_plan.specs.Planned.{tree_of, record_of, AreTreeChanges, laid_over}
+use Rattle.tree_plan.specs.PlanLists.{change_of, node_change_of}
+use Rattle.tree_plan.specs.Planned.{tree_said, record_of, AreTreeChanges, laid_over}
 use Rattle.tree_plan.proofs.Maps.{is_none_or, some_is, not_some, get_nil}
 
 abbrev Verdicts : Type 0
@@ -116,21 +116,21 @@ gone_from w m r a b whole walked h q none node = elim (h.removes.verdicts q) [
 
 -- the merged world has no other root
 pub laid_roots : (w : World) (nodes : List (NodeId × NodeData)) (top focus : NodeId) → ((i : ℕ) → 0 < i → get w.trees i ≡ None) → (i : ℕ) (t : Tree) → get (laid_over w nodes top focus).trees i ≡ Some t → in_tree i t.root ≡ in_tree 0 top
-laid_roots w nodes top focus alone zero t e = let f : Some (tree_of top focus) ≡ Some t = sym (get_root w.trees (tree_of top focus)) ∙ e in let same : tree_of top focus ≡ t = cc in ap (λ x. in_tree 0 x.root) (sym same)
+laid_roots w nodes top focus alone zero t e = let f : Some (tree_said top focus) ≡ Some t = sym (get_root w.trees (tree_said top focus)) ∙ e in let same : tree_said top focus ≡ t = cc in ap (λ x. in_tree 0 x.root) (sym same)
 laid_roots w nodes top focus alone (suc i) t e =
     let lt : 0 < suc i = omega arith in
-    let f : None ≡ Some t = sym (get_other w.trees (tree_of top focus) (suc i) lt ∙ alone (suc i) lt) ∙ e in absurd cc
+    let f : None ≡ Some t = sym (get_other w.trees (tree_said top focus) (suc i) lt ∙ alone (suc i) lt) ∙ e in absurd cc
 
 pub laid_root : (w : World) (nodes : List (NodeId × NodeData)) (top focus : NodeId) → Reached (laid_over w nodes top focus) (in_tree 0 top)
-laid_root w nodes top focus = root 0 (tree_of top focus) (get_root w.trees (tree_of top focus))
+laid_root w nodes top focus = root 0 (tree_said top focus) (get_root w.trees (tree_said top focus))
 
 -- the plan of an update of the root tree
 pub listed_update : (w m : World) (top focus : NodeId) (old : Tree) (a b : Walk) (n : Plan) (front : List Change) → IsWhole w → IsAlone w old → IsWalked w m (in_tree 0 top) a → RemovesOthers w a b
-    → ((i : ℕ) (t : Tree) → get m.trees i ≡ Some t → in_tree i t.root ≡ in_tree 0 top) → n.changes.items ≡ front ++ map change_of b.verdicts.entries → AreTreeChanges old (tree_of top focus) front
+    → ((i : ℕ) (t : Tree) → get m.trees i ≡ Some t → in_tree i t.root ≡ in_tree 0 top) → n.changes.items ≡ front ++ map change_of b.verdicts.entries → AreTreeChanges old (tree_said top focus) front
     → n.focus ≡ in_tree 0 focus → IsSome (at a.places (in_tree 0 focus)) → ((d : NodeData) (place : Option Place) → Settles w (in_tree 0 focus) d place (at a.verdicts (in_tree 0 focus)) → d.tree_id ≡ None)
     → IsListed w m top focus a b n
 listed_update w m top focus old a b n front whole alone walked removed roots items changes declared aimed ends =
-    let f = alone_after w n old (tree_of top focus) front b.verdicts.entries items changes alone in
+    let f = alone_after w n old (tree_said top focus) front b.verdicts.entries items changes alone in
     record {
       walked = walked;
       removes = removed.removes;
@@ -147,11 +147,11 @@ listed_update w m top focus old a b n front whole alone walked removed roots ite
     }
 
 -- where the focus was
-pub old_focus_is : (w : World) (top focus : NodeId) (o : Option FullNodeId) → IsAnchored w (in_tree 0 focus) → get w.trees 0 ≡ Some (tree_of top focus)
-    → (d : NodeData) × (data_of w (in_tree 0 focus) ≡ Some d) × (o ≡ focus_of w.host_focused (in_tree 0 focus) d.active_descendant (λ q. is_some (data_of w q))) → IsFocus w o
+pub old_focus_is : (w : World) (top focus : NodeId) (o : Option FullNodeId) → IsAnchored w (in_tree 0 focus) → get w.trees 0 ≡ Some (tree_said top focus)
+    → (d : NodeData) × (data_of w (in_tree 0 focus) ≡ Some d) × (o ≡ shown_focus_of w.host_focused (in_tree 0 focus) d.active_descendant (λ q. is_some (data_of w q))) → IsFocus w o
 old_focus_is w top focus o anchored tree h =
     subst (λ x. IsFocus w x) (sym h.2) (focus_is w (in_tree 0 focus) h.0 (record {
-      chain = first (tree_of top focus) tree;
+      chain = first (tree_said top focus) tree;
       has = h.1;
       ends = ap (option_and_then (λ d. d.tree_id)) (sym h.1) ∙ anchored.ends;
       inside = refl;
@@ -187,11 +187,11 @@ blank_there w blank p q s = absurd (get_nil p.1 q (ap (λ xs. slice_get xs p.1) 
 
 -- the plan of the first update
 pub listed_first : (w m : World) (top focus : NodeId) (a : Walk) (n : Plan) → IsBlank w → IsWalked w m (in_tree 0 top) a
-    → ((i : ℕ) (t : Tree) → get m.trees i ≡ Some t → in_tree i t.root ≡ in_tree 0 top) → n.changes.items ≡ TreeChange (record_of (tree_of top focus)) ∷ map change_of a.verdicts.entries
+    → ((i : ℕ) (t : Tree) → get m.trees i ≡ Some t → in_tree i t.root ≡ in_tree 0 top) → n.changes.items ≡ TreeChange (record_of (tree_said top focus)) ∷ map change_of a.verdicts.entries
     → n.focus ≡ in_tree 0 focus → IsSome (at a.places (in_tree 0 focus)) → ((d : NodeData) (place : Option Place) → Settles w (in_tree 0 focus) d place (at a.verdicts (in_tree 0 focus)) → d.tree_id ≡ None)
     → IsListed w m top focus a a n
 listed_first w m top focus a n blank walked roots items declared aimed ends =
-    let t : Tree = tree_of top focus in
+    let t : Tree = tree_said top focus in
     let f = alone_put w n t a.verdicts.entries items (ap (λ ks. name_trees ks (record_of t ∷ [])) blank.known) (λ i lt. blank.trees i) in
     record {
       walked = walked;

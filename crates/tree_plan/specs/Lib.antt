@@ -4,5 +4,5 @@ pub mod Verdicts
 pub mod Walks
 pub mod Removals
 pub mod Focusing
-pub mod Lists
+pub mod PlanLists
 pub mod Planned

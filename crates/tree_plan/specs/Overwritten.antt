@@ -5,5 +5,5 @@ use Rattle.schema.specs.declared.NodeId.{NodeId}
 use Rattle.model.specs.World.{World}
 use Rattle.model.specs.Update.{overwritten as nodes_after}
 
-abbrev pub overwritten : World → ℕ → List (NodeId × NodeData) → World
-overwritten w index nodes = record w { nodes = nodes_after w.nodes index nodes }
+abbrev pub world_overwritten : World → ℕ → List (NodeId × NodeData) → World
+world_overwritten w index nodes = record w { nodes = nodes_after w.nodes index nodes }

@@ -6,7 +6,7 @@ use Rattle.schema.specs.NodeData.{NodeData}
 use Rattle.schema.specs.declared.NodeId.{NodeId}
 use Rattle.model.specs.declared.FullNodeId.{FullNodeId}
 use Rattle.model.specs.World.{World, Tree, ROOT_NAME}
-use Rattle.tree_plan.specs.Overwritten.{overwritten}
+use Rattle.tree_plan.specs.Overwritten.{world_overwritten}
 use Rattle.model.specs.declared.events.PlanEvent.{PlanEvent}
 use Rattle.tree_store.specs.declared.plan.Change.{Change}
 use Rattle.tree_store.specs.declared.plan.Change.TheVariants.{Tree as TreeChange}
@@ -14,10 +14,10 @@ use Rattle.tree_store.specs.declared.look_ups.TreeRecord.{TreeRecord}
 use Rattle.tree_plan.specs.declared.lists.Group.TheVariants as group
 use Rattle.tree_plan.specs.declared.walking.Walk.{Walk}
 use Rattle.tree_plan.specs.Verdicts.{at}
-use Rattle.tree_plan.specs.Lists.{told_of, IsMove}
+use Rattle.tree_plan.specs.PlanLists.{told_of, IsMove}
 
-abbrev pub tree_of : NodeId → NodeId → Tree
-tree_of root focus = record { root = root; focus = focus }
+abbrev pub tree_said : NodeId → NodeId → Tree
+tree_said root focus = record { root = root; focus = focus }
 
 -- the record of the root tree
 abbrev pub record_of : Tree → TreeRecord
@@ -29,7 +29,7 @@ AreTreeChanges old new changes = ((old ≡ new) × (changes ≡ [])) ⊎ ((old �
 
 -- the world with an update's nodes over its own, and with this root and declared focus
 abbrev pub laid_over : World → List (NodeId × NodeData) → NodeId → NodeId → World
-laid_over w nodes root focus = record (overwritten w 0 nodes) { trees = insert w.trees 0 (tree_of root focus) }
+laid_over w nodes root focus = record (world_overwritten w 0 nodes) { trees = insert w.trees 0 (tree_said root focus) }
 
 -- the events of these verdicts and of a move of the focus, in their order
 pub record AreEvents (w : World) (a : Walk) (before after : Option FullNodeId) (events : List PlanEvent) : Type 0 where

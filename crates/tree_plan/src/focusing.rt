@@ -4,7 +4,7 @@ ghost use Rattle.schema.specs.NodeData.{NodeData};
 ghost use Rattle.model.specs.declared.FullNodeId.{FullNodeId};
 ghost use Rattle.model.specs.World.{Place, IsNode, data_of};
 ghost use Rattle.tree_plan.specs.Verdicts.{at, Settles};
-ghost use Rattle.tree_plan.specs.Focusing.{focus_of, IsAimOf, given_by};
+ghost use Rattle.tree_plan.specs.Focusing.{shown_focus_of, IsDeclaredFocusOf, given_by};
 
 use crate::verdicts::Verdict;
 use crate::walking::{Walk, in_root_tree};
@@ -14,15 +14,15 @@ use tree_store::{LookUps, UpdateError};
 
 /// What is asked of the node that a tree declares focused.
 #[derive(Clone, Copy)]
-pub struct Aim {
+pub struct DeclaredFocus {
     pub graft: Option<TreeId>,
     pub active: Option<NodeId>,
 }
 
-fn aim_of(node: &Node) -> Aim
-    ensures { IsAimOf node.now result }
+fn declared_focus_of(node: &Node) -> DeclaredFocus
+    ensures { IsDeclaredFocusOf node.now result }
 {
-    Aim {
+    DeclaredFocus {
         graft: node.tree_id(),
         active: node.active_descendant(),
     }
@@ -45,7 +45,7 @@ impl Verdict {
 pub fn old_focus<L: LookUps>(look_ups: &mut L, declared: FullNodeId) -> Option<FullNodeId>
     requires { IsNode (L.world look_ups.old) declared }
     ensures world { L.world look_ups.new ≡ L.world look_ups.old }
-    ensures focus { let w = L.world look_ups.old in (d : NodeData) × (data_of w declared ≡ Some d) × (result ≡ focus_of w.host_focused declared d.active_descendant (λ q. is_some (data_of w q))) }
+    ensures focus { let w = L.world look_ups.old in (d : NodeData) × (data_of w declared ≡ Some d) × (result ≡ shown_focus_of w.host_focused declared d.active_descendant (λ q. is_some (data_of w q))) }
 {
     let is_host_focused = look_ups.is_host_focused();
     let active = active_of(look_ups, declared);
@@ -73,23 +73,27 @@ fn active_of<L: LookUps>(look_ups: &mut L, id: FullNodeId) -> Option<NodeId>
 }
 
 /// What is asked of an old node.
-fn old_aim<L: LookUps>(look_ups: &mut L, id: FullNodeId) -> Aim
+fn find_old<L: LookUps>(look_ups: &mut L, id: FullNodeId) -> DeclaredFocus
     requires { IsNode (L.world look_ups.old) id }
     ensures world { L.world look_ups.new ≡ L.world look_ups.old }
-    ensures aim { (d : NodeData) × (data_of (L.world look_ups.old) id ≡ Some d) × IsAimOf d result }
+    ensures declares { (d : NodeData) × (data_of (L.world look_ups.old) id ≡ Some d) × IsDeclaredFocusOf d result }
 {
     let record = look_ups.node(id).unwrap();
-    aim_of(record.node)
+    declared_focus_of(record.node)
 }
 
 impl Walk {
     /// Looks at the node that the update declares focused.
-    pub fn aim_at<L: LookUps>(&self, look_ups: &mut L, id: FullNodeId) -> Result<Aim, UpdateError>
+    pub fn find_declared<L: LookUps>(
+        &self,
+        look_ups: &mut L,
+        id: FullNodeId,
+    ) -> Result<DeclaredFocus, UpdateError>
         requires { (q : FullNodeId) → IsSome (at self.now.places q) → (d : NodeData) × (place : Option Place) × Settles (L.world look_ups.old) q d place (at self.now.verdicts q) }
         ensures world { L.world look_ups.new ≡ L.world look_ups.old }
         ensures reached { IfOk result (λ a. IsSome (at self.now.places id)) }
         ensures ends { IfOk result (λ a. a.graft ≡ None) }
-        ensures aim { IfOk result (λ a. (d : NodeData) (place : Option Place) → Settles (L.world look_ups.old) id d place (at self.now.verdicts id) → IsAimOf d a) }
+        ensures declares { IfOk result (λ a. (d : NodeData) (place : Option Place) → Settles (L.world look_ups.old) id d place (at self.now.verdicts id) → IsDeclaredFocusOf d a) }
     {
         if !self.places.contains_key(&id) {
             return Err(UpdateError::FocusMissing(id.node));
@@ -102,18 +106,18 @@ impl Walk {
     }
 
     /// Looks at a node that is reached.
-    fn find<L: LookUps>(&self, look_ups: &mut L, id: FullNodeId) -> Aim
+    fn find<L: LookUps>(&self, look_ups: &mut L, id: FullNodeId) -> DeclaredFocus
         requires { (d : NodeData) × (place : Option Place) × Settles (L.world look_ups.old) id d place (at self.now.verdicts id) }
         ensures world { L.world look_ups.new ≡ L.world look_ups.old }
-        ensures aim { (d : NodeData) (place : Option Place) → Settles (L.world look_ups.old) id d place (at self.now.verdicts id) → IsAimOf d result }
+        ensures declares { (d : NodeData) (place : Option Place) → Settles (L.world look_ups.old) id d place (at self.now.verdicts id) → IsDeclaredFocusOf d result }
     {
         let Some(verdict) = self.verdicts.get(&id) else {
-            return old_aim(look_ups, id);
+            return find_old(look_ups, id);
         };
         let Some(node) = verdict.given() else {
-            return old_aim(look_ups, id);
+            return find_old(look_ups, id);
         };
-        aim_of(node)
+        declared_focus_of(node)
     }
 
     /// What `focus` answers in the new state.
@@ -121,9 +125,9 @@ impl Walk {
         &self,
         look_ups: &L,
         declared: FullNodeId,
-        found: Aim,
+        found: DeclaredFocus,
     ) -> Option<FullNodeId>
-        ensures { result ≡ focus_of (L.world look_ups.now).host_focused declared found.active (λ q. is_some (at self.now.places q)) }
+        ensures { result ≡ shown_focus_of (L.world look_ups.now).host_focused declared found.active (λ q. is_some (at self.now.places q)) }
     {
         if !look_ups.is_host_focused() {
             return None;

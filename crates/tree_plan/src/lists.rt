@@ -7,7 +7,7 @@ ghost use Rattle.model.specs.declared.FullNodeId.{FullNodeId};
 ghost use Rattle.model.specs.declared.events.PlanEvent.{PlanEvent};
 ghost use Rattle.tree_plan.specs.declared.verdicts.Verdict.{Verdict};
 ghost use Rattle.tree_plan.specs.Verdicts.{at};
-ghost use Rattle.tree_plan.specs.Lists.{change_of, group_of, event_in, told_of, untold, IsMove};
+ghost use Rattle.tree_plan.specs.PlanLists.{change_of, group_of, event_in, told_of, untold, IsMove};
 
 use crate::verdicts::Verdict;
 use crate::walking::Walk;

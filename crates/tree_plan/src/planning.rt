@@ -4,7 +4,7 @@ ghost use Rattle.std.specs.BTreeMap.{is_at};
 ghost use Rattle.model.specs.declared.FullNodeId.{FullNodeId};
 ghost use Rattle.model.specs.FullIds.{full_cmp};
 ghost use Rattle.model.specs.World.{World, ROOT_NAME, data_of, in_tree, Reached};
-ghost use Rattle.tree_plan.specs.Overwritten.{overwritten};
+ghost use Rattle.tree_plan.specs.Overwritten.{world_overwritten};
 ghost use Rattle.tree_store.specs.declared.error.UpdateError.TheVariants.{NoGraft};
 ghost use Rattle.tree_plan.specs.Verdicts.{at};
 ghost use Rattle.tree_plan.specs.Walks.{IsWalked, over};
@@ -12,7 +12,7 @@ ghost use Rattle.std.specs.FinMap.{get};
 ghost use Rattle.tree_store.specs.Plans.{planned};
 ghost use Rattle.tree_store.specs.Sound.{IsAnchored, IsSoundPlan};
 ghost use Rattle.tree_plan.specs.Whole.{IsWhole, IsBlank};
-ghost use Rattle.tree_plan.specs.Planned.{AreEvents, AreTreeChanges, tree_of, record_of};
+ghost use Rattle.tree_plan.specs.Planned.{AreEvents, AreTreeChanges, tree_said, record_of};
 
 use crate::focusing::old_focus;
 use crate::lists::{Group, push_changes};
@@ -44,7 +44,7 @@ fn named_nodes(
     alloc: Global,
     nodes: Vec<(NodeId, Node)>,
 ) -> Result<BTreeMap<FullNodeId, Node>, UpdateError>
-    ensures { IfOk result (λ named. (w : World) (q : FullNodeId) → over (at named q) (data_of w q) ≡ data_of (overwritten w 0 nodes.items) q) }
+    ensures { IfOk result (λ named. (w : World) (q : FullNodeId) → over (at named q) (data_of w q) ≡ data_of (world_overwritten w 0 nodes.items) q) }
 {
     let mut named = BTreeMap::new(alloc);
     for (id, node) in nodes {
@@ -62,7 +62,7 @@ fn walked<L: LookUps>(
 ) -> Result<Walk, UpdateError>
     ghost merged: { World }
     requires root { Reached merged (in_tree 0 root) }
-    requires data { (q : FullNodeId) → data_of merged q ≡ data_of (overwritten (L.world look_ups.old) 0 nodes.items) q }
+    requires data { (q : FullNodeId) → data_of merged q ≡ data_of (world_overwritten (L.world look_ups.old) 0 nodes.items) q }
     ensures world { L.world look_ups.new ≡ L.world look_ups.old }
     ensures walked { IfOk result (λ a. IsWalked (L.world look_ups.old) merged (in_tree 0 root) a) }
     ensures named { IfOk result (λ a. (q : FullNodeId) → at a.named q ≡ None) }
@@ -78,7 +78,7 @@ fn walked<L: LookUps>(
 
 /// The record of the root tree.
 fn root_tree(root: NodeId, focus: NodeId) -> TreeRecord
-    ensures { result ≡ record_of (tree_of root focus) }
+    ensures { result ≡ record_of (tree_said root focus) }
 {
     TreeRecord {
         id: TreeId::root(),
@@ -91,7 +91,7 @@ fn root_tree(root: NodeId, focus: NodeId) -> TreeRecord
 
 /// Whether the root tree's root and declared focus stay.
 fn is_same_tree(old_root: NodeId, root: NodeId, old_focus: NodeId, focus: NodeId) -> bool
-    ensures { IsTrue result ↔ (tree_of old_root old_focus ≡ tree_of root focus) }
+    ensures { IsTrue result ↔ (tree_said old_root old_focus ≡ tree_said root focus) }
 {
     if old_root != root {
         return false;
@@ -107,7 +107,7 @@ fn tree_changes(
     old_focus: NodeId,
     focus: NodeId,
 ) -> Result<Vec<Change>, UpdateError>
-    ensures { IfOk result (λ v. AreTreeChanges (tree_of old_root old_focus) (tree_of root focus) v.items) }
+    ensures { IfOk result (λ v. AreTreeChanges (tree_said old_root old_focus) (tree_said root focus) v.items) }
 {
     let mut changes = Vec::new(alloc);
     if is_same_tree(old_root, root, old_focus, focus) {
@@ -131,7 +131,7 @@ fn texts(info: Option<TreeInfo>) -> Option<ToolkitTexts> {
     }
 }
 
-/// The events, in their order.
+/// The events, in their update.
 fn events<L: LookUps>(
     alloc: Global,
     look_ups: &mut L,
@@ -154,14 +154,14 @@ fn events<L: LookUps>(
 fn old_tree<L: LookUps>(look_ups: &mut L) -> (NodeId, NodeId)
     requires { (focus : FullNodeId) × IsAnchored (L.world look_ups.old) focus }
     ensures world { L.world look_ups.new ≡ L.world look_ups.old }
-    ensures tree { get (L.world look_ups.old).trees 0 ≡ Some (tree_of result.0 result.1) }
+    ensures tree { get (L.world look_ups.old).trees 0 ≡ Some (tree_said result.0 result.1) }
 {
     let record = look_ups.tree(TreeId::root()).unwrap();
     (record.root.unwrap(), record.focus.unwrap())
 }
 
 /// What an update asks of the root tree: its nodes, its root and declared focus before and after, and the texts.
-struct Order {
+struct RootTreeUpdate {
     nodes: Vec<(NodeId, Node)>,
     old_root: NodeId,
     root: NodeId,
@@ -206,7 +206,7 @@ pub fn plan_update<L: LookUps>(
     plan_root_tree(
         alloc,
         look_ups,
-        Order {
+        RootTreeUpdate {
             nodes,
             old_root,
             root,
@@ -220,26 +220,26 @@ pub fn plan_update<L: LookUps>(
 fn plan_root_tree<L: LookUps>(
     alloc: Global,
     look_ups: &mut L,
-    order: Order,
+    update: RootTreeUpdate,
 ) -> Result<Plan, UpdateError>
-    requires anchored { IsAnchored (L.world look_ups.old) (in_tree 0 order.old_focus) }
+    requires anchored { IsAnchored (L.world look_ups.old) (in_tree 0 update.old_focus) }
     requires whole { IsWhole (L.world look_ups.old) }
-    requires tree { get (L.world look_ups.old).trees 0 ≡ Some (tree_of order.old_root order.old_focus) }
+    requires tree { get (L.world look_ups.old).trees 0 ≡ Some (tree_said update.old_root update.old_focus) }
     ensures world { L.world look_ups.new ≡ L.world look_ups.old }
     ensures sound { IfOk result (λ plan. IsSoundPlan (L.world look_ups.old) plan) }
     ensures whole { IfOk result (λ plan. IsWhole (planned (L.world look_ups.old) plan)) }
 {
-    let Order {
+    let RootTreeUpdate {
         nodes,
         old_root,
         root,
         old_focus: old_declared,
         focus,
         toolkit,
-    } = order;
+    } = update;
     let mut walk = walked(alloc, look_ups, nodes, root)?;
     let declared = in_root_tree(focus);
-    let found = walk.aim_at(look_ups, declared)?;
+    let found = walk.find_declared(look_ups, declared)?;
     walk.remove_others(alloc, look_ups, in_root_tree(old_root))?;
     let before = old_focus(look_ups, in_root_tree(old_declared));
     let after = walk.new_focus(look_ups, declared, found);
@@ -285,7 +285,7 @@ pub fn plan_first_update<L: LookUps>(
     } = info;
     let walk = walked(alloc, look_ups, nodes, root)?;
     let declared = in_root_tree(focus);
-    walk.aim_at(look_ups, declared)?;
+    walk.find_declared(look_ups, declared)?;
     let mut changes = Vec::new(alloc);
     changes.push(Change::Tree(root_tree(root, focus)))?;
     push_changes(walk.verdicts, &mut changes)?;

@@ -62,6 +62,6 @@ impl Walk {
         if self.places.contains_key(&id) {
             return Ok(());
         }
-        self.judge(id, Verdict::Removed)
+        self.set_verdict(id, Verdict::Removed)
     }
 }

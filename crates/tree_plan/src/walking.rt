@@ -43,7 +43,7 @@ pub fn in_root_tree(node: NodeId) -> FullNodeId
 }
 
 /// A node's data, unless they are as before.
-fn news(node: Node, old: &Node) -> Option<Node>
+fn changed_data(node: Node, old: &Node) -> Option<Node>
     ensures same { IfNone result (node ≡ old.now) }
     ensures other { IfSome result (λ d. (d ≡ node) × (node ≢ old.now)) }
 {
@@ -110,13 +110,13 @@ impl Walk {
                 return Ok(());
             }
             let id = self.queue[position];
-            self.settle(look_ups, id)?;
+            self.visit(look_ups, id)?;
         }
         Ok(())
     }
 
     /// Comes to a node that is reached.
-    fn settle<L: LookUps>(&mut self, look_ups: &mut L, id: FullNodeId) -> Result<(), UpdateError>
+    fn visit<L: LookUps>(&mut self, look_ups: &mut L, id: FullNodeId) -> Result<(), UpdateError>
         requires stands { IsSome (at self.old.places id) }
         requires new { at self.old.verdicts id ≡ None }
         ensures world { L.world look_ups.new ≡ L.world look_ups.old }
@@ -124,13 +124,13 @@ impl Walk {
     {
         let place = self.place(id);
         match self.named.remove(&id) {
-            Some(node) => self.settle_named(look_ups, id, place, node),
-            None => self.settle_old(look_ups, id, place),
+            Some(node) => self.visit_named(look_ups, id, place, node),
+            None => self.visit_old(look_ups, id, place),
         }
     }
 
     /// Comes to a node that the update names.
-    fn settle_named<L: LookUps>(
+    fn visit_named<L: LookUps>(
         &mut self,
         look_ups: &mut L,
         id: FullNodeId,
@@ -146,11 +146,11 @@ impl Walk {
     {
         self.enter(id, &node)?;
         let Some(old) = look_ups.node(id) else {
-            return self.judge(id, Verdict::Added { place, node });
+            return self.set_verdict(id, Verdict::Added { place, node });
         };
         let was = old.place;
-        match news(node, old.node) {
-            Some(node) => self.judge(
+        match changed_data(node, old.node) {
+            Some(node) => self.set_verdict(
                 id,
                 Verdict::Updated {
                     place,
@@ -162,7 +162,7 @@ impl Walk {
     }
 
     /// Comes to a node that has its old data.
-    fn settle_old<L: LookUps>(
+    fn visit_old<L: LookUps>(
         &mut self,
         look_ups: &mut L,
         id: FullNodeId,
@@ -183,7 +183,7 @@ impl Walk {
     }
 
     /// Says what becomes of a node.
-    pub fn judge(&mut self, id: FullNodeId, verdict: Verdict) -> Result<(), UpdateError>
+    pub fn set_verdict(&mut self, id: FullNodeId, verdict: Verdict) -> Result<(), UpdateError>
         ensures verdict { OnOk result (at self.new.verdicts id ≡ Some verdict) }
         ensures others { OnOk result (ChangesAt id (at self.old.verdicts) (at self.new.verdicts)) }
         ensures rest { self.new ≡ record self.old { verdicts = self.new.verdicts } }
@@ -208,7 +208,7 @@ impl Walk {
             return Ok(());
         }
         let node = None;
-        self.judge(id, Verdict::Updated { place, node })
+        self.set_verdict(id, Verdict::Updated { place, node })
     }
 
     /// The place of a node that is reached.

@@ -15,7 +15,7 @@ use Rattle.model.specs.World.{Tree}
 use Rattle.tree_store.specs.declared.records.Record.{Record}
 use Rattle.tree_store.specs.declared.records.PresentTree.{PresentTree}
 use Rattle.tree_store.specs.Plans.{set_at, set_tree}
-use Rattle.tree_store.specs.Stored.{Records, nodes_shown, trees_shown, slots_shown, tree_of, slot_at, record_at, filled}
+use Rattle.tree_store.specs.Stored.{Slots, nodes_shown, trees_shown, slots_shown, tree_shown, slot_at, record_at, filled}
 
 pub get-set_at : (m : FinMap full_cmp NodeData) (k : FullNodeId) (d : Option NodeData) (q : FullNodeId) → get (set_at m k d) q ≡ cond (eq_by_cmp full_cmp q k) d (get m q)
 get-set_at m k (Some d) q = get-insert full_total m k d q
@@ -41,21 +41,21 @@ or-some : {A : Type 0} (b : Bool) (x : A) (o : Option A) → (b || is_some o) �
 or-some true x o = refl
 or-some false x o = refl
 
-pub get-nodes_shown : (es : Records) (q : FullNodeId) → get (nodes_shown es) q ≡ node_in (record_at es q)
+pub get-nodes_shown : (es : Slots) (q : FullNodeId) → get (nodes_shown es) q ≡ node_in (record_at es q)
 get-nodes_shown [] q = get-empty full_cmp q
 get-nodes_shown (e ∷ es) q =
     get-set_at (nodes_shown es) e.0 (option_map (λ r. r.node) e.1) q
     ∙ ap (cond (is_at (full_cmp q) e.0) (option_map (λ r. r.node) e.1)) (get-nodes_shown es q)
     ∙ node_in-cond (is_at (full_cmp q) e.0) e.1 (slot_at es q)
 
-pub get-trees_shown : (es : List (ℕ × PresentTree)) (q : ℕ) → get (trees_shown es) q ≡ option_map tree_of (lookup (is_at (nat_cmp q)) es)
+pub get-trees_shown : (es : List (ℕ × PresentTree)) (q : ℕ) → get (trees_shown es) q ≡ option_map tree_shown (lookup (is_at (nat_cmp q)) es)
 get-trees_shown [] q = get-empty nat_cmp q
 get-trees_shown (e ∷ es) q =
-    get-insert nat_cmp_total (trees_shown es) e.0 (tree_of e.1) q
-    ∙ ap (cond (is_at (nat_cmp q) e.0) (Some (tree_of e.1))) (get-trees_shown es q)
-    ∙ map-cond tree_of (is_at (nat_cmp q) e.0) e.1 (lookup (is_at (nat_cmp q)) es)
+    get-insert nat_cmp_total (trees_shown es) e.0 (tree_shown e.1) q
+    ∙ ap (cond (is_at (nat_cmp q) e.0) (Some (tree_shown e.1))) (get-trees_shown es q)
+    ∙ map-cond tree_shown (is_at (nat_cmp q) e.0) e.1 (lookup (is_at (nat_cmp q)) es)
 
-pub contains-slots_shown : (es : Records) (q : FullNodeId) → set.contains (slots_shown es) q ≡ is_some (slot_at es q)
+pub contains-slots_shown : (es : Slots) (q : FullNodeId) → set.contains (slots_shown es) q ≡ is_some (slot_at es q)
 contains-slots_shown [] q = set.contains-empty full_cmp q
 contains-slots_shown (e ∷ es) q =
     set.contains-insert full_total (slots_shown es) e.0 q

@@ -9,7 +9,7 @@ use Rattle.tree_store.specs.declared.plan.NodeChange.TheVariants as node
 use Rattle.tree_store.specs.declared.plan.Change.{Change}
 use Rattle.tree_store.specs.declared.plan.Change.TheVariants.{Put, Gone, Tree}
 
--- with a change of a node in its place among the changes of nodes
+-- with a change of a node in order among the changes of nodes
 abbrev pub with_node : List (FullNodeId × NodeChange) → Change → List (FullNodeId × NodeChange)
 with_node es (Put id place given) = insert_entry full_cmp es id (node.Put place given)
 with_node es (Gone id) = insert_entry full_cmp es id node.Gone

@@ -1,7 +1,7 @@
 pub mod Looks
 pub mod Plans
 pub mod Sound
-pub mod Kept
+pub mod KeptWorld
 pub mod Stored
 pub mod Shown
 pub mod Laying

@@ -7,7 +7,7 @@ use Rattle.model.specs.declared.FullNodeId.{FullNodeId}
 use Rattle.model.specs.World.{World, data_of}
 use Rattle.tree_store.specs.declared.plan.Change.{Change}
 use Rattle.tree_store.specs.declared.overlay.Overlay.{Overlay}
-use Rattle.tree_store.specs.Kept.{Kept}
+use Rattle.tree_store.specs.KeptWorld.{KeptWorld}
 use Rattle.tree_store.specs.Plans.{node_changes, tree_changes, changed_world}
 use Rattle.tree_store.specs.Sound.{IsAnchored, change_at, PutsTrue, KeepsTrue}
 
@@ -28,5 +28,5 @@ pub record IsSoundOverlay (w : World) (o : Overlay) : Type 0 where
   pub anchored : IsAnchored (overlaid w o) o.focus
 
 -- there is a slot for each node and for each change, and no more
-abbrev pub IsReadyFor : Kept → Overlay → Type 0
+abbrev pub IsReadyFor : KeptWorld → Overlay → Type 0
 IsReadyFor k o = (id : FullNodeId) → contains k.slots id ≡ (is_some (data_of k.world id) || is_some (change_at o.nodes.entries id))

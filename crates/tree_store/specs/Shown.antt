@@ -9,5 +9,5 @@ world_shown a = record {
   trees = trees_shown a.trees.entries;
   nodes = nodes_shown a.nodes.entries;
   toolkit = texts_shown a.toolkit;
-  host_focused = a.host_focused;
+  host_focused = a.is_host_focused;
 }

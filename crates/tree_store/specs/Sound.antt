@@ -18,8 +18,8 @@ use Rattle.tree_store.specs.declared.plan.Plan.{Plan}
 use Rattle.tree_store.specs.Plans.{node_changes, planned}
 
 -- the root of the root tree
-abbrev pub root_of : World → NodeId
-root_of w = option_map_or (λ t. t.root) (get w.trees 0) (record { 0 = 0 })
+abbrev pub root_id_of : World → NodeId
+root_id_of w = option_map_or (λ t. t.root) (get w.trees 0) (record { 0 = 0 })
 
 -- The root tree is the only one, its root is there, and its declared focus is there and grafts no tree: so this node is
 -- the effective focus.
@@ -27,7 +27,7 @@ pub record IsAnchored (w : World) (focus : FullNodeId) : Type 0 where
   pub known : w.known ≡ ROOT_NAME ∷ []
   pub alone : (index : ℕ) → 0 < index → get w.trees index ≡ None
   pub inside : (id : FullNodeId) → IsNode w id → id.tree ≡ 0
-  pub root : IsNode w (in_tree 0 (root_of w))
+  pub root : IsNode w (in_tree 0 (root_id_of w))
   pub declared : option_map (λ t. in_tree 0 t.focus) (get w.trees 0) ≡ Some focus
   pub there : IsNode w focus
   pub ends : graft_name w focus ≡ None

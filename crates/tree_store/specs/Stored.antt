@@ -20,23 +20,23 @@ use Rattle.tree_store.specs.declared.plan.NodeChange.{NodeChange}
 use Rattle.tree_store.specs.declared.plan.NodeChange.TheVariants as node
 use Rattle.tree_store.specs.Sound.{IsAnchored, NodeChanges, change_at}
 
-abbrev pub Records : Type 0
-Records = List (FullNodeId × Option Record)
+abbrev pub Slots : Type 0
+Slots = List (FullNodeId × Option Record)
 
 -- the data of the records; an empty slot shows nothing
-abbrev pub nodes_shown : Records → FinMap full_cmp NodeData
+abbrev pub nodes_shown : Slots → FinMap full_cmp NodeData
 nodes_shown [] = empty
 nodes_shown (e ∷ es) = set_at (nodes_shown es) e.0 (option_map (λ r. r.node) e.1)
 
-abbrev pub tree_of : PresentTree → Tree
-tree_of t = record { root = t.root; focus = t.focus }
+abbrev pub tree_shown : PresentTree → Tree
+tree_shown t = record { root = t.root; focus = t.focus }
 
 abbrev pub trees_shown : List (ℕ × PresentTree) → FinMap nat_cmp Tree
 trees_shown [] = empty
-trees_shown (e ∷ es) = insert (trees_shown es) e.0 (tree_of e.1)
+trees_shown (e ∷ es) = insert (trees_shown es) e.0 (tree_shown e.1)
 
 -- the ids that have a slot, filled or empty
-abbrev pub slots_shown : Records → set.FinSet full_cmp
+abbrev pub slots_shown : Slots → set.FinSet full_cmp
 slots_shown [] = set.empty
 slots_shown (e ∷ es) = set.insert (slots_shown es) e.0
 
@@ -44,7 +44,7 @@ abbrev pub texts_shown : Option (String Global) × Option (String Global) → Op
 texts_shown texts = (option_map string_bytes texts.0, option_map string_bytes texts.1)
 
 -- what is kept at an id: nothing, an empty slot, or a record
-abbrev pub slot_at : Records → FullNodeId → Option (Option Record)
+abbrev pub slot_at : Slots → FullNodeId → Option (Option Record)
 slot_at es id = lookup (is_at (full_cmp id)) es
 
 abbrev pub filled : Option (Option Record) → Option Record
@@ -52,15 +52,15 @@ filled None = None
 filled (Some r) = r
 
 -- the record of an id
-abbrev pub record_at : Records → FullNodeId → Option Record
+abbrev pub record_at : Slots → FullNodeId → Option Record
 record_at es id = filled (slot_at es id)
 
 -- the places that the records keep are those where the nodes stand
-pub record PlacesAreTrue (es : Records) (w : World) : Type 0 where
+pub record PlacesAreTrue (es : Slots) (w : World) : Type 0 where
   pub places : (id : FullNodeId) (r : Record) → record_at es id ≡ Some r → (p : Place) → (r.place ≡ Some p) ↔ StandsAt w p id
 
 -- a store's records are those of the world that it shows
-pub record IsStored (es : Records) (focus : FullNodeId) (w : World) : Type 0 where
+pub record IsStored (es : Slots) (focus : FullNodeId) (w : World) : Type 0 where
   pub places : PlacesAreTrue es w
   pub anchored : IsAnchored w focus
 
@@ -71,14 +71,14 @@ record_after (node.Put place None) before = option_map (λ (r : Record). record 
 record_after node.Gone before = None
 
 -- the record after a change that may be missing
-abbrev pub after_change : Option NodeChange → Option Record → Option Record
-after_change None before = before
-after_change (Some c) before = record_after c before
+abbrev pub record_after_change : Option NodeChange → Option Record → Option Record
+record_after_change None before = before
+record_after_change (Some c) before = record_after c before
 
 -- there is a slot for each record, and no more
-abbrev pub HasNoSpare : Records → Type 0
+abbrev pub HasNoSpare : Slots → Type 0
 HasNoSpare es = (id : FullNodeId) → is_some (slot_at es id) ≡ is_some (record_at es id)
 
 -- there is a slot for each record and for each change, and no more
-abbrev pub HasRoomFor : Records → NodeChanges → Type 0
+abbrev pub HasRoomFor : Slots → NodeChanges → Type 0
 HasRoomFor es cs = (id : FullNodeId) → is_some (slot_at es id) ≡ (is_some (record_at es id) || is_some (change_at cs id))

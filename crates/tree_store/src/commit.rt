@@ -4,12 +4,12 @@ ghost use Rattle.std.specs.Map.{lookup};
 ghost use Rattle.std.specs.BTreeMap.{is_at};
 ghost use Rattle.std.specs.Ordering.{nat_cmp};
 ghost use Rattle.model.specs.World.{ROOT_NAME};
-ghost use Rattle.tree_store.specs.Kept.{IsTight};
+ghost use Rattle.tree_store.specs.KeptWorld.{IsTight};
 ghost use Rattle.model.specs.State.{empty_world};
 ghost use Rattle.tree_store.specs.Plans.{replaced_texts};
 ghost use Rattle.model.specs.declared.FullNodeId.{FullNodeId};
 ghost use Rattle.tree_store.specs.Sound.{change_at};
-ghost use Rattle.tree_store.specs.Stored.{texts_shown, record_at, after_change, HasNoSpare};
+ghost use Rattle.tree_store.specs.Stored.{texts_shown, record_at, record_after_change, HasNoSpare};
 ghost use Rattle.tree_store.specs.Overlays.{overlaid, IsReadyFor, IsSoundOverlay};
 
 use crate::overlay::Overlay;
@@ -59,9 +59,13 @@ impl Store {
     }
 
     /// The first state: the overlay of the first plan, over no state.
-    pub fn first(alloc: Global, overlay: Overlay, host_focused: bool) -> Result<Store, AllocError>
-        requires { IsSoundOverlay (empty_world host_focused) overlay }
-        ensures world { IfOk result (λ s. s.world ≡ overlaid (empty_world host_focused) overlay) }
+    pub fn first(
+        alloc: Global,
+        overlay: Overlay,
+        is_host_focused: bool,
+    ) -> Result<Store, AllocError>
+        requires { IsSoundOverlay (empty_world is_host_focused) overlay }
+        ensures world { IfOk result (λ s. s.world ≡ overlaid (empty_world is_host_focused) overlay) }
         ensures tight { IfOk result (λ s. IsTight s) }
     {
         let Some(tree) = overlay.tree_over(None, 0) else {
@@ -84,7 +88,7 @@ impl Store {
             known,
             trees,
             toolkit,
-            host_focused,
+            is_host_focused,
             focus,
         })
     }
@@ -94,7 +98,7 @@ fn first_nodes(
     alloc: Global,
     changes: BTreeMap<FullNodeId, NodeChange>,
 ) -> Result<BTreeMap<FullNodeId, Option<Record>>, AllocError>
-    ensures records { IfOk result (λ slots. (id : FullNodeId) → record_at slots.entries id ≡ after_change (change_at changes.entries id) None) }
+    ensures records { IfOk result (λ slots. (id : FullNodeId) → record_at slots.entries id ≡ record_after_change (change_at changes.entries id) None) }
     ensures tight { IfOk result (λ slots. HasNoSpare slots.entries) }
 {
     let mut slots = BTreeMap::new(alloc);

@@ -7,8 +7,8 @@ ghost use Rattle.std.specs.declared.cmp.Ordering.TheVariants.{Less};
 ghost use Rattle.model.specs.FullIds.{full_cmp};
 ghost use Rattle.model.specs.World.{Tree, index_of, in_tree};
 ghost use Rattle.tree_store.specs.Plans.{node_changes, changed, put_tree, put_trees, present};
-ghost use Rattle.tree_store.specs.Sound.{IsAnchored, root_of, change_at, place_in};
-ghost use Rattle.tree_store.specs.Stored.{tree_of};
+ghost use Rattle.tree_store.specs.Sound.{IsAnchored, root_id_of, change_at, place_in};
+ghost use Rattle.tree_store.specs.Stored.{tree_shown};
 ghost use Rattle.tree_store.specs.Laying.{with_node, with_tree};
 ghost use Rattle.tree_store.specs.Overlays.{overlaid, IsLaid};
 
@@ -58,7 +58,7 @@ impl NodeChange {
 impl TreeRecord {
     // the tree of the record, where it is present
     fn present(&self) -> Option<PresentTree>
-        ensures { option_map tree_of result ≡ present self.now.root self.now.focus }
+        ensures { option_map tree_shown result ≡ present self.now.root self.now.focus }
     {
         let Some(root) = self.root else {
             return None;
@@ -71,7 +71,7 @@ impl TreeRecord {
 
     // the tree with this index after the change
     fn tree_after(&self, below: Option<PresentTree>, index: u32) -> Option<PresentTree>
-        ensures { (m : FinMap nat_cmp Tree) → option_map tree_of below ≡ tree_at m index → option_map tree_of result ≡ tree_at (put_tree m self.now) index }
+        ensures { (m : FinMap nat_cmp Tree) → option_map tree_shown below ≡ tree_at m index → option_map tree_shown result ≡ tree_at (put_tree m self.now) index }
     {
         let Some(changed) = self.index else {
             return below;
@@ -116,14 +116,14 @@ impl Overlay {
 
     /// A present tree of the overlaid world, by its index.
     pub fn tree(&self, base: &Store, index: u32) -> Option<PresentTree>
-        ensures { option_map tree_of result ≡ tree_at (overlaid base.now.world self.now).trees index }
+        ensures { option_map tree_shown result ≡ tree_at (overlaid base.now.world self.now).trees index }
     {
         self.tree_over(base.tree(index), index)
     }
 
     /// A tree with this index after the changes, where this is the one before.
     pub fn tree_over(&self, below: Option<PresentTree>, index: u32) -> Option<PresentTree>
-        ensures { (m : FinMap nat_cmp Tree) → option_map tree_of below ≡ tree_at m index → option_map tree_of result ≡ tree_at (put_trees m self.now.trees.items) index }
+        ensures { (m : FinMap nat_cmp Tree) → option_map tree_shown below ≡ tree_at m index → option_map tree_shown result ≡ tree_at (put_trees m self.now.trees.items) index }
     {
         let mut tree = below;
         for record in &self.trees {
@@ -135,7 +135,7 @@ impl Overlay {
     /// The root of the overlaid world's root tree.
     pub fn root(&self, base: &Store) -> FullNodeId
         requires { IsAnchored (overlaid base.now.world self.now) self.now.focus }
-        ensures { result ≡ in_tree 0 (root_of (overlaid base.now.world self.now)) }
+        ensures { result ≡ in_tree 0 (root_id_of (overlaid base.now.world self.now)) }
     {
         match self.tree(base, 0) {
             Some(tree) => FullNodeId {

@@ -5,7 +5,7 @@ ghost use Rattle.std.specs.BTreeMap.{is_at};
 ghost use Rattle.model.specs.declared.FullNodeId.{FullNodeId};
 ghost use Rattle.model.specs.FullIds.{full_cmp};
 ghost use Rattle.tree_store.specs.Sound.{change_at};
-ghost use Rattle.tree_store.specs.Stored.{slot_at, record_at, record_after, after_change, HasNoSpare, HasRoomFor};
+ghost use Rattle.tree_store.specs.Stored.{slot_at, record_at, record_after, record_after_change, HasNoSpare, HasRoomFor};
 
 use crate::plan::NodeChange;
 use crate::records::Record;
@@ -85,7 +85,7 @@ pub(crate) fn write_all(
     changes: BTreeMap<FullNodeId, NodeChange>,
 )
     requires { HasRoomFor slots.old.entries changes.entries }
-    ensures records { (id : FullNodeId) → record_at slots.new.entries id ≡ after_change (change_at changes.entries id) (record_at slots.old.entries id) }
+    ensures records { (id : FullNodeId) → record_at slots.new.entries id ≡ record_after_change (change_at changes.entries id) (record_at slots.old.entries id) }
     ensures tight { HasNoSpare slots.new.entries }
 {
     for (id, change) in changes {

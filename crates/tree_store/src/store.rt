@@ -2,8 +2,8 @@
 ghost use Rattle.std.specs.Prelude.{◌≡◌, ℕ, Some, IsSome, ◌↔◌, length, option_copied, option_map, slice_get};
 ghost use Rattle.std.specs.FinMap.{get as tree_at};
 ghost use Rattle.model.specs.World.{World, Place, StandsAt, IsNode, data_of, index_of, in_tree};
-ghost use Rattle.tree_store.specs.Sound.{IsAnchored, root_of};
-ghost use Rattle.tree_store.specs.Stored.{tree_of};
+ghost use Rattle.tree_store.specs.Sound.{IsAnchored, root_id_of};
+ghost use Rattle.tree_store.specs.Stored.{tree_shown};
 
 use crate::plan::ToolkitTexts;
 use crate::records::{PresentTree, Record};
@@ -21,14 +21,14 @@ pub struct Store {
     pub(crate) known: Vec<TreeId>,
     pub(crate) trees: BTreeMap<u32, PresentTree>,
     pub(crate) toolkit: ToolkitTexts,
-    pub(crate) host_focused: bool,
+    pub(crate) is_host_focused: bool,
     pub(crate) focus: FullNodeId,
 }
 
 impl Model for Store {
-    ghost use Rattle.tree_store.specs.Kept.{Kept, coded_kept};
+    ghost use Rattle.tree_store.specs.KeptWorld.{KeptWorld, coded_kept};
 
-    ghost Value = { Kept };
+    ghost Value = { KeptWorld };
 
     ghost coded = { coded_kept };
 
@@ -70,7 +70,7 @@ impl Store {
 
     /// A present tree, by its index.
     pub fn tree(&self, index: u32) -> Option<PresentTree>
-        ensures { option_map tree_of result ≡ tree_at self.now.world.trees index }
+        ensures { option_map tree_shown result ≡ tree_at self.now.world.trees index }
     {
         match self.trees.get(&index) {
             Some(tree) => Some(*tree),
@@ -80,7 +80,7 @@ impl Store {
 
     /// The root of the root tree.
     pub fn root(&self) -> FullNodeId
-        ensures root { result ≡ in_tree 0 (root_of self.now.world) }
+        ensures root { result ≡ in_tree 0 (root_id_of self.now.world) }
         ensures there { IsNode self.now.world result }
     {
         // a state is anchored at its focus, so that it has a root tree
@@ -105,14 +105,14 @@ impl Store {
     pub fn is_host_focused(&self) -> bool
         ensures { result ≡ self.now.world.host_focused }
     {
-        self.host_focused
+        self.is_host_focused
     }
 
     /// Tells the state whether the host window has the focus. All else stays.
-    pub fn set_host_focused(&mut self, focused: bool)
-        ensures { self.new ≡ record self.old { world = record self.old.world { host_focused = focused } } }
+    pub fn set_host_focused(&mut self, is_host_focused: bool)
+        ensures { self.new ≡ record self.old { world = record self.old.world { host_focused = is_host_focused } } }
     {
-        self.host_focused = focused;
+        self.is_host_focused = is_host_focused;
     }
 
     /// How many trees were ever known.

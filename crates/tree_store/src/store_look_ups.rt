@@ -137,12 +137,12 @@ fn absent_record(id: TreeId, index: u32) -> TreeRecord
 /// Look-ups before the first update, where no record is there.
 #[derive(Drop)]
 pub struct NoRecords {
-    host_focused: bool,
+    is_host_focused: bool,
     count: u128,
 }
 
 impl LookUps for NoRecords {
-    ghost world = { λ s. empty_world s.host_focused };
+    ghost world = { λ s. empty_world s.is_host_focused };
 
     ghost asked = { λ s. s.count };
 
@@ -161,7 +161,7 @@ impl LookUps for NoRecords {
     }
 
     fn is_host_focused(&self) -> bool {
-        self.host_focused
+        self.is_host_focused
     }
 
     fn known_trees(&self) -> u32 {
@@ -171,12 +171,12 @@ impl LookUps for NoRecords {
 
 impl NoRecords {
     /// Counts from zero.
-    pub fn new(host_focused: bool) -> NoRecords
-        ensures host { result.host_focused ≡ host_focused }
+    pub fn new(is_host_focused: bool) -> NoRecords
+        ensures host { result.is_host_focused ≡ is_host_focused }
         ensures count { result.count ≡ 0 }
     {
         NoRecords {
-            host_focused,
+            is_host_focused,
             count: 0,
         }
     }
@@ -189,15 +189,15 @@ impl NoRecords {
     }
 
     fn tick(&mut self)
-        ensures host { self.new.host_focused ≡ self.old.host_focused }
+        ensures host { self.new.is_host_focused ≡ self.old.is_host_focused }
         ensures count { self.new.count ≡ raised self.old.count }
     {
         self.count = one_more(self.count);
     }
 
     fn node_record(&self, id: FullNodeId) -> Option<NodeRecord<'_>>
-        ensures found { is_some result ≡ is_some (data_of (empty_world self.now.host_focused) id) }
-        ensures given { IfSome result (λ r. IsNodeRecord (empty_world self.now.host_focused) id r) }
+        ensures found { is_some result ≡ is_some (data_of (empty_world self.now.is_host_focused) id) }
+        ensures given { IfSome result (λ r. IsNodeRecord (empty_world self.now.is_host_focused) id r) }
     {
         None
     }

@@ -28,7 +28,7 @@ impl Model for TreeState {
 
     ghost view = { λ a. a.store.world };
 
-    ghost use Rattle.tree_store.specs.Kept.{IsTight};
+    ghost use Rattle.tree_store.specs.KeptWorld.{IsTight};
     ghost use Rattle.tree_plan.specs.Whole.{IsWhole};
 
     ghost invariant = { λ a. IsTight a.store × IsWhole a.store.world };

@@ -54,7 +54,7 @@ impl<'a> StateRef<'a> {
     }
 
     /// The name of the tree of a node that is there.
-    pub(crate) fn tree_of(self, id: FullNodeId) -> TreeId
+    pub(crate) fn tree_id_of(self, id: FullNodeId) -> TreeId
         requires { IsNode (world_of self) id }
         ensures { name_of (world_of self.entry) id.tree ≡ Some result }
     {
@@ -184,7 +184,7 @@ impl<'a> StateRef<'a> {
         ensures { result ≡ located (world_of self.now) id }
     {
         if self.has_node(id) {
-            Some((id.node, self.tree_of(id)))
+            Some((id.node, self.tree_id_of(id)))
         } else {
             None
         }

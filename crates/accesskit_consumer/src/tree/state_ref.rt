@@ -18,7 +18,7 @@ impl<'a> StateRef<'a> {
     ghost use Rattle.std.specs.Prelude.{◌≡◌, option_copied};
     ghost use Rattle.model.specs.World.{IsNode, data_of, index_of, name_of, in_tree};
     ghost use Rattle.model.specs.Forest.{place_of};
-    ghost use Rattle.tree_store.specs.Sound.{IsAnchored, root_of};
+    ghost use Rattle.tree_store.specs.Sound.{IsAnchored, root_id_of};
     ghost use Rattle.tree_store.specs.Overlays.{overlaid, IsSoundOverlay};
     ghost use Rattle.accesskit_consumer.specs.Views.{world_of};
 
@@ -93,7 +93,7 @@ impl<'a> StateRef<'a> {
 
     /// The root tree's root.
     pub(crate) fn known_root(self) -> FullNodeId
-        ensures { result ≡ in_tree 0 (root_of (world_of self.entry)) }
+        ensures { result ≡ in_tree 0 (root_id_of (world_of self.entry)) }
     {
         match self.overlay {
             Some(overlay) => overlay.root(self.base),

@@ -1,5 +1,5 @@
 use Rattle.std.proofs.Common.{◌≡◌, ◌++◌, map}
-use Rattle.tree_plan.specs.Lists.{change_of}
+use Rattle.tree_plan.specs.PlanLists.{change_of}
 use Rattle.tree_plan.proofs.lists.push_changes.Given as goal
 
 abbrev pub invariant-loop-id : goal.invariant-loop-id

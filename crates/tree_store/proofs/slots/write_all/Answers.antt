@@ -4,7 +4,7 @@ use Rattle.std.specs.List.Sorted.{IsStrictlySortedBy}
 use Rattle.std.specs.Map.{keys_of}
 use Rattle.model.specs.FullIds.{full_cmp}
 use Rattle.tree_store.specs.Sound.{NodeChanges, change_at}
-use Rattle.tree_store.specs.Stored.{record_at, after_change}
+use Rattle.tree_store.specs.Stored.{record_at, record_after_change}
 use Rattle.tree_store.proofs.SlotFacts.{written_next, roomy_next, rest_sorted}
 use Rattle.tree_store.proofs.slots.write_all.Goals as goal
 
@@ -20,7 +20,7 @@ loop-id-preserved c =
     record {
       records = λ q.
           written_next es fs k change rest sorted c.write.ensures.records q
-          ∙ ap (λ (cs : NodeChanges). after_change (change_at cs q) (record_at es q)) (sym step)
+          ∙ ap (λ (cs : NodeChanges). record_after_change (change_at cs q) (record_at es q)) (sym step)
           ∙ c.loop-id.invariant.records q;
       room = λ q.
           roomy_next es fs k change rest sorted c.write.ensures.records q (c.write.ensures.tight q)

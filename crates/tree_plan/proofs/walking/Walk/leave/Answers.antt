@@ -10,4 +10,4 @@ returns-clause-removes g c =
     let w = g.L.LookUps.world c.args.look_ups.now in
     let node : IsSome (data_of w c.args.id) = some_is (data_of w c.args.id) _ c.in-Some.ensures.given.node in
     let none = none_if_not (at c.args.self.now.places c.args.id) c.if-contains_key.ensures in
-    on_ok2 c.judge.result _ _ _ (λ gone others. removes_one w c.args.self.now c.judge.new.self c.args.id c.judge.ensures.rest gone others none node) c.judge.ensures.verdict c.judge.ensures.others
+    on_ok2 c.set_verdict.result _ _ _ (λ gone others. removes_one w c.args.self.now c.set_verdict.new.self c.args.id c.set_verdict.ensures.rest gone others none node) c.set_verdict.ensures.verdict c.set_verdict.ensures.others

@@ -1,7 +1,7 @@
 use Rattle.std.proofs.Common.{◌≡◌, ◌++◌, map}
 use Rattle.std.specs.List.{flat_map}
 use Rattle.std.specs.Map.Iter.{deref_pair}
-use Rattle.tree_plan.specs.Lists.{told_of}
+use Rattle.tree_plan.specs.PlanLists.{told_of}
 use Rattle.tree_plan.proofs.walking.Walk.push_group.Given as goal
 
 abbrev pub invariant-loop-id : goal.invariant-loop-id

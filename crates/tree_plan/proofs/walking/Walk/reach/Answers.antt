@@ -22,15 +22,15 @@ pub returns-clause-walked : goal.returns-clause-walked
 returns-clause-walked g c =
     walk_end _ g.merged _ c.loop-position.position _ c.loop-position.invariant.walk (omega (arith, c.loop-position.self.queue.ok.0, c.loop-position-test.false))
 
-pub settle-requires-clause-stands : goal.settle-requires-clause-stands
-settle-requires-clause-stands g c =
+pub visit-requires-clause-stands : goal.visit-requires-clause-stands
+visit-requires-clause-stands g c =
     let xs = c.loop-position.self.queue.items in
     let lt : c.loop-position.position < length xs = omega (arith, c.len.ensures, c.if-position-len.false) in
     let here : slice_get xs c.loop-position.position ≡ Some c.index-id.result.now = slice_get_read xs (length xs) c.loop-position.position _ refl lt c.index-id.ensures in
     c.loop-position.invariant.walk.queue.queued c.loop-position.position c.index-id.result.now here
 
-pub settle-requires-clause-new : goal.settle-requires-clause-new
-settle-requires-clause-new g c =
+pub visit-requires-clause-new : goal.visit-requires-clause-new
+visit-requires-clause-new g c =
     let xs = c.loop-position.self.queue.items in
     let lt : c.loop-position.position < length xs = omega (arith, c.len.ensures, c.if-position-len.false) in
     let here : slice_get xs c.loop-position.position ≡ Some c.index-id.result.now = slice_get_read xs (length xs) c.loop-position.position _ refl lt c.index-id.ensures in
@@ -43,7 +43,7 @@ loop-position-preserved g c =
     let lt : c.loop-position.position < length xs = omega (arith, c.len.ensures, c.if-position-len.false) in
     let here : slice_get xs c.loop-position.position ≡ Some c.index-id.result.now = slice_get_read xs (length xs) c.loop-position.position _ refl lt c.index-id.ensures in
     record {
-      world = c.settle.ensures.world ∙ c.loop-position.invariant.world;
-      walk = walk_step (g.L.LookUps.world c.args.look_ups.now) g.merged c.args.root c.loop-position.position c.loop-position.self c.settle.new.self c.index-id.result.now c.loop-position.invariant.walk here
-          (subst (λ w. IsStep w c.loop-position.self c.settle.new.self c.index-id.result.now) c.loop-position.invariant.world c.in_ok-settle.ensures.step);
+      world = c.visit.ensures.world ∙ c.loop-position.invariant.world;
+      walk = walk_step (g.L.LookUps.world c.args.look_ups.now) g.merged c.args.root c.loop-position.position c.loop-position.self c.visit.new.self c.index-id.result.now c.loop-position.invariant.walk here
+          (subst (λ w. IsStep w c.loop-position.self c.visit.new.self c.index-id.result.now) c.loop-position.invariant.world c.in_ok-visit.ensures.step);
     }

@@ -1,6 +1,6 @@
 use Rattle.std.proofs.Common.{sym, ap, subst, ◌∙◌}
 use Rattle.std.proofs.lemmas.Result.{IfOk-weaker}
-use Rattle.tree_store.specs.Kept.{Kept, IsTight}
+use Rattle.tree_store.specs.KeptWorld.{KeptWorld, IsTight}
 use Rattle.tree_store.specs.Shown.{world_shown}
 use Rattle.tree_store.proofs.Commits.{on_err, no_spare, ready, same_nodes, same_room, same_stored}
 use Rattle.tree_store.proofs.store.Store.reserve.Goals as goal
@@ -16,7 +16,7 @@ invariant_of-self c =
 pub returns-clause-same : goal.returns-clause-same
 returns-clause-same c =
     ap (λ m. record (world_shown c.self.inside) { nodes = m }) (same_nodes c.self.inside.nodes.entries c.make_room.new.slots.entries c.make_room.ensures.same)
-    ∙ ap (λ (k : Kept). k.world) c.self.view_is
+    ∙ ap (λ (k : KeptWorld). k.world) c.self.view_is
 
 pub returns-clause-ok : goal.returns-clause-ok
 returns-clause-ok c = IfOk-weaker c.make_room.result _ _ (λ _ h. ready c.make_room.new.slots.entries c.args.overlay.now.nodes.entries h) c.make_room.ensures.ok

@@ -1,7 +1,7 @@
 use Rattle.std.proofs.Common.{subst, ◌∙◌, sym, ap}
 use Rattle.accesskit_consumer.specs.Views.{world_of}
 use Rattle.accesskit_consumer.proofs.PlanEvents.{told_refocused}
-use Rattle.tree_store.specs.Kept.{IsTight}
+use Rattle.tree_store.specs.KeptWorld.{IsTight}
 use Rattle.tree_plan.specs.Whole.{IsWhole}
 use Rattle.accesskit_consumer.proofs.Anchors.{whole_at_host}
 use Rattle.accesskit_consumer.proofs.tree.state.TreeState.refocus.Goals as goal

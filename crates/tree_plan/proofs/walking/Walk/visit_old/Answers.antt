@@ -1,7 +1,7 @@
 use Rattle.schema.specs.NodeData.{NodeData}
 use Rattle.std.proofs.lemmas.Result.{on_ok_weaker}
 use Rattle.tree_plan.proofs.Steps.{settles_kept, entered_before}
-use Rattle.tree_plan.proofs.walking.Walk.settle_old.Goals as goal
+use Rattle.tree_plan.proofs.walking.Walk.visit_old.Goals as goal
 
 pub returns-clause-done : goal.returns-clause-done
 returns-clause-done g c =

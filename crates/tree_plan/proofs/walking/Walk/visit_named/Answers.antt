@@ -1,7 +1,7 @@
 use Rattle.std.proofs.Common.{Some, ap, sym, ◌∙◌}
 use Rattle.std.proofs.lemmas.Result.{on_ok_weaker}
 use Rattle.tree_plan.proofs.Steps.{settles_kept}
-use Rattle.tree_plan.proofs.walking.Walk.settle_named.Goals as goal
+use Rattle.tree_plan.proofs.walking.Walk.visit_named.Goals as goal
 
 pub returns-in-None-clause-settles : goal.returns-in-None-clause-settles
 returns-in-None-clause-settles g c =

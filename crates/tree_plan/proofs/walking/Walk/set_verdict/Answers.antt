@@ -1,6 +1,6 @@
 use Rattle.tree_plan.proofs.Maps.{put_apart}
 use Rattle.std.proofs.Common.{Some}
-use Rattle.tree_plan.proofs.walking.Walk.judge.Goals as goal
+use Rattle.tree_plan.proofs.walking.Walk.set_verdict.Goals as goal
 use Rattle.tree_plan.specs.Verdicts.{at}
 
 pub returns-clause-others : goal.returns-clause-others
