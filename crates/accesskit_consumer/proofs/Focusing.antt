@@ -59,3 +59,6 @@ module _ (w : World) (id f : FullNodeId) (host : w.host_focused ≡ true) (focus
 -- the effective focus is one
 pub is_effective : (w : World) (id f : FullNodeId) (r : Bool) → IsEffectiveFocus w f → IsTrue r ↔ (id ≡ f) → IsTrue r ↔ IsEffectiveFocus w id
 is_effective w id f r focus is = (λ t. subst (IsEffectiveFocus w) (sym (is.0 t)) focus, λ h. is.1 (effective_focus_unique w id f h focus))
+
+pub focus_moved : (w : World) (a b : FullNodeId) → IsEffectiveFocus w a → b ≡ a → IsEffectiveFocus w b
+focus_moved w a b h e = subst (IsEffectiveFocus w) (sym e) h

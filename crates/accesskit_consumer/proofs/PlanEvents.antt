@@ -1,9 +1,9 @@
 -- A plan's events as differences.
-use Rattle.std.proofs.Common.{◌≡◌, List, [], ◌∷◌, map, refl, ap, subst}
+use Rattle.std.proofs.Common.{◌≡◌, List, [], subst}
 use Rattle.model.specs.World.{World}
 use Rattle.model.specs.declared.events.PlanEvent.{PlanEvent}
 use Rattle.model.specs.Events.{Event, Told}
-use Rattle.model.specs.Differences.{AreOfFocus, event, events}
+use Rattle.model.specs.Differences.{AreOfFocus, events}
 
 -- what is told between views of these worlds is told of these worlds
 pub told_differences : {H : Type 0} (steps : H → Event → H → Type 0) (s t : H) (v old u new : World) (es fs : List PlanEvent) → v ≡ old → u ≡ new → es ≡ fs → Told steps s (events v u es) t → Told steps s (events old new fs) t

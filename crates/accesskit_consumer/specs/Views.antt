@@ -1,6 +1,6 @@
 -- The world that a view of a state shows.
 use Rattle.model.specs.World.{World}
-use Rattle.accesskit_consumer.specs.Laid.{laid}
+use Rattle.accesskit_consumer.specs.Sound.{laid}
 use Rattle.accesskit_consumer.specs.declared.tree.state_ref.StateRef.{StateRef}
 
 abbrev pub world_of : StateRef → World

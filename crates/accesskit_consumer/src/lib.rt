@@ -2,8 +2,10 @@
 //! them.
 #![tactic(auto)]
 
+pub mod filters;
 pub mod node;
 pub mod tree;
+pub mod walks;
 
 pub use node::{FullNodeId, NodeRef};
 pub use tree::{StateRef, Tree, TreeChangeHandler, TreeState, UpdateError};

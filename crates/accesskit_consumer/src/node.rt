@@ -1,7 +1,14 @@
 //! Nodes of a state, as they are read.
+mod actions;
+mod fields;
+pub(crate) mod geometry;
+mod inherited;
+mod kin;
 mod node_reads;
 mod node_ref;
-mod same;
+mod roles;
+pub(crate) mod same;
+mod upward;
 
 pub use model::FullNodeId;
 pub use node_ref::NodeRef;

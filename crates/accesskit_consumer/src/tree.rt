@@ -1,15 +1,21 @@
 //! Trees and their states, and what a handler is told of their changes.
 mod applying;
+mod dialogs;
 mod handler;
 mod refocusing;
 mod state;
+mod state_facts;
 mod state_reads;
 mod state_ref;
+mod steps;
 mod telling;
-mod updates;
+mod tree_handle;
 
 pub use handler::TreeChangeHandler;
+pub use model::PlanEvent;
 pub use state::TreeState;
 pub use state_ref::StateRef;
-pub use tree_store::UpdateError;
-pub use updates::Tree;
+pub use steps::Steps;
+pub use tree_changes::{Change, LookUps, NodeRecord, Plan, TreeRecord, UpdateError};
+pub use tree_handle::Tree;
+pub use tree_plan::plan_update;

@@ -16,8 +16,12 @@ abbrev pub seen_id : Option Seen → Option FullNodeId
 seen_id None = None
 seen_id (Some s) = Some s.id
 
+-- a line that says where the focus was, and where it is
+abbrev pub focus_line : Option FullNodeId → Option FullNodeId → List ℕ
+focus_line old new = codes "focus " ++ shown_or_dash old ++ codes " " ++ shown_or_dash new ++ codes "\n"
+
 abbrev pub printed : Event → List ℕ
 printed (NodeAdded new) = codes "added " ++ shown new.id ++ codes "\n"
 printed (NodeUpdated old new) = codes "updated " ++ shown new.id ++ codes "\n"
-printed (FocusMoved old new) = codes "focus " ++ shown_or_dash (seen_id old) ++ codes " " ++ shown_or_dash (seen_id new) ++ codes "\n"
+printed (FocusMoved old new) = focus_line (seen_id old) (seen_id new)
 printed (NodeRemoved old) = codes "removed " ++ shown old.id ++ codes "\n"

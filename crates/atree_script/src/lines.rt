@@ -124,7 +124,7 @@ fn update_line(alloc: Global, mut words: Words) -> Result<TreeUpdate, Stop> {
     })
 }
 
-/// `node ID ROLE [children=ID,ID..] [label="t"] [active=ID]`, from `ID` on. The fields come in any order.
+/// `node ID ROLE [children=ID,ID..] [tree=TREE] [label="t"] [active=ID]`, from `ID` on. The fields come in any order.
 fn node_line(alloc: Global, mut words: Words) -> Result<(NodeId, Node), Stop> {
     let id = words.id()?;
     let role = role_named(words.word()?).ok_or(Stop::BadLine)?;
@@ -134,6 +134,9 @@ fn node_line(alloc: Global, mut words: Words) -> Result<(NodeId, Node), Stop> {
             "children" if node.children().is_empty() => {
                 let children = ids(alloc, words.word()?)?;
                 node.set_children(&children)?;
+            }
+            "tree" if node.tree_id().is_none() => {
+                node.set_tree_id(tree_named(words.word()?).ok_or(Stop::BadLine)?);
             }
             "label" if node.label().is_none() => {
                 let label = words.text(alloc)?;

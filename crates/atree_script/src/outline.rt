@@ -4,7 +4,7 @@ use crate::lines::Stop;
 use crate::printer::ShownId;
 use accesskit_consumer::node::{FullNodeId, NodeRef};
 use accesskit_consumer::tree::StateRef;
-use std::alloc::Global;
+use std::alloc::{AllocError, Global};
 use std::io::{self, Write};
 
 /// Prints each node on a line, a parent before its children, with two spaces for each level below the root.
@@ -24,14 +24,28 @@ pub(crate) fn print_outline<O: Write>(
             continue;
         };
         print_node(node, depth, out)?;
-        let below = depth.saturating_add(1);
-        for child in node.data().children().iter().rev() {
-            let id = FullNodeId {
-                tree: id.tree,
-                node: *child,
-            };
-            waiting.push((id, below))?;
+        push_children(node, depth.saturating_add(1), &mut waiting)?;
+    }
+    Ok(())
+}
+
+/// Adds a node's children, the last first. The only child of a graft is the root of the tree that it names, where that
+/// tree is present.
+fn push_children(
+    node: NodeRef,
+    depth: usize,
+    waiting: &mut Vec<(FullNodeId, usize)>,
+) -> Result<(), AllocError> {
+    if let Some(name) = node.data().tree_id() {
+        if let Some(root) = node.tree_state().subtree_root(name) {
+            waiting.push((root, depth))?;
         }
+        return Ok(());
+    }
+    let tree = node.id().tree;
+    for child in node.data().children().iter().rev() {
+        let node = *child;
+        waiting.push((FullNodeId { tree, node }, depth))?;
     }
     Ok(())
 }

@@ -1,7 +1,7 @@
 //! Prints what a tree tells of its changes.
 ghost use Rattle.std.specs.Prelude.{◌≡◌, Some, None, IfNone, OnOk};
 ghost use Rattle.std.specs.Io.KnownBytes.{Appends};
-ghost use Rattle.atree_script.specs.Printed.{shown, shown_or_dash, seen_id, printed};
+ghost use Rattle.atree_script.specs.Printed.{shown, shown_or_dash, seen_id, focus_line, printed};
 ghost use Rattle.accesskit_consumer.specs.Nodes.{seen_through};
 
 use accesskit_consumer::node::{FullNodeId, NodeRef};
@@ -56,6 +56,20 @@ impl<W: Write + Drop> Printer<W> {
         Printer { out, fault: None }
     }
 
+    /// Prints where the focus was, and where it is.
+    fn print_focus(&mut self, old: Option<FullNodeId>, new: Option<FullNodeId>)
+        ensures { IfNone self.new.fault ((self.old.fault ≡ None)
+            × Appends (W.contents self.old.out) (W.contents self.new.out) (focus_line old new)) }
+    {
+        if self.fault.is_none() {
+            let old = ShownFocus(old);
+            let new = ShownFocus(new);
+            if let Err(fault) = writeln!(self.out, "focus {old} {new}") {
+                self.fault = Some(fault);
+            }
+        }
+    }
+
     /// The first fault, if there was one.
     pub(crate) fn finish(self) -> io::Result<()>
         ensures { OnOk result (self.fault ≡ None) }
@@ -89,13 +103,7 @@ impl<W: Write + Drop> TreeChangeHandler for Printer<W> {
     }
 
     fn focus_moved(&mut self, old_node: Option<&NodeRef>, new_node: Option<&NodeRef>) {
-        if self.fault.is_none() {
-            let old = ShownFocus(id_of(old_node));
-            let new = ShownFocus(id_of(new_node));
-            if let Err(fault) = writeln!(self.out, "focus {old} {new}") {
-                self.fault = Some(fault);
-            }
-        }
+        self.print_focus(id_of(old_node), id_of(new_node));
     }
 
     fn node_removed(&mut self, node: &NodeRef) {

@@ -57,7 +57,7 @@ static OUTSIDE: [&str; 49] = [
 ];
 
 /// Each of these lines is bad inside an update.
-static INSIDE: [&str; 33] = [
+static INSIDE: [&str; 36] = [
     "host on",
     "print",
     "update root focus=0",
@@ -79,7 +79,10 @@ static INSIDE: [&str; 33] = [
     "node 0 Window ",
     "node 0 Window hidden",
     "node 0 Window value=\"v\"",
-    "node 0 Window tree=root",
+    "node 0 Window tree=root tree=root",
+    "node 0 Window tree=",
+    "node 0 Window tree=0",
+    "node 0 Window tree",
     "node 0 Window children=",
     "node 0 Window children=1,",
     "node 0 Window children=,1",

@@ -1,6 +1,11 @@
 //! Trees that are as deep as they have nodes.
 
+use crate::counted::{chain as chain_nodes, push_node, root_update};
+use crate::recorder::{Recorder, Told};
 use crate::scripts::run;
+use accesskit_consumer::node::FullNodeId;
+use accesskit_consumer::tree::Tree;
+use schema::NodeId;
 use std::alloc::{AllocError, Global};
 use std::test::Fail;
 
@@ -48,5 +53,39 @@ fn deep_tree_is_printed(rt: HostRuntime) -> Result<(), Fail> {
     }
     writeln!(wanted, "{indent}0:999 Button")?;
     assert!(rt; output.as_slice() == wanted.as_bytes());
+    Ok(())
+}
+
+/// A chain of 100,000 nodes comes in one update, each node below the one before; then all but the root go.
+#[test]
+fn longer_chain_comes_and_goes(rt: HostRuntime) -> Result<(), Fail> {
+    let alloc = rt.alloc();
+    let first = root_update(chain_nodes(alloc, 100_000)?, true);
+    let mut tree = Tree::new(alloc, first, false)?;
+    let mut id = FullNodeId {
+        tree: 0,
+        node: NodeId(99_999),
+    };
+    let mut depth = 0u32;
+    for _ in 0..100_000u32 {
+        let node = tree.state().node_by_id(id).ok_or("no node")?;
+        let Some((parent, index)) = node.parent_and_index() else {
+            break;
+        };
+        assert_eq!(rt; index, 0);
+        depth = depth.saturating_add(1);
+        id = parent.id();
+    }
+    assert_eq!(rt; depth, 99_999);
+    assert!(rt; id == tree.state().root_id());
+    let mut bare = Vec::new(alloc);
+    push_node(alloc, &mut bare, 0, 0, 0)?;
+    let mut recorder = Recorder::new(alloc);
+    tree.update_and_process_changes(root_update(bare, false), &mut recorder)?;
+    assert_eq!(rt; recorder.told.len(), 100_000);
+    assert!(rt; recorder.told.first().copied() == Some(Told::Updated(0, 0)));
+    for (id, told) in (1u64..).zip(recorder.told.iter().skip(1)) {
+        assert!(rt; *told == Told::Removed(0, id));
+    }
     Ok(())
 }

@@ -2,17 +2,39 @@
 #![tactic(auto)]
 
 #[cfg(test)]
+mod asking;
+#[cfg(test)]
 mod bad_lines;
 #[cfg(test)]
 mod chains;
 #[cfg(test)]
+mod comparing;
+#[cfg(test)]
+mod counted;
+#[cfg(test)]
+mod courses;
+#[cfg(test)]
+mod differing;
+#[cfg(test)]
+mod drafts;
+#[cfg(test)]
+mod faults;
+#[cfg(test)]
+mod grafts;
+#[cfg(test)]
+mod hostile;
+#[cfg(test)]
 mod nodes;
+#[cfg(test)]
+mod rebuild;
 #[cfg(test)]
 mod recorder;
 #[cfg(test)]
 mod roles;
 #[cfg(test)]
 mod scripts;
+#[cfg(test)]
+mod scripts_of_trees;
 #[cfg(test)]
 mod streams;
 #[cfg(test)]

@@ -6,13 +6,21 @@ use accesskit_consumer::node::{FullNodeId, NodeRef};
 use accesskit_consumer::tree::TreeChangeHandler;
 use std::alloc::Global;
 
+/// Names a node: the index of its tree, and its id in the tree.
+pub type Id = (u32, u64);
+
 /// One call of a handler.
 #[derive(Clone, Copy, Debug, PartialEq, Eq)]
 pub enum Told {
-    Added(FullNodeId),
-    Updated(FullNodeId),
-    FocusMoved(Option<FullNodeId>, Option<FullNodeId>),
-    Removed(FullNodeId),
+    Added(u32, u64),
+    Updated(u32, u64),
+    FocusMoved(Option<Id>, Option<Id>),
+    Removed(u32, u64),
+}
+
+/// The node's tree and its id there.
+pub fn pair(id: FullNodeId) -> Id {
+    (id.tree, id.node.0)
 }
 
 /// Keeps the calls in order.
@@ -39,9 +47,9 @@ impl Recorder {
 }
 
 /// The id of a node, if there is one.
-fn id_of(node: Option<&NodeRef>) -> Option<FullNodeId> {
+pub fn id_of(node: Option<&NodeRef>) -> Option<Id> {
     match node {
-        Some(node) => Some(node.id()),
+        Some(node) => Some(pair(node.id())),
         None => None,
     }
 }
@@ -50,11 +58,13 @@ impl TreeChangeHandler for Recorder {
     ghost steps = { λ _ _ _. ⊤ };
 
     fn node_added(&mut self, node: &NodeRef) {
-        self.keep(Told::Added(node.id()));
+        let (tree, id) = pair(node.id());
+        self.keep(Told::Added(tree, id));
     }
 
     fn node_updated(&mut self, _old_node: &NodeRef, new_node: &NodeRef) {
-        self.keep(Told::Updated(new_node.id()));
+        let (tree, id) = pair(new_node.id());
+        self.keep(Told::Updated(tree, id));
     }
 
     fn focus_moved(&mut self, old_node: Option<&NodeRef>, new_node: Option<&NodeRef>) {
@@ -62,6 +72,7 @@ impl TreeChangeHandler for Recorder {
     }
 
     fn node_removed(&mut self, node: &NodeRef) {
-        self.keep(Told::Removed(node.id()));
+        let (tree, id) = pair(node.id());
+        self.keep(Told::Removed(tree, id));
     }
 }

@@ -1,209 +1,315 @@
--- The lists of a plan, as the world reads them.
-use Rattle.std.proofs.Common.{◌≡◌, ℕ, ◌<◌, Bool, true, false, cond, List, [], ◌∷◌, ◌++◌, map, zero, suc, Option, Some, None, refl, sym, ap, subst, ◌∙◌, inl, inr, arith}
-use Rattle.std.specs.Prelude.{IsSome, is_some, option_and_then, slice_get, position}
-use Rattle.std.specs.Option.{option_map}
-use Rattle.std.specs.Cmp.Lexicographic.{slice_cmp}
-use Rattle.std.specs.FinMap.{FinMap, get, insert, get-insert, nat_cmp-IsAntisymmetric}
-use Rattle.std.specs.Ordering.{nat_cmp, eq_by_cmp, is_eq}
-use Rattle.std.specs.Cmp.{Equal-is, nat_cmp_total}
-use Rattle.schema.specs.NodeData.{NodeData}
-use Rattle.schema.specs.declared.NodeId.{NodeId}
+-- The records of trees afterwards.
+use Rattle.std.proofs.Common.{Contains, ◌≡◌, ◌≢◌, ℕ, ◌<◌, List, [], ◌∷◌, ◌++◌, length, get_or, suc, Option, Some, None, option_map, option_and_then, ◌⊎◌, inl, inr, ⊎_elim, ◌↔◌, refl, sym, ap, ◌∙◌, subst, arith}
+use Rattle.std.specs.FinMap.{get, insert}
+use Rattle.std.specs.Option.{option_map_or}
+use Rattle.std.proofs.lemmas.Option.{same_Some, slice_get-get_or}
 use Rattle.schema.specs.declared.TreeId.{TreeId}
+use Rattle.schema.specs.declared.NodeId.{NodeId}
 use Rattle.model.specs.declared.FullNodeId.{FullNodeId}
-use Rattle.model.specs.World.{World, Tree, Place, ROOT_NAME, in_tree, data_of, StandsAt, IsNode, Reached, root}
-use Rattle.model.specs.Focus.{first}
-use Rattle.model.specs.Focus.{IsFocus}
-use Rattle.tree_store.specs.Sound.{IsAnchored}
-use Rattle.tree_plan.specs.Focusing.{shown_focus_of}
-use Rattle.tree_plan.proofs.Focuses.{focus_is}
-use Rattle.tree_plan.proofs.Sounds.{IsListed, no_children}
-use Rattle.tree_plan.proofs.Leaving.{removes_none}
-use Rattle.tree_store.specs.declared.look_ups.TreeRecord.{TreeRecord}
-use Rattle.tree_store.specs.declared.plan.Change.{Change}
-use Rattle.tree_store.specs.declared.plan.Change.TheVariants.{Tree as TreeChange}
-use Rattle.tree_store.specs.declared.plan.Plan.{Plan}
-use Rattle.tree_store.specs.Plans.{planned, node_changes, tree_changes, put_trees, name_trees}
-use Rattle.tree_plan.specs.declared.verdicts.Verdict.{Verdict}
-use Rattle.tree_plan.specs.declared.verdicts.Verdict.TheVariants.{Added, Updated, Removed}
-use Rattle.tree_plan.specs.declared.walking.Walk.{Walk}
-use Rattle.tree_store.specs.Looks.{IsTreeRecord, tree_named}
-use Rattle.tree_plan.specs.Whole.{IsWhole, IsBlank}
-use Rattle.tree_plan.specs.Verdicts.{at, Settles}
-use Rattle.tree_plan.specs.Walks.{IsWalked}
-use Rattle.tree_plan.specs.Removals.{RemovesOthers}
-use Rattle.tree_plan.specs.PlanLists.{change_of, node_change_of}
-use Rattle.tree_plan.specs.Planned.{tree_said, record_of, AreTreeChanges, laid_over}
-use Rattle.tree_plan.proofs.Maps.{is_none_or, some_is, not_some, get_nil}
+use Rattle.model.specs.World.{ROOT_NAME, World, Tree, in_tree, index_of, graft_name, root_of}
+use Rattle.model.specs.Update.{UpdateData, IsNamed, IsRebuild, KeepsRules, index_for, root_after, merged}
+use Rattle.model.specs.Surgery.{IsOld, IsDropped, IsOpened, IsPassed, IsChanged, Gone}
+use Rattle.model.proofs.Update.AcceptedOrFault.{decide_name}
+use Rattle.model.proofs.Worlds.Names.{cases_name, certain, index_of_once}
+use Rattle.model.proofs.State.StatePlaces.{IsSome_is, root_of_parts}
+use Rattle.model.proofs.Update.Merges.{tree_named as tree_after_named, root_stays}
+use Rattle.model.proofs.Update.RulesOrFault.{no_some}
+use Rattle.model.proofs.Update.RebuildKeeps.{tree_same, index_of_same}
+use Rattle.model.proofs.Members.{contains_none, contains_head, contains_later, contains_cases}
+use Rattle.std.specs.Prelude.{AllPairs}
+use Rattle.std.proofs.lemmas.List.Kept.{AllPairs-cons}
+use Rattle.std.proofs.lemmas.List.Elements.{All-append}
+use Rattle.model.proofs.Surgery.Spots.{index_stays, index_here, name_here, index_before}
+use Rattle.model.proofs.Surgery.LiveAndGone.{named_kept, graft_live, gone_unlive}
+use Rattle.model.proofs.Surgery.RulesKept.{root_ungrafted}
+use Rattle.model.proofs.Surgery.RulesArePassed.{rules_passed}
+use Rattle.model.proofs.Surgery.ChangesAreTheRebuild.{rebuild_changed}
+use Rattle.model.proofs.Surgery.Grafts.{named_graft, lost_graft, same_graft}
+use Rattle.tree_changes.specs.declared.look_ups.TreeRecord.{TreeRecord}
+use Rattle.tree_changes.specs.Looks.{tree_named}
+use Rattle.tree_changes.specs.Changes.{tree_change}
+use Rattle.tree_plan.specs.declared.passes.Opened.{Opened}
+use Rattle.tree_plan.specs.Passes.{IsOfName, IsOpening, IsCut, cut_record, IsGained, Gains}
+use Rattle.tree_plan.specs.Writing.{own_record}
+use Rattle.tree_changes.proofs.Overlays.{tree_change_none}
+use Rattle.tree_plan.proofs.Adding.{in_either}
+use Rattle.std.proofs.lemmas.List.Elements.{Contains-append_left, Contains-append_right}
 
-abbrev Verdicts : Type 0
-Verdicts = List (FullNodeId × Verdict)
+-- ---- options
 
-pub node_changes_by : (es : Verdicts) → node_changes (map change_of es) ≡ map (λ e. (e.0, node_change_of e.1)) es
-node_changes_by [] = refl
-node_changes_by ((id, Added place d) ∷ es) = ap (λ cs. (id, node_change_of (Added place d)) ∷ cs) (node_changes_by es)
-node_changes_by ((id, Updated place o) ∷ es) = ap (λ cs. (id, node_change_of (Updated place o)) ∷ cs) (node_changes_by es)
-node_changes_by ((id, Removed) ∷ es) = ap (λ cs. (id, node_change_of Removed) ∷ cs) (node_changes_by es)
+same_option : {A : Type 0} (x y : Option A) → ((a : A) → x ≡ Some a → y ≡ Some a) → ((a : A) → y ≡ Some a → x ≡ Some a) → x ≡ y
+same_option None None f g = refl
+same_option None (Some b) f g = g b refl
+same_option (Some a) y f g = sym (f a refl)
 
-pub tree_changes_by : (es : Verdicts) → tree_changes (map change_of es) ≡ []
-tree_changes_by [] = refl
-tree_changes_by ((id, Added place d) ∷ es) = tree_changes_by es
-tree_changes_by ((id, Updated place o) ∷ es) = tree_changes_by es
-tree_changes_by ((id, Removed) ∷ es) = tree_changes_by es
+no_value : {A : Type 0} (x : Option A) → ((a : A) → x ≢ Some a) → x ≡ None
+no_value None h = refl
+no_value (Some a) h = absurd (h a refl)
 
-other_index : (i : ℕ) (b : Bool) → eq_by_cmp nat_cmp i 0 ≡ b → 0 < i → eq_by_cmp nat_cmp i 0 ≡ false
-other_index i false e lt = e
-other_index i true e lt = let same : i ≡ 0 = nat_cmp-IsAntisymmetric i 0 ((Equal-is (nat_cmp i 0)).0 e) in absurd (omega arith)
+-- ---- lists
 
-pub get_root : (m : FinMap nat_cmp Tree) (t : Tree) → get (insert m 0 t) 0 ≡ Some t
-get_root m t = get-insert nat_cmp_total m 0 t 0
+AllPairs-tail : {A : Type 0} (R : A → A → Type 0) (x : A) (xs : List A) → AllPairs R (x ∷ xs) → AllPairs R xs
+AllPairs-tail R x xs h i j d below within = h (suc i) (suc j) d (omega arith) (omega arith)
 
-pub get_other : (m : FinMap nat_cmp Tree) (t : Tree) (i : ℕ) → 0 < i → get (insert m 0 t) i ≡ get m i
-get_other m t i lt = get-insert nat_cmp_total m 0 t i ∙ ap (λ b. cond b (Some t) (get m i)) (other_index i _ refl lt)
+at_index : {A : Type 0} (xs : List A) (k : ℕ) (d : A) → k < length xs → Contains xs (get_or xs k d)
+at_index xs k d within = (k, within, same_Some (get_or xs k (get_or xs k d)) (get_or xs k d) (sym (slice_get-get_or xs k (get_or xs k d) within) ∙ slice_get-get_or xs k d within))
 
--- the root tree is the only one
-pub record IsAlone (v : World) (t : Tree) : Type 0 where
-  pub known : v.known ≡ ROOT_NAME ∷ []
-  pub tree : get v.trees 0 ≡ Some t
-  pub alone : (i : ℕ) → 0 < i → get v.trees i ≡ None
+-- two lists one after the other
+AllPairs-append : {A : Type 0} (R : A → A → Type 0) (xs ys : List A) → AllPairs R xs → AllPairs R ys → ((x y : A) → Contains xs x → Contains ys y → R x y) → AllPairs R (xs ++ ys)
+AllPairs-append R [] ys f g apart = g
+AllPairs-append R (x ∷ xs) ys f g apart = AllPairs-cons R x (xs ++ ys)
+    (All-append (R x) xs ys (λ k d within. f 0 (suc k) d (omega arith) (omega arith)) (λ k d within. apart x (get_or ys k d) (contains_head x x xs refl) (at_index ys k d within)))
+    (AllPairs-append R xs ys (AllPairs-tail R x xs f) g (λ a b c e. apart a b (contains_later x a xs c) e))
 
-trees_by : (w : World) (n : Plan) (rs : List TreeRecord) → tree_changes n.changes.items ≡ rs → ((planned w n).trees ≡ put_trees w.trees rs) × ((planned w n).known ≡ name_trees w.known rs)
-trees_by w n rs e = (ap (put_trees w.trees) e, ap (name_trees w.known) e)
+-- what is known of a name is the same in two worlds
+pub record KnownAlike (v new : World) (name : TreeId) : Type 0 where
+  pub index : index_of v name ≡ index_of new name
+  pub graft : (g : FullNodeId) → (graft_name v g ≡ Some name) ↔ (graft_name new g ≡ Some name)
+  pub tree : tree_named v name ≡ tree_named new name
 
-alone_from : (v : World) (known : List TreeId) (trees : FinMap nat_cmp Tree) (t : Tree) → v.known ≡ known → v.trees ≡ trees → known ≡ ROOT_NAME ∷ [] → get trees 0 ≡ Some t → ((i : ℕ) → 0 < i → get trees i ≡ None) → IsAlone v t
-alone_from v known trees t k e is tree others = record {
-  known = k ∙ is;
-  tree = ap (λ m. get m 0) e ∙ tree;
-  alone = λ i lt. ap (λ m. get m i) e ∙ others i lt;
-}
+module _ (w : World) (u : UpdateData) (o : IsOld w) (k : KeepsRules w u) (new : World) (r : IsRebuild (merged w u) new) where
+  abbrev m : World
+  m = merged w u
 
--- a plan that puts the root tree's record
-pub alone_put : (w : World) (n : Plan) (t : Tree) (es : Verdicts) → n.changes.items ≡ TreeChange (record_of t) ∷ map change_of es → name_trees w.known (record_of t ∷ []) ≡ ROOT_NAME ∷ [] → ((i : ℕ) → 0 < i → get w.trees i ≡ None) → IsAlone (planned w n) t
-alone_put w n t es items known others =
-    let f = trees_by w n (record_of t ∷ []) (ap tree_changes items ∙ ap (λ rs. record_of t ∷ rs) (tree_changes_by es)) in
-    alone_from (planned w n) _ (insert w.trees 0 t) t f.1 f.0 known (get_root w.trees t) (λ i lt. get_other w.trees t i lt ∙ others i lt)
+  abbrev i : ℕ
+  i = index_for w u.name
 
--- a plan that puts none
-pub alone_same : (w : World) (n : Plan) (t : Tree) (es : Verdicts) → n.changes.items ≡ map change_of es → IsAlone w t → IsAlone (planned w n) t
-alone_same w n t es items h =
-    let f = trees_by w n [] (ap tree_changes items ∙ tree_changes_by es) in
-    alone_from (planned w n) _ w.trees t f.1 f.0 h.known h.tree h.alone
+  passed : IsPassed w u
+  passed = rules_passed w u o k
 
-pub nodes_same : (n : Plan) (es : Verdicts) → n.changes.items ≡ map change_of es → node_changes n.changes.items ≡ map (λ e. (e.0, node_change_of e.1)) es
-nodes_same n es items = ap node_changes items ∙ node_changes_by es
+  opened : IsOpened w u
+  opened = passed.climbed.refined.removed.settled.compared.opened
 
-pub nodes_put : (n : Plan) (r : TreeRecord) (es : Verdicts) → n.changes.items ≡ TreeChange r ∷ map change_of es → node_changes n.changes.items ≡ map (λ e. (e.0, node_change_of e.1)) es
-nodes_put n r es items = ap node_changes items ∙ node_changes_by es
+  changed : IsChanged w u new
+  changed = rebuild_changed w u o passed.climbed new r
 
--- an update of a world where the root tree is alone leaves it so
-pub alone_after : (w : World) (n : Plan) (old new : Tree) (front : List Change) (es : Verdicts) → n.changes.items ≡ front ++ map change_of es → AreTreeChanges old new front → IsAlone w old → IsAlone (planned w n) new × (node_changes n.changes.items ≡ map (λ e. (e.0, node_change_of e.1)) es)
-alone_after w n old new front es items changes h = elim changes [
-  | inl s ↦
-      let same : n.changes.items ≡ map change_of es = items ∙ ap (λ xs. xs ++ map change_of es) s.1 in
-      (alone_same w n new es same (subst (λ t. IsAlone w t) s.0 h), nodes_same n es same)
-  | inr s ↦
-      let put : n.changes.items ≡ TreeChange (record_of new) ∷ map change_of es = items ∙ ap (λ xs. xs ++ map change_of es) s.1 in
-      (alone_put w n new es put (ap (λ ks. name_trees ks (record_of new ∷ [])) h.known) h.alone, nodes_put n (record_of new) es put)
-]
+  index_new : (name : TreeId) → index_of new name ≡ index_of m name
+  index_new name = index_of_same r name
 
--- the old nodes that are not reached are gone
-pub gone_from : (w m : World) (r : FullNodeId) (a b : Walk) → IsWhole w → IsWalked w m r a → RemovesOthers w a b → (q : FullNodeId) → at a.places q ≡ None → IsNode w q → at b.verdicts q ≡ Some Removed
-gone_from w m r a b whole walked h q none node = elim (h.removes.verdicts q) [
-  | inl s ↦ absurd (whole.reached q node (λ reach.
-      let gone : at b.verdicts q ≡ Some Removed = h.left q reach node (ap (λ (x : Walk). at x.places q) h.removes.rest ∙ none) in
-      not_some (at a.places q) none (walked.judged q (some_is (at a.verdicts q) Removed (sym s ∙ gone)))))
-  | inr s ↦ s.2
-]
+  -- ---- the named tree
 
--- the merged world has no other root
-pub laid_roots : (w : World) (nodes : List (NodeId × NodeData)) (top focus : NodeId) → ((i : ℕ) → 0 < i → get w.trees i ≡ None) → (i : ℕ) (t : Tree) → get (laid_over w nodes top focus).trees i ≡ Some t → in_tree i t.root ≡ in_tree 0 top
-laid_roots w nodes top focus alone zero t e = let f : Some (tree_said top focus) ≡ Some t = sym (get_root w.trees (tree_said top focus)) ∙ e in let same : tree_said top focus ≡ t = cc in ap (λ x. in_tree 0 x.root) (sym same)
-laid_roots w nodes top focus alone (suc i) t e =
-    let lt : 0 < suc i = omega arith in
-    let f : None ≡ Some t = sym (get_other w.trees (tree_said top focus) (suc i) lt ∙ alone (suc i) lt) ∙ e in absurd cc
+  -- no named node gains the named tree
+  own_ungained : (n : FullNodeId) → IsNamed w u n → graft_name m n ≡ Some u.name → graft_name w n ≡ Some u.name
+  own_ungained n named grafts = certain (decide_name (graft_name w n) u.name) (λ gained. by_name gained (cases_name u.name ROOT_NAME))
+    where
+      by_name : (graft_name w n ≢ Some u.name) → (u.name ≡ ROOT_NAME) ⊎ (u.name ≢ ROOT_NAME) → ⊥
+      by_name gained (inl top) = root_ungrafted w u o passed.climbed.refined.removed.settled.compared n (grafts ∙ ap Some top)
+      by_name gained (inr other) =
+          let g = graft_live w u o opened other in
+          ⊎_elim (λ gone. gone_unlive w u o g.0 (g.1.2, g.1.3) gone) (λ x. g.1.1 x.0) (passed.rival_gone n g.0 u.name named grafts gained g.1.0)
 
-pub laid_root : (w : World) (nodes : List (NodeId × NodeData)) (top focus : NodeId) → Reached (laid_over w nodes top focus) (in_tree 0 top)
-laid_root w nodes top focus = root 0 (tree_said top focus) (get_root w.trees (tree_said top focus))
+  -- and its graft isn't lost
+  own_unlost : (g : FullNodeId) → graft_name w g ≡ Some u.name → Gone w u g ⊎ IsNamed w u g → ⊥
+  own_unlost g was lost = by_name (cases_name u.name ROOT_NAME)
+    where
+      by_name : (u.name ≡ ROOT_NAME) ⊎ (u.name ≢ ROOT_NAME) → ⊥
+      by_name (inl top) = o.root_ungrafted g (was ∙ ap Some top)
+      by_name (inr other) =
+          let h = graft_live w u o opened other in
+          let same : g ≡ h.0 = o.grafted_once g h.0 u.name was h.1.0 in
+          ⊎_elim (λ gone. gone_unlive w u o h.0 (h.1.2, h.1.3) (subst (Gone w u) same gone)) (λ named. h.1.1 (ap (λ x. x.tree) (sym same) ∙ named.0)) lost
 
--- the plan of an update of the root tree
-pub listed_update : (w m : World) (top focus : NodeId) (old : Tree) (a b : Walk) (n : Plan) (front : List Change) → IsWhole w → IsAlone w old → IsWalked w m (in_tree 0 top) a → RemovesOthers w a b
-    → ((i : ℕ) (t : Tree) → get m.trees i ≡ Some t → in_tree i t.root ≡ in_tree 0 top) → n.changes.items ≡ front ++ map change_of b.verdicts.entries → AreTreeChanges old (tree_said top focus) front
-    → n.focus ≡ in_tree 0 focus → IsSome (at a.places (in_tree 0 focus)) → ((d : NodeData) (place : Option Place) → Settles w (in_tree 0 focus) d place (at a.verdicts (in_tree 0 focus)) → d.tree_id ≡ None)
-    → IsListed w m top focus a b n
-listed_update w m top focus old a b n front whole alone walked removed roots items changes declared aimed ends =
-    let f = alone_after w n old (tree_said top focus) front b.verdicts.entries items changes alone in
-    record {
-      walked = walked;
-      removes = removed.removes;
-      gone = gone_from w m (in_tree 0 top) a b whole walked removed;
-      there = whole.there;
-      roots = roots;
-      nodes = f.1;
-      known = f.0.known;
-      tree = f.0.tree;
-      alone = f.0.alone;
-      declared = declared;
-      aimed = aimed;
-      ends = ends;
-    }
+  own_graft : (g : FullNodeId) → (graft_name new g ≡ Some u.name) ↔ (graft_name w g ≡ Some u.name)
+  own_graft g = same_graft w u o passed r u.name own_ungained (λ g was lost none. own_unlost g was lost) g
 
--- where the focus was
-pub old_focus_is : (w : World) (top focus : NodeId) (o : Option FullNodeId) → IsAnchored w (in_tree 0 focus) → get w.trees 0 ≡ Some (tree_said top focus)
-    → (d : NodeData) × (data_of w (in_tree 0 focus) ≡ Some d) × (o ≡ shown_focus_of w.host_focused (in_tree 0 focus) d.active_descendant (λ q. is_some (data_of w q))) → IsFocus w o
-old_focus_is w top focus o anchored tree h =
-    subst (λ x. IsFocus w x) (sym h.2) (focus_is w (in_tree 0 focus) h.0 (record {
-      chain = first (tree_said top focus) tree;
-      has = h.1;
-      ends = ap (option_and_then (λ d. d.tree_id)) (sym h.1) ∙ anchored.ends;
-      inside = refl;
-    }) h.0.active_descendant (λ q. is_some (data_of w q)) refl (λ q. refl))
+  focus_is : (t : Tree) → get m.trees i ≡ Some t → t.focus ≡ u.focus
+  focus_is t is = go (root_after w u) refl
+    where
+      go : (x : Option NodeId) → root_after w u ≡ x → t.focus ≡ u.focus
+      go (Some root) e = ap (λ x. x.focus) (same_Some t _ (sym is ∙ tree_after_named w u root e))
+      go None e =
+          let was : get w.trees i ≡ Some t = ap (λ x. get (option_map_or (λ root. insert w.trees i (record { root = root; focus = u.focus })) x w.trees) i) (sym e) ∙ is in
+          absurd (no_some (root_after w u) e (root_stays w u (IsSome_is t was)))
 
--- a world that has only the root tree has its record
-root_index : (known : List TreeId) → known ≡ ROOT_NAME ∷ [] → position (λ k. is_eq (slice_cmp nat_cmp k.0 ROOT_NAME.0)) known ≡ Some 0
-root_index known e = ap (position (λ k. is_eq (slice_cmp nat_cmp k.0 ROOT_NAME.0))) e
+  own_index : index_of new u.name ≡ Some i
+  own_index = index_new u.name ∙ index_here w u o
 
-root_named_tree : (w : World) (t : Tree) → w.known ≡ ROOT_NAME ∷ [] → get w.trees 0 ≡ Some t → tree_named w ROOT_NAME ≡ Some t
-root_named_tree w t known tree = ap (option_and_then (λ i. get w.trees i)) (root_index w.known known) ∙ tree
+  own_tree : (op : Opened) → IsOpening w u op → tree_named new u.name ≡ Some (record { root = op.root; focus = u.focus })
+  own_tree op is =
+      let at : root_of m i ≡ Some (in_tree i op.root) = subst (λ j. root_of m j ≡ Some (in_tree j op.root)) is.index is.root in
+      let t = root_of_parts m i (in_tree i op.root) at in
+      let root : t.0.root ≡ op.root = ap (λ x. x.node) t.2 in
+      let focus : t.0.focus ≡ u.focus = focus_is t.0 t.1 in
+      let one : t.0 ≡ record { root = op.root; focus = u.focus } = λ j. record { root = root j; focus = focus j } in
+      ap (option_and_then (λ j. get new.trees j)) own_index ∙ tree_same r i (named_kept w u o opened) ∙ t.1 ∙ ap Some one
 
-pub anchored_tree : (w : World) (focus : FullNodeId) → IsAnchored w focus → (t : Tree) × (get w.trees 0 ≡ Some t) × (in_tree 0 t.focus ≡ focus)
-anchored_tree w focus h = elim (is_none_or (get w.trees 0)) [
-  | inl s ↦ absurd (let f : None ≡ Some focus = ap (option_map (λ t. in_tree 0 t.focus)) (sym s) ∙ h.declared in cc)
-  | inr s ↦ (s.0, s.1, let f : Some (in_tree 0 s.0.focus) ≡ Some focus = ap (option_map (λ t. in_tree 0 t.focus)) (sym s.1) ∙ h.declared in cc)
-]
+  pub own_is : (op : Opened) → IsOpening w u op → IsOfName new u.name (own_record u.name u.focus op)
+  own_is op is = record {
+    id = refl;
+    index = ap Some is.index ∙ sym own_index;
+    graft = λ g. let a = is.record_of.graft g in let b = own_graft g in (λ e. b.1 (a.0 e), λ e. a.1 (b.0 e));
+    root = sym (ap (option_map (λ t. t.root)) (own_tree op is));
+    focus = sym (ap (option_map (λ t. t.focus)) (own_tree op is));
+  }
 
-record_cases : (r : Option TreeRecord) (x y : NodeId) → option_and_then (λ t. t.root) r ≡ Some x → option_and_then (λ t. t.focus) r ≡ Some y → (t : TreeRecord) × (r ≡ Some t) × (t.root ≡ Some x) × (t.focus ≡ Some y)
-record_cases None x y e f = cc
-record_cases (Some t) x y e f = (t, refl, e, f)
+  both_parts : (x : Option Tree) (a b : NodeId) → option_map (λ t. t.root) x ≡ Some a → option_map (λ t. t.focus) x ≡ Some b → x ≡ Some (record { root = a; focus = b })
+  both_parts None a b e f = cc
+  both_parts (Some t) a b e f =
+      let root : t.root ≡ a = same_Some t.root a e in
+      let focus : t.focus ≡ b = same_Some t.focus b f in
+      ap Some (λ j. record { root = root j; focus = focus j })
 
-pub old_record : (w : World) (focus : FullNodeId) (r : Option TreeRecord) → IsAnchored w focus → IsTreeRecord w ROOT_NAME r → (x : TreeRecord) × (r ≡ Some x) × (t : Tree) × (get w.trees 0 ≡ Some t) × (x.root ≡ Some t.root) × (x.focus ≡ Some t.focus)
-old_record w focus r h k =
-    let f = anchored_tree w focus h in
-    let named : tree_named w ROOT_NAME ≡ Some f.0 = root_named_tree w f.0 h.known f.1 in
-    let g = record_cases r f.0.root f.0.focus (k.root ∙ ap (option_map (λ t. t.root)) named) (k.focus ∙ ap (option_map (λ t. t.focus)) named) in
-    (g.0, g.1, f.0, f.1, g.2, g.3)
+  -- where its record is as before, so is what is known of the named tree
+  pub own_alike : (op : Opened) → IsOpening w u op → own_record u.name u.focus op ≡ op.record → KnownAlike w new u.name
+  own_alike op is same = record {
+    index = sym is.record_of.index ∙ sym (ap (λ x. x.index) same) ∙ (own_is op is).index;
+    graft = λ g. let f = own_graft g in (f.1, f.0);
+    tree = both_parts (tree_named w u.name) op.root u.focus (sym is.record_of.root ∙ sym (ap (λ x. x.root) same)) (sym is.record_of.focus ∙ sym (ap (λ x. x.focus) same)) ∙ sym (own_tree op is);
+  }
 
--- nothing stands in a world with no tree
-pub blank_there : (w : World) → IsBlank w → (p : Place) (q : FullNodeId) → StandsAt w p q → IsNode w q
-blank_there w blank p q s = absurd (get_nil p.1 q (ap (λ xs. slice_get xs p.1) (sym (no_children w p.0 (blank.nodes p.0))) ∙ s))
+  -- ---- other trees
 
--- the plan of the first update
-pub listed_first : (w m : World) (top focus : NodeId) (a : Walk) (n : Plan) → IsBlank w → IsWalked w m (in_tree 0 top) a
-    → ((i : ℕ) (t : Tree) → get m.trees i ≡ Some t → in_tree i t.root ≡ in_tree 0 top) → n.changes.items ≡ TreeChange (record_of (tree_said top focus)) ∷ map change_of a.verdicts.entries
-    → n.focus ≡ in_tree 0 focus → IsSome (at a.places (in_tree 0 focus)) → ((d : NodeData) (place : Option Place) → Settles w (in_tree 0 focus) d place (at a.verdicts (in_tree 0 focus)) → d.tree_id ≡ None)
-    → IsListed w m top focus a a n
-listed_first w m top focus a n blank walked roots items declared aimed ends =
-    let t : Tree = tree_said top focus in
-    let f = alone_put w n t a.verdicts.entries items (ap (λ ks. name_trees ks (record_of t ∷ [])) blank.known) (λ i lt. blank.trees i) in
-    record {
-      walked = walked;
-      removes = removes_none w a;
-      gone = λ q none node. absurd (not_some (data_of w q) (blank.nodes q) node);
-      there = blank_there w blank;
-      roots = roots;
-      nodes = nodes_put n (record_of t) a.verdicts.entries items;
-      known = f.known;
-      tree = f.tree;
-      alone = f.alone;
-      declared = declared;
-      aimed = aimed;
-      ends = ends;
-    }
+  index_other : (name : TreeId) → name ≢ u.name → index_of w name ≡ index_of new name
+  index_other name other = same_option (index_of w name) (index_of m name)
+      (λ j is. index_stays w u o name j is)
+      (λ j is. index_before w u o name j (λ e. other (name_here w u o name (is ∙ ap Some e))) is)
+      ∙ sym (index_new name)
+
+  other_index : (name : TreeId) (j : ℕ) → name ≢ u.name → index_of w name ≡ Some j → j ≢ i
+  other_index name j other is e = other (name_here w u o name (index_stays w u o name j is ∙ ap Some e))
+
+  tree_other : (name : TreeId) → name ≢ u.name → ¬ (IsCut w u name) → tree_named w name ≡ tree_named new name
+  tree_other name other uncut = go (index_of w name) refl
+    where
+      spared : (j : ℕ) → index_of w name ≡ Some j → ¬ (IsDropped w u j)
+      spared j is d = uncut (subst (IsCut w u) (index_of_once w d.0 name j d.1 is) (d.2, d.3, d.4, d.5))
+
+      go : (x : Option ℕ) → index_of w name ≡ x → tree_named w name ≡ tree_named new name
+      go None e = ap (option_and_then (λ j. get w.trees j)) e ∙ sym (ap (option_and_then (λ j. get new.trees j)) (sym (index_other name other) ∙ e))
+      go (Some j) e =
+          let f = changed.other_trees j in
+          let same : get w.trees j ≡ get new.trees j = same_option (get w.trees j) (get new.trees j) (λ t is. (f t (other_index name j other e)).1 (spared j e, is)) (λ t is. ((f t (other_index name j other e)).0 is).1) in
+          ap (option_and_then (λ j. get w.trees j)) e ∙ same ∙ sym (ap (option_and_then (λ j. get new.trees j)) (sym (index_other name other) ∙ e))
+
+  pub others_alike : (name : TreeId) → name ≢ u.name → ¬ (IsCut w u name) → ((n : FullNodeId) → ¬ (Gains w u n name)) → KnownAlike w new name
+  others_alike name other uncut ungained = record {
+    index = index_other name other;
+    graft = λ g. let f = same_graft w u o passed r name
+        (λ n named grafts. certain (decide_name (graft_name w n) name) (λ before. ungained n (named, grafts, before)))
+        (λ g was lost none. uncut (none, g, was, lost)) g in (f.1, f.0);
+    tree = tree_other name other uncut;
+  }
+
+  cut_other : (name : TreeId) → IsCut w u name → name ≢ u.name
+  cut_other name cut same = own_unlost cut.1 (cut.2 ∙ ap Some same) cut.3
+
+  -- a tree that loses its graft has none, and is present no more
+  pub cut_is : (name : TreeId) → IsCut w u name → IsOfName new name (cut_record w name)
+  cut_is name cut = record {
+    id = refl;
+    index = index_other name (cut_other name cut);
+    graft = λ g. (λ e. cc, λ is. absurd (lost_graft w u o passed r cut.1 name cut.2 cut.3 cut.0 g is));
+    root = sym (ap (option_map (λ t. t.root)) none);
+    focus = sym (ap (option_map (λ t. t.focus)) none);
+  }
+    where
+      go : (x : Option ℕ) → index_of w name ≡ x → tree_named new name ≡ None
+      go None e = ap (option_and_then (λ j. get new.trees j)) (sym (index_other name (cut_other name cut)) ∙ e)
+      go (Some j) e =
+          ap (option_and_then (λ j. get new.trees j)) (sym (index_other name (cut_other name cut)) ∙ e)
+          ∙ no_value (get new.trees j) (λ t is. ((changed.other_trees j t (other_index name j (cut_other name cut) e)).0 is).0 (name, e, cut.0, cut.1, cut.2, cut.3))
+
+      none : tree_named new name ≡ None
+      none = go (index_of w name) refl
+
+  gained_other : (t : TreeRecord) → IsGained w u t → t.id ≢ u.name
+  gained_other t is e = is.gains.2 (own_ungained is.n is.gains.0 (is.gains.1 ∙ ap Some e) ∙ ap Some (sym e))
+
+  -- a tree that a named node gains has that graft
+  pub gained_is : (t : TreeRecord) → IsGained w u t → IsOfName new t.id t
+  gained_is t is = record {
+    id = refl;
+    index = is.index ∙ index_other t.id other;
+    graft = λ g. let f = named_graft w u o passed r is.n t.id is.gains.0 is.gains.1 g in (λ e. f.1 (same_Some g is.n (sym e ∙ is.graft)), λ e. is.graft ∙ ap Some (sym (f.0 e)));
+    root = is.root ∙ ap (option_map (λ t. t.root)) same;
+    focus = is.focus ∙ ap (option_map (λ t. t.focus)) same;
+  }
+    where
+      other : t.id ≢ u.name
+      other = gained_other t is
+
+      same : tree_named w t.id ≡ tree_named new t.id
+      same = tree_other t.id other (λ cut. cut.0 (is.n, is.gains.0, is.gains.1))
+
+  -- ---- all of them
+
+  -- the records say what is known afterwards, and of other names the same is known as before
+  pub record AreAfter (rs : List TreeRecord) : Type 0 where
+    pub each : (t : TreeRecord) → Contains rs t → IsOfName new t.id t
+    pub others : (name : TreeId) → tree_change rs name ≡ None → KnownAlike w new name
+
+  -- each is of another name
+  pub all_once : (op : Opened) (cuts gained own : List TreeRecord)
+      → ((t : TreeRecord) → Contains cuts t ↔ (IsCut w u t.id × (t ≡ cut_record w t.id)))
+      → ((t : TreeRecord) → Contains gained t ↔ IsGained w u t)
+      → ((own_record u.name u.focus op ≡ op.record) × (own ≡ [])) ⊎ (own ≡ own_record u.name u.focus op ∷ [])
+      → AllPairs (λ a b. a.id ≢ b.id) cuts → AllPairs (λ a b. a.id ≢ b.id) gained → AllPairs (λ a b. a.id ≢ b.id) (cuts ++ gained ++ own)
+  all_once op cuts gained own are_cut are_gained is_own cut_once gained_once =
+      AllPairs-append Apart (cuts ++ gained) own
+      (AllPairs-append Apart cuts gained cut_once gained_once (λ x y c d same. let g = (are_gained y).0 d in ((are_cut x).0 c).0.0 (g.n, g.gains.0, g.gains.1 ∙ ap Some (sym same))))
+      (own_once is_own)
+      (λ x y c d same. apart x (in_either cuts gained x c) (same ∙ own_name is_own y d))
+    where
+      Apart : TreeRecord → TreeRecord → Type 0
+      Apart a b = a.id ≢ b.id
+
+      own_once : ((own_record u.name u.focus op ≡ op.record) × (own ≡ [])) ⊎ (own ≡ own_record u.name u.focus op ∷ []) → AllPairs (λ (a : TreeRecord) (b : TreeRecord). a.id ≢ b.id) own
+      own_once (inl x) = subst (AllPairs (λ (a : TreeRecord) (b : TreeRecord). a.id ≢ b.id)) (sym x.1) (λ i j d below within. absurd (omega arith))
+      own_once (inr e) = subst (AllPairs (λ (a : TreeRecord) (b : TreeRecord). a.id ≢ b.id)) (sym e) (λ i j d below within. absurd (omega arith))
+
+      own_name : ((own_record u.name u.focus op ≡ op.record) × (own ≡ [])) ⊎ (own ≡ own_record u.name u.focus op ∷ []) → (t : TreeRecord) → Contains own t → t.id ≡ u.name
+      own_name (inl x) t c = absurd (contains_none t (subst (λ ts. Contains ts t) x.1 c))
+      own_name (inr e) t c = ⊎_elim (λ same. ap (λ y. y.id) (sym same)) (λ h. absurd (contains_none t h)) (contains_cases (own_record u.name u.focus op) t [] (subst (λ ts. Contains ts t) e c))
+
+      apart : (x : TreeRecord) → Contains cuts x ⊎ Contains gained x → x.id ≡ u.name → ⊥
+      apart x (inl c) = cut_other x.id ((are_cut x).0 c).0
+      apart x (inr c) = gained_other x ((are_gained x).0 c)
+
+  pub all_after : (op : Opened) (cuts gained own : List TreeRecord) → IsOpening w u op
+      → ((t : TreeRecord) → Contains cuts t ↔ (IsCut w u t.id × (t ≡ cut_record w t.id)))
+      → ((t : TreeRecord) → Contains gained t ↔ IsGained w u t)
+      → ((own_record u.name u.focus op ≡ op.record) × (own ≡ [])) ⊎ (own ≡ own_record u.name u.focus op ∷ [])
+      → AreAfter (cuts ++ gained ++ own)
+  all_after op cuts gained own is are_cut are_gained is_own = record { each = each; others = others }
+    where
+      by_own : ((own_record u.name u.focus op ≡ op.record) × (own ≡ [])) ⊎ (own ≡ own_record u.name u.focus op ∷ []) → (t : TreeRecord) → Contains own t → IsOfName new t.id t
+      by_own (inl x) t c = absurd (contains_none t (subst (λ ts. Contains ts t) x.1 c))
+      by_own (inr e) t c = ⊎_elim (λ same. subst (λ x. IsOfName new x.id x) same (own_is op is)) (λ h. absurd (contains_none t h)) (contains_cases (own_record u.name u.focus op) t [] (subst (λ ts. Contains ts t) e c))
+
+      each : (t : TreeRecord) → Contains (cuts ++ gained ++ own) t → IsOfName new t.id t
+      each t c = ⊎_elim
+          (λ d. ⊎_elim
+          (λ x. let f = (are_cut t).0 x in subst (IsOfName new t.id) (sym f.1) (cut_is t.id f.0))
+          (λ x. gained_is t ((are_gained t).0 x))
+          (in_either cuts gained t d))
+          (λ x. by_own is_own t x)
+          (in_either (cuts ++ gained) own t c)
+
+      own_in : own ≡ own_record u.name u.focus op ∷ [] → Contains own (own_record u.name u.focus op)
+      own_in e = subst (λ ts. Contains ts (own_record u.name u.focus op)) (sym e) (contains_head (own_record u.name u.focus op) (own_record u.name u.focus op) [] refl)
+
+      others : (name : TreeId) → tree_change (cuts ++ gained ++ own) name ≡ None → KnownAlike w new name
+      others name none = go is_own (cases_name name u.name)
+        where
+          out : (t : TreeRecord) → Contains (cuts ++ gained ++ own) t → t.id ≢ name
+          out = tree_change_none (cuts ++ gained ++ own) name none
+
+          in_cuts : (t : TreeRecord) → Contains cuts t → Contains (cuts ++ gained ++ own) t
+          in_cuts t c = Contains-append_left (cuts ++ gained) own t (Contains-append_left cuts gained t c)
+
+          in_gained : (t : TreeRecord) → Contains gained t → Contains (cuts ++ gained ++ own) t
+          in_gained t c = Contains-append_left (cuts ++ gained) own t (Contains-append_right cuts gained t c)
+
+          uncut : ¬ (IsCut w u name)
+          uncut cut = out (cut_record w name) (in_cuts (cut_record w name) ((are_cut (cut_record w name)).1 (cut, refl))) refl
+
+          gain : FullNodeId → TreeRecord
+          gain n = record { id = name; index = index_of w name; graft = Some n; root = option_map (λ t. t.root) (tree_named w name); focus = option_map (λ t. t.focus) (tree_named w name) }
+
+          ungained : (n : FullNodeId) → ¬ (Gains w u n name)
+          ungained n gains = out (gain n) (in_gained (gain n) ((are_gained (gain n)).1 (record { n = n; gains = gains; graft = refl; index = refl; root = refl; focus = refl }))) refl
+
+          go : ((own_record u.name u.focus op ≡ op.record) × (own ≡ [])) ⊎ (own ≡ own_record u.name u.focus op ∷ []) → (name ≡ u.name) ⊎ (name ≢ u.name) → KnownAlike w new name
+          go x (inr other) = others_alike name other uncut ungained
+          go (inl x) (inl e) = subst (KnownAlike w new) (sym e) (own_alike op is x.0)
+          go (inr x) (inl e) = absurd (out (own_record u.name u.focus op) (Contains-append_right (cuts ++ gained) own (own_record u.name u.focus op) (own_in x)) (sym e))

@@ -1,38 +1,75 @@
--- What a plan is made of.
-use Rattle.std.specs.Prelude.{◌≡◌, ◌≢◌, ◌⊎◌, List, [], ◌∷◌, ◌++◌, Option, Some, None}
-use Rattle.std.specs.List.{flat_map}
-use Rattle.std.specs.FinMap.{insert}
+-- What a plan of an update says.
+use Rattle.std.specs.Prelude.{Bool, ◌≡◌, ◌≢◌, ℕ, ◌+◌, ◌*◌, ◌≤◌, List, [], ◌∷◌, length, slice_get, AllPairs, Contains, Option, Some, None, ◌↔◌, if◌then◌else◌}
+use Rattle.std.specs.Option.{option_and_then, option_map_or}
+use Rattle.std.specs.List.Sorted.{IsStrictlySortedBy}
 use Rattle.schema.specs.NodeData.{NodeData}
-use Rattle.schema.specs.declared.NodeId.{NodeId}
+use Rattle.schema.specs.declared.TreeId.{TreeId}
 use Rattle.model.specs.declared.FullNodeId.{FullNodeId}
-use Rattle.model.specs.World.{World, Tree, ROOT_NAME}
-use Rattle.tree_plan.specs.Overwritten.{world_overwritten}
-use Rattle.model.specs.declared.events.PlanEvent.{PlanEvent}
-use Rattle.tree_store.specs.declared.plan.Change.{Change}
-use Rattle.tree_store.specs.declared.plan.Change.TheVariants.{Tree as TreeChange}
-use Rattle.tree_store.specs.declared.look_ups.TreeRecord.{TreeRecord}
-use Rattle.tree_plan.specs.declared.lists.Group.TheVariants as group
-use Rattle.tree_plan.specs.declared.walking.Walk.{Walk}
-use Rattle.tree_plan.specs.Verdicts.{at}
-use Rattle.tree_plan.specs.PlanLists.{told_of, IsMove}
+use Rattle.model.specs.FullIds.{full_cmp}
+use Rattle.model.specs.World.{World, Place, StandsAt, data_of}
+use Rattle.model.specs.Focus.{IsEffectiveFocus}
+use Rattle.model.specs.Update.{UpdateData, InfoData, IsFirst, IsAccepted}
+use Rattle.model.specs.Run.{AreToldBy}
+use Rattle.model.specs.Work.{Work, IsWorkOf, allowed}
+use Rattle.tree_changes.specs.declared.look_ups.TreeRecord.{TreeRecord}
+use Rattle.tree_changes.specs.declared.decision.NodeChange.{NodeChange}
+use Rattle.tree_changes.specs.declared.decision.NodeChange.TheVariants as node
+use Rattle.tree_changes.specs.declared.plan.Change.{Change}
+use Rattle.tree_changes.specs.declared.plan.Change.TheVariants.{Put, Gone, Tree as TreeChange}
+use Rattle.tree_changes.specs.declared.plan.Plan.{Plan}
+use Rattle.tree_changes.specs.Looks.{IsPlaceOf, IsTreeRecord}
+use Rattle.tree_changes.specs.Changes.{tree_after}
+use Rattle.tree_changes.specs.Decisions.{Differs}
+use Rattle.tree_changes.specs.Plans.{tree_changes, planned}
 
-abbrev pub tree_said : NodeId → NodeId → Tree
-tree_said root focus = record { root = root; focus = focus }
+-- the nodes whose records change
+abbrev pub changed_nodes : List Change → List FullNodeId
+changed_nodes [] = []
+changed_nodes (Put id place given ∷ cs) = id ∷ changed_nodes cs
+changed_nodes (Gone id ∷ cs) = id ∷ changed_nodes cs
+changed_nodes (TreeChange t ∷ cs) = changed_nodes cs
 
--- the record of the root tree
-abbrev pub record_of : Tree → TreeRecord
-record_of t = record { id = ROOT_NAME; index = Some 0; graft = None; root = Some t.root; focus = Some t.focus }
+-- What a plan of an accepted update says: its changes make the rebuilt world, one for each record that differs; the focus is the effective one
+-- there; and the events are the differences. Of the first update nothing is told.
+pub record IsPlan (w : World) (u : UpdateData) (p : Plan) : Type 0 where
+  pub accepted : IsAccepted w u (planned w p)
+  pub once : IsStrictlySortedBy full_cmp (changed_nodes p.changes.items)
+  pub changes : (id : FullNodeId) → Contains (changed_nodes p.changes.items) id → Differs w (planned w p) id
+  pub places : (id : FullNodeId) (place : Option Place) (given : Option NodeData) → Contains p.changes.items (Put id place given) → IsPlaceOf (planned w p) id place
+  pub others : (id : FullNodeId) → ¬ (Contains (changed_nodes p.changes.items) id) → (data_of w id ≡ data_of (planned w p) id) × ((at : Place) → StandsAt w at id ↔ StandsAt (planned w p) at id)
+  pub trees_once : AllPairs (λ a b. a.id ≢ b.id) (tree_changes p.changes.items)
+  pub trees : (name : TreeId) (r : Option TreeRecord) → IsTreeRecord w name r → IsTreeRecord (planned w p) name (tree_after (tree_changes p.changes.items) name r)
+  pub focus : IsEffectiveFocus (planned w p) p.focus
+  pub told : ¬ (IsFirst w) → AreToldBy w u (planned w p) p.events.items
+  pub quiet : IsFirst w → p.events.items ≡ []
 
--- the root tree's record is changed where its root or its declared focus is
-abbrev pub AreTreeChanges : Tree → Tree → List Change → Type 0
-AreTreeChanges old new changes = ((old ≡ new) × (changes ≡ [])) ⊎ ((old ≢ new) × (changes ≡ TreeChange (record_of new) ∷ []))
+-- The look-ups, from `before` to `after`, with two for each event and each change, are within what is allowed.
+abbrev pub IsPlannedWithin : World → UpdateData → Plan → ℕ → ℕ → Type 0
+IsPlannedWithin w u p before after =
+    (work : Work) → IsWorkOf w u (planned w p) work → after + 2 * (length p.events.items + length p.changes.items) ≤ before + allowed work
 
--- the world with an update's nodes over its own, and with this root and declared focus
-abbrev pub laid_over : World → List (NodeId × NodeData) → NodeId → NodeId → World
-laid_over w nodes root focus = record (world_overwritten w 0 nodes) { trees = insert w.trees 0 (tree_said root focus) }
+-- what a slot has, if it is there and isn't taken
+abbrev pub slot_data : List (Option NodeData) → ℕ → Option NodeData
+slot_data slots k = option_and_then (λ s. s) (slice_get slots k)
 
--- the events of these verdicts and of a move of the focus, in their order
-pub record AreEvents (w : World) (a : Walk) (before after : Option FullNodeId) (events : List PlanEvent) : Type 0 where
-  pub moved : List PlanEvent
-  pub is_move : IsMove w (at a.verdicts) before after moved
-  pub all : events ≡ flat_map (told_of group.Added) a.verdicts.entries ++ flat_map (told_of group.Updated) a.verdicts.entries ++ moved ++ flat_map (told_of group.Removed) a.verdicts.entries
+-- the change of a node's record, with its data out of these slots
+abbrev pub moved : List (Option NodeData) → FullNodeId × NodeChange → Change
+moved slots (id, node.Put place (Some k)) = Put id place (slot_data slots k)
+moved slots (id, node.Put place None) = Put id place None
+moved slots (id, node.Gone) = Gone id
+
+abbrev pub entry_of : NodeChange → Option ℕ
+entry_of (node.Put place entry) = entry
+entry_of node.Gone = None
+
+-- the entry whose data the change at this index takes
+abbrev pub taken_at : List (FullNodeId × NodeChange) → ℕ → Option ℕ
+taken_at changes i = option_and_then (λ c. entry_of c.1) (slice_get changes i)
+
+-- no two changes take the data of one entry
+abbrev pub AreTakenOnce : List (FullNodeId × NodeChange) → Type 0
+AreTakenOnce changes = (i j k : ℕ) → taken_at changes i ≡ Some k → taken_at changes j ≡ Some k → i ≡ j
+
+-- the texts of tree info for the root tree replace the toolkit's
+abbrev pub replaces : Option InfoData → Bool → Option (List ℕ) × Option (List ℕ) → Option (List ℕ) × Option (List ℕ)
+replaces info is_root before = option_map_or (λ info. if is_root then (info.toolkit_name, info.toolkit_version) else before) info before

@@ -1,39 +1,69 @@
--- What becomes of a node, against the old world.
-use Rattle.std.specs.Prelude.{◌≡◌, ◌≢◌, [], Option, Some, None, ◌↔◌, ◌⊎◌}
-use Rattle.std.specs.BTreeMap.{BTreeMap, get}
-use Rattle.schema.specs.NodeData.{NodeData}
-use Rattle.schema.specs.declared.TreeId.{TreeId}
+-- What an accepted update makes of a node.
+use Rattle.std.specs.Prelude.{◌≡◌, ◌≢◌, List, Contains, Option, Some, None}
+use Rattle.std.specs.BTreeMap.{BTreeMap}
 use Rattle.model.specs.declared.FullNodeId.{FullNodeId}
-use Rattle.model.specs.FullIds.{full_cmp}
-use Rattle.model.specs.World.{World, ROOT_NAME, Place, StandsAt, data_of}
+use Rattle.model.specs.World.{World, Place, IsNode, data_of}
+use Rattle.model.specs.Forest.{place_of}
+use Rattle.model.specs.Update.{UpdateData, IsRebuild, KeepsRules, index_for, merged}
+use Rattle.model.specs.Differences.{IsAdded, IsInBoth, told_root}
+use Rattle.model.specs.Surgery.{IsOld}
+use Rattle.tree_changes.specs.declared.decision.NodeChange.{NodeChange}
+use Rattle.tree_changes.specs.declared.decision.NodeChange.TheVariants.{Put}
+use Rattle.tree_changes.specs.Looks.{IsPlaceOf}
+use Rattle.tree_changes.specs.Changes.{changed}
+use Rattle.tree_changes.specs.Decisions.{IsChangeOf}
 use Rattle.tree_plan.specs.declared.verdicts.Verdict.{Verdict}
-use Rattle.tree_plan.specs.declared.verdicts.Verdict.TheVariants.{Added, Updated, Removed}
+use Rattle.tree_plan.specs.declared.verdicts.Verdict.TheVariants.{Added, Updated, Told, Removed}
+use Rattle.tree_plan.specs.declared.verdicts.Found.{Found}
+use Rattle.tree_plan.specs.Passes.{at, IsOpening, IsComparison, IsRemoval, IsRegrafting}
 
--- what a map has at an id
-abbrev pub at : {X : Type 0} → BTreeMap FullNodeId X → FullNodeId → Option X
-at m id = get full_cmp m id
+-- an update, and the worlds before and after it
+pub record Step : Type 0 where
+  pub old : World
+  pub update : UpdateData
+  pub new : World
 
--- the place is where the node stands
-abbrev pub IsPlace : World → FullNodeId → Option Place → Type 0
-IsPlace w id place = (p : Place) → (place ≡ Some p) ↔ StandsAt w p id
+-- the passes have found this, and the update is accepted
+pub record IsFound (s : Step) (f : Found) : Type 0 where
+  pub old : IsOld s.old
+  pub opening : IsOpening s.old s.update f.opened.now
+  pub comparison : IsComparison s.old s.update f.compared.now
+  pub removal : IsRemoval s.old s.update f.removed.now
+  pub regrafting : IsRegrafting s.old s.update f.regrafted.now.trees.items f.regrafted.now.moved_in
+  pub kept : KeepsRules s.old s.update
+  pub rebuilt : IsRebuild (merged s.old s.update) s.new
+  pub told : f.told ≡ told_root (index_for s.old s.update.name) s.update.info
 
--- What becomes of a node that has these data and this place afterwards: it is as it was, it is new, or its data or its place are
--- other than before.
-abbrev pub Settles : World → FullNodeId → NodeData → Option Place → Option Verdict → Type 0
-Settles w id d place None = (data_of w id ≡ Some d) × IsPlace w id place
-Settles w id d place (Some (Added put given)) = (put ≡ place) × (data_of w id ≡ None) × (given ≡ d)
-Settles w id d place (Some (Updated put (Some given))) = (put ≡ place) × ((before : NodeData) × (data_of w id ≡ Some before) × (before ≢ d)) × (given ≡ d)
-Settles w id d place (Some (Updated put None)) = (put ≡ place) × (data_of w id ≡ Some d) × ¬ (IsPlace w id place)
-Settles w id d place (Some Removed) = ⊥
+-- the change is one of this node, and gives it its data
+abbrev pub Makes : Step → FullNodeId → NodeChange → Type 0
+Makes s id c = IsChangeOf s.old s.update s.new id c × (changed s.update.nodes c (data_of s.old id) ≡ data_of s.new id)
 
--- a node that keeps its data has a verdict where its place is another than before
-abbrev pub KeepsData : Option Place → Option Place → Option Verdict → Type 0
-KeepsData place was verdict = ((place ≡ was) × (verdict ≡ None)) ⊎ ((place ≢ was) × (verdict ≡ Some (Updated place None)))
+-- the node has the data and the place that it had
+abbrev pub Stays : Step → FullNodeId → Type 0
+Stays s id = (data_of s.old id ≡ data_of s.new id) × (place_of s.old id ≡ place_of s.new id)
 
--- a graft is of another tree than the root tree, and lists no children
-abbrev pub AllowsGraft : NodeData → Type 0
-AllowsGraft d = (name : TreeId) → d.tree_id ≡ Some name → (name ≢ ROOT_NAME) × (d.children ≡ [])
+-- the node comes to this place, which is another than before, or it stays where it was
+abbrev pub Moves : Step → FullNodeId → Option (Option Place) → Type 0
+Moves s id None = place_of s.old id ≡ place_of s.new id
+Moves s id (Some place) = IsNode s.new id × IsPlaceOf s.new id place × (IsNode s.old id → place_of s.old id ≢ place_of s.new id)
 
--- as it was at each other id
-abbrev pub ChangesAt : {X : Type 0} → FullNodeId → (FullNodeId → Option X) → (FullNodeId → Option X) → Type 0
-ChangesAt id before after = (q : FullNodeId) → id ≢ q → after q ≡ before q
+-- this becomes of the node
+abbrev pub Becomes : Step → FullNodeId → Option Verdict → Type 0
+Becomes s id (Some (Added place entry)) = IsAdded s.old s.new id × Makes s id (Put place (Some entry))
+Becomes s id (Some (Updated place entry)) = IsInBoth s.old s.new id × Makes s id (Put place entry)
+Becomes s id (Some Told) = IsInBoth s.old s.new id × Stays s id × (told_root (index_for s.old s.update.name) s.update.info ≡ Some id)
+Becomes s id (Some Removed) = IsAdded s.new s.old id
+Becomes s id None = Stays s id × (told_root (index_for s.old s.update.name) s.update.info ≢ Some id)
+
+abbrev pub Verdicts : Type 0
+Verdicts = BTreeMap FullNodeId Verdict
+
+-- each verdict says what becomes of its node
+abbrev pub AreSound : Step → Verdicts → Type 0
+AreSound s vs = (id : FullNodeId) (v : Verdict) → at vs id ≡ Some v → Becomes s id (Some v)
+
+-- To verdicts, each of which says what becomes of its node, those on these nodes are added.
+pub record Adds (s : Step) (ids : List FullNodeId) (before after : Verdicts) : Type 0 where
+  pub sound : AreSound s after
+  pub judged : (id : FullNodeId) → Contains ids id → Becomes s id (at after id)
+  pub kept : (id : FullNodeId) → Becomes s id (at before id) → Becomes s id (at after id)

@@ -1,144 +1,316 @@
 //! Where the focus is, before and after.
-ghost use Rattle.std.specs.Prelude.{◌≡◌, Option, Some, None, IsSome, is_some, IfOk, option_copied};
+ghost use Rattle.std.specs.Prelude.{◌≡◌, ◌≢◌, ◌≤◌, ◌<◌, ◌+◌, ◌*◌, ◌↔◌, IfOk, IfErr, IsTrue, IsSome, MatchOption, None, Some, length, true, false};
+ghost use Rattle.std.specs.FinMap.{get};
+ghost use Rattle.std.specs.Option.{option_map};
+ghost use Rattle.schema.specs.UpdateData.{update_data};
+ghost use Rattle.model.specs.World.{IsNode, focus_named, in_tree, Reached};
+ghost use Rattle.model.specs.Focus.{IsFocus};
+ghost use Rattle.model.specs.Update.{IsFirst, KeepsRules, merged};
+ghost use Rattle.model.specs.Surgery.{IsOld, IsPassed};
 ghost use Rattle.schema.specs.NodeData.{NodeData};
-ghost use Rattle.model.specs.declared.FullNodeId.{FullNodeId};
-ghost use Rattle.model.specs.World.{Place, IsNode, data_of};
-ghost use Rattle.tree_plan.specs.Verdicts.{at, Settles};
-ghost use Rattle.tree_plan.specs.Focusing.{shown_focus_of, IsDeclaredFocusOf, given_by};
+ghost use Rattle.tree_changes.specs.Changes.{entry_data};
+ghost use Rattle.tree_changes.specs.Refusals.{IsRefusal};
+ghost use Rattle.tree_plan.specs.Passes.{IsOpening, IsComparison, IsRemoval, IsFocusing};
+ghost use Rattle.tree_plan.specs.Aims.{IsAimOf, IsAimIn, IsEnd, Answers, AnswersHost, FindsAim, EndsWell, Stays};
 
-use crate::verdicts::Verdict;
-use crate::walking::{Walk, in_root_tree};
+use crate::passes::{Compared, Focused, Opened, Removed};
+use crate::records::tree_record;
 use model::FullNodeId;
-use schema::{Node, NodeId, TreeId};
-use tree_store::{LookUps, UpdateError};
+use schema::{Node, NodeId, TreeId, TreeUpdate};
+use tree_changes::{LookUps, UpdateError};
 
-/// What is asked of the node that a tree declares focused.
+/// What is asked of a node on the way of the focus.
 #[derive(Clone, Copy)]
-pub struct DeclaredFocus {
-    pub graft: Option<TreeId>,
-    pub active: Option<NodeId>,
+struct Aim {
+    graft: Option<TreeId>,
+    active: Option<NodeId>,
 }
 
-fn declared_focus_of(node: &Node) -> DeclaredFocus
-    ensures { IsDeclaredFocusOf node.now result }
+/// The node to which the focus comes, and its active descendant.
+#[derive(Clone, Copy)]
+struct End {
+    id: FullNodeId,
+    active: Option<FullNodeId>,
+}
+
+/// Follows the focus before and after the update, and refuses one that comes to no node.
+pub(crate) fn find_focus<L: LookUps>(
+    look_ups: &mut L,
+    update: &TreeUpdate,
+    opened: &Opened,
+    compared: &Compared,
+    removed: &Removed,
+) -> Result<Focused, UpdateError>
+    requires old { IsOld (L.world look_ups.old) }
+    requires present { ¬ (IsFirst (L.world look_ups.old)) → IsSome (get (L.world look_ups.old).trees 0) }
+    requires opening { IsOpening (L.world look_ups.old) (update_data update.now) opened.now }
+    requires comparison { IsComparison (L.world look_ups.old) (update_data update.now) compared.now }
+    requires removal { IsRemoval (L.world look_ups.old) (update_data update.now) removed.now }
+    requires passed { IsPassed (L.world look_ups.old) (update_data update.now) }
+    ensures world { L.world look_ups.new ≡ L.world look_ups.old }
+    ensures err { IfErr result (λ e. IsRefusal (L.world look_ups.old) (update_data update.now) e) }
+    ensures ok { IfOk result (λ f. IsFocusing (L.world look_ups.old) (update_data update.now) f) }
+    ensures keeps { IfOk result (λ f. KeepsRules (L.world look_ups.old) (update_data update.now)) }
+    ensures ends { IfOk result (λ f. EndsWell (merged (L.world look_ups.old) (update_data update.now)) f.effective) }
+    ensures counts { IfOk result (λ f. let m = merged (L.world look_ups.old) (update_data update.now) in
+        L.asked look_ups.new ≤ L.asked look_ups.old + 4 * length m.known + 2) }
 {
-    DeclaredFocus {
+    let before = focus_before(look_ups, opened);
+    let end = end_after(look_ups, update, opened, compared, removed)?;
+    let after = focus_after(look_ups, compared, removed, &end);
+    Ok(Focused {
+        before,
+        effective: end.id,
+        after,
+    })
+}
+
+/// What `focus` answers before the update.
+fn focus_before<L: LookUps>(look_ups: &mut L, opened: &Opened) -> Option<FullNodeId>
+    requires old { IsOld (L.world look_ups.old) }
+    requires first { IsTrue opened.now.is_first ↔ IsFirst (L.world look_ups.old) }
+    requires present { ¬ (IsFirst (L.world look_ups.old)) → IsSome (get (L.world look_ups.old).trees 0) }
+    ensures world { L.world look_ups.new ≡ L.world look_ups.old }
+    ensures counts { L.asked look_ups.new ≤ L.asked look_ups.old + 2 * length (L.world look_ups.old).known + 1 }
+    ensures focus { ¬ (IsFirst (L.world look_ups.old)) → IsFocus (L.world look_ups.old) result }
+{
+    if opened.is_first {
+        return None;
+    }
+    if !look_ups.is_host_focused() {
+        return None;
+    }
+    let end = end_before(look_ups);
+    Some(active_before(look_ups, &end))
+}
+
+/// Where the focus comes to before the update.
+fn end_before<L: LookUps>(look_ups: &mut L) -> End
+    requires old { IsOld (L.world look_ups.old) }
+    requires present { IsSome (get (L.world look_ups.old).trees 0) }
+    ensures world { L.world look_ups.new ≡ L.world look_ups.old }
+    ensures counts { L.asked look_ups.new ≤ L.asked look_ups.old + 2 * length (L.world look_ups.old).known }
+    ensures end { IsEnd (L.world look_ups.old) result }
+{
+    let mut id = declared(look_ups, &TreeId::root()).unwrap();
+    for _depth in 0..look_ups.known_trees() {
+        let aim = old_aim(look_ups, id).unwrap();
+        let Some(inner) = aim.graft else {
+            return end_at(id, &aim);
+        };
+        id = declared(look_ups, &inner).unwrap();
+    }
+    unreachable!()
+}
+
+/// The active descendant where it was there, and else the node itself.
+fn active_before<L: LookUps>(look_ups: &mut L, end: &End) -> FullNodeId
+    ensures world { L.world look_ups.new ≡ L.world look_ups.old }
+    ensures counts { L.asked look_ups.new ≤ L.asked look_ups.old + 1 }
+    ensures answer { Answers (λ a. IsNode (L.world look_ups.old) a) end.now result }
+{
+    let Some(active) = end.active else {
+        return end.id;
+    };
+    if look_ups.node(active).is_none() {
+        return end.id;
+    }
+    active
+}
+
+/// What `focus` answers after the update.
+fn focus_after<L: LookUps>(
+    look_ups: &mut L,
+    compared: &Compared,
+    removed: &Removed,
+    end: &End,
+) -> Option<FullNodeId>
+    ensures world { L.world look_ups.new ≡ L.world look_ups.old }
+    ensures counts { L.asked look_ups.new ≤ L.asked look_ups.old + 1 }
+    ensures focus { let w = L.world look_ups.old in
+        AnswersHost w (Stays w compared.now removed.now) end.now result }
+{
+    if !look_ups.is_host_focused() {
+        return None;
+    }
+    Some(active_after(look_ups, compared, removed, end))
+}
+
+/// The active descendant where it is there after the update, and else the node itself.
+fn active_after<L: LookUps>(
+    look_ups: &mut L,
+    compared: &Compared,
+    removed: &Removed,
+    end: &End,
+) -> FullNodeId
+    ensures world { L.world look_ups.new ≡ L.world look_ups.old }
+    ensures counts { L.asked look_ups.new ≤ L.asked look_ups.old + 1 }
+    ensures answer { Answers (Stays (L.world look_ups.old) compared.now removed.now) end.now result }
+{
+    let Some(active) = end.active else {
+        return end.id;
+    };
+    if !stays(look_ups, compared, removed, active) {
+        return end.id;
+    }
+    active
+}
+
+/// Whether the node is there after the update.
+fn stays<L: LookUps>(
+    look_ups: &mut L,
+    compared: &Compared,
+    removed: &Removed,
+    id: FullNodeId,
+) -> bool
+    ensures world { L.world look_ups.new ≡ L.world look_ups.old }
+    ensures counts { L.asked look_ups.new ≤ L.asked look_ups.old + 1 }
+    ensures stays { IsTrue result ↔ Stays (L.world look_ups.old) compared.now removed.now id }
+{
+    if compared.named.contains_key(&id) {
+        return true;
+    }
+    if removed.gone.contains(&id) {
+        return false;
+    }
+    look_ups.node(id).is_some()
+}
+
+/// Where the focus comes to after the update.
+fn end_after<L: LookUps>(
+    look_ups: &mut L,
+    update: &TreeUpdate,
+    opened: &Opened,
+    compared: &Compared,
+    removed: &Removed,
+) -> Result<End, UpdateError>
+    requires old { IsOld (L.world look_ups.old) }
+    requires opening { IsOpening (L.world look_ups.old) (update_data update.now) opened.now }
+    requires comparison { IsComparison (L.world look_ups.old) (update_data update.now) compared.now }
+    requires removal { IsRemoval (L.world look_ups.old) (update_data update.now) removed.now }
+    requires passed { IsPassed (L.world look_ups.old) (update_data update.now) }
+    ensures world { L.world look_ups.new ≡ L.world look_ups.old }
+    ensures err { IfErr result (λ e. IsRefusal (L.world look_ups.old) (update_data update.now) e) }
+    ensures end { IfOk result (λ e. IsEnd (merged (L.world look_ups.old) (update_data update.now)) e) }
+    ensures reached { IfOk result (λ e. Reached (merged (L.world look_ups.old) (update_data update.now)) e.id) }
+    ensures counts { IfOk result (λ e. let m = merged (L.world look_ups.old) (update_data update.now) in
+        L.asked look_ups.new ≤ L.asked look_ups.old + 2 * length m.known) }
+{
+    let limit = u64::from(look_ups.known_trees()) + 1;
+    let mut id = declared_after(look_ups, update, opened, &TreeId::root()).unwrap();
+    for _depth in 0..limit {
+        let Some(aim) = aim_after(look_ups, update, compared, removed, id) else {
+            return Err(UpdateError::FocusMissing(id.node));
+        };
+        let Some(inner) = aim.graft else {
+            return Ok(end_at(id, &aim));
+        };
+        let Some(declared) = declared_after(look_ups, update, opened, &inner) else {
+            return Err(UpdateError::FocusOnEmptyGraft(inner));
+        };
+        id = declared;
+    }
+    unreachable!()
+}
+
+/// What is asked of a node after the update.
+fn aim_after<L: LookUps>(
+    look_ups: &mut L,
+    update: &TreeUpdate,
+    compared: &Compared,
+    removed: &Removed,
+    id: FullNodeId,
+) -> Option<Aim>
+    requires old { IsOld (L.world look_ups.old) }
+    requires comparison { IsComparison (L.world look_ups.old) (update_data update.now) compared.now }
+    requires removal { IsRemoval (L.world look_ups.old) (update_data update.now) removed.now }
+    ensures world { L.world look_ups.new ≡ L.world look_ups.old }
+    ensures counts { L.asked look_ups.new ≤ L.asked look_ups.old + 1 }
+    ensures aim { FindsAim (L.world look_ups.old) (update_data update.now) compared.now removed.now id result }
+{
+    if let Some(named) = compared.named.get(&id) {
+        return Some(entry_aim(update, named.entry));
+    }
+    if removed.gone.contains(&id) {
+        return None;
+    }
+    old_aim(look_ups, id)
+}
+
+/// What is asked of the node of this entry.
+fn entry_aim(update: &TreeUpdate, entry: usize) -> Aim
+    requires { entry < length update.now.nodes.items }
+    ensures { (d : NodeData) × (entry_data update.now.nodes.items entry ≡ Some d) × IsAimOf d result }
+{
+    aim_of(&update.nodes[entry].1)
+}
+
+/// What is asked of an old node.
+fn old_aim<L: LookUps>(look_ups: &mut L, id: FullNodeId) -> Option<Aim>
+    ensures world { L.world look_ups.new ≡ L.world look_ups.old }
+    ensures counts { L.asked look_ups.new ≤ L.asked look_ups.old + 1 }
+    ensures aim { let w = L.world look_ups.old in MatchOption result (¬ (IsNode w id)) (λ aim. IsAimIn w id aim) }
+{
+    let record = look_ups.node(id)?;
+    Some(aim_of(record.node))
+}
+
+fn aim_of(node: &Node) -> Aim
+    ensures { IsAimOf node.now result }
+{
+    Aim {
         graft: node.tree_id(),
         active: node.active_descendant(),
     }
 }
 
-impl Verdict {
-    /// The data that a node gets.
-    fn given(&self) -> Option<&Node>
-        ensures { option_copied result ≡ given_by self.now }
-    {
-        match self {
-            Verdict::Added { node, .. } => Some(node),
-            Verdict::Updated { node, .. } => node.as_ref(),
-            Verdict::Removed => None,
-        }
-    }
-}
-
-/// What `focus` answers in the old state.
-pub fn old_focus<L: LookUps>(look_ups: &mut L, declared: FullNodeId) -> Option<FullNodeId>
-    requires { IsNode (L.world look_ups.old) declared }
-    ensures world { L.world look_ups.new ≡ L.world look_ups.old }
-    ensures focus { let w = L.world look_ups.old in (d : NodeData) × (data_of w declared ≡ Some d) × (result ≡ shown_focus_of w.host_focused declared d.active_descendant (λ q. is_some (data_of w q))) }
+fn end_at(id: FullNodeId, aim: &Aim) -> End
+    ensures id { result.id ≡ id }
+    ensures active { result.active ≡ option_map (in_tree id.tree) aim.now.active }
 {
-    let is_host_focused = look_ups.is_host_focused();
-    let active = active_of(look_ups, declared);
-    if !is_host_focused {
-        return None;
+    let tree = id.tree;
+    End {
+        id,
+        active: aim.active.map(|node| FullNodeId { tree, node }),
     }
-    let Some(active) = active else {
-        return Some(declared);
-    };
-    let active = in_root_tree(active);
-    if look_ups.node(active).is_none() {
-        return Some(declared);
-    }
-    Some(active)
 }
 
-/// The active descendant of an old node.
-fn active_of<L: LookUps>(look_ups: &mut L, id: FullNodeId) -> Option<NodeId>
-    requires { IsNode (L.world look_ups.old) id }
+/// The declared focus of a tree after the update.
+fn declared_after<L: LookUps>(
+    look_ups: &mut L,
+    update: &TreeUpdate,
+    opened: &Opened,
+    name: &TreeId,
+) -> Option<FullNodeId>
+    requires old { IsOld (L.world look_ups.old) }
+    requires opening { IsOpening (L.world look_ups.old) (update_data update.now) opened.now }
     ensures world { L.world look_ups.new ≡ L.world look_ups.old }
-    ensures active { (d : NodeData) × (data_of (L.world look_ups.old) id ≡ Some d) × (result ≡ d.active_descendant) }
+    ensures counts { L.asked look_ups.new ≤ L.asked look_ups.old + 1 }
+    ensures focus { result ≡ focus_named (merged (L.world look_ups.old) (update_data update.now)) name.now }
 {
-    let record = look_ups.node(id).unwrap();
-    record.node.active_descendant()
+    if is_same(name, &update.tree_id) {
+        return Some(FullNodeId {
+            tree: opened.index,
+            node: update.focus,
+        });
+    }
+    declared(look_ups, name)
 }
 
-/// What is asked of an old node.
-fn find_old<L: LookUps>(look_ups: &mut L, id: FullNodeId) -> DeclaredFocus
-    requires { IsNode (L.world look_ups.old) id }
+/// The declared focus of a tree, where it is present.
+fn declared<L: LookUps>(look_ups: &mut L, name: &TreeId) -> Option<FullNodeId>
     ensures world { L.world look_ups.new ≡ L.world look_ups.old }
-    ensures declares { (d : NodeData) × (data_of (L.world look_ups.old) id ≡ Some d) × IsDeclaredFocusOf d result }
+    ensures counts { L.asked look_ups.new ≤ L.asked look_ups.old + 1 }
+    ensures focus { result ≡ focus_named (L.world look_ups.old) name.now }
 {
-    let record = look_ups.node(id).unwrap();
-    declared_focus_of(record.node)
+    let found = tree_record(look_ups, name);
+    let tree = found.index?;
+    let node = found.focus?;
+    Some(FullNodeId { tree, node })
 }
 
-impl Walk {
-    /// Looks at the node that the update declares focused.
-    pub fn find_declared<L: LookUps>(
-        &self,
-        look_ups: &mut L,
-        id: FullNodeId,
-    ) -> Result<DeclaredFocus, UpdateError>
-        requires { (q : FullNodeId) → IsSome (at self.now.places q) → (d : NodeData) × (place : Option Place) × Settles (L.world look_ups.old) q d place (at self.now.verdicts q) }
-        ensures world { L.world look_ups.new ≡ L.world look_ups.old }
-        ensures reached { IfOk result (λ a. IsSome (at self.now.places id)) }
-        ensures ends { IfOk result (λ a. a.graft ≡ None) }
-        ensures declares { IfOk result (λ a. (d : NodeData) (place : Option Place) → Settles (L.world look_ups.old) id d place (at self.now.verdicts id) → IsDeclaredFocusOf d a) }
-    {
-        if !self.places.contains_key(&id) {
-            return Err(UpdateError::FocusMissing(id.node));
-        }
-        let found = self.find(look_ups, id);
-        match found.graft {
-            Some(name) => Err(UpdateError::FocusOnEmptyGraft(name)),
-            None => Ok(found),
-        }
-    }
-
-    /// Looks at a node that is reached.
-    fn find<L: LookUps>(&self, look_ups: &mut L, id: FullNodeId) -> DeclaredFocus
-        requires { (d : NodeData) × (place : Option Place) × Settles (L.world look_ups.old) id d place (at self.now.verdicts id) }
-        ensures world { L.world look_ups.new ≡ L.world look_ups.old }
-        ensures declares { (d : NodeData) (place : Option Place) → Settles (L.world look_ups.old) id d place (at self.now.verdicts id) → IsDeclaredFocusOf d result }
-    {
-        let Some(verdict) = self.verdicts.get(&id) else {
-            return find_old(look_ups, id);
-        };
-        let Some(node) = verdict.given() else {
-            return find_old(look_ups, id);
-        };
-        declared_focus_of(node)
-    }
-
-    /// What `focus` answers in the new state.
-    pub fn new_focus<L: LookUps>(
-        &self,
-        look_ups: &L,
-        declared: FullNodeId,
-        found: DeclaredFocus,
-    ) -> Option<FullNodeId>
-        ensures { result ≡ shown_focus_of (L.world look_ups.now).host_focused declared found.active (λ q. is_some (at self.now.places q)) }
-    {
-        if !look_ups.is_host_focused() {
-            return None;
-        }
-        let Some(active) = found.active else {
-            return Some(declared);
-        };
-        let active = in_root_tree(active);
-        if !self.places.contains_key(&active) {
-            return Some(declared);
-        }
-        Some(active)
-    }
+fn is_same(name: &TreeId, other: &TreeId) -> bool
+    ensures { IsTrue result ↔ (name.now ≡ other.now) }
+{
+    *name == *other
 }

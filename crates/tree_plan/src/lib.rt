@@ -1,11 +1,21 @@
-//! The whole decision on an update, by look-ups alone.
+//! The decision on an update of a state, by what it changes: records are looked up by id alone, and none that the update
+//! doesn't touch.
 #![tactic(auto)]
 
+mod climbing;
+mod comparing;
+mod deciding;
 mod focusing;
-mod lists;
+mod opening;
+mod passes;
 mod planning;
+mod records;
+mod refusing;
+mod regrafting;
 mod removing;
+mod settling;
 mod verdicts;
-mod walking;
+mod writing;
 
-pub use planning::{plan_first_update, plan_update};
+pub use deciding::decide;
+pub use planning::plan_update;

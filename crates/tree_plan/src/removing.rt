@@ -1,67 +1,286 @@
-//! The old nodes that no child list leads to any more.
-ghost use Rattle.std.specs.Prelude.{◌≡◌, ◌++◌, OnOk, map};
-ghost use Rattle.model.specs.World.{in_tree, data_of};
-ghost use Rattle.tree_plan.specs.Removals.{IsRootOf, old_children, RemovesOnly, IsLeft, RemovesOthers};
+//! What goes.
+ghost use Rattle.std.specs.Prelude.{◌≡◌, ◌≢◌, ◌⊎◌, ◌+◌, ◌*◌, ◌≤◌, ◌∷◌, [], length, map, Contains, None, Some, OnOk, IfOk, IfErr};
+ghost use Rattle.std.specs.BTreeSet.{btree_set_len};
+ghost use Rattle.std.specs.Option.{option_map, option_and_then};
+ghost use Rattle.schema.specs.UpdateData.{UpdateData, update_data};
+ghost use Rattle.model.specs.World.{World, in_tree, graft_name};
+ghost use Rattle.model.specs.Update.{IsNamed};
+ghost use Rattle.model.specs.Surgery.{IsOld, HasEntered, Gone, IsSettled};
+ghost use Rattle.tree_changes.specs.Refusals.{IsRefusal};
+ghost use Rattle.tree_changes.specs.declared.look_ups.TreeRecord.{TreeRecord};
+ghost use Rattle.tree_plan.specs.Passes.{IsComparison, IsRemoval, Loses};
+ghost use Rattle.tree_plan.specs.Removing.{IsFound, LosesAll, Drops, Expands, LosesLeft, DropsLost, Follows, IsWorkedOff};
 
-use crate::verdicts::Verdict;
-use crate::walking::{Walk, in_root_tree};
+use crate::passes::{Compared, Removed};
+use crate::records::tree_record;
 use model::FullNodeId;
-use schema::NodeId;
+use schema::{NodeId, TreeId, TreeUpdate};
 use std::alloc::Global;
-use tree_store::{LookUps, UpdateError};
+use std::collections::BTreeSet;
+use tree_changes::{LookUps, TreeRecord, UpdateError};
 
-fn push_children(queue: &mut Vec<FullNodeId>, children: &[NodeId]) -> Result<(), UpdateError>
-    ensures { OnOk result (queue.new.items ≡ queue.old.items ++ map (in_tree 0) children.now) }
+/// What goes, as far as it is found: the nodes, also in the order in which they were found, and
+/// the trees.
+#[derive(Drop)]
+struct Removing {
+    gone: BTreeSet<FullNodeId>,
+    queue: Vec<FullNodeId>,
+    trees: Vec<TreeRecord>,
+}
+
+/// A node that lost its spot goes, unless it came to another.
+fn lose(removing: &mut Removing, compared: &Compared, id: FullNodeId) -> Result<(), UpdateError>
+    ghost setting: { World × UpdateData }
+    requires old { IsOld setting.0 }
+    requires compared { IsComparison setting.0 setting.1 compared.now }
+    requires found { IsFound setting.0 setting.1 removing.old }
+    requires goes { ¬ (HasEntered setting.0 setting.1 id) → Gone setting.0 setting.1 id }
+    ensures ok { OnOk result (LosesAll setting.0 setting.1 (id ∷ []) removing.old removing.new) }
+    ensures err { IfErr result (λ e. IsRefusal setting.0 setting.1 e) }
+{
+    if compared.entered.contains_key(&id) {
+        return Ok(());
+    }
+    if compared.named.contains_key(&id) {
+        return Err(UpdateError::NotReached(id.node));
+    }
+    if removing.gone.contains(&id) {
+        return Ok(());
+    }
+    removing.gone.insert(id)?;
+    removing.queue.push(id)?;
+    Ok(())
+}
+
+/// The children of a node that goes lose their spots.
+fn lose_children(
+    removing: &mut Removing,
+    compared: &Compared,
+    parent: FullNodeId,
+    children: &[NodeId],
+) -> Result<(), UpdateError>
+    ghost setting: { World × UpdateData }
+    requires old { IsOld setting.0 }
+    requires compared { IsComparison setting.0 setting.1 compared.now }
+    requires found { IsFound setting.0 setting.1 removing.old }
+    requires goes { (c : FullNodeId) → Contains (map (in_tree parent.tree) children.now) c
+        → ¬ (HasEntered setting.0 setting.1 c) → Gone setting.0 setting.1 c }
+    ensures ok { OnOk result (LosesAll setting.0 setting.1
+        (map (in_tree parent.tree) children.now) removing.old removing.new) }
+    ensures err { IfErr result (λ e. IsRefusal setting.0 setting.1 e) }
 {
     for child in children {
-        queue.push(in_root_tree(*child))?;
+        let id = FullNodeId {
+            tree: parent.tree,
+            node: *child,
+        };
+        lose(removing, compared, id)?;
     }
     Ok(())
 }
 
-impl Walk {
-    /// Goes over the old tree, and marks each node that isn't reached now.
-    pub fn remove_others<L: LookUps>(
-        &mut self,
-        alloc: Global,
-        look_ups: &mut L,
-        root: FullNodeId,
-    ) -> Result<(), UpdateError>
-        requires { IsRootOf (L.world look_ups.old) root }
-        ensures world { L.world look_ups.new ≡ L.world look_ups.old }
-        ensures removed { OnOk result (RemovesOthers (L.world look_ups.old) self.old self.new) }
-    {
-        let mut queue = Vec::new(alloc);
-        queue.push(root)?;
-        for position in 0..usize::MAX {
-            if position >= queue.len() {
-                return Ok(());
-            }
-            let id = queue[position];
-            self.leave(look_ups, &mut queue, id)?;
-        }
-        Ok(())
+/// The record of a tree that has no graft any more.
+fn cut(tree: TreeRecord) -> TreeRecord
+    ensures { result ≡ record tree { graft = None; root = None; focus = None } }
+{
+    TreeRecord {
+        graft: None,
+        root: None,
+        focus: None,
+        ..tree
     }
+}
 
-    /// Queues an old node's children, and marks it unless it is reached now.
-    fn leave<L: LookUps>(
-        &mut self,
-        look_ups: &mut L,
-        queue: &mut Vec<FullNodeId>,
-        id: FullNodeId,
-    ) -> Result<(), UpdateError>
-        ensures world { L.world look_ups.new ≡ L.world look_ups.old }
-        ensures queue { OnOk result (queue.new.items ≡ queue.old.items ++ old_children (data_of (L.world look_ups.old) id)) }
-        ensures removes { OnOk result (RemovesOnly (L.world look_ups.old) self.old self.new) }
-        ensures left { OnOk result (IsLeft (L.world look_ups.old) self.new id) }
-    {
-        let Some(old) = look_ups.node(id) else {
-            return Ok(());
-        };
-        push_children(queue, old.node.children())?;
-        if self.places.contains_key(&id) {
+/// The root of a tree, where it is present.
+fn root_of(tree: &TreeRecord) -> Option<FullNodeId>
+    ensures { result
+        ≡ option_and_then (λ index. option_map (in_tree index) tree.now.root) tree.now.index }
+{
+    let index = tree.index?;
+    let node = tree.root?;
+    Some(FullNodeId { tree: index, node })
+}
+
+/// A tree has lost its graft: it goes, unless a named node grafts it now.
+fn drop_tree<L: LookUps>(
+    removing: &mut Removing,
+    look_ups: &mut L,
+    compared: &Compared,
+    name: &TreeId,
+) -> Result<(), UpdateError>
+    ghost setting: { World × UpdateData }
+    requires world { L.world look_ups.old ≡ setting.0 }
+    requires old { IsOld setting.0 }
+    requires compared { IsComparison setting.0 setting.1 compared.now }
+    requires found { IsFound setting.0 setting.1 removing.old }
+    requires lost { (g : FullNodeId) × (graft_name setting.0 g ≡ Some name.now)
+        × (Gone setting.0 setting.1 g ⊎ IsNamed setting.0 setting.1 g) }
+    requires fresh { (t : TreeRecord) → Contains removing.old.trees.items t → t.id ≢ name.now }
+    ensures world { L.world look_ups.new ≡ L.world look_ups.old }
+    ensures count { L.asked look_ups.new ≤ L.asked look_ups.old + 1 }
+    ensures ok { OnOk result (Drops setting.0 setting.1 name.now removing.old removing.new) }
+    ensures err { IfErr result (λ e. IsRefusal setting.0 setting.1 e) }
+{
+    if compared.grafted.contains_key(name) {
+        return Ok(());
+    }
+    let tree = tree_record(look_ups, name);
+    removing.trees.push(cut(tree))?;
+    let Some(root) = root_of(&tree) else {
+        return Ok(());
+    };
+    lose(removing, compared, root)
+}
+
+/// With a node go its children and the tree that it grafts.
+fn expand<L: LookUps>(
+    removing: &mut Removing,
+    look_ups: &mut L,
+    compared: &Compared,
+    id: FullNodeId,
+) -> Result<(), UpdateError>
+    ghost setting: { World × UpdateData }
+    requires world { L.world look_ups.old ≡ setting.0 }
+    requires old { IsOld setting.0 }
+    requires compared { IsComparison setting.0 setting.1 compared.now }
+    requires found { IsFound setting.0 setting.1 removing.old }
+    requires queued { Contains removing.old.queue.items id }
+    requires fresh { (t : TreeRecord) → Contains removing.old.trees.items t
+        → graft_name setting.0 id ≢ Some t.id }
+    ensures world { L.world look_ups.new ≡ L.world look_ups.old }
+    ensures count { L.asked look_ups.new ≤ L.asked look_ups.old + 2 }
+    ensures ok { OnOk result (Expands setting.0 setting.1 id removing.old removing.new) }
+    ensures err { IfErr result (λ e. IsRefusal setting.0 setting.1 e) }
+{
+    let Some(record) = look_ups.node(id) else {
+        return Ok(());
+    };
+    let name = record.node.tree_id();
+    lose_children(removing, compared, id, record.node.children())?;
+    match name {
+        Some(name) => drop_tree(removing, look_ups, compared, &name),
+        None => Ok(()),
+    }
+}
+
+/// What left its spot loses it.
+fn lose_left(removing: &mut Removing, compared: &Compared) -> Result<(), UpdateError>
+    ghost setting: { World × UpdateData }
+    requires old { IsOld setting.0 }
+    requires compared { IsComparison setting.0 setting.1 compared.now }
+    requires found { IsFound setting.0 setting.1 removing.old }
+    ensures ok { OnOk result (LosesLeft setting.0 setting.1 removing.old removing.new) }
+    ensures err { IfErr result (λ e. IsRefusal setting.0 setting.1 e) }
+{
+    for (id, _) in &compared.left {
+        lose(removing, compared, *id)?;
+    }
+    Ok(())
+}
+
+/// The trees that named nodes grafted, and don't now, have lost their grafts.
+fn drop_lost<L: LookUps>(
+    removing: &mut Removing,
+    look_ups: &mut L,
+    compared: &Compared,
+) -> Result<(), UpdateError>
+    ghost setting: { World × UpdateData }
+    requires world { L.world look_ups.old ≡ setting.0 }
+    requires old { IsOld setting.0 }
+    requires compared { IsComparison setting.0 setting.1 compared.now }
+    requires found { IsFound setting.0 setting.1 removing.old }
+    requires none { removing.old.trees.items ≡ [] }
+    ensures world { L.world look_ups.new ≡ L.world look_ups.old }
+    ensures count { L.asked look_ups.new ≤ L.asked look_ups.old + length compared.now.lost.items }
+    ensures ok { OnOk result
+        (DropsLost setting.0 setting.1 compared.now removing.old removing.new) }
+    ensures err { IfErr result (λ e. IsRefusal setting.0 setting.1 e) }
+{
+    for name in &compared.lost {
+        drop_tree(removing, look_ups, compared, name)?;
+    }
+    Ok(())
+}
+
+/// With each node that goes go others, until there are no more.
+fn follow<L: LookUps>(
+    removing: &mut Removing,
+    look_ups: &mut L,
+    compared: &Compared,
+) -> Result<(), UpdateError>
+    ghost setting: { World × UpdateData }
+    requires world { L.world look_ups.old ≡ setting.0 }
+    requires old { IsOld setting.0 }
+    requires compared { IsComparison setting.0 setting.1 compared.now }
+    requires found { IsFound setting.0 setting.1 removing.old }
+    requires lost { (t : TreeRecord) → Contains removing.old.trees.items t
+        → Loses setting.0 setting.1 t.id }
+    ensures world { L.world look_ups.new ≡ L.world look_ups.old }
+    ensures count { OnOk result
+        (L.asked look_ups.new ≤ L.asked look_ups.old + 2 * length removing.new.queue.items) }
+    ensures ok { OnOk result (Follows setting.0 setting.1 removing.old removing.new) }
+    ensures err { IfErr result (λ e. IsRefusal setting.0 setting.1 e) }
+{
+    for position in 0..usize::MAX {
+        if position >= removing.queue.len() {
             return Ok(());
         }
-        self.set_verdict(id, Verdict::Removed)
+        let id = removing.queue[position];
+        expand(removing, look_ups, compared, id)?;
     }
+    Ok(())
+}
+
+/// Finds all that goes.
+fn find_all<L: LookUps>(
+    removing: &mut Removing,
+    look_ups: &mut L,
+    update: &TreeUpdate,
+    compared: &Compared,
+) -> Result<(), UpdateError>
+    ghost setting: { World × UpdateData }
+    requires world { L.world look_ups.old ≡ setting.0 }
+    requires old { IsOld setting.0 }
+    requires compared { IsComparison setting.0 setting.1 compared.now }
+    requires found { IsFound setting.0 setting.1 removing.old }
+    requires none { removing.old.trees.items ≡ [] }
+    ensures world { L.world look_ups.new ≡ L.world look_ups.old }
+    ensures count { OnOk result (L.asked look_ups.new
+        ≤ L.asked look_ups.old + (2 * length removing.new.queue.items + length compared.now.lost.items)) }
+    ensures ok { OnOk result (IsWorkedOff setting.0 setting.1 compared.now removing.new) }
+    ensures err { IfErr result (λ e. IsRefusal setting.0 setting.1 e) }
+{
+    lose_left(removing, compared)?;
+    drop_lost(removing, look_ups, compared)?;
+    follow(removing, look_ups, compared)
+}
+
+/// The nodes that go, and the trees that lose their grafts and get no others.
+pub(crate) fn remove<L: LookUps>(
+    alloc: Global,
+    look_ups: &mut L,
+    update: &TreeUpdate,
+    compared: &Compared,
+) -> Result<Removed, UpdateError>
+    requires old { IsOld (L.world look_ups.old) }
+    requires compared { IsComparison (L.world look_ups.old) (update_data update.now) compared.now }
+    requires settled { IsSettled (L.world look_ups.old) (update_data update.now) }
+    ensures world { L.world look_ups.new ≡ L.world look_ups.old }
+    ensures ok { IfOk result (IsRemoval (L.world look_ups.old) (update_data update.now)) }
+    ensures count { IfOk result (λ r. L.asked look_ups.new
+        ≤ L.asked look_ups.old + (2 * btree_set_len r.gone + length compared.now.lost.items)) }
+    ensures trees { IfOk result
+        (λ r. length r.trees.items ≤ btree_set_len r.gone + length compared.now.lost.items) }
+    ensures err { IfErr result (λ e. IsRefusal (L.world look_ups.old) (update_data update.now) e) }
+{
+    let mut removing = Removing {
+        gone: BTreeSet::new(alloc),
+        queue: Vec::new(alloc),
+        trees: Vec::new(alloc),
+    };
+    find_all(&mut removing, look_ups, update, compared)?;
+    Ok(Removed {
+        gone: removing.gone,
+        trees: removing.trees,
+    })
 }

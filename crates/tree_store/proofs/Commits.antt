@@ -1,41 +1,43 @@
 -- What a store shows after room is made and after changes are written.
-use Rattle.std.proofs.Common.{◌≡◌, ℕ, zero, suc, ◌<◌, List, [], ◌∷◌, cond, Option, Some, None, Result, Ok, Err, refl, sym, ap, subst, ◌∙◌, arith}
-use Rattle.std.specs.Prelude.{◌||◌, ◌↔◌, is_some, IsSome, OnErr}
-use Rattle.std.specs.Option.{option_map}
-use Rattle.std.specs.Map.{lookup}
-use Rattle.std.specs.BTreeMap.{is_at}
-use Rattle.std.specs.Cmp.{nat_cmp_total}
-use Rattle.std.specs.Ordering.{nat_cmp}
-use Rattle.std.specs.FinMap.{FinMap, get, get-empty, same_map, nat_cmp-IsAntisymmetric}
+use Rattle.std.proofs.Common.{◌≡◌, ℕ, List, [], Bool, true, false, cond, Option, Some, None, Result, Ok, Err, refl, sym, ap, subst, ◌∙◌, ◌<◌, nat_lt}
+use Rattle.std.specs.Prelude.{◌↔◌, ◌||◌, is_some, IsSome, OnErr, OnOk, option_and_then, slice_get, Contains, All, length, slice_index_or}
+use Rattle.std.specs.Option.{option_map, option_map_or}
+use Rattle.std.specs.FinMap.{FinMap, get, get-empty, empty, same_map}
 use Rattle.std.specs.FinSet as set
+use Rattle.schema.specs.NodeData.{NodeData}
+use Rattle.schema.specs.declared.NodeId.{NodeId}
+use Rattle.schema.specs.declared.TreeId.{TreeId}
 use Rattle.model.specs.declared.FullNodeId.{FullNodeId}
-use Rattle.model.specs.FullIds.{full_total, exact_full}
-use Rattle.model.specs.World.{World, ROOT_NAME, Tree, Place, StandsAt, in_tree}
-use Rattle.tree_store.specs.declared.overlay.Overlay.{Overlay}
-use Rattle.tree_store.specs.declared.plan.NodeChange.{NodeChange}
-use Rattle.tree_store.specs.declared.plan.NodeChange.TheVariants as node
-use Rattle.tree_store.specs.declared.records.PresentTree.{PresentTree}
-use Rattle.model.specs.State.{empty_world}
+use Rattle.model.specs.FullIds.{full_cmp, full_total, exact_full}
+use Rattle.model.specs.World.{World, Place, StandsAt, index_of, graft_name}
+use Rattle.model.specs.Focus.{IsEffectiveFocus}
+use Rattle.model.specs.Update.{UpdateData, known_after, toolkit_after}
+use Rattle.model.specs.State.{IsState, empty_world}
+use Rattle.tree_changes.specs.declared.look_ups.TreeRecord.{TreeRecord}
+use Rattle.tree_changes.specs.declared.decision.NodeChange.{NodeChange}
+use Rattle.tree_changes.specs.declared.decision.NodeChange.TheVariants.{Put, Gone}
+use Rattle.tree_changes.specs.declared.decision.Decision.{Decision}
+use Rattle.tree_changes.specs.Changes.{NodeChanges, change_at, changed, entry_data, place_in, put_all, put_trees, overlaid, tree_change, tree_after, if_kept}
+use Rattle.tree_changes.specs.Looks.{IsPlaceOf, IsTreeRecord}
+use Rattle.tree_changes.specs.Decisions.{IsDecision}
 use Rattle.tree_store.specs.declared.records.Record.{Record}
+use Rattle.tree_store.specs.declared.records.PresentTree.{PresentTree}
+use Rattle.tree_store.specs.declared.records.NameRecord.{NameRecord}
 use Rattle.tree_store.specs.declared.store.Store.TheInside.{Inside}
-use Rattle.tree_store.specs.Overlays.{overlaid, IsSoundOverlay}
-use Rattle.tree_store.specs.Plans.{put_all, put_trees, replaced_texts}
-use Rattle.tree_store.specs.Shown.{world_shown}
-use Rattle.tree_store.specs.Sound.{NodeChanges, IsAnchored, change_at, place_in, PutsTrue, KeepsTrue}
-use Rattle.tree_store.specs.Stored.{Slots, nodes_shown, trees_shown, texts_shown, slots_shown, tree_shown, record_at, record_after, record_after_change, PlacesAreTrue, IsStored, HasNoSpare, HasRoomFor}
-use Rattle.tree_store.proofs.Maps.{node_in, get-nodes_shown, get-trees_shown, contains-slots_shown}
-use Rattle.tree_store.proofs.Overlays.{effect, get-put_all}
-use Rattle.tree_store.proofs.Trees.{tied_apart}
-
-pub on_err : {X Y : Type 0} (r : Result X Y) (P Q : Type 0) → (P → Q) → OnErr r P → OnErr r Q
-on_err (Ok x) P Q f h = h
-on_err (Err e) P Q f h = f h
+use Rattle.tree_store.specs.Stored.{Slots, nodes_shown, trees_shown, texts_shown, slots_shown, names_shown, record_at, slot_at, PlacesAreTrue}
+use Rattle.tree_store.specs.KeptNames.{name_at, name_kept, name_after, kept_in}
+use Rattle.tree_store.specs.NameRecords.{record_of}
+use Rattle.tree_store.specs.Shown.{world_shown, NamesAreTrue, IsStored}
+use Rattle.tree_store.specs.Commits.{moved, record_after, after_change, HasNoSpare, HasRoomFor}
+use Rattle.tree_store.proofs.Maps.{node_in, get-nodes_shown, contains-slots_shown}
+use Rattle.tree_store.proofs.KeptReads.{stored_record}
+use Rattle.tree_store.proofs.Laid.{effect, get-put_all}
 
 some_node : (r : Option Record) → is_some (node_in r) ≡ is_some r
 some_node None = refl
 some_node (Some r) = refl
 
-shown_some : (es : Slots) (q : FullNodeId) → is_some (get (nodes_shown es) q) ≡ is_some (record_at es q)
+pub shown_some : (es : Slots) (q : FullNodeId) → is_some (get (nodes_shown es) q) ≡ is_some (record_at es q)
 shown_some es q = ap is_some (get-nodes_shown es q) ∙ some_node (record_at es q)
 
 -- room as the world and the slots show it, and as the records do
@@ -51,151 +53,164 @@ room_for es cs h id = sym (contains-slots_shown es id) ∙ h id ∙ ap (λ b. b 
 pub ready : (es : Slots) (cs : NodeChanges) → HasRoomFor es cs → (id : FullNodeId) → set.contains (slots_shown es) id ≡ (is_some (get (nodes_shown es) id) || is_some (change_at cs id))
 ready es cs h id = contains-slots_shown es id ∙ h id ∙ ap (λ b. b || is_some (change_at cs id)) (sym (shown_some es id))
 
-module _ (es fs : Slots) (same : (id : FullNodeId) → record_at fs id ≡ record_at es id) where
-  pub same_nodes : nodes_shown fs ≡ nodes_shown es
-  same_nodes = same_map full_total exact_full _ _ (λ q. get-nodes_shown fs q ∙ ap node_in (same q) ∙ sym (get-nodes_shown es q))
+pub same_nodes : (es fs : Slots) → ((id : FullNodeId) → record_at fs id ≡ record_at es id) → nodes_shown fs ≡ nodes_shown es
+same_nodes es fs same = same_map full_total exact_full _ _ (λ q. get-nodes_shown fs q ∙ ap node_in (same q) ∙ sym (get-nodes_shown es q))
 
-  pub same_room : HasNoSpare es → HasNoSpare fs → slots_shown fs ≡ slots_shown es
-  same_room old new = set.same_set full_total exact_full _ _ (λ q. contains-slots_shown fs q ∙ new q ∙ ap is_some (same q) ∙ sym (old q) ∙ sym (contains-slots_shown es q))
+-- a store with room shows what it showed, and keeps what it kept
+module _ (a b : Inside) (stored : IsStored a (world_shown a)) (nodes : (id : FullNodeId) → record_at b.nodes.entries id ≡ record_at a.nodes.entries id)
+    (names : (name : TreeId) → kept_in (name_at b.names name) ≡ kept_in (name_at a.names name)) (known : b.known.items ≡ a.known.items)
+    (texts : texts_shown b.toolkit ≡ texts_shown a.toolkit) (host : b.host_focused ≡ a.host_focused) (focus : b.focus ≡ a.focus) where
+  pub world_same : world_shown b ≡ world_shown a
+  world_same = λ i. record { known = names_shown (known i); trees = trees_shown 0 (known i); nodes = same_nodes a.nodes.entries b.nodes.entries nodes i; toolkit = texts i; host_focused = host i }
 
-  pub same_stored : (focus : FullNodeId) (w v : World) → v ≡ w → IsStored es focus w → IsStored fs focus v
-  same_stored focus w v e s =
-      subst (IsStored fs focus) (sym e) (record {
-        places = record { places = λ id r is. s.places.places id r (sym (same id) ∙ is) };
-        anchored = s.anchored;
-      })
+  stored_by : (v : World) → v ≡ world_shown a → IsStored b v
+  stored_by v e = subst (IsStored b) (sym e) (record {
+    state = stored.state;
+    places = λ id r is. stored.places id r (sym (nodes id) ∙ is);
+    names = record {
+      index = λ name. ap (λ p. p.0) (names name) ∙ stored.names.index name;
+      graft = λ name g. ((λ e. (stored.names.graft name g).0 (sym (ap (λ p. p.1) (names name)) ∙ e)), (λ e. ap (λ p. p.1) (names name) ∙ (stored.names.graft name g).1 e));
+    };
+    focus = subst (IsEffectiveFocus (world_shown a)) (sym focus) stored.focus;
+  })
 
-node_moved : (p : Option Place) (r : Option Record) → node_in (option_map (λ (x : Record). record { place = p; node = x.node }) r) ≡ node_in r
-node_moved p None = refl
-node_moved p (Some r) = refl
+  pub stored_same : IsStored b (world_shown b)
+  stored_same = stored_by (world_shown b) world_same
 
-node_after : (o : Option NodeChange) (r : Option Record) → node_in (record_after_change o r) ≡ effect o (node_in r)
-node_after None r = refl
-node_after (Some (node.Put p (Some d))) r = refl
-node_after (Some (node.Put p None)) r = node_moved p r
-node_after (Some node.Gone) r = refl
+node_given : (place : Option Place) (o : Option NodeData) → node_in (option_map (λ d. let r : Record = record { place = place; node = d } in r) o) ≡ o
+node_given place None = refl
+node_given place (Some d) = refl
 
-place_moved : (p : Option Place) (before : Option Record) (r : Record) → option_map (λ (x : Record). record { place = p; node = x.node }) before ≡ Some r → r.place ≡ p
-place_moved p None r e = cc
-place_moved p (Some x) r e = let moved : Record = record { place = p; node = x.node } in let j : moved ≡ r = cc in sym (ap (λ (y : Record). y.place) j)
+node_moved : (place : Option Place) (r : Option Record) → node_in (moved place r) ≡ node_in r
+node_moved place None = refl
+node_moved place (Some r) = refl
 
-place_after : (c : NodeChange) (before : Option Record) (r : Record) → record_after c before ≡ Some r → r.place ≡ place_in c
-place_after (node.Put p (Some d)) before r e = let put : Record = record { place = p; node = d } in let j : put ≡ r = cc in sym (ap (λ (y : Record). y.place) j)
-place_after (node.Put p None) before r e = place_moved p before r e
-place_after node.Gone before r e = cc
+node_after : (nodes : List (NodeId × NodeData)) (o : Option NodeChange) (r : Option Record) → node_in (after_change nodes o r) ≡ effect nodes o (node_in r)
+node_after nodes None r = refl
+node_after nodes (Some (Put p (Some k))) r = node_given p (entry_data nodes k)
+node_after nodes (Some (Put p None)) r = node_moved p r
+node_after nodes (Some Gone) r = refl
 
-module _ (es fs : Slots) (cs : NodeChanges) (records : (id : FullNodeId) → record_at fs id ≡ record_after_change (change_at cs id) (record_at es id)) where
-  pub nodes_written : nodes_shown fs ≡ put_all (nodes_shown es) cs
+place_given : (place : Option Place) (o : Option NodeData) (r : Record) → option_map (λ d. let x : Record = record { place = place; node = d } in x) o ≡ Some r → r.place ≡ place
+place_given place None r e = cc
+place_given place (Some d) r e = let x : Record = record { place = place; node = d } in let j : x ≡ r = cc in sym (ap (λ (y : Record). y.place) j)
+
+place_moved : (place : Option Place) (before : Option Record) (r : Record) → moved place before ≡ Some r → r.place ≡ place
+place_moved place None r e = cc
+place_moved place (Some x) r e = let y : Record = record { place = place; node = x.node } in let j : y ≡ r = cc in sym (ap (λ (z : Record). z.place) j)
+
+place_after : (nodes : List (NodeId × NodeData)) (c : NodeChange) (before : Option Record) (r : Record) → record_after nodes c before ≡ Some r → r.place ≡ place_in c
+place_after nodes (Put p (Some k)) before r e = place_given p (entry_data nodes k) r e
+place_after nodes (Put p None) before r e = place_moved p before r e
+place_after nodes Gone before r e = cc
+
+index_by : (i : Option ℕ) (g : Option FullNodeId) (name : TreeId) (t : Option PresentTree) → i ≡ option_and_then (λ r. r.index) (record_of name i g t)
+index_by (Some i) g name t = refl
+index_by None (Some g) name t = refl
+index_by None None name t = refl
+
+graft_by : (i : Option ℕ) (g : Option FullNodeId) (name : TreeId) (t : Option PresentTree) → g ≡ option_and_then (λ r. r.graft) (record_of name i g t)
+graft_by (Some i) g name t = refl
+graft_by None (Some g) name t = refl
+graft_by None None name t = refl
+
+index_kept : (r : TreeRecord) (b : Bool) → option_and_then (λ (x : NameRecord). x.index) (cond b (Some (record { index = r.index; graft = r.graft })) None) ≡ option_and_then (λ (x : TreeRecord). x.index) (cond b (Some r) None)
+index_kept r true = refl
+index_kept r false = refl
+
+graft_kept : (r : TreeRecord) (b : Bool) → option_and_then (λ (x : NameRecord). x.graft) (cond b (Some (record { index = r.index; graft = r.graft })) None) ≡ option_and_then (λ (x : TreeRecord). x.graft) (cond b (Some r) None)
+graft_kept r true = refl
+graft_kept r false = refl
+
+index_after : (rs : List TreeRecord) (name : TreeId) (o : Option TreeRecord) (n : Option NameRecord) (t : Option PresentTree) → o ≡ tree_change rs name
+    → option_and_then (λ r. r.index) (name_after o n) ≡ option_and_then (λ r. r.index) (tree_after rs name (record_of name (option_and_then (λ r. r.index) n) (option_and_then (λ r. r.graft) n) t))
+index_after rs name None n t e =
+    index_by (option_and_then (λ r. r.index) n) (option_and_then (λ r. r.graft) n) name t
+    ∙ ap (λ x. option_and_then (λ r. r.index) (option_map_or if_kept x (record_of name (option_and_then (λ r. r.index) n) (option_and_then (λ r. r.graft) n) t))) e
+index_after rs name (Some r) n t e =
+    index_kept r (is_some r.index || is_some r.graft)
+    ∙ ap (λ x. option_and_then (λ r. r.index) (option_map_or if_kept x (record_of name (option_and_then (λ r. r.index) n) (option_and_then (λ r. r.graft) n) t))) e
+
+graft_after : (rs : List TreeRecord) (name : TreeId) (o : Option TreeRecord) (n : Option NameRecord) (t : Option PresentTree) → o ≡ tree_change rs name
+    → option_and_then (λ r. r.graft) (name_after o n) ≡ option_and_then (λ r. r.graft) (tree_after rs name (record_of name (option_and_then (λ r. r.index) n) (option_and_then (λ r. r.graft) n) t))
+graft_after rs name None n t e =
+    graft_by (option_and_then (λ r. r.index) n) (option_and_then (λ r. r.graft) n) name t
+    ∙ ap (λ x. option_and_then (λ r. r.graft) (option_map_or if_kept x (record_of name (option_and_then (λ r. r.index) n) (option_and_then (λ r. r.graft) n) t))) e
+graft_after rs name (Some r) n t e =
+    graft_kept r (is_some r.index || is_some r.graft)
+    ∙ ap (λ x. option_and_then (λ r. r.graft) (option_map_or if_kept x (record_of name (option_and_then (λ r. r.index) n) (option_and_then (λ r. r.graft) n) t))) e
+
+-- the record of a name that a store keeps
+pub record_of_name : (a : Inside) (name : TreeId) → NamesAreTrue a.names (world_shown a) → (before : Option TreeRecord) × IsTreeRecord (world_shown a) name before
+record_of_name a name stored = (_, stored_record a name (name_at a.names name) _ _ _ stored refl refl refl refl)
+
+-- a store whose changes are written shows the world with the changes, and keeps what that asks
+module _ (a b : Inside) (u : UpdateData) (d : Decision) (old_places : PlacesAreTrue a.nodes.entries (world_shown a)) (old_names : NamesAreTrue a.names (world_shown a)) (leaves : IsState (overlaid (world_shown a) u d)) (decided : IsDecision (world_shown a) u d)
+    (records : (id : FullNodeId) → record_at b.nodes.entries id ≡ after_change u.nodes (change_at d.nodes.items id) (record_at a.nodes.entries id))
+    (known : names_shown b.known.items ≡ known_after (world_shown a) u.name) (trees : trees_shown 0 b.known.items ≡ put_trees (trees_shown 0 a.known.items) d.trees.items)
+    (names : (name : TreeId) → name_at b.names name ≡ name_after (tree_change d.trees.items name) (name_at a.names name))
+    (texts : texts_shown b.toolkit ≡ toolkit_after (world_shown a) u) (host : b.host_focused ≡ a.host_focused) (focus : b.focus ≡ d.focus) where
+  nodes_written : nodes_shown b.nodes.entries ≡ put_all u.nodes (nodes_shown a.nodes.entries) d.nodes.items
   nodes_written = same_map full_total exact_full _ _ (λ q.
-      get-nodes_shown fs q ∙ ap node_in (records q) ∙ node_after (change_at cs q) (record_at es q) ∙ ap (effect (change_at cs q)) (sym (get-nodes_shown es q))
-      ∙ sym (get-put_all (nodes_shown es) cs q))
+      get-nodes_shown b.nodes.entries q ∙ ap node_in (records q) ∙ node_after u.nodes (change_at d.nodes.items q) (record_at a.nodes.entries q)
+      ∙ ap (effect u.nodes (change_at d.nodes.items q)) (sym (get-nodes_shown a.nodes.entries q)) ∙ sym (get-put_all u.nodes (nodes_shown a.nodes.entries) d.nodes.items q))
 
-  module _ (before after : World) (puts : PutsTrue after cs) (keeps : KeepsTrue before after cs) (old : PlacesAreTrue es before) where
-    place_by : (id : FullNodeId) (r : Record) (o : Option NodeChange) → change_at cs id ≡ o → record_after_change o (record_at es id) ≡ Some r → (p : Place) → (r.place ≡ Some p) ↔ StandsAt after p id
-    place_by id r None is e p =
-        let here = old.places id r e p in
-        let kept = keeps id is p in
-        (λ a. kept.0 (here.0 a), λ b. here.1 (kept.1 b))
-    place_by id r (Some c) is e p =
-        let at = place_after c (record_at es id) r e in
-        let put = puts id c is p in
-        (λ a. put.0 (sym at ∙ a), λ b. at ∙ put.1 b)
+  pub world_written : world_shown b ≡ overlaid (world_shown a) u d
+  world_written = λ i. record { known = known i; trees = trees i; nodes = nodes_written i; toolkit = texts i; host_focused = host i }
 
-    pub places_written : PlacesAreTrue fs after
-    places_written = record { places = λ id r e. place_by id r (change_at cs id) refl (sym (records id) ∙ e) }
+  place_by : (id : FullNodeId) (r : Record) (o : Option NodeChange) → change_at d.nodes.items id ≡ o → after_change u.nodes o (record_at a.nodes.entries id) ≡ Some r → IsPlaceOf (overlaid (world_shown a) u d) id r.place
+  place_by id r None is e p =
+      let here = old_places id r e p in
+      ((λ at. decided.others id p is (here.0 at)), (λ at. here.1 (decided.others_back id p is at)))
+  place_by id r (Some c) is e p = subst (IsPlaceOf (overlaid (world_shown a) u d) id) (sym (place_after u.nodes c (record_at a.nodes.entries id) r e)) (decided.changes id c is).place p
 
-module _ (ts us : List (ℕ × PresentTree)) (t : PresentTree) (after : FinMap nat_cmp Tree)
-    (up : (q : ℕ) → lookup (is_at (nat_cmp q)) us ≡ cond (is_at (nat_cmp 0) q) (Some t) (lookup (is_at (nat_cmp q)) ts))
-    (here : option_map tree_shown (Some t) ≡ get after 0)
-    (alone : (q : ℕ) → 0 < q → get (trees_shown ts) q ≡ None)
-    (alone_after : (q : ℕ) → 0 < q → get after q ≡ None) where
-  tree_by : (q : ℕ) → option_map tree_shown (cond (is_at (nat_cmp 0) q) (Some t) (lookup (is_at (nat_cmp q)) ts)) ≡ get after q
-  tree_by zero = here
-  tree_by (suc q) =
-      ap (λ b. option_map tree_shown (cond b (Some t) (lookup (is_at (nat_cmp (suc q))) ts))) (tied_apart (suc q) 0 (λ e. absurd (omega arith)))
-      ∙ sym (get-trees_shown ts (suc q)) ∙ alone (suc q) (omega arith) ∙ sym (alone_after (suc q) (omega arith))
+  record_before : (name : TreeId) → (t : Option PresentTree) × IsTreeRecord (world_shown a) name (record_of name (option_and_then (λ r. r.index) (name_at a.names name)) (option_and_then (λ r. r.graft) (name_at a.names name)) t)
+  record_before name = (_, stored_record a name (name_at a.names name) _ _ _ old_names refl refl refl refl)
 
-  pub trees_written : trees_shown us ≡ after
-  trees_written = same_map nat_cmp_total nat_cmp-IsAntisymmetric _ _ (λ q. get-trees_shown us q ∙ ap (option_map tree_shown) (up q) ∙ tree_by q)
+  names_written : NamesAreTrue b.names (overlaid (world_shown a) u d)
+  names_written = record {
+    index = λ name.
+        let h = record_before name in
+        ap (option_and_then (λ r. r.index)) (names name) ∙ index_after d.trees.items name (tree_change d.trees.items name) (name_at a.names name) h.0 refl ∙ (decided.trees name _ h.1).index;
+    graft = λ name g.
+        let h = record_before name in
+        let same = ap (option_and_then (λ r. r.graft)) (names name) ∙ graft_after d.trees.items name (tree_change d.trees.items name) (name_at a.names name) h.0 refl in
+        let k = (decided.trees name _ h.1).graft g in
+        ((λ e. k.0 (sym same ∙ e)), (λ e. same ∙ k.1 e));
+  }
 
-pub committed : (a b : Inside) (o : Overlay) (f g : FullNodeId) → IsAnchored (world_shown a) f → IsAnchored (overlaid (world_shown a) o) g
-    → nodes_shown b.nodes.entries ≡ put_all (nodes_shown a.nodes.entries) o.nodes.entries
-    → trees_shown b.trees.entries ≡ put_trees (trees_shown a.trees.entries) o.trees.items
-    → texts_shown b.toolkit ≡ replaced_texts o.toolkit (texts_shown a.toolkit)
-    → b.known.items ≡ a.known.items → b.is_host_focused ≡ a.is_host_focused → world_shown b ≡ overlaid (world_shown a) o
-committed a b o f g before after nodes trees texts known host = λ i. record {
-  known = (known ∙ before.known ∙ sym after.known) i;
-  trees = trees i;
-  nodes = nodes i;
-  toolkit = texts i;
-  host_focused = host i;
-}
+  written_by : (v : World) → v ≡ overlaid (world_shown a) u d → IsStored b v
+  written_by v e = subst (IsStored b) (sym e) (record {
+    state = leaves;
+    places = λ id r is. place_by id r (change_at d.nodes.items id) refl (sym (records id) ∙ is);
+    names = names_written;
+    focus = subst (IsEffectiveFocus (overlaid (world_shown a) u d)) (sym focus) decided.focus;
+  })
 
-none_by : {A B C : Type 0} (f : A → B) (g : B → C) (o : Option A) (x : C) → option_map g (option_map f o) ≡ Some x → IsSome o
-none_by f g None x e = cc
-none_by f g (Some y) x e = search
+  pub stored_written : IsStored b (world_shown b)
+  stored_written = written_by (world_shown b) world_written
 
--- the root tree is there
-pub root_tree_there : (ts : List (ℕ × PresentTree)) (w : World) (f : FullNodeId) → w.trees ≡ trees_shown ts → IsAnchored w f → IsSome (lookup (is_at (nat_cmp 0)) ts)
-root_tree_there ts w f e h =
-    none_by tree_shown _ (lookup (is_at (nat_cmp 0)) ts) f (ap (option_map _) (sym (ap (λ m. get m 0) e ∙ get-trees_shown ts 0)) ∙ h.declared)
+-- before anything is written a store of no record shows the empty world, and keeps what that asks
+module _ (a : Inside) (host : Bool) (known : a.known.items ≡ []) (nodes : (id : FullNodeId) → record_at a.nodes.entries id ≡ None)
+    (names : (name : TreeId) → kept_in (name_at a.names name) ≡ (None, None)) (texts : texts_shown a.toolkit ≡ (None, None)) (told : a.host_focused ≡ host) where
+  pub blank_world : world_shown a ≡ empty_world host
+  blank_world = λ i. record {
+    known = names_shown (known i);
+    trees = trees_shown 0 (known i);
+    nodes = same_map full_total exact_full (nodes_shown a.nodes.entries) empty (λ q. get-nodes_shown a.nodes.entries q ∙ ap node_in (nodes q) ∙ sym (get-empty full_cmp q)) i;
+    toolkit = texts i;
+    host_focused = told i;
+  }
 
-module _ (a b : Inside) (w : World) (o : Overlay) (t : PresentTree) (view : world_shown a ≡ w) (old : IsStored a.nodes.entries a.focus (world_shown a)) (sound : IsSoundOverlay w o)
-    (records : (id : FullNodeId) → record_at b.nodes.entries id ≡ record_after_change (change_at o.nodes.entries id) (record_at a.nodes.entries id))
-    (up : (q : ℕ) → lookup (is_at (nat_cmp q)) b.trees.entries ≡ cond (is_at (nat_cmp 0) q) (Some t) (lookup (is_at (nat_cmp q)) a.trees.entries))
-    (here : option_map tree_shown (Some t) ≡ get (overlaid w o).trees 0)
-    (texts : texts_shown b.toolkit ≡ replaced_texts o.toolkit (texts_shown a.toolkit))
-    (known : b.known.items ≡ a.known.items) (host : b.is_host_focused ≡ a.is_host_focused) where
-  below : IsSoundOverlay (world_shown a) o
-  below = subst (λ v. IsSoundOverlay v o) (sym view) sound
+  pub blank_places : PlacesAreTrue a.nodes.entries (world_shown a)
+  blank_places id r e = let none : None ≡ Some r = sym (nodes id) ∙ e in cc
 
-  over_shown : world_shown b ≡ overlaid (world_shown a) o
-  over_shown =
-      committed a b o a.focus o.focus old.anchored below.anchored (nodes_written a.nodes.entries b.nodes.entries o.nodes.entries records)
-      (trees_written a.trees.entries b.trees.entries t (overlaid (world_shown a) o).trees up (here ∙ ap (λ v. get (overlaid v o).trees 0) (sym view)) old.anchored.alone below.anchored.alone)
-      texts known host
+  ungrafted : (g : FullNodeId) (name : TreeId) → graft_name (world_shown a) g ≡ Some name → ⊥
+  ungrafted g name e =
+      let none : None ≡ Some name = sym (ap (λ w. graft_name w g) blank_world ∙ ap (option_and_then (λ d. d.tree_id)) (get-empty full_cmp g)) ∙ e in cc
 
-  -- the world after a commit is the overlaid one
-  pub world_after : world_shown b ≡ overlaid w o
-  world_after = over_shown ∙ ap (λ v. overlaid v o) view
-
-  -- and the records are its records
-  pub stored_after : IsStored b.nodes.entries o.focus (world_shown b)
-  stored_after =
-      subst (IsStored b.nodes.entries o.focus) (sym over_shown) (record {
-        places = places_written a.nodes.entries b.nodes.entries o.nodes.entries records (world_shown a) (overlaid (world_shown a) o) below.puts below.keeps old.places;
-        anchored = below.anchored;
-      })
-
-nothing_kept : (w : World) → PlacesAreTrue [] w
-nothing_kept w = record { places = λ id r e. cc }
-
-module _ (b : Inside) (o : Overlay) (t : PresentTree) (sound : IsSoundOverlay (empty_world b.is_host_focused) o)
-    (records : (id : FullNodeId) → record_at b.nodes.entries id ≡ record_after_change (change_at o.nodes.entries id) None)
-    (up : (q : ℕ) → lookup (is_at (nat_cmp q)) b.trees.entries ≡ cond (is_at (nat_cmp 0) q) (Some t) None)
-    (here : option_map tree_shown (Some t) ≡ get (overlaid (empty_world b.is_host_focused) o).trees 0)
-    (texts : texts_shown b.toolkit ≡ replaced_texts o.toolkit (None, None))
-    (known : b.known.items ≡ ROOT_NAME ∷ []) where
-  -- the first world is the overlaid empty one
-  pub first_world : world_shown b ≡ overlaid (empty_world b.is_host_focused) o
-  first_world =
-      let trees : trees_shown b.trees.entries ≡ (overlaid (empty_world b.is_host_focused) o).trees =
-      trees_written [] b.trees.entries t (overlaid (empty_world b.is_host_focused) o).trees up here (λ q _. get-empty nat_cmp q) sound.anchored.alone in
-      λ i. record {
-        known = (known ∙ sym sound.anchored.known) i;
-        trees = trees i;
-        nodes = nodes_written [] b.nodes.entries o.nodes.entries records i;
-        toolkit = texts i;
-        host_focused = b.is_host_focused;
-      }
-
-  pub first_stored : IsStored b.nodes.entries o.focus (world_shown b)
-  first_stored =
-      subst (IsStored b.nodes.entries o.focus) (sym first_world) (record {
-        places = places_written [] b.nodes.entries o.nodes.entries records (empty_world b.is_host_focused) (overlaid (empty_world b.is_host_focused) o) sound.puts sound.keeps (nothing_kept (empty_world b.is_host_focused));
-        anchored = sound.anchored;
-      })
-
--- the root tree of an anchored world is there
-pub root_tree_missing : (w : World) (f : FullNodeId) → IsAnchored w f → get w.trees 0 ≡ None → ⊥
-root_tree_missing w f h e = let none : None ≡ Some f = sym (ap (option_map (λ (t : Tree). in_tree 0 t.focus)) e) ∙ h.declared in cc
+  pub blank_names : NamesAreTrue a.names (world_shown a)
+  blank_names = record {
+    index = λ name. ap (λ p. p.0) (names name) ∙ sym (ap (λ w. index_of w name) blank_world);
+    graft = λ name g. ((λ e. let none : None ≡ Some g = sym (ap (λ p. p.1) (names name)) ∙ e in cc), (λ e. absurd (ungrafted g name e)));
+  }

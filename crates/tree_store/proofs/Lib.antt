@@ -1,6 +1,11 @@
-pub mod Commits
-pub mod Laying
 pub mod Maps
-pub mod Overlays
-pub mod SlotFacts
-pub mod Trees
+pub mod KeptReads
+pub mod Searches
+pub mod Laid
+pub mod KeptSlots
+pub mod WrittenSlots
+pub mod NamesKept
+pub mod KnownTrees
+pub mod Commits
+pub mod Decided
+pub mod SlotCounts

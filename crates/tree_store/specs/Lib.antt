@@ -1,8 +1,7 @@
-pub mod Looks
-pub mod Plans
-pub mod Sound
-pub mod KeptWorld
+pub mod Kept
 pub mod Stored
+pub mod NameRecords
+pub mod KeptNames
 pub mod Shown
-pub mod Laying
 pub mod Overlays
+pub mod Commits

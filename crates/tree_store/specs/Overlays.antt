@@ -1,32 +1,32 @@
--- The world with an overlay's changes over it.
-use Rattle.std.specs.Prelude.{◌≡◌, List, Option, ◌||◌, is_some}
-use Rattle.std.specs.FinSet.{contains}
-use Rattle.std.specs.declared.string.String.{String}
-use Rattle.std.specs.declared.alloc.Global.{Global}
+-- The world that an update's changes make, laid over a state.
+use Rattle.std.specs.Prelude.{◌≡◌, Option, None, option_and_then, ◌==◌, if◌then◌else◌}
+use Rattle.schema.specs.UpdateData.{update_data, InfoData, UpdateData}
+use Rattle.schema.specs.declared.TreeId.{TreeId}
+use Rattle.std.specs.Option.{option_map}
 use Rattle.model.specs.declared.FullNodeId.{FullNodeId}
-use Rattle.model.specs.World.{World, data_of}
-use Rattle.tree_store.specs.declared.plan.Change.{Change}
+use Rattle.model.specs.World.{World, in_tree}
+use Rattle.tree_changes.specs.declared.look_ups.TreeRecord.{TreeRecord}
+use Rattle.tree_changes.specs.Looks.{IsTreeRecord}
+use Rattle.model.specs.Update.{index_for}
+use Rattle.tree_changes.specs.Changes.{overlaid, tree_after}
+use Rattle.tree_changes.specs.Decisions.{IsDecision}
 use Rattle.tree_store.specs.declared.overlay.Overlay.{Overlay}
-use Rattle.tree_store.specs.KeptWorld.{KeptWorld}
-use Rattle.tree_store.specs.Plans.{node_changes, tree_changes, changed_world}
-use Rattle.tree_store.specs.Sound.{IsAnchored, change_at, PutsTrue, KeepsTrue}
 
-abbrev pub overlaid : World → Overlay → World
-overlaid w o = changed_world w o.nodes.entries o.trees.items o.toolkit
+abbrev pub laid_over : World → Overlay → World
+laid_over w o = overlaid w (update_data o.update.now) o.decision.now
 
--- the overlay has these changes, texts and focus
-pub record IsLaid (o : Overlay) (changes : List Change) (texts : Option (Option (String Global) × Option (String Global))) (focused : FullNodeId) : Type 0 where
-  pub nodes : o.nodes.entries ≡ node_changes changes
-  pub trees : o.trees.items ≡ tree_changes changes
-  pub toolkit : o.toolkit ≡ texts
-  pub focus : o.focus ≡ focused
+-- the decision is one on the update of this world
+abbrev pub IsLaidOver : World → Overlay → Type 0
+IsLaidOver w o = ∥ IsDecision w (update_data o.update.now) o.decision.now ∥₁
 
--- what has to hold so that each view of the overlaid world finds what it reads
-pub record IsSoundOverlay (w : World) (o : Overlay) : Type 0 where
-  pub puts : PutsTrue (overlaid w o) o.nodes.entries
-  pub keeps : KeepsTrue w (overlaid w o) o.nodes.entries
-  pub anchored : IsAnchored (overlaid w o) o.focus
+-- it is the record of the name before, or the changed one
+abbrev pub IsRecordAfter : World → Overlay → TreeId → Option TreeRecord → Type 0
+IsRecordAfter w o name r = (before : Option TreeRecord) × IsTreeRecord w name before × (r ≡ tree_after o.decision.now.trees.items name before)
 
--- there is a slot for each node and for each change, and no more
-abbrev pub IsReadyFor : KeptWorld → Overlay → Type 0
-IsReadyFor k o = (id : FullNodeId) → contains k.slots id ≡ (is_some (data_of k.world id) || is_some (change_at o.nodes.entries id))
+-- the tree info that replaces the toolkit's texts: that of an update of the root tree, where it has one
+abbrev pub replacing : World → UpdateData → Option InfoData
+replacing w u = if index_for w u.name == 0 then u.info else None
+
+-- the root of the tree of a record
+abbrev pub root_recorded : Option TreeRecord → Option FullNodeId
+root_recorded r = option_and_then (λ t. option_and_then (λ i. option_map (in_tree i) t.root) t.index) r

@@ -1,41 +1,50 @@
 -- How the records of a store show a world.
-use Rattle.std.specs.Prelude.{◌≡◌, ℕ, List, [], ◌∷◌, Option, Some, None, ◌↔◌, ◌||◌, is_some}
+use Rattle.std.specs.Prelude.{◌≡◌, ℕ, suc, List, [], ◌∷◌, map, Option, Some, None, IsSome, ◌↔◌, ◌⊎◌, is_some, option_and_then}
 use Rattle.std.specs.Option.{option_map}
 use Rattle.std.specs.Ordering.{nat_cmp}
 use Rattle.std.specs.Map.{lookup}
-use Rattle.std.specs.BTreeMap.{is_at}
-use Rattle.std.specs.FinMap.{FinMap, empty, insert}
+use Rattle.std.specs.BTreeMap.{BTreeMap, get, is_at}
+use Rattle.std.specs.FinMap.{FinMap, empty}
 use Rattle.std.specs.FinSet as set
 use Rattle.std.specs.String.{string_bytes}
 use Rattle.std.specs.declared.string.String.{String}
+use Rattle.std.specs.declared.boxed.Box.{Box}
 use Rattle.std.specs.declared.alloc.Global.{Global}
 use Rattle.schema.specs.NodeData.{NodeData}
+use Rattle.schema.specs.declared.TreeId.{TreeId}
 use Rattle.model.specs.declared.FullNodeId.{FullNodeId}
 use Rattle.model.specs.FullIds.{full_cmp}
-use Rattle.model.specs.World.{World, Tree, Place, StandsAt}
+use Rattle.model.specs.World.{World, Tree, StandsAt, index_of, graft_name}
+use Rattle.model.specs.Focus.{IsEffectiveFocus}
+use Rattle.model.specs.State.{IsState}
+use Rattle.tree_changes.specs.Changes.{set_at, set_tree}
+use Rattle.tree_changes.specs.Looks.{IsPlaceOf}
 use Rattle.tree_store.specs.declared.records.Record.{Record}
 use Rattle.tree_store.specs.declared.records.PresentTree.{PresentTree}
-use Rattle.tree_store.specs.Plans.{set_at}
-use Rattle.tree_store.specs.declared.plan.NodeChange.{NodeChange}
-use Rattle.tree_store.specs.declared.plan.NodeChange.TheVariants as node
-use Rattle.tree_store.specs.Sound.{IsAnchored, NodeChanges, change_at}
+use Rattle.tree_store.specs.declared.records.KnownTree.{KnownTree}
+use Rattle.tree_store.specs.declared.records.NameRecord.{NameRecord}
 
 abbrev pub Slots : Type 0
-Slots = List (FullNodeId × Option Record)
+Slots = List (FullNodeId × Box (Option Record) Global)
 
 -- the data of the records; an empty slot shows nothing
 abbrev pub nodes_shown : Slots → FinMap full_cmp NodeData
 nodes_shown [] = empty
-nodes_shown (e ∷ es) = set_at (nodes_shown es) e.0 (option_map (λ r. r.node) e.1)
+nodes_shown (e ∷ es) = set_at (nodes_shown es) e.0 (option_map (λ r. r.node) e.1.value)
 
-abbrev pub tree_shown : PresentTree → Tree
-tree_shown t = record { root = t.root; focus = t.focus }
+abbrev pub tree_of : PresentTree → Tree
+tree_of t = record { root = t.root; focus = t.focus }
 
-abbrev pub trees_shown : List (ℕ × PresentTree) → FinMap nat_cmp Tree
-trees_shown [] = empty
-trees_shown (e ∷ es) = insert (trees_shown es) e.0 (tree_shown e.1)
+-- the tree of a known name, where it is present
+abbrev pub tree_in : Option KnownTree → Option Tree
+tree_in k = option_map tree_of (option_and_then (λ x. x.tree) k)
 
--- the ids that have a slot, filled or empty
+-- the present ones of these trees, the first of which has this index
+abbrev pub trees_shown : ℕ → List KnownTree → FinMap nat_cmp Tree
+trees_shown index [] = empty
+trees_shown index (k ∷ ks) = set_tree (trees_shown (suc index) ks) index (option_map tree_of k.tree)
+
+-- the ids that there is a slot for, filled or empty
 abbrev pub slots_shown : Slots → set.FinSet full_cmp
 slots_shown [] = set.empty
 slots_shown (e ∷ es) = set.insert (slots_shown es) e.0
@@ -45,7 +54,7 @@ texts_shown texts = (option_map string_bytes texts.0, option_map string_bytes te
 
 -- what is kept at an id: nothing, an empty slot, or a record
 abbrev pub slot_at : Slots → FullNodeId → Option (Option Record)
-slot_at es id = lookup (is_at (full_cmp id)) es
+slot_at es id = option_map (λ b. b.value) (lookup (is_at (full_cmp id)) es)
 
 abbrev pub filled : Option (Option Record) → Option Record
 filled None = None
@@ -55,30 +64,9 @@ filled (Some r) = r
 abbrev pub record_at : Slots → FullNodeId → Option Record
 record_at es id = filled (slot_at es id)
 
+abbrev pub names_shown : List KnownTree → List TreeId
+names_shown ks = map (λ k. k.name) ks
+
 -- the places that the records keep are those where the nodes stand
-pub record PlacesAreTrue (es : Slots) (w : World) : Type 0 where
-  pub places : (id : FullNodeId) (r : Record) → record_at es id ≡ Some r → (p : Place) → (r.place ≡ Some p) ↔ StandsAt w p id
-
--- a store's records are those of the world that it shows
-pub record IsStored (es : Slots) (focus : FullNodeId) (w : World) : Type 0 where
-  pub places : PlacesAreTrue es w
-  pub anchored : IsAnchored w focus
-
--- the record after a change
-abbrev pub record_after : NodeChange → Option Record → Option Record
-record_after (node.Put place (Some d)) before = Some (record { place = place; node = d })
-record_after (node.Put place None) before = option_map (λ (r : Record). record { place = place; node = r.node }) before
-record_after node.Gone before = None
-
--- the record after a change that may be missing
-abbrev pub record_after_change : Option NodeChange → Option Record → Option Record
-record_after_change None before = before
-record_after_change (Some c) before = record_after c before
-
--- there is a slot for each record, and no more
-abbrev pub HasNoSpare : Slots → Type 0
-HasNoSpare es = (id : FullNodeId) → is_some (slot_at es id) ≡ is_some (record_at es id)
-
--- there is a slot for each record and for each change, and no more
-abbrev pub HasRoomFor : Slots → NodeChanges → Type 0
-HasRoomFor es cs = (id : FullNodeId) → is_some (slot_at es id) ≡ (is_some (record_at es id) || is_some (change_at cs id))
+abbrev pub PlacesAreTrue : Slots → World → Type 0
+PlacesAreTrue es w = (id : FullNodeId) (r : Record) → record_at es id ≡ Some r → IsPlaceOf w id r.place

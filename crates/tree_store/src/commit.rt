@@ -1,142 +1,203 @@
 //! The first state, and how changes come into a state: room is made for them, and then they are written.
-ghost use Rattle.std.specs.Prelude.{◌≡◌, ℕ, [], ◌∷◌, Some, None, cond, IfOk, OnOk, OnErr, IsSome};
-ghost use Rattle.std.specs.Map.{lookup};
-ghost use Rattle.std.specs.BTreeMap.{is_at};
-ghost use Rattle.std.specs.Ordering.{nat_cmp};
-ghost use Rattle.model.specs.World.{ROOT_NAME};
-ghost use Rattle.tree_store.specs.KeptWorld.{IsTight};
+ghost use Rattle.std.specs.Prelude.{◌≡◌, ◌≢◌, ◌<◌, true, None, map, length, All, AllPairs, IfSome, option_map, IfOk, OnOk, OnErr, if◌then◌else◌};
+ghost use Rattle.std.specs.Vec.{vec_len, vec_capacity};
+ghost use Rattle.tree_store.specs.Stored.{texts_shown, names_shown, trees_shown, record_at};
+ghost use Rattle.schema.specs.UpdateData.{update_data, info_data};
+ghost use Rattle.tree_changes.specs.Changes.{change_at, overlaid, put_trees, tree_change};
 ghost use Rattle.model.specs.State.{empty_world};
-ghost use Rattle.tree_store.specs.Plans.{replaced_texts};
+ghost use Rattle.model.specs.FullIds.{full_cmp};
+ghost use Rattle.std.specs.List.Sorted.{IsStrictlySortedBy};
+ghost use Rattle.tree_changes.specs.Decisions.{IsDecision};
+ghost use Rattle.tree_store.specs.Kept.{IsTight};
+ghost use Rattle.tree_store.specs.Commits.{texts_after, with_name, after_change, IsReadyFor, HasEntries, AreEntriesApart, HasNoSpare, HasRoomFor};
+ghost use Rattle.tree_store.specs.KeptNames.{name_at, name_after, kept_in, HasNames};
 ghost use Rattle.model.specs.declared.FullNodeId.{FullNodeId};
-ghost use Rattle.tree_store.specs.Sound.{change_at};
-ghost use Rattle.tree_store.specs.Stored.{texts_shown, record_at, record_after_change, HasNoSpare};
-ghost use Rattle.tree_store.specs.Overlays.{overlaid, IsReadyFor, IsSoundOverlay};
+ghost use Rattle.schema.specs.declared.TreeId.{TreeId};
 
-use crate::overlay::Overlay;
-use crate::plan::{NodeChange, ToolkitTexts};
-use crate::records::{PresentTree, Record};
-use crate::slots::{make_room, write_all};
+use crate::known::write_known;
+use crate::names::{make_names, take_names_back, write_names};
+use crate::overlay::is_root_index;
+use crate::records::{KnownTree, NameRecord};
+use crate::slots::{Slots, make_room, take_back, write_all};
 use crate::store::Store;
-use model::FullNodeId;
-use schema::TreeId;
+use schema::{TreeId, TreeInfo, TreeUpdate};
 use std::alloc::{AllocError, Global};
 use std::collections::BTreeMap;
+use tree_changes::{Decision, ToolkitTexts};
 
 impl Store {
-    /// Makes a slot for each change of the overlay, so that it can be committed. Where memory is refused all that was
-    /// made is taken back.
-    pub fn reserve(&mut self, overlay: &Overlay) -> Result<(), AllocError>
-        requires { IsTight self.old }
+    /// Makes what is needed so that the changes can be written without memory: a slot for each new node, a record for each
+    /// new name, and room for a new known tree. Where memory is refused all that was made is taken back.
+    pub fn reserve(&mut self, update: &TreeUpdate, decision: &Decision) -> Result<(), AllocError>
+        requires tight { IsTight self.old }
+        requires decided { IsDecision self.old.world (update_data update.now) decision.now }
         ensures same { self.new.world ≡ self.old.world }
-        ensures ok { OnOk result (IsReadyFor self.new overlay.now) }
-        ensures err { OnErr result (self.new ≡ self.old) }
+        ensures ok { OnOk result (IsReadyFor self.new (update_data update.now) decision.now) }
+        ensures err { OnErr result (IsTight self.new) }
     {
-        make_room(&mut self.nodes, &overlay.nodes)
+        let is_new = self.tree_index(update.tree_id).is_none();
+        make_all(
+            self.alloc,
+            &mut self.nodes,
+            &mut self.names,
+            &mut self.known,
+            is_new,
+            decision,
+        )
     }
 
-    /// Writes the overlay's changes into the state, which is reserved for them. Nothing is allocated, and no node's data
-    /// are copied.
-    pub fn commit(&mut self, overlay: Overlay)
-        requires ready { IsReadyFor self.old overlay }
-        requires sound { IsSoundOverlay self.old.world overlay }
-        ensures world { self.new.world ≡ overlaid self.old.world overlay }
+    /// Writes the changes into the state, which is ready for them. Nothing is allocated, and no node's data are copied.
+    pub fn commit(&mut self, update: TreeUpdate, decision: Decision)
+        requires ready { IsReadyFor self.old (update_data update) decision }
+        requires decided { IsDecision self.old.world (update_data update) decision }
+        ensures world { self.new.world ≡ overlaid self.old.world (update_data update) decision }
         ensures tight { IsTight self.new }
     {
-        let Some(tree) = overlay.tree(self, 0) else {
-            unreachable!()
-        };
-        let Overlay {
-            nodes,
-            trees,
-            toolkit,
-            focus,
-        } = overlay;
-        drop(trees);
-        write_all(&mut self.nodes, nodes);
-        set_root_tree(&mut self.trees, tree);
-        set_texts(&mut self.toolkit, toolkit);
-        self.focus = focus;
+        let is_new = self.tree_index(update.tree_id).is_none();
+        let is_root = is_root_index(self, update.tree_id);
+        write_decision(
+            self.alloc,
+            &mut self.nodes,
+            &mut self.names,
+            &mut self.known,
+            &mut self.toolkit,
+            is_new,
+            is_root,
+            update,
+            &decision,
+        );
+        self.focus = decision.focus;
     }
 
-    /// The first state: the overlay of the first plan, over no state.
+    /// The first state: what the first update makes.
     pub fn first(
         alloc: Global,
-        overlay: Overlay,
+        update: TreeUpdate,
+        decision: Decision,
         is_host_focused: bool,
     ) -> Result<Store, AllocError>
-        requires { IsSoundOverlay (empty_world is_host_focused) overlay }
-        ensures world { IfOk result (λ s. s.world ≡ overlaid (empty_world is_host_focused) overlay) }
+        requires { IsDecision (empty_world is_host_focused) (update_data update) decision }
+        ensures world { IfOk result (λ s. s.world ≡ overlaid (empty_world is_host_focused) (update_data update) decision) }
         ensures tight { IfOk result (λ s. IsTight s) }
     {
-        let Some(tree) = overlay.tree_over(None, 0) else {
-            unreachable!()
-        };
-        let Overlay {
-            nodes,
-            trees,
-            toolkit: given,
-            focus,
-        } = overlay;
-        drop(trees);
-        let nodes = first_nodes(alloc, nodes)?;
-        let trees = first_trees(alloc, tree)?;
-        let known = first_names(alloc)?;
+        let mut nodes = BTreeMap::new(alloc);
+        let mut names = BTreeMap::new(alloc);
+        let mut known = Vec::new(alloc);
         let mut toolkit = (None, None);
-        set_texts(&mut toolkit, given);
+        make_all(alloc, &mut nodes, &mut names, &mut known, true, &decision)?;
+        write_decision(
+            alloc,
+            &mut nodes,
+            &mut names,
+            &mut known,
+            &mut toolkit,
+            true,
+            true,
+            update,
+            &decision,
+        );
         Ok(Store {
+            alloc,
             nodes,
             known,
-            trees,
+            names,
             toolkit,
-            is_host_focused,
-            focus,
+            host_focused: is_host_focused,
+            focus: decision.focus,
         })
     }
 }
 
-fn first_nodes(
+// writes an update's changes, for which there is room
+fn write_decision(
     alloc: Global,
-    changes: BTreeMap<FullNodeId, NodeChange>,
-) -> Result<BTreeMap<FullNodeId, Option<Record>>, AllocError>
-    ensures records { IfOk result (λ slots. (id : FullNodeId) → record_at slots.entries id ≡ record_after_change (change_at changes.entries id) None) }
-    ensures tight { IfOk result (λ slots. HasNoSpare slots.entries) }
+    nodes: &mut Slots,
+    names: &mut BTreeMap<TreeId, NameRecord>,
+    known: &mut Vec<KnownTree>,
+    toolkit: &mut ToolkitTexts,
+    is_new: bool,
+    is_root: bool,
+    update: TreeUpdate,
+    decision: &Decision,
+)
+    requires room { HasRoomFor nodes.old.entries decision.now.nodes.items }
+    requires ascending { IsStrictlySortedBy full_cmp (map (λ e. e.0) decision.now.nodes.items) }
+    requires entries { HasEntries update.nodes.items decision.now.nodes.items }
+    requires apart { AreEntriesApart decision.now.nodes.items }
+    requires there { HasNames names.old decision.now.trees.items }
+    requires once { AllPairs (λ a b. a.id ≢ b.id) decision.now.trees.items }
+    requires spare { is_new ≡ true → vec_len known.old < vec_capacity known.old }
+    requires indexes { All (λ r. IfSome r.index (λ i. i < length (with_name is_new (names_shown known.old.items) update.tree_id))) decision.now.trees.items }
+    ensures records { (id : FullNodeId) → record_at nodes.new.entries id ≡ after_change update.nodes.items (change_at decision.now.nodes.items id) (record_at nodes.old.entries id) }
+    ensures tight { HasNoSpare nodes.new.entries }
+    ensures kept { (name : TreeId) → name_at names.new name ≡ name_after (tree_change decision.now.trees.items name) (name_at names.old name) }
+    ensures names { names_shown known.new.items ≡ with_name is_new (names_shown known.old.items) update.tree_id }
+    ensures trees { trees_shown 0 known.new.items ≡ put_trees (trees_shown 0 known.old.items) decision.now.trees.items }
+    ensures texts { texts_shown toolkit.new ≡ texts_after (if is_root then option_map info_data update.tree else None) (texts_shown toolkit.old) }
 {
-    let mut slots = BTreeMap::new(alloc);
-    make_room(&mut slots, &changes)?;
-    write_all(&mut slots, changes);
-    Ok(slots)
+    let TreeUpdate {
+        nodes: mut entries,
+        tree,
+        tree_id,
+        focus: _,
+    } = update;
+    write_all(alloc, nodes, &mut entries, decision.nodes.as_slice());
+    write_known(known, is_new, tree_id, decision.trees.as_slice());
+    write_names(names, decision.trees.as_slice());
+    set_texts(toolkit, is_root, tree);
 }
 
-fn first_trees(alloc: Global, tree: PresentTree) -> Result<BTreeMap<u32, PresentTree>, AllocError>
-    ensures { IfOk result (λ trees. (index : ℕ) → lookup (is_at (nat_cmp index)) trees.entries ≡ cond (is_at (nat_cmp 0) index) (Some tree) None) }
+// makes a slot for each changed node, a record for each changed name, and room for a new one; where memory is refused all is taken
+// back
+fn make_all(
+    alloc: Global,
+    nodes: &mut Slots,
+    names: &mut BTreeMap<TreeId, NameRecord>,
+    known: &mut Vec<KnownTree>,
+    is_new: bool,
+    decision: &Decision,
+) -> Result<(), AllocError>
+    requires { HasNoSpare nodes.old.entries }
+    ensures nodes { (id : FullNodeId) → record_at nodes.new.entries id ≡ record_at nodes.old.entries id }
+    ensures names { (name : TreeId) → kept_in (name_at names.new name) ≡ kept_in (name_at names.old name) }
+    ensures known { known.new.items ≡ known.old.items }
+    ensures room { OnOk result (HasRoomFor nodes.new.entries decision.now.nodes.items) }
+    ensures there { OnOk result (HasNames names.new decision.now.trees.items) }
+    ensures spare { OnOk result (is_new ≡ true → vec_len known.new < vec_capacity known.new) }
+    ensures err { OnErr result (HasNoSpare nodes.new.entries) }
 {
-    let mut trees = BTreeMap::new(alloc);
-    trees.insert(0, tree)?;
-    Ok(trees)
-}
-
-fn first_names(alloc: Global) -> Result<Vec<TreeId>, AllocError>
-    ensures { IfOk result (λ known. known.items ≡ ROOT_NAME ∷ []) }
-{
-    let mut known = Vec::new(alloc);
-    known.push(TreeId::root())?;
-    Ok(known)
-}
-
-// replaces the root tree, which is there
-fn set_root_tree(trees: &mut BTreeMap<u32, PresentTree>, tree: PresentTree)
-    requires { IsSome (lookup (is_at (nat_cmp 0)) trees.old.entries) }
-    ensures { (index : ℕ) → lookup (is_at (nat_cmp index)) trees.new.entries ≡ cond (is_at (nat_cmp 0) index) (Some tree) (lookup (is_at (nat_cmp index)) trees.old.entries) }
-{
-    if trees.insert(0, tree).is_err() {
-        unreachable!()
+    make_room(alloc, nodes, decision.nodes.as_slice())?;
+    if make_names(names, decision.trees.as_slice()).is_err() {
+        take_back(nodes, decision.nodes.as_slice());
+        return Err(AllocError);
     }
+    if make_known(known, is_new).is_err() {
+        take_back(nodes, decision.nodes.as_slice());
+        take_names_back(names, decision.trees.as_slice());
+        return Err(AllocError);
+    }
+    Ok(())
 }
 
-fn set_texts(texts: &mut ToolkitTexts, given: Option<ToolkitTexts>)
-    ensures { texts_shown texts.new ≡ replaced_texts given (texts_shown texts.old) }
+// makes room for one more known tree, where one is needed
+fn make_known(known: &mut Vec<KnownTree>, is_new: bool) -> Result<(), AllocError>
+    ensures items { known.new.items ≡ known.old.items }
+    ensures ok { OnOk result (is_new ≡ true → vec_len known.new < vec_capacity known.new) }
 {
-    if let Some(given) = given {
-        *texts = given;
+    if is_new {
+        return known.reserve(1);
+    }
+    Ok(())
+}
+
+// replaces the toolkit's texts by those of tree info for the root tree
+fn set_texts(texts: &mut ToolkitTexts, is_root: bool, info: Option<TreeInfo>)
+    ensures { texts_shown texts.new ≡ texts_after (if is_root then option_map info_data info else None) (texts_shown texts.old) }
+{
+    if !is_root {
+        return;
+    }
+    if let Some(info) = info {
+        *texts = (info.toolkit_name, info.toolkit_version);
     }
 }

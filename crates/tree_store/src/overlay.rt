@@ -1,234 +1,301 @@
-//! Changes that are laid over a state.
-ghost use Rattle.std.specs.Prelude.{◌≡◌, ℕ, [], ◌∷◌, ◌++◌, map, AllPairs, IfOk, OnOk, option_copied, option_map, slice_get};
-ghost use Rattle.std.specs.FinMap.{FinMap, get as tree_at};
-ghost use Rattle.std.specs.Ordering.{nat_cmp};
-ghost use Rattle.std.specs.BTreeMap.{insert_entry};
-ghost use Rattle.std.specs.declared.cmp.Ordering.TheVariants.{Less};
+//! An update's changes, laid over a state.
+ghost use Rattle.std.specs.Prelude.{◌≡◌, ◌==◌, ◌<◌, ◌^◌, ℕ, List, map, drop, option_copied, option_map, option_and_then, slice_get, Some, None, IsSome, cond};
+ghost use Rattle.std.specs.FinMap.{len};
+ghost use Rattle.std.specs.List.Sorted.{IsStrictlySortedBy};
+ghost use Rattle.schema.specs.UpdateData.{update_data, info_data};
+ghost use Rattle.model.specs.declared.FullNodeId.{FullNodeId};
 ghost use Rattle.model.specs.FullIds.{full_cmp};
-ghost use Rattle.model.specs.World.{Tree, index_of, in_tree};
-ghost use Rattle.tree_store.specs.Plans.{node_changes, changed, put_tree, put_trees, present};
-ghost use Rattle.tree_store.specs.Sound.{IsAnchored, root_id_of, change_at, place_in};
-ghost use Rattle.tree_store.specs.Stored.{tree_shown};
-ghost use Rattle.tree_store.specs.Laying.{with_node, with_tree};
-ghost use Rattle.tree_store.specs.Overlays.{overlaid, IsLaid};
+ghost use Rattle.model.specs.World.{World, IsNode, data_of, index_of, root_of, root_named};
+ghost use Rattle.model.specs.Focus.{IsEffectiveFocus};
+ghost use Rattle.model.specs.Forest.{IsFormed};
+ghost use Rattle.model.specs.State.{IsState};
+ghost use Rattle.tree_changes.specs.Looks.{IsPlaceOf};
+ghost use Rattle.tree_changes.specs.Changes.{change_at, changed, entry_data, place_in, tree_change, if_kept};
+ghost use Rattle.std.specs.Ordering.{nat_cmp, is_eq};
+ghost use Rattle.std.specs.Cmp.Lexicographic.{slice_cmp};
+ghost use Rattle.std.specs.String.{string_bytes};
+ghost use Rattle.tree_changes.specs.declared.decision.NodeChange.{NodeChange};
+ghost use Rattle.model.specs.Update.{index_for};
+ghost use Rattle.tree_store.specs.Commits.{HasSlots};
+ghost use Rattle.tree_store.specs.Overlays.{laid_over, replacing, root_recorded, IsLaidOver, IsRecordAfter};
 
-use crate::look_ups::TreeRecord;
-use crate::plan::{Change, NodeChange, ToolkitTexts};
-use crate::records::PresentTree;
 use crate::store::Store;
-use model::{FullNodeId, Place};
-use schema::{Node, TreeId};
-use std::alloc::{AllocError, Global};
-use std::collections::BTreeMap;
+use model::FullNodeId;
+use schema::{Node, NodeId, TreeId, TreeInfo, TreeUpdate};
+use tree_changes::{Decision, NodeChange, Place, TreeRecord};
 
-/// A plan's changes by id, over a state that stays as it is: what has no change is read below.
-#[derive(Drop)]
-pub struct Overlay {
-    pub nodes: BTreeMap<FullNodeId, NodeChange>,
-    pub trees: Vec<TreeRecord>,
-    pub toolkit: Option<ToolkitTexts>,
-    pub focus: FullNodeId,
+/// A decision on an update, with the update that has the data.
+#[derive(Clone, Copy)]
+pub struct Overlay<'a> {
+    pub update: &'a TreeUpdate,
+    pub decision: &'a Decision,
 }
 
-impl NodeChange {
-    /// The place after the change.
-    pub fn place(&self) -> Option<Place>
-        ensures { result ≡ place_in self.now }
-    {
-        let NodeChange::Put { place, .. } = self else {
-            return None;
-        };
-        *place
-    }
-
-    /// The data after the change of a node with these data.
-    pub fn data<'b>(&'b self, below: Option<&'b Node>) -> Option<&'b Node>
-        ensures { option_copied result ≡ changed self.now (option_copied below.entry) }
-    {
-        match self {
-            NodeChange::Put { node, .. } => match node {
-                Some(node) => Some(node),
-                None => below,
-            },
-            NodeChange::Gone => None,
-        }
+/// What becomes of a node, where it changes. The changes ascend by id.
+pub(crate) fn change_of(changes: &[(FullNodeId, NodeChange)], id: FullNodeId) -> Option<NodeChange>
+    requires { IsStrictlySortedBy full_cmp (map (λ e. e.0) changes.now) }
+    ensures { result ≡ change_at changes.now id }
+{
+    match changes.binary_search_by_key(&id, |entry| entry.0) {
+        Ok(found) => Some(changes[found].1),
+        Err(_) => None,
     }
 }
 
-impl TreeRecord {
-    // the tree of the record, where it is present
-    fn present(&self) -> Option<PresentTree>
-        ensures { option_map tree_shown result ≡ present self.now.root self.now.focus }
-    {
-        let Some(root) = self.root else {
-            return None;
-        };
-        match self.focus {
-            Some(focus) => Some(PresentTree { root, focus }),
-            None => None,
-        }
-    }
-
-    // the tree with this index after the change
-    fn tree_after(&self, below: Option<PresentTree>, index: u32) -> Option<PresentTree>
-        ensures { (m : FinMap nat_cmp Tree) → option_map tree_shown below ≡ tree_at m index → option_map tree_shown result ≡ tree_at (put_tree m self.now) index }
-    {
-        let Some(changed) = self.index else {
-            return below;
-        };
-        if changed == index {
-            return self.present();
-        }
-        below
+/// The data of an entry of an update's nodes.
+pub(crate) fn entry_node(nodes: &[(NodeId, Node)], entry: usize) -> Option<&Node>
+    ensures { option_copied result ≡ entry_data nodes.now entry }
+{
+    match nodes.get(entry) {
+        Some(entry) => Some(&entry.1),
+        None => None,
     }
 }
 
-impl Overlay {
-    /// Lays out the changes, which are in order of their ids. The nodes' data are moved.
-    pub fn lay(
-        alloc: Global,
-        changes: Vec<Change>,
-        toolkit: Option<ToolkitTexts>,
-        focus: FullNodeId,
-    ) -> Result<Overlay, AllocError>
-        requires { AllPairs (λ a b. full_cmp a b ≡ Less) (map (λ c. c.0) (node_changes changes.items)) }
-        ensures { IfOk result (λ o. IsLaid o changes.items toolkit focus) }
-    {
-        let mut nodes = BTreeMap::new(alloc);
-        let mut trees = Vec::new(alloc);
-        for change in changes {
-            lay_one(&mut nodes, &mut trees, change)?;
+/// The data after a change of a node with these data.
+pub(crate) fn changed_node<'b>(
+    nodes: &'b [(NodeId, Node)],
+    change: NodeChange,
+    below: Option<&'b Node>,
+) -> Option<&'b Node>
+    ensures { option_copied result ≡ changed nodes.now change (option_copied below.entry) }
+{
+    match change {
+        NodeChange::Put {
+            entry: Some(entry),
+            ..
+        } => entry_node(nodes, entry),
+        NodeChange::Put { entry: None, .. } => below,
+        NodeChange::Gone => None,
+    }
+}
+
+/// The place after a change.
+pub(crate) fn changed_place(change: NodeChange) -> Option<Place>
+    ensures { result ≡ place_in change }
+{
+    match change {
+        NodeChange::Put { place, .. } => place,
+        NodeChange::Gone => None,
+    }
+}
+
+/// The changed record of a name, where it changes.
+pub(crate) fn changed_record(records: &[TreeRecord], name: &TreeId) -> Option<TreeRecord>
+    ensures { result ≡ tree_change records.now name.now }
+{
+    for record in records {
+        if is_of_name(record, name) {
+            return Some(*record);
         }
-        Ok(Overlay {
-            nodes,
-            trees,
-            toolkit,
-            focus,
-        })
+    }
+    None
+}
+
+fn is_of_name(record: &TreeRecord, name: &TreeId) -> bool
+    ensures { result ≡ is_eq (slice_cmp nat_cmp record.now.id.0 name.now.0) }
+{
+    record.id.cmp(name).is_eq()
+}
+
+/// The record, unless it has neither an index nor a graft.
+fn kept_record(changed: TreeRecord) -> Option<TreeRecord>
+    ensures { result ≡ if_kept changed }
+{
+    if changed.index.is_some() {
+        return Some(changed);
+    }
+    if changed.graft.is_some() {
+        return Some(changed);
+    }
+    None
+}
+
+fn index_in_record(found: Option<TreeRecord>) -> Option<u32>
+    ensures { result ≡ option_and_then (λ r. r.index) found }
+{
+    match found {
+        Some(found) => found.index,
+        None => None,
+    }
+}
+
+fn root_in_record(found: Option<TreeRecord>) -> Option<FullNodeId>
+    ensures { result ≡ root_recorded found }
+{
+    let Some(found) = found else {
+        return None;
+    };
+    let Some(tree) = found.index else {
+        return None;
+    };
+    match found.root {
+        Some(node) => Some(FullNodeId { tree, node }),
+        None => None,
+    }
+}
+
+impl<'a> Overlay<'a> {
+    /// What is known of the world with the changes: it is a state. Nothing is computed.
+    pub fn know(self, base: &Store)
+        requires { IsLaidOver base.now.world self }
+        ensures state { IsState (laid_over base.now.world self.entry) }
+        ensures formed { IsFormed (laid_over base.now.world self.entry) }
+    {
+        base.know();
     }
 
-    /// What becomes of a node, where it changes.
-    pub fn change(&self, id: FullNodeId) -> Option<&NodeChange>
-        ensures { option_copied result ≡ change_at self.now.nodes.entries id }
+    /// The world with the changes has fewer nodes than a `usize` counts, where there are slots for them. Nothing is computed.
+    pub fn know_count(self, base: &Store)
+        requires { HasSlots base.now self.decision.now }
+        ensures { len (laid_over base.now.world self.entry).nodes < 2 ^ 63 }
     {
-        self.nodes.get(&id)
+        base.know_count();
     }
 
-    /// A present tree of the overlaid world, by its index.
-    pub fn tree(&self, base: &Store, index: u32) -> Option<PresentTree>
-        ensures { option_map tree_shown result ≡ tree_at (overlaid base.now.world self.now).trees index }
+    fn change(self, id: FullNodeId) -> Option<NodeChange>
+        requires { IsStrictlySortedBy full_cmp (map (λ e. e.0) self.decision.now.nodes.items) }
+        ensures { result ≡ change_at self.entry.decision.now.nodes.items id }
     {
-        self.tree_over(base.tree(index), index)
+        change_of(self.decision.nodes.as_slice(), id)
     }
 
-    /// A tree with this index after the changes, where this is the one before.
-    pub fn tree_over(&self, below: Option<PresentTree>, index: u32) -> Option<PresentTree>
-        ensures { (m : FinMap nat_cmp Tree) → option_map tree_shown below ≡ tree_at m index → option_map tree_shown result ≡ tree_at (put_trees m self.now.trees.items) index }
+    /// The data of a node.
+    pub fn data(self, base: &'a Store, id: FullNodeId) -> Option<&'a Node>
+        requires { IsLaidOver base.now.world self }
+        ensures { option_copied result ≡ data_of (laid_over base.now.world self.entry) id }
     {
-        let mut tree = below;
-        for record in &self.trees {
-            tree = record.tree_after(tree, index);
+        match self.change(id) {
+            Some(change) => changed_node(self.update.nodes.as_slice(), change, base.get(id)),
+            None => base.get(id),
         }
-        tree
     }
 
-    /// The root of the overlaid world's root tree.
-    pub fn root(&self, base: &Store) -> FullNodeId
-        requires { IsAnchored (overlaid base.now.world self.now) self.now.focus }
-        ensures { result ≡ in_tree 0 (root_id_of (overlaid base.now.world self.now)) }
+    /// Where a node that is there stands.
+    pub fn place(self, base: &Store, id: FullNodeId) -> Option<Place>
+        requires laid { IsLaidOver base.now.world self }
+        requires there { IsNode (laid_over base.now.world self) id }
+        ensures { IsPlaceOf (laid_over base.now.world self.entry) id result }
     {
-        match self.tree(base, 0) {
-            Some(tree) => FullNodeId {
-                tree: 0,
-                node: tree.root,
-            },
+        match self.change(id) {
+            Some(change) => changed_place(change),
+            None => base.place(id),
+        }
+    }
+
+    fn record(self, base: &Store, name: &TreeId) -> Option<TreeRecord>
+        ensures { IsRecordAfter base.now.world self.entry name.now result }
+    {
+        let before = base.tree(*name);
+        match changed_record(self.decision.trees.as_slice(), name) {
+            Some(changed) => kept_record(changed),
+            None => before,
+        }
+    }
+
+    /// The index of the tree of this name, where it was ever known.
+    pub fn tree_index(self, base: &Store, name: TreeId) -> Option<u32>
+        requires { IsLaidOver base.now.world self }
+        ensures { result ≡ index_of (laid_over base.now.world self.entry) name }
+    {
+        index_in_record(self.record(base, &name))
+    }
+
+    /// The root of the tree of this name, where it is present.
+    pub fn subtree_root(self, base: &Store, name: TreeId) -> Option<FullNodeId>
+        requires { IsLaidOver base.now.world self }
+        ensures { result ≡ root_named (laid_over base.now.world self.entry) name }
+    {
+        root_in_record(self.record(base, &name))
+    }
+
+    /// The root of the root tree.
+    pub fn root(self, base: &Store) -> FullNodeId
+        requires { IsLaidOver base.now.world self }
+        ensures { root_of (laid_over base.now.world self.entry) 0 ≡ Some result }
+    {
+        self.know(base);
+        match self.subtree_root(base, TreeId::root()) {
+            Some(root) => root,
             None => unreachable!(),
         }
     }
 
-    /// The effective focus of the overlaid world.
-    pub fn focus(&self) -> FullNodeId
-        ensures { result ≡ self.now.focus }
+    /// The name of the tree with this index.
+    pub fn tree_id(self, base: &Store, index: u32) -> Option<TreeId>
+        ensures { result ≡ slice_get (laid_over base.now.world self.entry).known index }
     {
-        self.focus
+        if let Some(name) = base.tree_id(index) {
+            return Some(name);
+        }
+        if index != base.known_trees() {
+            return None;
+        }
+        match base.tree_index(self.update.tree_id) {
+            Some(_) => None,
+            None => Some(self.update.tree_id),
+        }
     }
 
-    /// The index of the tree of this name in the overlaid world.
-    pub fn tree_index(&self, base: &Store, name: TreeId) -> Option<u32>
-        requires { IsAnchored (overlaid base.now.world self.now) self.now.focus }
-        ensures { result ≡ index_of (overlaid base.now.world self.now) name }
+    /// The effective focus, whether or not the host is focused.
+    pub fn focus(self, base: &Store) -> FullNodeId
+        requires { IsLaidOver base.now.world self }
+        ensures { IsEffectiveFocus (laid_over base.now.world self.entry) result }
     {
-        // both worlds are anchored, so that they know the same names
-        let _focus = base.focus();
-        base.tree_index(name)
+        base.know();
+        self.decision.focus
     }
 
-    /// The name of the tree with this index in the overlaid world.
-    pub fn tree_id(&self, base: &Store, index: u32) -> Option<TreeId>
-        requires { IsAnchored (overlaid base.now.world self.now) self.now.focus }
-        ensures { result ≡ slice_get (overlaid base.now.world self.now).known index }
+    // the tree info that replaces the toolkit's texts
+    fn root_info(self, base: &Store) -> Option<&'a TreeInfo>
+        ensures { option_map info_data (option_copied result) ≡ replacing base.now.world (update_data self.entry.update.now) }
     {
-        // both worlds are anchored, so that they know the same names
-        let _focus = base.focus();
-        base.tree_id(index)
-    }
-
-    /// The text of the toolkit's name in the overlaid world.
-    pub fn toolkit_name<'b>(&'b self, base: &'b Store) -> Option<&'b str>
-        ensures { option_copied result ≡ (overlaid base.now.world self.now).toolkit.0 }
-    {
-        let Some(texts) = &self.toolkit else {
-            return base.toolkit_name();
-        };
-        match &texts.0 {
-            Some(text) => Some(text.as_str()),
+        if !is_root_index(base, self.update.tree_id) {
+            return None;
+        }
+        match &self.update.tree {
+            Some(info) => Some(info),
             None => None,
         }
     }
 
-    /// The text of the toolkit's version in the overlaid world.
-    pub fn toolkit_version<'b>(&'b self, base: &'b Store) -> Option<&'b str>
-        ensures { option_copied result ≡ (overlaid base.now.world self.now).toolkit.1 }
+    /// The text of the toolkit's name, as it was sent.
+    pub fn toolkit_name(self, base: &'a Store) -> Option<&'a str>
+        ensures { option_copied result ≡ (laid_over base.now.world self.entry).toolkit.0 }
     {
-        let Some(texts) = &self.toolkit else {
-            return base.toolkit_version();
-        };
-        match &texts.1 {
-            Some(text) => Some(text.as_str()),
-            None => None,
+        match self.root_info(base) {
+            Some(info) => given_text(&info.toolkit_name),
+            None => base.toolkit_name(),
+        }
+    }
+
+    /// The text of the toolkit's version, as it was sent.
+    pub fn toolkit_version(self, base: &'a Store) -> Option<&'a str>
+        ensures { option_copied result ≡ (laid_over base.now.world self.entry).toolkit.1 }
+    {
+        match self.root_info(base) {
+            Some(info) => given_text(&info.toolkit_version),
+            None => base.toolkit_version(),
         }
     }
 }
 
-fn lay_one(
-    nodes: &mut BTreeMap<FullNodeId, NodeChange>,
-    trees: &mut Vec<TreeRecord>,
-    change: Change,
-) -> Result<(), AllocError>
-    ensures nodes { OnOk result (nodes.new.entries ≡ with_node nodes.old.entries change) }
-    ensures trees { OnOk result (trees.new.items ≡ with_tree trees.old.items change) }
+// whether the name is the root tree's in a state
+pub(crate) fn is_root_index(base: &Store, name: TreeId) -> bool
+    ensures { result ≡ (index_for base.now.world name == 0) }
 {
-    match change {
-        Change::Put { id, place, node } => put(nodes, id, NodeChange::Put { place, node }),
-        Change::Gone(id) => put(nodes, id, NodeChange::Gone),
-        Change::Tree(record) => push(trees, record),
+    base.know();
+    match base.tree_index(name) {
+        Some(index) => index == 0,
+        None => false,
     }
 }
 
-fn put(
-    nodes: &mut BTreeMap<FullNodeId, NodeChange>,
-    id: FullNodeId,
-    change: NodeChange,
-) -> Result<(), AllocError>
-    ensures { OnOk result (nodes.new.entries ≡ insert_entry full_cmp nodes.old.entries id change) }
+fn given_text(text: &Option<String>) -> Option<&str>
+    ensures { option_copied result ≡ option_map string_bytes text.now }
 {
-    nodes.insert(id, change)?;
-    Ok(())
-}
-
-fn push(trees: &mut Vec<TreeRecord>, tree: TreeRecord) -> Result<(), AllocError>
-    ensures { OnOk result (trees.new.items ≡ trees.old.items ++ tree ∷ []) }
-{
-    trees.push(tree)?;
-    Ok(())
+    match text {
+        Some(text) => Some(text.as_str()),
+        None => None,
+    }
 }

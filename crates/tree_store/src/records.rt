@@ -1,6 +1,7 @@
 //! What is kept of a node and of a tree.
-use model::Place;
-use schema::{Node, NodeId};
+use model::FullNodeId;
+use schema::{Node, NodeId, TreeId};
+use tree_changes::Place;
 
 /// A node as it is kept: its place, and its data.
 #[derive(Drop)]
@@ -14,4 +15,18 @@ pub(crate) struct Record {
 pub struct PresentTree {
     pub root: NodeId,
     pub focus: NodeId,
+}
+
+/// A tree whose name is known: the name, and what is said of the tree where it is present.
+#[derive(Clone, Copy)]
+pub(crate) struct KnownTree {
+    pub(crate) name: TreeId,
+    pub(crate) tree: Option<PresentTree>,
+}
+
+/// What is kept of a tree's name: the index, where the name is known, and the node that grafts it.
+#[derive(Clone, Copy)]
+pub(crate) struct NameRecord {
+    pub(crate) index: Option<u32>,
+    pub(crate) graft: Option<FullNodeId>,
 }

@@ -1,30 +1,58 @@
 //! The slots for records, filled and empty.
-ghost use Rattle.std.specs.Prelude.{◌≡◌, None, Some, is_some, IsSome, IsTrue, ◌||◌, cond, OnOk, OnErr, option_map};
-ghost use Rattle.tree_store.specs.declared.records.Record.{Record};
+ghost use Rattle.std.specs.Prelude.{◌≡◌, ◌≢◌, ◌<◌, ℕ, length, slice_get, option_copied, option_map, Some, None, is_some, map, IsSome, IfSome, IsTrue, ◌||◌, cond, OnOk, OnErr};
 ghost use Rattle.std.specs.BTreeMap.{is_at};
 ghost use Rattle.model.specs.declared.FullNodeId.{FullNodeId};
 ghost use Rattle.model.specs.FullIds.{full_cmp};
-ghost use Rattle.tree_store.specs.Sound.{change_at};
-ghost use Rattle.tree_store.specs.Stored.{slot_at, record_at, record_after, record_after_change, HasNoSpare, HasRoomFor};
+ghost use Rattle.tree_changes.specs.Changes.{change_at, entry_data};
+ghost use Rattle.tree_store.specs.Stored.{slot_at, record_at};
+ghost use Rattle.tree_store.specs.Commits.{entry_of, moved, record_after, after_change, HasEntries, AreEntriesApart, HasNoSpare, HasRoomFor};
+ghost use Rattle.std.specs.List.Sorted.{IsStrictlySortedBy};
+ghost use Rattle.tree_changes.specs.declared.decision.NodeChange.TheVariants.{Put};
+ghost use Rattle.tree_store.specs.declared.records.Record.{Record};
 
-use crate::plan::NodeChange;
 use crate::records::Record;
-use model::{FullNodeId, Place};
-use std::alloc::AllocError;
+use model::FullNodeId;
+use schema::{Node, NodeId, Role};
+use std::alloc::{AllocError, Global};
 use std::collections::BTreeMap;
+use std::mem;
+use tree_changes::{NodeChange, Place};
+
+/// An empty slot is one that a commit fills.
+pub(crate) type Slots = BTreeMap<FullNodeId, Box<Option<Record>>>;
+
+/// The record of an id, where there is one.
+pub(crate) fn record(slots: &Slots, id: FullNodeId) -> Option<&Record>
+    ensures { option_copied result ≡ record_at slots.now.entries id }
+{
+    match slots.get(&id) {
+        Some(slot) => filled(slot),
+        None => None,
+    }
+}
+
+fn filled(slot: &Box<Option<Record>>) -> Option<&Record>
+    ensures { option_copied result ≡ slot.now.value }
+{
+    match &**slot {
+        Some(record) => Some(record),
+        None => None,
+    }
+}
 
 /// Makes an empty slot for each change that has none. Where one is refused all are taken back.
 pub(crate) fn make_room(
-    slots: &mut BTreeMap<FullNodeId, Option<Record>>,
-    changes: &BTreeMap<FullNodeId, NodeChange>,
+    alloc: Global,
+    slots: &mut Slots,
+    changes: &[(FullNodeId, NodeChange)],
 ) -> Result<(), AllocError>
     requires { HasNoSpare slots.old.entries }
     ensures same { (id : FullNodeId) → record_at slots.new.entries id ≡ record_at slots.old.entries id }
-    ensures ok { OnOk result (HasRoomFor slots.new.entries changes.now.entries) }
+    ensures ok { OnOk result (HasRoomFor slots.new.entries changes.now) }
     ensures err { OnErr result (HasNoSpare slots.new.entries) }
 {
-    for id in changes.keys() {
-        if add_slot(slots, *id).is_err() {
+    for change in changes {
+        if add_slot(alloc, slots, change.0).is_err() {
             take_back(slots, changes);
             return Err(AllocError);
         }
@@ -32,10 +60,7 @@ pub(crate) fn make_room(
     Ok(())
 }
 
-fn add_slot(
-    slots: &mut BTreeMap<FullNodeId, Option<Record>>,
-    id: FullNodeId,
-) -> Result<(), AllocError>
+fn add_slot(alloc: Global, slots: &mut Slots, id: FullNodeId) -> Result<(), AllocError>
     ensures same { (q : FullNodeId) → record_at slots.new.entries q ≡ record_at slots.old.entries q }
     ensures ok { OnOk result ((q : FullNodeId) → is_some (slot_at slots.new.entries q) ≡ (is_at (full_cmp id) q || is_some (slot_at slots.old.entries q))) }
     ensures err { OnErr result ((q : FullNodeId) → is_some (slot_at slots.new.entries q) ≡ is_some (slot_at slots.old.entries q)) }
@@ -43,102 +68,95 @@ fn add_slot(
     if slots.contains_key(&id) {
         return Ok(());
     }
-    drop(slots.insert(id, None)?);
+    let slot = Box::new(alloc, None)?;
+    drop(slots.insert(id, slot)?);
     Ok(())
 }
 
-// takes away the empty slots of changes
-fn take_back(
-    slots: &mut BTreeMap<FullNodeId, Option<Record>>,
-    changes: &BTreeMap<FullNodeId, NodeChange>,
-)
-    requires { (id : FullNodeId) → IsTrue (is_some (slot_at slots.old.entries id)) → IsTrue (is_some (record_at slots.old.entries id) || is_some (change_at changes.now.entries id)) }
+/// Takes away the empty slots of changes.
+pub(crate) fn take_back(slots: &mut Slots, changes: &[(FullNodeId, NodeChange)])
+    requires { (id : FullNodeId) → IsTrue (is_some (slot_at slots.old.entries id)) → IsTrue (is_some (record_at slots.old.entries id) || is_some (change_at changes.now id)) }
     ensures same { (id : FullNodeId) → record_at slots.new.entries id ≡ record_at slots.old.entries id }
     ensures tight { HasNoSpare slots.new.entries }
 {
-    for id in changes.keys() {
-        remove_empty(slots, *id);
+    for change in changes {
+        remove_empty(slots, change.0);
     }
 }
 
-fn remove_empty(slots: &mut BTreeMap<FullNodeId, Option<Record>>, id: FullNodeId)
+fn remove_empty(slots: &mut Slots, id: FullNodeId)
     ensures same { (q : FullNodeId) → record_at slots.new.entries q ≡ record_at slots.old.entries q }
     ensures tight { (q : FullNodeId) → is_some (slot_at slots.new.entries q) ≡ cond (is_at (full_cmp id) q) (is_some (record_at slots.old.entries q)) (is_some (slot_at slots.old.entries q)) }
 {
-    if !has_record(slots, id) {
-        drop(slots.remove(&id));
+    if has_record(slots, id) {
+        return;
     }
+    drop(slots.remove(&id));
 }
 
-fn has_record(slots: &BTreeMap<FullNodeId, Option<Record>>, id: FullNodeId) -> bool
+fn has_record(slots: &Slots, id: FullNodeId) -> bool
     ensures { result ≡ is_some (record_at slots.now.entries id) }
 {
-    match slots.get(&id) {
-        Some(slot) => slot.is_some(),
-        None => false,
-    }
+    record(slots, id).is_some()
 }
 
-/// Writes the changes into their slots. Nothing is allocated.
-pub(crate) fn write_all(
-    slots: &mut BTreeMap<FullNodeId, Option<Record>>,
-    changes: BTreeMap<FullNodeId, NodeChange>,
-)
-    requires { HasRoomFor slots.old.entries changes.entries }
-    ensures records { (id : FullNodeId) → record_at slots.new.entries id ≡ record_after_change (change_at changes.entries id) (record_at slots.old.entries id) }
-    ensures tight { HasNoSpare slots.new.entries }
-{
-    for (id, change) in changes {
-        write(slots, id, change);
-    }
-}
-
-fn write(slots: &mut BTreeMap<FullNodeId, Option<Record>>, id: FullNodeId, change: NodeChange)
+// puts a record in a slot that is there, and gives the one that was in it
+fn fill(slots: &mut Slots, id: FullNodeId, content: Option<Record>) -> Option<Record>
     requires { IsSome (slot_at slots.old.entries id) }
-    ensures records { (q : FullNodeId) → record_at slots.new.entries q ≡ cond (is_at (full_cmp id) q) (record_after change (record_at slots.old.entries id)) (record_at slots.old.entries q) }
+    ensures before { result ≡ record_at slots.old.entries id }
+    ensures after { (q : FullNodeId) → slot_at slots.new.entries q ≡ cond (is_at (full_cmp id) q) (Some content) (slot_at slots.old.entries q) }
+{
+    match slots.get_mut(&id) {
+        Some(slot) => mem::replace(&mut **slot, content),
+        None => unreachable!(),
+    }
+}
+
+// takes an entry's node out, and leaves the other
+fn take_node(nodes: &mut Vec<(NodeId, Node)>, entry: usize, other: Node) -> Node
+    requires { entry < length nodes.old.items }
+    ensures node { entry_data nodes.old.items entry ≡ Some result }
+    ensures others { (k : ℕ) → k ≢ entry → slice_get nodes.new.items k ≡ slice_get nodes.old.items k }
+    ensures count { length nodes.new.items ≡ length nodes.old.items }
+{
+    mem::replace(&mut nodes[entry].1, other)
+}
+
+// gives a node this place, and an entry's data
+fn put_node(
+    alloc: Global,
+    slots: &mut Slots,
+    nodes: &mut Vec<(NodeId, Node)>,
+    id: FullNodeId,
+    place: Option<Place>,
+    entry: usize,
+)
+    requires slot { IsSome (slot_at slots.old.entries id) }
+    requires entry { entry < length nodes.old.items }
+    ensures slots { (q : FullNodeId) → slot_at slots.new.entries q ≡ cond (is_at (full_cmp id) q) (Some (record_after nodes.old.items (Put place (Some entry)) (record_at slots.old.entries id))) (slot_at slots.old.entries q) }
+    ensures nodes { (k : ℕ) → k ≢ entry → slice_get nodes.new.items k ≡ slice_get nodes.old.items k }
+    ensures count { length nodes.new.items ≡ length nodes.old.items }
+{
+    let node = take_node(nodes, entry, Node::new(alloc, Role::Unknown));
+    drop(fill(slots, id, Some(Record { place, node })));
+}
+
+// gives a node this place
+fn put_place(slots: &mut Slots, id: FullNodeId, place: Option<Place>)
+    requires { IsSome (slot_at slots.old.entries id) }
+    ensures records { (q : FullNodeId) → record_at slots.new.entries q ≡ cond (is_at (full_cmp id) q) (moved place (record_at slots.old.entries id)) (record_at slots.old.entries q) }
     ensures tight { (q : FullNodeId) → is_some (slot_at slots.new.entries q) ≡ cond (is_at (full_cmp id) q) (is_some (record_at slots.new.entries q)) (is_some (slot_at slots.old.entries q)) }
 {
     let before = fill(slots, id, None);
-    match changed_record(change, before) {
+    match moved_record(place, before) {
         Some(record) => drop(fill(slots, id, Some(record))),
         None => drop(slots.remove(&id)),
     }
 }
 
-// puts a record in a slot that is there, and gives the one that was in it
-fn fill(
-    slots: &mut BTreeMap<FullNodeId, Option<Record>>,
-    id: FullNodeId,
-    content: Option<Record>,
-) -> Option<Record>
-    requires { IsSome (slot_at slots.old.entries id) }
-    ensures before { result ≡ record_at slots.old.entries id }
-    ensures after { (q : FullNodeId) → slot_at slots.new.entries q ≡ cond (is_at (full_cmp id) q) (Some content) (slot_at slots.old.entries q) }
-{
-    match slots.insert(id, content) {
-        Ok(Some(before)) => before,
-        Ok(None) => unreachable!(),
-        Err(_) => unreachable!(),
-    }
-}
-
-// the record after a change
-fn changed_record(change: NodeChange, before: Option<Record>) -> Option<Record>
-    ensures { result ≡ record_after change before }
-{
-    match change {
-        NodeChange::Put {
-            place,
-            node: Some(node),
-        } => Some(Record { place, node }),
-        NodeChange::Put { place, node: None } => moved_record(place, before),
-        NodeChange::Gone => None,
-    }
-}
-
 // the record with another place
 fn moved_record(place: Option<Place>, before: Option<Record>) -> Option<Record>
-    ensures { result ≡ option_map (λ (r : Record). record { place = place; node = r.node }) before }
+    ensures { result ≡ moved place before }
 {
     match before {
         Some(record) => Some(Record {
@@ -146,5 +164,57 @@ fn moved_record(place: Option<Place>, before: Option<Record>) -> Option<Record>
             node: record.node,
         }),
         None => None,
+    }
+}
+
+fn write(
+    alloc: Global,
+    slots: &mut Slots,
+    nodes: &mut Vec<(NodeId, Node)>,
+    id: FullNodeId,
+    change: NodeChange,
+)
+    requires slot { IsSome (slot_at slots.old.entries id) }
+    requires entry { IfSome (entry_of change) (λ k. k < length nodes.old.items) }
+    ensures records { (q : FullNodeId) → record_at slots.new.entries q ≡ cond (is_at (full_cmp id) q) (record_after nodes.old.items change (record_at slots.old.entries id)) (record_at slots.old.entries q) }
+    ensures tight { (q : FullNodeId) → is_some (slot_at slots.new.entries q) ≡ cond (is_at (full_cmp id) q) (is_some (record_at slots.new.entries q)) (is_some (slot_at slots.old.entries q)) }
+    ensures nodes { (k : ℕ) → entry_of change ≢ Some k → slice_get nodes.new.items k ≡ slice_get nodes.old.items k }
+    ensures count { length nodes.new.items ≡ length nodes.old.items }
+{
+    match change {
+        NodeChange::Put {
+            place,
+            entry: Some(entry),
+        } => {
+            put_node(alloc, slots, nodes, id, place, entry);
+            return;
+        }
+        NodeChange::Put { place, entry: None } => {
+            put_place(slots, id, place);
+            return;
+        }
+        NodeChange::Gone => {
+            drop(slots.remove(&id));
+            return;
+        }
+    }
+}
+
+/// Writes the changes into their slots. The data that they give are taken out of the update's nodes. Nothing is allocated.
+pub(crate) fn write_all(
+    alloc: Global,
+    slots: &mut Slots,
+    nodes: &mut Vec<(NodeId, Node)>,
+    changes: &[(FullNodeId, NodeChange)],
+)
+    requires room { HasRoomFor slots.old.entries changes.now }
+    requires ascending { IsStrictlySortedBy full_cmp (map (λ e. e.0) changes.now) }
+    requires entries { HasEntries nodes.old.items changes.now }
+    requires apart { AreEntriesApart changes.now }
+    ensures records { (id : FullNodeId) → record_at slots.new.entries id ≡ after_change nodes.old.items (change_at changes.now id) (record_at slots.old.entries id) }
+    ensures tight { HasNoSpare slots.new.entries }
+{
+    for change in changes {
+        write(alloc, slots, nodes, change.0, change.1);
     }
 }

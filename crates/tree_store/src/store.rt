@@ -1,91 +1,149 @@
 //! The nodes and trees of a state, with what is kept beside them so that they are found at once.
-ghost use Rattle.std.specs.Prelude.{◌≡◌, ℕ, Some, IsSome, ◌↔◌, length, option_copied, option_map, slice_get};
-ghost use Rattle.std.specs.FinMap.{get as tree_at};
-ghost use Rattle.model.specs.World.{World, Place, StandsAt, IsNode, data_of, index_of, in_tree};
-ghost use Rattle.tree_store.specs.Sound.{IsAnchored, root_id_of};
-ghost use Rattle.tree_store.specs.Stored.{tree_shown};
+ghost use Rattle.std.specs.Prelude.{◌≡◌, ◌<◌, ◌^◌, ◌||◌, not, ℕ, Some, IsSome, IfSome, is_some, length, option_copied, option_map, slice_get};
+ghost use Rattle.std.specs.FinMap.{get as tree_at, len as nodes_len};
+ghost use Rattle.std.specs.FinSet.{len as slots_len};
+ghost use Rattle.model.specs.World.{World, IsNode, data_of, index_of, root_of, root_named};
+ghost use Rattle.model.specs.Focus.{IsEffectiveFocus};
+ghost use Rattle.model.specs.Forest.{IsFormed};
+ghost use Rattle.model.specs.State.{IsState};
+ghost use Rattle.tree_changes.specs.Looks.{IsPlaceOf, IsNodeRecord, IsTreeRecord};
+ghost use Rattle.tree_store.specs.Stored.{tree_of};
+ghost use Rattle.tree_store.specs.NameRecords.{record_of};
 
-use crate::plan::ToolkitTexts;
-use crate::records::{PresentTree, Record};
-use model::{FullNodeId, Place};
+use crate::names::{
+    focus_in, graft_in, index_in, known_name, name_record, present_tree, root_in, tree_in,
+};
+use crate::records::{KnownTree, NameRecord, PresentTree};
+use crate::slots::{Slots, record};
+use model::FullNodeId;
 use schema::{Node, TreeId};
+use std::alloc::Global;
 use std::collections::BTreeMap;
 use std::marker::Model;
+use tree_changes::{NodeRecord, Place, ToolkitTexts, TreeRecord};
 
 /// A state: each node's data and place, the known trees, the toolkit's texts and the focus. A clause sees the world that it
-/// shows, as `store.now.world`, and the ids that have a slot.
+/// shows, as `store.now.world`, the ids that there is a slot for, and whether there is room for a new tree.
 #[derive(Drop)]
 pub struct Store {
-    // an empty slot is one that a commit fills
-    pub(crate) nodes: BTreeMap<FullNodeId, Option<Record>>,
-    pub(crate) known: Vec<TreeId>,
-    pub(crate) trees: BTreeMap<u32, PresentTree>,
+    pub(crate) alloc: Global,
+    pub(crate) nodes: Slots,
+    pub(crate) known: Vec<KnownTree>,
+    pub(crate) names: BTreeMap<TreeId, NameRecord>,
     pub(crate) toolkit: ToolkitTexts,
-    pub(crate) is_host_focused: bool,
+    pub(crate) host_focused: bool,
     pub(crate) focus: FullNodeId,
 }
 
 impl Model for Store {
-    ghost use Rattle.tree_store.specs.KeptWorld.{KeptWorld, coded_kept};
+    ghost use Rattle.std.specs.Prelude.{nat_lt};
+    ghost use Rattle.std.specs.Map.{keys_of};
+    ghost use Rattle.std.specs.Vec.{vec_len, vec_capacity};
+    ghost use Rattle.tree_store.specs.Kept.{Kept, coded_kept};
+    ghost use Rattle.tree_store.specs.Stored.{slots_shown};
+    ghost use Rattle.tree_store.specs.Shown.{world_shown, IsStored};
 
-    ghost Value = { KeptWorld };
+    ghost Value = { Kept };
 
     ghost coded = { coded_kept };
 
-    ghost use Rattle.tree_store.specs.Stored.{slots_shown, IsStored};
-    ghost use Rattle.tree_store.specs.Shown.{world_shown};
+    ghost view = { λ a. record { world = world_shown a; slots = slots_shown a.nodes.entries; names = keys_of a.names.entries; room = nat_lt (vec_len a.known) (vec_capacity a.known) } };
 
-    ghost view = { λ a. record { world = world_shown a; slots = slots_shown a.nodes.entries } };
-
-    ghost invariant = { λ a. IsStored a.nodes.entries a.focus (world_shown a) };
+    ghost invariant = { λ a. IsStored a (world_shown a) };
 }
 
 impl Store {
+    /// What is known of each store: the world that it shows is a state. Nothing is computed.
+    pub fn know(&self)
+        ensures state { IsState self.now.world }
+        ensures formed { IsFormed self.now.world }
+    {
+        let _focus = self.focus;
+    }
+
+    /// A state has fewer nodes than a `usize` counts, and fewer slots. Nothing is computed.
+    pub fn know_count(&self)
+        ensures slots { slots_len self.now.slots < 2 ^ 63 }
+        ensures nodes { nodes_len self.now.world.nodes < 2 ^ 63 }
+    {
+        let _count = self.nodes.len();
+    }
+
     /// The data of a node.
     pub fn get(&self, id: FullNodeId) -> Option<&Node>
         ensures { option_copied result ≡ data_of self.now.world id }
     {
-        match self.nodes.get(&id) {
-            Some(slot) => match slot {
-                Some(record) => Some(&record.node),
-                None => None,
-            },
+        match record(&self.nodes, id) {
+            Some(record) => Some(&record.node),
             None => None,
         }
     }
 
-    /// Where a node that is there stands: its parent, and its index among the parent's children.
+    /// Where a node that is there stands.
     pub fn place(&self, id: FullNodeId) -> Option<Place>
         requires { IsNode self.now.world id }
-        ensures { (p : Place) → (result ≡ Some p) ↔ StandsAt self.now.world p id }
+        ensures { IsPlaceOf self.now.world id result }
     {
-        match self.nodes.get(&id) {
-            Some(slot) => match slot {
-                Some(record) => record.place,
-                None => unreachable!(),
-            },
+        match record(&self.nodes, id) {
+            Some(record) => record.place,
             None => unreachable!(),
         }
     }
 
-    /// A present tree, by its index.
-    pub fn tree(&self, index: u32) -> Option<PresentTree>
-        ensures { option_map tree_shown result ≡ tree_at self.now.world.trees index }
+    /// A node's place and data.
+    pub fn record(&self, id: FullNodeId) -> Option<NodeRecord<'_>>
+        ensures found { is_some result ≡ is_some (data_of self.now.world id) }
+        ensures given { IfSome result (λ r. IsNodeRecord self.now.world id r) }
     {
-        match self.trees.get(&index) {
-            Some(tree) => Some(*tree),
+        match record(&self.nodes, id) {
+            Some(record) => Some(NodeRecord {
+                place: record.place,
+                node: &record.node,
+            }),
+            None => None,
+        }
+    }
+
+    /// What is known of a name, where it is known or grafted.
+    pub fn tree(&self, name: TreeId) -> Option<TreeRecord>
+        ensures { IsTreeRecord self.now.world name result }
+    {
+        let found = name_record(&self.names, &name);
+        let index = index_in(found);
+        let tree = tree_in(self.known.as_slice(), index);
+        tree_record(&name, index, graft_in(found), tree)
+    }
+
+    /// The present tree with this index.
+    pub fn present_tree(&self, index: u32) -> Option<PresentTree>
+        ensures { option_map tree_of result ≡ tree_at self.now.world.trees index }
+    {
+        present_tree(self.known.as_slice(), index)
+    }
+
+    /// The root of the tree of this name, where it is present.
+    pub fn subtree_root(&self, name: TreeId) -> Option<FullNodeId>
+        ensures { result ≡ root_named self.now.world name }
+    {
+        let Some(index) = self.tree_index(name) else {
+            return None;
+        };
+        match self.present_tree(index) {
+            Some(tree) => Some(FullNodeId {
+                tree: index,
+                node: tree.root,
+            }),
             None => None,
         }
     }
 
     /// The root of the root tree.
     pub fn root(&self) -> FullNodeId
-        ensures root { result ≡ in_tree 0 (root_id_of self.now.world) }
-        ensures there { IsNode self.now.world result }
+        ensures { root_of self.now.world 0 ≡ Some result }
     {
-        // a state is anchored at its focus, so that it has a root tree
-        let _focus = self.focus;
-        match self.tree(0) {
+        // the world is a state, so that it has a root tree
+        self.know();
+        match self.present_tree(0) {
             Some(tree) => FullNodeId {
                 tree: 0,
                 node: tree.root,
@@ -96,7 +154,7 @@ impl Store {
 
     /// The effective focus, whether or not the host is focused.
     pub fn focus(&self) -> FullNodeId
-        ensures { IsAnchored self.now.world result }
+        ensures { IsEffectiveFocus self.now.world result }
     {
         self.focus
     }
@@ -105,17 +163,17 @@ impl Store {
     pub fn is_host_focused(&self) -> bool
         ensures { result ≡ self.now.world.host_focused }
     {
-        self.is_host_focused
+        self.host_focused
     }
 
     /// Tells the state whether the host window has the focus. All else stays.
-    pub fn set_host_focused(&mut self, is_host_focused: bool)
-        ensures { self.new ≡ record self.old { world = record self.old.world { host_focused = is_host_focused } } }
+    pub fn set_host_focused(&mut self, focused: bool)
+        ensures { self.new ≡ record self.old { world = record self.old.world { host_focused = focused } } }
     {
-        self.is_host_focused = is_host_focused;
+        self.host_focused = focused;
     }
 
-    /// How many trees were ever known.
+    /// How many names of trees are known.
     pub fn known_trees(&self) -> u32
         ensures { result ≡ length self.now.world.known }
     {
@@ -126,18 +184,14 @@ impl Store {
     pub fn tree_index(&self, name: TreeId) -> Option<u32>
         ensures { result ≡ index_of self.now.world name }
     {
-        let found = self.known.iter().position(|known| *known == name);
-        match found {
-            Some(index) => Some(index as u32),
-            None => None,
-        }
+        index_in(name_record(&self.names, &name))
     }
 
     /// The name of the tree with this index.
     pub fn tree_id(&self, index: u32) -> Option<TreeId>
         ensures { result ≡ slice_get self.now.world.known index }
     {
-        self.known.get(index as usize).copied()
+        known_name(self.known.as_slice(), index)
     }
 
     /// The text of the toolkit's name, as it was sent.
@@ -159,4 +213,35 @@ impl Store {
             None => None,
         }
     }
+}
+
+/// The record of a name, where it is known or grafted.
+fn tree_record(
+    name: &TreeId,
+    index: Option<u32>,
+    graft: Option<FullNodeId>,
+    tree: Option<PresentTree>,
+) -> Option<TreeRecord>
+    ensures { result ≡ record_of name.now index graft tree }
+{
+    if is_unused(index, graft) {
+        return None;
+    }
+    Some(TreeRecord {
+        id: *name,
+        index,
+        graft,
+        root: root_in(tree),
+        focus: focus_in(tree),
+    })
+}
+
+/// Whether a name has neither an index nor a graft.
+fn is_unused(index: Option<u32>, graft: Option<FullNodeId>) -> bool
+    ensures { result ≡ not (is_some index || is_some graft) }
+{
+    if index.is_some() {
+        return false;
+    }
+    graft.is_none()
 }

@@ -2,13 +2,12 @@
 ghost use Rattle.std.specs.Prelude.{◌≡◌, is_some, IfSome};
 ghost use Rattle.model.specs.World.{data_of};
 ghost use Rattle.model.specs.State.{empty_world};
-ghost use Rattle.tree_store.specs.Looks.{IsNodeRecord, IsTreeRecord, raised};
+ghost use Rattle.tree_changes.specs.Looks.{IsNodeRecord, IsTreeRecord, raised};
 
-use crate::look_ups::{LookUps, NodeRecord, TreeRecord};
-use crate::records::PresentTree;
 use crate::store::Store;
 use model::FullNodeId;
 use schema::TreeId;
+use tree_changes::{LookUps, NodeRecord, TreeRecord};
 
 /// Look-ups in a borrowed state, with a count of their own.
 #[derive(Drop)]
@@ -24,12 +23,12 @@ impl<'a> LookUps for StoreLookUps<'a> {
 
     fn node(&mut self, id: FullNodeId) -> Option<NodeRecord<'_>> {
         self.tick();
-        self.node_record(id)
+        self.store.record(id)
     }
 
-    fn tree(&mut self, id: TreeId) -> Option<TreeRecord> {
+    fn tree(&mut self, name: TreeId) -> Option<TreeRecord> {
         self.tick();
-        self.tree_record(id)
+        self.store.tree(name)
     }
 
     fn count(&self) -> u128 {
@@ -41,32 +40,18 @@ impl<'a> LookUps for StoreLookUps<'a> {
     }
 
     fn known_trees(&self) -> u32 {
+        self.store.know();
         self.store.known_trees()
     }
 }
 
 impl<'a> StoreLookUps<'a> {
-    /// Counts from zero.
-    pub fn new(store: &'a Store) -> StoreLookUps<'a>
-        ensures store { result.store.now ≡ store.now }
-        ensures count { result.count ≡ 0 }
-    {
-        StoreLookUps { store, count: 0 }
-    }
-
     /// Counts on from what was asked before.
-    pub fn with_count(store: &'a Store, count: u128) -> StoreLookUps<'a>
+    pub fn new(store: &'a Store, count: u128) -> StoreLookUps<'a>
         ensures store { result.store.now ≡ store.now }
         ensures count { result.count ≡ count }
     {
         StoreLookUps { store, count }
-    }
-
-    /// How many records were asked for.
-    pub fn into_count(self) -> u128
-        ensures { result ≡ self.entry.count }
-    {
-        self.count
     }
 
     fn tick(&mut self)
@@ -74,33 +59,6 @@ impl<'a> StoreLookUps<'a> {
         ensures count { self.new.count ≡ raised self.old.count }
     {
         self.count = one_more(self.count);
-    }
-
-    fn node_record(&self, id: FullNodeId) -> Option<NodeRecord<'_>>
-        ensures found { is_some result ≡ is_some (data_of self.now.store.now.world id) }
-        ensures given { IfSome result (λ r. IsNodeRecord self.now.store.now.world id r) }
-    {
-        match self.store.get(id) {
-            Some(node) => {
-                let place = self.store.place(id);
-                Some(NodeRecord { place, node })
-            }
-            None => None,
-        }
-    }
-
-    // no other tree is present, so that nothing is told of grafts
-    fn tree_record(&self, id: TreeId) -> Option<TreeRecord>
-        ensures { IsTreeRecord self.now.store.now.world id result }
-    {
-        let name = id;
-        let Some(index) = self.store.tree_index(name) else {
-            return None;
-        };
-        match self.store.tree(index) {
-            Some(tree) => Some(present_record(id, index, tree)),
-            None => Some(absent_record(id, index)),
-        }
     }
 }
 
@@ -110,39 +68,15 @@ fn one_more(count: u128) -> u128
     count.saturating_add(1)
 }
 
-fn present_record(id: TreeId, index: u32, tree: PresentTree) -> TreeRecord
-    ensures { result ≡ record { id = id; index = Some index; graft = None; root = Some tree.root; focus = Some tree.focus } }
-{
-    TreeRecord {
-        id,
-        index: Some(index),
-        graft: None,
-        root: Some(tree.root),
-        focus: Some(tree.focus),
-    }
-}
-
-fn absent_record(id: TreeId, index: u32) -> TreeRecord
-    ensures { result ≡ record { id = id; index = Some index; graft = None; root = None; focus = None } }
-{
-    TreeRecord {
-        id,
-        index: Some(index),
-        graft: None,
-        root: None,
-        focus: None,
-    }
-}
-
 /// Look-ups before the first update, where no record is there.
 #[derive(Drop)]
 pub struct NoRecords {
-    is_host_focused: bool,
+    host_focused: bool,
     count: u128,
 }
 
 impl LookUps for NoRecords {
-    ghost world = { λ s. empty_world s.is_host_focused };
+    ghost world = { λ s. empty_world s.host_focused };
 
     ghost asked = { λ s. s.count };
 
@@ -151,7 +85,7 @@ impl LookUps for NoRecords {
         self.node_record(id)
     }
 
-    fn tree(&mut self, _id: TreeId) -> Option<TreeRecord> {
+    fn tree(&mut self, _name: TreeId) -> Option<TreeRecord> {
         self.tick();
         None
     }
@@ -161,7 +95,7 @@ impl LookUps for NoRecords {
     }
 
     fn is_host_focused(&self) -> bool {
-        self.is_host_focused
+        self.host_focused
     }
 
     fn known_trees(&self) -> u32 {
@@ -171,33 +105,26 @@ impl LookUps for NoRecords {
 
 impl NoRecords {
     /// Counts from zero.
-    pub fn new(is_host_focused: bool) -> NoRecords
-        ensures host { result.is_host_focused ≡ is_host_focused }
+    pub fn new(host_focused: bool) -> NoRecords
+        ensures host { result.host_focused ≡ host_focused }
         ensures count { result.count ≡ 0 }
     {
         NoRecords {
-            is_host_focused,
+            host_focused,
             count: 0,
         }
     }
 
-    /// How many records were asked for.
-    pub fn into_count(self) -> u128
-        ensures { result ≡ self.count }
-    {
-        self.count
-    }
-
     fn tick(&mut self)
-        ensures host { self.new.is_host_focused ≡ self.old.is_host_focused }
+        ensures host { self.new.host_focused ≡ self.old.host_focused }
         ensures count { self.new.count ≡ raised self.old.count }
     {
         self.count = one_more(self.count);
     }
 
     fn node_record(&self, id: FullNodeId) -> Option<NodeRecord<'_>>
-        ensures found { is_some result ≡ is_some (data_of (empty_world self.now.is_host_focused) id) }
-        ensures given { IfSome result (λ r. IsNodeRecord (empty_world self.now.is_host_focused) id r) }
+        ensures found { is_some result ≡ is_some (data_of (empty_world self.now.host_focused) id) }
+        ensures given { IfSome result (λ r. IsNodeRecord (empty_world self.now.host_focused) id r) }
     {
         None
     }

@@ -39,7 +39,7 @@ impl<'a> NodeRef<'a> {
     pub fn locate(&self) -> (NodeId, TreeId)
         ensures { located (world_at self.now) (id_at self.now) ≡ Some result }
     {
-        (self.id.node, self.state.tree_id_of(self.id))
+        (self.id.node, self.state.tree_of(self.id))
     }
 
     /// What the node is.

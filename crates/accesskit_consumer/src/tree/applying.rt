@@ -1,70 +1,59 @@
 //! How changes come into a state.
-ghost use Rattle.std.specs.Prelude.{◌≡◌, List, [], OnOk, OnErr, IfOk};
-ghost use Rattle.model.specs.Events.{Told};
+ghost use Rattle.std.specs.Prelude.{◌≡◌, ◌≤◌, ◌+◌, ◌*◌, List, [], OnOk, OnErr, length};
+ghost use Rattle.schema.specs.UpdateData.{update_data};
+ghost use Rattle.model.specs.Events.{Event, Told};
 ghost use Rattle.model.specs.declared.events.PlanEvent.{PlanEvent};
 ghost use Rattle.model.specs.Differences.{AreOfFocus, events};
-ghost use Rattle.model.specs.State.{empty_world};
-ghost use Rattle.tree_store.specs.Plans.{planned};
-ghost use Rattle.tree_store.specs.Sound.{IsSoundPlan};
-ghost use Rattle.tree_plan.specs.Whole.{IsWhole};
+ghost use Rattle.model.specs.Run.{ToUpdate, Accepted, Does};
+ghost use Rattle.model.specs.State.{with_host};
+ghost use Rattle.tree_changes.specs.Changes.{overlaid};
+ghost use Rattle.tree_changes.specs.Decisions.{IsDecision};
 
 use crate::tree::refocusing::tell_focus;
 use crate::tree::telling::tell_all;
-use crate::tree::{StateRef, TreeChangeHandler, TreeState};
-use std::alloc::{AllocError, Global};
-use tree_store::{Overlay, Plan, Store};
+use crate::tree::{StateRef, Steps, TreeChangeHandler, TreeState};
+use schema::TreeUpdate;
+use std::alloc::AllocError;
+use tree_changes::Decision;
+use tree_store::Overlay;
 
 impl TreeState {
-    /// The state that the first plan makes.
-    pub(crate) fn first(
-        alloc: Global,
-        plan: Plan,
-        is_host_focused: bool,
-    ) -> Result<TreeState, AllocError>
-        requires sound { IsSoundPlan (empty_world is_host_focused) plan }
-        requires whole { IsWhole (planned (empty_world is_host_focused) plan) }
-        ensures { IfOk result (λ state. state ≡ planned (empty_world is_host_focused) plan) }
-    {
-        let overlay = Overlay::lay(alloc, plan.changes, plan.toolkit, plan.focus)?;
-        let store = Store::first(alloc, overlay, is_host_focused)?;
-        Ok(TreeState { store })
-    }
-
-    /// Carries a plan out. Its changes are laid over the state, and room is made for them; then the handler is told, and
-    /// the changes are written. Only what comes before the telling takes memory.
+    /// Carries a decision on an update out. Room is made for its changes; then they are laid over the state, the handler is
+    /// told, and they are written. Only what comes before the telling takes memory. Two records are looked up for each
+    /// event and each change.
     pub(crate) fn apply<H: TreeChangeHandler>(
         &mut self,
-        alloc: Global,
-        plan: Plan,
+        update: TreeUpdate,
+        decision: Decision,
         handler: &mut H,
+        steps: &mut Steps,
     ) -> Result<(), AllocError>
-        requires sound { IsSoundPlan self.old plan }
-        requires whole { IsWhole (planned self.old plan) }
-        ensures state { OnOk result (self.new ≡ planned self.old plan) }
-        ensures told { OnOk result (Told H.steps handler.old (events self.old self.new plan.events.items) handler.new) }
+        requires { IsDecision self.old (update_data update) decision }
+        ensures state { OnOk result (self.new ≡ overlaid self.old (update_data update) decision) }
+        ensures does { OnOk result ((told : List Event)
+            × Does self.old (ToUpdate (update_data update)) self.new told Accepted
+            × Told H.steps handler.old told handler.new) }
+        ensures steps { OnOk result (steps.new ≤ steps.old
+            + 2 * (length decision.events.items + (length decision.nodes.items + length decision.trees.items))) }
         ensures err { OnErr result ((self.new ≡ self.old) × (handler.new ≡ handler.old)) }
     {
-        let Plan {
-            changes,
-            events,
-            toolkit,
-            focus,
-        } = plan;
-        let overlay = Overlay::lay(alloc, changes, toolkit, focus)?;
-        self.store.reserve(&overlay)?;
-        tell_all(
-            StateRef::new(&self.store),
-            StateRef::over(&self.store, &overlay),
-            events.as_slice(),
-            handler,
-        );
-        self.store.commit(overlay);
+        self.store.reserve(&update, &decision)?;
+        let overlay = Overlay {
+            update: &update,
+            decision: &decision,
+        };
+        let old = StateRef::new(&self.store);
+        let new = StateRef::over(&self.store, overlay);
+        old.know();
+        tell_all(old, new, decision.events.as_slice(), handler, steps);
+        count_changes(&decision, steps);
+        self.store.commit(update, decision);
         Ok(())
     }
 
     /// Sets whether the host is focused, and tells the handler where the focus is another one then.
     pub(crate) fn refocus<H: TreeChangeHandler>(&mut self, is_host_focused: bool, handler: &mut H)
-        ensures state { self.new ≡ record self.old { host_focused = is_host_focused } }
+        ensures state { self.new ≡ with_host self.old is_host_focused }
         ensures told { (differences : List PlanEvent) × AreOfFocus self.old self.new [] differences
             × Told H.steps handler.old (events self.old self.new differences) handler.new }
     {
@@ -74,5 +63,17 @@ impl TreeState {
             handler,
         );
         self.store.set_host_focused(is_host_focused);
+    }
+}
+
+/// Counts two look-ups for each change.
+fn count_changes(decision: &Decision, steps: &mut Steps)
+    ensures { steps.new ≤ steps.old + 2 * (length decision.now.nodes.items + length decision.now.trees.items) }
+{
+    for _change in &decision.nodes {
+        steps.add_two();
+    }
+    for _change in &decision.trees {
+        steps.add_two();
     }
 }

@@ -9,8 +9,7 @@ ghost use Rattle.accesskit_consumer.specs.Views.{world_of};
 
 use crate::tree::telling::tell;
 use crate::tree::{StateRef, TreeChangeHandler};
-use model::FullNodeId;
-use tree_store::PlanEvent;
+use model::{FullNodeId, PlanEvent};
 
 /// Whether both are one id, or none.
 fn is_same_focus(before: Option<FullNodeId>, after: Option<FullNodeId>) -> bool

@@ -1,6 +1,6 @@
 //! A state.
 ghost use Rattle.std.specs.Prelude.{◌≡◌, ◌↔◌, IsTrue, IsSome, true, false, Some, MatchOption, IfSome, option_copied, option_map};
-ghost use Rattle.model.specs.World.{World, IsNode, root_of, located, toolkit_name, toolkit_version};
+ghost use Rattle.model.specs.World.{World, IsNode, root_of, root_named, located, toolkit_name, toolkit_version};
 ghost use Rattle.model.specs.Focus.{IsEffectiveFocus, IsFocusId, IsFocus};
 ghost use Rattle.accesskit_consumer.specs.Views.{world_of};
 ghost use Rattle.accesskit_consumer.specs.Nodes.{world_at, id_at, ShowsThe};
@@ -28,10 +28,9 @@ impl Model for TreeState {
 
     ghost view = { λ a. a.store.world };
 
-    ghost use Rattle.tree_store.specs.KeptWorld.{IsTight};
-    ghost use Rattle.tree_plan.specs.Whole.{IsWhole};
+    ghost use Rattle.tree_store.specs.Kept.{IsTight};
 
-    ghost invariant = { λ a. IsTight a.store × IsWhole a.store.world };
+    ghost invariant = { λ a. IsTight a.store };
 }
 
 impl TreeState {
@@ -108,6 +107,13 @@ impl TreeState {
         ensures node { IsFocus self.now (option_map id_at result) }
     {
         self.view().focus()
+    }
+
+    /// The root of the tree of this name, where it is present.
+    pub fn subtree_root(&self, name: TreeId) -> Option<FullNodeId>
+        ensures { result ≡ root_named self.now name }
+    {
+        self.view().subtree_root(name)
     }
 
     /// The toolkit's name: `AccessKit` if none was given.

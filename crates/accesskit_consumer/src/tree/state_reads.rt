@@ -41,7 +41,7 @@ impl<'a> StateRef<'a> {
         ensures root { root_of (world_of self.entry) 0 ≡ Some result }
         ensures there { IsNode (world_of self.entry) result }
     {
-        let _focus = self.known_focus();
+        self.know();
         self.known_root()
     }
 
@@ -50,15 +50,16 @@ impl<'a> StateRef<'a> {
         ensures focus { IsEffectiveFocus (world_of self.entry) result }
         ensures there { IsNode (world_of self.entry) result }
     {
+        self.know();
         self.known_focus()
     }
 
     /// The name of the tree of a node that is there.
-    pub(crate) fn tree_id_of(self, id: FullNodeId) -> TreeId
+    pub(crate) fn tree_of(self, id: FullNodeId) -> TreeId
         requires { IsNode (world_of self) id }
         ensures { name_of (world_of self.entry) id.tree ≡ Some result }
     {
-        let _focus = self.known_focus();
+        self.know();
         self.tree_id(id.tree).unwrap()
     }
 
@@ -84,7 +85,7 @@ impl<'a> StateRef<'a> {
     pub fn node_by_tree_local_id(&self, node: NodeId, tree: TreeId) -> Option<NodeRef<'a>>
         ensures { ShowsThe (world_of self.now) (λ it. located (world_of self.now) it ≡ Some (node, tree)) result }
     {
-        let _focus = self.known_focus();
+        self.know();
         match self.tree_index(tree) {
             Some(tree) => self.node_by_id(FullNodeId { tree, node }),
             None => None,
@@ -184,7 +185,7 @@ impl<'a> StateRef<'a> {
         ensures { result ≡ located (world_of self.now) id }
     {
         if self.has_node(id) {
-            Some((id.node, self.tree_id_of(id)))
+            Some((id.node, self.tree_of(id)))
         } else {
             None
         }

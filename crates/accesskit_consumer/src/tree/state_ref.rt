@@ -1,25 +1,29 @@
 //! A view of a state.
-ghost use Rattle.accesskit_consumer.specs.Laid.{IsSound, IsSound-prop};
+ghost use Rattle.accesskit_consumer.specs.Sound.{IsSound, IsSound-prop, HasRoom, HasRoom-prop};
 
-use model::{FullNodeId, Place};
+use model::FullNodeId;
 use schema::{Node, TreeId};
+use tree_changes::Place;
 use tree_store::{Overlay, Store};
 
 /// A state, as it is read: the one that is kept, with the changes of an update laid over it where there are any.
 #[derive(Clone, Copy)]
 pub struct StateRef<'a> {
-    base: &'a Store,
-    overlay: Option<&'a Overlay>,
+    pub(super) base: &'a Store,
+    pub(super) overlay: Option<Overlay<'a>>,
     is_host_focused: bool,
     ghost sound: { IsSound base.now.world overlay } by { IsSound-prop base.now.world overlay },
+    ghost room: { HasRoom base.now overlay } by { HasRoom-prop base.now overlay },
 }
 
 impl<'a> StateRef<'a> {
-    ghost use Rattle.std.specs.Prelude.{◌≡◌, option_copied};
-    ghost use Rattle.model.specs.World.{IsNode, data_of, index_of, name_of, in_tree};
+    ghost use Rattle.std.specs.Prelude.{◌≡◌, Some, option_copied};
+    ghost use Rattle.model.specs.World.{IsNode, data_of, index_of, name_of, root_of};
     ghost use Rattle.model.specs.Forest.{place_of};
-    ghost use Rattle.tree_store.specs.Sound.{IsAnchored, root_id_of};
-    ghost use Rattle.tree_store.specs.Overlays.{overlaid, IsSoundOverlay};
+    ghost use Rattle.model.specs.Focus.{IsEffectiveFocus};
+    ghost use Rattle.model.specs.State.{with_host};
+    ghost use Rattle.tree_store.specs.Commits.{HasSlots};
+    ghost use Rattle.tree_store.specs.Overlays.{laid_over, IsLaidOver};
     ghost use Rattle.accesskit_consumer.specs.Views.{world_of};
 
     /// The state as it is kept.
@@ -31,7 +35,7 @@ impl<'a> StateRef<'a> {
 
     /// The state as it is kept, but for the host's focus.
     pub(crate) fn with_host_focused(base: &'a Store, is_host_focused: bool) -> StateRef<'a>
-        ensures { world_of result ≡ record base.now.world { host_focused = is_host_focused } }
+        ensures { world_of result ≡ with_host base.now.world is_host_focused }
     {
         StateRef {
             base,
@@ -41,9 +45,10 @@ impl<'a> StateRef<'a> {
     }
 
     /// The state with the changes over it.
-    pub(crate) fn over(base: &'a Store, overlay: &'a Overlay) -> StateRef<'a>
-        requires { IsSoundOverlay base.now.world overlay.now }
-        ensures { world_of result ≡ overlaid base.now.world overlay.now }
+    pub(crate) fn over(base: &'a Store, overlay: Overlay<'a>) -> StateRef<'a>
+        requires laid { IsLaidOver base.now.world overlay }
+        requires slots { HasSlots base.now overlay.decision.now }
+        ensures { world_of result ≡ laid_over base.now.world overlay.entry }
     {
         StateRef {
             base,
@@ -53,17 +58,12 @@ impl<'a> StateRef<'a> {
     }
 
     /// The data of a node.
-    #[tactic(auto, using(crate::proofs::Overlaying::data_overlaid))]
     pub(crate) fn data(self, id: FullNodeId) -> Option<&'a Node>
         ensures { option_copied result ≡ data_of (world_of self.entry) id }
     {
-        let Some(overlay) = self.overlay else {
-            return self.base.get(id);
-        };
-        let below = self.base.get(id);
-        match overlay.change(id) {
-            Some(change) => change.data(below),
-            None => below,
+        match self.overlay {
+            Some(overlay) => overlay.data(self.base, id),
+            None => self.base.get(id),
         }
     }
 
@@ -72,28 +72,25 @@ impl<'a> StateRef<'a> {
         requires { IsNode (world_of self) id }
         ensures { result ≡ place_of (world_of self.entry) id }
     {
-        let Some(overlay) = self.overlay else {
-            return self.base.place(id);
-        };
-        match overlay.change(id) {
-            Some(change) => change.place(),
+        match self.overlay {
+            Some(overlay) => overlay.place(self.base, id),
             None => self.base.place(id),
         }
     }
 
     /// The effective focus.
     pub(crate) fn known_focus(self) -> FullNodeId
-        ensures { IsAnchored (world_of self.entry) result }
+        ensures { IsEffectiveFocus (world_of self.entry) result }
     {
         match self.overlay {
-            Some(overlay) => overlay.focus(),
+            Some(overlay) => overlay.focus(self.base),
             None => self.base.focus(),
         }
     }
 
     /// The root tree's root.
     pub(crate) fn known_root(self) -> FullNodeId
-        ensures { result ≡ in_tree 0 (root_id_of (world_of self.entry)) }
+        ensures { root_of (world_of self.entry) 0 ≡ Some result }
     {
         match self.overlay {
             Some(overlay) => overlay.root(self.base),

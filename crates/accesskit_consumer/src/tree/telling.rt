@@ -1,14 +1,12 @@
-//! Tells a handler of a plan's events.
-ghost use Rattle.std.specs.Prelude.{◌≡◌, All};
-ghost use Rattle.std.specs.Option.{option_map};
-ghost use Rattle.model.specs.World.{World, IsNode};
+//! Tells a handler of an update's events.
+ghost use Rattle.std.specs.Prelude.{◌≤◌, ◌+◌, ◌*◌, All, length};
 ghost use Rattle.model.specs.Events.{Told};
 ghost use Rattle.model.specs.Differences.{event, events};
-ghost use Rattle.tree_store.specs.Sound.{IsTellable};
+ghost use Rattle.accesskit_consumer.specs.Telling.{IsTellable};
 ghost use Rattle.accesskit_consumer.specs.Views.{world_of};
 
-use crate::tree::{StateRef, TreeChangeHandler};
-use tree_store::PlanEvent;
+use crate::tree::{StateRef, Steps, TreeChangeHandler};
+use model::PlanEvent;
 
 /// Tells of one event: its old nodes are seen in the old state, and its new ones in the new state.
 pub(crate) fn tell<H: TreeChangeHandler>(
@@ -32,17 +30,20 @@ pub(crate) fn tell<H: TreeChangeHandler>(
     }
 }
 
-/// Tells of the events in turn.
+/// Tells of the events in turn. For each two records are looked up at most.
 pub(crate) fn tell_all<H: TreeChangeHandler>(
     old: StateRef,
     new: StateRef,
-    told: &[PlanEvent],
+    differences: &[PlanEvent],
     handler: &mut H,
+    steps: &mut Steps,
 )
-    requires { All (IsTellable (world_of old) (world_of new)) told.now }
-    ensures { Told H.steps handler.old (events (world_of old.entry) (world_of new.entry) told.now) handler.new }
+    requires { All (IsTellable (world_of old) (world_of new)) differences.now }
+    ensures told { Told H.steps handler.old (events (world_of old.entry) (world_of new.entry) differences.now) handler.new }
+    ensures steps { steps.new ≤ steps.old + 2 * length differences.now }
 {
-    for event in told {
+    for event in differences {
+        steps.add_two();
         tell(old, new, *event, handler);
     }
 }

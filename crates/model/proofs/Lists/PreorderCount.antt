@@ -41,7 +41,7 @@ apart_below x (e ∷ es) h =
     let parts = both (is_lt (full_cmp x e.0)) (below_all full_cmp x es) h in
     (not_same (full_cmp x e.0) parts.0, apart_below x es parts.1)
 
-keys_distinct : (es : List (FullNodeId × NodeData)) → T (is_sorted full_cmp es) → IsDistinct is_same (map (λ (e : FullNodeId × NodeData). e.0) es)
+pub keys_distinct : (es : List (FullNodeId × NodeData)) → T (is_sorted full_cmp es) → IsDistinct is_same (map (λ (e : FullNodeId × NodeData). e.0) es)
 unfolding IsDistinct
 keys_distinct [] h = tt
 keys_distinct (e ∷ es) h =

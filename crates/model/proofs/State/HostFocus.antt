@@ -23,7 +23,7 @@ module _ {w : World} (host : Bool) where
   kept_before index world.Kept.root = world.Kept.root
   kept_before index (world.Kept.grafted graft inner name kept reached grafts named) = world.Kept.grafted graft inner name (kept_before graft.tree kept) (reached_before graft reached) grafts named
 
-  chain_before : (id : FullNodeId) → OnChain (with_host w host) id → OnChain w id
+  pub chain_before : (id : FullNodeId) → OnChain (with_host w host) id → OnChain w id
   chain_before id (first t is) = first t is
   chain_before id (next graft id' on goes) = next graft id (chain_before graft on) (record { kept = kept_before graft.tree goes.kept; reached = reached_before graft goes.reached; name = goes.name; grafts = goes.grafts; declared = goes.declared })
 

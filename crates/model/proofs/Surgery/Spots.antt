@@ -23,7 +23,7 @@ use Rattle.model.proofs.Update.AcceptedOrFault.{decide_named, decide_id}
 -- ---- the data
 
 -- an entry's node that none of these names stays
-overwritten_unnamed : (nodes : FinMap full_cmp NodeData) (index : ℕ) (es : List (NodeId × NodeData)) (id : FullNodeId) → (id.tree ≡ index → Contains (map (λ e. e.0) es) id.node → ⊥) → get (overwritten nodes index es) id ≡ get nodes id
+pub overwritten_unnamed : (nodes : FinMap full_cmp NodeData) (index : ℕ) (es : List (NodeId × NodeData)) (id : FullNodeId) → (id.tree ≡ index → Contains (map (λ e. e.0) es) id.node → ⊥) → get (overwritten nodes index es) id ≡ get nodes id
 overwritten_unnamed nodes index [] id out = refl
 overwritten_unnamed nodes index (e ∷ es) id out =
     overwritten_unnamed (insert nodes (in_tree index e.0) e.1) index es id (λ same c. out same (suc c.0, omega (arith, c.1), c.2))

@@ -41,13 +41,13 @@ no_empty [] h = refl
 no_empty (x ∷ xs) h = absurd (h (λ e. cc))
 
 -- what the old world gives to the merged one
-record IsSound (m : World) : Type 0 where
-  known_first : slice_get m.known 0 ≡ Some ROOT_NAME
-  known_once : IsKnownOnce m.known
-  known_fit : length m.known < 2 ^ 32
-  root_present : IsSome (get m.trees 0)
-  present_known : (index : ℕ) → IsSome (get m.trees index) → index < length m.known
-  root_is_node : (index : ℕ) (id : FullNodeId) → root_of m index ≡ Some id → IsNode m id
+pub record IsSound (m : World) : Type 0 where
+  pub known_first : slice_get m.known 0 ≡ Some ROOT_NAME
+  pub known_once : IsKnownOnce m.known
+  pub known_fit : length m.known < 2 ^ 32
+  pub root_present : IsSome (get m.trees 0)
+  pub present_known : (index : ℕ) → IsSome (get m.trees index) → index < length m.known
+  pub root_is_node : (index : ℕ) (id : FullNodeId) → root_of m index ≡ Some id → IsNode m id
 
 module _ (old : World) (u : UpdateData) (none : (f : Fault) → ¬ (Stands old u f)) where
   named_root_is_node : (id : FullNodeId) → root_of (merged old u) (index_for old u.name) ≡ Some id → IsNode (merged old u) id
@@ -141,7 +141,7 @@ module _ (old : World) (u : UpdateData) (none : (f : Fault) → ¬ (Stands old u
       go None e = absurd (none (FocusOnEmptyGraft name) (none_apart old u none, (id, chain_old r id on, k.0, k.1, before, e)))
       go (Some inner) e = IsSome_is inner (root_named_new r name inner (world.Kept.grafted id inner name k.0 k.1 before e) e)
 
-  state_after : IsState new
+  pub state_after : IsState new
   state_after = record {
     known_first = rw (r.known) (sound.known_first);
     known_once = rw (r.known) (sound.known_once);

@@ -1,29 +1,50 @@
-use Rattle.std.proofs.Common.{◌≡◌, ◌∷◌, sym, ap, subst, ◌∙◌}
-use Rattle.std.specs.Prelude.{◌||◌, is_some}
+use Rattle.std.proofs.Common.{◌≡◌, ◌∷◌, drop, ◌+◌, get_or, None, sym, ap, subst, ◌∙◌}
+use Rattle.std.specs.Prelude.{◌||◌, is_some, slice_index_or}
 use Rattle.std.specs.List.Sorted.{IsStrictlySortedBy}
 use Rattle.std.specs.Map.{keys_of}
+use Rattle.model.specs.declared.FullNodeId.{FullNodeId}
 use Rattle.model.specs.FullIds.{full_cmp}
-use Rattle.tree_store.specs.Sound.{NodeChanges, change_at}
-use Rattle.tree_store.specs.Stored.{record_at, record_after_change}
-use Rattle.tree_store.proofs.SlotFacts.{written_next, roomy_next, rest_sorted}
+use Rattle.tree_changes.specs.declared.decision.NodeChange.{NodeChange}
+use Rattle.tree_changes.specs.declared.decision.NodeChange.TheVariants.{Put}
+use Rattle.tree_changes.specs.Changes.{NodeChanges, change_at}
+use Rattle.tree_store.specs.Stored.{record_at}
+use Rattle.tree_store.specs.Commits.{after_change, HasRoomFor, AreEntriesApart}
+use Rattle.tree_store.proofs.WrittenSlots.{HasEntriesOf, step_at, slot_here, entry_here, next_records, next_room, next_sorted, next_entries, next_apart}
 use Rattle.tree_store.proofs.slots.write_all.Goals as goal
 
-pub loop-id-preserved : goal.loop-id-preserved
-loop-id-preserved c =
-    let es = c.loop-id.slots.entries in
+pub write-requires-clause-slot : goal.write-requires-clause-slot
+write-requires-clause-slot c =
+    let d : FullNodeId × NodeChange = (record { tree = 0; node = record { 0 = 0 } }, Put None None) in
+    let step = step_at c.args.changes.now c.loop-change.change-index d c.loop-change-test.true in
+    let i = c.loop-change.invariant in
+    slot_here c.args.nodes.now.items c.loop-change.nodes.items c.loop-change.nodes.items c.loop-change.slots.entries c.loop-change.slots.entries (get_or c.args.changes.now c.loop-change.change-index d) _
+    (subst (HasRoomFor c.loop-change.slots.entries) step i.room) (subst (λ (cs : NodeChanges). IsStrictlySortedBy full_cmp (keys_of cs)) step i.sorted)
+    (subst (HasEntriesOf c.args.nodes.now.items c.loop-change.nodes.items) step i.entries) (subst AreEntriesApart step i.apart)
+
+pub loop-change-preserved : goal.loop-change-preserved
+loop-change-preserved c =
+    let d : FullNodeId × NodeChange = (record { tree = 0; node = record { 0 = 0 } }, Put None None) in
+    let step = step_at c.args.changes.now c.loop-change.change-index d c.loop-change-test.true in
+    let i = c.loop-change.invariant in
+    let first = c.args.nodes.now.items in
+    let now = c.loop-change.nodes.items in
+    let later = c.write.new.nodes.items in
+    let es = c.loop-change.slots.entries in
     let fs = c.write.new.slots.entries in
-    let k = c.in-Some.id in
-    let change = c.in-Some.change in
-    let rest = c.next.new.self in
-    let step : c.loop-id.id-iterator ≡ (k, change) ∷ rest = c.in-Some.ensures.steps in
-    let sorted : IsStrictlySortedBy full_cmp (keys_of ((k, change) ∷ rest)) = subst (λ (cs : NodeChanges). IsStrictlySortedBy full_cmp (keys_of cs)) step c.loop-id.invariant.sorted in
+    let e = get_or c.args.changes.now c.loop-change.change-index d in
+    let rest = drop (c.loop-change.change-index + 1) c.args.changes.now in
+    let room = subst (HasRoomFor es) step i.room in
+    let sorted = subst (λ (cs : NodeChanges). IsStrictlySortedBy full_cmp (keys_of cs)) step i.sorted in
+    let entries = subst (HasEntriesOf first now) step i.entries in
+    let apart = subst AreEntriesApart step i.apart in
+    let w = c.write.ensures in
     record {
       records = λ q.
-          written_next es fs k change rest sorted c.write.ensures.records q
-          ∙ ap (λ (cs : NodeChanges). record_after_change (change_at cs q) (record_at es q)) (sym step)
-          ∙ c.loop-id.invariant.records q;
-      room = λ q.
-          roomy_next es fs k change rest sorted c.write.ensures.records q (c.write.ensures.tight q)
-          (c.loop-id.invariant.room q ∙ ap (λ (cs : NodeChanges). is_some (record_at es q) || is_some (change_at cs q)) step);
-      sorted = rest_sorted k change rest sorted;
+          next_records first now later es fs e rest room sorted entries apart w.records w.tight w.nodes w.count q
+          ∙ ap (λ (cs : NodeChanges). after_change first (change_at cs q) (record_at es q)) (sym step)
+          ∙ i.records q;
+      room = next_room first now later es fs e rest room sorted entries apart w.records w.tight w.nodes w.count;
+      sorted = next_sorted first now later es fs e rest room sorted entries apart w.records w.tight w.nodes w.count;
+      entries = next_entries first now later es fs e rest room sorted entries apart w.records w.tight w.nodes w.count;
+      apart = next_apart first now later es fs e rest room sorted entries apart w.records w.tight w.nodes w.count;
     }

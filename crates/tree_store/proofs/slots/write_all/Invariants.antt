@@ -1,15 +1,19 @@
-use Rattle.std.proofs.Common.{◌≡◌}
+use Rattle.std.proofs.Common.{◌≡◌, ℕ, length, map, drop}
+use Rattle.std.specs.Prelude.{All, slice_get, IsSome}
 use Rattle.std.specs.List.Sorted.{IsStrictlySortedBy}
-use Rattle.std.specs.Map.{keys_of}
 use Rattle.model.specs.declared.FullNodeId.{FullNodeId}
 use Rattle.model.specs.FullIds.{full_cmp}
-use Rattle.tree_store.specs.Sound.{change_at}
-use Rattle.tree_store.specs.Stored.{record_at, record_after_change, HasRoomFor}
+use Rattle.tree_changes.specs.Changes.{change_at}
+use Rattle.tree_store.specs.Stored.{record_at}
+use Rattle.tree_store.specs.Commits.{after_change, AreEntriesApart, HasRoomFor}
+use Rattle.tree_store.proofs.WrittenSlots.{HasEntriesOf}
 use Rattle.tree_store.proofs.slots.write_all.Given as goal
 
-abbrev pub invariant-loop-id : goal.invariant-loop-id
-invariant-loop-id l = record {
-  records : (q : FullNodeId) → record_after_change (change_at l.id-iterator q) (record_at l.slots.entries q) ≡ record_after_change (change_at l.fn.changes.entries q) (record_at l.initial.slots.entries q);
-  room : HasRoomFor l.slots.entries l.id-iterator;
-  sorted : IsStrictlySortedBy full_cmp (keys_of l.id-iterator);
+abbrev pub invariant-loop-change : goal.invariant-loop-change
+invariant-loop-change l = record {
+  records : (q : FullNodeId) → after_change l.initial.nodes.items (change_at (drop l.change-index l.changes) q) (record_at l.slots.entries q) ≡ after_change l.initial.nodes.items (change_at l.changes q) (record_at l.initial.slots.entries q);
+  room : HasRoomFor l.slots.entries (drop l.change-index l.changes);
+  sorted : IsStrictlySortedBy full_cmp (map (λ e. e.0) (drop l.change-index l.changes));
+  entries : HasEntriesOf l.initial.nodes.items l.nodes.items (drop l.change-index l.changes);
+  apart : AreEntriesApart (drop l.change-index l.changes);
 }

@@ -1,28 +1,13 @@
-use Rattle.std.proofs.Common.{◌≡◌, sym, ap, subst, ◌∙◌, Some, None, Option}
-use Rattle.std.specs.Prelude.{IsSome, ◌↔◌}
-use Rattle.model.specs.World.{Place, StandsAt, data_of}
-use Rattle.tree_store.specs.KeptWorld.{KeptWorld}
-use Rattle.tree_store.specs.Stored.{filled}
+use Rattle.std.proofs.Common.{sym, ap, ◌∙◌, subst}
+use Rattle.model.specs.World.{data_of}
+use Rattle.tree_changes.specs.Looks.{IsPlaceOf}
+use Rattle.tree_store.specs.Kept.{Kept}
 use Rattle.tree_store.proofs.Maps.{node_in, get-nodes_shown}
+use Rattle.tree_store.proofs.KeptReads.{none_there}
 use Rattle.tree_store.proofs.store.Store.place.Goals as goal
 
-some_is_none : {A : Type 0} (o : Option A) → IsSome o → o ≡ None → ⊥
-some_is_none None h e = cc
-some_is_none (Some x) h e = cc
-
 pub unreachable-requires : goal.unreachable-requires
-unreachable-requires c =
-    let none : data_of c.args.self.now.world c.args.id ≡ None =
-    sym (ap (λ o. node_in (filled o)) (ap Some (sym c.in-None-slot.is) ∙ c.in-Some.ensures.value) ∙ sym (get-nodes_shown c.self.inside.nodes.entries c.args.id) ∙ ap (λ (k : KeptWorld). data_of k.world c.args.id) c.self.view_is) in
-    some_is_none (data_of c.args.self.now.world c.args.id) c.requires none
-
-pub unreachable-requires-in-None : goal.unreachable-requires-in-None
-unreachable-requires-in-None c =
-    let none : data_of c.args.self.now.world c.args.id ≡ None =
-    sym (ap (λ o. node_in (filled o)) c.in-None.ensures.value ∙ sym (get-nodes_shown c.self.inside.nodes.entries c.args.id) ∙ ap (λ (k : KeptWorld). data_of k.world c.args.id) c.self.view_is) in
-    some_is_none (data_of c.args.self.now.world c.args.id) c.requires none
+unreachable-requires c = none_there _ c.requires (ap node_in c.in-None.ensures ∙ sym (get-nodes_shown c.self.inside.nodes.entries c.args.id) ∙ ap (λ (k : Kept). data_of k.world c.args.id) c.self.view_is)
 
 pub returns : goal.returns
-returns c =
-    subst (λ (k : KeptWorld). (p : Place) → (c.in-Some-slot.record.place ≡ Some p) ↔ StandsAt k.world p c.args.id) c.self.view_is
-    (c.self.invariant.places.places c.args.id c.in-Some-slot.record (sym (ap filled (ap Some (sym c.in-Some-slot.is) ∙ c.in-Some.ensures.value))))
+returns c = subst (λ (k : Kept). IsPlaceOf k.world c.args.id c.in-Some.record.now.place) c.self.view_is (c.self.invariant.places c.args.id c.in-Some.record.now (sym c.in-Some.ensures))

@@ -1,29 +1,48 @@
-use Rattle.std.proofs.Common.{sym, ap, subst, ◌∙◌}
-use Rattle.std.proofs.lemmas.Result.{IfOk-weaker}
-use Rattle.tree_store.specs.KeptWorld.{KeptWorld, IsTight}
-use Rattle.tree_store.specs.Shown.{world_shown}
-use Rattle.tree_store.proofs.Commits.{on_err, no_spare, ready, same_nodes, same_room, same_stored}
+use Rattle.std.proofs.Common.{rules, ◌≡◌, ◌<◌, ℕ, true, None, nat_lt, Result, Ok, Err, sym, ap, subst, refl, ◌∙◌}
+use Rattle.std.specs.Prelude.{OnOk, OnErr, is_none, slice_index_or}
+use Rattle.std.specs.Vec.{vec_len, vec_capacity}
+use Rattle.model.specs.World.{index_of}
+use Rattle.tree_store.specs.declared.store.Store.TheInside.{Inside}
+use Rattle.tree_store.specs.Kept.{Kept, IsTight}
+use Rattle.tree_store.proofs.Commits.{no_spare, tight, ready, world_same, stored_same}
+use Rattle.tree_store.proofs.Decided.{none_is}
+use Rattle.tree_store.proofs.NamesKept.{kept_is_key}
 use Rattle.tree_store.proofs.store.Store.reserve.Goals as goal
 
-pub make_room-requires : goal.make_room-requires
-make_room-requires c = no_spare c.self.inside.nodes.entries (subst IsTight (sym c.self.view_is) c.requires)
+on_ok : {X Y : Type 0} (r : Result X Y) (P Q R S : Type 0) → (P → Q → R → S) → OnOk r P → OnOk r Q → OnOk r R → OnOk r S
+on_ok (Ok x) P Q R S f p q h = f p q h
+on_ok (Err e) P Q R S f p q h = h
+
+on_err : {X Y : Type 0} (r : Result X Y) (P Q : Type 0) → (P → Q) → OnErr r P → OnErr r Q
+on_err (Ok x) P Q f h = h
+on_err (Err e) P Q f h = f h
+
+lt_true : (a b : ℕ) → a < b → nat_lt a b ≡ true
+lt_true a b less = search rules
+
+pub make_all-requires : goal.make_all-requires
+make_all-requires c = no_spare c.self.inside.nodes.entries (subst IsTight (sym c.self.view_is) c.requires.tight)
 
 pub invariant_of-self : goal.invariant_of-self
-invariant_of-self c =
-    same_stored c.self.inside.nodes.entries c.make_room.new.slots.entries c.make_room.ensures.same c.self.inside.focus (world_shown c.self.inside) _
-    (ap (λ m. record (world_shown c.self.inside) { nodes = m }) (same_nodes c.self.inside.nodes.entries c.make_room.new.slots.entries c.make_room.ensures.same)) c.self.invariant
+invariant_of-self c = stored_same c.self.inside _ c.self.invariant c.make_all.ensures.nodes c.make_all.ensures.names c.make_all.ensures.known refl refl refl
 
 pub returns-clause-same : goal.returns-clause-same
 returns-clause-same c =
-    ap (λ m. record (world_shown c.self.inside) { nodes = m }) (same_nodes c.self.inside.nodes.entries c.make_room.new.slots.entries c.make_room.ensures.same)
-    ∙ ap (λ (k : KeptWorld). k.world) c.self.view_is
+    let b : Inside = record { alloc = c.self.inside.alloc; nodes = c.make_all.new.nodes; known = c.make_all.new.known; names = c.make_all.new.names; toolkit = c.self.inside.toolkit; host_focused = c.self.inside.host_focused; focus = c.self.inside.focus } in
+    world_same c.self.inside b c.self.invariant c.make_all.ensures.nodes c.make_all.ensures.names c.make_all.ensures.known refl refl refl
+    ∙ ap (λ (k : Kept). k.world) c.self.view_is
 
 pub returns-clause-ok : goal.returns-clause-ok
-returns-clause-ok c = IfOk-weaker c.make_room.result _ _ (λ _ h. ready c.make_room.new.slots.entries c.args.overlay.now.nodes.entries h) c.make_room.ensures.ok
+returns-clause-ok c =
+    let b : Inside = record { alloc = c.self.inside.alloc; nodes = c.make_all.new.nodes; known = c.make_all.new.known; names = c.make_all.new.names; toolkit = c.self.inside.toolkit; host_focused = c.self.inside.host_focused; focus = c.self.inside.focus } in
+    let same =
+    world_same c.self.inside b c.self.invariant c.make_all.ensures.nodes c.make_all.ensures.names c.make_all.ensures.known refl refl refl
+    ∙ ap (λ (k : Kept). k.world) c.self.view_is in
+    on_ok c.make_all.result _ _ _ _ (λ room there spare. record {
+      slots = ready c.make_all.new.nodes.entries c.args.decision.now.nodes.items room;
+      names = λ k d less. kept_is_key c.make_all.new.names.entries (slice_index_or c.args.decision.now.trees.items k d).id (there k d less);
+      room = λ e. lt_true (vec_len c.make_all.new.known) (vec_capacity c.make_all.new.known) (spare (none_is c.is_none-is_new.result c.tree_index.result c.is_none-is_new.ensures ∙ ap is_none (c.tree_index.ensures ∙ ap (λ w. index_of w c.args.update.now.tree_id) (sym same) ∙ e)));
+    }) c.make_all.ensures.room c.make_all.ensures.there c.make_all.ensures.spare
 
 pub returns-clause-err : goal.returns-clause-err
-returns-clause-err c =
-    on_err c.make_room.result _ _ (λ h.
-    let nodes = same_nodes c.self.inside.nodes.entries c.make_room.new.slots.entries c.make_room.ensures.same in
-    let slots = same_room c.self.inside.nodes.entries c.make_room.new.slots.entries c.make_room.ensures.same (no_spare c.self.inside.nodes.entries (subst IsTight (sym c.self.view_is) c.requires)) h in
-    (λ i. record { world = record (world_shown c.self.inside) { nodes = nodes i }; slots = slots i }) ∙ c.self.view_is) c.make_room.ensures.err
+returns-clause-err c = on_err c.make_all.result _ _ (λ spare. tight c.make_all.new.nodes.entries spare) c.make_all.ensures.err

@@ -1,9 +1,28 @@
-use Rattle.std.proofs.Common.{◌∙◌, sym}
-use Rattle.accesskit_consumer.specs.Views.{world_of}
+use Rattle.std.proofs.Common.{◌∙◌, sym, ap, subst}
+use Rattle.schema.specs.UpdateData.{update_data}
+use Rattle.model.specs.Differences.{events}
+use Rattle.model.specs.State.{IsState}
+use Rattle.tree_changes.specs.Changes.{overlaid}
+use Rattle.tree_changes.specs.Decisions.{IsDecision}
 use Rattle.accesskit_consumer.proofs.PlanEvents.{told_differences}
+use Rattle.accesskit_consumer.proofs.Deciding.{views_tellable, does_accepted}
 use Rattle.accesskit_consumer.proofs.tree.state.TreeState.apply.Goals as goal
 
-pub returns-clause-told : goal.returns-clause-told
-returns-clause-told g c =
-    told_differences g.H.TreeChangeHandler.steps c.args.handler.now c.tell_all.new.handler (world_of c.new.result) c.args.self.now (world_of c.over.result) c.commit.new.self.world c.as_slice.result.now c.args.plan.events.items
-    (c.new.ensures ∙ c.reserve.ensures.same ∙ c.self.view_is) (c.over.ensures ∙ sym c.commit.ensures.world) c.as_slice.ensures.value c.tell_all.ensures
+pub tell_all-requires : goal.tell_all-requires
+tell_all-requires g c =
+    let old = c.new-old.ensures ∙ c.reserve.ensures.same ∙ c.self.view_is in
+    let new = c.over-new.ensures ∙ ap (λ w. overlaid w (update_data c.args.update) c.args.decision) (c.reserve.ensures.same ∙ c.self.view_is) in
+    views_tellable c.args.self.now (update_data c.args.update) c.args.decision (subst IsState old c.know.ensures.state) c.requires _ _ _ old new c.as_slice.ensures.value
+
+pub commit-requires-clause-decided : goal.commit-requires-clause-decided
+commit-requires-clause-decided g c = subst (λ w. IsDecision w (update_data c.args.update) c.args.decision) (sym (c.reserve.ensures.same ∙ c.self.view_is)) c.requires
+
+pub returns-clause-does : goal.returns-clause-does
+returns-clause-does g c =
+    let old = c.new-old.ensures ∙ c.reserve.ensures.same ∙ c.self.view_is in
+    let same = ap (λ w. overlaid w (update_data c.args.update) c.args.decision) (c.reserve.ensures.same ∙ c.self.view_is) in (
+      events c.args.self.now c.commit.new.self.world c.args.decision.events.items,
+      does_accepted c.args.self.now (update_data c.args.update) c.args.decision (subst IsState old c.know.ensures.state) c.requires c.commit.new.self.world (c.commit.ensures.world ∙ same),
+      told_differences g.H.TreeChangeHandler.steps c.args.handler.now c.tell_all.new.handler _ c.args.self.now _ c.commit.new.self.world _ c.args.decision.events.items
+          old (c.over-new.ensures ∙ sym c.commit.ensures.world) c.as_slice.ensures.value c.tell_all.ensures.told,
+    )

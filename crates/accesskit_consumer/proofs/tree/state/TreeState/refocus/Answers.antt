@@ -1,15 +1,7 @@
-use Rattle.std.proofs.Common.{subst, ◌∙◌, sym, ap}
+use Rattle.std.proofs.Common.{◌∙◌, sym, ap}
 use Rattle.accesskit_consumer.specs.Views.{world_of}
 use Rattle.accesskit_consumer.proofs.PlanEvents.{told_refocused}
-use Rattle.tree_store.specs.KeptWorld.{IsTight}
-use Rattle.tree_plan.specs.Whole.{IsWhole}
-use Rattle.accesskit_consumer.proofs.Anchors.{whole_at_host}
 use Rattle.accesskit_consumer.proofs.tree.state.TreeState.refocus.Goals as goal
-
-pub invariant_of-self : goal.invariant_of-self
-invariant_of-self g c =
-    subst (λ k. IsTight k × IsWhole k.world) (sym c.set_host_focused.ensures)
-    (c.self.invariant.0, whole_at_host c.self.inside.store.world c.args.is_host_focused c.self.invariant.1)
 
 pub returns-clause-told : goal.returns-clause-told
 returns-clause-told g c =

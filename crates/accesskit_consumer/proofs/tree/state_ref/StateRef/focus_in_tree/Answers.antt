@@ -1,6 +1,6 @@
 use Rattle.accesskit_consumer.specs.Views.{world_of}
 use Rattle.accesskit_consumer.specs.Nodes.{id_at}
-use Rattle.accesskit_consumer.proofs.Anchors.{focus_moved}
+use Rattle.accesskit_consumer.proofs.Focusing.{focus_moved}
 use Rattle.accesskit_consumer.proofs.tree.state_ref.StateRef.focus_in_tree.Goals as goal
 
 pub returns-clause-node : goal.returns-clause-node
