@@ -1,0 +1,79 @@
+-- The decision on an update, and what follows where it is carried out.
+use Rattle.std.proofs.Common.{◌≡◌, ◌≤◌, ◌+◌, ◌*◌, ℕ, slice_index_or, List, [], length, Option, Some, None, Result, refl, sym, subst, arith}
+use Rattle.std.specs.Prelude.{All, IfOk, IfSome}
+use Rattle.std.specs.Option.{option_map_or}
+use Rattle.std.proofs.lemmas.List.Elements.{Contains-get_or}
+use Rattle.model.specs.declared.events.PlanEvent.{PlanEvent}
+use Rattle.model.specs.declared.events.PlanEvent.TheVariants.{Added, Updated, FocusMoved, Removed}
+use Rattle.model.specs.World.{World}
+use Rattle.model.specs.Events.{Event, Told}
+use Rattle.model.specs.Differences.{events, told_root}
+use Rattle.model.specs.Reasons.{Reason}
+use Rattle.model.specs.Run.{CommandData, ReplyData, ToUpdate, Refused, OutOfMemory, Accepted, Does}
+use Rattle.model.specs.State.{IsState}
+use Rattle.model.specs.Update.{UpdateData, Fault, IsFirst, Stands, index_for}
+use Rattle.model.specs.Work.{Work, IsWorkOf, allowed}
+use Rattle.model.proofs.Differences.Reasons.{has_reason}
+use Rattle.tree_changes.specs.declared.decision.Decision.{Decision}
+use Rattle.tree_changes.specs.declared.error.UpdateError.{UpdateError}
+use Rattle.tree_changes.specs.Changes.{overlaid}
+use Rattle.tree_changes.specs.Decisions.{IsDecision, IsWithinWork}
+use Rattle.tree_changes.specs.Looks.{raised}
+use Rattle.tree_changes.specs.Refusals.{fault_of, IsRefusal}
+use Rattle.accesskit_consumer.specs.Telling.{IsTellable}
+
+pub work_moved : (result : Result Decision UpdateError) (v w : World) (u : UpdateData) (a b m n : ℕ) → v ≡ w → a ≡ b → m ≡ n → IfOk result (λ d. IsWithinWork v u d a m) → IfOk result (λ d. IsWithinWork w u d b n)
+work_moved result v w u a b m n world before after h =
+    subst (λ x. IfOk result (λ d. IsWithinWork w u d b x)) after
+    (subst (λ x. IfOk result (λ d. IsWithinWork w u d x m)) before (subst (λ x. IfOk result (λ d. IsWithinWork x u d a m)) world h))
+
+-- a world in which a name is known had its first update
+state_not_first : (w : World) → IsState w → ¬ (IsFirst w)
+state_not_first w s first = cc (s.known_first, first)
+
+-- what has its reason can be told
+tellable : (old new : World) (root : Option _) (d : PlanEvent) → Reason old new root d → IsTellable old new d
+tellable old new root (Added id) r = r.0
+tellable old new root (Updated id) r = r.0
+tellable old new root (FocusMoved before after) r = (r.0, r.1)
+tellable old new root (Removed id) r = r.0
+
+module _ (w : World) (u : UpdateData) (d : Decision) (state : IsState w) (decided : IsDecision w u d) where
+  all_tellable : All (IsTellable w (overlaid w u d)) d.events.items
+  all_tellable =
+      let root = told_root (index_for w u.name) u.info in
+      λ k e less. tellable w (overlaid w u d) root (slice_index_or d.events.items k e)
+      (has_reason w (overlaid w u d) root d.events.items (decided.told (state_not_first w state)) (slice_index_or d.events.items k e) (Contains-get_or d.events.items k e less))
+
+  pub views_tellable : (old new : World) (items : List PlanEvent) → old ≡ w → new ≡ overlaid w u d → items ≡ d.events.items → All (IsTellable old new) items
+  views_tellable old new items is_old is_new same =
+      subst (λ x. All (IsTellable old new) x) (sym same)
+      (subst (λ x. All (IsTellable x new) d.events.items) (sym is_old) (subst (λ x. All (IsTellable w x) d.events.items) (sym is_new) all_tellable))
+
+  -- an update that is accepted and told
+  pub does_accepted : (new : World) → new ≡ overlaid w u d → Does w (ToUpdate u) new (events w new d.events.items) Accepted
+  does_accepted new is =
+      subst (λ x. Does w (ToUpdate u) x (events w x d.events.items) Accepted) (sym is)
+      (decided.accepted, d.events.items, decided.told (state_not_first w state), refl)
+
+-- an update that is refused
+by_fault : (w new : World) (u : UpdateData) (f : Option Fault) → IfSome f (Stands w u) → new ≡ w → Does w (ToUpdate u) new [] (option_map_or Refused f OutOfMemory)
+by_fault w new u None h same = (same, refl)
+by_fault w new u (Some f) h same = (h, same, refl)
+
+pub does_refused : (w new : World) (u : UpdateData) (e : UpdateError) → IsRefusal w u e → new ≡ w → Does w (ToUpdate u) new [] (option_map_or Refused (fault_of e) OutOfMemory)
+does_refused w new u e h same = by_fault w new u (fault_of e) h same
+
+-- two more for each of n, and for one more
+pub two_further : (start n count next : ℕ) → count ≤ start + 2 * n → next ≡ raised (raised count) → next ≤ start + 2 * (n + 1)
+two_further start n count next before is = grind arith
+
+-- what an update adds to the count is within what is allowed
+pub within : (w new : World) (u : UpdateData) (d : Decision) (before decided after : ℕ) → new ≡ overlaid w u d → IsWithinWork w u d before decided
+    → after ≤ decided + 2 * (length d.events.items + (length d.nodes.items + length d.trees.items)) → (work : Work) → IsWorkOf w u new work → after ≤ before + allowed work
+within w new u d before decided after is h told work is_work = let least = h work (subst (λ x. IsWorkOf w u x work) is is_work) in omega arith
+
+-- what is done to the world that a state shows is done to that world
+pub done_moved : {H : Type 0} (steps : H → Event → H → Type 0) (s t : H) (v w new : World) (command : CommandData) (reply : ReplyData) → v ≡ w
+    → (told : List Event) × Does v command new told reply × Told steps s told t → (told : List Event) × Does w command new told reply × Told steps s told t
+done_moved steps s t v w new command reply is h = subst (λ x. (told : List Event) × Does x command new told reply × Told steps s told t) is h

@@ -1,0 +1,52 @@
+//! A count of look-ups.
+ghost use Rattle.std.specs.Prelude.{◌≡◌};
+ghost use Rattle.tree_changes.specs.Looks.{raised};
+
+use std::marker::Model;
+
+/// How many records of nodes and trees were looked up. At its last value the count stays.
+#[derive(Drop)]
+pub struct Steps {
+    count: u128,
+}
+
+impl Model for Steps {
+    ghost use Rattle.std.specs.Prelude.{ℕ};
+    ghost use Rattle.std.specs.Coded.{coded_ℕ};
+
+    ghost Value = { ℕ };
+
+    ghost coded = { coded_ℕ };
+
+    ghost view = { λ a. a.count };
+}
+
+impl Steps {
+    /// None yet.
+    pub fn new() -> Steps
+        ensures { result ≡ 0 }
+    {
+        Steps { count: 0 }
+    }
+
+    /// How many there were.
+    pub fn count(&self) -> u128
+        ensures { result ≡ self.now }
+    {
+        self.count
+    }
+
+    /// There were this many.
+    pub(crate) fn set(&mut self, count: u128)
+        ensures { self.new ≡ count }
+    {
+        self.count = count;
+    }
+
+    /// There were two more.
+    pub(crate) fn add_two(&mut self)
+        ensures { self.new ≡ raised (raised self.old) }
+    {
+        self.count = self.count.saturating_add(2);
+    }
+}

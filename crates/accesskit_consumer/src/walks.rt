@@ -1,0 +1,28 @@
+//! Walks over the nodes of a state: over all of them, or over what a filter shows.
+mod bounds;
+mod calls;
+mod controls;
+mod course;
+mod deepest;
+mod depths;
+mod ends;
+pub mod filter;
+mod filtered;
+mod hits;
+mod items;
+mod plain;
+mod range;
+mod sets;
+pub(crate) mod siblings;
+mod spot;
+mod steps;
+
+pub use controls::Controls;
+pub use filter::{ByFn, Filter};
+pub use filtered::{FilteredChildren, FollowingFilteredSiblings, PrecedingFilteredSiblings};
+pub use items::Items;
+pub use model::filters::FilterResult;
+pub use plain::{
+    ChildIds, Children, FollowingSiblingNodes, FollowingSiblings, PrecedingSiblingNodes,
+    PrecedingSiblings,
+};

@@ -1,0 +1,22 @@
+//! The decision on an update, as those that make it and those that carry it out see it: what is looked up, what changes, and
+//! why an update is refused.
+#![tactic(auto)]
+
+mod decision;
+mod error;
+mod look_ups;
+mod plan;
+
+pub use decision::{Decision, NodeChange};
+pub use error::UpdateError;
+pub use look_ups::{LookUps, NodeRecord, TreeRecord};
+pub use model::PlanEvent;
+pub use plan::{Change, Plan};
+
+use model::FullNodeId;
+
+/// A parent, and the index among its children.
+pub type Place = (FullNodeId, usize);
+
+/// The texts of a toolkit's name and version.
+pub type ToolkitTexts = (Option<String>, Option<String>);

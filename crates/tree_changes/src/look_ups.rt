@@ -1,0 +1,64 @@
+//! Records of a state by id, each look-up counted.
+ghost use Rattle.std.specs.Prelude.{◌≡◌, ℕ, ⊤, is_some, IfSome, length};
+ghost use Rattle.std.specs.Borrow.{sem, follows_so};
+ghost use mathlib.Core.Option.{none};
+ghost use Rattle.model.specs.World.{World, data_of};
+ghost use Rattle.model.specs.Surgery.{IsOld};
+ghost use Rattle.tree_changes.specs.Looks.{IsNodeRecord, IsTreeRecord, raised};
+
+use crate::Place;
+use model::FullNodeId;
+use schema::{Node, NodeId, TreeId};
+
+/// A node's place and data.
+#[derive(Clone, Copy)]
+pub struct NodeRecord<'a> {
+    pub place: Option<Place>,
+    pub node: &'a Node,
+}
+
+/// What is known of a tree: its index where its id was ever used, the node that grafts it, and its root and declared
+/// focus where it is present.
+#[derive(Clone, Copy, Debug, PartialEq, Eq)]
+pub struct TreeRecord {
+    pub id: TreeId,
+    pub index: Option<u32>,
+    pub graft: Option<FullNodeId>,
+    pub root: Option<NodeId>,
+    pub focus: Option<NodeId>,
+}
+
+/// Gives the records of one state by id, or those of no state before the first update, and counts each call. No call
+/// changes what is read.
+pub trait LookUps {
+    /// The world that it reads.
+    ghost world: { Self → World };
+
+    /// How many records it was asked for.
+    ghost asked: { Self → ℕ };
+
+    /// The record of a node, where the node is there.
+    fn node(&mut self, id: FullNodeId) -> Option<NodeRecord<'_>>
+        ensures* counts { sem 𝓛 (follows_so Self.row Self.row self.entry.ghost_name none (λ _ _. ⊤) (λ v. (world v ≡ world self.entry.now) × (asked v ≡ raised (asked self.entry.now)))) }
+        ensures found { is_some result ≡ is_some (data_of (world self.old) id) }
+        ensures given { IfSome result (λ r. IsNodeRecord (world self.old) id r) };
+
+    /// The record of the tree of this name, where the name is known or a node grafts it.
+    fn tree(&mut self, name: TreeId) -> Option<TreeRecord>
+        ensures stays { world self.new ≡ world self.old }
+        ensures counts { asked self.new ≡ raised (asked self.old) }
+        ensures given { IsTreeRecord (world self.old) name result };
+
+    /// How many records were asked for. At its last value the count stays.
+    fn count(&self) -> u128
+        ensures { result ≡ asked self.now };
+
+    /// Whether the host is focused.
+    fn is_host_focused(&self) -> bool
+        ensures { result ≡ (world self.now).host_focused };
+
+    /// How many names of trees are known. What is read is a state, or no name is known and nothing is there.
+    fn known_trees(&self) -> u32
+        ensures count { result ≡ length (world self.now).known }
+        ensures old { IsOld (world self.now) };
+}

@@ -1,0 +1,118 @@
+-- Maps and sets by ids as functions.
+use Rattle.std.proofs.Common.{◌≡◌, ◌≢◌, ◌⊎◌, Bool, true, false, cond, Contains, ℕ, suc, All, List, [], ◌∷◌, Option, Some, None, ⊎_elim, inl, inr, refl, sym, ap, subst, ◌∙◌}
+use Rattle.std.specs.Prelude.{IsSome, is_some, slice_get}
+use Rattle.std.specs.Cmp.{Equal-is, eq_by_cmp_equiv}
+use Rattle.std.specs.BTreeMap.{BTreeMap, is_at}
+use Rattle.std.specs.BTreeSet.{BTreeSet}
+use Rattle.std.specs.List.{list_any}
+use Rattle.std.specs.Map.{lookup}
+use Rattle.std.proofs.lemmas.Map.Entries.{place_from_lookup}
+use Rattle.std.proofs.lemmas.Option.{slice_get_within, get_or_from_slice_get}
+use Rattle.std.proofs.lemmas.List.Elements.{All-contains}
+use Rattle.model.specs.declared.FullNodeId.{FullNodeId}
+use Rattle.model.specs.FullIds.{full_cmp, exact_full, full_total}
+use Rattle.model.proofs.Members.{contains_none, contains_first, contains_later, contains_cases}
+use Rattle.tree_plan.specs.Passes.{at, has}
+
+-- f has v at c, and is g elsewhere
+abbrev pub Put : {X : Type 0} → FullNodeId → X → (FullNodeId → X) → (FullNodeId → X) → Type 0
+Put c v before after = (q : FullNodeId) → after q ≡ cond (is_at (full_cmp c) q) v (before q)
+
+same_key : (c q : FullNodeId) → is_at (full_cmp c) q ≡ true → c ≡ q
+same_key c q e = exact_full c q ((Equal-is (full_cmp c q)).0 e)
+
+at_itself : (c : FullNodeId) → is_at (full_cmp c) c ≡ true
+at_itself c = (eq_by_cmp_equiv full_total).refl c
+
+pub put_here : {X : Type 0} (c : FullNodeId) (v : X) (f g : FullNodeId → X) → Put c v f g → g c ≡ v
+put_here c v f g h = h c ∙ ap (λ b. cond b v (f c)) (at_itself c)
+
+pub put_apart : {X : Type 0} (c : FullNodeId) (v : X) (f g : FullNodeId → X) → Put c v f g → (q : FullNodeId) → c ≢ q → g q ≡ f q
+put_apart {X} c v f g h q other = go (is_at (full_cmp c) q) refl (h q)
+  where
+    go : (b : Bool) → is_at (full_cmp c) q ≡ b → g q ≡ cond b v (f q) → g q ≡ f q
+    go true e k = absurd (other (same_key c q e))
+    go false e k = k
+
+pub none_or_some : {X : Type 0} (o : Option X) → (o ≡ None) ⊎ ((x : X) × (o ≡ Some x))
+none_or_some None = inl refl
+none_or_some (Some x) = inr (x, refl)
+
+pub some_is : {X : Type 0} (o : Option X) (x : X) → o ≡ Some x → IsSome o
+some_is (Some y) x e = refl
+some_is None x e = cc
+
+pub of_some : {X : Type 0} (o : Option X) → IsSome o → (x : X) × (o ≡ Some x)
+of_some (Some y) e = (y, refl)
+of_some None e = cc
+
+pub not_some : {X : Type 0} (o : Option X) → o ≡ None → IsSome o → ⊥
+not_some None e h = cc
+not_some (Some x) e h = cc
+
+pub none_if_not : {X : Type 0} (o : Option X) → false ≡ is_some o → o ≡ None
+none_if_not None h = refl
+none_if_not (Some x) h = cc
+
+-- ---- lists
+
+pub contains_at : {X : Type 0} (xs : List X) (i : ℕ) (x : X) → slice_get xs i ≡ Some x → Contains xs x
+contains_at xs i x is = (i, slice_get_within xs i x is, get_or_from_slice_get xs i x x is)
+
+pub at_contains : {X : Type 0} (xs : List X) (x : X) → Contains xs x → (i : ℕ) × (slice_get xs i ≡ Some x)
+at_contains [] x h = absurd (contains_none x h)
+at_contains {X} (y ∷ ys) x h = go (contains_cases y x ys h) (at_contains ys x)
+  where
+    go : (y ≡ x) ⊎ Contains ys x → (Contains ys x → (i : ℕ) × (slice_get ys i ≡ Some x)) → (i : ℕ) × (slice_get (y ∷ ys) i ≡ Some x)
+    go (inl same) later = (0, ap Some same)
+    go (inr h) later = let f = later h in (suc f.0, f.1)
+
+-- ---- a loop over a map: each entry is left, or done
+
+module _ {X : Type 0} (m : BTreeMap FullNodeId X) (D : FullNodeId → X → Type 0) where
+  abbrev pub IsLeftOrDone : List (FullNodeId × X) → Type 0
+  IsLeftOrDone rest = (c : FullNodeId) (x : X) → at m c ≡ Some x → Contains rest (c, x) ⊎ D c x
+
+  pub entry_at : (c : FullNodeId) (x : X) → at m c ≡ Some x → Contains m.entries (c, x)
+  entry_at c x is =
+      let f = place_from_lookup (is_at (full_cmp c)) m.entries x is in
+      let same : c ≡ f.1 = same_key c f.1 f.3 in
+      contains_at m.entries f.0 (c, x) (f.2 ∙ ap (λ k. Some (k, x)) (sym same))
+
+  pub loop_begins : IsLeftOrDone m.entries
+  loop_begins c x is = inl (entry_at c x is)
+
+  pub loop_goes : (rest later : List (FullNodeId × X)) (e : FullNodeId × X) → rest ≡ e ∷ later → IsLeftOrDone rest → (E : FullNodeId → X → Type 0) → ((c : FullNodeId) (x : X) → D c x → E c x) → E e.0 e.1 → (c : FullNodeId) (x : X) → at m c ≡ Some x → Contains later (c, x) ⊎ E c x
+  loop_goes rest later e split left E more here c x is = go (left c x is)
+    where
+      head : (e ≡ (c, x)) ⊎ Contains later (c, x) → Contains later (c, x) ⊎ E c x
+      head (inl same) = let key : e.0 ≡ c = ap (λ z. z.0) same in let value : e.1 ≡ x = ap (λ z. z.1) same in inr (subst (λ k. E k x) key (subst (E e.0) value here))
+      head (inr h) = inl h
+
+      go : Contains rest (c, x) ⊎ D c x → Contains later (c, x) ⊎ E c x
+      go (inr done) = inr (more c x done)
+      go (inl h) = head (contains_cases e (c, x) later (subst (λ xs. Contains xs (c, x)) split h))
+
+  pub loop_ends : (rest : List (FullNodeId × X)) → rest ≡ [] → IsLeftOrDone rest → (c : FullNodeId) (x : X) → at m c ≡ Some x → D c x
+  loop_ends rest none left c x is = ⊎_elim (λ h. absurd (contains_none (c, x) (subst (λ xs. Contains xs (c, x)) none h))) (λ done. done) (left c x is)
+
+-- what is left are entries of the map
+abbrev pub AreEntries : {X : Type 0} → BTreeMap FullNodeId X → List (FullNodeId × X) → Type 0
+AreEntries {X} m rest = (e : FullNodeId × X) → Contains rest e → at m e.0 ≡ Some e.1
+
+pub entries_begin : {X : Type 0} (m : BTreeMap FullNodeId X) → All (λ e. at m e.0 ≡ Some e.1) m.entries → AreEntries m m.entries
+entries_begin m all e h = All-contains (λ e. at m e.0 ≡ Some e.1) m.entries e all h
+
+pub entries_first : {X : Type 0} (m : BTreeMap FullNodeId X) (rest later : List (FullNodeId × X)) (e : FullNodeId × X) → rest ≡ e ∷ later → AreEntries m rest → at m e.0 ≡ Some e.1
+entries_first m rest later e split are = are e (subst (λ xs. Contains xs e) (sym split) (contains_first e later))
+
+pub entries_go : {X : Type 0} (m : BTreeMap FullNodeId X) (rest later : List (FullNodeId × X)) (e : FullNodeId × X) → rest ≡ e ∷ later → AreEntries m rest → AreEntries m later
+entries_go m rest later e split are f h = are f (subst (λ xs. Contains xs f) (sym split) (contains_later e f later h))
+
+-- ---- an empty map, and an empty set
+
+pub empty_at : {X : Type 0} (m : BTreeMap FullNodeId X) → m.entries ≡ [] → (id : FullNodeId) → at m id ≡ None
+empty_at m none id = ap (λ es. lookup (is_at (full_cmp id)) es) none
+
+pub empty_has : (s : BTreeSet FullNodeId) → s.keys ≡ [] → (id : FullNodeId) → ¬ (has s id)
+empty_has s none id h = let f : list_any (is_at (full_cmp id)) s.keys ≡ false = ap (λ ks. list_any (is_at (full_cmp id)) ks) none in cc

@@ -1,0 +1,508 @@
+-- The named nodes, compared one after another.
+use Rattle.std.proofs.Common.{◌≡◌, ◌≢◌, ◌⊎◌, ⊎_elim, ◌↔◌, ℕ, zero, suc, ◌+◌, ◌<◌, ◌≤◌, List, [], ◌∷◌, ◌++◌, length, map, get_or, slice_get, AllPairs, Contains, Option, Some, None, IsSome, option_map, option_and_then, length-append, inl, inr, refl, sym, ap, subst, ◌∙◌, arith}
+use Rattle.std.specs.Prelude.{IsTrue}
+use Rattle.std.specs.Option.{option_to_list}
+use Rattle.std.specs.BTreeMap.{BTreeMap, is_at}
+use Rattle.std.specs.FinMap.{get}
+use Rattle.std.specs.Map.{lookup}
+use Rattle.std.proofs.Math.Seq.{get_or-append_seam}
+use Rattle.std.proofs.lemmas.List.{append-nil, length-map, get_or_append_left}
+use Rattle.std.proofs.lemmas.List.Elements.{Contains-append_left, Contains-append_right, Contains-append_cases}
+use Rattle.std.proofs.lemmas.Option.{same_Some, slice_get_within, slice_get-get_or}
+use Rattle.schema.specs.NodeData.{NodeData}
+use Rattle.schema.specs.declared.NodeId.{NodeId}
+use Rattle.schema.specs.declared.TreeId.{TreeId}
+use Rattle.model.specs.declared.FullNodeId.{FullNodeId}
+use Rattle.model.specs.World.{ROOT_NAME, World, Tree, Place, data_of, in_tree, listed, graft_name, root_of}
+use Rattle.model.specs.Update.{UpdateData, index_for, merged, IsNamed, named_at}
+use Rattle.model.specs.Surgery.{IsOld, IsOpened, Spot, IsAt, Left, Entered}
+use Rattle.model.proofs.Worlds.Names.{cases_id, cases_name, same_id}
+use Rattle.model.proofs.State.StatePlaces.{root_of-tree}
+use Rattle.model.proofs.Surgery.Spots.{spot_once, left_tree, entered_tree, lister_named, leaver_named}
+use Rattle.model.proofs.Surgery.FaultsStand.{named_root_graft_stands, named_children_stand, named_grafts_stand, entered_twice_stands}
+use Rattle.tree_changes.specs.declared.error.UpdateError.{UpdateError}
+use Rattle.tree_changes.specs.declared.error.UpdateError.TheVariants as error
+use Rattle.tree_changes.specs.Refusals.{IsRefusal}
+use Rattle.tree_plan.specs.declared.passes.Opened.{Opened}
+use Rattle.tree_plan.specs.declared.passes.Named.{Named}
+use Rattle.tree_plan.specs.declared.passes.Compared.{Compared}
+use Rattle.tree_plan.specs.Passes.{at, at_name, name_cmp, IsNamedAs, IsOpening, IsComparison}
+use Rattle.tree_plan.specs.Comparisons.{IsNamedBefore, AreTaken, Gathers, GathersNew, OnlyAt, OnlyIn, child_ids, ChangesGraft, ComparesNode, Begins, IsNodeFault, IsDone, AreCompared}
+use Rattle.tree_plan.proofs.Entries.{AreNamedOnce, entry_named}
+use Rattle.tree_plan.proofs.IdMaps.{contains_at, at_contains, put_here, put_apart, some_is, of_some, not_some}
+use Rattle.tree_plan.proofs.Opens.{tree_is}
+use Rattle.tree_plan.proofs.Taking.{entry_id, last_or_before}
+
+-- ---- elements of lists
+
+in_option : {X : Type 0} (o : Option X) (x : X) → Contains (option_to_list o) x → o ≡ Some x
+in_option None x c = absurd (let lt : c.0 < 0 = c.1 in omega arith)
+in_option (Some y) x c = let f = at_contains (y ∷ []) x c in go f.0 f.1
+  where
+    go : (k : ℕ) → slice_get (y ∷ []) k ≡ Some x → Some y ≡ Some x
+    go zero at = at
+    go (suc k) at = cc
+
+option_has : {X : Type 0} (o : Option X) (x : X) → o ≡ Some x → Contains (option_to_list o) x
+option_has o x e = subst (λ p. Contains (option_to_list p) x) (sym e) (0, omega arith, refl)
+
+-- one more element, which isn't there
+pushed_once : {X : Type 0} (xs : List X) (o : Option X) → ((x : X) → o ≡ Some x → Contains xs x → ⊥) → AllPairs (λ a b. a ≢ b) xs → AllPairs (λ a b. a ≢ b) (xs ++ option_to_list o)
+pushed_once xs None out once = subst (AllPairs (λ a b. a ≢ b)) (sym (append-nil xs)) once
+pushed_once {X} xs (Some y) out once = λ i j d lt fits. go i j d lt (let n = length-append xs (y ∷ []) in let f : j < length (xs ++ y ∷ []) = fits in last_or_before j (length xs) (omega (arith, n)))
+  where
+    front : (i : ℕ) (d : X) → i < length xs → get_or (xs ++ y ∷ []) i d ≡ get_or xs i d
+    front i d lt = get_or_append_left xs (y ∷ []) d i lt
+
+    back : (d : X) → get_or (xs ++ y ∷ []) (length xs) d ≡ y
+    back d = get_or-append_seam xs y [] d
+
+    go : (i j : ℕ) (d : X) → i < j → (j < length xs) ⊎ (j ≡ length xs) → get_or (xs ++ y ∷ []) i d ≢ get_or (xs ++ y ∷ []) j d
+    go i j d lt (inl below) same = once i j d lt below (sym (front i d (omega arith)) ∙ same ∙ front j d below)
+    go i j d lt (inr last) same =
+        let within : i < length xs = omega arith in
+        let is : get_or xs i d ≡ y = sym (front i d within) ∙ same ∙ ap (λ k. get_or (xs ++ y ∷ []) k d) last ∙ back d in
+        out y refl (contains_at xs i y (slice_get-get_or xs i d within ∙ ap Some is))
+
+pushed_length : {X : Type 0} (xs : List X) (o : Option X) (k : ℕ) → length xs ≤ k → length (xs ++ option_to_list o) ≤ k + 1
+pushed_length xs None k fits = omega (arith, length-append xs [])
+pushed_length xs (Some y) k fits = omega (arith, length-append xs (y ∷ []))
+
+map_nil : {X Y : Type 0} (f : X → Y) (xs : List X) → map f xs ≡ [] → xs ≡ []
+map_nil f [] e = refl
+map_nil f (x ∷ xs) e = cc
+
+decide_some : (o : Option TreeId) (name : TreeId) → (o ≡ Some name) ⊎ (o ≢ Some name)
+decide_some None name = inr (λ e. cc)
+decide_some (Some v) name = ⊎_elim (λ e. inl (ap Some e)) (λ ne. inr (λ e. ne (same_Some v name e))) (cases_name v name)
+
+module _ (w : World) (u : UpdateData) (o : IsOld w) where
+  abbrev m : World
+  m = merged w u
+
+  abbrev i : ℕ
+  i = index_for w u.name
+
+  later_named : (k : ℕ) (n : FullNodeId) → IsNamedBefore w u k n → IsNamedBefore w u (k + 1) n
+  later_named k n h = (h.0, h.1, (let lt : h.1 < k = h.2 in omega arith), h.3)
+
+  none_named : (n : FullNodeId) → ¬ (IsNamedBefore w u 0 n)
+  none_named n h = let lt : h.1 < 0 = h.2 in omega arith
+
+  later_done : (k : ℕ) (s : Spot) → IsDone w u k s → IsDone w u (k + 1) s
+  later_done k None d = d
+  later_done k (Some p) d = later_named k p.0 d
+
+  ids_length : length (map (λ e. e.0) u.nodes) ≡ length u.nodes
+  ids_length = length-map u.nodes (λ (e : NodeId × NodeData). e.0)
+
+  -- the named nodes are those that one of all entries names
+  pub all_named : (n : FullNodeId) → IsNamedBefore w u (length u.nodes) n ↔ IsNamed w u n
+  all_named n = (
+    (λ h. (h.0, contains_at (map (λ e. e.0) u.nodes) h.1 n.node h.3)),
+    (λ h. let f = at_contains (map (λ e. e.0) u.nodes) n.node h.1 in
+        let lt : f.0 < length (map (λ e. e.0) u.nodes) = slice_get_within (map (λ e. e.0) u.nodes) f.0 n.node f.1 in
+        (h.0, f.0, subst (λ x. f.0 < x) ids_length lt, f.1)),
+  )
+
+  named_is : (k : ℕ) (n : FullNodeId) → IsNamedBefore w u k n → IsNamed w u n
+  named_is k n h = (h.0, contains_at (map (λ e. e.0) u.nodes) h.1 n.node h.3)
+
+  -- ---- one more entry
+  module _ (once : AreNamedOnce u.nodes) (k : ℕ) (e : NodeId × NodeData) (at_k : slice_get u.nodes k ≡ Some e) where
+    abbrev id : FullNodeId
+    id = in_tree i e.0
+
+    here : named_at u k ≡ Some e.0
+    here = entry_id u k e at_k
+
+    data_here : data_of m id ≡ Some e.1
+    data_here = entry_named w u id k once refl here ∙ ap (option_map (λ (x : NodeId × NodeData). x.1)) at_k
+
+    graft_here : graft_name m id ≡ e.1.tree_id
+    graft_here = ap (option_and_then (λ (d : NodeData). d.tree_id)) data_here
+
+    lists_here : listed m id ≡ child_ids id e.1
+    lists_here = rw data_here refl
+
+    named_here : IsNamedBefore w u (k + 1) id
+    named_here = (refl, k, omega arith, here)
+
+    first_named : ¬ (IsNamedBefore w u k id)
+    first_named h = let same : h.1 ≡ k = once h.1 k e.0 h.3 here in let lt : h.1 < k = h.2 in omega arith
+
+    last_named : (n : FullNodeId) → IsNamedBefore w u (k + 1) n → IsNamedBefore w u k n ⊎ (id ≡ n)
+    last_named n h = ⊎_elim
+        (λ lt. inl (h.0, h.1, lt, h.3))
+        (λ same. inr (same_id id n (sym h.0) (same_Some e.0 n.node (sym here ∙ subst (λ j. named_at u j ≡ Some n.node) same h.3))))
+        (last_or_before h.1 k h.2)
+
+    apart : (n : FullNodeId) → IsNamedBefore w u k n → id ≢ n
+    apart n h same = first_named (subst (IsNamedBefore w u k) (sym same) h)
+
+    abbrev WasHere : FullNodeId → Spot → Type 0
+    WasHere = OnlyIn id (listed w id) (child_ids id e.1)
+
+    abbrev IsHere : FullNodeId → Spot → Type 0
+    IsHere = OnlyIn id (child_ids id e.1) (listed w id)
+
+    here_done : (s : Spot) (j : ℕ) → s ≡ Some (id, j) → IsDone w u (k + 1) s
+    here_done s j is = subst (IsDone w u (k + 1)) (sym is) named_here
+
+    was_left : (c : FullNodeId) (s : Spot) → WasHere c s → Left w u s c
+    was_left c s h = subst (λ t. Left w u t c) (sym h.1.0) (h.1.1.0, subst (λ xs. slice_get xs h.0 ≢ Some c) (sym lists_here) h.1.1.1)
+
+    is_entered : (c : FullNodeId) (s : Spot) → IsHere c s → Entered w u s c
+    is_entered c s h = subst (λ t. Entered w u t c) (sym h.1.0) (subst (λ xs. slice_get xs h.0 ≡ Some c) (sym lists_here) h.1.1.0, h.1.1.1)
+
+    spot_of : (p : Place) → id ≡ p.0 → Some p ≡ Some (id, p.1)
+    spot_of p same = let pair : FullNodeId → Place = λ x. (x, p.1) in ap (λ x. Some (pair x)) (sym same)
+
+    left_was : (c : FullNodeId) (p : Place) → id ≡ p.0 → Left w u (Some p) c → WasHere c (Some p)
+    left_was c p same l =
+        let at_w : slice_get (listed w id) p.1 ≡ Some c = subst (λ x. slice_get (listed w x) p.1 ≡ Some c) (sym same) l.0 in
+        let at_m : slice_get (listed m id) p.1 ≢ Some c = subst (λ x. slice_get (listed m x) p.1 ≢ Some c) (sym same) l.1 in
+        (p.1, (spot_of p same, (at_w, subst (λ xs. slice_get xs p.1 ≢ Some c) lists_here at_m)))
+
+    entered_is : (c : FullNodeId) (p : Place) → id ≡ p.0 → Entered w u (Some p) c → IsHere c (Some p)
+    entered_is c p same l =
+        let at_m : slice_get (listed m id) p.1 ≡ Some c = subst (λ x. slice_get (listed m x) p.1 ≡ Some c) (sym same) l.0 in
+        let at_w : slice_get (listed w id) p.1 ≢ Some c = subst (λ x. slice_get (listed w x) p.1 ≢ Some c) (sym same) l.1 in
+        (p.1, (spot_of p same, (subst (λ xs. slice_get xs p.1 ≡ Some c) lists_here at_m, at_w)))
+
+    module _ (a b : Compared) (h : AreCompared w u k a) (s : ComparesNode w id k e.1 a b) where
+      -- the node's entry
+      named_as : IsNamedAs w u id s.n
+      named_as = record {
+        named = named_is (k + 1) id named_here;
+        entry = subst (λ j. named_at u j ≡ Some e.0) (sym s.is_entry.entry_is) here;
+        new = s.is_entry.new;
+        old = s.is_entry.old;
+        news = subst (λ x. IsTrue s.n.is_news ↔ (data_of w id ≢ x)) (sym data_here) s.is_entry.news;
+      }
+
+      next_is_named : (q : FullNodeId) (n : Named) → IsNamedBefore w u (k + 1) q → at b.named q ≡ Some n → IsNamedAs w u q n
+      next_is_named q n before is = ⊎_elim
+          (λ earlier. h.is_named q n earlier (sym (put_apart id (Some s.n) (at a.named) (at b.named) s.compares.named q (apart q earlier)) ∙ is))
+          (λ same.
+          let put : at b.named q ≡ Some s.n = subst (λ x. at b.named x ≡ Some s.n) same (put_here id (Some s.n) (at a.named) (at b.named) s.compares.named) in
+          let N : (x : FullNodeId) → Named → Type 0 = λ x y. IsNamedAs w u x y in
+          subst (λ y. N q y) (same_Some s.n n (sym put ∙ is)) (subst (λ x. N x s.n) same named_as))
+          (last_named q before)
+
+      next_has_named : (q : FullNodeId) → IsSome (at b.named q) ↔ IsNamed w u q
+      next_has_named q = ⊎_elim
+          (λ same. ((λ _. subst (IsNamed w u) same (named_is (k + 1) id named_here)), λ _. some_is (at b.named q) s.n (subst (λ x. at b.named x ≡ Some s.n) same (put_here id (Some s.n) (at a.named) (at b.named) s.compares.named))))
+          (λ ne. subst (λ x. IsSome x ↔ IsNamed w u q) (sym (put_apart id (Some s.n) (at a.named) (at b.named) s.compares.named q ne)) (h.has_named q))
+          (cases_id id q)
+
+      left_to : (c : FullNodeId) (t : Spot) → at b.left c ≡ Some t → Left w u t c × IsDone w u (k + 1) t
+      left_to c t is = ⊎_elim
+          (λ same. let f = (h.left c t).0 (sym same ∙ is) in (f.0, later_done k t f.1))
+          (λ g.
+          let e' : g.0 ≡ t = same_Some g.0 t (sym g.2 ∙ is) in
+          subst (λ x. Left w u x c × IsDone w u (k + 1) x) e' (was_left c g.0 g.1, here_done g.0 g.1.0 g.1.1.0))
+          (s.compares.left.others c)
+
+      left_from : (c : FullNodeId) (t : Spot) → Left w u t c → IsDone w u (k + 1) t → at b.left c ≡ Some t
+      left_from c t l done = there (of_some (at b.left c) (found t l done))
+        where
+          there : (x : Spot) × (at b.left c ≡ Some x) → at b.left c ≡ Some t
+          there f = f.1 ∙ ap Some (spot_once w u o f.0 t c (left_to c f.0 f.1).0.0 l.0)
+
+          before : (t : Spot) → Left w u t c → IsDone w u k t → IsSome (at b.left c)
+          before t l done = ⊎_elim (λ same. some_is (at b.left c) t (same ∙ (h.left c t).1 (l, done))) (λ g. some_is (at b.left c) g.0 g.2) (s.compares.left.others c)
+
+          found : (t : Spot) → Left w u t c → IsDone w u (k + 1) t → IsSome (at b.left c)
+          found None l done = before None l done
+          found (Some p) l done = ⊎_elim (λ earlier. before (Some p) l earlier) (λ same. s.compares.left.found c (Some p) (left_was c p same l)) (last_named p.0 done)
+
+      entered_to : (c : FullNodeId) (t : Spot) → at b.entered c ≡ Some t → Entered w u t c × IsDone w u (k + 1) t
+      entered_to c t is = ⊎_elim
+          (λ same. let f = (h.entered c t).0 (sym same ∙ is) in (f.0, later_done k t f.1))
+          (λ g.
+          let e' : g.0 ≡ t = same_Some g.0 t (sym g.2 ∙ is) in
+          subst (λ x. Entered w u x c × IsDone w u (k + 1) x) e' (is_entered c g.0 g.1, here_done g.0 g.1.0 g.1.1.0))
+          (s.compares.entered.others c)
+
+      entered_from : (c : FullNodeId) (t : Spot) → Entered w u t c → IsDone w u (k + 1) t → at b.entered c ≡ Some t
+      entered_from c t l done = go t l done
+        where
+          before : (t : Spot) → Entered w u t c → IsDone w u k t → at b.entered c ≡ Some t
+          before t l done =
+              let was : at a.entered c ≡ Some t = (h.entered c t).1 (l, done) in
+              ⊎_elim (λ same. same ∙ was) (λ g. absurd (not_some (at a.entered c) (s.compares.entered.found c g.0 g.1).0 (some_is (at a.entered c) t was))) (s.compares.entered.others c)
+
+          go : (t : Spot) → Entered w u t c → IsDone w u (k + 1) t → at b.entered c ≡ Some t
+          go None l done = before None l done
+          go (Some p) l done = ⊎_elim (λ earlier. before (Some p) l earlier) (λ same. (s.compares.entered.found c (Some p) (entered_is c p same l)).1) (last_named p.0 done)
+
+      grafted_to : (name : TreeId) (n : FullNodeId) → at_name b.grafted name ≡ Some n → IsNamedBefore w u (k + 1) n × (graft_name m n ≡ Some name)
+      grafted_to name n is = ⊎_elim
+          (λ takes.
+          let same : id ≡ n = same_Some id n (sym (s.grafted.taken name takes).1 ∙ is) in
+          subst (λ x. IsNamedBefore w u (k + 1) x × (graft_name m x ≡ Some name)) same (named_here, graft_here ∙ takes))
+          (λ not. let f = (h.grafted name n).0 (sym (s.grafted.others name not) ∙ is) in (later_named k n f.0, f.1))
+          (decide_some e.1.tree_id name)
+
+      grafted_from : (name : TreeId) (n : FullNodeId) → IsNamedBefore w u (k + 1) n → graft_name m n ≡ Some name → at_name b.grafted name ≡ Some n
+      grafted_from name n before grafts = ⊎_elim
+          (λ earlier.
+          let was : at_name a.grafted name ≡ Some n = (h.grafted name n).1 (earlier, grafts) in
+          ⊎_elim
+          (λ takes. absurd (not_some (at_name a.grafted name) (s.grafted.taken name takes).0 (some_is (at_name a.grafted name) n was)))
+          (λ not. s.grafted.others name not ∙ was)
+          (decide_some e.1.tree_id name))
+          (λ same. (s.grafted.taken name (sym graft_here ∙ subst (λ x. graft_name m x ≡ Some name) (sym same) grafts)).1 ∙ ap Some same)
+          (last_named n before)
+
+      abbrev Lost : ℕ → TreeId → Type 0
+      Lost j name = (n : FullNodeId) × IsNamedBefore w u j n × (graft_name w n ≡ Some name) × (graft_name m n ≢ Some name)
+
+      abbrev Gained : ℕ → TreeId → Type 0
+      Gained j name = (n : FullNodeId) × IsNamedBefore w u j n × (graft_name m n ≡ Some name) × (graft_name w n ≢ Some name)
+
+      lost_next : (name : TreeId) → Contains b.lost.items name ↔ Lost (k + 1) name
+      lost_next name = go s.compares.regrafted
+        where
+          weaker : Lost k name → Lost (k + 1) name
+          weaker f = (f.0, later_named k f.0 f.1, f.2, f.3)
+
+          go : ChangesGraft (graft_name w id) e.1.tree_id a b → Contains b.lost.items name ↔ Lost (k + 1) name
+          go (inl f) = (
+            (λ c. weaker ((h.lost name).0 (subst (λ xs. Contains xs name) f.1 c))),
+            (λ x. subst (λ xs. Contains xs name) (sym f.1) (⊎_elim
+                (λ earlier. (h.lost name).1 (x.0, earlier, x.2, x.3))
+                (λ same. absurd (x.3 (subst (λ y. graft_name m y ≡ Some name) same (graft_here ∙ sym f.0 ∙ subst (λ y. graft_name w y ≡ Some name) (sym same) x.2))))
+                (last_named x.0 x.1))),
+          )
+          go (inr f) = (
+            (λ c. ⊎_elim
+                (λ before. weaker ((h.lost name).0 before))
+                (λ now. let was : graft_name w id ≡ Some name = in_option (graft_name w id) name now in (id, named_here, was, λ is. f.0 (was ∙ sym is ∙ graft_here)))
+                (Contains-append_cases a.lost.items (option_to_list (graft_name w id)) name (subst (λ xs. Contains xs name) f.1 c))),
+            (λ x. subst (λ xs. Contains xs name) (sym f.1) (⊎_elim
+                (λ earlier. Contains-append_left a.lost.items (option_to_list (graft_name w id)) name ((h.lost name).1 (x.0, earlier, x.2, x.3)))
+                (λ same. Contains-append_right a.lost.items (option_to_list (graft_name w id)) name (option_has (graft_name w id) name (subst (λ y. graft_name w y ≡ Some name) (sym same) x.2)))
+                (last_named x.0 x.1))),
+          )
+
+      gained_next : (name : TreeId) → Contains b.gained.items name ↔ Gained (k + 1) name
+      gained_next name = go s.compares.regrafted
+        where
+          weaker : Gained k name → Gained (k + 1) name
+          weaker f = (f.0, later_named k f.0 f.1, f.2, f.3)
+
+          go : ChangesGraft (graft_name w id) e.1.tree_id a b → Contains b.gained.items name ↔ Gained (k + 1) name
+          go (inl f) = (
+            (λ c. weaker ((h.gained name).0 (subst (λ xs. Contains xs name) f.2 c))),
+            (λ x. subst (λ xs. Contains xs name) (sym f.2) (⊎_elim
+                (λ earlier. (h.gained name).1 (x.0, earlier, x.2, x.3))
+                (λ same. absurd (x.3 (subst (λ y. graft_name w y ≡ Some name) same (f.0 ∙ sym graft_here ∙ subst (λ y. graft_name m y ≡ Some name) (sym same) x.2))))
+                (last_named x.0 x.1))),
+          )
+          go (inr f) = (
+            (λ c. ⊎_elim
+                (λ before. weaker ((h.gained name).0 before))
+                (λ now. let is : e.1.tree_id ≡ Some name = in_option e.1.tree_id name now in (id, named_here, graft_here ∙ is, λ was. f.0 (was ∙ sym is)))
+                (Contains-append_cases a.gained.items (option_to_list e.1.tree_id) name (subst (λ xs. Contains xs name) f.2 c))),
+            (λ x. subst (λ xs. Contains xs name) (sym f.2) (⊎_elim
+                (λ earlier. Contains-append_left a.gained.items (option_to_list e.1.tree_id) name ((h.gained name).1 (x.0, earlier, x.2, x.3)))
+                (λ same. Contains-append_right a.gained.items (option_to_list e.1.tree_id) name (option_has e.1.tree_id name (sym graft_here ∙ subst (λ y. graft_name m y ≡ Some name) (sym same) x.2)))
+                (last_named x.0 x.1))),
+          )
+
+      lost_new : (v : TreeId) → graft_name w id ≡ Some v → Contains a.lost.items v → ⊥
+      lost_new v was c = let f = (h.lost v).0 c in apart f.0 f.1 (o.grafted_once id f.0 v was f.2)
+
+      gained_new : (v : TreeId) → e.1.tree_id ≡ Some v → Contains a.gained.items v → ⊥
+      gained_new v is c = let f = (h.gained v).0 c in not_some (at_name a.grafted v) (s.grafted.taken v is).0 (some_is (at_name a.grafted v) f.0 ((h.grafted v f.0).1 (f.1, f.2)))
+
+      abbrev Once : List TreeId → Type 0
+      Once xs = AllPairs (λ a b. a ≢ b) xs
+
+      lists_next : ChangesGraft (graft_name w id) e.1.tree_id a b → Once b.lost.items × Once b.gained.items × (length b.lost.items ≤ k + 1) × (length b.gained.items ≤ k + 1)
+      lists_next (inl f) = (
+        subst Once (sym f.1) h.lost_once,
+        subst Once (sym f.2) h.gained_once,
+        subst (λ xs. length xs ≤ k + 1) (sym f.1) (let le : length a.lost.items ≤ k = h.lost_count in omega arith),
+        subst (λ xs. length xs ≤ k + 1) (sym f.2) (let le : length a.gained.items ≤ k = h.gained_count in omega arith),
+      )
+      lists_next (inr f) = (
+        subst Once (sym f.1) (pushed_once a.lost.items (graft_name w id) lost_new h.lost_once),
+        subst Once (sym f.2) (pushed_once a.gained.items e.1.tree_id gained_new h.gained_once),
+        subst (λ xs. length xs ≤ k + 1) (sym f.1) (pushed_length a.lost.items (graft_name w id) k h.lost_count),
+        subst (λ xs. length xs ≤ k + 1) (sym f.2) (pushed_length a.gained.items e.1.tree_id k h.gained_count),
+      )
+
+      pub compared_next : AreCompared w u (k + 1) b
+      compared_next = record {
+        ungrafting = λ n before is. ⊎_elim
+            (λ earlier. h.ungrafting n earlier is)
+            (λ same. s.grafted.ungrafting (sym graft_here ∙ subst (λ x. graft_name m x ≡ Some ROOT_NAME) (sym same) is))
+            (last_named n before);
+        childless = λ n name before is. ⊎_elim
+            (λ earlier. h.childless n name earlier is)
+            (λ same.
+            let none : e.1.children ≡ [] = s.grafted.childless name (sym graft_here ∙ subst (λ x. graft_name m x ≡ Some name) (sym same) is) in
+            subst (λ x. listed m x ≡ []) same (lists_here ∙ ap (map (in_tree i)) none))
+            (last_named n before);
+        is_named = next_is_named;
+        has_named = next_has_named;
+        left = λ c t. (left_to c t, λ f. left_from c t f.0 f.1);
+        entered = λ c t. (entered_to c t, λ f. entered_from c t f.0 f.1);
+        grafted = λ name n. (grafted_to name n, λ f. grafted_from name n f.0 f.1);
+        lost = lost_next;
+        gained = gained_next;
+        lost_once = (lists_next s.compares.regrafted).0;
+        gained_once = (lists_next s.compares.regrafted).1;
+        named_count = s.compares.count_of ((h.has_named id).1 (named_is (k + 1) id named_here)) ∙ h.named_count;
+        lost_count = (lists_next s.compares.regrafted).2;
+        gained_count = (lists_next s.compares.regrafted).3;
+      }
+
+    -- what is wrong with the node is a fault that stands
+    pub node_refused : (a : Compared) → AreCompared w u k a → (f : UpdateError) → IsNodeFault w id e.1 a f → IsRefusal w u f
+    node_refused a h error.Memory x = x
+    node_refused a h (error.RootTreeGrafted n) x = subst (λ y. IsRefusal w u (error.RootTreeGrafted y)) x.0 (named_root_graft_stands w u o id (named_is (k + 1) id named_here) (graft_here ∙ x.1))
+    node_refused a h (error.GraftWithChildren n) x =
+        subst (λ y. IsRefusal w u (error.GraftWithChildren y)) x.0
+        (named_children_stand w u o id x.1 (named_is (k + 1) id named_here) (graft_here ∙ x.2) (λ none. x.3 (map_nil (in_tree i) e.1.children (sym lists_here ∙ none))))
+    node_refused a h (error.GraftedTwice name) x =
+        let f = (h.grafted name x.1).0 x.2 in
+        named_grafts_stand w u o id x.1 name (apart x.1 f.0) (named_is (k + 1) id named_here) (named_is k x.1 f.0) (graft_here ∙ x.0) f.1
+    node_refused a h (error.ListedTwice n) x =
+        subst (λ y. IsRefusal w u (error.ListedTwice y)) x.1 (⊎_elim
+        (λ there.
+        let t = of_some (at a.entered x.0) there in
+        let f = (h.entered x.0 t.0).0 t.1 in
+        let ne : x.2 ≢ t.0 = λ same. first_named (subst (IsDone w u k) (sym same ∙ x.3.1.0) f.1) in
+        entered_twice_stands w u o x.2 t.0 x.0 ne (is_entered x.0 x.2 x.3) f.0)
+        (λ g. entered_twice_stands w u o x.2 g.0 x.0 g.1 (is_entered x.0 x.2 x.3) (is_entered x.0 g.0 g.2))
+        x.4)
+    node_refused a h f x = absurd x
+
+  -- ---- before the first entry
+  module _ (opened : Opened) (op : IsOpening w u opened) (named : BTreeMap FullNodeId Named) (t : AreTaken opened.index u (length u.nodes) named) where
+    pub named_once : AreNamedOnce u.nodes
+    named_once j k n at_j at_k = t.once j k n (within j n at_j) (within k n at_k) at_j at_k
+      where
+        within : (j : ℕ) (n : NodeId) → named_at u j ≡ Some n → j < length u.nodes
+        within j n at_j = subst (λ x. j < x) ids_length (slice_get_within (map (λ e. e.0) u.nodes) j n at_j)
+
+    fused : (j : ℕ) (x : Option Tree) → option_map (in_tree j) (option_map (λ (t : Tree). t.root) x) ≡ option_map (λ (t : Tree). in_tree j t.root) x
+    fused j None = refl
+    fused j (Some x) = refl
+
+    old_root : option_map (in_tree opened.index) opened.record.root ≡ root_of w i
+    old_root =
+        ap (λ j. option_map (in_tree j) opened.record.root) op.index
+        ∙ ap (option_map (in_tree i)) (op.record_of.root ∙ ap (option_map (λ (t : Tree). t.root)) (sym (tree_is w o u.name)))
+        ∙ fused i (get w.trees i)
+
+    new_root : Some (in_tree opened.index opened.root) ≡ root_of m i
+    new_root = sym op.root ∙ ap (root_of m) op.index
+
+    module _ (c : Compared) (b : Begins opened named c) where
+      left_roots : Gathers (OnlyAt None (root_of w i) (root_of m i)) (λ _. None) (at c.left)
+      left_roots = subst (λ x. Gathers (OnlyAt None (root_of w i) x) (λ _. None) (at c.left)) new_root (subst (λ x. Gathers (OnlyAt None x (Some (in_tree opened.index opened.root))) (λ _. None) (at c.left)) old_root b.left)
+
+      entered_roots : GathersNew (OnlyAt None (root_of m i) (root_of w i)) (λ _. None) (at c.entered)
+      entered_roots = subst (λ x. GathersNew (OnlyAt None x (root_of w i)) (λ _. None) (at c.entered)) new_root (subst (λ x. GathersNew (OnlyAt None (Some (in_tree opened.index opened.root)) x) (λ _. None) (at c.entered)) old_root b.entered)
+
+      -- what is the root of the one and not of the other
+      root_only : (v v' : World) (x : FullNodeId) → root_of v i ≡ Some x → root_of v' i ≢ Some x → IsAt v None x × ¬ (IsAt v' None x)
+      root_only v v' x is other = let tree : i ≡ x.tree = root_of-tree v i x is in (subst (λ j. root_of v j ≡ Some x) tree is, subst (λ j. root_of v' j ≢ Some x) tree other)
+
+      root_first : (x : FullNodeId) (s : Spot) → at c.left x ≡ Some s → Left w u s x × IsDone w u 0 s
+      root_first x s is = ⊎_elim
+          (λ none. absurd (not_some (at c.left x) none (some_is (at c.left x) s is)))
+          (λ g.
+          let e' : None ≡ s = sym g.1.0 ∙ same_Some g.0 s (sym g.2 ∙ is) in
+          subst (λ y. Left w u y x × IsDone w u 0 y) e' (root_only w m x g.1.1.0 g.1.1.1, tt))
+          (left_roots.others x)
+
+      root_last : (x : FullNodeId) (s : Spot) → Left w u s x → IsDone w u 0 s → at c.left x ≡ Some s
+      root_last x (Some p) l done = absurd (none_named p.0 done)
+      root_last x None l done =
+          let tree : x.tree ≡ i = left_tree w u None x l in
+          let f = of_some (at c.left x) (left_roots.found x None (refl, (subst (λ j. root_of w j ≡ Some x) tree l.0, subst (λ j. root_of m j ≢ Some x) tree l.1))) in
+          f.1 ∙ ap Some (spot_once w u o f.0 None x (root_first x f.0 f.1).0.0 l.0)
+
+      root_first_entered : (x : FullNodeId) (s : Spot) → at c.entered x ≡ Some s → Entered w u s x × IsDone w u 0 s
+      root_first_entered x s is = ⊎_elim
+          (λ none. absurd (not_some (at c.entered x) none (some_is (at c.entered x) s is)))
+          (λ g.
+          let e' : None ≡ s = sym g.1.0 ∙ same_Some g.0 s (sym g.2 ∙ is) in
+          subst (λ y. Entered w u y x × IsDone w u 0 y) e' (root_only m w x g.1.1.0 g.1.1.1, tt))
+          (entered_roots.others x)
+
+      root_last_entered : (x : FullNodeId) (s : Spot) → Entered w u s x → IsDone w u 0 s → at c.entered x ≡ Some s
+      root_last_entered x (Some p) l done = absurd (none_named p.0 done)
+      root_last_entered x None l done =
+          let tree : x.tree ≡ i = entered_tree w u None x l in
+          (entered_roots.found x None (refl, (subst (λ j. root_of m j ≡ Some x) tree l.0, subst (λ j. root_of w j ≢ Some x) tree l.1))).1
+
+      none_grafted : (name : TreeId) (n : FullNodeId) → at_name c.grafted name ≢ Some n
+      none_grafted name n is = not_some (at_name c.grafted name) (ap (lookup (is_at (name_cmp name))) b.grafted) (some_is (at_name c.grafted name) n is)
+
+      none_in : (xs : List TreeId) → xs ≡ [] → (name : TreeId) → ¬ (Contains xs name)
+      none_in xs none name x = let lt : x.0 < length xs = x.1 in let z : length xs ≡ 0 = ap length none in omega arith
+
+      once_in : (xs : List TreeId) → xs ≡ [] → AllPairs (λ a b. a ≢ b) xs
+      once_in xs none = λ j k d lt fits. absurd (let f : k < length xs = fits in let z : length xs ≡ 0 = ap length none in omega arith)
+
+      pub compared_none : AreCompared w u 0 c
+      compared_none = record {
+        ungrafting = λ n before. absurd (none_named n before);
+        childless = λ n name before. absurd (none_named n before);
+        is_named = λ id n before. absurd (none_named id before);
+        has_named = λ id. (
+          (λ there. (all_named id).0 (subst (λ j. (id.tree ≡ j) × (k : ℕ) × (k < length u.nodes) × (named_at u k ≡ Some id.node)) op.index ((t.has id).0 (subst (λ x. IsSome (at x id)) b.named_is there)))),
+          (λ n. let f = (all_named id).1 n in subst (λ x. IsSome (at x id)) (sym b.named_is) ((t.has id).1 (f.0 ∙ sym op.index, f.1, f.2, f.3))),
+        );
+        left = λ x s. (root_first x s, λ f. root_last x s f.0 f.1);
+        entered = λ x s. (root_first_entered x s, λ f. root_last_entered x s f.0 f.1);
+        grafted = λ name n. ((λ is. absurd (none_grafted name n is)), λ f. absurd (none_named n f.0));
+        lost = λ name. ((λ x. absurd (none_in c.lost.items b.lost name x)), λ f. absurd (none_named f.0 f.1));
+        gained = λ name. ((λ x. absurd (none_in c.gained.items b.gained name x)), λ f. absurd (none_named f.0 f.1));
+        lost_once = once_in c.lost.items b.lost;
+        gained_once = once_in c.gained.items b.gained;
+        named_count = ap (λ (x : BTreeMap FullNodeId Named). length x.entries) b.named_is ∙ t.count_of;
+        lost_count = subst (λ xs. length xs ≤ 0) (sym b.lost) (omega arith);
+        gained_count = subst (λ xs. length xs ≤ 0) (sym b.gained) (omega arith);
+      }
+
+  -- ---- after the last entry
+  module _ (opened : IsOpened w u) (once : AreNamedOnce u.nodes) (c : Compared) (h : AreCompared w u (length u.nodes) c) where
+    done_left : (s : Spot) (x : FullNodeId) → Left w u s x → IsDone w u (length u.nodes) s
+    done_left None x l = tt
+    done_left (Some p) x l = (all_named p.0).1 (leaver_named w u p x l.0 l.1)
+
+    done_entered : (s : Spot) (x : FullNodeId) → Entered w u s x → IsDone w u (length u.nodes) s
+    done_entered None x l = tt
+    done_entered (Some p) x l = (all_named p.0).1 (lister_named w u p x l.0 l.1)
+
+    pub compared_all : IsComparison w u c
+    compared_all = record {
+      compared = record {
+        opened = opened;
+        named_once = once;
+        named_ungrafting = λ n named. h.ungrafting n ((all_named n).1 named);
+        named_childless = λ n name named. h.childless n name ((all_named n).1 named);
+        named_apart = λ n k name a b f g. same_Some n k (sym ((h.grafted name n).1 ((all_named n).1 a, f)) ∙ (h.grafted name k).1 ((all_named k).1 b, g));
+        entered_once = λ s t x a b. same_Some s t (sym ((h.entered x s).1 (a, done_entered s x a)) ∙ (h.entered x t).1 (b, done_entered t x b));
+      };
+      is_named = λ id n is. h.is_named id n ((all_named id).1 ((h.has_named id).0 (some_is (at c.named id) n is))) is;
+      has_named = λ id named. (h.has_named id).1 named;
+      left = λ id s. ((λ is. ((h.left id s).0 is).0), λ l. (h.left id s).1 (l, done_left s id l));
+      entered = λ id s. ((λ is. ((h.entered id s).0 is).0), λ l. (h.entered id s).1 (l, done_entered s id l));
+      grafted = λ name n. ((λ is. let f = (h.grafted name n).0 is in ((all_named n).0 f.0, f.1)), λ f. (h.grafted name n).1 ((all_named n).1 f.0, f.1));
+      lost = λ name. ((λ x. let f = (h.lost name).0 x in (f.0, (all_named f.0).0 f.1, f.2, f.3)), λ f. (h.lost name).1 (f.0, (all_named f.0).1 f.1, f.2, f.3));
+      gained = λ name. ((λ x. let f = (h.gained name).0 x in (f.0, ((all_named f.0).0 f.1, f.2, f.3))), λ f. (h.gained name).1 (f.0, (all_named f.0).1 f.1.0, f.1.1, f.1.2));
+      lost_once = h.lost_once;
+      gained_once = h.gained_once;
+      named_count = h.named_count;
+      lost_count = h.lost_count;
+      gained_count = h.gained_count;
+    }

@@ -1,0 +1,19 @@
+use Rattle.std.proofs.Common.{◌≡◌, ◌≤◌, ◌+◌, ◌-◌, ℕ, length, take}
+use Rattle.schema.specs.UpdateData.{update_data}
+use Rattle.model.specs.Update.{merged}
+use Rattle.model.specs.Work.{named_ids}
+use Rattle.model.specs.Surgery.{IsClimb}
+use Rattle.model.proofs.Update.AcceptedOrFault.{keys}
+use Rattle.tree_plan.proofs.Ascents.{AreOthers, IsMarked, IsFound}
+use Rattle.tree_plan.proofs.climbing.climb.Given as goal
+
+abbrev pub invariant-up : goal.invariant-up
+invariant-up g l = record {
+  world : g.L.LookUps.world l.look_ups ≡ g.L.LookUps.world l.fn.look_ups;
+  others : AreOthers (g.L.LookUps.world l.fn.look_ups) (update_data l.update) (take l.entry (named_ids (g.L.LookUps.world l.fn.look_ups) (update_data l.update))) l.start l.climbed;
+  climb : (steps : ℕ) × IsClimb (g.L.LookUps.world l.fn.look_ups) (update_data l.update) l.start (IsMarked l.start l.climbed) l.id steps × (g.L.LookUps.asked l.look_ups ≤ g.L.LookUps.asked l.fn.look_ups + steps);
+  found : IsFound (g.L.LookUps.world l.fn.look_ups) (update_data l.update) l.id;
+}
+
+abbrev pub decreases-up : goal.decreases-up
+decreases-up g l = length (keys (merged (g.L.LookUps.world l.fn.look_ups) (update_data l.update))) - length l.climbed.entries

@@ -1,0 +1,13 @@
+use Rattle.std.proofs.Common.{◌≡◌, ◌+◌, ◌≤◌}
+use Rattle.tree_plan.proofs.RemovingSteps.{IsDropping}
+use Rattle.tree_plan.proofs.removing.drop_lost.Given as goal
+
+abbrev pub ghost-drop_tree : goal.ghost-drop_tree
+ghost-drop_tree g a = g.setting
+
+abbrev pub invariant-loop-name : goal.invariant-loop-name
+invariant-loop-name g l = record {
+  world : g.L.LookUps.world l.look_ups ≡ g.L.LookUps.world l.fn.look_ups;
+  count : g.L.LookUps.asked l.look_ups ≤ g.L.LookUps.asked l.fn.look_ups + l.name-index;
+  dropping : IsDropping g.setting.0 g.setting.1 l.compared.lost.items l.name-index l.fn.removing l.removing;
+}

@@ -1,0 +1,7 @@
+use Rattle.tree_plan.proofs.verdicts.Found.verdict.Given as goal
+
+abbrev pub ghost-other_place : goal.ghost-other_place
+ghost-other_place g a = g.step
+
+abbrev pub ghost-moved_or_told : goal.ghost-moved_or_told
+ghost-moved_or_told g a = g.step

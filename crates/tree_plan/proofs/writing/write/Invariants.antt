@@ -1,0 +1,4 @@
+use Rattle.tree_plan.proofs.writing.write.Given as goal
+
+abbrev pub ghost-verdicts : goal.ghost-verdicts
+ghost-verdicts g a = g.step

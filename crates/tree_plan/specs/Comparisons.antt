@@ -1,0 +1,155 @@
+-- How far the named nodes have been compared with their old records.
+use Rattle.std.specs.Prelude.{◌≡◌, ◌≢◌, ℕ, ◌<◌, ◌≤◌, List, [], ◌++◌, length, map, slice_get, AllPairs, Contains, Option, Some, None, IsSome, IsTrue, ⊤, ◌⊎◌, ◌↔◌, if◌then◌else◌}
+use Rattle.std.specs.Option.{option_map, option_to_list}
+use Rattle.std.specs.BTreeMap.{BTreeMap, is_at}
+use Rattle.schema.specs.NodeData.{NodeData}
+use Rattle.schema.specs.declared.NodeId.{NodeId}
+use Rattle.schema.specs.declared.TreeId.{TreeId}
+use Rattle.model.specs.declared.FullNodeId.{FullNodeId}
+use Rattle.model.specs.FullIds.{full_cmp}
+use Rattle.model.specs.World.{ROOT_NAME, World, Place, IsNode, data_of, in_tree, listed, graft_name}
+use Rattle.model.specs.Update.{UpdateData, index_for, merged, IsNamed, named_at}
+use Rattle.model.specs.Surgery.{Spot, Left, Entered}
+use Rattle.tree_changes.specs.Looks.{IsPlaceOf}
+use Rattle.tree_changes.specs.declared.error.UpdateError.{UpdateError}
+use Rattle.tree_changes.specs.declared.error.UpdateError.TheVariants as error
+use Rattle.tree_plan.specs.declared.passes.Opened.{Opened}
+use Rattle.tree_plan.specs.declared.passes.Named.{Named}
+use Rattle.tree_plan.specs.declared.passes.Compared.{Compared}
+use Rattle.tree_plan.specs.Passes.{at, at_name, IsNamedAs}
+
+-- one of the first so many entries names the node
+abbrev pub IsNamedBefore : World → UpdateData → ℕ → FullNodeId → Type 0
+IsNamedBefore w u count id =
+    (id.tree ≡ index_for w u.name) × (k : ℕ) × (k < count) × (named_at u k ≡ Some id.node)
+
+-- the first so many entries name nodes of the tree with this index, each another
+pub record AreTaken (index : ℕ) (u : UpdateData) (count : ℕ) (named : BTreeMap FullNodeId Named) : Type 0 where
+  pub has : (id : FullNodeId) → IsSome (at named id) ↔ ((id.tree ≡ index) × (k : ℕ) × (k < count) × (named_at u k ≡ Some id.node))
+  pub once : (i j : ℕ) (n : NodeId) → i < count → j < count → named_at u i ≡ Some n → named_at u j ≡ Some n → i ≡ j
+  pub count_of : length named.entries ≡ count
+
+-- two entries name the node, or memory is wanting
+abbrev pub IsNamedTwice : UpdateData → UpdateError → Type 0
+IsNamedTwice u error.Memory = ⊤
+IsNamedTwice u (error.NamedTwice n) = (i j : ℕ) × (i ≢ j) × (named_at u i ≡ Some n) × (named_at u j ≡ Some n)
+IsNamedTwice u e = ⊥
+
+abbrev pub SpotMap : Type 0
+SpotMap = FullNodeId → Option Spot
+
+-- what P finds at spots has got such a spot, and nothing else has changed
+pub record Gathers (P : FullNodeId → Spot → Type 0) (before after : SpotMap) : Type 0 where
+  pub found : (c : FullNodeId) (s : Spot) → P c s → IsSome (after c)
+  pub others : (c : FullNodeId) → (after c ≡ before c) ⊎ ((s : Spot) × P c s × (after c ≡ Some s))
+
+-- and what P finds had none before
+pub record GathersNew (P : FullNodeId → Spot → Type 0) (before after : SpotMap) : Type 0 where
+  pub found : (c : FullNodeId) (s : Spot) → P c s → (before c ≡ None) × (after c ≡ Some s)
+  pub others : (c : FullNodeId) → (after c ≡ before c) ⊎ ((s : Spot) × P c s × (after c ≡ Some s))
+
+-- P finds what had a spot before, or has two, or memory is wanting
+abbrev pub IsFoundTwice : (FullNodeId → Spot → Type 0) → SpotMap → UpdateError → Type 0
+IsFoundTwice P before error.Memory = ⊤
+IsFoundTwice P before (error.ListedTwice n) =
+    (c : FullNodeId) × (c.node ≡ n) × (s : Spot) × P c s × (IsSome (before c) ⊎ ((t : Spot) × (s ≢ t) × P c t))
+IsFoundTwice P before e = ⊥
+
+-- it is the one and not the other
+abbrev pub IsOnly : Option FullNodeId → Option FullNodeId → FullNodeId → Type 0
+IsOnly this other c = (this ≡ Some c) × (other ≢ Some c)
+
+-- at this spot there is this and not the other
+abbrev pub OnlyAt : Spot → Option FullNodeId → Option FullNodeId → FullNodeId → Spot → Type 0
+OnlyAt spot this other c s = (s ≡ spot) × IsOnly this other c
+
+-- it stands in this list of the parent, and not at the same index of the other one
+abbrev pub OnlyIn : FullNodeId → List FullNodeId → List FullNodeId → FullNodeId → Spot → Type 0
+OnlyIn parent this other c s = (k : ℕ) × OnlyAt (Some (parent, k)) (slice_get this k) (slice_get other k) c s
+
+-- the same, at the first so many indexes
+abbrev pub OnlyInBefore : ℕ → FullNodeId → List FullNodeId → List FullNodeId → FullNodeId → Spot → Type 0
+OnlyInBefore count parent this other c s = (k : ℕ) × (k < count) × OnlyAt (Some (parent, k)) (slice_get this k) (slice_get other k) c s
+
+-- what a node with these data lists, in the tree of the id
+abbrev pub child_ids : FullNodeId → NodeData → List FullNodeId
+child_ids id d = map (in_tree id.tree) d.children
+
+-- a node with these data may graft what it does, and this is kept in mind
+pub record TakesGraft (id : FullNodeId) (d : NodeData) (before after : TreeId → Option FullNodeId) : Type 0 where
+  pub ungrafting : d.tree_id ≢ Some ROOT_NAME
+  pub childless : (name : TreeId) → d.tree_id ≡ Some name → d.children ≡ []
+  pub taken : (name : TreeId) → d.tree_id ≡ Some name → (before name ≡ None) × (after name ≡ Some id)
+  pub others : (name : TreeId) → d.tree_id ≢ Some name → after name ≡ before name
+
+-- it may not, or memory is wanting
+abbrev pub IsGraftFault : FullNodeId → NodeData → (TreeId → Option FullNodeId) → UpdateError → Type 0
+IsGraftFault id d before error.Memory = ⊤
+IsGraftFault id d before (error.RootTreeGrafted n) = (id.node ≡ n) × (d.tree_id ≡ Some ROOT_NAME)
+IsGraftFault id d before (error.GraftWithChildren n) = (id.node ≡ n) × (name : TreeId) × (d.tree_id ≡ Some name) × (d.children ≢ [])
+IsGraftFault id d before (error.GraftedTwice name) = (d.tree_id ≡ Some name) × (k : FullNodeId) × (before name ≡ Some k)
+IsGraftFault id d before e = ⊥
+
+-- the tree that is grafted no more comes to the lost ones, and the one that is grafted now to the gained ones
+abbrev pub ChangesGraft : Option TreeId → Option TreeId → Compared → Compared → Type 0
+ChangesGraft old new a b =
+    ((old ≡ new) × (b.lost.items ≡ a.lost.items) × (b.gained.items ≡ a.gained.items))
+    ⊎ ((old ≢ new) × (b.lost.items ≡ a.lost.items ++ option_to_list old) × (b.gained.items ≡ a.gained.items ++ option_to_list new))
+
+-- an entry with these data names the node
+pub record IsEntryOf (w : World) (id : FullNodeId) (entry : ℕ) (d : NodeData) (n : Named) : Type 0 where
+  pub entry_is : n.entry ≡ entry
+  pub new : n.was ≡ None → ¬ (IsNode w id)
+  pub old : (was : Option Place) → n.was ≡ Some was → IsNode w id × IsPlaceOf w id was
+  pub news : IsTrue n.is_news ↔ (data_of w id ≢ Some d)
+
+-- A node's data are compared with what it listed and grafted before.
+pub record ComparesData (id : FullNodeId) (n : Named) (children : List FullNodeId) (graft : Option TreeId) (d : NodeData) (a b : Compared) : Type 0 where
+  pub named : (q : FullNodeId) → at b.named q ≡ (if is_at (full_cmp id) q then Some n else at a.named q)
+  pub count_of : IsSome (at a.named id) → length b.named.entries ≡ length a.named.entries
+  pub left : Gathers (OnlyIn id children (child_ids id d)) (at a.left) (at b.left)
+  pub entered : GathersNew (OnlyIn id (child_ids id d) children) (at a.entered) (at b.entered)
+  pub regrafted : ChangesGraft graft d.tree_id a b
+
+-- a named node is compared with its old record
+pub record ComparesNode (w : World) (id : FullNodeId) (entry : ℕ) (d : NodeData) (a b : Compared) : Type 0 where
+  pub grafted : TakesGraft id d (at_name a.grafted) (at_name b.grafted)
+  pub n : Named
+  pub is_entry : IsEntryOf w id entry d n
+  pub compares : ComparesData id n (listed w id) (graft_name w id) d a b
+
+-- the root is compared with the one before, and nothing else
+pub record Begins (o : Opened) (named : BTreeMap FullNodeId Named) (c : Compared) : Type 0 where
+  pub named_is : c.named ≡ named
+  pub left : Gathers (OnlyAt None (option_map (in_tree o.index) o.record.root) (Some (in_tree o.index o.root))) (λ _. None) (at c.left)
+  pub entered : GathersNew (OnlyAt None (Some (in_tree o.index o.root)) (option_map (in_tree o.index) o.record.root)) (λ _. None) (at c.entered)
+  pub grafted : c.grafted.entries ≡ []
+  pub lost : c.lost.items ≡ []
+  pub gained : c.gained.items ≡ []
+
+-- what can be wrong with it
+abbrev pub IsNodeFault : World → FullNodeId → NodeData → Compared → UpdateError → Type 0
+IsNodeFault w id d a (error.ListedTwice n) = IsFoundTwice (OnlyIn id (child_ids id d) (listed w id)) (at a.entered) (error.ListedTwice n)
+IsNodeFault w id d a e = IsGraftFault id d (at_name a.grafted) e
+
+-- the root's spot, and those in the lists of the nodes that the first so many entries name
+abbrev pub IsDone : World → UpdateData → ℕ → Spot → Type 0
+IsDone w u count None = ⊤
+IsDone w u count (Some p) = IsNamedBefore w u count p.0
+
+-- the root and the nodes that the first so many entries name have been compared
+pub record AreCompared (w : World) (u : UpdateData) (count : ℕ) (c : Compared) : Type 0 where
+  pub ungrafting : (n : FullNodeId) → IsNamedBefore w u count n → graft_name (merged w u) n ≢ Some ROOT_NAME
+  pub childless : (n : FullNodeId) (name : TreeId) → IsNamedBefore w u count n → graft_name (merged w u) n ≡ Some name → listed (merged w u) n ≡ []
+  pub is_named : (id : FullNodeId) (n : Named) → IsNamedBefore w u count id → at c.named id ≡ Some n → IsNamedAs w u id n
+  pub has_named : (id : FullNodeId) → IsSome (at c.named id) ↔ IsNamed w u id
+  pub left : (id : FullNodeId) (s : Spot) → (at c.left id ≡ Some s) ↔ (Left w u s id × IsDone w u count s)
+  pub entered : (id : FullNodeId) (s : Spot) → (at c.entered id ≡ Some s) ↔ (Entered w u s id × IsDone w u count s)
+  pub grafted : (name : TreeId) (n : FullNodeId) → (at_name c.grafted name ≡ Some n) ↔ (IsNamedBefore w u count n × (graft_name (merged w u) n ≡ Some name))
+  pub lost : (name : TreeId) → Contains c.lost.items name ↔ ((n : FullNodeId) × IsNamedBefore w u count n × (graft_name w n ≡ Some name) × (graft_name (merged w u) n ≢ Some name))
+  pub gained : (name : TreeId) → Contains c.gained.items name ↔ ((n : FullNodeId) × IsNamedBefore w u count n × (graft_name (merged w u) n ≡ Some name) × (graft_name w n ≢ Some name))
+  pub lost_once : AllPairs (λ a b. a ≢ b) c.lost.items
+  pub gained_once : AllPairs (λ a b. a ≢ b) c.gained.items
+  pub named_count : length c.named.entries ≡ length u.nodes
+  pub lost_count : length c.lost.items ≤ count
+  pub gained_count : length c.gained.items ≤ count

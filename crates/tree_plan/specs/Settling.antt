@@ -1,0 +1,64 @@
+-- Where those that entered stood, node by node.
+use Rattle.std.specs.Prelude.{◌≡◌, ◌≢◌, ℕ, false, ◌||◌, is_some, Option, Some, None, ◌↔◌}
+use Rattle.model.specs.declared.FullNodeId.{FullNodeId}
+use Rattle.model.specs.World.{World, Place, IsNode, root_of}
+use Rattle.model.specs.State.{Lists}
+use Rattle.model.specs.Update.{UpdateData, index_for, merged}
+use Rattle.model.specs.Surgery.{Spot, Entered, HasEntered, Adopts}
+use Rattle.tree_plan.specs.declared.passes.Settled.{Settled}
+use Rattle.tree_plan.specs.Passes.{at, has}
+
+-- the node entered, and no place as the root that it is
+pub record Comes (w : World) (u : UpdateData) (c : FullNodeId) : Type 0 where
+  pub entered : HasEntered w u c
+  pub root : root_of (merged w u) (index_for w u.name) ≡ Some c → Entered w u None c
+
+-- where a node stood: an old one at a place of a list, or at none, and a new one nowhere
+pub record StoodAt (w : World) (id : FullNodeId) (was : Option (Option Place)) : Type 0 where
+  pub new : was ≡ None → ¬ (IsNode w id)
+  pub old : (s : Option Place) → was ≡ Some s → IsNode w id
+  pub place : (s : Option Place) (p : Place) → was ≡ Some s → (s ≡ Some p) ↔ Lists w p id
+
+-- b has the place where the node stood, if it is old, and else what a has
+pub record KeepsPlace (id : FullNodeId) (was : Option (Option Place)) (a b : Settled) : Type 0 where
+  pub here : (s : Option Place) → was ≡ Some s → at b.old_places id ≡ Some s
+  pub none : was ≡ None → b.old_places ≡ a.old_places
+  pub others : (q : FullNodeId) → id ≢ q → at b.old_places q ≡ at a.old_places q
+  pub adopters : b.adopters ≡ a.adopters
+  pub moved : b.has_moved ≡ a.has_moved
+
+-- the node stood in the list of this parent
+abbrev pub WasBelow : Option (Option Place) → FullNodeId → Type 0
+WasBelow was parent = (k : ℕ) × (was ≡ Some (Some (parent, k)))
+
+-- b has the parent as an adopter too, unless the node stood below it
+pub record KeepsAdopter (parent : FullNodeId) (was : Option (Option Place)) (a b : Settled) : Type 0 where
+  pub below : WasBelow was parent → b ≡ a
+  pub here : ¬ (WasBelow was parent) → has b.adopters parent × (b.has_moved ≡ (a.has_moved || is_some was))
+  pub others : (n : FullNodeId) → parent ≢ n → has b.adopters n ↔ has a.adopters n
+  pub places : b.old_places ≡ a.old_places
+
+-- what is kept is so
+pub record IsSettledSoFar (w : World) (u : UpdateData) (a : Settled) : Type 0 where
+  pub found : (c : FullNodeId) (q : Place) → at a.old_places c ≡ Some (Some q) → HasEntered w u c × Lists w q c
+  pub adopters : (n : FullNodeId) → has a.adopters n → Adopts w u n
+
+-- b has what a has
+pub record Settles (w : World) (a b : Settled) : Type 0 where
+  pub listed : (c : FullNodeId) (q : Place) → Lists w q c → at a.old_places c ≡ Some (Some q) → at b.old_places c ≡ Some (Some q)
+  pub adopters : (n : FullNodeId) → has a.adopters n → has b.adopters n
+  pub moved : b.has_moved ≡ false → a.has_moved ≡ false
+
+-- a node that entered this spot is settled
+pub record IsSettledAt (w : World) (u : UpdateData) (c : FullNodeId) (s : Spot) (a : Settled) : Type 0 where
+  pub is_node : IsNode (merged w u) c
+  pub unlisted : (p : Place) → s ≡ Some p → root_of (merged w u) (index_for w u.name) ≢ Some c
+  pub listed : (q : Place) → Lists w q c → at a.old_places c ≡ Some (Some q)
+  pub adopter : (p : Place) → s ≡ Some p → ((j : ℕ) → ¬ (Lists w (p.0, j) c)) → has a.adopters p.0
+  pub unmoved : a.has_moved ≡ false → (p : Place) → s ≡ Some p → IsNode w c → (k : ℕ) × Lists w (p.0, k) c
+
+-- one node that entered this spot is settled, from a to b
+pub record SettlesOne (w : World) (u : UpdateData) (c : FullNodeId) (s : Spot) (a b : Settled) : Type 0 where
+  pub so_far : IsSettledSoFar w u b
+  pub keeps : Settles w a b
+  pub here : IsSettledAt w u c s b

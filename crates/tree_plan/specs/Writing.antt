@@ -1,0 +1,94 @@
+-- What a decision lists.
+use Rattle.std.specs.Prelude.{◌≡◌, ◌≢◌, ◌+◌, ◌*◌, ◌≤◌, length, List, [], ◌∷◌, ◌++◌, Option, Some, None, is_some, option_to_list, if◌then◌else◌, ◌⊎◌}
+use Rattle.std.specs.Option.{option_map}
+use Rattle.std.specs.List.{flat_map}
+use Rattle.schema.specs.declared.TreeId.{TreeId}
+use Rattle.schema.specs.declared.NodeId.{NodeId}
+use Rattle.model.specs.declared.FullNodeId.{FullNodeId}
+use Rattle.model.specs.declared.events.PlanEvent.{PlanEvent}
+use Rattle.model.specs.declared.events.PlanEvent.TheVariants as event
+use Rattle.tree_changes.specs.declared.look_ups.TreeRecord.{TreeRecord}
+use Rattle.model.specs.Work.{Work}
+use Rattle.tree_changes.specs.declared.decision.Decision.{Decision}
+use Rattle.tree_changes.specs.declared.decision.NodeChange.{NodeChange}
+use Rattle.tree_changes.specs.declared.decision.NodeChange.TheVariants.{Put, Gone}
+use Rattle.tree_plan.specs.declared.passes.Opened.{Opened}
+use Rattle.tree_plan.specs.declared.passes.Compared.{Compared}
+use Rattle.tree_plan.specs.declared.passes.Removed.{Removed}
+use Rattle.tree_plan.specs.declared.passes.Focused.{Focused}
+use Rattle.tree_plan.specs.declared.regrafting.Regrafted.{Regrafted}
+use Rattle.tree_plan.specs.declared.verdicts.Found.{Found}
+use Rattle.tree_plan.specs.declared.verdicts.Verdict.{Verdict}
+use Rattle.tree_plan.specs.declared.verdicts.Verdict.TheVariants as verdict
+use Rattle.tree_plan.specs.declared.writing.Group.{Group}
+use Rattle.tree_plan.specs.Passes.{at}
+use Rattle.tree_plan.specs.Verdicts.{Verdicts}
+use Rattle.tree_plan.specs.declared.writing.Group.TheVariants as group
+
+-- the change of a node's record
+abbrev pub change_of : Verdict → Option NodeChange
+change_of (verdict.Added place entry) = Some (Put place (Some entry))
+change_of (verdict.Updated place entry) = Some (Put place entry)
+change_of verdict.Told = None
+change_of verdict.Removed = Some Gone
+
+-- the change of a node's record, with the id
+abbrev pub change_entry : FullNodeId × Verdict → List (FullNodeId × NodeChange)
+change_entry e = option_to_list (option_map (λ c. (e.0, c)) (change_of e.1))
+
+abbrev pub group_of : Verdict → Group
+group_of (verdict.Added place entry) = group.Added
+group_of (verdict.Updated place entry) = group.Updated
+group_of verdict.Told = group.Updated
+group_of verdict.Removed = group.Removed
+
+-- the event of a node of one group, where this group is told of
+abbrev pub event_in : Group → Group → FullNodeId → List PlanEvent
+event_in group.Added group.Added id = event.Added id ∷ []
+event_in group.Updated group.Updated id = event.Updated id ∷ []
+event_in group.Removed group.Removed id = event.Removed id ∷ []
+event_in group.Added group.Updated id = []
+event_in group.Added group.Removed id = []
+event_in group.Updated group.Added id = []
+event_in group.Updated group.Removed id = []
+event_in group.Removed group.Added id = []
+event_in group.Removed group.Updated id = []
+
+-- the events of a group of verdicts
+abbrev pub told_of : Group → FullNodeId × Verdict → List PlanEvent
+told_of g e = event_in (group_of e.1) g e.0
+
+-- a focused node, unless there is a verdict on it
+abbrev pub untold : (FullNodeId → Option Verdict) → Option FullNodeId → List PlanEvent
+untold verdicts None = []
+untold verdicts (Some id) = if is_some (verdicts id) then [] else event.Updated id ∷ []
+
+-- what a move of the focus tells
+abbrev pub IsMove : (FullNodeId → Option Verdict) → Option FullNodeId → Option FullNodeId → List PlanEvent → Type 0
+IsMove verdicts before after events =
+    ((before ≡ after) × (events ≡ []))
+    ⊎ ((before ≢ after) × (events ≡ untold verdicts before ++ untold verdicts after ++ event.FocusMoved before after ∷ []))
+
+-- the record of the named tree afterwards, where the update declares this focus
+abbrev pub own_record : TreeId → NodeId → Opened → TreeRecord
+own_record name focus o = record { id = name; index = Some o.index; graft = o.record.graft; root = Some o.root; focus = Some focus }
+
+-- what is told of verdicts and of a move of the focus, in order
+pub record AreEvents (vs : Verdicts) (f : Focused) (events : List PlanEvent) : Type 0 where
+  pub moved : List PlanEvent
+  pub is_move : IsMove (at vs) f.before f.after moved
+  pub all : events ≡ flat_map (told_of group.Added) vs.entries ++ flat_map (told_of group.Updated) vs.entries ++ moved ++ flat_map (told_of group.Removed) vs.entries
+
+-- the trees that were cut off, those that were gained, and the named one where its record is another than before
+abbrev pub AreTrees : Found → TreeRecord → List TreeRecord → Type 0
+AreTrees f own trees =
+    (named : List TreeRecord) × (trees ≡ f.removed.now.trees.items ++ f.regrafted.now.trees.items ++ named)
+    × (((own ≡ f.opened.now.record) × (named ≡ [])) ⊎ (named ≡ own ∷ []))
+
+-- The lengths of lists against the numbers that bound the look-ups.
+pub record IsSmall (c : Compared) (r : Removed) (g : Regrafted) (d : Decision) (work : Work) : Type 0 where
+  pub entered : length c.entered.entries ≤ work.children + 1
+  pub gone : length r.gone.keys ≤ work.removed
+  pub nodes : length d.nodes.items ≤ 2 * work.named + work.children + work.removed + 1
+  pub trees : length d.trees.items ≤ length r.trees.items + length g.trees.items + 1
+  pub events : length d.events.items ≤ 2 * work.named + work.children + work.removed + 4

@@ -1,0 +1,171 @@
+//! Climbs from the parents of what moved: where they end, the nodes are reached.
+ghost use Rattle.std.specs.Prelude.{◌≡◌, ◌≢◌, ◌≤◌, ◌<◌, ◌+◌, ℕ, IfOk, IfErr, OnOk, IsTrue, Some, true, false, length, map, slice_get, ◌↔◌};
+ghost use Rattle.schema.specs.UpdateData.{update_data};
+ghost use Rattle.model.specs.declared.FullNodeId.{FullNodeId};
+ghost use Rattle.model.specs.World.{IsNode, in_tree};
+ghost use Rattle.model.specs.Work.{named_ids};
+ghost use Rattle.model.specs.Surgery.{IsOld, IsRefined, IsClimbed, AreSteps};
+ghost use Rattle.tree_changes.specs.Looks.{IsPlaceOf};
+ghost use Rattle.tree_changes.specs.Refusals.{IsRefusal};
+ghost use Rattle.tree_plan.specs.declared.passes.Named.{Named};
+ghost use Rattle.tree_plan.specs.Passes.{at, IsOpening, IsComparison, IsSettlement};
+ghost use Rattle.tree_plan.specs.Climbs.{IsNext, IsOldPlace, IsKnown, first_ids, AreClimbed, IsClimbedFrom};
+
+use crate::passes::{Compared, Opened, Settled};
+use model::FullNodeId;
+use schema::TreeUpdate;
+use std::alloc::Global;
+use std::collections::BTreeMap;
+use tree_changes::{LookUps, Place, UpdateError};
+
+/// Climbs from each named node that got a child, and refuses one that isn't reached.
+pub(crate) fn climb_all<L: LookUps>(
+    alloc: Global,
+    look_ups: &mut L,
+    update: &TreeUpdate,
+    opened: &Opened,
+    compared: &Compared,
+    settled: &Settled,
+) -> Result<(), UpdateError>
+    requires old { IsOld (L.world look_ups.old) }
+    requires opening { IsOpening (L.world look_ups.old) (update_data update.now) opened.now }
+    requires comparison { IsComparison (L.world look_ups.old) (update_data update.now) compared.now }
+    requires settlement { IsSettlement (L.world look_ups.old) (update_data update.now) settled.now }
+    requires refined { IsRefined (L.world look_ups.old) (update_data update.now) }
+    ensures world { L.world look_ups.new ≡ L.world look_ups.old }
+    ensures err { IfErr result (λ e. IsRefusal (L.world look_ups.old) (update_data update.now) e) }
+    ensures ok { OnOk result (IsClimbed (L.world look_ups.old) (update_data update.now)) }
+    ensures counts { OnOk result (let w = L.world look_ups.old in let u = update_data update.now in
+        (steps : ℕ) × AreSteps w u (named_ids w u) steps × (L.asked look_ups.new ≤ L.asked look_ups.old + steps)) }
+{
+    let mut climbed = BTreeMap::new(alloc);
+    for entry in 0..update.nodes.len() {
+        climb(
+            look_ups,
+            update,
+            opened,
+            compared,
+            settled,
+            &mut climbed,
+            entry,
+        )?;
+    }
+    Ok(())
+}
+
+fn is_same(id: &FullNodeId, other: &FullNodeId) -> bool
+    ensures { IsTrue result ↔ (id.now ≡ other.now) }
+{
+    *id == *other
+}
+
+/// The node of this entry.
+fn named_id(update: &TreeUpdate, opened: &Opened, entry: usize) -> FullNodeId
+    requires { entry < length update.now.nodes.items }
+    ensures { let ids = map (λ e. in_tree opened.now.index e.0) update.now.nodes.items in
+        slice_get ids entry ≡ Some result }
+{
+    FullNodeId {
+        tree: opened.index,
+        node: update.nodes[entry].0,
+    }
+}
+
+/// Climbs from the node of this entry, where it got a child, up to a node that is reached.
+fn climb<L: LookUps>(
+    look_ups: &mut L,
+    update: &TreeUpdate,
+    opened: &Opened,
+    compared: &Compared,
+    settled: &Settled,
+    climbed: &mut BTreeMap<FullNodeId, FullNodeId>,
+    entry: usize,
+) -> Result<(), UpdateError>
+    requires old { IsOld (L.world look_ups.old) }
+    requires opening { IsOpening (L.world look_ups.old) (update_data update.now) opened.now }
+    requires comparison { IsComparison (L.world look_ups.old) (update_data update.now) compared.now }
+    requires settlement { IsSettlement (L.world look_ups.old) (update_data update.now) settled.now }
+    requires refined { IsRefined (L.world look_ups.old) (update_data update.now) }
+    requires entry { entry < length update.now.nodes.items }
+    requires before { let w = L.world look_ups.old in let u = update_data update.now in
+        AreClimbed w u (first_ids w u entry) climbed.old }
+    ensures world { L.world look_ups.new ≡ L.world look_ups.old }
+    ensures err { IfErr result (λ e. IsRefusal (L.world look_ups.old) (update_data update.now) e) }
+    ensures climbed { OnOk result (let w = L.world look_ups.old in let u = update_data update.now in
+        AreClimbed w u (first_ids w u (entry + 1)) climbed.new) }
+    ensures way { OnOk result (let w = L.world look_ups.old in let u = update_data update.now in
+        (steps : ℕ) × IsClimbedFrom w u entry steps × (L.asked look_ups.new ≤ L.asked look_ups.old + steps)) }
+{
+    let start = named_id(update, opened, entry);
+    if !settled.adopters.contains(&start) {
+        return Ok(());
+    }
+    let mut id = start;
+    'up: while !is_known(opened, compared, settled, id) {
+        if let Some(other) = climbed.get(&id) {
+            if is_same(other, &start) {
+                return Err(UpdateError::NotReached(start.node));
+            }
+            return Ok(());
+        }
+        climbed.insert(id, start)?;
+        id = parent_after(look_ups, compared, id);
+    }
+    Ok(())
+}
+
+/// Whether the node is known to be reached: the root is, and where no old node has moved so is each
+/// old node that is named.
+fn is_known(opened: &Opened, compared: &Compared, settled: &Settled, id: FullNodeId) -> bool
+    ensures known { result ≡ true → IsKnown opened.now compared.now settled.now id }
+    ensures unknown { result ≡ false → id ≢ in_tree opened.now.index opened.now.root }
+{
+    let root = FullNodeId {
+        tree: opened.index,
+        node: opened.root,
+    };
+    if is_same(&id, &root) {
+        return true;
+    }
+    if settled.has_moved {
+        return false;
+    }
+    match compared.named.get(&id) {
+        Some(named) => named.was.is_some(),
+        None => false,
+    }
+}
+
+/// The parent after the update of a node that isn't the root and doesn't go.
+fn parent_after<L: LookUps>(look_ups: &mut L, compared: &Compared, id: FullNodeId) -> FullNodeId
+    requires old { IsOld (L.world look_ups.old) }
+    requires next { (p : FullNodeId) × IsNext (L.world look_ups.old) compared.now id p }
+    requires named { (n : Named) → at compared.now.named id ≡ Some n
+        → IsOldPlace (L.world look_ups.old) id n }
+    ensures world { L.world look_ups.new ≡ L.world look_ups.old }
+    ensures counts { L.asked look_ups.new ≤ L.asked look_ups.old + 1 }
+    ensures next { IsNext (L.world look_ups.old) compared.now id result }
+{
+    if let Some(spot) = compared.entered.get(&id) {
+        let (parent, _) = spot.unwrap();
+        return parent;
+    }
+    let (parent, _) = old_place(look_ups, compared, id).unwrap();
+    parent
+}
+
+/// Where an old node stood.
+fn old_place<L: LookUps>(look_ups: &mut L, compared: &Compared, id: FullNodeId) -> Option<Place>
+    requires there { IsNode (L.world look_ups.old) id }
+    requires named { (n : Named) → at compared.now.named id ≡ Some n
+        → IsOldPlace (L.world look_ups.old) id n }
+    ensures world { L.world look_ups.new ≡ L.world look_ups.old }
+    ensures counts { L.asked look_ups.new ≤ L.asked look_ups.old + 1 }
+    ensures place { IsPlaceOf (L.world look_ups.old) id result }
+{
+    if let Some(named) = compared.named.get(&id) {
+        return named.was.unwrap();
+    }
+    let record = look_ups.node(id).unwrap();
+    record.place
+}

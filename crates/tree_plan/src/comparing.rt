@@ -1,0 +1,282 @@
+//! The named nodes against their old records.
+ghost use Rattle.std.specs.Prelude.{◌≡◌, ◌≢◌, ℕ, ◌+◌, ◌<◌, ◌≤◌, ◌↔◌, IsTrue, IsSome, IfOk, IfErr, OnOk, Some, None, length, map, option_map, slice_get};
+ghost use Rattle.schema.specs.UpdateData.{update_data};
+ghost use Rattle.model.specs.World.{in_tree, listed, data_of, graft_name};
+ghost use Rattle.model.specs.Surgery.{IsOld};
+ghost use Rattle.tree_changes.specs.declared.error.UpdateError.TheVariants.{Memory};
+ghost use Rattle.tree_changes.specs.Refusals.{IsRefusal};
+ghost use Rattle.tree_plan.specs.Passes.{at, at_name, IsOpening, IsComparison};
+ghost use Rattle.tree_plan.specs.Comparisons.{AreTaken, IsNamedTwice, Gathers, GathersNew, IsFoundTwice, OnlyAt, OnlyIn, child_ids, TakesGraft, IsGraftFault, ChangesGraft, ComparesData, ComparesNode, Begins, IsNodeFault};
+
+use crate::opening::is_root_tree;
+use crate::passes::{Compared, Named, Opened};
+use model::FullNodeId;
+use schema::{Node, NodeId, TreeId, TreeUpdate};
+use std::alloc::Global;
+use std::collections::BTreeMap;
+use tree_changes::{LookUps, Place, UpdateError};
+
+/// A node of the tree with this index.
+pub(crate) fn full_id(index: u32, node: NodeId) -> FullNodeId
+    ensures { result ≡ in_tree index node }
+{
+    FullNodeId { tree: index, node }
+}
+
+/// The named nodes, each by its entry, and as if it were new.
+fn take(
+    alloc: Global,
+    index: u32,
+    update: &TreeUpdate,
+) -> Result<BTreeMap<FullNodeId, Named>, UpdateError>
+    ensures ok { IfOk result (λ named.
+        AreTaken index (update_data update.now) (length update.now.nodes.items) named) }
+    ensures err { IfErr result (λ e. IsNamedTwice (update_data update.now) e) }
+{
+    let mut named = BTreeMap::new(alloc);
+    for (entry, item) in update.nodes.iter().enumerate() {
+        let as_new = Named {
+            entry,
+            was: None,
+            is_news: true,
+        };
+        let earlier = named.insert(full_id(index, item.0), as_new)?;
+        if earlier.is_some() {
+            return Err(UpdateError::NamedTwice(item.0));
+        }
+    }
+    Ok(named)
+}
+
+/// The child at an index of a list.
+fn child_at(parent: FullNodeId, children: &[NodeId], index: usize) -> Option<FullNodeId>
+    ensures { result ≡ slice_get (map (in_tree parent.tree) children.now) index }
+{
+    if index >= children.len() {
+        return None;
+    }
+    Some(full_id(parent.tree, children[index]))
+}
+
+/// Whether a node's data are others than before.
+fn is_news(old: &Node, node: &Node) -> bool
+    ensures { IsTrue result ↔ (old.now ≢ node.now) }
+{
+    if *old == *node {
+        return false;
+    }
+    true
+}
+
+impl Compared {
+    /// Compares what was at a spot with what is there now.
+    fn compare_spot(
+        &mut self,
+        spot: Option<Place>,
+        old: Option<FullNodeId>,
+        new: Option<FullNodeId>,
+    ) -> Result<(), UpdateError>
+        ensures left { OnOk result
+            (Gathers (OnlyAt spot old new) (at self.old.left) (at self.new.left)) }
+        ensures entered { OnOk result
+            (GathersNew (OnlyAt spot new old) (at self.old.entered) (at self.new.entered)) }
+        ensures rest { self.new ≡ record self.old {
+          left = self.new.left;
+          entered = self.new.entered;
+        } }
+        ensures err { IfErr result (λ e.
+            IsFoundTwice (OnlyAt spot new old) (at self.old.entered) e) }
+    {
+        if old == new {
+            return Ok(());
+        }
+        if let Some(child) = old {
+            self.left.insert(child, spot)?;
+        }
+        let Some(child) = new else {
+            return Ok(());
+        };
+        let earlier = self.entered.insert(child, spot)?;
+        if earlier.is_some() {
+            return Err(UpdateError::ListedTwice(child.node));
+        }
+        Ok(())
+    }
+
+    /// Compares a node's child lists, old and new.
+    fn compare_lists(
+        &mut self,
+        parent: FullNodeId,
+        old: &[NodeId],
+        new: &[NodeId],
+    ) -> Result<(), UpdateError>
+        ensures left { OnOk result (Gathers
+            (OnlyIn parent (map (in_tree parent.tree) old.now) (map (in_tree parent.tree) new.now))
+            (at self.old.left) (at self.new.left)) }
+        ensures entered { OnOk result (GathersNew
+            (OnlyIn parent (map (in_tree parent.tree) new.now) (map (in_tree parent.tree) old.now))
+            (at self.old.entered) (at self.new.entered)) }
+        ensures rest { self.new ≡ record self.old {
+          left = self.new.left;
+          entered = self.new.entered;
+        } }
+        ensures err { IfErr result (λ e. IsFoundTwice
+            (OnlyIn parent (map (in_tree parent.tree) new.now) (map (in_tree parent.tree) old.now))
+            (at self.old.entered) e) }
+    {
+        for index in 0..old.len().max(new.len()) {
+            let was = child_at(parent, old, index);
+            let is = child_at(parent, new, index);
+            self.compare_spot(Some((parent, index)), was, is)?;
+        }
+        Ok(())
+    }
+
+    /// Refuses what a graft may not be.
+    fn take_graft(&mut self, id: FullNodeId, node: &Node) -> Result<(), UpdateError>
+        ensures ok { OnOk result
+            (TakesGraft id node.now (at_name self.old.grafted) (at_name self.new.grafted)) }
+        ensures rest { self.new ≡ record self.old { grafted = self.new.grafted } }
+        ensures err { IfErr result (λ e. IsGraftFault id node.now (at_name self.old.grafted) e) }
+    {
+        let Some(name) = node.tree_id() else {
+            return Ok(());
+        };
+        if is_root_tree(&name) {
+            return Err(UpdateError::RootTreeGrafted(id.node));
+        }
+        if !node.children().is_empty() {
+            return Err(UpdateError::GraftWithChildren(id.node));
+        }
+        if self.grafted.contains_key(&name) {
+            return Err(UpdateError::GraftedTwice(name));
+        }
+        self.grafted.insert(name, id)?;
+        Ok(())
+    }
+
+    /// Compares the trees that a node grafts, before and now.
+    fn compare_grafts(
+        &mut self,
+        old: Option<TreeId>,
+        new: Option<TreeId>,
+    ) -> Result<(), UpdateError>
+        ensures ok { OnOk result (ChangesGraft old new self.old self.new) }
+        ensures rest { self.new ≡ record self.old {
+          lost = self.new.lost;
+          gained = self.new.gained;
+        } }
+        ensures err { IfErr result (λ e. e ≡ Memory) }
+    {
+        if old == new {
+            return Ok(());
+        }
+        if let Some(name) = old {
+            self.lost.push(name)?;
+        }
+        if let Some(name) = new {
+            self.gained.push(name)?;
+        }
+        Ok(())
+    }
+
+    /// Compares a node's data with what it listed and grafted before.
+    fn compare_data(
+        &mut self,
+        id: FullNodeId,
+        named: Named,
+        children: &[NodeId],
+        graft: Option<TreeId>,
+        node: &Node,
+    ) -> Result<(), UpdateError>
+        ensures ok { OnOk result (ComparesData id named
+            (map (in_tree id.tree) children.now) graft node.now self.old self.new) }
+        ensures rest { self.new.grafted ≡ self.old.grafted }
+        ensures err { IfErr result (λ e. IsFoundTwice
+            (OnlyIn id (child_ids id node.now) (map (in_tree id.tree) children.now))
+            (at self.old.entered) e) }
+    {
+        self.named.insert(id, named)?;
+        self.compare_lists(id, children, node.children())?;
+        self.compare_grafts(graft, node.tree_id())
+    }
+
+    /// Compares a named node with its old record.
+    fn compare_node<L: LookUps>(
+        &mut self,
+        look_ups: &mut L,
+        id: FullNodeId,
+        entry: usize,
+        node: &Node,
+    ) -> Result<(), UpdateError>
+        ensures world { L.world look_ups.new ≡ L.world look_ups.old }
+        ensures count { L.asked look_ups.new ≤ L.asked look_ups.old + 1 }
+        ensures ok { OnOk result
+            (ComparesNode (L.world look_ups.old) id entry node.now self.old self.new) }
+        ensures err { IfErr result (λ e.
+            IsNodeFault (L.world look_ups.old) id node.now self.old e) }
+    {
+        self.take_graft(id, node)?;
+        let Some(old) = look_ups.node(id) else {
+            let named = Named {
+                entry,
+                was: None,
+                is_news: true,
+            };
+            return self.compare_data(id, named, &[], None, node);
+        };
+        let named = Named {
+            entry,
+            was: Some(old.place),
+            is_news: is_news(old.node, node),
+        };
+        self.compare_data(id, named, old.node.children(), old.node.tree_id(), node)
+    }
+
+    /// Compares the root with the one before.
+    fn begin(
+        alloc: Global,
+        named: BTreeMap<FullNodeId, Named>,
+        opened: &Opened,
+    ) -> Result<Compared, UpdateError>
+        ensures ok { IfOk result (λ c. Begins opened.now named c) }
+        ensures err { IfErr result (λ e. e ≡ Memory) }
+    {
+        let mut compared = Compared {
+            named,
+            left: BTreeMap::new(alloc),
+            entered: BTreeMap::new(alloc),
+            grafted: BTreeMap::new(alloc),
+            lost: Vec::new(alloc),
+            gained: Vec::new(alloc),
+        };
+        let root = full_id(opened.index, opened.root);
+        let old_root = opened.record.root.map(|root| full_id(opened.index, root));
+        compared.compare_spot(None, old_root, Some(root))?;
+        Ok(compared)
+    }
+}
+
+/// Compares the named nodes, and the tree's root, with what was there.
+pub(crate) fn compare<L: LookUps>(
+    alloc: Global,
+    look_ups: &mut L,
+    update: &TreeUpdate,
+    opened: &Opened,
+) -> Result<Compared, UpdateError>
+    requires old { IsOld (L.world look_ups.old) }
+    requires opened { IsOpening (L.world look_ups.old) (update_data update.now) opened.now }
+    ensures world { L.world look_ups.new ≡ L.world look_ups.old }
+    ensures count { OnOk result
+        (L.asked look_ups.new ≤ L.asked look_ups.old + length update.now.nodes.items) }
+    ensures ok { IfOk result (λ c. IsComparison (L.world look_ups.old) (update_data update.now) c) }
+    ensures err { IfErr result (λ e. IsRefusal (L.world look_ups.old) (update_data update.now) e) }
+{
+    let named = take(alloc, opened.index, update)?;
+    let mut compared = Compared::begin(alloc, named, opened)?;
+    for (entry, item) in update.nodes.iter().enumerate() {
+        let id = full_id(opened.index, item.0);
+        compared.compare_node(look_ups, id, entry, &item.1)?;
+    }
+    Ok(compared)
+}

@@ -1,0 +1,123 @@
+//! The decision on an update, pass by pass.
+ghost use Rattle.std.specs.Prelude.{◌≡◌, ◌≤◌, ◌+◌, ◌*◌, length, IfOk, IfErr, OnOk};
+ghost use Rattle.schema.specs.UpdateData.{update_data};
+ghost use Rattle.model.specs.Update.{IsRebuild, KeepsRules, merged};
+ghost use Rattle.model.specs.Work.{Work, IsWorkOf};
+ghost use Rattle.model.specs.Surgery.{IsOld};
+ghost use Rattle.tree_changes.specs.Changes.{overlaid};
+ghost use Rattle.tree_changes.specs.Decisions.{IsDecision, IsWithinWork};
+ghost use Rattle.tree_changes.specs.Refusals.{IsRefusal};
+ghost use Rattle.tree_plan.specs.Deciding.{AreFindings, IsCount};
+ghost use Rattle.tree_plan.specs.Verdicts.{Step};
+ghost use Rattle.tree_plan.specs.Writing.{IsSmall};
+
+use crate::climbing::climb_all;
+use crate::comparing::compare;
+use crate::focusing::find_focus;
+use crate::opening::open_tree;
+use crate::passes::{Compared, Opened, Removed};
+use crate::refusing::refuse_misplaced;
+use crate::regrafting::{Regrafted, regraft};
+use crate::removing::remove;
+use crate::settling::settle;
+use crate::verdicts::Found;
+use crate::writing::{told_root, write};
+use schema::TreeUpdate;
+use std::alloc::Global;
+use tree_changes::{Decision, LookUps, UpdateError};
+
+/// What the passes find.
+#[derive(Drop)]
+pub(crate) struct Findings {
+    pub(crate) opened: Opened,
+    pub(crate) compared: Compared,
+    pub(crate) removed: Removed,
+    pub(crate) regrafted: Regrafted,
+}
+
+/// The passes, one after another.
+fn find<L: LookUps>(
+    alloc: Global,
+    look_ups: &mut L,
+    update: &TreeUpdate,
+) -> Result<Findings, UpdateError>
+    ensures world { L.world look_ups.new ≡ L.world look_ups.old }
+    ensures old { IsOld (L.world look_ups.old) }
+    ensures err { IfErr result (λ e. IsRefusal (L.world look_ups.old) (update_data update.now) e) }
+    ensures ok { IfOk result (AreFindings (L.world look_ups.old) (update_data update.now)) }
+    ensures count { IfOk result (λ f.
+        IsCount (L.world look_ups.old) (update_data update.now) f (L.asked look_ups.old) (L.asked look_ups.new)) }
+{
+    let opened = open_tree(look_ups, update)?;
+    let compared = compare(alloc, look_ups, update, &opened)?;
+    let settled = settle(alloc, look_ups, update, &opened, &compared)?;
+    let removed = remove(alloc, look_ups, update, &compared)?;
+    refuse_misplaced(
+        alloc, look_ups, update, &opened, &compared, &settled, &removed,
+    )?;
+    climb_all(alloc, look_ups, update, &opened, &compared, &settled)?;
+    let regrafted = regraft(alloc, look_ups, update, &compared, &removed)?;
+    Ok(Findings {
+        opened,
+        compared,
+        removed,
+        regrafted,
+    })
+}
+
+/// The decision, by what was found and the focus.
+fn conclude<L: LookUps>(
+    alloc: Global,
+    look_ups: &mut L,
+    update: &TreeUpdate,
+    findings: &Findings,
+) -> Result<Decision, UpdateError>
+    ghost step: { Step }
+    requires old { step.old ≡ L.world look_ups.old }
+    requires update { step.update ≡ update_data update.now }
+    requires new { IsRebuild (merged step.old step.update) step.new }
+    requires findings { AreFindings step.old step.update findings.now }
+    ensures world { L.world look_ups.new ≡ L.world look_ups.old }
+    ensures err { IfErr result (λ e. IsRefusal step.old step.update e) }
+    ensures kept { OnOk result (KeepsRules step.old step.update) }
+    ensures ok { IfOk result (IsDecision step.old step.update) }
+    ensures new { IfOk result (λ d. overlaid step.old step.update d ≡ step.new) }
+    ensures small { IfOk result (λ d. (work : Work) → IsWorkOf step.old step.update step.new work
+        → IsSmall findings.now.compared findings.now.removed findings.now.regrafted d work) }
+    ensures count { OnOk result (L.asked look_ups.new
+        ≤ L.asked look_ups.old + 4 * length (merged step.old step.update).known + 2) }
+{
+    let Findings {
+        opened,
+        compared,
+        removed,
+        regrafted,
+    } = findings;
+    let focused = find_focus(look_ups, update, opened, compared, removed)?;
+    let told = told_root(opened, update);
+    let found = Found {
+        opened,
+        compared,
+        removed,
+        regrafted,
+        told,
+    };
+    write(alloc, update, found, &focused)
+}
+
+/// The decision on an update: a refusal names a fault that stands, or it is want of memory.
+pub fn decide<L: LookUps>(
+    alloc: Global,
+    look_ups: &mut L,
+    update: &TreeUpdate,
+) -> Result<Decision, UpdateError>
+    ensures world { L.world look_ups.new ≡ L.world look_ups.old }
+    ensures old { IsOld (L.world look_ups.old) }
+    ensures err { IfErr result (λ e. IsRefusal (L.world look_ups.old) (update_data update.now) e) }
+    ensures ok { IfOk result (IsDecision (L.world look_ups.old) (update_data update.now)) }
+    ensures work { IfOk result (λ d.
+        IsWithinWork (L.world look_ups.old) (update_data update.now) d (L.asked look_ups.old) (L.asked look_ups.new)) }
+{
+    let findings = find(alloc, look_ups, update)?;
+    conclude(alloc, look_ups, update, &findings)
+}

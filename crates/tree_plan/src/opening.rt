@@ -1,0 +1,119 @@
+//! The tree that an update names, before and after.
+ghost use Rattle.std.specs.Prelude.{◌≡◌, ◌≢◌, ◌+◌, ◌-◌, ◌^◌, ◌<◌, ◌≤◌, ◌↔◌, IsTrue, IfOk, IfErr, OnOk, Some, None, length, option_map, unwrap_or, ◌⊎◌};
+ghost use Rattle.std.specs.Option.{option_map_or};
+ghost use Rattle.schema.specs.UpdateData.{info_data, update_data};
+ghost use Rattle.model.specs.World.{ROOT_NAME};
+ghost use Rattle.model.specs.Surgery.{IsOld};
+ghost use Rattle.model.specs.Update.{IsFirst};
+ghost use Rattle.tree_changes.specs.declared.error.UpdateError.TheVariants.{MissingTreeInfo, NotRootTree, NoFirstTreeInfo, IndexesUsedUp};
+ghost use Rattle.tree_changes.specs.Refusals.{IsRefusal};
+ghost use Rattle.tree_plan.specs.Passes.{IsOpening};
+
+use crate::passes::Opened;
+use crate::records::{no_record, tree_record};
+use schema::{NodeId, TreeId, TreeInfo, TreeUpdate};
+use tree_changes::{LookUps, TreeRecord, UpdateError};
+
+/// Whether this is the root tree's name.
+pub(crate) fn is_root_tree(name: &TreeId) -> bool
+    ensures { IsTrue result ↔ (name.now ≡ ROOT_NAME) }
+{
+    *name == TreeId::root()
+}
+
+/// The tree's root afterwards: that of the tree info, else the one before.
+fn root_after(info: &Option<TreeInfo>, record: &TreeRecord) -> Result<NodeId, UpdateError>
+    ensures ok { IfOk result (λ root.
+        option_map_or (λ i. Some i.root) (option_map info_data info.now) record.now.root ≡ Some root) }
+    ensures err { IfErr result (λ e.
+        (info.now ≡ None) × (record.now.root ≡ None) × (e ≡ NoFirstTreeInfo record.now.id)) }
+{
+    if let Some(info) = info {
+        return Ok(info.root);
+    }
+    let Some(root) = record.root else {
+        return Err(UpdateError::NoFirstTreeInfo(record.id));
+    };
+    Ok(root)
+}
+
+/// The tree's index afterwards: the one before, else the next one, where so many names are known.
+fn index_after(record: &TreeRecord, known: u32) -> Result<u32, UpdateError>
+    ensures ok { IfOk result (λ index. index ≡ unwrap_or record.now.index known) }
+    ensures room { OnOk result (record.now.index ≡ None → known < 2 ^ 32 - 1) }
+    ensures err { IfErr result (λ e.
+        (record.now.index ≡ None) × (2 ^ 32 - 1 ≤ known) × (e ≡ IndexesUsedUp)) }
+{
+    if let Some(index) = record.index {
+        return Ok(index);
+    }
+    if known == u32::MAX {
+        return Err(UpdateError::IndexesUsedUp);
+    }
+    Ok(known)
+}
+
+/// The root that the first update declares, which makes the root tree.
+fn first_root(update: &TreeUpdate) -> Result<NodeId, UpdateError>
+    ensures ok { IfOk result (λ root.
+        (option_map (λ i. i.root) update.now.tree ≡ Some root) × (update.now.tree_id ≡ ROOT_NAME)) }
+    ensures err { IfErr result (λ e.
+        ((update.now.tree ≡ None) × (e ≡ MissingTreeInfo))
+        ⊎ ((update.now.tree_id ≢ ROOT_NAME) × (e ≡ NotRootTree))) }
+{
+    let Some(info) = &update.tree else {
+        return Err(UpdateError::MissingTreeInfo);
+    };
+    if is_root_tree(&update.tree_id) {
+        return Ok(info.root);
+    }
+    Err(UpdateError::NotRootTree)
+}
+
+/// A later update is for the root tree, or for one that a node grafts.
+fn open_later<L: LookUps>(look_ups: &mut L, update: &TreeUpdate) -> Result<Opened, UpdateError>
+    requires { ¬ (IsFirst (L.world look_ups.old)) }
+    ensures world { L.world look_ups.new ≡ L.world look_ups.old }
+    ensures count { L.asked look_ups.new ≤ L.asked look_ups.old + 1 }
+    ensures ok { IfOk result (λ o. IsOpening (L.world look_ups.old) (update_data update.now) o) }
+    ensures err { IfErr result (λ e. IsRefusal (L.world look_ups.old) (update_data update.now) e) }
+{
+    let known = look_ups.known_trees();
+    let found = tree_record(look_ups, &update.tree_id);
+    if !is_root_tree(&update.tree_id) {
+        if found.graft.is_none() {
+            return Err(UpdateError::NoGraft(update.tree_id));
+        }
+    }
+    let root = root_after(&update.tree, &found)?;
+    let index = index_after(&found, known)?;
+    Ok(Opened {
+        record: found,
+        index,
+        root,
+        is_first: false,
+    })
+}
+
+/// Looks at the tree that the update names.
+pub(crate) fn open_tree<L: LookUps>(
+    look_ups: &mut L,
+    update: &TreeUpdate,
+) -> Result<Opened, UpdateError>
+    ensures world { L.world look_ups.new ≡ L.world look_ups.old }
+    ensures count { L.asked look_ups.new ≤ L.asked look_ups.old + 1 }
+    ensures old { IsOld (L.world look_ups.old) }
+    ensures ok { IfOk result (λ o. IsOpening (L.world look_ups.old) (update_data update.now) o) }
+    ensures err { IfErr result (λ e. IsRefusal (L.world look_ups.old) (update_data update.now) e) }
+{
+    if look_ups.known_trees() > 0 {
+        return open_later(look_ups, update);
+    }
+    let root = first_root(update)?;
+    Ok(Opened {
+        record: no_record(update.tree_id),
+        index: 0,
+        root,
+        is_first: true,
+    })
+}

@@ -1,0 +1,266 @@
+//! What is listed nowhere, or twice.
+ghost use Rattle.std.specs.Prelude.{◌≡◌, ◌↔◌, ◌∷◌, [], map, IsTrue, Option, Some, OnOk, IfOk, IfErr};
+ghost use Rattle.std.specs.Option.{option_copied};
+ghost use Rattle.schema.specs.UpdateData.{update_data};
+ghost use Rattle.model.specs.declared.FullNodeId.{FullNodeId};
+ghost use Rattle.model.specs.World.{Place, in_tree, listed};
+ghost use Rattle.model.specs.Update.{merged};
+ghost use Rattle.model.specs.Surgery.{IsOld, IsRefined};
+ghost use Rattle.tree_changes.specs.Refusals.{IsRefusal};
+ghost use Rattle.tree_changes.specs.declared.error.UpdateError.TheVariants.{Memory};
+ghost use Rattle.tree_plan.specs.Passes.{at, IsOpening, IsComparison, IsSettlement, IsRemoval};
+ghost use Rattle.tree_plan.specs.Refusing.{IsNowhere, AreListed, IsOfUnlisted, IsDoubled, IsListedStill, IsSearch, Adds, HasReached, SearchesAll, Explains};
+
+use crate::passes::{Compared, Named, Opened, Removed, Settled};
+use model::FullNodeId;
+use schema::{NodeId, TreeUpdate};
+use std::alloc::Global;
+use std::collections::{BTreeMap, BTreeSet};
+use tree_changes::{LookUps, Place, UpdateError};
+
+/// Whether a named node is new and entered no spot.
+fn is_nowhere(compared: &Compared, id: FullNodeId, named: &Named) -> bool
+    ensures { IsTrue result ↔ IsNowhere compared.now id named.now }
+{
+    if named.was.is_some() {
+        return false;
+    }
+    !compared.entered.contains_key(&id)
+}
+
+/// Refuses a new named node that entered no spot.
+fn refuse_unlisted(compared: &Compared) -> Result<(), UpdateError>
+    ensures ok { OnOk result (AreListed compared.now) }
+    ensures err { IfErr result (IsOfUnlisted compared.now) }
+{
+    for (id, named) in &compared.named {
+        if is_nowhere(compared, *id, named) {
+            return Err(UpdateError::NotReached(id.node));
+        }
+    }
+    Ok(())
+}
+
+/// Whether a node that entered a spot is still listed at its old place, by a node that doesn't go.
+fn is_doubled(compared: &Compared, removed: &Removed, id: FullNodeId, place: Option<Place>) -> bool
+    ensures { IsTrue result ↔ IsDoubled compared.now removed.now id place }
+{
+    if compared.left.contains_key(&id) {
+        return false;
+    }
+    let Some((parent, _)) = place else {
+        return false;
+    };
+    !removed.gone.contains(&parent)
+}
+
+/// What a search has come to, also in the order in which it did.
+#[derive(Drop)]
+struct Search {
+    seen: BTreeSet<FullNodeId>,
+    queue: Vec<FullNodeId>,
+}
+
+/// Comes to a node.
+fn add(search: &mut Search, id: FullNodeId) -> Result<(), UpdateError>
+    requires search { IsSearch search.old }
+    ensures ok { OnOk result (Adds (id ∷ []) search.old search.new) }
+    ensures err { IfErr result (λ e. e ≡ Memory) }
+{
+    if search.seen.contains(&id) {
+        return Ok(());
+    }
+    search.seen.insert(id)?;
+    search.queue.push(id)?;
+    Ok(())
+}
+
+/// Comes to a node's children.
+fn add_children(
+    search: &mut Search,
+    parent: FullNodeId,
+    children: &[NodeId],
+) -> Result<(), UpdateError>
+    requires search { IsSearch search.old }
+    ensures ok { OnOk result (Adds (map (in_tree parent.tree) children.now) search.old search.new) }
+    ensures err { IfErr result (λ e. e ≡ Memory) }
+{
+    for child in children {
+        let id = FullNodeId {
+            tree: parent.tree,
+            node: *child,
+        };
+        add(search, id)?;
+    }
+    Ok(())
+}
+
+/// Goes from a node to what it lists after the update.
+fn visit<L: LookUps>(
+    search: &mut Search,
+    look_ups: &mut L,
+    update: &TreeUpdate,
+    compared: &Compared,
+    id: FullNodeId,
+) -> Result<(), UpdateError>
+    requires compared { IsComparison (L.world look_ups.old) (update_data update.now) compared.now }
+    requires search { IsSearch search.old }
+    ensures world { L.world look_ups.new ≡ L.world look_ups.old }
+    ensures ok { OnOk result (Adds
+        (listed (merged (L.world look_ups.old) (update_data update.now)) id) search.old search.new) }
+    ensures err { IfErr result (λ e. e ≡ Memory) }
+{
+    if let Some(named) = compared.named.get(&id) {
+        return add_children(search, id, update.nodes[named.entry].1.children());
+    }
+    let Some(record) = look_ups.node(id) else {
+        return Ok(());
+    };
+    add_children(search, id, record.node.children())
+}
+
+/// Goes on until there is nothing new to come to.
+fn work_off<L: LookUps>(
+    search: &mut Search,
+    look_ups: &mut L,
+    update: &TreeUpdate,
+    compared: &Compared,
+) -> Result<(), UpdateError>
+    requires compared { IsComparison (L.world look_ups.old) (update_data update.now) compared.now }
+    requires search { IsSearch search.old }
+    ensures world { L.world look_ups.new ≡ L.world look_ups.old }
+    ensures ok { OnOk result
+        (SearchesAll (L.world look_ups.old) (update_data update.now) search.old search.new) }
+    ensures err { IfErr result (λ e. e ≡ Memory) }
+{
+    for position in 0..usize::MAX {
+        if position >= search.queue.len() {
+            return Ok(());
+        }
+        let id = search.queue[position];
+        visit(search, look_ups, update, compared, id)?;
+    }
+    Ok(())
+}
+
+/// The nodes of the named tree that are reached after the update.
+fn find_reached<L: LookUps>(
+    alloc: Global,
+    look_ups: &mut L,
+    update: &TreeUpdate,
+    opened: &Opened,
+    compared: &Compared,
+) -> Result<BTreeSet<FullNodeId>, UpdateError>
+    requires old { IsOld (L.world look_ups.old) }
+    requires opening { IsOpening (L.world look_ups.old) (update_data update.now) opened.now }
+    requires compared { IsComparison (L.world look_ups.old) (update_data update.now) compared.now }
+    ensures world { L.world look_ups.new ≡ L.world look_ups.old }
+    ensures ok { IfOk result (HasReached (L.world look_ups.old) (update_data update.now)) }
+    ensures err { IfErr result (λ e. e ≡ Memory) }
+{
+    let mut search = Search {
+        seen: BTreeSet::new(alloc),
+        queue: Vec::new(alloc),
+    };
+    let root = FullNodeId {
+        tree: opened.index,
+        node: opened.root,
+    };
+    add(&mut search, root)?;
+    work_off(&mut search, look_ups, update, compared)?;
+    Ok(search.seen)
+}
+
+/// What is wrong where a node is listed twice: a named node that isn't reached, or else the node
+/// itself.
+fn fault_of_double(
+    compared: &Compared,
+    reached: &BTreeSet<FullNodeId>,
+    double: FullNodeId,
+) -> UpdateError
+    ensures { Explains compared.now reached.now double result }
+{
+    for (id, _) in &compared.named {
+        if !reached.contains(id) {
+            return UpdateError::NotReached(id.node);
+        }
+    }
+    UpdateError::ListedTwice(double.node)
+}
+
+/// Why an update is refused that lists a node at a second place.
+fn explain<L: LookUps>(
+    alloc: Global,
+    look_ups: &mut L,
+    update: &TreeUpdate,
+    opened: &Opened,
+    compared: &Compared,
+    removed: &Removed,
+    double: FullNodeId,
+) -> UpdateError
+    requires old { IsOld (L.world look_ups.old) }
+    requires opening { IsOpening (L.world look_ups.old) (update_data update.now) opened.now }
+    requires compared { IsComparison (L.world look_ups.old) (update_data update.now) compared.now }
+    requires removal { IsRemoval (L.world look_ups.old) (update_data update.now) removed.now }
+    requires double { IsListedStill (L.world look_ups.old) (update_data update.now) double }
+    ensures world { L.world look_ups.new ≡ L.world look_ups.old }
+    ensures stands { IsRefusal (L.world look_ups.old) (update_data update.now) result }
+{
+    match find_reached(alloc, look_ups, update, opened, compared) {
+        Ok(reached) => fault_of_double(compared, &reached, double),
+        Err(refusal) => refusal,
+    }
+}
+
+/// Refuses a node that is listed twice.
+fn refuse_doubles<L: LookUps>(
+    alloc: Global,
+    look_ups: &mut L,
+    update: &TreeUpdate,
+    opened: &Opened,
+    compared: &Compared,
+    settled: &Settled,
+    removed: &Removed,
+) -> Result<(), UpdateError>
+    requires old { IsOld (L.world look_ups.old) }
+    requires opening { IsOpening (L.world look_ups.old) (update_data update.now) opened.now }
+    requires compared { IsComparison (L.world look_ups.old) (update_data update.now) compared.now }
+    requires settlement { IsSettlement (L.world look_ups.old) (update_data update.now) settled.now }
+    requires removal { IsRemoval (L.world look_ups.old) (update_data update.now) removed.now }
+    ensures world { L.world look_ups.new ≡ L.world look_ups.old }
+    ensures count { OnOk result (L.asked look_ups.new ≡ L.asked look_ups.old) }
+    ensures ok { OnOk result ((id : FullNodeId) (place : Option Place)
+        → at settled.now.old_places id ≡ Some place → ¬ (IsDoubled compared.now removed.now id place)) }
+    ensures err { IfErr result (λ e. IsRefusal (L.world look_ups.old) (update_data update.now) e) }
+{
+    for (id, place) in &settled.old_places {
+        if is_doubled(compared, removed, *id, *place) {
+            return Err(explain(alloc, look_ups, update, opened, compared, removed, *id));
+        }
+    }
+    Ok(())
+}
+
+/// Refuses an update that lists a named node nowhere, or a node twice.
+pub(crate) fn refuse_misplaced<L: LookUps>(
+    alloc: Global,
+    look_ups: &mut L,
+    update: &TreeUpdate,
+    opened: &Opened,
+    compared: &Compared,
+    settled: &Settled,
+    removed: &Removed,
+) -> Result<(), UpdateError>
+    requires old { IsOld (L.world look_ups.old) }
+    requires opening { IsOpening (L.world look_ups.old) (update_data update.now) opened.now }
+    requires compared { IsComparison (L.world look_ups.old) (update_data update.now) compared.now }
+    requires settlement { IsSettlement (L.world look_ups.old) (update_data update.now) settled.now }
+    requires removal { IsRemoval (L.world look_ups.old) (update_data update.now) removed.now }
+    ensures world { L.world look_ups.new ≡ L.world look_ups.old }
+    ensures count { OnOk result (L.asked look_ups.new ≡ L.asked look_ups.old) }
+    ensures ok { OnOk result (IsRefined (L.world look_ups.old) (update_data update.now)) }
+    ensures err { IfErr result (λ e. IsRefusal (L.world look_ups.old) (update_data update.now) e) }
+{
+    refuse_unlisted(compared)?;
+    refuse_doubles(alloc, look_ups, update, opened, compared, settled, removed)
+}

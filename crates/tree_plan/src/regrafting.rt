@@ -1,0 +1,121 @@
+//! Trees that get another graft.
+ghost use Rattle.std.specs.Prelude.{◌≡◌, ◌≤◌, ◌+◌, ◌++◌, ◌∷◌, [], IfOk, IfErr, OnOk, None, ◌↔◌, ◌⊎◌, IsTrue, IsSome, length, MatchOption};
+ghost use Rattle.schema.specs.UpdateData.{update_data};
+ghost use Rattle.tree_changes.specs.declared.error.UpdateError.TheVariants.{Memory, GraftedTwice};
+ghost use Rattle.model.specs.Surgery.{IsOld, IsClimbed};
+ghost use Rattle.tree_changes.specs.Refusals.{IsRefusal};
+ghost use Rattle.tree_changes.specs.Looks.{raised};
+ghost use Rattle.tree_plan.specs.Passes.{at, at_name, has, IsComparison, IsRemoval, IsRegrafting};
+ghost use Rattle.tree_plan.specs.Regrafts.{HasRival, HasNoRival, MovesIn, PutsRoot, grafted_record};
+
+use crate::passes::{Compared, Removed};
+use crate::records::tree_record;
+use model::FullNodeId;
+use schema::{TreeId, TreeUpdate};
+use std::alloc::Global;
+use std::collections::BTreeMap;
+use tree_changes::{LookUps, TreeRecord, UpdateError};
+
+/// The trees that get another graft.
+#[derive(Drop)]
+pub(crate) struct Regrafted {
+    /// Their records afterwards.
+    pub(crate) trees: Vec<TreeRecord>,
+    /// The roots of those that are present, with their new grafts.
+    pub(crate) moved_in: BTreeMap<FullNodeId, FullNodeId>,
+}
+
+/// Gives each tree that a named node gains its new graft. The old one has to go or to be named.
+pub(crate) fn regraft<L: LookUps>(
+    alloc: Global,
+    look_ups: &mut L,
+    _update: &TreeUpdate,
+    compared: &Compared,
+    removed: &Removed,
+) -> Result<Regrafted, UpdateError>
+    requires old { IsOld (L.world look_ups.old) }
+    requires comparison { IsComparison (L.world look_ups.old) (update_data _update.now) compared.now }
+    requires removal { IsRemoval (L.world look_ups.old) (update_data _update.now) removed.now }
+    requires climbed { IsClimbed (L.world look_ups.old) (update_data _update.now) }
+    ensures world { L.world look_ups.new ≡ L.world look_ups.old }
+    ensures err { IfErr result (λ e. IsRefusal (L.world look_ups.old) (update_data _update.now) e) }
+    ensures ok { IfOk result (λ r. IsRegrafting (L.world look_ups.old) (update_data _update.now) r.trees.items r.moved_in) }
+    ensures trees { IfOk result (λ r. length r.trees.items ≤ length compared.now.gained.items) }
+    ensures counts { IfOk result (λ r. L.asked look_ups.new ≤ L.asked look_ups.old + length compared.now.gained.items) }
+{
+    let mut regrafted = Regrafted {
+        trees: Vec::new(alloc),
+        moved_in: BTreeMap::new(alloc),
+    };
+    for name in compared.gained.iter() {
+        regrafted.add(look_ups, compared, removed, name)?;
+    }
+    Ok(regrafted)
+}
+
+/// Whether no node grafts the tree but one that goes or is named.
+fn is_free(graft: Option<FullNodeId>, compared: &Compared, removed: &Removed) -> bool
+    ensures { MatchOption graft (IsTrue result) (λ g.
+        IsTrue result ↔ (has removed.now.gone g ⊎ IsSome (at compared.now.named g))) }
+{
+    let Some(graft) = graft else {
+        return true;
+    };
+    if removed.gone.contains(&graft) {
+        return true;
+    }
+    compared.named.contains_key(&graft)
+}
+
+impl Regrafted {
+    /// Gives the tree of this name, which a named node gains, its new graft.
+    fn add<L: LookUps>(
+        &mut self,
+        look_ups: &mut L,
+        compared: &Compared,
+        removed: &Removed,
+        name: &TreeId,
+    ) -> Result<(), UpdateError>
+        requires { IsSome (at_name compared.now.grafted name.now) }
+        ensures world { L.world look_ups.new ≡ L.world look_ups.old }
+        ensures counts { L.asked look_ups.new ≡ raised (L.asked look_ups.old) }
+        ensures err { IfErr result (λ e. (e ≡ Memory)
+            ⊎ ((e ≡ GraftedTwice name.now) × HasRival (L.world look_ups.old) compared.now removed.now name.now)) }
+        ensures free { OnOk result (HasNoRival (L.world look_ups.old) compared.now removed.now name.now) }
+        ensures trees { OnOk result (self.new.trees.items
+            ≡ self.old.trees.items ++ grafted_record (L.world look_ups.old) compared.now name.now ∷ []) }
+        ensures moved_in { OnOk result (let w = L.world look_ups.old in
+            MovesIn w compared.now name.now self.old.moved_in self.new.moved_in) }
+    {
+        let old = tree_record(look_ups, name);
+        if !is_free(old.graft, compared, removed) {
+            return Err(UpdateError::GraftedTwice(*name));
+        }
+        let graft = compared.grafted.get(name).copied();
+        let record = TreeRecord { graft, ..old };
+        self.move_in(&record)?;
+        self.trees.push(record)?;
+        Ok(())
+    }
+
+    /// Moves the root of a tree, where it is present, below the tree's graft.
+    fn move_in(&mut self, after: &TreeRecord) -> Result<(), UpdateError>
+        ensures trees { self.new.trees ≡ self.old.trees }
+        ensures err { IfErr result (λ e. e ≡ Memory) }
+        ensures absent { OnOk result (after.now.index ≡ None → self.new ≡ self.old) }
+        ensures rootless { OnOk result (after.now.root ≡ None → self.new ≡ self.old) }
+        ensures present { OnOk result (PutsRoot after.now self.old.moved_in self.new.moved_in) }
+    {
+        let Some(tree) = after.index else {
+            return Ok(());
+        };
+        let Some(node) = after.root else {
+            return Ok(());
+        };
+        let Some(graft) = after.graft else {
+            return Ok(());
+        };
+        self.moved_in.insert(FullNodeId { tree, node }, graft)?;
+        Ok(())
+    }
+}

@@ -1,0 +1,160 @@
+//! Where those that entered stood before.
+ghost use Rattle.std.specs.Prelude.{◌≡◌, ℕ, ◌+◌, ◌≤◌, ◌↔◌, length, IsTrue, Some, OnOk, IfOk, IfErr};
+ghost use Rattle.schema.specs.UpdateData.{update_data};
+ghost use Rattle.model.specs.World.{IsNode, in_tree};
+ghost use Rattle.model.specs.Surgery.{IsOld, Entered};
+ghost use Rattle.model.specs.Update.{merged};
+ghost use Rattle.tree_changes.specs.Refusals.{IsRefusal};
+ghost use Rattle.tree_changes.specs.declared.error.UpdateError.TheVariants.{Memory};
+ghost use Rattle.tree_plan.specs.Passes.{IsOpening, IsComparison, IsSettlement};
+ghost use Rattle.tree_plan.specs.Settling.{Comes, StoodAt, KeepsPlace, KeepsAdopter, IsSettledSoFar, SettlesOne};
+
+use crate::passes::{Compared, Opened, Settled};
+use model::FullNodeId;
+use schema::TreeUpdate;
+use std::alloc::Global;
+use std::collections::{BTreeMap, BTreeSet};
+use tree_changes::{LookUps, Place, UpdateError};
+
+/// Whether this is the named tree's root afterwards.
+fn is_root(opened: &Opened, id: FullNodeId) -> bool
+    ensures { IsTrue result ↔ (id ≡ in_tree opened.now.index opened.now.root) }
+{
+    let root = FullNodeId {
+        tree: opened.index,
+        node: opened.root,
+    };
+    id == root
+}
+
+/// Where a node stood that entered: at a place or, as a root, at none. A new one stood nowhere.
+fn find_old_place<L: LookUps>(
+    look_ups: &mut L,
+    update: &TreeUpdate,
+    compared: &Compared,
+    id: FullNodeId,
+) -> Result<Option<Option<Place>>, UpdateError>
+    requires old { IsOld (L.world look_ups.old) }
+    requires compared { IsComparison (L.world look_ups.old) (update_data update.now) compared.now }
+    requires comes { Comes (L.world look_ups.old) (update_data update.now) id }
+    ensures world { L.world look_ups.new ≡ L.world look_ups.old }
+    ensures count { L.asked look_ups.new ≤ L.asked look_ups.old + 1 }
+    ensures ok { IfOk result (StoodAt (L.world look_ups.old) id) }
+    ensures there { OnOk result
+        (IsNode (merged (L.world look_ups.old) (update_data update.now)) id) }
+    ensures err { IfErr result (λ e. IsRefusal (L.world look_ups.old) (update_data update.now) e) }
+{
+    if let Some(spot) = compared.left.get(&id).copied() {
+        return Ok(Some(spot));
+    }
+    if let Some(named) = compared.named.get(&id) {
+        return Ok(named.was);
+    }
+    let Some(record) = look_ups.node(id) else {
+        return Err(UpdateError::MissingData(id.node));
+    };
+    Ok(Some(record.place))
+}
+
+/// Whether the old place is in this parent's list.
+fn is_below(was: Option<Option<Place>>, parent: FullNodeId) -> bool
+    ensures { IsTrue result ↔ ((k : ℕ) × (was ≡ Some (Some (parent, k)))) }
+{
+    match was {
+        Some(Some((before, _))) => before == parent,
+        _ => false,
+    }
+}
+
+/// Keeps where an old node stood.
+fn keep_place(
+    settled: &mut Settled,
+    id: FullNodeId,
+    was: Option<Option<Place>>,
+) -> Result<(), UpdateError>
+    ensures ok { OnOk result (KeepsPlace id was settled.old settled.new) }
+    ensures err { IfErr result (λ e. e ≡ Memory) }
+{
+    if let Some(place) = was {
+        settled.old_places.insert(id, place)?;
+    }
+    Ok(())
+}
+
+/// Keeps the parent that a node entered, unless the node was in its list.
+fn keep_adopter(
+    settled: &mut Settled,
+    parent: FullNodeId,
+    was: Option<Option<Place>>,
+) -> Result<(), UpdateError>
+    ensures ok { OnOk result (KeepsAdopter parent was settled.old settled.new) }
+    ensures err { IfErr result (λ e. e ≡ Memory) }
+{
+    if is_below(was, parent) {
+        return Ok(());
+    }
+    settled.adopters.insert(parent)?;
+    settled.has_moved = settled.has_moved || was.is_some();
+    Ok(())
+}
+
+/// Settles one node that entered a spot.
+fn settle_one<L: LookUps>(
+    settled: &mut Settled,
+    look_ups: &mut L,
+    update: &TreeUpdate,
+    opened: &Opened,
+    compared: &Compared,
+    id: FullNodeId,
+    spot: Option<Place>,
+) -> Result<(), UpdateError>
+    requires old { IsOld (L.world look_ups.old) }
+    requires opening { IsOpening (L.world look_ups.old) (update_data update.now) opened.now }
+    requires compared { IsComparison (L.world look_ups.old) (update_data update.now) compared.now }
+    requires entered { Entered (L.world look_ups.old) (update_data update.now) spot id }
+    requires so_far { IsSettledSoFar (L.world look_ups.old) (update_data update.now) settled.old }
+    ensures world { L.world look_ups.new ≡ L.world look_ups.old }
+    ensures count { L.asked look_ups.new ≤ L.asked look_ups.old + 1 }
+    ensures ok { OnOk result (SettlesOne (L.world look_ups.old) (update_data update.now) id spot
+        settled.old settled.new) }
+    ensures err { IfErr result (λ e. IsRefusal (L.world look_ups.old) (update_data update.now) e) }
+{
+    let Some((parent, _)) = spot else {
+        let was = find_old_place(look_ups, update, compared, id)?;
+        return keep_place(settled, id, was);
+    };
+    if is_root(opened, id) {
+        return Err(UpdateError::ListedTwice(id.node));
+    }
+    let was = find_old_place(look_ups, update, compared, id)?;
+    keep_place(settled, id, was)?;
+    keep_adopter(settled, parent, was)
+}
+
+/// Where those that entered stood, and which nodes got a child that they didn't list.
+pub(crate) fn settle<L: LookUps>(
+    alloc: Global,
+    look_ups: &mut L,
+    update: &TreeUpdate,
+    opened: &Opened,
+    compared: &Compared,
+) -> Result<Settled, UpdateError>
+    requires old { IsOld (L.world look_ups.old) }
+    requires opening { IsOpening (L.world look_ups.old) (update_data update.now) opened.now }
+    requires compared { IsComparison (L.world look_ups.old) (update_data update.now) compared.now }
+    ensures world { L.world look_ups.new ≡ L.world look_ups.old }
+    ensures ok { IfOk result (IsSettlement (L.world look_ups.old) (update_data update.now)) }
+    ensures count { OnOk result
+        (L.asked look_ups.new ≤ L.asked look_ups.old + length compared.now.entered.entries) }
+    ensures err { IfErr result (λ e. IsRefusal (L.world look_ups.old) (update_data update.now) e) }
+{
+    let mut settled = Settled {
+        old_places: BTreeMap::new(alloc),
+        adopters: BTreeSet::new(alloc),
+        has_moved: false,
+    };
+    for (id, spot) in &compared.entered {
+        settle_one(&mut settled, look_ups, update, opened, compared, *id, *spot)?;
+    }
+    Ok(settled)
+}

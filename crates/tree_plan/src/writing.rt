@@ -1,0 +1,273 @@
+//! The decision, from what the passes found.
+ghost use Rattle.std.specs.Prelude.{◌≡◌, ◌≢◌, ◌++◌, ◌∷◌, [], List, IfOk, IfErr, OnOk, IsTrue, ◌↔◌, Some, None, map, option_to_list, if◌then◌else◌};
+ghost use Rattle.std.specs.List.{flat_map};
+ghost use Rattle.std.specs.BTreeMap.{IsOrdered};
+ghost use Rattle.schema.specs.UpdateData.{update_data};
+ghost use Rattle.model.specs.declared.FullNodeId.{FullNodeId};
+ghost use Rattle.model.specs.FullIds.{full_cmp};
+ghost use Rattle.model.specs.declared.events.PlanEvent.{PlanEvent};
+ghost use Rattle.tree_changes.specs.declared.error.UpdateError.TheVariants.{Memory};
+ghost use Rattle.tree_plan.specs.declared.verdicts.Verdict.{Verdict};
+ghost use Rattle.tree_plan.specs.Passes.{at, IsFocusing};
+ghost use Rattle.tree_plan.specs.Writing.{change_of, change_entry, group_of, told_of, untold, IsMove, event_in, AreEvents, AreTrees, IsSmall, own_record};
+ghost use Rattle.model.specs.Differences.{told_root};
+ghost use Rattle.model.specs.Work.{Work, IsWorkOf};
+ghost use Rattle.tree_changes.specs.Changes.{overlaid};
+ghost use Rattle.tree_changes.specs.Decisions.{IsDecision};
+ghost use Rattle.tree_plan.specs.Verdicts.{Step, IsFound};
+
+use crate::passes::{Focused, Opened};
+use crate::verdicts::{Found, Verdict};
+use model::{FullNodeId, PlanEvent};
+use schema::TreeUpdate;
+use std::alloc::Global;
+use std::collections::BTreeMap;
+use tree_changes::{Decision, NodeChange, TreeRecord, UpdateError};
+
+/// Which nodes are told of together.
+#[derive(Clone, Copy, PartialEq, Eq)]
+pub(crate) enum Group {
+    Added,
+    Updated,
+    Removed,
+}
+
+impl Verdict {
+    /// The change of the node's record, where there is one.
+    fn change(self) -> Option<NodeChange>
+        ensures { result ≡ change_of self }
+    {
+        match self {
+            Verdict::Added { place, entry } => Some(NodeChange::Put {
+                place,
+                entry: Some(entry),
+            }),
+            Verdict::Updated { place, entry } => Some(NodeChange::Put { place, entry }),
+            Verdict::Told => None,
+            Verdict::Removed => Some(NodeChange::Gone),
+        }
+    }
+
+    fn group(self) -> Group
+        ensures { result ≡ group_of self }
+    {
+        match self {
+            Verdict::Added { .. } => Group::Added,
+            Verdict::Updated { .. } => Group::Updated,
+            Verdict::Told => Group::Updated,
+            Verdict::Removed => Group::Removed,
+        }
+    }
+}
+
+/// The event of a node, if its group is told of.
+fn event(own: Group, told: Group, id: FullNodeId) -> Option<PlanEvent>
+    ensures { option_to_list result ≡ event_in own told id }
+{
+    match (own, told) {
+        (Group::Added, Group::Added) => Some(PlanEvent::Added(id)),
+        (Group::Updated, Group::Updated) => Some(PlanEvent::Updated(id)),
+        (Group::Removed, Group::Removed) => Some(PlanEvent::Removed(id)),
+        _ => None,
+    }
+}
+
+/// The change of a node, with its id.
+fn entry_change(id: FullNodeId, verdict: Verdict) -> Option<(FullNodeId, NodeChange)>
+    ensures { option_to_list result ≡ change_entry (id, verdict) }
+{
+    let change = verdict.change()?;
+    Some((id, change))
+}
+
+/// The changes of nodes, ids ascending.
+fn node_changes(
+    alloc: Global,
+    verdicts: &BTreeMap<FullNodeId, Verdict>,
+) -> Result<Vec<(FullNodeId, NodeChange)>, UpdateError>
+    ensures ok { IfOk result (λ changes. changes.items ≡ flat_map change_entry verdicts.now.entries) }
+    ensures ordered { OnOk result (IsOrdered full_cmp verdicts.now) }
+    ensures err { IfErr result (λ e. e ≡ Memory) }
+{
+    let mut changes = Vec::new(alloc);
+    for (id, verdict) in verdicts {
+        if let Some(change) = entry_change(*id, *verdict) {
+            changes.push(change)?;
+        }
+    }
+    Ok(changes)
+}
+
+/// Adds the events of a group, ids ascending.
+fn push_group(
+    verdicts: &BTreeMap<FullNodeId, Verdict>,
+    told: Group,
+    events: &mut Vec<PlanEvent>,
+) -> Result<(), UpdateError>
+    ensures ok { OnOk result (events.new.items ≡ events.old.items ++ flat_map (told_of told) verdicts.now.entries) }
+    ensures err { IfErr result (λ e. e ≡ Memory) }
+{
+    for (id, verdict) in verdicts {
+        if let Some(event) = event(verdict.group(), told, *id) {
+            events.push(event)?;
+        }
+    }
+    Ok(())
+}
+
+/// Adds that a focused node is updated, unless it is told of anyway.
+fn push_untold(
+    verdicts: &BTreeMap<FullNodeId, Verdict>,
+    focus: Option<FullNodeId>,
+    events: &mut Vec<PlanEvent>,
+) -> Result<(), UpdateError>
+    ensures ok { OnOk result (events.new.items ≡ events.old.items ++ untold (at verdicts.now) focus) }
+    ensures err { IfErr result (λ e. e ≡ Memory) }
+{
+    let Some(id) = focus else {
+        return Ok(());
+    };
+    if verdicts.contains_key(&id) {
+        return Ok(());
+    }
+    events.push(PlanEvent::Updated(id))?;
+    Ok(())
+}
+
+/// Adds what a move of the focus tells.
+fn push_move(
+    verdicts: &BTreeMap<FullNodeId, Verdict>,
+    before: Option<FullNodeId>,
+    after: Option<FullNodeId>,
+    events: &mut Vec<PlanEvent>,
+) -> Result<(), UpdateError>
+    ensures ok { OnOk result ((more : List PlanEvent) × (events.new.items ≡ events.old.items ++ more) × IsMove (at verdicts.now) before after more) }
+    ensures err { IfErr result (λ e. e ≡ Memory) }
+{
+    if before == after {
+        return Ok(());
+    }
+    push_untold(verdicts, before, events)?;
+    push_untold(verdicts, after, events)?;
+    events.push(PlanEvent::FocusMoved(before, after))?;
+    Ok(())
+}
+
+/// What is told, in order. Of the first update nothing is.
+fn told_events(
+    alloc: Global,
+    is_first: bool,
+    verdicts: &BTreeMap<FullNodeId, Verdict>,
+    focused: &Focused,
+) -> Result<Vec<PlanEvent>, UpdateError>
+    ensures quiet { IfOk result (λ events. IsTrue is_first → events.items ≡ []) }
+    ensures told { IfOk result (λ events. ¬ (IsTrue is_first) → AreEvents verdicts.now focused.now events.items) }
+    ensures err { IfErr result (λ e. e ≡ Memory) }
+{
+    let mut events = Vec::new(alloc);
+    if is_first {
+        return Ok(events);
+    }
+    push_group(verdicts, Group::Added, &mut events)?;
+    push_group(verdicts, Group::Updated, &mut events)?;
+    push_move(verdicts, focused.before, focused.after, &mut events)?;
+    push_group(verdicts, Group::Removed, &mut events)?;
+    Ok(events)
+}
+
+/// The record of the named tree afterwards.
+fn own_record(opened: &Opened, update: &TreeUpdate) -> TreeRecord
+    ensures { result ≡ own_record update.now.tree_id update.now.focus opened.now }
+{
+    TreeRecord {
+        id: update.tree_id,
+        index: Some(opened.index),
+        graft: opened.record.graft,
+        root: Some(opened.root),
+        focus: Some(update.focus),
+    }
+}
+
+/// Whether two records say the same.
+fn is_same_record(a: &TreeRecord, b: &TreeRecord) -> bool
+    ensures { IsTrue result ↔ (a.now ≡ b.now) }
+{
+    if a.index != b.index {
+        return false;
+    }
+    if a.graft != b.graft {
+        return false;
+    }
+    if a.root != b.root {
+        return false;
+    }
+    if a.focus != b.focus {
+        return false;
+    }
+    a.id == b.id
+}
+
+/// The records of trees afterwards, where they are others than before.
+fn tree_changes(
+    alloc: Global,
+    found: Found,
+    own: TreeRecord,
+) -> Result<Vec<TreeRecord>, UpdateError>
+    ensures ok { IfOk result (λ trees. AreTrees found.entry own trees.items) }
+    ensures err { IfErr result (λ e. e ≡ Memory) }
+{
+    let mut trees = Vec::new(alloc);
+    trees.extend_from_slice(&found.removed.trees)?;
+    trees.extend_from_slice(&found.regrafted.trees)?;
+    if is_same_record(&own, &found.opened.record) {
+        return Ok(trees);
+    }
+    trees.push(own)?;
+    Ok(trees)
+}
+
+/// The root that is told even where it is as it was: the one in the tree info of another tree than the root tree.
+pub(crate) fn told_root(opened: &Opened, update: &TreeUpdate) -> Option<FullNodeId>
+    ensures { result ≡ told_root opened.now.index (update_data update.now).info }
+{
+    let Some(info) = &update.tree else {
+        return None;
+    };
+    if opened.index == 0 {
+        return None;
+    }
+    Some(FullNodeId {
+        tree: opened.index,
+        node: info.root,
+    })
+}
+
+/// The decision on an accepted update.
+pub(crate) fn write(
+    alloc: Global,
+    update: &TreeUpdate,
+    found: Found,
+    focused: &Focused,
+) -> Result<Decision, UpdateError>
+    ghost step: { Step }
+    requires update { step.update ≡ update_data update.now }
+    requires found { IsFound step found }
+    requires focusing { IsFocusing step.old step.update focused.now }
+    ensures ok { IfOk result (IsDecision step.old step.update) }
+    ensures new { IfOk result (λ d. overlaid step.old step.update d ≡ step.new) }
+    ensures small { IfOk result (λ d.
+        (work : Work) → IsWorkOf step.old step.update step.new work → IsSmall found.entry.compared.now found.entry.removed.now found.entry.regrafted.now d work) }
+    ensures err { IfErr result (λ e. e ≡ Memory) }
+{
+    let verdicts = found.verdicts(alloc)?;
+    let nodes = node_changes(alloc, &verdicts)?;
+    let own = own_record(found.opened, update);
+    let trees = tree_changes(alloc, found, own)?;
+    let events = told_events(alloc, found.opened.is_first, &verdicts, focused)?;
+    Ok(Decision {
+        nodes,
+        trees,
+        events,
+        focus: focused.effective,
+    })
+}

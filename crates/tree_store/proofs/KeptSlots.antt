@@ -1,0 +1,44 @@
+-- Slots that are made, filled and taken away.
+use Rattle.std.proofs.Common.{◌≡◌, ℕ, suc, ◌<◌, List, [], ◌∷◌, map, Bool, true, false, cond, Option, Some, None, refl, sym, ap, subst, ◌∙◌}
+use Rattle.std.specs.Prelude.{◌||◌, is_some, IsTrue}
+use Rattle.std.specs.Option.{option_map}
+use Rattle.std.specs.BTreeMap.{is_at}
+use Rattle.std.specs.Cmp.{Equal-is, eq_by_cmp_equiv}
+use Rattle.std.specs.List.{AllByRecursion}
+use Rattle.std.specs.List.Sorted.{IsStrictlySortedBy}
+use Rattle.std.specs.Map.{keys_of, lookup}
+use Rattle.std.specs.Ordering.{eq_by_cmp, is_eq}
+use Rattle.std.specs.declared.boxed.Box.{Box}
+use Rattle.std.specs.declared.alloc.Global.{Global}
+use Rattle.std.specs.declared.cmp.Ordering.TheVariants.{Less}
+use Rattle.model.specs.declared.FullNodeId.{FullNodeId}
+use Rattle.model.specs.FullIds.{full_cmp, full_total, exact_full}
+use Rattle.tree_changes.specs.declared.decision.NodeChange.{NodeChange}
+use Rattle.tree_changes.specs.Changes.{NodeChanges, change_at}
+use Rattle.tree_store.specs.declared.records.Record.{Record}
+use Rattle.tree_store.specs.Stored.{Slots, slot_at, record_at, filled}
+use Rattle.tree_store.proofs.Maps.{held}
+
+pub same_id : (k q : FullNodeId) → is_at (full_cmp k) q ≡ true → k ≡ q
+same_id k q b = exact_full k q ((Equal-is (full_cmp k q)).0 b)
+
+pub none_from_false : {A : Type 0} (o : Option A) → is_some o ≡ false → o ≡ None
+none_from_false None e = refl
+none_from_false (Some x) e = cc
+
+blank_by : (b : Bool) (x o : Option (Box (Option Record) Global)) → filled (held x) ≡ None → (b ≡ true → filled (held o) ≡ None) → filled (held (cond b x o)) ≡ filled (held o)
+blank_by true x o e h = e ∙ sym (h refl)
+blank_by false x o e h = refl
+
+-- where there is no record, to make or take away an empty slot changes none
+pub blank_same : (es fs : Slots) (k : FullNodeId) (x : Option (Box (Option Record) Global)) → filled (held x) ≡ None
+    → ((q : FullNodeId) → lookup (is_at (full_cmp q)) fs ≡ cond (is_at (full_cmp k) q) x (lookup (is_at (full_cmp q)) es)) → record_at es k ≡ None → (q : FullNodeId) → record_at fs q ≡ record_at es q
+blank_same es fs k x blank up none q =
+    ap (λ o. filled (held o)) (up q)
+    ∙ blank_by (is_at (full_cmp k) q) x (lookup (is_at (full_cmp q)) es) blank (λ b. subst (λ i. record_at es i ≡ None) (same_id k q b) none)
+
+pub record_none : (es : Slots) (k : FullNodeId) → is_some (lookup (is_at (full_cmp k)) es) ≡ false → record_at es k ≡ None
+record_none es k e = ap (λ o. filled (held o)) (none_from_false (lookup (is_at (full_cmp k)) es) e)
+
+pub symmetric : (k q : FullNodeId) → eq_by_cmp full_cmp q k ≡ is_at (full_cmp k) q
+symmetric k q = (eq_by_cmp_equiv full_total).symm q k

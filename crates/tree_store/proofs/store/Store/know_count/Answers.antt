@@ -1,0 +1,12 @@
+use Rattle.std.proofs.Common.{arith, ap, sym, ◌∙◌}
+use Rattle.std.specs.FinMap as map
+use Rattle.std.specs.FinSet as set
+use Rattle.tree_store.specs.Kept.{Kept}
+use Rattle.tree_store.proofs.SlotCounts.{slots_fit, nodes_fit}
+use Rattle.tree_store.proofs.store.Store.know_count.Goals as goal
+
+pub returns-clause-slots : goal.returns-clause-slots
+returns-clause-slots c = omega (arith, slots_fit c.self.inside.nodes.entries, ap (λ (k : Kept). set.len k.slots) c.self.view_is, c.len.ensures.small, c.len.ensures.len)
+
+pub returns-clause-nodes : goal.returns-clause-nodes
+returns-clause-nodes c = omega (arith, nodes_fit c.self.inside.nodes.entries, ap (λ (k : Kept). map.len k.world.nodes) c.self.view_is, c.len.ensures.small, c.len.ensures.len)

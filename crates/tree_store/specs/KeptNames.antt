@@ -1,0 +1,34 @@
+-- What is kept of names, and what becomes of it.
+use Rattle.std.specs.Prelude.{◌≡◌, ℕ, List, Option, Some, None, All, IsSome, ◌||◌, is_some, option_and_then, if◌then◌else◌}
+use Rattle.std.specs.BTreeMap.{BTreeMap, get}
+use Rattle.std.specs.Ordering.{nat_cmp}
+use Rattle.std.specs.Cmp.Lexicographic.{slice_cmp}
+use Rattle.std.specs.declared.cmp.Ordering.{Ordering}
+use Rattle.schema.specs.declared.TreeId.{TreeId}
+use Rattle.model.specs.declared.FullNodeId.{FullNodeId}
+use Rattle.tree_changes.specs.declared.look_ups.TreeRecord.{TreeRecord}
+use Rattle.tree_store.specs.declared.records.NameRecord.{NameRecord}
+
+abbrev pub name_cmp : TreeId → TreeId → Ordering
+name_cmp a b = slice_cmp nat_cmp a.0 b.0
+
+-- what is kept at a name
+abbrev pub name_at : BTreeMap TreeId NameRecord → TreeId → Option NameRecord
+name_at m name = get name_cmp m name
+
+-- the index and the graft; a record without both says what no record says
+abbrev pub kept_in : Option NameRecord → Option ℕ × Option FullNodeId
+kept_in r = (option_and_then (λ r. r.index) r, option_and_then (λ r. r.graft) r)
+
+-- what is kept of a changed record: nothing where it has neither an index nor a graft
+abbrev pub name_kept : TreeRecord → Option NameRecord
+name_kept r = if is_some r.index || is_some r.graft then Some (record { index = r.index; graft = r.graft }) else None
+
+-- what is kept of a name after a change that may be missing
+abbrev pub name_after : Option TreeRecord → Option NameRecord → Option NameRecord
+name_after None before = before
+name_after (Some r) before = name_kept r
+
+-- each changed name has a record
+abbrev pub HasNames : BTreeMap TreeId NameRecord → List TreeRecord → Type 0
+HasNames m rs = All (λ r. IsSome (name_at m r.id)) rs
