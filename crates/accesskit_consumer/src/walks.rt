@@ -1,5 +1,4 @@
 //! Walks over the nodes of a state: over all of them, or over what a filter shows.
-mod bounds;
 mod calls;
 mod controls;
 mod course;

@@ -1,17 +1,18 @@
 -- A world has no more nodes than there are slots for them.
-use Rattle.std.proofs.Common.{◌≡◌, ℕ, ◌+◌, ◌≤◌, ◌<◌, List, [], ◌∷◌, length, Bool, true, false, cond, map, Option, Some, None, refl, sym, ap, ◌∙◌, arith}
-use Rattle.std.specs.Prelude.{◌||◌, is_some}
-use Rattle.std.specs.Cmp.{eq_by_cmp_equiv}
+use Rattle.std.proofs.Common.{◌≡◌, ℕ, zero, suc, ◌+◌, ◌-◌, ◌≤◌, ◌<◌, List, [], ◌∷◌, length, Bool, true, false, cond, map, Option, Some, None, not, true≢false, subst, refl, sym, ap, ◌∙◌, arith}
+use Rattle.std.specs.Prelude.{◌||◌, ◌&&◌, is_some}
+use Rattle.std.specs.List.{IsDistinct, AllByRecursion, list_any}
 use Rattle.std.specs.FinMap.{FinMap, keys, len, entries, entries_sorted, len-entries, contains_key, contains_key-keys}
 use Rattle.std.specs.FinSet as set
 use Rattle.std.proofs.lemmas.List.{length-map}
-use Rattle.std.proofs.lemmas.Map.Made.{length-le_from_is_member}
 use Rattle.schema.specs.NodeData.{NodeData}
 use Rattle.schema.specs.declared.NodeId.{NodeId}
 use Rattle.model.specs.declared.FullNodeId.{FullNodeId}
 use Rattle.model.specs.FullIds.{full_cmp, full_total}
 use Rattle.model.specs.World.{World, data_of}
 use Rattle.model.specs.Update.{UpdateData}
+use Rattle.model.specs.Forest.{is_same}
+use Rattle.model.proofs.Forest.PlaceOf.{same_from_test, test_self}
 use Rattle.model.proofs.Lists.PreorderCount.{keys_distinct}
 use Rattle.tree_changes.specs.declared.decision.NodeChange.{NodeChange}
 use Rattle.tree_changes.specs.declared.decision.Decision.{Decision}
@@ -23,12 +24,42 @@ use Rattle.tree_store.specs.Stored.{Slots, nodes_shown, slots_shown, slot_at, re
 use Rattle.tree_store.proofs.Maps.{get-nodes_shown, contains-slots_shown, node_in}
 use Rattle.tree_store.proofs.Laid.{effect, data_laid}
 
+apart_back : (a b : FullNodeId) → is_same a b ≡ false → is_same b a ≡ false
+apart_back a b e = go (is_same b a) refl
+  where
+    go : (t : Bool) → is_same b a ≡ t → is_same b a ≡ false
+    go true h = absurd (true≢false (sym (ap (is_same a) (same_from_test b a h) ∙ test_self a) ∙ e))
+    go false h = h
+
+left_in : (s : set.FinSet full_cmp) (k : FullNodeId) (ks : List FullNodeId) → AllByRecursion (λ y. is_same k y ≡ false) ks → AllByRecursion (λ y. set.contains s y ≡ true) ks
+    → AllByRecursion (λ y. set.contains (set.remove s k) y ≡ true) ks
+left_in s k [] apart all = tt
+left_in s k (y ∷ ks) apart all = (set.contains-remove full_total s k y ∙ ap (λ b. not b && set.contains s y) (apart_back k y apart.0) ∙ all.0, left_in s k ks apart.1 all.1)
+
+-- distinct members are no more than the set has
+members_fit : (ks : List FullNodeId) (s : set.FinSet full_cmp) → IsDistinct is_same ks → AllByRecursion (λ y. set.contains s y ≡ true) ks → length ks ≤ set.len s
+unfolding IsDistinct
+members_fit [] s distinct all = omega arith
+members_fit (k ∷ ks) s distinct all =
+    go (set.len s) refl (subst (λ n. length ks ≤ n) (set.len-remove full_total s k ∙ ap (λ b. cond b (set.len s - 1) (set.len s)) all.0) (members_fit ks (set.remove s k) distinct.1 (left_in s k ks distinct.0 all.1)))
+  where
+    go : (n : ℕ) → set.len s ≡ n → length ks ≤ set.len s - 1 → suc (length ks) ≤ set.len s
+    go zero e fewer = absurd (true≢false (sym all.0 ∙ ap (λ t. set.contains t k) (set.empty_of_len s e) ∙ set.contains-empty full_cmp k))
+    go (suc n) e fewer = omega (arith, fewer, e)
+
+or_later : (a b : Bool) → b ≡ true → (a || b) ≡ true
+or_later true b e = refl
+or_later false b e = e
+
+each_member : (P : FullNodeId → Type 0) (ks : List FullNodeId) → ((q : FullNodeId) → list_any (is_same q) ks ≡ true → P q) → AllByRecursion P ks
+each_member P [] f = tt
+each_member P (k ∷ ks) f = (f k (ap (λ b. b || list_any (is_same k) ks) (test_self k)), each_member P ks (λ q h. f q (or_later (is_same q k) (list_any (is_same q) ks) h)))
+
 -- where each key has a slot, the keys are no more than the slots
 nodes_within : (m : FinMap full_cmp NodeData) (s : set.FinSet full_cmp) → ((q : FullNodeId) → contains_key m q ≡ true → set.contains s q ≡ true) → len m ≤ set.len s
-unfolding set.len set.items
 nodes_within m s within =
-    let few : length (keys m) ≤ length (set.items s) = length-le_from_is_member (eq_by_cmp_equiv full_total) (keys m) (set.items s) (keys_distinct (entries m) (entries_sorted m)) (λ q h. sym (set.contains-items s q) ∙ within q (contains_key-keys m q ∙ h)) in
-    omega (arith, few, length-map (entries m) (λ (e : FullNodeId × NodeData). e.0), len-entries m, length-map (entries s) (λ (e : FullNodeId × Unit {0}). e.0), len-entries s)
+    let few : length (keys m) ≤ set.len s = members_fit (keys m) s (keys_distinct (entries m) (entries_sorted m)) (each_member (λ q. set.contains s q ≡ true) (keys m) (λ q h. within q (contains_key-keys m q ∙ h))) in
+    omega (arith, few, length-map (entries m) (λ (e : FullNodeId × NodeData). e.0), len-entries m)
 
 one_more : (b : Bool) (n k : ℕ) → n ≤ k → cond b n (n + 1) ≤ 1 + k
 one_more true n k h = omega (arith, h)

@@ -1,5 +1,6 @@
 //! What is known of each state that is shown.
-ghost use Rattle.std.specs.Prelude.{◌≡◌};
+ghost use Rattle.std.specs.Prelude.{◌≡◌, ◌<◌, ◌^◌};
+ghost use Rattle.std.specs.FinMap.{len};
 ghost use Rattle.model.specs.World.{root_named};
 ghost use Rattle.model.specs.Forest.{IsFormed};
 ghost use Rattle.model.specs.State.{IsState};
@@ -20,6 +21,16 @@ impl<'a> StateRef<'a> {
             return;
         };
         overlay.know(self.base);
+    }
+
+    /// The nodes are fewer than a `usize` counts. Nothing is computed.
+    pub(crate) fn know_count(self)
+        ensures { len (world_of self.entry).nodes < 2 ^ 64 }
+    {
+        match self.overlay {
+            Some(overlay) => overlay.know_count(self.base),
+            None => self.base.know_count(),
+        }
     }
 
     /// The root of the tree of this name, where it is present.

@@ -6,7 +6,7 @@ use Rattle.tree_store.proofs.SlotCounts.{slots_fit, nodes_fit}
 use Rattle.tree_store.proofs.store.Store.know_count.Goals as goal
 
 pub returns-clause-slots : goal.returns-clause-slots
-returns-clause-slots c = omega (arith, slots_fit c.self.inside.nodes.entries, ap (λ (k : Kept). set.len k.slots) c.self.view_is, c.len.ensures.small, c.len.ensures.len)
+returns-clause-slots c = omega (arith, slots_fit c.self.inside.nodes.entries, ap (λ (k : Kept). set.len k.slots) c.self.view_is, c.len-count.ensures.small, c.len-count.ensures.len)
 
 pub returns-clause-nodes : goal.returns-clause-nodes
-returns-clause-nodes c = omega (arith, nodes_fit c.self.inside.nodes.entries, ap (λ (k : Kept). map.len k.world.nodes) c.self.view_is, c.len.ensures.small, c.len.ensures.len)
+returns-clause-nodes c = omega (arith, nodes_fit c.self.inside.nodes.entries, ap (λ (k : Kept). map.len k.world.nodes) c.self.view_is, c.len-count.ensures.small, c.len-count.ensures.len)
