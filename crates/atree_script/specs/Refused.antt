@@ -4,8 +4,8 @@ use Rattle.std.specs.Fmt.{decimal}
 use Rattle.uuid.specs.Text.{hyphenated_text, lower}
 use Rattle.schema.specs.declared.NodeId.{NodeId}
 use Rattle.schema.specs.declared.TreeId.{TreeId}
-use Rattle.tree_store.specs.declared.error.UpdateError.{UpdateError}
-use Rattle.tree_store.specs.declared.error.UpdateError.TheVariants.{MissingTreeInfo, NotRootTree, MissingData, NotReached, NamedTwice, ListedTwice, RootTreeGrafted, GraftWithChildren, GraftedTwice, NoGraft, NoFirstTreeInfo, FocusMissing, FocusOnEmptyGraft, IndexesUsedUp, Memory}
+use Rattle.tree_changes.specs.declared.error.UpdateError.{UpdateError}
+use Rattle.tree_changes.specs.declared.error.UpdateError.TheVariants.{MissingTreeInfo, NotRootTree, MissingData, NotReached, NamedTwice, ListedTwice, RootTreeGrafted, GraftWithChildren, GraftedTwice, NoGraft, NoFirstTreeInfo, FocusMissing, FocusOnEmptyGraft, IndexesUsedUp, Memory}
 
 -- the name of a refusal, and the node that it names
 abbrev pub refused_node : List ℕ → NodeId → List ℕ
