@@ -10,7 +10,7 @@ use Rattle.model.specs.Forest.{IsFormed}
 use Rattle.model.specs.Lists.{ancestors}
 use Rattle.model.specs.Covers.{is_included, filtered_parent}
 use Rattle.model.specs.Views.{included_ancestors}
-use Rattle.model.specs.Upward.{given, says, nearest_given}
+use Rattle.model.specs.Upward.{field_at, says, nearest_given}
 use Rattle.accesskit_consumer.specs.declared.node.node_ref.NodeRef.{NodeRef}
 use Rattle.accesskit_consumer.specs.Nodes.{world_at, id_at, data_at}
 use Rattle.accesskit_consumer.proofs.Climbing.{rest_above, says_shown}
@@ -54,7 +54,7 @@ module _ (w : World) (n : NodeRef) (same : world_at n ≡ w) (up : List FullNode
   container_is_above test e = ap (λ b. cond b (Some (id_at n)) (find (says test w) up)) (says_shown test w n same ∙ e)
 
   pub gives_it : {A : Type 0} (field : NodeData → Option A) (a : A) → field (data_at n) ≡ Some a → nearest_given field w (id_at n ∷ up) ≡ Some a
-  gives_it field a e = ap (λ o. slice_get (cons_option o (filter_map (given field w) up)) 0) (given_shown field w n same ∙ e)
+  gives_it field a e = ap (λ o. slice_get (cons_option o (filter_map (field_at field w) up)) 0) (given_shown field w n same ∙ e)
 
   pub gives_later : {A : Type 0} (field : NodeData → Option A) → field (data_at n) ≡ None → nearest_given field w (id_at n ∷ up) ≡ nearest_given field w up
-  gives_later field e = ap (λ o. slice_get (cons_option o (filter_map (given field w) up)) 0) (given_shown field w n same ∙ e)
+  gives_later field e = ap (λ o. slice_get (cons_option o (filter_map (field_at field w) up)) 0) (given_shown field w n same ∙ e)

@@ -12,13 +12,13 @@ use Rattle.model.specs.Reasons.{Reason}
 use Rattle.model.specs.Run.{CommandData, ReplyData, ToUpdate, Refused, OutOfMemory, Accepted, Does}
 use Rattle.model.specs.State.{IsState}
 use Rattle.model.specs.Update.{UpdateData, Fault, IsFirst, Stands, index_for}
-use Rattle.model.specs.Work.{Work, IsWorkOf, allowed}
+use Rattle.model.specs.Work.{Work, IsWorkOf, allowance}
 use Rattle.model.proofs.Differences.Reasons.{has_reason}
 use Rattle.tree_changes.specs.declared.decision.Decision.{Decision}
 use Rattle.tree_changes.specs.declared.error.UpdateError.{UpdateError}
-use Rattle.tree_changes.specs.Changes.{overlaid}
+use Rattle.tree_changes.specs.Changes.{overlaid_world}
 use Rattle.tree_changes.specs.Decisions.{IsDecision, IsWithinWork}
-use Rattle.tree_changes.specs.Looks.{raised}
+use Rattle.tree_changes.specs.Looks.{raised_count}
 use Rattle.tree_changes.specs.Refusals.{fault_of, IsRefusal}
 use Rattle.accesskit_consumer.specs.Telling.{IsTellable}
 
@@ -39,19 +39,19 @@ tellable old new root (FocusMoved before after) r = (r.0, r.1)
 tellable old new root (Removed id) r = r.0
 
 module _ (w : World) (u : UpdateData) (d : Decision) (state : IsState w) (decided : IsDecision w u d) where
-  all_tellable : All (IsTellable w (overlaid w u d)) d.events.items
+  all_tellable : All (IsTellable w (overlaid_world w u d)) d.events.items
   all_tellable =
       let root = told_root (index_for w u.name) u.info in
-      λ k e less. tellable w (overlaid w u d) root (slice_index_or d.events.items k e)
-      (has_reason w (overlaid w u d) root d.events.items (decided.told (state_not_first w state)) (slice_index_or d.events.items k e) (Contains-get_or d.events.items k e less))
+      λ k e less. tellable w (overlaid_world w u d) root (slice_index_or d.events.items k e)
+      (has_reason w (overlaid_world w u d) root d.events.items (decided.told (state_not_first w state)) (slice_index_or d.events.items k e) (Contains-get_or d.events.items k e less))
 
-  pub views_tellable : (old new : World) (items : List PlanEvent) → old ≡ w → new ≡ overlaid w u d → items ≡ d.events.items → All (IsTellable old new) items
+  pub views_tellable : (old new : World) (items : List PlanEvent) → old ≡ w → new ≡ overlaid_world w u d → items ≡ d.events.items → All (IsTellable old new) items
   views_tellable old new items is_old is_new same =
       subst (λ x. All (IsTellable old new) x) (sym same)
       (subst (λ x. All (IsTellable x new) d.events.items) (sym is_old) (subst (λ x. All (IsTellable w x) d.events.items) (sym is_new) all_tellable))
 
   -- an update that is accepted and told
-  pub does_accepted : (new : World) → new ≡ overlaid w u d → Does w (ToUpdate u) new (events w new d.events.items) Accepted
+  pub does_accepted : (new : World) → new ≡ overlaid_world w u d → Does w (ToUpdate u) new (events w new d.events.items) Accepted
   does_accepted new is =
       subst (λ x. Does w (ToUpdate u) x (events w x d.events.items) Accepted) (sym is)
       (decided.accepted, d.events.items, decided.told (state_not_first w state), refl)
@@ -65,12 +65,12 @@ pub does_refused : (w new : World) (u : UpdateData) (e : UpdateError) → IsRefu
 does_refused w new u e h same = by_fault w new u (fault_of e) h same
 
 -- two more for each of n, and for one more
-pub two_further : (start n count next : ℕ) → count ≤ start + 2 * n → next ≡ raised (raised count) → next ≤ start + 2 * (n + 1)
+pub two_further : (start n count next : ℕ) → count ≤ start + 2 * n → next ≡ raised_count (raised_count count) → next ≤ start + 2 * (n + 1)
 two_further start n count next before is = grind arith
 
 -- what an update adds to the count is within what is allowed
-pub within : (w new : World) (u : UpdateData) (d : Decision) (before decided after : ℕ) → new ≡ overlaid w u d → IsWithinWork w u d before decided
-    → after ≤ decided + 2 * (length d.events.items + (length d.nodes.items + length d.trees.items)) → (work : Work) → IsWorkOf w u new work → after ≤ before + allowed work
+pub within : (w new : World) (u : UpdateData) (d : Decision) (before decided after : ℕ) → new ≡ overlaid_world w u d → IsWithinWork w u d before decided
+    → after ≤ decided + 2 * (length d.events.items + (length d.nodes.items + length d.trees.items)) → (work : Work) → IsWorkOf w u new work → after ≤ before + allowance work
 within w new u d before decided after is h told work is_work = let least = h work (subst (λ x. IsWorkOf w u x work) is is_work) in omega arith
 
 -- what is done to the world that a state shows is done to that world

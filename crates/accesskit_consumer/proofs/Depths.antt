@@ -5,7 +5,7 @@ use Rattle.std.specs.FinMap.{len}
 use Rattle.model.specs.declared.FullNodeId.{FullNodeId}
 use Rattle.model.specs.declared.filters.FilterResult.{FilterResult}
 use Rattle.model.specs.World.{World, Place, StandsAt}
-use Rattle.model.specs.Forest.{place_of, above, climbed, chain, IsFormed, is_same}
+use Rattle.model.specs.Forest.{place_of, above, places_up, chain, IsFormed, is_same}
 use Rattle.model.specs.Lists.{IsWithin}
 use Rattle.model.specs.Paths.{depth}
 use Rattle.model.specs.Upward.{is_within}
@@ -28,9 +28,9 @@ chain_length : (n : ℕ) (up : FullNodeId → List Place) → ((id : FullNodeId)
 chain_length n up h None = omega arith
 chain_length n up h (Some p) = omega (arith, h p.0)
 
-climbed_length : (w : World) (n : ℕ) (id : FullNodeId) → length (climbed w n id) ≤ n
+climbed_length : (w : World) (n : ℕ) (id : FullNodeId) → length (places_up w n id) ≤ n
 climbed_length w zero id = omega arith
-climbed_length w (suc n) id = chain_length n (climbed w n) (λ c. climbed_length w n c) (place_of w id)
+climbed_length w (suc n) id = chain_length n (places_up w n) (λ c. climbed_length w n c) (place_of w id)
 
 pub depth_within_nodes : (w : World) (id : FullNodeId) → depth w id ≤ len w.nodes
 unfolding above

@@ -13,7 +13,7 @@ use Rattle.model.specs.Lists.{ancestors}
 use Rattle.model.specs.Upward.{says, upward}
 use Rattle.model.specs.Covers.{is_included, filtered_parent}
 use Rattle.model.specs.FocusFound.{is_focused}
-use Rattle.model.specs.Filters.{is_hidden, is_transparent, settled, base_filter, is_clipped_by, is_clipped, common_filter}
+use Rattle.model.specs.Filters.{is_hidden, is_transparent, first_answer, base_filter, is_clipped_by, is_clipped, common_filter}
 use Rattle.model.proofs.Views.ViewFacts.{clipped_on_the_way}
 use Rattle.accesskit_consumer.specs.declared.node.node_ref.NodeRef.{NodeRef}
 use Rattle.accesskit_consumer.specs.Nodes.{world_at, id_at}
@@ -53,22 +53,22 @@ or_later true b e = cc
 or_later false b e = e
 
 module _ (w : World) where
-  pub unsettled_is_seen : (id : FullNodeId) → settled w id ≡ None → is_hidden w id ≡ false
+  pub unsettled_is_seen : (id : FullNodeId) → first_answer w id ≡ None → is_hidden w id ≡ false
   unsettled_is_seen id e = unhidden (is_focused w id) (is_hidden w id) (is_transparent w id) e
 
   base_includes : (id : FullNodeId) → is_hidden w id ≡ false → is_included (base_filter w id) ≡ not (is_passed w id)
   base_includes id e = base_by_tests (is_focused w id) (is_hidden w id) (is_transparent w id) e
 
-  focused_settled : (id : FullNodeId) → is_focused w id ≡ true → settled w id ≡ Some Include
+  focused_settled : (id : FullNodeId) → is_focused w id ≡ true → first_answer w id ≡ Some Include
   focused_settled id e = ap (λ f. by_tests f (is_hidden w id) (is_transparent w id)) e
 
-  clipped_step : (id : FullNodeId) (ids : List FullNodeId) → settled w id ≡ None → clipped_from w (id ∷ ids) ≡ (is_clipped w id || clipped_from w ids)
+  clipped_step : (id : FullNodeId) (ids : List FullNodeId) → first_answer w id ≡ None → clipped_from w (id ∷ ids) ≡ (is_clipped w id || clipped_from w ids)
   clipped_step id ids e =
-      ap (list_any (is_clipped w)) (take_while-cons (λ a. is_none (settled w a)) id ids ∙ ap (λ o. cond (is_none o) (id ∷ take_while (λ a. is_none (settled w a)) ids) []) e)
+      ap (list_any (is_clipped w)) (take_while-cons (λ a. is_none (first_answer w a)) id ids ∙ ap (λ o. cond (is_none o) (id ∷ take_while (λ a. is_none (first_answer w a)) ids) []) e)
 
-  clipped_stop : (id : FullNodeId) (ids : List FullNodeId) (r : FilterResult) → settled w id ≡ Some r → clipped_from w (id ∷ ids) ≡ false
+  clipped_stop : (id : FullNodeId) (ids : List FullNodeId) (r : FilterResult) → first_answer w id ≡ Some r → clipped_from w (id ∷ ids) ≡ false
   clipped_stop id ids r e =
-      ap (list_any (is_clipped w)) (take_while-cons (λ a. is_none (settled w a)) id ids ∙ ap (λ o. cond (is_none o) (id ∷ take_while (λ a. is_none (settled w a)) ids) []) e)
+      ap (list_any (is_clipped w)) (take_while-cons (λ a. is_none (first_answer w a)) id ids ∙ ap (λ o. cond (is_none o) (id ∷ take_while (λ a. is_none (first_answer w a)) ids) []) e)
 
 module _ (w : World) (formed : IsFormed w) (v : World) (same : v ≡ w) (id : FullNodeId) where
   -- ---- with a parent
@@ -86,7 +86,7 @@ module _ (w : World) (formed : IsFormed w) (v : World) (same : v ≡ w) (id : Fu
     pub base_goes_on : is_hidden w id ≡ false → is_passed w q ≡ true → filtered_parent (base_filter w) w id ≡ filtered_parent (base_filter w) w q
     base_goes_on seen passed = climb_goes_on w formed v same (λ a. is_included (base_filter w a)) id q parent (base_includes w q (parent_is_seen seen) ∙ ap not passed)
 
-    module _ (unsettled : settled w id ≡ None) where
+    module _ (unsettled : first_answer w id ≡ None) where
       seen : is_hidden w id ≡ false
       seen = unsettled_is_seen w id unsettled
 
@@ -117,7 +117,7 @@ module _ (w : World) (formed : IsFormed w) (v : World) (same : v ≡ w) (id : Fu
         pub way_focused : is_clipped_by w q id ≡ false → is_focused w q ≡ true → false ≡ clipped_from w (upward w id)
         way_focused e f = sym (way_on e ∙ clipped_stop w q (ancestors w q) Include (focused_settled w q f))
 
-        pub parent_unsettled : is_focused w q ≡ false → settled w q ≡ None
+        pub parent_unsettled : is_focused w q ≡ false → first_answer w q ≡ None
         parent_unsettled f = open_by_tests (is_focused w q) (is_hidden w q) (is_transparent w q) (parent_is_seen seen) kept f
 
   -- ---- without one
@@ -125,7 +125,7 @@ module _ (w : World) (formed : IsFormed w) (v : World) (same : v ≡ w) (id : Fu
   pub base_ends : None ≡ parent_of v id → filtered_parent (base_filter w) w id ≡ None
   base_ends none = climb_ends w formed v same (λ a. is_included (base_filter w a)) id none
 
-  pub way_ends : settled w id ≡ None → None ≡ parent_of v id → false ≡ clipped_from w (upward w id)
+  pub way_ends : first_answer w id ≡ None → None ≡ parent_of v id → false ≡ clipped_from w (upward w id)
   way_ends unsettled none =
       sym (clipped_step w id (ancestors w id) unsettled
       ∙ ap (λ ids. is_clipped w id || clipped_from w ids) (nothing_above w formed id (none ∙ ap (λ u. parent_of u id) same))
@@ -133,7 +133,7 @@ module _ (w : World) (formed : IsFormed w) (v : World) (same : v ≡ w) (id : Fu
 
 -- ---- the answer
 
-pub answer_on_the_way : (w : World) → IsFormed w → (id : FullNodeId) (clipped : Bool) → None ≡ settled w id → clipped ≡ clipped_from w (upward w id) → cond clipped ExcludeSubtree Include ≡ common_filter w id
+pub answer_on_the_way : (w : World) → IsFormed w → (id : FullNodeId) (clipped : Bool) → None ≡ first_answer w id → clipped ≡ clipped_from w (upward w id) → cond clipped ExcludeSubtree Include ≡ common_filter w id
 answer_on_the_way w formed id clipped e is = ap (λ b. cond b ExcludeSubtree Include) is ∙ sym (clipped_on_the_way w formed id (sym e))
 
 -- ---- what the code's tests say of a view

@@ -9,20 +9,20 @@ use Rattle.model.proofs.State.HostFocus.{host_leaves_state, chain_before}
 use Rattle.model.proofs.Forest.Rooted.{state_formed}
 use Rattle.tree_changes.specs.Looks.{IsPlaceOf}
 use Rattle.tree_store.specs.declared.overlay.Overlay.{Overlay}
-use Rattle.accesskit_consumer.specs.Sound.{laid}
+use Rattle.accesskit_consumer.specs.Sound.{laid_world}
 use Rattle.accesskit_consumer.proofs.Showing.{place_known}
 
 module _ (w : World) (o p : Option Overlay) (host : Bool) (is : o ≡ p) where
-  pub state_shown : IsState (laid w p) → IsState (with_host (laid w o) host)
-  state_shown s = subst (λ x. IsState (with_host (laid w x) host)) (sym is) (host_leaves_state (laid w p) host s)
+  pub state_shown : IsState (laid_world w p) → IsState (with_host (laid_world w o) host)
+  state_shown s = subst (λ x. IsState (with_host (laid_world w x) host)) (sym is) (host_leaves_state (laid_world w p) host s)
 
-  pub formed_shown : IsState (laid w p) → IsFormed (with_host (laid w o) host)
+  pub formed_shown : IsState (laid_world w p) → IsFormed (with_host (laid_world w o) host)
   formed_shown s = state_formed (state_shown s)
 
-  pub focus_shown : (f : FullNodeId) → IsEffectiveFocus (laid w p) f → IsEffectiveFocus (with_host (laid w o) host) f
+  pub focus_shown : (f : FullNodeId) → IsEffectiveFocus (laid_world w p) f → IsEffectiveFocus (with_host (laid_world w o) host) f
   focus_shown f h =
-      subst (λ x. IsEffectiveFocus (with_host (laid w x) host) f) (sym is)
-      (chain_before {w = with_host (laid w p) host} (laid w p).host_focused f h.0, h.1, h.2, h.3)
+      subst (λ x. IsEffectiveFocus (with_host (laid_world w x) host) f) (sym is)
+      (chain_before {w = with_host (laid_world w p) host} (laid_world w p).host_focused f h.0, h.1, h.2, h.3)
 
-  pub place_shown : (id : FullNodeId) (found : Option Place) → IsPlaceOf (laid w p) id found → found ≡ place_of (with_host (laid w o) host) id
-  place_shown id found h = place_known (with_host (laid w o) host) id found (subst (λ x. IsPlaceOf (with_host (laid w x) host) id found) (sym is) h)
+  pub place_shown : (id : FullNodeId) (found : Option Place) → IsPlaceOf (laid_world w p) id found → found ≡ place_of (with_host (laid_world w o) host) id
+  place_shown id found h = place_known (with_host (laid_world w o) host) id found (subst (λ x. IsPlaceOf (with_host (laid_world w x) host) id found) (sym is) h)

@@ -7,7 +7,7 @@ use Rattle.schema.specs.NodeData.{NodeData}
 use Rattle.schema.specs.declared.NodeId.{NodeId}
 use Rattle.schema.specs.declared.TreeId.{TreeId}
 use Rattle.model.specs.declared.FullNodeId.{FullNodeId}
-use Rattle.model.specs.World.{World, Place, StandsAt, IsNode, data_of, index_of, name_of, located}
+use Rattle.model.specs.World.{World, Place, StandsAt, IsNode, data_of, index_of, name_of, local_id_of}
 use Rattle.model.specs.Forest.{place_of}
 use Rattle.model.proofs.Worlds.Names.{IsKnownOnce, known-index_of, unknown-index_of, index_of-known, same_id}
 use Rattle.model.proofs.Forest.PlaceOf.{stands_at_place, place_found}
@@ -35,19 +35,19 @@ located_there w tree node name (Some d) there is = ap (option_map (λ x. (node, 
 
 module _ (w : World) (once : IsKnownOnce w.known) (node : NodeId) (name : TreeId) where
   pub found_by_name : (tree : ℕ) (found : Option NodeRef) → index_of w name ≡ Some tree
-      → ShowsThe w (λ it. (it ≡ record { tree = tree; node = node }) × IsNode w it) found → ShowsThe w (λ it. located w it ≡ Some (node, name)) found
+      → ShowsThe w (λ it. (it ≡ record { tree = tree; node = node }) × IsNode w it) found → ShowsThe w (λ it. local_id_of w it ≡ Some (node, name)) found
   found_by_name tree found is shows = record {
     world = shows.world;
     node = λ it. (
       λ e. let h = (shows.node it).0 e in
-          subst (λ x. located w x ≡ Some (node, name)) (sym h.0) (located_there w tree node name (data_of w (record { tree = tree; node = node })) (subst (IsNode w) h.0 h.1) (known-index_of w name tree is)),
+          subst (λ x. local_id_of w x ≡ Some (node, name)) (sym h.0) (located_there w tree node name (data_of w (record { tree = tree; node = node })) (subst (IsNode w) h.0 h.1) (known-index_of w name tree is)),
       λ e. let h = located_parts it node name (data_of w it) (name_of w it.tree) e in
           let same : it.tree ≡ tree = same_Some it.tree tree (sym (index_of-known w name it.tree once h.2) ∙ is) in
           (shows.node it).1 (same_id it (record { tree = tree; node = node }) same h.1, h.0),
     );
   }
 
-  pub not_found_by_name : index_of w name ≡ None → ShowsThe w (λ it. located w it ≡ Some (node, name)) None
+  pub not_found_by_name : index_of w name ≡ None → ShowsThe w (λ it. local_id_of w it ≡ Some (node, name)) None
   not_found_by_name is = record {
     world = tt;
     node = λ it. (

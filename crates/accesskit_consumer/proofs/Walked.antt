@@ -8,7 +8,7 @@ use Rattle.model.specs.World.{World, children}
 use Rattle.model.specs.Forest.{place_of, is_same as is_same_id, IsFormed}
 use Rattle.model.specs.Frontier.{filtered_children}
 use Rattle.model.specs.Covers.{cover, following_filtered_siblings, preceding_filtered_siblings}
-use Rattle.model.specs.Beside.{left_at, prior_at, after_in, before_in, Spans, between}
+use Rattle.model.specs.Beside.{left_at, prior_at, after_in, before_in, Spans, items_between}
 use Rattle.model.proofs.Walks.Beside.{start_left, start_prior}
 use Rattle.model.proofs.Walks.Between.{first_off, not_stuck, last_off, not_stuck_back, all_between, none_beside}
 use Rattle.model.proofs.Walks.Siblings.{cover_leads, following_in, preceding_in}
@@ -19,12 +19,12 @@ apart r a b h n e = let both : false ≡ true = sym n ∙ h.1 e in cc
 
 module _ (w : World) (formed : IsFormed w) (f : FullNodeId → FilterResult) (top : FullNodeId) where
   pub taken : (front back : FullNodeId) (r : Option FullNodeId) → front ≢ back → MatchOption r (after_in f w top front ≡ []) (λ d. after_in f w top front ≡ d ∷ after_in f w top d) → Spans f w top front back →
-      MatchOption r (between f w top front back ≡ front ∷ []) (λ d. Spans f w top d back × (between f w top front back ≡ front ∷ between f w top d back))
+      MatchOption r (items_between f w top front back ≡ front ∷ []) (λ d. Spans f w top d back × (items_between f w top front back ≡ front ∷ items_between f w top d back))
   taken front back None other e s = absurd (not_stuck w formed f top front back s other e)
   taken front back (Some d) other e s = first_off w formed f top front back d s other e
 
   pub taken_back : (front back : FullNodeId) (r : Option FullNodeId) → front ≢ back → MatchOption r (before_in f w top back ≡ []) (λ d. before_in f w top back ≡ before_in f w top d ++ d ∷ []) → Spans f w top front back →
-      MatchOption r (between f w top front back ≡ [] ++ back ∷ []) (λ d. Spans f w top front d × (between f w top front back ≡ between f w top front d ++ back ∷ []))
+      MatchOption r (items_between f w top front back ≡ [] ++ back ∷ []) (λ d. Spans f w top front d × (items_between f w top front back ≡ items_between f w top front d ++ back ∷ []))
   taken_back front back None other e s = absurd (not_stuck_back w formed f top front back s other e)
   taken_back front back (Some d) other e s = last_off w formed f top front back d s other e
 
@@ -38,7 +38,7 @@ module _ (w : World) (formed : IsFormed w) (f : FullNodeId → FilterResult) (to
   ends_there n back h e = sym (start_prior w formed f top) ∙ sym (ap (λ n. prior_at f w (is_same_id top) (top, n)) h) ∙ e
 
   pub all_there : (n : ℕ) (front back : FullNodeId) → n ≡ length (children w top) → left_at f w (is_same_id top) (top, 0) ≡ front ∷ after_in f w top front → prior_at f w (is_same_id top) (top, n) ≡ before_in f w top back ++ back ∷ [] →
-      Spans f w top front back × (between f w top front back ≡ filtered_children f w top)
+      Spans f w top front back × (items_between f w top front back ≡ filtered_children f w top)
   all_there n front back h first last = all_between w formed f top front back (sym (start_left w formed f top) ∙ first) (ends_there n back h last)
 
   pub none_follow : (node : FullNodeId) → Some top ≡ cover f w node → after_in f w top node ≡ [] → following_filtered_siblings f w node ≡ []
@@ -48,7 +48,7 @@ module _ (w : World) (formed : IsFormed w) (f : FullNodeId → FilterResult) (to
   none_at_all node n covers h e = following_in f w formed node top (sym covers) ∙ (none_beside w formed f top node (cover_leads f w node top (sym covers)).0 (none_until n h e)).0
 
   pub follow_there : (node : FullNodeId) (n : ℕ) (front back : FullNodeId) → Some top ≡ cover f w node → n ≡ length (children w top) → after_in f w top node ≡ front ∷ after_in f w top front →
-      prior_at f w (is_same_id top) (top, n) ≡ before_in f w top back ++ back ∷ [] → Spans f w top front back × (between f w top front back ≡ following_filtered_siblings f w node)
+      prior_at f w (is_same_id top) (top, n) ≡ before_in f w top back ++ back ∷ [] → Spans f w top front back × (items_between f w top front back ≡ following_filtered_siblings f w node)
   follow_there node n front back covers h first last = walk_has_following f w formed node top front back (sym covers) first (ends_there n back h last)
 
   pub none_precede : (node : FullNodeId) → Some top ≡ cover f w node → before_in f w top node ≡ [] → preceding_filtered_siblings f w node ≡ []
@@ -58,7 +58,7 @@ module _ (w : World) (formed : IsFormed w) (f : FullNodeId → FilterResult) (to
   none_first node covers e = none_precede node covers (none_beside w formed f top node (cover_leads f w node top (sym covers)).0 (none_from e)).1
 
   pub precede_there : (node front back : FullNodeId) → Some top ≡ cover f w node → left_at f w (is_same_id top) (top, 0) ≡ front ∷ after_in f w top front → before_in f w top node ≡ before_in f w top back ++ back ∷ [] →
-      Spans f w top front back × (reverse (between f w top front back) ≡ preceding_filtered_siblings f w node)
+      Spans f w top front back × (reverse (items_between f w top front back) ≡ preceding_filtered_siblings f w node)
   precede_there node front back covers first last = walk_has_preceding f w formed node top front back (sym covers) (sym (start_left w formed f top) ∙ first) last
 
 -- a node without a place, and one without a cover, have no siblings that are shown

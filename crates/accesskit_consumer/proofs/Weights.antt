@@ -11,7 +11,7 @@ use Rattle.model.specs.State.{IsState}
 use Rattle.model.specs.Forest.{Forest, empty, tree, plant, place_of, below, above, IsFormed}
 use Rattle.model.specs.Lists.{nodes_of, ancestors, IsWithin}
 use Rattle.model.specs.Paths.{depth}
-use Rattle.model.specs.Frontier.{frontier, shown, filtered_children}
+use Rattle.model.specs.Frontier.{frontier, shown_part, filtered_children}
 use Rattle.model.specs.Beside.{weight}
 use Rattle.model.proofs.Forest.PlaceOf.{stands_at_place}
 use Rattle.model.proofs.Forest.Grown.{below_is, above_child, above_root, depth_child}
@@ -27,7 +27,7 @@ weight_counts empty = omega arith
 weight_counts (tree c inner rest) = omega (arith, weight_counts inner, weight_counts rest, length-append (nodes_of inner) (nodes_of rest))
 
 -- what is shown is no more than there is
-shown_length : (r : FilterResult) (c : FullNodeId) (inner : List FullNodeId) → length (shown r c inner) ≤ 1 + length inner
+shown_length : (r : FilterResult) (c : FullNodeId) (inner : List FullNodeId) → length (shown_part r c inner) ≤ 1 + length inner
 shown_length Include c inner = omega arith
 shown_length ExcludeNode c inner = omega arith
 shown_length ExcludeSubtree c inner = omega arith
@@ -35,7 +35,7 @@ shown_length ExcludeSubtree c inner = omega arith
 frontier_length : (f : FullNodeId → FilterResult) (t : Forest) → 2 * length (frontier f t) ≤ weight t
 frontier_length f empty = omega arith
 frontier_length f (tree c inner rest) =
-    omega (arith, frontier_length f inner, frontier_length f rest, length-append (shown (f c) c (frontier f inner)) (frontier f rest), shown_length (f c) c (frontier f inner))
+    omega (arith, frontier_length f inner, frontier_length f rest, length-append (shown_part (f c) c (frontier f inner)) (frontier f rest), shown_length (f c) c (frontier f inner))
 
 -- a child weighs less than its parent
 weight_in : (sub : FullNodeId → Forest) (cs : List FullNodeId) (i : ℕ) (c : FullNodeId) → slice_get cs i ≡ Some c → weight (sub c) ≤ weight (plant sub cs)

@@ -5,7 +5,7 @@ use Rattle.model.specs.declared.FullNodeId.{FullNodeId}
 use Rattle.model.specs.declared.filters.FilterResult.{FilterResult}
 use Rattle.model.specs.World.{World}
 use Rattle.model.specs.Forest.{above}
-use Rattle.model.specs.Beside.{is_below, Spans, between, work_after, work_before}
+use Rattle.model.specs.Beside.{is_below, Spans, items_between, work_after, work_before}
 use Rattle.accesskit_consumer.specs.declared.walks.ends.Ends.{Ends}
 use Rattle.accesskit_consumer.specs.Spots.{IsSpot, IsSpot-prop}
 
@@ -31,7 +31,7 @@ SpansIf f w top (Some e) = SpansEnds f w top e
 
 -- what is shown from the front to the back
 abbrev pub between_ends : (FullNodeId → FilterResult) → World → FullNodeId → Ends → List FullNodeId
-between_ends f w top e = between f w top e.front.member.id e.back.member.id
+between_ends f w top e = items_between f w top e.front.member.id e.back.member.id
 
 abbrev pub between_if : (FullNodeId → FilterResult) → World → FullNodeId → Option Ends → List FullNodeId
 between_if f w top None = []

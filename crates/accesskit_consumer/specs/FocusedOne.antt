@@ -6,7 +6,7 @@ use Rattle.model.specs.declared.FullNodeId.{FullNodeId}
 use Rattle.model.specs.World.{World}
 use Rattle.model.specs.Forest.{is_same}
 use Rattle.model.specs.FocusFound.{is_focused}
-use Rattle.model.specs.Filters.{is_transparent, settled, is_clipped}
+use Rattle.model.specs.Filters.{is_transparent, first_answer, is_clipped}
 
 -- this node is focused and no other, or none is
 pub record IsFocusedOne (w : World) (focused : Option FullNodeId) : Type 0 where
@@ -18,4 +18,4 @@ is_passed w id = not (is_focused w id) && is_transparent w id
 
 -- one of these nodes is clipped, before the first of which anything is settled
 abbrev pub clipped_from : World → List FullNodeId → Bool
-clipped_from w ids = list_any (is_clipped w) (take_while (λ a. is_none (settled w a)) ids)
+clipped_from w ids = list_any (is_clipped w) (take_while (λ a. is_none (first_answer w a)) ids)

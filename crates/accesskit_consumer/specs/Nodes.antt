@@ -19,11 +19,11 @@ abbrev pub data_at : NodeRef → NodeData
 data_at n = n.node.now
 
 -- what the view shows: the node, and the world in which it is seen
-abbrev pub seen : NodeRef → Seen
-seen n = seen_in (world_at n) (id_at n)
+abbrev pub seen_node : NodeRef → Seen
+seen_node n = seen_in (world_at n) (id_at n)
 
 abbrev pub seen_through : Option (Bor NodeRef) → Option Seen
-seen_through o = option_map (λ n. seen n.now) o
+seen_through o = option_map (λ n. seen_node n.now) o
 
 -- a view of this node of this world
 pub record IsView (w : World) (id : FullNodeId) (n : NodeRef) : Type 0 where

@@ -11,9 +11,9 @@ use Rattle.tree_store.specs.declared.overlay.Overlay.{Overlay}
 use Rattle.tree_store.specs.Overlays.{laid_over, IsLaidOver}
 
 -- the world with the changes over it, where there are any
-abbrev pub laid : World → Option Overlay → World
-laid w None = w
-laid w (Some o) = laid_over w o
+abbrev pub laid_world : World → Option Overlay → World
+laid_world w None = w
+laid_world w (Some o) = laid_over w o
 
 abbrev pub IsSound : World → Option Overlay → Type 0
 IsSound w None = Unit {0}

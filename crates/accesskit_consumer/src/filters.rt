@@ -5,7 +5,7 @@ ghost use Rattle.model.specs.Forest.{is_same};
 ghost use Rattle.model.specs.Upward.{upward};
 ghost use Rattle.model.specs.Covers.{filtered_parent};
 ghost use Rattle.model.specs.Geometry.{bounding_box, meets};
-ghost use Rattle.model.specs.Filters.{is_hidden, is_transparent, settled, base_filter, is_outside, is_far_outside, is_clipped_by, common_filter, common_filter_with_root_exception};
+ghost use Rattle.model.specs.Filters.{is_hidden, is_transparent, first_answer, base_filter, is_outside, is_far_outside, is_clipped_by, common_filter, common_filter_with_root_exception};
 ghost use Rattle.accesskit_consumer.specs.Views.{world_of};
 ghost use Rattle.accesskit_consumer.specs.Nodes.{world_at, id_at};
 ghost use Rattle.accesskit_consumer.specs.FocusedOne.{IsFocusedOne, is_passed, clipped_from};
@@ -70,7 +70,7 @@ fn is_passed(node: &NodeRef<'_>, focused: Option<FullNodeId>) -> bool
 
 /// What is settled of a node at once.
 fn settled(node: &NodeRef<'_>, focused: Option<FullNodeId>) -> Option<FilterResult>
-    ensures { IsFocusedOne (world_at node.now) focused → result ≡ settled (world_at node.now) (id_at node.now) }
+    ensures { IsFocusedOne (world_at node.now) focused → result ≡ first_answer (world_at node.now) (id_at node.now) }
 {
     if is_focused_one(node.id, focused) {
         return Some(FilterResult::Include);
@@ -181,7 +181,7 @@ fn is_clipped_by(node: NodeRef<'_>, parent: NodeRef<'_>, focused: Option<FullNod
 /// Whether a node is clipped from this one on up, as far as nothing is settled.
 fn is_clipped_on_the_way(node: NodeRef<'_>, focused: Option<FullNodeId>) -> bool
     requires focus { IsFocusedOne (world_at node) focused }
-    requires unsettled { settled (world_at node) (id_at node) ≡ None }
+    requires unsettled { first_answer (world_at node) (id_at node) ≡ None }
     ensures { result ≡ clipped_from (world_at node.entry) (upward (world_at node.entry) (id_at node.entry)) }
 {
     node.state.know();

@@ -1,7 +1,7 @@
 //! Prints what a tree tells of its changes.
 ghost use Rattle.std.specs.Prelude.{◌≡◌, Some, None, IfNone, OnOk};
 ghost use Rattle.std.specs.Io.KnownBytes.{Appends};
-ghost use Rattle.atree_script.specs.Printed.{shown, shown_or_dash, seen_id, focus_line, printed};
+ghost use Rattle.atree_script.specs.Printed.{id_text, shown_or_dash, seen_id, focus_line, event_line};
 ghost use Rattle.accesskit_consumer.specs.Nodes.{seen_through};
 
 use accesskit_consumer::node::{FullNodeId, NodeRef};
@@ -14,7 +14,7 @@ use std::io::{self, Write};
 pub(crate) struct ShownId(pub FullNodeId);
 
 impl fmt::Display for ShownId {
-    ghost output = { λ s. Some (shown s.0) };
+    ghost output = { λ s. Some (id_text s.0) };
 
     fn fmt<W: fmt::Write>(&self, f: &mut fmt::Formatter<W>) -> fmt::Result {
         let tree = self.0.tree;
@@ -82,7 +82,7 @@ impl<W: Write + Drop> Printer<W> {
 }
 
 impl<W: Write + Drop> TreeChangeHandler for Printer<W> {
-    ghost steps = { λ s e t. IfNone t.fault ((s.fault ≡ None) × Appends (W.contents s.out) (W.contents t.out) (printed e)) };
+    ghost steps = { λ s e t. IfNone t.fault ((s.fault ≡ None) × Appends (W.contents s.out) (W.contents t.out) (event_line e)) };
 
     fn node_added(&mut self, node: &NodeRef) {
         if self.fault.is_none() {

@@ -1,7 +1,7 @@
 //! Prints why an update is refused.
 ghost use Rattle.std.specs.Prelude.{◌≡◌, OnOk};
 ghost use Rattle.std.specs.Io.KnownBytes.{Appends};
-ghost use Rattle.atree_script.specs.Refused.{refused, refused_node, refused_tree};
+ghost use Rattle.atree_script.specs.Refused.{refusal_line, refused_node, refused_tree};
 
 use accesskit_consumer::tree::UpdateError;
 use schema::{NodeId, TreeId};
@@ -9,7 +9,7 @@ use std::io::{self, Write};
 
 /// Writes `refused`, the refusal's name, and the id of the node or tree that it names, if it names one.
 pub(crate) fn write_refusal<O: Write>(refusal: UpdateError, out: &mut O) -> io::Result<()>
-    ensures { OnOk result (Appends (O.contents out.old) (O.contents out.new) (refused refusal)) }
+    ensures { OnOk result (Appends (O.contents out.old) (O.contents out.new) (refusal_line refusal)) }
 {
     match refusal {
         UpdateError::MissingTreeInfo => writeln!(out, "refused MissingTreeInfo"),

@@ -11,7 +11,7 @@ use Rattle.model.specs.Differences.{Added, Updated, FocusMoved, Removed, AreDiff
 use Rattle.model.specs.Events.{NodeUpdated, seen_in}
 use Rattle.model.specs.Events as handler
 use Rattle.model.specs.Run.{ToHostFocus, Accepted, Runs}
-use Rattle.model.specs.Work.{IsWorkOf, allowed}
+use Rattle.model.specs.Work.{IsWorkOf, allowance}
 
 -- a root tree of these nodes, whose root is node 0; the host is focused
 abbrev pub root_tree : ℕ → List (FullNodeId × NodeData) → World
@@ -80,4 +80,4 @@ window_with_label = root_tree 0 ((at 0 0, window (1 ∷ [])) ∷ (at 0 1, labell
 -- the button gets a label: one node is named, which lists nothing and stands one below the root; nothing goes; one tree is known
 abbrev pub LabelIsLittleWork : Type 0
 LabelIsLittleWork =
-    IsWorkOf (window_with_button 0) label_button window_with_label (record { named = 1; children = 0; removed = 0; depths = 1; known = 1 }) × (allowed (record { named = 1; children = 0; removed = 0; depths = 1; known = 1 }) ≡ 80)
+    IsWorkOf (window_with_button 0) label_button window_with_label (record { named = 1; children = 0; removed = 0; depths = 1; known = 1 }) × (allowance (record { named = 1; children = 0; removed = 0; depths = 1; known = 1 }) ≡ 80)

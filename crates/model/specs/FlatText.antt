@@ -11,7 +11,7 @@ use Rattle.schema.specs.declared.geometry.WideTranslation.{WideTranslation}
 use Rattle.schema.specs.declared.values.TextDirection.{TextDirection}
 use Rattle.model.specs.declared.FullNodeId.{FullNodeId}
 use Rattle.model.specs.World.{World}
-use Rattle.model.specs.Upward.{inherited}
+use Rattle.model.specs.Upward.{inherited_field}
 use Rattle.model.specs.Geometry.{transform, transform_within}
 use Rattle.model.specs.Styles.{Style, style_of, same_style}
 use Rattle.model.specs.Forest.{is_same}
@@ -77,7 +77,7 @@ shown_run w root password masked r = record {
   move = transform w r.id;
   move_in_root = transform_within w root r.id;
   metrics = metrics_of password r.node;
-  direction = inherited (λ d. d.text_direction) w r.id;
+  direction = inherited_field (λ d. d.text_direction) w r.id;
 }
 
 -- the text of a root

@@ -31,13 +31,13 @@ plant sub [] = empty
 plant sub (c ∷ cs) = tree c (sub c) (plant sub cs)
 
 -- what is below a node, cut off after n levels
-abbrev pub grown : World → ℕ → FullNodeId → Forest
-grown w zero id = empty
-grown w (suc n) id = plant (grown w n) (children w id)
+abbrev pub levels_below : World → ℕ → FullNodeId → Forest
+levels_below w zero id = empty
+levels_below w (suc n) id = plant (levels_below w n) (children w id)
 
 -- what is below a node: no way down is longer than there are nodes
 unfoldable pub below : World → FullNodeId → Forest
-below w id = grown w (len w.nodes) id
+below w id = levels_below w (len w.nodes) id
 
 -- a place, and those above it
 abbrev pub chain : (FullNodeId → List Place) → Option Place → List Place
@@ -45,13 +45,13 @@ chain up None = []
 chain up (Some p) = p ∷ up p.0
 
 -- the places from a node up, nearest first, cut off after n
-abbrev pub climbed : World → ℕ → FullNodeId → List Place
-climbed w zero id = []
-climbed w (suc n) id = chain (climbed w n) (place_of w id)
+abbrev pub places_up : World → ℕ → FullNodeId → List Place
+places_up w zero id = []
+places_up w (suc n) id = chain (places_up w n) (place_of w id)
 
 -- the places from a node up to the root: its own, its parent's, and so on; no way up is longer than there are nodes
 unfoldable pub above : World → FullNodeId → List Place
-above w id = climbed w (len w.nodes) id
+above w id = places_up w (len w.nodes) id
 
 -- no node stands at two places, and none is above itself
 pub record IsFormed (w : World) : Type 0 where

@@ -7,14 +7,14 @@ use Rattle.model.specs.World.{World, Place}
 use Rattle.model.specs.Forest.{Forest, empty, tree, below, above}
 
 -- what stands in a frontier for a node that is answered so, where inner is the frontier of what is below it
-abbrev pub shown : FilterResult → FullNodeId → List FullNodeId → List FullNodeId
-shown Include c inner = c ∷ []
-shown ExcludeNode c inner = inner
-shown ExcludeSubtree c inner = []
+abbrev pub shown_part : FilterResult → FullNodeId → List FullNodeId → List FullNodeId
+shown_part Include c inner = c ∷ []
+shown_part ExcludeNode c inner = inner
+shown_part ExcludeSubtree c inner = []
 
 abbrev pub frontier : (FullNodeId → FilterResult) → Forest → List FullNodeId
 frontier f empty = []
-frontier f (tree c inner rest) = shown (f c) c (frontier f inner) ++ frontier f rest
+frontier f (tree c inner rest) = shown_part (f c) c (frontier f inner) ++ frontier f rest
 
 -- the frontier of a node: what the filter shows of its children
 abbrev pub filtered_children : (FullNodeId → FilterResult) → World → FullNodeId → List FullNodeId

@@ -12,12 +12,12 @@ use Rattle.model.specs.declared.FullNodeId.{FullNodeId}
 use Rattle.model.specs.declared.filters.FilterResult.{FilterResult}
 use Rattle.model.specs.World.{World}
 use Rattle.model.specs.Forest.{Forest, empty, tree, below, is_same}
-use Rattle.model.specs.Upward.{given, upward}
+use Rattle.model.specs.Upward.{field_at, upward}
 use Rattle.model.specs.Covers.{is_included, is_cut_off}
 
 -- by how much a node moves itself and what is below it
 abbrev pub direct_transform : World → FullNodeId → Translation
-direct_transform w id = unwrap_or (given (λ d. d.transform) w id) (record { x = pos 0; y = pos 0 })
+direct_transform w id = unwrap_or (field_at (λ d. d.transform) w id) (record { x = pos 0; y = pos 0 })
 
 abbrev pub no_move : WideTranslation
 no_move = record { x = pos 0; y = pos 0 }
@@ -43,16 +43,16 @@ transform_within w top id = sum_of_moves w (below_top w top id)
 abbrev pub whole_rect : Rect → WideRect
 whole_rect r = record { x0 = r.x0; y0 = r.y0; x1 = r.x1; y1 = r.y1 }
 
-abbrev pub moved : WideRect → WideTranslation → WideRect
-moved r by = record { x0 = r.x0 +ℤ by.x; y0 = r.y0 +ℤ by.y; x1 = r.x1 +ℤ by.x; y1 = r.y1 +ℤ by.y }
+abbrev pub moved_rect : WideRect → WideTranslation → WideRect
+moved_rect r by = record { x0 = r.x0 +ℤ by.x; y0 = r.y0 +ℤ by.y; x1 = r.x1 +ℤ by.x; y1 = r.y1 +ℤ by.y }
 
 -- on each axis from the lesser to the greater
-abbrev pub ordered : WideRect → WideRect
-ordered r = record { x0 = int_min r.x0 r.x1; y0 = int_min r.y0 r.y1; x1 = int_max r.x0 r.x1; y1 = int_max r.y0 r.y1 }
+abbrev pub ordered_rect : WideRect → WideRect
+ordered_rect r = record { x0 = int_min r.x0 r.x1; y0 = int_min r.y0 r.y1; x1 = int_max r.x0 r.x1; y1 = int_max r.y0 r.y1 }
 
 -- the rectangle that the node was sent with, moved by the whole sum
 abbrev pub bounding_box : World → FullNodeId → Option WideRect
-bounding_box w id = option_map (λ r. ordered (moved (whole_rect r) (transform w id))) (given (λ d. d.bounds) w id)
+bounding_box w id = option_map (λ r. ordered_rect (moved_rect (whole_rect r) (transform w id))) (field_at (λ d. d.bounds) w id)
 
 -- two boxes share a part: on both axes the greater start is below the lesser end
 abbrev pub meets : WideRect → WideRect → Bool
@@ -86,7 +86,7 @@ uncut_preorder f w top = cond (is_cut_off (f top)) [] (top ∷ uncut f (below w 
 
 -- the node's own rectangle contains the point, which is given as top sees it
 abbrev pub is_at_point : World → FullNodeId → Point → FullNodeId → Bool
-is_at_point w top p id = option_map_or (λ r. contains_point r (seen_from (transform_within w top id) p)) (given (λ d. d.bounds) w id) false
+is_at_point w top p id = option_map_or (λ r. contains_point r (seen_from (transform_within w top id) p)) (field_at (λ d. d.bounds) w id) false
 
 -- the last node of top's pre-order that isn't cut off, is included, and lies at the point
 abbrev pub hit : (FullNodeId → FilterResult) → World → FullNodeId → Point → Option FullNodeId

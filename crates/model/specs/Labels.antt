@@ -11,8 +11,8 @@ use Rattle.model.specs.declared.filters.FilterResult.TheVariants.{Include, Exclu
 use Rattle.model.specs.World.{World, data_of}
 use Rattle.model.specs.Frontier.{filtered_children}
 use Rattle.model.specs.RoleClasses.{is_label, is_labelled_from_within}
-use Rattle.model.specs.Upward.{given, says}
-use Rattle.model.specs.Views.{named}
+use Rattle.model.specs.Upward.{field_at, says}
+use Rattle.model.specs.Views.{ids_in_field}
 use Rattle.model.specs.Values.{value_of}
 
 -- labels and pictures are taken, and looked for in containers alone
@@ -30,22 +30,22 @@ abbrev pub looks_within : NodeData → Bool
 looks_within d = (length d.labelled_by == 0) && is_labelled_from_within d.role
 
 unfoldable pub labelled_by : World → FullNodeId → List FullNodeId
-labelled_by w id = option_map_or (λ d. cond (looks_within d) (filtered_children (label_filter w) w id) (named (λ e. e.labelled_by) w id)) (data_of w id) []
+labelled_by w id = option_map_or (λ d. cond (looks_within d) (filtered_children (label_filter w) w id) (ids_in_field (λ e. e.labelled_by) w id)) (data_of w id) []
 
 abbrev pub own_label : World → FullNodeId → Option (List ℕ)
-own_label w id = given (λ d. d.label) w id
+own_label w id = field_at (λ d. d.label) w id
 
 -- what a node gives to another one's label: a label node its value, another one its own label
 abbrev pub label_part : World → FullNodeId → Option (List ℕ)
 label_part w id = cond (says (λ d. is_label d.role) w id) (value_of w id) (own_label w id)
 
 -- the parts with one space between each two, empty ones too; none, where there is no part
-abbrev pub joined : List (List ℕ) → Option (List ℕ)
-joined [] = None
-joined (t ∷ ts) = Some (join_with_byte 32 (t ∷ ts))
+abbrev pub joined_text : List (List ℕ) → Option (List ℕ)
+joined_text [] = None
+joined_text (t ∷ ts) = Some (join_with_byte 32 (t ∷ ts))
 
 unfoldable pub label_of : World → FullNodeId → Option (List ℕ)
-label_of w id = option_or (own_label w id) (joined (filter_map (label_part w) (labelled_by w id)))
+label_of w id = option_or (own_label w id) (joined_text (filter_map (label_part w) (labelled_by w id)))
 
 -- the own label is given, or a node that labels this one gives a part
 abbrev pub has_label : World → FullNodeId → Bool

@@ -8,7 +8,7 @@ use Rattle.model.specs.State.{IsState}
 use Rattle.model.specs.Forest.{plant, place_of, below, above, IsFormed}
 use Rattle.model.specs.Lists.{preorder, IsWithin, following_siblings, preceding_siblings, first_child, last_child, deepest_first_child, deepest_last_child}
 use Rattle.model.specs.Paths.{depth, index_path, relative_index_path, IsBefore}
-use Rattle.model.specs.Frontier.{shown, filtered_children, IsShown}
+use Rattle.model.specs.Frontier.{shown_part, filtered_children, IsShown}
 
 -- in a state no node stands at two places, and the way up from each ends
 abbrev pub StatesAreFormed : Type 0
@@ -83,7 +83,7 @@ DeepestIsOfChild =
 -- over a node's children in order: one that is included stands for itself, one that is left out for what is shown of its own children, one that is left out with its subtree for nothing
 abbrev pub FrontierIsOfChildren : Type 0
 FrontierIsOfChildren =
-    (f : FullNodeId → FilterResult) (w : World) → IsFormed w → (id : FullNodeId) → filtered_children f w id ≡ flat_map (λ c. shown (f c) c (filtered_children f w c)) (children w id)
+    (f : FullNodeId → FilterResult) (w : World) → IsFormed w → (id : FullNodeId) → filtered_children f w id ≡ flat_map (λ c. shown_part (f c) c (filtered_children f w c)) (children w id)
 
 -- the filtered children are the nodes that are included with no node between that is included or left out with its subtree
 abbrev pub FrontierIsAllShown : Type 0

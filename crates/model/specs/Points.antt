@@ -8,7 +8,7 @@ use Rattle.schema.specs.declared.geometry.WideRect.{WideRect}
 use Rattle.schema.specs.declared.values.TextDirection.{TextDirection}
 use Rattle.schema.specs.declared.values.TextDirection.TheVariants.{LeftToRight, RightToLeft, TopToBottom, BottomToTop}
 use Rattle.model.specs.FlatText.{FlatText, ShownRun, Metrics, count, Position, end_at, document_start, document_end, last_run, run_has}
-use Rattle.model.specs.Geometry.{WidePoint, seen_from, is_between, contains_point, whole_rect, moved, ordered}
+use Rattle.model.specs.Geometry.{WidePoint, seen_from, is_between, contains_point, whole_rect, moved_rect, ordered_rect}
 use Rattle.model.specs.Ranges.{width, place}
 
 -- the point is in the run's own rectangle, which is moved along with the run
@@ -35,7 +35,7 @@ index_at point s =
 
 -- the run's rectangle in the root
 abbrev pub box_in_root : ShownRun → Option WideRect
-box_in_root s = option_map (λ b. ordered (moved (whole_rect b) s.move_in_root)) s.bounds
+box_in_root s = option_map (λ b. ordered_rect (moved_rect (whole_rect b) s.move_in_root)) s.bounds
 
 -- the point is left of the run's box or above it
 abbrev pub is_ahead_of : Point → ShownRun → Bool

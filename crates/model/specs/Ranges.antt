@@ -11,7 +11,7 @@ use Rattle.schema.specs.declared.values.TextSelection.{TextSelection}
 use Rattle.model.specs.declared.FullNodeId.{FullNodeId}
 use Rattle.model.specs.World.{World, data_of}
 use Rattle.model.specs.Paths.{relative_index_path}
-use Rattle.model.specs.Geometry.{whole_rect, moved, ordered}
+use Rattle.model.specs.Geometry.{whole_rect, moved_rect, ordered_rect}
 use Rattle.model.specs.TextRuns.{supports_text_ranges}
 use Rattle.model.specs.FlatText.{FlatText, Metrics, flat_text, count_in, Position, offset, document_start, document_end, biased_to_start, biased_to_end}
 
@@ -71,8 +71,8 @@ abbrev pub text_of : FlatText → Range → List ℕ
 text_of t r = flat_map (piece_text t) (pieces t r)
 
 -- what a traversal passes: of each piece its run and its text
-abbrev pub passed : FlatText → Range → List (Option FullNodeId × List ℕ)
-passed t r = map (λ p. (option_map (λ s. s.id) (slice_get t p.run), piece_text t p)) (pieces t r)
+abbrev pub passed_texts : FlatText → Range → List (Option FullNodeId × List ℕ)
+passed_texts t r = map (λ p. (option_map (λ s. s.id) (slice_get t p.run), piece_text t p)) (pieces t r)
 
 -- ---- properties
 
@@ -130,7 +130,7 @@ piece_rect b m direction count p =
 -- where a piece is shown, where its run has bounds, metrics and a direction
 abbrev pub piece_box : FlatText → Piece → Option WideRect
 piece_box t p =
-    option_and_then (λ s. option_and_then (λ b. option_and_then (λ m. option_map (λ d. ordered (moved (piece_rect b m d (length s.characters) p) s.move)) s.direction) s.metrics) s.bounds) (slice_get t p.run)
+    option_and_then (λ s. option_and_then (λ b. option_and_then (λ m. option_map (λ d. ordered_rect (moved_rect (piece_rect b m d (length s.characters) p) s.move)) s.direction) s.metrics) s.bounds) (slice_get t p.run)
 
 -- all of them, where all are there
 abbrev pub all_given : {A : Type 0} → List (Option A) → Option (List A)
@@ -198,7 +198,7 @@ pub record IsWeak (w : World) (root : FullNodeId) (r : Range) (weak : WeakRange)
   pub end_compares : comparable w root r.end ≡ Some weak.end_comparable
 
 -- the range again in a later world, where its root has a text and both ends are there
-abbrev pub upgraded : World → WeakRange → Option Range
-upgraded w weak =
+abbrev pub upgraded_range : World → WeakRange → Option Range
+upgraded_range w weak =
     let t = flat_text w weak.root in
     if supports_text_ranges w weak.root then option_and_then (λ p. option_map (range_between t p) (position_named t weak.end)) (position_named t weak.start) else None

@@ -41,8 +41,8 @@ AreAlikeWorlds p w v = (w ≡ v) ⊎ EqualShape p w v
 -- ---- alike sessions
 
 -- what an update of the tree with this index says of a node, but for the password's own value and for the text of runs in its tree
-abbrev pub unveiled : FullNodeId → ℕ → NodeId × NodeData → NodeId × NodeData
-unveiled p index e =
+abbrev pub unveiled_entry : FullNodeId → ℕ → NodeId × NodeData → NodeId × NodeData
+unveiled_entry p index e =
     if is_same (in_tree index e.0) p then (e.0, without_value e.1) else if index == p.tree && same_role e.1.role TextRun then (e.0, without_text e.1) else e
 
 -- two updates, of two worlds in which names have the same indexes, that differ at most there
@@ -50,7 +50,7 @@ pub record AreAlikeUpdates (p : FullNodeId) (w : World) (u v : UpdateData) : Typ
   pub name : u.name ≡ v.name
   pub info : u.info ≡ v.info
   pub focus : u.focus ≡ v.focus
-  pub nodes : map (unveiled p (index_for w u.name)) u.nodes ≡ map (unveiled p (index_for w u.name)) v.nodes
+  pub nodes : map (unveiled_entry p (index_for w u.name)) u.nodes ≡ map (unveiled_entry p (index_for w u.name)) v.nodes
 
 abbrev pub AreAlikeCommands : FullNodeId → World → CommandData → CommandData → Type 0
 AreAlikeCommands p w (ToUpdate u) (ToUpdate v) = AreAlikeUpdates p w u v

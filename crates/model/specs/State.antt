@@ -4,7 +4,7 @@ use Rattle.std.specs.FinMap.{get, empty}
 use Rattle.schema.specs.declared.NodeId.{NodeId}
 use Rattle.schema.specs.declared.TreeId.{TreeId}
 use Rattle.model.specs.declared.FullNodeId.{FullNodeId}
-use Rattle.model.specs.World.{ROOT_NAME, World, IsNode, root_of, root_named, listed, graft_name, Place, Reached, Kept}
+use Rattle.model.specs.World.{ROOT_NAME, World, IsNode, root_of, root_named, listed_ids, graft_name, Place, Reached, Kept}
 use Rattle.model.specs.Focus.{OnChain}
 use Rattle.model.specs.Update.{UpdateData, IsAccepted}
 
@@ -22,7 +22,7 @@ idle_update focus = record { nodes = []; info = None; name = ROOT_NAME; focus = 
 
 -- the child stands in the parent's list there
 abbrev pub Lists : World → Place → FullNodeId → Type 0
-Lists w p child = slice_get (listed w p.0) p.1 ≡ Some child
+Lists w p child = slice_get (listed_ids w p.0) p.1 ≡ Some child
 
 -- A world that breaks no rule and has nothing to drop.
 pub record IsState (w : World) : Type 0 where
@@ -44,7 +44,7 @@ pub record IsState (w : World) : Type 0 where
   pub listed_once : (p q : Place) (child : FullNodeId) → Lists w p child → Lists w q child → p ≡ q
   pub root_unlisted : (p : Place) (index : ℕ) (id : FullNodeId) → root_of w index ≡ Some id → ¬ (Lists w p id)
   -- a graft lists nothing and names another tree than the root tree, which no other node grafts
-  pub graft_childless : (id : FullNodeId) (name : TreeId) → graft_name w id ≡ Some name → listed w id ≡ []
+  pub graft_childless : (id : FullNodeId) (name : TreeId) → graft_name w id ≡ Some name → listed_ids w id ≡ []
   pub root_ungrafted : (id : FullNodeId) → graft_name w id ≢ Some ROOT_NAME
   pub grafted_once : (id other : FullNodeId) (name : TreeId) → graft_name w id ≡ Some name → graft_name w other ≡ Some name → id ≡ other
   -- the chain of the focus meets nodes alone, and no graft of a tree that isn't present

@@ -12,7 +12,7 @@ use Rattle.schema.specs.contracts.TextDecoration.{the_row as decoration_row}
 use Rattle.schema.specs.contracts.VerticalOffset.{the_row as offset_row}
 use Rattle.model.specs.declared.FullNodeId.{FullNodeId}
 use Rattle.model.specs.World.{World}
-use Rattle.model.specs.Upward.{inherited}
+use Rattle.model.specs.Upward.{inherited_field}
 
 -- the format of a text, as far as it decides where a new format begins: direction and italics don't count
 pub record Style : Type 0 where
@@ -30,17 +30,17 @@ pub record Style : Type 0 where
 
 abbrev pub style_of : World → FullNodeId → Style
 style_of w id = record {
-  font_family = inherited (λ d. d.font_family) w id;
-  language = inherited (λ d. d.language) w id;
-  font_size = inherited (λ d. d.font_size) w id;
-  font_weight = inherited (λ d. d.font_weight) w id;
-  background_color = inherited (λ d. d.background_color) w id;
-  foreground_color = inherited (λ d. d.foreground_color) w id;
-  overline = inherited (λ d. d.overline) w id;
-  strikethrough = inherited (λ d. d.strikethrough) w id;
-  underline = inherited (λ d. d.underline) w id;
-  text_align = inherited (λ d. d.text_align) w id;
-  vertical_offset = inherited (λ d. d.vertical_offset) w id;
+  font_family = inherited_field (λ d. d.font_family) w id;
+  language = inherited_field (λ d. d.language) w id;
+  font_size = inherited_field (λ d. d.font_size) w id;
+  font_weight = inherited_field (λ d. d.font_weight) w id;
+  background_color = inherited_field (λ d. d.background_color) w id;
+  foreground_color = inherited_field (λ d. d.foreground_color) w id;
+  overline = inherited_field (λ d. d.overline) w id;
+  strikethrough = inherited_field (λ d. d.strikethrough) w id;
+  underline = inherited_field (λ d. d.underline) w id;
+  text_align = inherited_field (λ d. d.text_align) w id;
+  vertical_offset = inherited_field (λ d. d.vertical_offset) w id;
 }
 
 abbrev pub coded_style : Coded Style

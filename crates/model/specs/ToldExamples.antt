@@ -3,7 +3,7 @@ use Rattle.std.specs.Prelude.{◌≡◌, ℕ, [], ◌∷◌, Some}
 use Rattle.model.specs.declared.FullNodeId.{FullNodeId}
 use Rattle.model.specs.Events.{NodeAdded, NodeUpdated, FocusMoved, NodeRemoved, seen_in}
 use Rattle.model.specs.Run.{ToUpdate, Accepted, Does}
-use Rattle.model.specs.Work.{IsWorkOf, allowed}
+use Rattle.model.specs.Work.{IsWorkOf, allowance}
 use Rattle.model.specs.Examples.{at, before_move, whole_move, after_move, nested, graft_moves_out, moved_out, empty_graft, pushed_tree, pushed, document_again, labelled, focus_on, with_inner_focus, label_inner_button, labelled_inside}
 
 -- A graft moves out of a tree that goes: its tree's root has a new place, and the node below that root isn't told.
@@ -50,9 +50,9 @@ FocusComesBack = InnerFocusGoes 1 0 (at 1 1) (at 0 0)
 -- The work of a label in the document: one node is named, which lists nothing and stands one below its tree's root, though three below the window; two names are known.
 abbrev pub InnerLabelWork : Type 0
 InnerLabelWork =
-    IsWorkOf pushed label_inner_button labelled_inside (record { named = 1; children = 0; removed = 0; depths = 1; known = 2 }) × (allowed (record { named = 1; children = 0; removed = 0; depths = 1; known = 2 }) ≡ 96)
+    IsWorkOf pushed label_inner_button labelled_inside (record { named = 1; children = 0; removed = 0; depths = 1; known = 2 }) × (allowance (record { named = 1; children = 0; removed = 0; depths = 1; known = 2 }) ≡ 96)
 
 -- The work of the graft that moves out: two nodes are named, their child lists have 0:1 before and 0:2 after, three nodes go, the graft stands one below the root, three names are known.
 abbrev pub GraftMovesOutWork : Type 0
 GraftMovesOutWork =
-    IsWorkOf nested graft_moves_out moved_out (record { named = 2; children = 2; removed = 3; depths = 1; known = 3 }) × (allowed (record { named = 2; children = 2; removed = 3; depths = 1; known = 3 }) ≡ 208)
+    IsWorkOf nested graft_moves_out moved_out (record { named = 2; children = 2; removed = 3; depths = 1; known = 3 }) × (allowance (record { named = 2; children = 2; removed = 3; depths = 1; known = 3 }) ≡ 208)

@@ -9,7 +9,7 @@ use Rattle.schema.specs.declared.NodeId.{NodeId}
 use Rattle.schema.specs.declared.TreeId.{TreeId}
 use Rattle.model.specs.declared.FullNodeId.{FullNodeId}
 use Rattle.model.specs.FullIds.{full_cmp}
-use Rattle.model.specs.World.{ROOT_NAME, Tree, World, index_of, in_tree, root_of, root_named, IsNode, HasData, listed, graft_name, Place, Reached, Kept}
+use Rattle.model.specs.World.{ROOT_NAME, Tree, World, index_of, in_tree, root_of, root_named, IsNode, HasData, listed_ids, graft_name, Place, Reached, Kept}
 use Rattle.model.specs.Focus.{OnChain}
 
 -- the index of the tree of this name: its place among the known names, or the next one where the name is new
@@ -21,9 +21,9 @@ abbrev pub known_after : World → TreeId → List TreeId
 known_after w name = option_map_or (λ _. w.known) (index_of w name) (w.known ++ name ∷ [])
 
 -- the nodes overwritten by these, of the tree with this index; of two entries with one id the last counts
-abbrev pub overwritten : FinMap full_cmp NodeData → ℕ → List (NodeId × NodeData) → FinMap full_cmp NodeData
-overwritten nodes index [] = nodes
-overwritten nodes index (e ∷ es) = overwritten (insert nodes (in_tree index e.0) e.1) index es
+abbrev pub overwritten_nodes : FinMap full_cmp NodeData → ℕ → List (NodeId × NodeData) → FinMap full_cmp NodeData
+overwritten_nodes nodes index [] = nodes
+overwritten_nodes nodes index (e ∷ es) = overwritten_nodes (insert nodes (in_tree index e.0) e.1) index es
 
 -- the named tree's root: that of the tree info, else the old one; where there is neither, there is no root
 abbrev pub root_after : World → UpdateData → Option NodeId
@@ -38,11 +38,11 @@ abbrev pub toolkit_after : World → UpdateData → Option (List ℕ) × Option 
 toolkit_after w u = option_map_or (λ info. if index_for w u.name == 0 then (info.toolkit_name, info.toolkit_version) else w.toolkit) u.info w.toolkit
 
 -- The world with the update's nodes, root, focus and texts in the place of the named tree's, before anything is dropped.
-abbrev pub merged : World → UpdateData → World
-merged w u = record {
+abbrev pub merged_world : World → UpdateData → World
+merged_world w u = record {
   known = known_after w u.name;
   trees = trees_after w u;
-  nodes = overwritten w.nodes (index_for w u.name) u.nodes;
+  nodes = overwritten_nodes w.nodes (index_for w u.name) u.nodes;
   toolkit = toolkit_after w u;
   host_focused = w.host_focused;
 }
@@ -85,15 +85,15 @@ IsNamed old u id = (id.tree ≡ index_for old u.name) × Contains (map (λ e. e.
 
 -- a node that the rules look at: one that the update names, or a reached one of a kept tree
 abbrev pub Counts : World → UpdateData → FullNodeId → Type 0
-Counts old u id = IsNamed old u id ⊎ (Kept (merged old u) id.tree × Reached (merged old u) id)
+Counts old u id = IsNamed old u id ⊎ (Kept (merged_world old u) id.tree × Reached (merged_world old u) id)
 
 -- a node that counts lists the child at this place
 abbrev pub IsListedAt : World → UpdateData → Place → FullNodeId → Type 0
-IsListedAt old u p child = Counts old u p.0 × (slice_get (listed (merged old u) p.0) p.1 ≡ Some child)
+IsListedAt old u p child = Counts old u p.0 × (slice_get (listed_ids (merged_world old u) p.0) p.1 ≡ Some child)
 
 -- a node that counts is a graft of this name
 abbrev pub IsGraftOf : World → UpdateData → FullNodeId → TreeId → Type 0
-IsGraftOf old u id name = Counts old u id × (graft_name (merged old u) id ≡ Some name)
+IsGraftOf old u id name = Counts old u id × (graft_name (merged_world old u) id ≡ Some name)
 
 -- The fault stands, but for those of the focus.
 abbrev pub StandsApart : World → UpdateData → Fault → Type 0
@@ -102,17 +102,17 @@ StandsApart old u MissingTreeInfo = IsFirst old × (u.info ≡ None)
 -- a first update is for another tree than the root tree
 StandsApart old u NotRootTree = IsFirst old × (u.name ≢ ROOT_NAME)
 -- the named tree's root, or a child that a node that counts lists, has no data
-StandsApart old u (MissingData n) = (id : FullNodeId) × (id.node ≡ n) × ¬ (IsNode (merged old u) id) × ((root_of (merged old u) (index_for old u.name) ≡ Some id) ⊎ ((p : Place) × IsListedAt old u p id))
+StandsApart old u (MissingData n) = (id : FullNodeId) × (id.node ≡ n) × ¬ (IsNode (merged_world old u) id) × ((root_of (merged_world old u) (index_for old u.name) ≡ Some id) ⊎ ((p : Place) × IsListedAt old u p id))
 -- a named node isn't reached
-StandsApart old u (NotReached n) = (id : FullNodeId) × (id.node ≡ n) × IsNamed old u id × ¬ (Reached (merged old u) id)
+StandsApart old u (NotReached n) = (id : FullNodeId) × (id.node ≡ n) × IsNamed old u id × ¬ (Reached (merged_world old u) id)
 -- two entries name this node
 StandsApart old u (NamedTwice n) = (i j : ℕ) × (i ≢ j) × (named_at u i ≡ Some n) × (named_at u j ≡ Some n)
 -- a node is listed at two places, or a root at one
-StandsApart old u (ListedTwice n) = (id : FullNodeId) × (id.node ≡ n) × (p : Place) × IsListedAt old u p id × (((q : Place) × (p ≢ q) × IsListedAt old u q id) ⊎ (root_of (merged old u) id.tree ≡ Some id))
+StandsApart old u (ListedTwice n) = (id : FullNodeId) × (id.node ≡ n) × (p : Place) × IsListedAt old u p id × (((q : Place) × (p ≢ q) × IsListedAt old u q id) ⊎ (root_of (merged_world old u) id.tree ≡ Some id))
 -- a node grafts the root tree
 StandsApart old u (RootTreeGrafted n) = (id : FullNodeId) × (id.node ≡ n) × IsGraftOf old u id ROOT_NAME
 -- a graft lists children
-StandsApart old u (GraftWithChildren n) = (id : FullNodeId) × (id.node ≡ n) × (name : TreeId) × IsGraftOf old u id name × (listed (merged old u) id ≢ [])
+StandsApart old u (GraftWithChildren n) = (id : FullNodeId) × (id.node ≡ n) × (name : TreeId) × IsGraftOf old u id name × (listed_ids (merged_world old u) id ≢ [])
 -- two nodes graft this tree, present or not
 StandsApart old u (GraftedTwice name) = (id other : FullNodeId) × (id ≢ other) × IsGraftOf old u id name × IsGraftOf old u other name
 -- a later update is for another tree than the root tree, and no node grafts it before the update
@@ -132,14 +132,14 @@ IsOnEmptyGraft m name = (id : FullNodeId) × OnChain m id × Kept m id.tree × R
 abbrev pub Stands : World → UpdateData → Fault → Type 0
 -- the chain of the focus comes to no empty graft, and ends at a node that isn't reached
 Stands old u (FocusMissing n) =
-    ((f : Fault) → ¬ (StandsApart old u f)) × ((name : TreeId) → ¬ (IsOnEmptyGraft (merged old u) name)) × (id : FullNodeId) × (id.node ≡ n) × OnChain (merged old u) id × ¬ (Reached (merged old u) id)
+    ((f : Fault) → ¬ (StandsApart old u f)) × ((name : TreeId) → ¬ (IsOnEmptyGraft (merged_world old u) name)) × (id : FullNodeId) × (id.node ≡ n) × OnChain (merged_world old u) id × ¬ (Reached (merged_world old u) id)
 -- it comes to an empty graft
-Stands old u (FocusOnEmptyGraft name) = ((f : Fault) → ¬ (StandsApart old u f)) × IsOnEmptyGraft (merged old u) name
+Stands old u (FocusOnEmptyGraft name) = ((f : Fault) → ¬ (StandsApart old u f)) × IsOnEmptyGraft (merged_world old u) name
 Stands old u f = StandsApart old u f
 
 -- the update of the world old is accepted, and leaves new
 abbrev pub IsAccepted : World → UpdateData → World → Type 0
-IsAccepted old u new = ((f : Fault) → ¬ (Stands old u f)) × IsRebuild (merged old u) new
+IsAccepted old u new = ((f : Fault) → ¬ (Stands old u f)) × IsRebuild (merged_world old u) new
 
 -- The rules of an update, said as what holds. They are kept exactly where no fault stands.
 pub record KeepsRules (old : World) (u : UpdateData) : Type 0 where
@@ -147,22 +147,22 @@ pub record KeepsRules (old : World) (u : UpdateData) : Type 0 where
   pub first_has_info : IsFirst old → IsSome u.info
   pub first_for_root : IsFirst old → u.name ≡ ROOT_NAME
   -- the named tree's root has data, and so has each child that a node that counts lists
-  pub root_is_node : (id : FullNodeId) → root_of (merged old u) (index_for old u.name) ≡ Some id → IsNode (merged old u) id
-  pub listed_is_node : (p : Place) (child : FullNodeId) → IsListedAt old u p child → IsNode (merged old u) child
+  pub root_is_node : (id : FullNodeId) → root_of (merged_world old u) (index_for old u.name) ≡ Some id → IsNode (merged_world old u) id
+  pub listed_is_node : (p : Place) (child : FullNodeId) → IsListedAt old u p child → IsNode (merged_world old u) child
   -- a named node is reached, and is named once
-  pub named_reached : (id : FullNodeId) → IsNamed old u id → Reached (merged old u) id
+  pub named_reached : (id : FullNodeId) → IsNamed old u id → Reached (merged_world old u) id
   pub named_once : (i j : ℕ) (n : NodeId) → named_at u i ≡ Some n → named_at u j ≡ Some n → i ≡ j
   -- a node is listed once, and a root not at all
   pub listed_once : (p q : Place) (child : FullNodeId) → IsListedAt old u p child → IsListedAt old u q child → p ≡ q
-  pub root_unlisted : (p : Place) (id : FullNodeId) → IsListedAt old u p id → root_of (merged old u) id.tree ≢ Some id
+  pub root_unlisted : (p : Place) (id : FullNodeId) → IsListedAt old u p id → root_of (merged_world old u) id.tree ≢ Some id
   -- a graft lists nothing and names another tree than the root tree, which no other node grafts
   pub root_ungrafted : (id : FullNodeId) → ¬ (IsGraftOf old u id ROOT_NAME)
-  pub graft_childless : (id : FullNodeId) (name : TreeId) → IsGraftOf old u id name → listed (merged old u) id ≡ []
+  pub graft_childless : (id : FullNodeId) (name : TreeId) → IsGraftOf old u id name → listed_ids (merged_world old u) id ≡ []
   pub grafted_once : (id other : FullNodeId) (name : TreeId) → IsGraftOf old u id name → IsGraftOf old u other name → id ≡ other
   -- a later update is for the root tree or one that a node grafts, for a tree that is present or comes with tree info, and has an index
   pub later_grafted : ¬ (IsFirst old) → u.name ≢ ROOT_NAME → (id : FullNodeId) × (graft_name old id ≡ Some u.name)
   pub later_has_info : ¬ (IsFirst old) → get old.trees (index_for old u.name) ≡ None → IsSome u.info
   pub later_has_index : ¬ (IsFirst old) → index_of old u.name ≡ None → length old.known < 2 ^ 32 - 1
   -- the chain of the focus meets reached nodes alone, and no graft of a tree that isn't present
-  pub focus_reached : (id : FullNodeId) → OnChain (merged old u) id → Reached (merged old u) id
-  pub focus_goes_on : (id : FullNodeId) (name : TreeId) → OnChain (merged old u) id → graft_name (merged old u) id ≡ Some name → IsSome (root_named (merged old u) name)
+  pub focus_reached : (id : FullNodeId) → OnChain (merged_world old u) id → Reached (merged_world old u) id
+  pub focus_goes_on : (id : FullNodeId) (name : TreeId) → OnChain (merged_world old u) id → graft_name (merged_world old u) id ≡ Some name → IsSome (root_named (merged_world old u) name)

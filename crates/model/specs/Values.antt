@@ -5,13 +5,13 @@ use Rattle.std.specs.List.{concat}
 use Rattle.model.specs.declared.FullNodeId.{FullNodeId}
 use Rattle.model.specs.World.{World}
 use Rattle.model.specs.RoleClasses.{is_text_input, is_multiline}
-use Rattle.model.specs.Upward.{given, says}
+use Rattle.model.specs.Upward.{field_at, says}
 use Rattle.model.specs.TextRuns.{run_ids, is_password, supports_text_ranges}
 use Rattle.model.specs.FlatText.{BULLET, are_alike, needs_masking, flat_text}
 use Rattle.model.specs.Ranges.{document_range, text_of}
 
 abbrev pub own_value : World → FullNodeId → Option (List ℕ)
-own_value w id = given (λ d. d.value) w id
+own_value w id = field_at (λ d. d.value) w id
 
 abbrev pub bullets : ℕ → List ℕ
 bullets n = concat (replicate n BULLET)
@@ -50,4 +50,4 @@ abbrev pub is_without_text : World → FullNodeId → Bool
 is_without_text w root = nat_lt (length (run_ids w root)) 2 && option_map_or (is_blank w) (slice_get (run_ids w root) 0) true
 
 abbrev pub placeholder : World → FullNodeId → Option (List ℕ)
-placeholder w id = cond (says (λ d. is_text_input d.role) w id && is_without_text w id) (given (λ d. d.placeholder) w id) None
+placeholder w id = cond (says (λ d. is_text_input d.role) w id && is_without_text w id) (field_at (λ d. d.placeholder) w id) None

@@ -12,10 +12,10 @@ use Rattle.model.specs.Forest.{place_of, IsFormed}
 use Rattle.model.specs.Lists.{preorder, IsWithin}
 use Rattle.model.specs.Focus.{IsEffectiveFocus, IsFocusedNode}
 use Rattle.model.specs.FocusFound.{effective_focus, is_focused}
-use Rattle.model.specs.Upward.{given, says, upward, inherited, says_upward, is_within}
+use Rattle.model.specs.Upward.{field_at, says, upward, inherited_field, says_upward, is_within}
 use Rattle.model.specs.Covers.{is_cut_off}
 use Rattle.model.specs.Geometry.{direct_transform, transform, transform_within, uncut_preorder}
-use Rattle.model.specs.Filters.{settled, is_clipped, common_filter}
+use Rattle.model.specs.Filters.{first_answer, is_clipped, common_filter}
 
 -- the effective focus that is found is the one that a state has
 abbrev pub FocusIsFound : Type 0
@@ -27,7 +27,7 @@ FocusedNodeIsFound = (w : World) → IsState w → (id : FullNodeId) → IsTrue 
 
 -- the six steps in their order, where g answers for the parent
 abbrev pub six_steps : World → (FullNodeId → FilterResult) → FullNodeId → FilterResult
-six_steps w g id = unwrap_or (settled w id) (cond (option_map_or (λ p. is_cut_off (g p.0)) (place_of w id) false || is_clipped w id) ExcludeSubtree Include)
+six_steps w g id = unwrap_or (first_answer w id) (cond (option_map_or (λ p. is_cut_off (g p.0)) (place_of w id) false || is_clipped w id) ExcludeSubtree Include)
 
 abbrev pub CommonFilterIsSixSteps : Type 0
 CommonFilterIsSixSteps = (w : World) → IsFormed w → (id : FullNodeId) → common_filter w id ≡ six_steps w (common_filter w) id
@@ -39,12 +39,12 @@ SixStepsAreOneFilter = (w : World) → IsFormed w → (g : FullNodeId → Filter
 -- of a node of which nothing is settled: it is cut off exactly if a node is clipped on the way up, itself and as far as nothing is settled
 abbrev pub CutOffIsClippedOnTheWay : Type 0
 CutOffIsClippedOnTheWay =
-    (w : World) → IsFormed w → (id : FullNodeId) → settled w id ≡ None → common_filter w id ≡ cond (list_any (is_clipped w) (take_while (λ a. is_none (settled w a)) (upward w id))) ExcludeSubtree Include
+    (w : World) → IsFormed w → (id : FullNodeId) → first_answer w id ≡ None → common_filter w id ≡ cond (list_any (is_clipped w) (take_while (λ a. is_none (first_answer w a)) (upward w id))) ExcludeSubtree Include
 
 -- a node gives its own, or hands on what its parent has
 abbrev pub InheritedIsOfParent : Type 0 → Type 0
 InheritedIsOfParent A =
-    (field : NodeData → Option A) (w : World) → IsFormed w → (id : FullNodeId) → inherited field w id ≡ option_or (given field w id) (option_and_then (λ p. inherited field w p.0) (place_of w id))
+    (field : NodeData → Option A) (w : World) → IsFormed w → (id : FullNodeId) → inherited_field field w id ≡ option_or (field_at field w id) (option_and_then (λ p. inherited_field field w p.0) (place_of w id))
 
 abbrev pub SaidUpwardIsOfParent : Type 0
 SaidUpwardIsOfParent =

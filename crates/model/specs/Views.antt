@@ -18,7 +18,7 @@ use Rattle.model.specs.World.{World, data_of}
 use Rattle.model.specs.Lists.{ancestors}
 use Rattle.model.specs.Frontier.{filtered_children}
 use Rattle.model.specs.RoleClasses.{is_text_input, is_document, is_read_only_supported, is_read_only_by_default, is_item_like, is_container_with_selectable_children, is_expandable, is_link, usual_orientation}
-use Rattle.model.specs.Upward.{given, says, nearest_given, inherited, says_upward, kin, is_before}
+use Rattle.model.specs.Upward.{field_at, says, nearest_given, inherited_field, says_upward, kin, is_before}
 use Rattle.model.specs.FocusFound.{is_focused_in_tree}
 use Rattle.model.specs.Covers.{is_included, filtered_parent, cover}
 
@@ -53,7 +53,7 @@ is_only_clicked d = not (is_text_input d.role || (is_document d.role || (support
 
 -- the live setting nearest above, or off
 abbrev pub live : World → FullNodeId → Live
-live w id = unwrap_or (inherited (λ d. d.live) w id) Off
+live w id = unwrap_or (inherited_field (λ d. d.live) w id) Off
 
 abbrev pub is_italic : World → FullNodeId → Bool
 is_italic w id = says_upward (λ d. d.italic) w id
@@ -92,11 +92,11 @@ selection_container f w id = find (says (λ d. is_container_with_selectable_chil
 -- ---- other nodes
 
 -- the named nodes of its tree that are there, in order
-abbrev pub named : (NodeData → List NodeId) → World → FullNodeId → List FullNodeId
-named field w id = option_map_or (λ d. filter_map (kin w id) (field d)) (data_of w id) []
+abbrev pub ids_in_field : (NodeData → List NodeId) → World → FullNodeId → List FullNodeId
+ids_in_field field w id = option_map_or (λ d. filter_map (kin w id) (field d)) (data_of w id) []
 
 abbrev pub controls : World → FullNodeId → List FullNodeId
-controls w id = named (λ d. d.controls) w id
+controls w id = ids_in_field (λ d. d.controls) w id
 
 -- as f, but what f includes and is no item is left out alone
 abbrev pub item_filter : (FullNodeId → FilterResult) → World → FullNodeId → FilterResult
@@ -117,8 +117,8 @@ set_of f w id = option_and_then (λ d. cond (is_item_like d.role && is_included 
 
 -- the size that was sent, or else that of its set
 abbrev pub computed_size_of_set : (FullNodeId → FilterResult) → World → FullNodeId → Option ℕ
-computed_size_of_set f w id = option_or (given (λ d. d.size_of_set) w id) (option_map length (set_of f w id))
+computed_size_of_set f w id = option_or (field_at (λ d. d.size_of_set) w id) (option_map length (set_of f w id))
 
 -- the position that was sent, or else how many of its set come before it
 abbrev pub computed_position_in_set : (FullNodeId → FilterResult) → World → FullNodeId → Option ℕ
-computed_position_in_set f w id = option_or (given (λ d. d.position_in_set) w id) (option_map (λ set. count_by (λ m. is_before w m id) set) (set_of f w id))
+computed_position_in_set f w id = option_or (field_at (λ d. d.position_in_set) w id) (option_map (λ set. count_by (λ m. is_before w m id) set) (set_of f w id))

@@ -46,5 +46,5 @@ pub record IsWorkOf (old : World) (u : UpdateData) (new : World) (work : Work) :
   pub count_known : work.known ≡ length new.known
 
 -- an accepted update looks up no more often than this
-abbrev pub allowed : Work → ℕ
-allowed work = 16 * (work.named + work.children + work.removed + work.depths + work.known) + 32
+abbrev pub allowance : Work → ℕ
+allowance work = 16 * (work.named + work.children + work.removed + work.depths + work.known) + 32

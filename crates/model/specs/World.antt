@@ -53,8 +53,8 @@ abbrev pub in_tree : ℕ → NodeId → FullNodeId
 in_tree index n = record { tree = index; node = n }
 
 -- what the child list of a node names, in order: nodes of its own tree
-abbrev pub listed : World → FullNodeId → List FullNodeId
-listed w id = option_map_or (λ d. map (in_tree id.tree) d.children) (data_of w id) []
+abbrev pub listed_ids : World → FullNodeId → List FullNodeId
+listed_ids w id = option_map_or (λ d. map (in_tree id.tree) d.children) (data_of w id) []
 
 abbrev pub graft_name : World → FullNodeId → Option TreeId
 graft_name w id = option_and_then (λ d. d.tree_id) (data_of w id)
@@ -81,7 +81,7 @@ at_most_one (Some id) = id ∷ []
 
 -- the children of a node: of a graft the root of the tree that it names, where that is present, and of another node what it lists
 abbrev pub children : World → FullNodeId → List FullNodeId
-children w id = option_map_or (λ name. at_most_one (root_named w name)) (graft_name w id) (listed w id)
+children w id = option_map_or (λ name. at_most_one (root_named w name)) (graft_name w id) (listed_ids w id)
 
 -- a place: a parent, and the index among the parent's children
 abbrev pub Place : Type 0
@@ -97,7 +97,7 @@ StandsAt w p child = child_at w p ≡ Some child
 -- The least set that holds each present tree's root and is closed under the child lists.
 pub data Reached (w : World) : FullNodeId → Type 0 where
   root : (index : ℕ) (t : Tree) → get w.trees index ≡ Some t → Reached w (in_tree index t.root)
-  child : (parent id : FullNodeId) (index : ℕ) → Reached w parent → slice_get (listed w parent) index ≡ Some id → Reached w id
+  child : (parent id : FullNodeId) (index : ℕ) → Reached w parent → slice_get (listed_ids w parent) index ≡ Some id → Reached w id
 
 -- The least set that holds the root tree and each present tree that a reached node of a kept tree grafts.
 pub data Kept (w : World) : ℕ → Type 0 where
@@ -105,8 +105,8 @@ pub data Kept (w : World) : ℕ → Type 0 where
   grafted : (graft inner : FullNodeId) (name : TreeId) → Kept w graft.tree → Reached w graft → graft_name w graft ≡ Some name → root_named w name ≡ Some inner → Kept w inner.tree
 
 -- the node's id in its tree, and the name of the tree, where the node is there
-abbrev pub located : World → FullNodeId → Option (NodeId × TreeId)
-located w id = option_and_then (λ _. option_map (λ name. (id.node, name)) (name_of w id.tree)) (data_of w id)
+abbrev pub local_id_of : World → FullNodeId → Option (NodeId × TreeId)
+local_id_of w id = option_and_then (λ _. option_map (λ name. (id.node, name)) (name_of w id.tree)) (data_of w id)
 
 -- the toolkit's name, and its version, which is given only together with a name
 abbrev pub toolkit_name : World → List ℕ

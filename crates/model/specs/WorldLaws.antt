@@ -3,9 +3,9 @@ use Rattle.std.specs.Prelude.{◌≡◌, ◌≢◌, ℕ, Bool, Option, Some, Non
 use Rattle.std.specs.FinMap.{get}
 use Rattle.schema.specs.declared.TreeId.{TreeId}
 use Rattle.model.specs.declared.FullNodeId.{FullNodeId}
-use Rattle.model.specs.World.{World, Tree, IsNode, graft_name, index_of, name_of, root_of, located, Place, StandsAt}
+use Rattle.model.specs.World.{World, Tree, IsNode, graft_name, index_of, name_of, root_of, local_id_of, Place, StandsAt}
 use Rattle.model.specs.Focus.{IsEffectiveFocus, IsFocusId, IsFocus, IsFocusedNode, IsActiveDialog}
-use Rattle.model.specs.Update.{UpdateData, InfoData, Fault, Stands, KeepsRules, IsRebuild, IsAccepted, index_for, merged}
+use Rattle.model.specs.Update.{UpdateData, InfoData, Fault, Stands, KeepsRules, IsRebuild, IsAccepted, index_for, merged_world}
 use Rattle.model.specs.State.{IsState, IsLater, empty_world, with_host, idle_update}
 
 -- a merged world has one rebuild
@@ -26,7 +26,7 @@ RulesOrFault = (old : World) (u : UpdateData) → KeepsRules old u ↔ ((f : Fau
 
 -- a state breaks no rule and is its own rebuild
 abbrev pub StateIsItsOwnRebuild : Type 0
-StateIsItsOwnRebuild = (w : World) (t : Tree) → IsState w → get w.trees 0 ≡ Some t → (merged w (idle_update t.focus) ≡ w) × IsAccepted w (idle_update t.focus) w
+StateIsItsOwnRebuild = (w : World) (t : Tree) → IsState w → get w.trees 0 ≡ Some t → (merged_world w (idle_update t.focus) ≡ w) × IsAccepted w (idle_update t.focus) w
 
 -- an accepted update of a state leaves a state
 abbrev pub UpdateLeavesState : Type 0
@@ -102,10 +102,10 @@ ActiveDialogIsThere = (w : World) → IsState w → (answer : Option FullNodeId)
 abbrev pub NodesAreLocated : Type 0
 NodesAreLocated =
     (w : World) → IsState w → (id : FullNodeId)
-    → (IsNode w id → (name : TreeId) × (name_of w id.tree ≡ Some name) × (located w id ≡ Some (id.node, name)))
-    × (¬ (IsNode w id) → located w id ≡ None)
+    → (IsNode w id → (name : TreeId) × (name_of w id.tree ≡ Some name) × (local_id_of w id ≡ Some (id.node, name)))
+    × (¬ (IsNode w id) → local_id_of w id ≡ None)
 
 -- tree info for the root tree replaces both toolkit texts, and that of another tree neither
 abbrev pub ToolkitIsTheRootTrees : Type 0
 ToolkitIsTheRootTrees =
-    (old : World) (u : UpdateData) (info : InfoData) → u.info ≡ Some info → ((index_for old u.name ≡ 0) → (merged old u).toolkit ≡ (info.toolkit_name, info.toolkit_version)) × ((index_for old u.name ≢ 0) → (merged old u).toolkit ≡ old.toolkit)
+    (old : World) (u : UpdateData) (info : InfoData) → u.info ≡ Some info → ((index_for old u.name ≡ 0) → (merged_world old u).toolkit ≡ (info.toolkit_name, info.toolkit_version)) × ((index_for old u.name ≢ 0) → (merged_world old u).toolkit ≡ old.toolkit)

@@ -6,7 +6,7 @@ use Rattle.std.specs.Option.{option_or}
 use Rattle.std.proofs.lemmas.Bool.Decides.{eqb_tells}
 use Rattle.schema.specs.declared.rare_texts.RareText.{RareText}
 use Rattle.schema.specs.declared.rare_texts.RareText.TheVariants.{Description, RoleDescription, Placeholder, Url, AuthorId, HtmlId, ClassName, BrailleLabel, BrailleRoleDescription, ColumnIndexText, RowIndexText, FontFamily, Language}
-use Rattle.schema.specs.RareTexts.{key_number, seen, is_under, text_at, texts_of, after_change, with_text}
+use Rattle.schema.specs.RareTexts.{key_number, entry_seen, is_under, text_at, texts_of, after_change, with_text}
 
 or_none : {A : Type 0} (o : Option A) → option_or o None ≡ o
 or_none None = refl
@@ -59,12 +59,12 @@ module _ {Z : Type 0} where
       ∙ ap (λ o. option_or o (text_at ((key, text) ∷ []) j)) (text_at-filter es key j)
       ∙ or_new key j text (text_at es j)
 
-  text_at-seen : (es : List (RareText × String Z)) (j : RareText) → text_at es j ≡ seen_at (map seen es) j
+  text_at-seen : (es : List (RareText × String Z)) (j : RareText) → text_at es j ≡ seen_at (map entry_seen es) j
   text_at-seen [] j = refl
   text_at-seen (e ∷ es) j =
       elim (eqb_tells (key_number e.0) (key_number j)) [ inl t ↦ rw t.0 refl | inr f ↦ rw f.0 (text_at-seen es j) ]
 
-  text_at-alike : (es fs : List (RareText × String Z)) → map seen es ≡ map seen fs → (j : RareText) → text_at es j ≡ text_at fs j
+  text_at-alike : (es fs : List (RareText × String Z)) → map entry_seen es ≡ map entry_seen fs → (j : RareText) → text_at es j ≡ text_at fs j
   text_at-alike es fs alike j = text_at-seen es j ∙ ap (λ ps. seen_at ps j) alike ∙ sym (text_at-seen fs j)
 
   pub texts_without : (es : List (RareText × String Z)) (key : RareText) → texts_of (filter (λ e. not (is_under key e)) es) ≡ with_text key None (texts_of es)
@@ -102,7 +102,7 @@ module _ {Z : Type 0} where
   }
 
   -- lists that say the same, entry by entry, give the same texts
-  pub texts_alike : (es fs : List (RareText × String Z)) → map seen es ≡ map seen fs → texts_of es ≡ texts_of fs
+  pub texts_alike : (es fs : List (RareText × String Z)) → map entry_seen es ≡ map entry_seen fs → texts_of es ≡ texts_of fs
   texts_alike es fs alike = λ i. record {
     description = text_at-alike es fs alike Description i;
     role_description = text_at-alike es fs alike RoleDescription i;

@@ -90,8 +90,8 @@ with_text key text d = record {
 }
 
 -- an entry as plain data
-abbrev pub seen : {Z : Type 0} → RareText × String Z → RareText × List ℕ
-seen e = (e.0, string_bytes e.1)
+abbrev pub entry_seen : {Z : Type 0} → RareText × String Z → RareText × List ℕ
+entry_seen e = (e.0, string_bytes e.1)
 
 -- whether an entry stands under a key
 abbrev pub is_under : {Z : Type 0} → RareText → RareText × String Z → Bool

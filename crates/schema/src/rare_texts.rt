@@ -1,7 +1,7 @@
 //! The rarer texts of a node: a list with an entry for each that is given, so that a node without them stays small.
 
 ghost use Rattle.std.specs.Prelude.{◌≡◌, ◌++◌, [], ◌∷◌, ◌==◌, not, filter, map, None, Some, OnOk, OnErr, IfOk, option_copied, string_bytes, vec_len, vec_capacity, ◌≤◌};
-ghost use Rattle.schema.specs.RareTexts.{key_number, is_under, text_at, seen, no_texts, text_under, with_text};
+ghost use Rattle.schema.specs.RareTexts.{key_number, is_under, text_at, entry_seen, no_texts, text_under, with_text};
 
 use std::alloc::{AllocError, Global};
 use std::marker::Model;
@@ -140,7 +140,7 @@ fn copy_of_entries(
     alloc: Global,
     entries: &[(RareText, String)],
 ) -> Result<Vec<(RareText, String)>, AllocError>
-    ensures { IfOk result (λ copy. map seen copy.items ≡ map seen entries.now) }
+    ensures { IfOk result (λ copy. map entry_seen copy.items ≡ map entry_seen entries.now) }
 {
     let mut copy = Vec::with_capacity(alloc, entries.len())?;
     for entry in entries {

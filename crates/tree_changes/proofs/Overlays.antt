@@ -15,7 +15,7 @@ use Rattle.model.proofs.Worlds.Names.{is_name, is_name-true, is_name-itself}
 use Rattle.model.proofs.Members.{contains_none, contains_head, contains_later, contains_cases}
 use Rattle.tree_changes.specs.declared.look_ups.TreeRecord.{TreeRecord}
 use Rattle.tree_changes.specs.declared.decision.NodeChange.{NodeChange}
-use Rattle.tree_changes.specs.Changes.{NodeChanges, change_at, changed, set_at, put_all, present, set_tree, put_tree, put_trees, tree_change}
+use Rattle.tree_changes.specs.Changes.{NodeChanges, change_at, changed_data, set_at, put_all, tree_from, set_tree, put_tree, put_trees, tree_change}
 
 pub get-set_at : (m : FinMap full_cmp NodeData) (k : FullNodeId) (d : Option NodeData) (q : FullNodeId) → get (set_at m k d) q ≡ cond (eq_by_cmp full_cmp q k) d (get m q)
 get-set_at m k (Some d) q = get-insert full_total m k d q
@@ -30,17 +30,17 @@ get-set_tree m k None q = get-remove nat_cmp_total m k q
 -- the data after a change that may be missing
 abbrev pub effect : List (NodeId × NodeData) → Option NodeChange → Option NodeData → Option NodeData
 effect nodes None before = before
-effect nodes (Some c) before = changed nodes c before
+effect nodes (Some c) before = changed_data nodes c before
 
-by_case : (nodes : List (NodeId × NodeData)) (b : Bool) (q k : FullNodeId) (m : FinMap full_cmp NodeData) (c : NodeChange) (o : Option NodeChange) → (b ≡ true → q ≡ k) → cond b (changed nodes c (get m k)) (effect nodes o (get m q)) ≡ effect nodes (cond b (Some c) o) (get m q)
-by_case nodes true q k m c o e = ap (λ x. changed nodes c (get m x)) (sym (e refl))
+by_case : (nodes : List (NodeId × NodeData)) (b : Bool) (q k : FullNodeId) (m : FinMap full_cmp NodeData) (c : NodeChange) (o : Option NodeChange) → (b ≡ true → q ≡ k) → cond b (changed_data nodes c (get m k)) (effect nodes o (get m q)) ≡ effect nodes (cond b (Some c) o) (get m q)
+by_case nodes true q k m c o e = ap (λ x. changed_data nodes c (get m x)) (sym (e refl))
 by_case nodes false q k m c o e = refl
 
 pub get-put_all : (nodes : List (NodeId × NodeData)) (m : FinMap full_cmp NodeData) (cs : NodeChanges) (q : FullNodeId) → get (put_all nodes m cs) q ≡ effect nodes (change_at cs q) (get m q)
 get-put_all nodes m [] q = refl
 get-put_all nodes m (e ∷ es) q =
-    get-set_at (put_all nodes m es) e.0 (changed nodes e.1 (get m e.0)) q
-    ∙ ap (cond (eq_by_cmp full_cmp q e.0) (changed nodes e.1 (get m e.0))) (get-put_all nodes m es q)
+    get-set_at (put_all nodes m es) e.0 (changed_data nodes e.1 (get m e.0)) q
+    ∙ ap (cond (eq_by_cmp full_cmp q e.0) (changed_data nodes e.1 (get m e.0))) (get-put_all nodes m es q)
     ∙ by_case nodes (eq_by_cmp full_cmp q e.0) q e.0 m e.1 (change_at es q) (λ b. exact_full q e.0 ((Equal-is (full_cmp q e.0)).0 b))
 
 -- ---- trees
@@ -48,7 +48,7 @@ get-put_all nodes m (e ∷ es) q =
 -- the tree with this index after the records, where this is the one before
 abbrev pub tree_at : List TreeRecord → ℕ → Option Tree → Option Tree
 tree_at [] q t = t
-tree_at (r ∷ rs) q t = tree_at rs q (option_map_or (λ index. cond (eq_by_cmp nat_cmp q index) (present r.root r.focus) t) r.index t)
+tree_at (r ∷ rs) q t = tree_at rs q (option_map_or (λ index. cond (eq_by_cmp nat_cmp q index) (tree_from r.root r.focus) t) r.index t)
 
 get-put_tree : (m : FinMap nat_cmp Tree) (o : Option ℕ) (t : Option Tree) (q : ℕ) → get (option_map_or (λ index. set_tree m index t) o m) q ≡ option_map_or (λ index. cond (eq_by_cmp nat_cmp q index) t (get m q)) o (get m q)
 get-put_tree m None t q = refl
@@ -56,7 +56,7 @@ get-put_tree m (Some index) t q = get-set_tree m index t q
 
 pub get-put_trees : (m : FinMap nat_cmp Tree) (rs : List TreeRecord) (q : ℕ) → get (put_trees m rs) q ≡ tree_at rs q (get m q)
 get-put_trees m [] q = refl
-get-put_trees m (r ∷ rs) q = get-put_trees (put_tree m r) rs q ∙ ap (tree_at rs q) (get-put_tree m r.index (present r.root r.focus) q)
+get-put_trees m (r ∷ rs) q = get-put_trees (put_tree m r) rs q ∙ ap (tree_at rs q) (get-put_tree m r.index (tree_from r.root r.focus) q)
 
 same_index : (q k : ℕ) → eq_by_cmp nat_cmp q k ≡ true → q ≡ k
 same_index q k e = nat_cmp-IsAntisymmetric q k ((Equal-is (nat_cmp q k)).0 e)
@@ -78,23 +78,23 @@ module _ (q : ℕ) (x : Option Tree) where
   hit o p t is gives = ap (λ y. option_map_or (λ index. cond (eq_by_cmp nat_cmp q index) p t) y t) is ∙ ap (λ b. cond b p t) (itself q) ∙ gives
 
   -- where the records of this index give one tree, and it was there before, it stays
-  pub tree_at_same : (rs : List TreeRecord) (t : Option Tree) → ((r : TreeRecord) → Contains rs r → r.index ≡ Some q → present r.root r.focus ≡ x) → t ≡ x → tree_at rs q t ≡ x
+  pub tree_at_same : (rs : List TreeRecord) (t : Option Tree) → ((r : TreeRecord) → Contains rs r → r.index ≡ Some q → tree_from r.root r.focus ≡ x) → t ≡ x → tree_at rs q t ≡ x
   tree_at_same [] t all same = same
   tree_at_same (r ∷ rs) t all same =
-      tree_at_same rs (option_map_or (λ index. cond (eq_by_cmp nat_cmp q index) (present r.root r.focus) t) r.index t) (λ r' c. all r' (contains_later r r' rs c))
-      (step r.index (present r.root r.focus) t (all r (contains_head r r rs refl)) same)
+      tree_at_same rs (option_map_or (λ index. cond (eq_by_cmp nat_cmp q index) (tree_from r.root r.focus) t) r.index t) (λ r' c. all r' (contains_later r r' rs c))
+      (step r.index (tree_from r.root r.focus) t (all r (contains_head r r rs refl)) same)
 
   -- where they give one tree, and there is one, that is the tree afterwards
-  pub tree_at_some : (rs : List TreeRecord) (t : Option Tree) (r0 : TreeRecord) → ((r : TreeRecord) → Contains rs r → r.index ≡ Some q → present r.root r.focus ≡ x) → Contains rs r0 → r0.index ≡ Some q → tree_at rs q t ≡ x
+  pub tree_at_some : (rs : List TreeRecord) (t : Option Tree) (r0 : TreeRecord) → ((r : TreeRecord) → Contains rs r → r.index ≡ Some q → tree_from r.root r.focus ≡ x) → Contains rs r0 → r0.index ≡ Some q → tree_at rs q t ≡ x
   tree_at_some [] t r0 all c is = absurd (contains_none r0 c)
-  tree_at_some (r ∷ rs) t r0 all c is = go (contains_cases r r0 rs c) (λ c. tree_at_some rs (option_map_or (λ index. cond (eq_by_cmp nat_cmp q index) (present r.root r.focus) t) r.index t) r0 (λ r' d. all r' (contains_later r r' rs d)) c is)
+  tree_at_some (r ∷ rs) t r0 all c is = go (contains_cases r r0 rs c) (λ c. tree_at_some rs (option_map_or (λ index. cond (eq_by_cmp nat_cmp q index) (tree_from r.root r.focus) t) r.index t) r0 (λ r' d. all r' (contains_later r r' rs d)) c is)
     where
       go : (r ≡ r0) ⊎ Contains rs r0
-          → (Contains rs r0 → tree_at rs q (option_map_or (λ index. cond (eq_by_cmp nat_cmp q index) (present r.root r.focus) t) r.index t) ≡ x)
-          → tree_at rs q (option_map_or (λ index. cond (eq_by_cmp nat_cmp q index) (present r.root r.focus) t) r.index t) ≡ x
+          → (Contains rs r0 → tree_at rs q (option_map_or (λ index. cond (eq_by_cmp nat_cmp q index) (tree_from r.root r.focus) t) r.index t) ≡ x)
+          → tree_at rs q (option_map_or (λ index. cond (eq_by_cmp nat_cmp q index) (tree_from r.root r.focus) t) r.index t) ≡ x
       go (inl e) later =
-          tree_at_same rs (option_map_or (λ index. cond (eq_by_cmp nat_cmp q index) (present r.root r.focus) t) r.index t) (λ r' c. all r' (contains_later r r' rs c))
-          (hit r.index (present r.root r.focus) t (ap (λ y. y.index) e ∙ is) (all r (contains_head r r rs refl) (ap (λ y. y.index) e ∙ is)))
+          tree_at_same rs (option_map_or (λ index. cond (eq_by_cmp nat_cmp q index) (tree_from r.root r.focus) t) r.index t) (λ r' c. all r' (contains_later r r' rs c))
+          (hit r.index (tree_from r.root r.focus) t (ap (λ y. y.index) e ∙ is) (all r (contains_head r r rs refl) (ap (λ y. y.index) e ∙ is)))
       go (inr c) later = later c
 
 -- whether a record has this index

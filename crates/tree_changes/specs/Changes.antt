@@ -35,10 +35,10 @@ place_in (Put place entry) = place
 place_in Gone = None
 
 -- the data after a change
-abbrev pub changed : List (NodeId × NodeData) → NodeChange → Option NodeData → Option NodeData
-changed nodes (Put place (Some k)) before = entry_data nodes k
-changed nodes (Put place None) before = before
-changed nodes Gone before = None
+abbrev pub changed_data : List (NodeId × NodeData) → NodeChange → Option NodeData → Option NodeData
+changed_data nodes (Put place (Some k)) before = entry_data nodes k
+changed_data nodes (Put place None) before = before
+changed_data nodes Gone before = None
 
 abbrev pub set_at : FinMap full_cmp NodeData → FullNodeId → Option NodeData → FinMap full_cmp NodeData
 set_at m k (Some d) = insert m k d
@@ -47,20 +47,20 @@ set_at m k None = remove m k
 -- the nodes after the changes; of two changes of one node the first counts
 abbrev pub put_all : List (NodeId × NodeData) → FinMap full_cmp NodeData → NodeChanges → FinMap full_cmp NodeData
 put_all nodes m [] = m
-put_all nodes m (e ∷ es) = set_at (put_all nodes m es) e.0 (changed nodes e.1 (get m e.0))
+put_all nodes m (e ∷ es) = set_at (put_all nodes m es) e.0 (changed_data nodes e.1 (get m e.0))
 
 -- the tree of a record is present where the record has a root and a declared focus
-abbrev pub present : Option NodeId → Option NodeId → Option Tree
-present (Some root) (Some focus) = Some (record { root = root; focus = focus })
-present (Some root) None = None
-present None focus = None
+abbrev pub tree_from : Option NodeId → Option NodeId → Option Tree
+tree_from (Some root) (Some focus) = Some (record { root = root; focus = focus })
+tree_from (Some root) None = None
+tree_from None focus = None
 
 abbrev pub set_tree : FinMap nat_cmp Tree → ℕ → Option Tree → FinMap nat_cmp Tree
 set_tree m index (Some t) = insert m index t
 set_tree m index None = remove m index
 
 abbrev pub put_tree : FinMap nat_cmp Tree → TreeRecord → FinMap nat_cmp Tree
-put_tree m r = option_map_or (λ index. set_tree m index (present r.root r.focus)) r.index m
+put_tree m r = option_map_or (λ index. set_tree m index (tree_from r.root r.focus)) r.index m
 
 -- the trees after the changes of their records, one after another
 abbrev pub put_trees : FinMap nat_cmp Tree → List TreeRecord → FinMap nat_cmp Tree
@@ -81,8 +81,8 @@ abbrev pub tree_after : List TreeRecord → TreeId → Option TreeRecord → Opt
 tree_after rs name before = option_map_or if_kept (tree_change rs name) before
 
 -- the world with an update's changes over it
-abbrev pub overlaid : World → UpdateData → Decision → World
-overlaid w u d = record w {
+abbrev pub overlaid_world : World → UpdateData → Decision → World
+overlaid_world w u d = record w {
   known = known_after w u.name;
   trees = put_trees w.trees d.trees.items;
   nodes = put_all u.nodes w.nodes d.nodes.items;

@@ -10,13 +10,13 @@ use Rattle.model.specs.Forest.{place_of}
 use Rattle.model.specs.Focus.{IsEffectiveFocus}
 use Rattle.model.specs.Update.{UpdateData, IsFirst, IsAccepted, index_for, named_at}
 use Rattle.model.specs.Run.{AreToldBy}
-use Rattle.model.specs.Work.{Work, IsWorkOf, allowed}
+use Rattle.model.specs.Work.{Work, IsWorkOf, allowance}
 use Rattle.tree_changes.specs.declared.look_ups.TreeRecord.{TreeRecord}
 use Rattle.tree_changes.specs.declared.decision.NodeChange.{NodeChange}
 use Rattle.tree_changes.specs.declared.decision.NodeChange.TheVariants.{Put, Gone}
 use Rattle.tree_changes.specs.declared.decision.Decision.{Decision}
 use Rattle.tree_changes.specs.Looks.{IsPlaceOf, IsTreeRecord}
-use Rattle.tree_changes.specs.Changes.{change_at, place_in, overlaid, tree_after}
+use Rattle.tree_changes.specs.Changes.{change_at, place_in, overlaid_world, tree_after}
 
 -- the change gives data of an entry that names the node, or leaves those that are there; what goes was there
 abbrev pub FindsData : World → UpdateData → FullNodeId → NodeChange → Type 0
@@ -37,19 +37,19 @@ pub record IsChangeOf (w : World) (u : UpdateData) (new : World) (id : FullNodeI
 -- What is decided on an accepted update: the changes make the rebuilt world, and are those of the records that differ; the focus is the
 -- effective one there; and the events are the differences. Of the first update nothing is told.
 pub record IsDecision (w : World) (u : UpdateData) (d : Decision) : Type 0 where
-  pub accepted : IsAccepted w u (overlaid w u d)
+  pub accepted : IsAccepted w u (overlaid_world w u d)
   pub ascending : IsStrictlySortedBy full_cmp (map (λ e. e.0) d.nodes.items)
-  pub changes : (id : FullNodeId) (c : NodeChange) → change_at d.nodes.items id ≡ Some c → IsChangeOf w u (overlaid w u d) id c
-  pub others : (id : FullNodeId) (p : Place) → change_at d.nodes.items id ≡ None → StandsAt w p id → StandsAt (overlaid w u d) p id
-  pub others_back : (id : FullNodeId) (p : Place) → change_at d.nodes.items id ≡ None → StandsAt (overlaid w u d) p id → StandsAt w p id
-  pub trees : (name : TreeId) (r : Option TreeRecord) → IsTreeRecord w name r → IsTreeRecord (overlaid w u d) name (tree_after d.trees.items name r)
+  pub changes : (id : FullNodeId) (c : NodeChange) → change_at d.nodes.items id ≡ Some c → IsChangeOf w u (overlaid_world w u d) id c
+  pub others : (id : FullNodeId) (p : Place) → change_at d.nodes.items id ≡ None → StandsAt w p id → StandsAt (overlaid_world w u d) p id
+  pub others_back : (id : FullNodeId) (p : Place) → change_at d.nodes.items id ≡ None → StandsAt (overlaid_world w u d) p id → StandsAt w p id
+  pub trees : (name : TreeId) (r : Option TreeRecord) → IsTreeRecord w name r → IsTreeRecord (overlaid_world w u d) name (tree_after d.trees.items name r)
   pub trees_once : AllPairs (λ a b. a.id ≢ b.id) d.trees.items
-  pub focus : IsEffectiveFocus (overlaid w u d) d.focus
-  pub told : ¬ (IsFirst w) → AreToldBy w u (overlaid w u d) d.events.items
+  pub focus : IsEffectiveFocus (overlaid_world w u d) d.focus
+  pub told : ¬ (IsFirst w) → AreToldBy w u (overlaid_world w u d) d.events.items
   pub quiet : IsFirst w → d.events.items ≡ []
 
 -- The look-ups, from `before` to `after`, with two for each event and each change, are within what is allowed.
 abbrev pub IsWithinWork : World → UpdateData → Decision → ℕ → ℕ → Type 0
 IsWithinWork w u d before after =
-    (work : Work) → IsWorkOf w u (overlaid w u d) work
-    → after + 2 * (length d.events.items + (length d.nodes.items + length d.trees.items)) ≤ before + allowed work
+    (work : Work) → IsWorkOf w u (overlaid_world w u d) work
+    → after + 2 * (length d.events.items + (length d.nodes.items + length d.trees.items)) ≤ before + allowance work

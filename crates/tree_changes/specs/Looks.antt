@@ -9,8 +9,8 @@ use Rattle.tree_changes.specs.declared.look_ups.NodeRecord.{NodeRecord}
 use Rattle.tree_changes.specs.declared.look_ups.TreeRecord.{TreeRecord}
 
 -- a count after one more, which stays at its last value
-abbrev pub raised : ℕ → ℕ
-raised n = min (n + 1) (2 ^ 128 - 1)
+abbrev pub raised_count : ℕ → ℕ
+raised_count n = min (n + 1) (2 ^ 128 - 1)
 
 -- the place is where the node stands, and there is none where it stands nowhere
 abbrev pub IsPlaceOf : World → FullNodeId → Option Place → Type 0

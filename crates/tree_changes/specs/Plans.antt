@@ -44,8 +44,8 @@ replaced_texts None before = before
 replaced_texts (Some texts) before = (option_map string_bytes texts.0, option_map string_bytes texts.1)
 
 -- the world that a plan makes of this world
-abbrev pub planned : World → Plan → World
-planned w p = record w {
+abbrev pub planned_world : World → Plan → World
+planned_world w p = record w {
   known = name_trees w.known (tree_changes p.changes.items);
   trees = put_trees w.trees (tree_changes p.changes.items);
   nodes = nodes_changed w.nodes p.changes.items;

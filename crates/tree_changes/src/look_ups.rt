@@ -4,7 +4,7 @@ ghost use Rattle.std.specs.Borrow.{sem, follows_so};
 ghost use mathlib.Core.Option.{none};
 ghost use Rattle.model.specs.World.{World, data_of};
 ghost use Rattle.model.specs.Surgery.{IsOld};
-ghost use Rattle.tree_changes.specs.Looks.{IsNodeRecord, IsTreeRecord, raised};
+ghost use Rattle.tree_changes.specs.Looks.{IsNodeRecord, IsTreeRecord, raised_count};
 
 use crate::Place;
 use model::FullNodeId;
@@ -39,14 +39,14 @@ pub trait LookUps {
 
     /// The record of a node, where the node is there.
     fn node(&mut self, id: FullNodeId) -> Option<NodeRecord<'_>>
-        ensures* counts { sem 𝓛 (follows_so Self.row Self.row self.entry.ghost_name none (λ _ _. ⊤) (λ v. (world v ≡ world self.entry.now) × (asked v ≡ raised (asked self.entry.now)))) }
+        ensures* counts { sem 𝓛 (follows_so Self.row Self.row self.entry.ghost_name none (λ _ _. ⊤) (λ v. (world v ≡ world self.entry.now) × (asked v ≡ raised_count (asked self.entry.now)))) }
         ensures found { is_some result ≡ is_some (data_of (world self.old) id) }
         ensures given { IfSome result (λ r. IsNodeRecord (world self.old) id r) };
 
     /// The record of the tree of this name, where the name is known or a node grafts it.
     fn tree(&mut self, name: TreeId) -> Option<TreeRecord>
         ensures stays { world self.new ≡ world self.old }
-        ensures counts { asked self.new ≡ raised (asked self.old) }
+        ensures counts { asked self.new ≡ raised_count (asked self.old) }
         ensures given { IsTreeRecord (world self.old) name result };
 
     /// How many records were asked for. At its last value the count stays.

@@ -14,13 +14,13 @@ use Rattle.std.proofs.lemmas.Map.Keys.{IsDistinct-from_sorted}
 use Rattle.std.proofs.lemmas.Map.Made.{length-le_from_is_member, is_some-lookup}
 use Rattle.model.specs.declared.FullNodeId.{FullNodeId}
 use Rattle.model.specs.FullIds.{full_cmp, full_total}
-use Rattle.model.specs.World.{World, IsNode, data_of, in_tree, listed, graft_name, root_of, root_named, Place, StandsAt, Reached}
+use Rattle.model.specs.World.{World, IsNode, data_of, in_tree, listed_ids, graft_name, root_of, root_named, Place, StandsAt, Reached}
 use Rattle.model.specs.World as world
 use Rattle.schema.specs.NodeData.{NodeData}
 use Rattle.schema.specs.declared.NodeId.{NodeId}
 use Rattle.schema.specs.declared.TreeId.{TreeId}
 use Rattle.model.specs.Work.{named_ids}
-use Rattle.model.specs.Update.{UpdateData, NotReached, Stands, IsNamed, index_for, named_at, merged}
+use Rattle.model.specs.Update.{UpdateData, NotReached, Stands, IsNamed, index_for, named_at, merged_world}
 use Rattle.model.specs.State.{Lists}
 use Rattle.model.specs.Surgery.{IsOld, Spot, IsAt, HasEntered, Gone, IsRefined, LeadsDown, here, down, IsClimb}
 use Rattle.model.proofs.Worlds.Names.{cases_id, cases_some}
@@ -115,7 +115,7 @@ module _ (w : World) (u : UpdateData) where
 
 -- the marks of a climb from this node, over those of others that ended
 abbrev pub AreOthers : World → UpdateData → List FullNodeId → FullNodeId → Marks → Type 0
-AreOthers w u starts start marks = (n q : FullNodeId) → at marks n ≡ Some q → (q ≡ start) ⊎ (Reached (merged w u) n × Contains starts q)
+AreOthers w u starts start marks = (n q : FullNodeId) → at marks n ≡ Some q → (q ≡ start) ⊎ (Reached (merged_world w u) n × Contains starts q)
 
 abbrev pub IsMarked : FullNodeId → Marks → FullNodeId → Type 0
 IsMarked start marks n = at marks n ≡ Some start
@@ -126,7 +126,7 @@ IsFound w u id = IsNode w id ⊎ HasEntered w u id
 
 module _ (w : World) (u : UpdateData) (o : IsOld w) (op : Opened) (c : Compared) (s : Settled) (opening : IsOpening w u op) (compared : IsComparison w u c) (settled : IsSettlement w u s) (r : IsRefined w u) where
   abbrev m : World
-  m = merged w u
+  m = merged_world w u
 
   abbrev i : ℕ
   i = index_for w u.name

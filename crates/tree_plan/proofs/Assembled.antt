@@ -14,7 +14,7 @@ use Rattle.model.specs.FullIds.{full_cmp, full_total, exact_full}
 use Rattle.model.specs.World.{ROOT_NAME, World, Tree, Place, IsNode, StandsAt, data_of, index_of}
 use Rattle.model.specs.Forest.{place_of}
 use Rattle.model.specs.Focus.{IsFocus, IsEffectiveFocus, Resolves}
-use Rattle.model.specs.Update.{IsFirst, IsAccepted, index_for, merged}
+use Rattle.model.specs.Update.{IsFirst, IsAccepted, index_for, merged_world}
 use Rattle.model.specs.State.{IsState}
 use Rattle.model.specs.Differences.{IsAdded, IsInBoth, IsUpdated, IsAscendingListOf, IsToldForFocus, AreOfFocus, told_root}
 use Rattle.model.specs.declared.events.PlanEvent.{PlanEvent}
@@ -33,7 +33,7 @@ use Rattle.tree_changes.specs.declared.decision.NodeChange.{NodeChange}
 use Rattle.tree_changes.specs.declared.decision.NodeChange.TheVariants.{Put, Gone}
 use Rattle.tree_changes.specs.declared.decision.Decision.{Decision}
 use Rattle.tree_changes.specs.Looks.{IsTreeRecord, tree_named}
-use Rattle.tree_changes.specs.Changes.{change_at, put_all, put_trees, present, if_kept, tree_after, tree_change, overlaid}
+use Rattle.tree_changes.specs.Changes.{change_at, put_all, put_trees, tree_from, if_kept, tree_after, tree_change, overlaid_world}
 use Rattle.tree_changes.specs.Decisions.{IsChangeOf, IsDecision}
 use Rattle.tree_changes.proofs.Overlays.{effect, get-put_all, get-put_trees, tree_at, tree_at_same, tree_at_some, find_index, tree_change_in}
 use Rattle.tree_plan.specs.declared.passes.Focused.{Focused}
@@ -44,7 +44,7 @@ use Rattle.tree_plan.specs.declared.writing.Group.{Group}
 use Rattle.tree_plan.specs.declared.writing.Group.TheVariants as group
 use Rattle.tree_plan.specs.Passes.{at, IsOfName, IsFocusing}
 use Rattle.tree_plan.specs.Verdicts.{Step, IsFound, Becomes, Verdicts}
-use Rattle.tree_plan.specs.Writing.{change_of, untold, IsMove}
+use Rattle.tree_plan.specs.Writing.{change_of, untold_updates, IsMove}
 use Rattle.tree_plan.proofs.Becoming.{standing_is_node, no_other}
 use Rattle.tree_plan.proofs.Trees.{KnownAlike, AreAfter}
 use Rattle.tree_plan.proofs.Listed.{Entries, ids_where, is_in, has_change, sorted_where, where_passes, passes_where, changes_in, changed_ids, change_at-in}
@@ -177,7 +177,7 @@ module _ (s : Step) (vs : Verdicts) (sorted : IsOrdered full_cmp vs) (becomes : 
   focus_ids None = []
   focus_ids (Some id) = if is_some (at vs id) then [] else (id ∷ [])
 
-  focus_events : (o : Option FullNodeId) → untold (at vs) o ≡ map told.Updated (focus_ids o)
+  focus_events : (o : Option FullNodeId) → untold_updates (at vs) o ≡ map told.Updated (focus_ids o)
   unfolding focus_ids
   focus_events None = refl
   focus_events (Some id) = go (is_some (at vs id))
@@ -214,7 +214,7 @@ module _ (s : Step) (vs : Verdicts) (sorted : IsOrdered full_cmp vs) (becomes : 
       focus_ids after,
       focus_alone before (λ id e. inl (focus_there s.old id (subst (IsFocus s.old) e a))),
       focus_alone after (λ id e. inr (focus_there s.new id (subst (IsFocus s.new) e b))),
-      x.1 ∙ ap (λ xs. xs ++ untold (at vs) after ++ told.FocusMoved before after ∷ []) (focus_events before) ∙ ap (λ xs. map told.Updated (focus_ids before) ++ xs ++ told.FocusMoved before after ∷ []) (focus_events after),
+      x.1 ∙ ap (λ xs. xs ++ untold_updates (at vs) after ++ told.FocusMoved before after ∷ []) (focus_events before) ∙ ap (λ xs. map told.Updated (focus_ids before) ++ xs ++ told.FocusMoved before after ∷ []) (focus_events after),
     ),
   )
 
@@ -274,12 +274,12 @@ module _ (new : World) (name : TreeId) (t : TreeRecord) (is : IsOfName new name 
           let none : (is_some t.index || is_some t.graft) ≡ false = ap (λ x. is_some x || is_some t.graft) e ∙ ap is_some f in
           subst (λ b. IsTreeRecord new name (if b then Some t else None)) (sym none) (no_record e f)
 
-  present_is : (q : ℕ) → t.index ≡ Some q → present t.root t.focus ≡ get new.trees q
+  present_is : (q : ℕ) → t.index ≡ Some q → tree_from t.root t.focus ≡ get new.trees q
   present_is q at = go (tree_named new name) is.root is.focus ∙ ap (option_and_then (λ i. get new.trees i)) (sym is.index ∙ at)
     where
-      go : (x : Option Tree) → t.root ≡ option_map (λ t. t.root) x → t.focus ≡ option_map (λ t. t.focus) x → present t.root t.focus ≡ x
-      go None e f = ap (λ x. present x t.focus) e
-      go (Some y) e f = ap (λ x. present x t.focus) e ∙ ap (present (Some y.root)) f
+      go : (x : Option Tree) → t.root ≡ option_map (λ t. t.root) x → t.focus ≡ option_map (λ t. t.focus) x → tree_from t.root t.focus ≡ x
+      go None e f = ap (λ x. tree_from x t.focus) e
+      go (Some y) e f = ap (λ x. tree_from x t.focus) e ∙ ap (tree_from (Some y.root)) f
 
 alike_record : {w new : World} (name : TreeId) (r : Option TreeRecord) → KnownAlike w new name → IsTreeRecord w name r → IsTreeRecord new name r
 alike_record name r a is = record {
@@ -334,13 +334,13 @@ module _ (s : Step) (f : Found) (h : IsFound s f) (rs : List TreeRecord) (after 
           old_none : get s.old.trees q ≡ None
           old_none = not_there (get s.old.trees q) (λ there.
               let at : slice_get s.old.known q ≡ Some (get_or s.old.known q ROOT_NAME) = slice_get-get_or s.old.known q ROOT_NAME (h.old.present_known q there) in
-              let stays : slice_get (merged s.old s.update).known q ≡ Some (get_or s.old.known q ROOT_NAME) = name_stays s.old s.update q (get_or s.old.known q ROOT_NAME) at in
+              let stays : slice_get (merged_world s.old s.update).known q ≡ Some (get_or s.old.known q ROOT_NAME) = name_stays s.old s.update q (get_or s.old.known q ROOT_NAME) at in
               let clash : None ≡ Some (get_or s.old.known q ROOT_NAME) = sym e ∙ ap (λ k. slice_get k q) h.rebuilt.known ∙ stays in cc)
 
   pub trees_after : (q : ℕ) → get (put_trees s.old.trees rs) q ≡ get s.new.trees q
   trees_after q = get-put_trees s.old.trees rs q ∙ go (find_index rs q)
     where
-      same : (t : TreeRecord) → Contains rs t → t.index ≡ Some q → present t.root t.focus ≡ get s.new.trees q
+      same : (t : TreeRecord) → Contains rs t → t.index ≡ Some q → tree_from t.root t.focus ≡ get s.new.trees q
       same t c is = present_is s.new t.id t (after.each t c) q is
 
       go : ((r : TreeRecord) × Contains rs r × (r.index ≡ Some q)) ⊎ ((r : TreeRecord) → Contains rs r → r.index ≢ Some q) → tree_at rs q (get s.old.trees q) ≡ get s.new.trees q
@@ -376,18 +376,18 @@ module _ (s : Step) (f : Found) (h : IsFound s f) (vs : Verdicts) (sorted : IsOr
       stands_at_place s.old id p (same ∙ place)
 
   module _ (d : Decision) (nodes : d.nodes.items ≡ changes_in vs.entries) (trees : d.trees.items ≡ rs) where
-    pub overlaid_is : overlaid s.old s.update d ≡ s.new
+    pub overlaid_is : overlaid_world s.old s.update d ≡ s.new
     overlaid_is =
-        let known : (overlaid s.old s.update d).known ≡ s.new.known = sym h.rebuilt.known in
-        let trees : (overlaid s.old s.update d).trees ≡ s.new.trees = same_map nat_cmp_total nat_cmp-IsAntisymmetric (put_trees s.old.trees d.trees.items) s.new.trees
+        let known : (overlaid_world s.old s.update d).known ≡ s.new.known = sym h.rebuilt.known in
+        let trees : (overlaid_world s.old s.update d).trees ≡ s.new.trees = same_map nat_cmp_total nat_cmp-IsAntisymmetric (put_trees s.old.trees d.trees.items) s.new.trees
         (λ q. ap (λ xs. get (put_trees s.old.trees xs) q) trees ∙ trees_after s f h rs after q) in
-        let nodes : (overlaid s.old s.update d).nodes ≡ s.new.nodes = same_map full_total exact_full (put_all s.update.nodes s.old.nodes d.nodes.items) s.new.nodes
+        let nodes : (overlaid_world s.old s.update d).nodes ≡ s.new.nodes = same_map full_total exact_full (put_all s.update.nodes s.old.nodes d.nodes.items) s.new.nodes
         (λ id. ap (λ xs. get (put_all s.update.nodes s.old.nodes xs) id) nodes ∙ nodes_after id) in
-        let toolkit : (overlaid s.old s.update d).toolkit ≡ s.new.toolkit = sym h.rebuilt.toolkit in
-        let host : (overlaid s.old s.update d).host_focused ≡ s.new.host_focused = sym h.rebuilt.host in
+        let toolkit : (overlaid_world s.old s.update d).toolkit ≡ s.new.toolkit = sym h.rebuilt.toolkit in
+        let host : (overlaid_world s.old s.update d).host_focused ≡ s.new.host_focused = sym h.rebuilt.host in
         λ i. record { known = known i; trees = trees i; nodes = nodes i; toolkit = toolkit i; host_focused = host i }
 
-    by_new : (P : World → Type 0) → P s.new → P (overlaid s.old s.update d)
+    by_new : (P : World → Type 0) → P s.new → P (overlaid_world s.old s.update d)
     by_new P x = subst P (sym overlaid_is) x
 
     pub decision_is : (focused : Focused) → IsFocusing s.old s.update focused → d.focus ≡ focused.effective

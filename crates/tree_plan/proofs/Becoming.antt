@@ -10,7 +10,7 @@ use Rattle.model.specs.FullIds.{full_cmp}
 use Rattle.model.specs.World.{ROOT_NAME, World, IsNode, data_of, in_tree, graft_name, root_of, root_named, Place, StandsAt, Kept}
 use Rattle.model.specs.World as world
 use Rattle.model.specs.Forest.{place_of}
-use Rattle.model.specs.Update.{UpdateData, IsNamed, IsRebuild, KeepsRules, index_for, merged}
+use Rattle.model.specs.Update.{UpdateData, IsNamed, IsRebuild, KeepsRules, index_for, merged_world}
 use Rattle.model.specs.State.{IsState}
 use Rattle.model.specs.Differences.{told_root}
 use Rattle.model.specs.Surgery.{IsOld, Entered, HasEntered, Gone, IsLive, IsMovedIn, IsPassed}
@@ -78,9 +78,9 @@ decide_data (Some a) (Some b) = go (same_node a b) refl
     go true e = inl (ap Some ((same_node-decides a b).0 e))
     go false e = inr (λ same. let yes : same_node a b ≡ true = (same_node-decides a b).1 (same_Some a b same) in let clash : false ≡ true = sym e ∙ yes in cc)
 
-module _ (w : World) (u : UpdateData) (o : IsOld w) (k : KeepsRules w u) (new : World) (r : IsRebuild (merged w u) new) where
+module _ (w : World) (u : UpdateData) (o : IsOld w) (k : KeepsRules w u) (new : World) (r : IsRebuild (merged_world w u) new) where
   abbrev m : World
-  m = merged w u
+  m = merged_world w u
 
   abbrev i : ℕ
   i = index_for w u.name

@@ -12,7 +12,7 @@ use Rattle.model.specs.declared.events.PlanEvent.{PlanEvent}
 use Rattle.model.specs.declared.events.PlanEvent.TheVariants as told
 use Rattle.model.specs.FullIds.{full_cmp}
 use Rattle.model.specs.World.{root_of}
-use Rattle.model.specs.Update.{IsNamed, index_for, merged}
+use Rattle.model.specs.Update.{IsNamed, index_for, merged_world}
 use Rattle.model.specs.Differences.{told_root}
 use Rattle.model.specs.Work.{Work, IsWorkOf}
 use Rattle.model.specs.Surgery.{Spot, Entered, HasEntered, IsMovedIn, IsPassed}
@@ -28,7 +28,7 @@ use Rattle.tree_plan.specs.declared.verdicts.Found.{Found}
 use Rattle.tree_plan.specs.declared.writing.Group.TheVariants as group
 use Rattle.tree_plan.specs.Passes.{at}
 use Rattle.tree_plan.specs.Verdicts.{Step, IsFound, Becomes, Verdicts}
-use Rattle.tree_plan.specs.Writing.{told_of, untold, IsMove, AreEvents}
+use Rattle.tree_plan.specs.Writing.{told_of, untold_updates, IsMove, AreEvents}
 use Rattle.tree_plan.proofs.Adding.{has_entry, has_member}
 use Rattle.tree_plan.proofs.Listed.{ids_where, is_in, event_of, sorted_where, where_passes, told-where, three_groups, length-both, changes_in, length-changes}
 use Rattle.tree_plan.proofs.Assembled.{is_updated, removed_listed}
@@ -46,13 +46,13 @@ module _ (s : Step) (f : Found) (h : IsFound s f) (work : Work) (is : IsWorkOf s
       let c : length (keys f.compared.now.entered) ≡ length f.compared.now.entered.entries = length-map f.compared.now.entered.entries (λ e. e.0) in
       omega arith
     where
-      root : (root : FullNodeId) × (root_of (merged s.old s.update) (index_for s.old s.update.name) ≡ Some root)
+      root : (root : FullNodeId) × (root_of (merged_world s.old s.update) (index_for s.old s.update.name) ≡ Some root)
       root = root_here s.old s.update h.old passed.climbed.refined.removed.settled.compared.opened
 
       among : (id : FullNodeId) (spot : Spot) → Entered s.old s.update spot id → Contains (is.children ++ root.0 ∷ []) id
       among id (Some p) e = Contains-append_left is.children (root.0 ∷ []) id ((is.are_children.members id).1 (entered_is_child s.old s.update h.old passed h.rebuilt work is p id e))
       among id None e =
-          let here : root_of (merged s.old s.update) (index_for s.old s.update.name) ≡ Some id = subst (λ k. root_of (merged s.old s.update) k ≡ Some id) (entered_tree s.old s.update None id e) e.0 in
+          let here : root_of (merged_world s.old s.update) (index_for s.old s.update.name) ≡ Some id = subst (λ k. root_of (merged_world s.old s.update) k ≡ Some id) (entered_tree s.old s.update None id e) e.0 in
           Contains-append_right is.children (root.0 ∷ []) id (contains_head root.0 id [] (same_Some root.0 id (sym root.1 ∙ here)))
 
   pub gone_small : IsStrictlySortedBy full_cmp f.removed.now.gone.keys → length f.removed.now.gone.keys ≤ work.removed
@@ -90,7 +90,7 @@ module _ (s : Step) (f : Found) (h : IsFound s f) (work : Work) (is : IsWorkOf s
     pub changes_small : length (changes_in vs.entries) ≤ 2 * work.named + work.children + work.removed + 1
     changes_small = let a = verdicts_small in let b = length-changes vs.entries in omega arith
 
-    untold_small : (o : Option FullNodeId) → length (untold (at vs) o) ≤ 1
+    untold_small : (o : Option FullNodeId) → length (untold_updates (at vs) o) ≤ 1
     untold_small None = omega arith
     untold_small (Some id) = go (is_some (at vs id))
       where
@@ -102,8 +102,8 @@ module _ (s : Step) (f : Found) (h : IsFound s f) (work : Work) (is : IsWorkOf s
     move_small before after moved (inl x) = let e : length moved ≡ 0 = ap length x.1 in omega arith
     move_small before after moved (inr x) =
         let e = ap length x.1 in
-        let a = length-append (untold (at vs) before ++ untold (at vs) after) (told.FocusMoved before after ∷ []) in
-        let b = length-append (untold (at vs) before) (untold (at vs) after) in
+        let a = length-append (untold_updates (at vs) before ++ untold_updates (at vs) after) (told.FocusMoved before after ∷ []) in
+        let b = length-append (untold_updates (at vs) before) (untold_updates (at vs) after) in
         let c = untold_small before in
         let d = untold_small after in
         omega arith

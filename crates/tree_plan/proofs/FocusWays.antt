@@ -10,7 +10,7 @@ use Rattle.model.specs.declared.FullNodeId.{FullNodeId}
 use Rattle.model.specs.World.{ROOT_NAME, World, Tree, IsNode, HasData, data_of, in_tree, index_of, graft_name, root_of, root_named, focus_of, focus_named, Reached, Kept}
 use Rattle.model.specs.World as world
 use Rattle.model.specs.Focus.{OnChain, first, next, GoesOn, IsEffectiveFocus, IsFocus, Resolves}
-use Rattle.model.specs.Update.{UpdateData, FocusOnEmptyGraft, Stands, IsNamed, IsRebuild, root_after, index_for, merged}
+use Rattle.model.specs.Update.{UpdateData, FocusOnEmptyGraft, Stands, IsNamed, IsRebuild, root_after, index_for, merged_world}
 use Rattle.model.specs.Surgery.{IsOld, Gone, IsLive, IsOpened, IsPassed, IsDeep, top}
 use Rattle.model.proofs.Worlds.Names.{index_of-known}
 use Rattle.model.proofs.Focus.FocusIsOne.{not_graft}
@@ -110,7 +110,7 @@ OldWay w id n = OnChain w id × IsDeep w (IsNode w) id.tree n
 
 -- a node on the way after it, so many live grafts away from the root tree
 abbrev pub NewWay : World → UpdateData → FullNodeId → ℕ → Type 0
-NewWay w u id n = OnChain (merged w u) id × IsDeep (merged w u) (IsLive w u) id.tree n
+NewWay w u id n = OnChain (merged_world w u) id × IsDeep (merged_world w u) (IsLive w u) id.tree n
 
 -- ---- before
 
@@ -141,7 +141,7 @@ module _ (w : World) (o : IsOld w) where
 
 module _ (w : World) (u : UpdateData) (o : IsOld w) where
   abbrev m : World
-  m = merged w u
+  m = merged_world w u
 
   abbrev i : ℕ
   i = index_for w u.name

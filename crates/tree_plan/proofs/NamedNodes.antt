@@ -13,8 +13,8 @@ use Rattle.schema.specs.NodeData.{NodeData}
 use Rattle.schema.specs.declared.NodeId.{NodeId}
 use Rattle.schema.specs.declared.TreeId.{TreeId}
 use Rattle.model.specs.declared.FullNodeId.{FullNodeId}
-use Rattle.model.specs.World.{ROOT_NAME, World, Tree, Place, data_of, in_tree, listed, graft_name, root_of}
-use Rattle.model.specs.Update.{UpdateData, index_for, merged, IsNamed, named_at}
+use Rattle.model.specs.World.{ROOT_NAME, World, Tree, Place, data_of, in_tree, listed_ids, graft_name, root_of}
+use Rattle.model.specs.Update.{UpdateData, index_for, merged_world, IsNamed, named_at}
 use Rattle.model.specs.Surgery.{IsOld, IsOpened, Spot, IsAt, Left, Entered}
 use Rattle.model.proofs.Worlds.Names.{cases_id, cases_name, same_id}
 use Rattle.model.proofs.State.StatePlaces.{root_of-tree}
@@ -78,7 +78,7 @@ decide_some (Some v) name = ⊎_elim (λ e. inl (ap Some e)) (λ ne. inr (λ e. 
 
 module _ (w : World) (u : UpdateData) (o : IsOld w) where
   abbrev m : World
-  m = merged w u
+  m = merged_world w u
 
   abbrev i : ℕ
   i = index_for w u.name
@@ -122,7 +122,7 @@ module _ (w : World) (u : UpdateData) (o : IsOld w) where
     graft_here : graft_name m id ≡ e.1.tree_id
     graft_here = ap (option_and_then (λ (d : NodeData). d.tree_id)) data_here
 
-    lists_here : listed m id ≡ child_ids id e.1
+    lists_here : listed_ids m id ≡ child_ids id e.1
     lists_here = rw data_here refl
 
     named_here : IsNamedBefore w u (k + 1) id
@@ -141,10 +141,10 @@ module _ (w : World) (u : UpdateData) (o : IsOld w) where
     apart n h same = first_named (subst (IsNamedBefore w u k) (sym same) h)
 
     abbrev WasHere : FullNodeId → Spot → Type 0
-    WasHere = OnlyIn id (listed w id) (child_ids id e.1)
+    WasHere = OnlyIn id (listed_ids w id) (child_ids id e.1)
 
     abbrev IsHere : FullNodeId → Spot → Type 0
-    IsHere = OnlyIn id (child_ids id e.1) (listed w id)
+    IsHere = OnlyIn id (child_ids id e.1) (listed_ids w id)
 
     here_done : (s : Spot) (j : ℕ) → s ≡ Some (id, j) → IsDone w u (k + 1) s
     here_done s j is = subst (IsDone w u (k + 1)) (sym is) named_here
@@ -160,14 +160,14 @@ module _ (w : World) (u : UpdateData) (o : IsOld w) where
 
     left_was : (c : FullNodeId) (p : Place) → id ≡ p.0 → Left w u (Some p) c → WasHere c (Some p)
     left_was c p same l =
-        let at_w : slice_get (listed w id) p.1 ≡ Some c = subst (λ x. slice_get (listed w x) p.1 ≡ Some c) (sym same) l.0 in
-        let at_m : slice_get (listed m id) p.1 ≢ Some c = subst (λ x. slice_get (listed m x) p.1 ≢ Some c) (sym same) l.1 in
+        let at_w : slice_get (listed_ids w id) p.1 ≡ Some c = subst (λ x. slice_get (listed_ids w x) p.1 ≡ Some c) (sym same) l.0 in
+        let at_m : slice_get (listed_ids m id) p.1 ≢ Some c = subst (λ x. slice_get (listed_ids m x) p.1 ≢ Some c) (sym same) l.1 in
         (p.1, (spot_of p same, (at_w, subst (λ xs. slice_get xs p.1 ≢ Some c) lists_here at_m)))
 
     entered_is : (c : FullNodeId) (p : Place) → id ≡ p.0 → Entered w u (Some p) c → IsHere c (Some p)
     entered_is c p same l =
-        let at_m : slice_get (listed m id) p.1 ≡ Some c = subst (λ x. slice_get (listed m x) p.1 ≡ Some c) (sym same) l.0 in
-        let at_w : slice_get (listed w id) p.1 ≢ Some c = subst (λ x. slice_get (listed w x) p.1 ≢ Some c) (sym same) l.1 in
+        let at_m : slice_get (listed_ids m id) p.1 ≡ Some c = subst (λ x. slice_get (listed_ids m x) p.1 ≡ Some c) (sym same) l.0 in
+        let at_w : slice_get (listed_ids w id) p.1 ≢ Some c = subst (λ x. slice_get (listed_ids w x) p.1 ≢ Some c) (sym same) l.1 in
         (p.1, (spot_of p same, (subst (λ xs. slice_get xs p.1 ≡ Some c) lists_here at_m, at_w)))
 
     module _ (a b : Compared) (h : AreCompared w u k a) (s : ComparesNode w id k e.1 a b) where
@@ -345,7 +345,7 @@ module _ (w : World) (u : UpdateData) (o : IsOld w) where
             (λ earlier. h.childless n name earlier is)
             (λ same.
             let none : e.1.children ≡ [] = s.grafted.childless name (sym graft_here ∙ subst (λ x. graft_name m x ≡ Some name) (sym same) is) in
-            subst (λ x. listed m x ≡ []) same (lists_here ∙ ap (map (in_tree i)) none))
+            subst (λ x. listed_ids m x ≡ []) same (lists_here ∙ ap (map (in_tree i)) none))
             (last_named n before);
         is_named = next_is_named;
         has_named = next_has_named;

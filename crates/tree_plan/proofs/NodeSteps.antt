@@ -7,7 +7,7 @@ use Rattle.std.proofs.lemmas.Option.{same_Some}
 use Rattle.schema.specs.NodeData.{NodeData}
 use Rattle.schema.specs.declared.TreeId.{TreeId}
 use Rattle.model.specs.declared.FullNodeId.{FullNodeId}
-use Rattle.model.specs.World.{World, Place, data_of, listed, graft_name}
+use Rattle.model.specs.World.{World, Place, data_of, listed_ids, graft_name}
 use Rattle.tree_changes.specs.Looks.{IsPlaceOf}
 use Rattle.tree_changes.specs.declared.error.UpdateError.{UpdateError}
 use Rattle.tree_changes.specs.declared.error.UpdateError.TheVariants as error
@@ -56,12 +56,12 @@ data_compared id n xs graft now d a b c entries is put count left entered first 
 pub node_compared : (w : World) (id : FullNodeId) (entry : ℕ) (d : NodeData) (a b c : Compared) (n : Named) (xs : List FullNodeId) (graft : Option TreeId)
     → TakesGraft id d (at_name a.grafted) (at_name b.grafted)
     → b ≡ record { named = a.named; left = a.left; entered = a.entered; grafted = b.grafted; lost = a.lost; gained = a.gained }
-    → c.grafted ≡ b.grafted → IsEntryOf w id entry d n → xs ≡ listed w id → graft ≡ graft_name w id → ComparesData id n xs graft d b c → ComparesNode w id entry d a c
+    → c.grafted ≡ b.grafted → IsEntryOf w id entry d n → xs ≡ listed_ids w id → graft ≡ graft_name w id → ComparesData id n xs graft d b c → ComparesNode w id entry d a c
 node_compared w id entry d a b c n xs graft takes first stays is lists grafts h = record {
   grafted = subst (λ m. TakesGraft id d (at_name a.grafted) (at_name m)) (sym stays) takes;
   n = n;
   is_entry = is;
-  compares = subst (λ x. ComparesData id n (listed w id) x d a c) grafts (subst (λ x. ComparesData id n x graft d a c) lists (record {
+  compares = subst (λ x. ComparesData id n (listed_ids w id) x d a c) grafts (subst (λ x. ComparesData id n x graft d a c) lists (record {
     named = subst (λ m. Put id (Some n) (at m) (at c.named)) (ap (λ (x : Compared). x.named) first) h.named;
     count_of = subst (λ (m : BTreeMap FullNodeId Named). IsSome (at m id) → length c.named.entries ≡ length m.entries) (ap (λ (x : Compared). x.named) first) h.count_of;
     left = subst (λ m. Gathers (OnlyIn id xs (child_ids id d)) (at m) (at c.left)) (ap (λ (x : Compared). x.left) first) h.left;
@@ -99,20 +99,20 @@ old_entry w id entry d before place other is stands news = record {
   news = ((λ t e. news.0 t (same_Some before d (sym is ∙ e))), λ ne. news.1 (λ same. ne (is ∙ ap Some same)));
 }
 
-pub old_lists : (w : World) (id : FullNodeId) (d : NodeData) → data_of w id ≡ Some d → child_ids id d ≡ listed w id
+pub old_lists : (w : World) (id : FullNodeId) (d : NodeData) → data_of w id ≡ Some d → child_ids id d ≡ listed_ids w id
 old_lists w id d is = rw is refl
 
 pub old_graft : (w : World) (id : FullNodeId) (d : NodeData) → data_of w id ≡ Some d → d.tree_id ≡ graft_name w id
 old_graft w id d is = rw is refl
 
-pub new_lists : (w : World) (id : FullNodeId) → data_of w id ≡ None → [] ≡ listed w id
+pub new_lists : (w : World) (id : FullNodeId) → data_of w id ≡ None → [] ≡ listed_ids w id
 new_lists w id none = rw none refl
 
 pub new_graft : (w : World) (id : FullNodeId) → data_of w id ≡ None → None ≡ graft_name w id
 new_graft w id none = rw none refl
 
 -- what is wrong with the data is wrong with the node
-pub data_fault : (w : World) (id : FullNodeId) (d : NodeData) (a b : Compared) (xs : List FullNodeId) → xs ≡ listed w id
+pub data_fault : (w : World) (id : FullNodeId) (d : NodeData) (a b : Compared) (xs : List FullNodeId) → xs ≡ listed_ids w id
     → b ≡ record { named = a.named; left = a.left; entered = a.entered; grafted = b.grafted; lost = a.lost; gained = a.gained }
     → (e : UpdateError) → IsFoundTwice (OnlyIn id (child_ids id d) xs) (at b.entered) e → IsNodeFault w id d a e
 data_fault w id d a b xs lists first error.Memory h = h

@@ -6,7 +6,7 @@ use Rattle.schema.specs.declared.NodeId.{NodeId}
 use Rattle.schema.specs.declared.TreeId.{TreeId}
 use Rattle.model.specs.declared.FullNodeId.{FullNodeId}
 use Rattle.model.specs.World.{ROOT_NAME, World, Tree, IsNode, in_tree, index_of, root_of, graft_name}
-use Rattle.model.specs.Update.{UpdateData, InfoData, IsFirst, index_for, root_after, merged}
+use Rattle.model.specs.Update.{UpdateData, InfoData, IsFirst, index_for, root_after, merged_world}
 use Rattle.model.specs.Surgery.{IsOld}
 use Rattle.model.proofs.Update.Merges.{tree_named as merged_tree}
 use Rattle.model.proofs.State.StatePlaces.{graft_is_node, IsSome_is}
@@ -51,7 +51,7 @@ module _ (w : World) (o : IsOld w) where
 
   module _ (u : UpdateData) where
     -- the root that was found
-    root_found : (root : NodeId) → root_after w u ≡ Some root → root_of (merged w u) (index_for w u.name) ≡ Some (in_tree (index_for w u.name) root)
+    root_found : (root : NodeId) → root_after w u ≡ Some root → root_of (merged_world w u) (index_for w u.name) ≡ Some (in_tree (index_for w u.name) root)
     root_found root is = ap (option_map (λ (t : Tree). in_tree (index_for w u.name) t.root)) (merged_tree w u root is)
 
     pub first_opening : IsFirst w → (info : InfoData) → u.info ≡ Some info → (root : NodeId) → info.root ≡ root → u.name ≡ ROOT_NAME → IsOpening w u (record { «record» = blank u.name; index = 0; root = root; is_first = true })
@@ -67,7 +67,7 @@ module _ (w : World) (o : IsOld w) where
           };
           record_of = first_blank first u.name;
           index = at;
-          root = subst (λ i. root_of (merged w u) i ≡ Some (in_tree i root)) (sym at) (root_found root (rw has (ap Some is)));
+          root = subst (λ i. root_of (merged_world w u) i ≡ Some (in_tree i root)) (sym at) (root_found root (rw has (ap Some is)));
           first = ((λ _. first), λ _. refl);
         }
 
@@ -92,7 +92,7 @@ module _ (w : World) (o : IsOld w) where
           };
           record_of = h;
           index = here;
-          root = subst (λ i. root_of (merged w u) i ≡ Some (in_tree i root)) (sym here) (root_found root (ap (option_map_or (λ i. Some i.root) u.info) (sym was) ∙ is));
+          root = subst (λ i. root_of (merged_world w u) i ≡ Some (in_tree i root)) (sym here) (root_found root (ap (option_map_or (λ i. Some i.root) u.info) (sym was) ∙ is));
           first = ((λ e. cc), λ first. absurd (later first));
         }
       where

@@ -40,42 +40,42 @@ use Rattle.tree_changes.specs.declared.decision.Decision.{Decision}
 use Rattle.tree_changes.specs.declared.plan.Change.{Change}
 use Rattle.tree_changes.specs.declared.plan.Change.TheVariants.{Put, Tree}
 use Rattle.tree_changes.specs.Looks.{IsPlaceOf, IsTreeRecord, tree_named}
-use Rattle.tree_changes.specs.Changes.{NodeChanges, change_at, entry_data, changed, set_at, put_all, if_kept, put_trees, tree_change, tree_after, overlaid}
+use Rattle.tree_changes.specs.Changes.{NodeChanges, change_at, entry_data, changed_data, set_at, put_all, if_kept, put_trees, tree_change, tree_after, overlaid_world}
 use Rattle.tree_changes.specs.Decisions.{FindsData, Differs, IsDecision, IsWithinWork}
 use Rattle.tree_changes.specs.declared.plan.Plan.{Plan}
-use Rattle.tree_changes.specs.Plans.{tree_changes, nodes_changed, name_tree, name_trees, replaced_texts, planned}
+use Rattle.tree_changes.specs.Plans.{tree_changes, nodes_changed, name_tree, name_trees, replaced_texts, planned_world}
 use Rattle.tree_changes.proofs.Overlays.{effect, get-put_all, tree_change_in}
-use Rattle.tree_plan.specs.Planned.{IsPlan, IsPlannedWithin, changed_nodes, slot_data, moved, entry_of, AreTakenOnce, replaces}
+use Rattle.tree_plan.specs.Planned.{IsPlan, IsPlannedWithin, changed_nodes, slot_data, plan_change, entry_of, AreTakenOnce, replaces}
 use Rattle.tree_plan.proofs.Adding.{at_itself, in_either, is_among, has_entry}
 use Rattle.tree_plan.proofs.Assembled.{kept_record}
 use Rattle.tree_plan.proofs.Moving.{Slots}
 
 -- ---- the changes
 
-pub tree_changes-of : (ts : List TreeRecord) (slots : Slots) (ns : NodeChanges) → tree_changes (map Tree ts ++ map (moved slots) ns) ≡ ts
+pub tree_changes-of : (ts : List TreeRecord) (slots : Slots) (ns : NodeChanges) → tree_changes (map Tree ts ++ map (plan_change slots) ns) ≡ ts
 tree_changes-of [] slots ns = go ns
   where
-    one : (c : FullNodeId × NodeChange) (cs : List Change) → tree_changes (moved slots c ∷ cs) ≡ tree_changes cs
+    one : (c : FullNodeId × NodeChange) (cs : List Change) → tree_changes (plan_change slots c ∷ cs) ≡ tree_changes cs
     one (id, node.Put place (Some k)) cs = refl
     one (id, node.Put place None) cs = refl
     one (id, node.Gone) cs = refl
 
-    go : (ns : NodeChanges) → tree_changes (map (moved slots) ns) ≡ []
+    go : (ns : NodeChanges) → tree_changes (map (plan_change slots) ns) ≡ []
     go [] = refl
-    go (c ∷ cs) = one c (map (moved slots) cs) ∙ go cs
+    go (c ∷ cs) = one c (map (plan_change slots) cs) ∙ go cs
 tree_changes-of (t ∷ ts) slots ns = ap (λ rs. t ∷ rs) (tree_changes-of ts slots ns)
 
-pub changed_nodes-of : (ts : List TreeRecord) (slots : Slots) (ns : NodeChanges) → changed_nodes (map Tree ts ++ map (moved slots) ns) ≡ map (λ c. c.0) ns
+pub changed_nodes-of : (ts : List TreeRecord) (slots : Slots) (ns : NodeChanges) → changed_nodes (map Tree ts ++ map (plan_change slots) ns) ≡ map (λ c. c.0) ns
 changed_nodes-of [] slots ns = go ns
   where
-    one : (c : FullNodeId × NodeChange) (cs : List Change) → changed_nodes (moved slots c ∷ cs) ≡ c.0 ∷ changed_nodes cs
+    one : (c : FullNodeId × NodeChange) (cs : List Change) → changed_nodes (plan_change slots c ∷ cs) ≡ c.0 ∷ changed_nodes cs
     one (id, node.Put place (Some k)) cs = refl
     one (id, node.Put place None) cs = refl
     one (id, node.Gone) cs = refl
 
-    go : (ns : NodeChanges) → changed_nodes (map (moved slots) ns) ≡ map (λ c. c.0) ns
+    go : (ns : NodeChanges) → changed_nodes (map (plan_change slots) ns) ≡ map (λ c. c.0) ns
     go [] = refl
-    go (c ∷ cs) = one c (map (moved slots) cs) ∙ ap (λ ids. c.0 ∷ ids) (go cs)
+    go (c ∷ cs) = one c (map (plan_change slots) cs) ∙ ap (λ ids. c.0 ∷ ids) (go cs)
 changed_nodes-of (t ∷ ts) slots ns = changed_nodes-of ts slots ns
 
 -- the data of each entry are in its slot
@@ -98,18 +98,18 @@ module _ (es : List (NodeId × NodeData)) (m : FinMap full_cmp NodeData) where
   one_put id place k cs None e there = cc
   one_put id place k cs (Some d) e there = ap (λ g. nodes_changed m (Put id place g ∷ cs)) e
 
-  one_change : (c : FullNodeId × NodeChange) (cs : List Change) → ((k : ℕ) → entry_of c.1 ≡ Some k → IsSome (entry_data es k)) → nodes_changed m (moved data_slots c ∷ cs) ≡ set_at (nodes_changed m cs) c.0 (changed es c.1 (get m c.0))
+  one_change : (c : FullNodeId × NodeChange) (cs : List Change) → ((k : ℕ) → entry_of c.1 ≡ Some k → IsSome (entry_data es k)) → nodes_changed m (plan_change data_slots c ∷ cs) ≡ set_at (nodes_changed m cs) c.0 (changed_data es c.1 (get m c.0))
   one_change (id, node.Put place (Some k)) cs there = one_put id place k cs (entry_data es k) (slot_data-of es k) (there k refl)
   one_change (id, node.Put place None) cs there = refl
   one_change (id, node.Gone) cs there = refl
 
-  all_changes : (ns : NodeChanges) → AreThere es ns → nodes_changed m (map (moved data_slots) ns) ≡ put_all es m ns
+  all_changes : (ns : NodeChanges) → AreThere es ns → nodes_changed m (map (plan_change data_slots) ns) ≡ put_all es m ns
   all_changes [] there = refl
   all_changes (c ∷ cs) there =
-      one_change c (map (moved data_slots) cs) (λ k e. there 0 c k refl e)
-      ∙ ap (λ n. set_at n c.0 (changed es c.1 (get m c.0))) (all_changes cs (λ i x k at e. there (suc i) x k at e))
+      one_change c (map (plan_change data_slots) cs) (λ k e. there 0 c k refl e)
+      ∙ ap (λ n. set_at n c.0 (changed_data es c.1 (get m c.0))) (all_changes cs (λ i x k at e. there (suc i) x k at e))
 
-  pub nodes_changed-of : (ts : List TreeRecord) (ns : NodeChanges) → AreThere es ns → nodes_changed m (map Tree ts ++ map (moved data_slots) ns) ≡ put_all es m ns
+  pub nodes_changed-of : (ts : List TreeRecord) (ns : NodeChanges) → AreThere es ns → nodes_changed m (map Tree ts ++ map (plan_change data_slots) ns) ≡ put_all es m ns
   nodes_changed-of [] ns there = all_changes ns there
   nodes_changed-of (t ∷ ts) ns there = nodes_changed-of ts ns there
 
@@ -243,7 +243,7 @@ module _ (w : World) (o : IsOld w) where
 
   module _ (u : UpdateData) (d : Decision) (h : IsDecision w u d) where
     abbrev new : World
-    new = overlaid w u d
+    new = overlaid_world w u d
 
     abbrev rs : List TreeRecord
     rs = d.trees.items
@@ -320,7 +320,7 @@ no_put : (ts : List TreeRecord) (id : FullNodeId) (place : Option Place) (given 
 no_put [] id place given c = contains_none (Put id place given) c
 no_put (t ∷ ts) id place given c = ⊎_elim (λ e. let f : Tree t ≡ Put id place given = e in absurd cc) (λ d. no_put ts id place given d) (contains_cases (Tree t) (Put id place given) (map Tree ts) c)
 
-put_is : (slots : Slots) (c : FullNodeId × NodeChange) (id : FullNodeId) (place : Option Place) (given : Option NodeData) → moved slots c ≡ Put id place given → (entry : Option ℕ) × (c ≡ (id, node.Put place entry))
+put_is : (slots : Slots) (c : FullNodeId × NodeChange) (id : FullNodeId) (place : Option Place) (given : Option NodeData) → plan_change slots c ≡ Put id place given → (entry : Option ℕ) × (c ≡ (id, node.Put place entry))
 put_is slots (i, node.Put at (Some k)) id place given e =
     let same : i ≡ id = cc in
     let there : at ≡ place = cc in
@@ -331,18 +331,18 @@ put_is slots (i, node.Put at None) id place given e =
     (None, λ j. (same j, node.Put (there j) None))
 put_is slots (i, node.Gone) id place given e = absurd cc
 
-put_at : (slots : Slots) (ns : NodeChanges) (id : FullNodeId) (place : Option Place) (given : Option NodeData) → Contains (map (moved slots) ns) (Put id place given) → (i : ℕ) × (entry : Option ℕ) × (slice_get ns i ≡ Some (id, node.Put place entry))
+put_at : (slots : Slots) (ns : NodeChanges) (id : FullNodeId) (place : Option Place) (given : Option NodeData) → Contains (map (plan_change slots) ns) (Put id place given) → (i : ℕ) × (entry : Option ℕ) × (slice_get ns i ≡ Some (id, node.Put place entry))
 put_at slots [] id place given c = absurd (contains_none (Put id place given) c)
-put_at slots (n ∷ ns) id place given c = go (contains_cases (moved slots n) (Put id place given) (map (moved slots) ns) c) (put_at slots ns id place given)
+put_at slots (n ∷ ns) id place given c = go (contains_cases (plan_change slots n) (Put id place given) (map (plan_change slots) ns) c) (put_at slots ns id place given)
   where
-    go : (moved slots n ≡ Put id place given) ⊎ Contains (map (moved slots) ns) (Put id place given)
-        → (Contains (map (moved slots) ns) (Put id place given) → (i : ℕ) × (entry : Option ℕ) × (slice_get ns i ≡ Some (id, node.Put place entry)))
+    go : (plan_change slots n ≡ Put id place given) ⊎ Contains (map (plan_change slots) ns) (Put id place given)
+        → (Contains (map (plan_change slots) ns) (Put id place given) → (i : ℕ) × (entry : Option ℕ) × (slice_get ns i ≡ Some (id, node.Put place entry)))
         → (i : ℕ) × (entry : Option ℕ) × (slice_get (n ∷ ns) i ≡ Some (id, node.Put place entry))
     go (inl e) later = let f = put_is slots n id place given e in (0, f.0, ap Some f.1)
     go (inr d) later = let f = later d in (suc f.0, f.1, f.2)
 
 module _ (w : World) (o : IsOld w) (u : UpdateData) (d : Decision) (h : IsDecision w u d) (p : Plan) (slots : Slots) (same_slots : slots ≡ map (λ e. Some e.1) u.nodes)
-    (changes : p.changes.items ≡ map Tree d.trees.items ++ map (moved slots) d.nodes.items) (is_root : Bool) (root : IsTrue is_root ↔ (u.name ≡ ROOT_NAME))
+    (changes : p.changes.items ≡ map Tree d.trees.items ++ map (plan_change slots) d.nodes.items) (is_root : Bool) (root : IsTrue is_root ↔ (u.name ≡ ROOT_NAME))
     (texts : (before : Option (List ℕ) × Option (List ℕ)) → replaced_texts p.toolkit before ≡ replaces u.info is_root before) where
   trees_are : tree_changes p.changes.items ≡ d.trees.items
   trees_are = ap tree_changes changes ∙ tree_changes-of d.trees.items slots d.nodes.items
@@ -350,17 +350,17 @@ module _ (w : World) (o : IsOld w) (u : UpdateData) (d : Decision) (h : IsDecisi
   ids_are : changed_nodes p.changes.items ≡ map (λ c. c.0) d.nodes.items
   ids_are = ap changed_nodes changes ∙ changed_nodes-of d.trees.items slots d.nodes.items
 
-  pub planned_is : planned w p ≡ overlaid w u d
+  pub planned_is : planned_world w p ≡ overlaid_world w u d
   planned_is =
-      let known : (planned w p).known ≡ (overlaid w u d).known = ap (name_trees w.known) trees_are ∙ known_is w o u d h in
-      let trees : (planned w p).trees ≡ (overlaid w u d).trees = ap (put_trees w.trees) trees_are in
-      let nodes : (planned w p).nodes ≡ (overlaid w u d).nodes =
-      ap (nodes_changed w.nodes) (changes ∙ ap (λ s. map Tree d.trees.items ++ map (moved s) d.nodes.items) same_slots)
+      let known : (planned_world w p).known ≡ (overlaid_world w u d).known = ap (name_trees w.known) trees_are ∙ known_is w o u d h in
+      let trees : (planned_world w p).trees ≡ (overlaid_world w u d).trees = ap (put_trees w.trees) trees_are in
+      let nodes : (planned_world w p).nodes ≡ (overlaid_world w u d).nodes =
+      ap (nodes_changed w.nodes) (changes ∙ ap (λ s. map Tree d.trees.items ++ map (plan_change s) d.nodes.items) same_slots)
       ∙ nodes_changed-of u.nodes w.nodes d.trees.items d.nodes.items (are_there w u d h) in
-      let toolkit : (planned w p).toolkit ≡ (overlaid w u d).toolkit = texts w.toolkit ∙ texts_are w o u d h is_root root in
+      let toolkit : (planned_world w p).toolkit ≡ (overlaid_world w u d).toolkit = texts w.toolkit ∙ texts_are w o u d h is_root root in
       λ i. record { known = known i; trees = trees i; nodes = nodes i; toolkit = toolkit i; host_focused = w.host_focused }
 
-  by_plan : (P : World → Type 0) → P (overlaid w u d) → P (planned w p)
+  by_plan : (P : World → Type 0) → P (overlaid_world w u d) → P (planned_world w p)
   by_plan P x = subst P (sym planned_is) x
 
   unchanged : (id : FullNodeId) → ¬ (Contains (changed_nodes p.changes.items) id) → change_at d.nodes.items id ≡ None
@@ -379,16 +379,16 @@ module _ (w : World) (o : IsOld w) (u : UpdateData) (d : Decision) (h : IsDecisi
         by_plan (λ v. Differs w v id) (h.changes id e.0 e.1).differs;
     places = λ id place given c.
         let f = ⊎_elim (λ x. absurd (no_put d.trees.items id place given x)) (put_at slots d.nodes.items id place given)
-        (in_either (map Tree d.trees.items) (map (moved slots) d.nodes.items) (Put id place given) (subst (λ cs. Contains cs (Put id place given)) changes c)) in
+        (in_either (map Tree d.trees.items) (map (plan_change slots) d.nodes.items) (Put id place given) (subst (λ cs. Contains cs (Put id place given)) changes c)) in
         by_plan (λ v. IsPlaceOf v id place) (h.changes id (node.Put place f.1) (change_at-place d.nodes.items h.ascending f.0 (id, node.Put place f.1) f.2)).place;
     others = λ id out.
         let none = unchanged id out in
         by_plan (λ v. (data_of w id ≡ data_of v id) × ((at : Place) → StandsAt w at id ↔ StandsAt v at id))
         (sym (get-put_all u.nodes w.nodes d.nodes.items id ∙ ap (λ c. effect u.nodes c (data_of w id)) none), λ at. (h.others id at none, h.others_back id at none));
     trees_once = subst (AllPairs (λ a b. a.id ≢ b.id)) (sym trees_are) h.trees_once;
-    trees = λ name r is. by_plan (λ v. IsTreeRecord v name (tree_after (tree_changes p.changes.items) name r)) (subst (λ ts. IsTreeRecord (overlaid w u d) name (tree_after ts name r)) (sym trees_are) (h.trees name r is));
-    focus = by_plan (λ v. IsEffectiveFocus v p.focus) (subst (IsEffectiveFocus (overlaid w u d)) (sym focus) h.focus);
-    told = λ later. by_plan (λ v. AreToldBy w u v p.events.items) (subst (AreToldBy w u (overlaid w u d)) (sym events) (h.told later));
+    trees = λ name r is. by_plan (λ v. IsTreeRecord v name (tree_after (tree_changes p.changes.items) name r)) (subst (λ ts. IsTreeRecord (overlaid_world w u d) name (tree_after ts name r)) (sym trees_are) (h.trees name r is));
+    focus = by_plan (λ v. IsEffectiveFocus v p.focus) (subst (IsEffectiveFocus (overlaid_world w u d)) (sym focus) h.focus);
+    told = λ later. by_plan (λ v. AreToldBy w u v p.events.items) (subst (AreToldBy w u (overlaid_world w u d)) (sym events) (h.told later));
     quiet = λ first. events ∙ h.quiet first;
   }
 
@@ -396,7 +396,7 @@ module _ (w : World) (o : IsOld w) (u : UpdateData) (d : Decision) (h : IsDecisi
   plan_within events before after within work is =
       let short = within work (subst (λ v. IsWorkOf w u v work) planned_is is) in
       let told = ap length events in
-      let a = ap length changes ∙ length-append (map Tree d.trees.items) (map (moved slots) d.nodes.items) in
+      let a = ap length changes ∙ length-append (map Tree d.trees.items) (map (plan_change slots) d.nodes.items) in
       let b : length (map Tree d.trees.items) ≡ length d.trees.items = length-map d.trees.items Tree in
-      let c : length (map (moved slots) d.nodes.items) ≡ length d.nodes.items = length-map d.nodes.items (moved slots) in
+      let c : length (map (plan_change slots) d.nodes.items) ≡ length d.nodes.items = length-map d.nodes.items (plan_change slots) in
       omega arith

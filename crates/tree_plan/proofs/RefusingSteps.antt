@@ -11,10 +11,10 @@ use Rattle.schema.specs.NodeData.{NodeData}
 use Rattle.schema.specs.declared.NodeId.{NodeId}
 use Rattle.model.specs.declared.FullNodeId.{FullNodeId}
 use Rattle.model.specs.FullIds.{full_cmp}
-use Rattle.model.specs.World.{World, Place, IsNode, HasData, data_of, in_tree, listed, root_of, Reached}
+use Rattle.model.specs.World.{World, Place, IsNode, HasData, data_of, in_tree, listed_ids, root_of, Reached}
 use Rattle.model.specs.World as world
 use Rattle.model.specs.State.{Lists}
-use Rattle.model.specs.Update.{UpdateData, IsNamed, index_for, merged}
+use Rattle.model.specs.Update.{UpdateData, IsNamed, index_for, merged_world}
 use Rattle.model.specs.Surgery.{IsOld, IsAt, HasEntered, Gone, IsRefined}
 use Rattle.model.proofs.Worlds.Names.{cases_id, certain}
 use Rattle.model.proofs.State.StatePlaces.{listed_tree}
@@ -86,24 +86,24 @@ adds_more xs y a b c f g = record {
 
 module _ (w : World) (u : UpdateData) where
   abbrev m : World
-  m = merged w u
+  m = merged_world w u
 
   -- the first of the queue are worked off
   pub record IsSearching (n : ℕ) (a b : Search) : Type 0 where
     pub search : IsSearch b
     pub queue : (i : ℕ) (id : FullNodeId) → slice_get a.queue.items i ≡ Some id → slice_get b.queue.items i ≡ Some id
-    pub closed : (k : ℕ) (id c : FullNodeId) → k < n → slice_get b.queue.items k ≡ Some id → Contains (listed m id) c → Contains b.queue.items c
+    pub closed : (k : ℕ) (id c : FullNodeId) → k < n → slice_get b.queue.items k ≡ Some id → Contains (listed_ids m id) c → Contains b.queue.items c
     pub reached : ((id : FullNodeId) → Contains a.queue.items id → Reached m id × (id.tree ≡ index_for w u.name)) → (id : FullNodeId) → Contains b.queue.items id → Reached m id × (id.tree ≡ index_for w u.name)
 
   pub searching_start : (a : Search) → IsSearch a → IsSearching 0 a a
   searching_start a search = record { search = search; queue = λ i id e. e; closed = λ k id c lt is h. absurd (omega arith); reached = λ all. all }
 
-  pub searching_more : (n : ℕ) (id : FullNodeId) (a b c : Search) → slice_get b.queue.items n ≡ Some id → IsSearching n a b → Adds (listed m id) b c → IsSearching (n + 1) a c
+  pub searching_more : (n : ℕ) (id : FullNodeId) (a b c : Search) → slice_get b.queue.items n ≡ Some id → IsSearching n a b → Adds (listed_ids m id) b c → IsSearching (n + 1) a c
   searching_more n id a b c is i e = record {
     search = e.search;
     queue = λ j x f. e.queue j x (i.queue j x f);
-    closed = λ k x y lt at_k h. ⊎_elim (λ before. kept b c e.queue y (i.closed k x y before (before_at k x before at_k) h)) (λ same. e.added y (subst (λ z. Contains (listed m z) y) (sym (same_Some id x (sym (e.queue n id is) ∙ ap (slice_get c.queue.items) (sym same) ∙ at_k))) h)) (below_or_last k lt);
-    reached = λ all x h. ⊎_elim (λ before. i.reached all x before) (λ listed. child x (i.reached all id (contains_at b.queue.items n id is)) listed) (e.only x h);
+    closed = λ k x y lt at_k h. ⊎_elim (λ before. kept b c e.queue y (i.closed k x y before (before_at k x before at_k) h)) (λ same. e.added y (subst (λ z. Contains (listed_ids m z) y) (sym (same_Some id x (sym (e.queue n id is) ∙ ap (slice_get c.queue.items) (sym same) ∙ at_k))) h)) (below_or_last k lt);
+    reached = λ all x h. ⊎_elim (λ before. i.reached all x before) (λ listed_ids. child x (i.reached all id (contains_at b.queue.items n id is)) listed_ids) (e.only x h);
   }
     where
       below_or_last : (k : ℕ) → k < n + 1 → (k < n) ⊎ (k ≡ n)
@@ -116,14 +116,14 @@ module _ (w : World) (u : UpdateData) where
           let there : slice_get b.queue.items k ≡ Some (get_or b.queue.items k x) = slice_get-get_or b.queue.items k x within in
           there ∙ sym (e.queue k (get_or b.queue.items k x) there) ∙ at_k
 
-      child : (x : FullNodeId) → Reached m id × (id.tree ≡ index_for w u.name) → Contains (listed m id) x → Reached m x × (x.tree ≡ index_for w u.name)
-      child x r h = let f = at_contains (listed m id) x h in (world.Reached.child id x f.0 r.0 f.1, listed_tree m (id, f.0) x f.1 ∙ r.1)
+      child : (x : FullNodeId) → Reached m id × (id.tree ≡ index_for w u.name) → Contains (listed_ids m id) x → Reached m x × (x.tree ≡ index_for w u.name)
+      child x r h = let f = at_contains (listed_ids m id) x h in (world.Reached.child id x f.0 r.0 f.1, listed_tree m (id, f.0) x f.1 ∙ r.1)
 
   pub searching_end : (n : ℕ) (a b : Search) → length b.queue.items ≤ n → IsSearching n a b → SearchesAll w u a b
   searching_end n a b all i = record {
     search = i.search;
     kept = kept a b i.queue;
-    closed = λ p c h lists. let f = at_contains b.queue.items p.0 h in let lt : f.0 < length b.queue.items = slice_get_within b.queue.items f.0 p.0 f.1 in i.closed f.0 p.0 c (omega arith) f.1 (contains_at (listed m p.0) p.1 c lists);
+    closed = λ p c h lists. let f = at_contains b.queue.items p.0 h in let lt : f.0 < length b.queue.items = slice_get_within b.queue.items f.0 p.0 f.1 in i.closed f.0 p.0 c (omega arith) f.1 (contains_at (listed_ids m p.0) p.1 c lists);
     reached = i.reached;
   }
 
@@ -149,10 +149,10 @@ module _ (w : World) (u : UpdateData) where
         let same : length (map (λ e. e.0) u.nodes) ≡ length u.nodes = length-map u.nodes (λ e. e.0) in
         omega arith
 
-    lists_of : (id : FullNodeId) (x : NodeData) → HasData m id x → listed m id ≡ map (in_tree id.tree) x.children
+    lists_of : (id : FullNodeId) (x : NodeData) → HasData m id x → listed_ids m id ≡ map (in_tree id.tree) x.children
     lists_of id x has = ap (λ o. option_map_or (λ y. map (in_tree id.tree) y.children) o []) has
 
-    pub named_lists : (id : FullNodeId) (n : Named) (e : NodeId × NodeData) → at d.named id ≡ Some n → slice_get u.nodes n.entry ≡ Some e → listed m id ≡ map (in_tree id.tree) e.1.children
+    pub named_lists : (id : FullNodeId) (n : Named) (e : NodeId × NodeData) → at d.named id ≡ Some n → slice_get u.nodes n.entry ≡ Some e → listed_ids m id ≡ map (in_tree id.tree) e.1.children
     named_lists id n e is at_entry =
         let f = k.is_named id n is in
         lists_of id e.1 (entry_named w u id n.entry k.compared.named_once f.named.0 f.entry ∙ ap (option_map (λ (x : NodeId × NodeData). x.1)) at_entry)
@@ -160,10 +160,10 @@ module _ (w : World) (u : UpdateData) where
     unnamed : (id : FullNodeId) → at d.named id ≡ None → data_of m id ≡ data_of w id
     unnamed id none = unnamed_data w u id (λ n. not_some (at d.named id) none (k.has_named id n))
 
-    pub old_lists : (id : FullNodeId) (x : NodeData) → at d.named id ≡ None → HasData w id x → listed m id ≡ map (in_tree id.tree) x.children
+    pub old_lists : (id : FullNodeId) (x : NodeData) → at d.named id ≡ None → HasData w id x → listed_ids m id ≡ map (in_tree id.tree) x.children
     old_lists id x none has = lists_of id x (unnamed id none ∙ has)
 
-    pub nothing_listed : (id : FullNodeId) → at d.named id ≡ None → data_of w id ≡ None → listed m id ≡ []
+    pub nothing_listed : (id : FullNodeId) → at d.named id ≡ None → data_of w id ≡ None → listed_ids m id ≡ []
     nothing_listed id none absent = ap (λ o. option_map_or (λ y. map (in_tree id.tree) y.children) o []) (unnamed id none ∙ absent)
 
   -- ---- what is refused
@@ -192,9 +192,9 @@ module _ (w : World) (u : UpdateData) where
           (f.0.0, p, f.0.1, f.1, here, λ gone. stays ((removal.gone p.0).1 gone))
 
       pub refined : AreListed d → ((c : FullNodeId) (place : Option Place) → at a.old_places c ≡ Some place → ¬ (IsDoubled d r c place)) → IsRefined w u
-      refined listed apart = record {
+      refined listed_ids apart = record {
         removed = removal.removed;
-        new_entered = λ n named absent. certain (decide_entered w u n) (λ none. let x = of_some (at d.named n) (k.has_named n named) in listed n (x.0, x.1, (new n x.0 x.1 absent, no_entry n none)));
+        new_entered = λ n named absent. certain (decide_entered w u n) (λ none. let x = of_some (at d.named n) (k.has_named n named) in listed_ids n (x.0, x.1, (new n x.0 x.1 absent, no_entry n none)));
         doubled_gone = λ s q c e was still. certain_gone q (λ stays. apart c (Some q) (settlement.listed c q (s, e) was) (not_left q c was still, q, refl, stays));
       }
         where

@@ -8,7 +8,7 @@ use Rattle.model.specs.declared.FullNodeId.{FullNodeId}
 use Rattle.model.specs.FullIds.{full_cmp}
 use Rattle.model.specs.World.{World, Place, StandsAt, IsNode, root_of, graft_name, in_tree}
 use Rattle.model.specs.State.{Lists}
-use Rattle.model.specs.Update.{UpdateData, MissingData, ListedTwice, Stands, index_for, merged}
+use Rattle.model.specs.Update.{UpdateData, MissingData, ListedTwice, Stands, index_for, merged_world}
 use Rattle.model.specs.Surgery.{IsOld, Spot, IsAt, Left, Entered, HasEntered, Adopts}
 use Rattle.model.proofs.Worlds.Names.{cases_id}
 use Rattle.model.proofs.State.StatePlaces.{by_place, stands_listed, root_named_parts}
@@ -63,7 +63,7 @@ adopted_here parent was a s moved other put is = record {
 
 module _ (w : World) (u : UpdateData) (o : IsOld w) where
   abbrev m : World
-  m = merged w u
+  m = merged_world w u
 
   pub stood_left : (s : Spot) (c : FullNodeId) → Left w u s c → StoodAt w c (Some s)
   stood_left s c l = record {

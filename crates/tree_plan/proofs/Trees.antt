@@ -7,7 +7,7 @@ use Rattle.schema.specs.declared.TreeId.{TreeId}
 use Rattle.schema.specs.declared.NodeId.{NodeId}
 use Rattle.model.specs.declared.FullNodeId.{FullNodeId}
 use Rattle.model.specs.World.{ROOT_NAME, World, Tree, in_tree, index_of, graft_name, root_of}
-use Rattle.model.specs.Update.{UpdateData, IsNamed, IsRebuild, KeepsRules, index_for, root_after, merged}
+use Rattle.model.specs.Update.{UpdateData, IsNamed, IsRebuild, KeepsRules, index_for, root_after, merged_world}
 use Rattle.model.specs.Surgery.{IsOld, IsDropped, IsOpened, IsPassed, IsChanged, Gone}
 use Rattle.model.proofs.Update.AcceptedOrFault.{decide_name}
 use Rattle.model.proofs.Worlds.Names.{cases_name, certain, index_of_once}
@@ -67,9 +67,9 @@ pub record KnownAlike (v new : World) (name : TreeId) : Type 0 where
   pub graft : (g : FullNodeId) → (graft_name v g ≡ Some name) ↔ (graft_name new g ≡ Some name)
   pub tree : tree_named v name ≡ tree_named new name
 
-module _ (w : World) (u : UpdateData) (o : IsOld w) (k : KeepsRules w u) (new : World) (r : IsRebuild (merged w u) new) where
+module _ (w : World) (u : UpdateData) (o : IsOld w) (k : KeepsRules w u) (new : World) (r : IsRebuild (merged_world w u) new) where
   abbrev m : World
-  m = merged w u
+  m = merged_world w u
 
   abbrev i : ℕ
   i = index_for w u.name

@@ -7,7 +7,7 @@ use Rattle.schema.specs.NodeData.{NodeData}
 use Rattle.schema.specs.declared.NodeId.{NodeId}
 use Rattle.model.specs.declared.FullNodeId.{FullNodeId}
 use Rattle.model.specs.World.{World, Kept, Reached}
-use Rattle.model.specs.Update.{UpdateData, IsNamed, index_for, merged}
+use Rattle.model.specs.Update.{UpdateData, IsNamed, index_for, merged_world}
 use Rattle.model.specs.Work.{named_ids}
 use Rattle.model.specs.Surgery.{IsOld, Adopts, IsLive, IsRefined, IsClimbed, LeadsDown, AreSteps}
 use Rattle.model.proofs.Members.{contains_first, contains_later}
@@ -18,7 +18,7 @@ use Rattle.tree_plan.proofs.Ascents.{entry_at, leads_tree}
 
 module _ (w : World) (u : UpdateData) where
   abbrev m : World
-  m = merged w u
+  m = merged_world w u
 
   -- the named ids are the named nodes
   pub id_named : (q : FullNodeId) → Contains (named_ids w u) q → IsNamed w u q

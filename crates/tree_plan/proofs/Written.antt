@@ -12,7 +12,7 @@ use Rattle.model.specs.Run.{AreToldBy}
 use Rattle.model.specs.Work.{Work, IsWorkOf}
 use Rattle.tree_changes.specs.declared.look_ups.TreeRecord.{TreeRecord}
 use Rattle.tree_changes.specs.declared.decision.Decision.{Decision}
-use Rattle.tree_changes.specs.Changes.{overlaid}
+use Rattle.tree_changes.specs.Changes.{overlaid_world}
 use Rattle.tree_changes.specs.Decisions.{IsDecision}
 use Rattle.tree_plan.specs.declared.passes.Focused.{Focused}
 use Rattle.tree_plan.specs.declared.verdicts.Found.{Found}
@@ -33,7 +33,7 @@ module _ (s : Step) (f : Found) (h : IsFound s f) (vs : Verdicts) (sorted : IsOr
     after : AreAfter s.old s.update h.old h.kept s.new h.rebuilt (f.removed.now.trees.items ++ f.regrafted.now.trees.items ++ trees.0)
     after = all_after s.old s.update h.old h.kept s.new h.rebuilt f.opened.now f.removed.now.trees.items f.regrafted.now.trees.items trees.0 h.opening h.removal.trees h.regrafting.gained own_part
 
-    pub written_new : overlaid s.old s.update d ≡ s.new
+    pub written_new : overlaid_world s.old s.update d ≡ s.new
     written_new = overlaid_is s f h vs sorted becomes (f.removed.now.trees.items ++ f.regrafted.now.trees.items ++ trees.0) after d nodes trees.1
 
     module _ (focused : Focused) (focusing : IsFocusing s.old s.update focused) (quiet : IsTrue f.opened.now.is_first → d.events.items ≡ []) (tell : ¬ (IsTrue f.opened.now.is_first) → AreEvents vs focused d.events.items) where

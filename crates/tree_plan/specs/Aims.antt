@@ -5,7 +5,7 @@ use Rattle.schema.specs.NodeData.{NodeData}
 use Rattle.model.specs.declared.FullNodeId.{FullNodeId}
 use Rattle.model.specs.World.{World, IsNode, HasData, in_tree, graft_name, Reached}
 use Rattle.model.specs.Focus.{OnChain}
-use Rattle.model.specs.Update.{UpdateData, IsNamed, merged}
+use Rattle.model.specs.Update.{UpdateData, IsNamed, merged_world}
 use Rattle.model.specs.Surgery.{Gone}
 use Rattle.tree_plan.specs.declared.passes.Compared.{Compared}
 use Rattle.tree_plan.specs.declared.passes.Removed.{Removed}
@@ -38,7 +38,7 @@ IsLost w u id = ¬ (IsNamed w u id) × (Gone w u id ⊎ ¬ (IsNode w id))
 
 -- what is asked of a node after the update, and nothing of one that is lost
 abbrev pub FindsAim : World → UpdateData → Compared → Removed → FullNodeId → Option Aim → Type 0
-FindsAim w u c r id aim = MatchOption aim (IsLost w u id) (λ a. Stays w c r id × IsAimIn (merged w u) id a)
+FindsAim w u c r id aim = MatchOption aim (IsLost w u id) (λ a. Stays w c r id × IsAimIn (merged_world w u) id a)
 
 -- the answer where the host is focused, and else none
 abbrev pub AnswersHost : World → (FullNodeId → Type 0) → End → Option FullNodeId → Type 0

@@ -3,7 +3,7 @@ use Rattle.std.specs.Prelude.{◌≡◌, ℕ, ◌+◌, List, [], ◌∷◌, Cont
 use Rattle.std.specs.BTreeMap.{BTreeMap}
 use Rattle.model.specs.declared.FullNodeId.{FullNodeId}
 use Rattle.model.specs.World.{World, in_tree, StandsAt, IsNode, Reached}
-use Rattle.model.specs.Update.{UpdateData, merged}
+use Rattle.model.specs.Update.{UpdateData, merged_world}
 use Rattle.model.specs.Surgery.{Adopts, LeadsDown}
 use Rattle.model.specs.Work.{named_ids}
 use Rattle.tree_changes.specs.Looks.{IsPlaceOf}
@@ -31,18 +31,18 @@ first_ids w u n = take n (named_ids w u)
 
 -- the nodes that climbs from these nodes came to, each with the node from which it was: all of them are reached
 pub record AreClimbed (w : World) (u : UpdateData) (starts : List FullNodeId) (climbed : BTreeMap FullNodeId FullNodeId) : Type 0 where
-  pub reached : (n q : FullNodeId) → at climbed n ≡ Some q → Reached (merged w u) n
+  pub reached : (n q : FullNodeId) → at climbed n ≡ Some q → Reached (merged_world w u) n
   pub begun : (n q : FullNodeId) → at climbed n ≡ Some q → Contains starts q
 
 -- in so many steps a climb from q came to a reached node, or it stayed where it began
 abbrev pub IsWay : World → UpdateData → FullNodeId → ℕ → Type 0
-IsWay w u q steps = (x : FullNodeId) × LeadsDown (merged w u) x q steps × (Reached (merged w u) x ⊎ (x ≡ q))
+IsWay w u q steps = (x : FullNodeId) × LeadsDown (merged_world w u) x q steps × (Reached (merged_world w u) x ⊎ (x ≡ q))
 
 -- the node of this entry is reached where it got a child, and so many steps are climbed from it
 pub record IsClimbedFrom (w : World) (u : UpdateData) (entry steps : ℕ) : Type 0 where
   pub start : FullNodeId
   pub at : slice_get (named_ids w u) entry ≡ Some start
-  pub reached : Adopts w u start → Reached (merged w u) start
+  pub reached : Adopts w u start → Reached (merged_world w u) start
   pub way : IsWay w u start steps
 
 -- the steps of climbs from these nodes, all together

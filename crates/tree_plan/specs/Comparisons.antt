@@ -7,8 +7,8 @@ use Rattle.schema.specs.declared.NodeId.{NodeId}
 use Rattle.schema.specs.declared.TreeId.{TreeId}
 use Rattle.model.specs.declared.FullNodeId.{FullNodeId}
 use Rattle.model.specs.FullIds.{full_cmp}
-use Rattle.model.specs.World.{ROOT_NAME, World, Place, IsNode, data_of, in_tree, listed, graft_name}
-use Rattle.model.specs.Update.{UpdateData, index_for, merged, IsNamed, named_at}
+use Rattle.model.specs.World.{ROOT_NAME, World, Place, IsNode, data_of, in_tree, listed_ids, graft_name}
+use Rattle.model.specs.Update.{UpdateData, index_for, merged_world, IsNamed, named_at}
 use Rattle.model.specs.Surgery.{Spot, Left, Entered}
 use Rattle.tree_changes.specs.Looks.{IsPlaceOf}
 use Rattle.tree_changes.specs.declared.error.UpdateError.{UpdateError}
@@ -116,7 +116,7 @@ pub record ComparesNode (w : World) (id : FullNodeId) (entry : ℕ) (d : NodeDat
   pub grafted : TakesGraft id d (at_name a.grafted) (at_name b.grafted)
   pub n : Named
   pub is_entry : IsEntryOf w id entry d n
-  pub compares : ComparesData id n (listed w id) (graft_name w id) d a b
+  pub compares : ComparesData id n (listed_ids w id) (graft_name w id) d a b
 
 -- the root is compared with the one before, and nothing else
 pub record Begins (o : Opened) (named : BTreeMap FullNodeId Named) (c : Compared) : Type 0 where
@@ -129,7 +129,7 @@ pub record Begins (o : Opened) (named : BTreeMap FullNodeId Named) (c : Compared
 
 -- what can be wrong with it
 abbrev pub IsNodeFault : World → FullNodeId → NodeData → Compared → UpdateError → Type 0
-IsNodeFault w id d a (error.ListedTwice n) = IsFoundTwice (OnlyIn id (child_ids id d) (listed w id)) (at a.entered) (error.ListedTwice n)
+IsNodeFault w id d a (error.ListedTwice n) = IsFoundTwice (OnlyIn id (child_ids id d) (listed_ids w id)) (at a.entered) (error.ListedTwice n)
 IsNodeFault w id d a e = IsGraftFault id d (at_name a.grafted) e
 
 -- the root's spot, and those in the lists of the nodes that the first so many entries name
@@ -139,15 +139,15 @@ IsDone w u count (Some p) = IsNamedBefore w u count p.0
 
 -- the root and the nodes that the first so many entries name have been compared
 pub record AreCompared (w : World) (u : UpdateData) (count : ℕ) (c : Compared) : Type 0 where
-  pub ungrafting : (n : FullNodeId) → IsNamedBefore w u count n → graft_name (merged w u) n ≢ Some ROOT_NAME
-  pub childless : (n : FullNodeId) (name : TreeId) → IsNamedBefore w u count n → graft_name (merged w u) n ≡ Some name → listed (merged w u) n ≡ []
+  pub ungrafting : (n : FullNodeId) → IsNamedBefore w u count n → graft_name (merged_world w u) n ≢ Some ROOT_NAME
+  pub childless : (n : FullNodeId) (name : TreeId) → IsNamedBefore w u count n → graft_name (merged_world w u) n ≡ Some name → listed_ids (merged_world w u) n ≡ []
   pub is_named : (id : FullNodeId) (n : Named) → IsNamedBefore w u count id → at c.named id ≡ Some n → IsNamedAs w u id n
   pub has_named : (id : FullNodeId) → IsSome (at c.named id) ↔ IsNamed w u id
   pub left : (id : FullNodeId) (s : Spot) → (at c.left id ≡ Some s) ↔ (Left w u s id × IsDone w u count s)
   pub entered : (id : FullNodeId) (s : Spot) → (at c.entered id ≡ Some s) ↔ (Entered w u s id × IsDone w u count s)
-  pub grafted : (name : TreeId) (n : FullNodeId) → (at_name c.grafted name ≡ Some n) ↔ (IsNamedBefore w u count n × (graft_name (merged w u) n ≡ Some name))
-  pub lost : (name : TreeId) → Contains c.lost.items name ↔ ((n : FullNodeId) × IsNamedBefore w u count n × (graft_name w n ≡ Some name) × (graft_name (merged w u) n ≢ Some name))
-  pub gained : (name : TreeId) → Contains c.gained.items name ↔ ((n : FullNodeId) × IsNamedBefore w u count n × (graft_name (merged w u) n ≡ Some name) × (graft_name w n ≢ Some name))
+  pub grafted : (name : TreeId) (n : FullNodeId) → (at_name c.grafted name ≡ Some n) ↔ (IsNamedBefore w u count n × (graft_name (merged_world w u) n ≡ Some name))
+  pub lost : (name : TreeId) → Contains c.lost.items name ↔ ((n : FullNodeId) × IsNamedBefore w u count n × (graft_name w n ≡ Some name) × (graft_name (merged_world w u) n ≢ Some name))
+  pub gained : (name : TreeId) → Contains c.gained.items name ↔ ((n : FullNodeId) × IsNamedBefore w u count n × (graft_name (merged_world w u) n ≡ Some name) × (graft_name w n ≢ Some name))
   pub lost_once : AllPairs (λ a b. a ≢ b) c.lost.items
   pub gained_once : AllPairs (λ a b. a ≢ b) c.gained.items
   pub named_count : length c.named.entries ≡ length u.nodes

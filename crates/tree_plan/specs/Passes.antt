@@ -12,7 +12,7 @@ use Rattle.model.specs.FullIds.{full_cmp}
 use Rattle.model.specs.World.{World, Place, IsNode, data_of, in_tree, index_of, root_of, root_named, graft_name}
 use Rattle.model.specs.Focus.{IsFocus, IsEffectiveFocus}
 use Rattle.model.specs.State.{Lists}
-use Rattle.model.specs.Update.{UpdateData, IsFirst, IsNamed, IsRebuild, index_for, merged, named_at}
+use Rattle.model.specs.Update.{UpdateData, IsFirst, IsNamed, IsRebuild, index_for, merged_world, named_at}
 use Rattle.model.specs.Surgery.{Left, Entered, HasEntered, IsGraftedByNamed, Gone, Adopts, IsOpened, IsCompared, IsSettled, IsRemoved, IsPassed}
 use Rattle.tree_changes.specs.declared.look_ups.TreeRecord.{TreeRecord}
 use Rattle.tree_changes.specs.Looks.{IsPlaceOf, tree_named}
@@ -50,7 +50,7 @@ pub record IsOpening (w : World) (u : UpdateData) (o : Opened) : Type 0 where
   pub opened : IsOpened w u
   pub record_of : IsOfName w u.name o.record
   pub index : o.index ≡ index_for w u.name
-  pub root : root_of (merged w u) o.index ≡ Some (in_tree o.index o.root)
+  pub root : root_of (merged_world w u) o.index ≡ Some (in_tree o.index o.root)
   pub first : IsTrue o.is_first ↔ IsFirst w
 
 -- an entry names the node, it was an old node at this place or a new one, and its data are others than before or the same
@@ -59,13 +59,13 @@ pub record IsNamedAs (w : World) (u : UpdateData) (id : FullNodeId) (n : Named) 
   pub entry : named_at u n.entry ≡ Some id.node
   pub new : n.was ≡ None → ¬ (IsNode w id)
   pub old : (was : Option Place) → n.was ≡ Some was → IsNode w id × IsPlaceOf w id was
-  pub news : IsTrue n.is_news ↔ (data_of w id ≢ data_of (merged w u) id)
+  pub news : IsTrue n.is_news ↔ (data_of w id ≢ data_of (merged_world w u) id)
 
 abbrev pub Loses : World → UpdateData → TreeId → Type 0
-Loses w u name = (n : FullNodeId) × IsNamed w u n × (graft_name w n ≡ Some name) × (graft_name (merged w u) n ≢ Some name)
+Loses w u name = (n : FullNodeId) × IsNamed w u n × (graft_name w n ≡ Some name) × (graft_name (merged_world w u) n ≢ Some name)
 
 abbrev pub Gains : World → UpdateData → FullNodeId → TreeId → Type 0
-Gains w u n name = IsNamed w u n × (graft_name (merged w u) n ≡ Some name) × (graft_name w n ≢ Some name)
+Gains w u n name = IsNamed w u n × (graft_name (merged_world w u) n ≡ Some name) × (graft_name w n ≢ Some name)
 
 -- pass 1: the named nodes against their old records
 pub record IsComparison (w : World) (u : UpdateData) (c : Compared) : Type 0 where
@@ -74,7 +74,7 @@ pub record IsComparison (w : World) (u : UpdateData) (c : Compared) : Type 0 whe
   pub has_named : (id : FullNodeId) → IsNamed w u id → IsSome (at c.named id)
   pub left : (id : FullNodeId) (s : Option Place) → (at c.left id ≡ Some s) ↔ Left w u s id
   pub entered : (id : FullNodeId) (s : Option Place) → (at c.entered id ≡ Some s) ↔ Entered w u s id
-  pub grafted : (name : TreeId) (n : FullNodeId) → (at_name c.grafted name ≡ Some n) ↔ (IsNamed w u n × (graft_name (merged w u) n ≡ Some name))
+  pub grafted : (name : TreeId) (n : FullNodeId) → (at_name c.grafted name ≡ Some n) ↔ (IsNamed w u n × (graft_name (merged_world w u) n ≡ Some name))
   pub lost : (name : TreeId) → Contains c.lost.items name ↔ Loses w u name
   pub gained : (name : TreeId) → Contains c.gained.items name ↔ ((n : FullNodeId) × Gains w u n name)
   pub lost_once : AllPairs (λ a b. a ≢ b) c.lost.items
@@ -126,5 +126,5 @@ pub record IsRegrafting (w : World) (u : UpdateData) (trees : List TreeRecord) (
 -- pass 7: the focus before, and in the rebuilt world
 pub record IsFocusing (w : World) (u : UpdateData) (f : Focused) : Type 0 where
   pub before : ¬ (IsFirst w) → IsFocus w f.before
-  pub effective : (new : World) → IsRebuild (merged w u) new → IsEffectiveFocus new f.effective
-  pub after : (new : World) → IsRebuild (merged w u) new → IsFocus new f.after
+  pub effective : (new : World) → IsRebuild (merged_world w u) new → IsEffectiveFocus new f.effective
+  pub after : (new : World) → IsRebuild (merged_world w u) new → IsFocus new f.after

@@ -10,7 +10,7 @@ use Rattle.model.specs.World.{World, Place, StandsAt, data_of}
 use Rattle.model.specs.Focus.{IsEffectiveFocus}
 use Rattle.model.specs.Update.{UpdateData, InfoData, IsFirst, IsAccepted}
 use Rattle.model.specs.Run.{AreToldBy}
-use Rattle.model.specs.Work.{Work, IsWorkOf, allowed}
+use Rattle.model.specs.Work.{Work, IsWorkOf, allowance}
 use Rattle.tree_changes.specs.declared.look_ups.TreeRecord.{TreeRecord}
 use Rattle.tree_changes.specs.declared.decision.NodeChange.{NodeChange}
 use Rattle.tree_changes.specs.declared.decision.NodeChange.TheVariants as node
@@ -20,7 +20,7 @@ use Rattle.tree_changes.specs.declared.plan.Plan.{Plan}
 use Rattle.tree_changes.specs.Looks.{IsPlaceOf, IsTreeRecord}
 use Rattle.tree_changes.specs.Changes.{tree_after}
 use Rattle.tree_changes.specs.Decisions.{Differs}
-use Rattle.tree_changes.specs.Plans.{tree_changes, planned}
+use Rattle.tree_changes.specs.Plans.{tree_changes, planned_world}
 
 -- the nodes whose records change
 abbrev pub changed_nodes : List Change → List FullNodeId
@@ -32,31 +32,31 @@ changed_nodes (TreeChange t ∷ cs) = changed_nodes cs
 -- What a plan of an accepted update says: its changes make the rebuilt world, one for each record that differs; the focus is the effective one
 -- there; and the events are the differences. Of the first update nothing is told.
 pub record IsPlan (w : World) (u : UpdateData) (p : Plan) : Type 0 where
-  pub accepted : IsAccepted w u (planned w p)
+  pub accepted : IsAccepted w u (planned_world w p)
   pub once : IsStrictlySortedBy full_cmp (changed_nodes p.changes.items)
-  pub changes : (id : FullNodeId) → Contains (changed_nodes p.changes.items) id → Differs w (planned w p) id
-  pub places : (id : FullNodeId) (place : Option Place) (given : Option NodeData) → Contains p.changes.items (Put id place given) → IsPlaceOf (planned w p) id place
-  pub others : (id : FullNodeId) → ¬ (Contains (changed_nodes p.changes.items) id) → (data_of w id ≡ data_of (planned w p) id) × ((at : Place) → StandsAt w at id ↔ StandsAt (planned w p) at id)
+  pub changes : (id : FullNodeId) → Contains (changed_nodes p.changes.items) id → Differs w (planned_world w p) id
+  pub places : (id : FullNodeId) (place : Option Place) (given : Option NodeData) → Contains p.changes.items (Put id place given) → IsPlaceOf (planned_world w p) id place
+  pub others : (id : FullNodeId) → ¬ (Contains (changed_nodes p.changes.items) id) → (data_of w id ≡ data_of (planned_world w p) id) × ((at : Place) → StandsAt w at id ↔ StandsAt (planned_world w p) at id)
   pub trees_once : AllPairs (λ a b. a.id ≢ b.id) (tree_changes p.changes.items)
-  pub trees : (name : TreeId) (r : Option TreeRecord) → IsTreeRecord w name r → IsTreeRecord (planned w p) name (tree_after (tree_changes p.changes.items) name r)
-  pub focus : IsEffectiveFocus (planned w p) p.focus
-  pub told : ¬ (IsFirst w) → AreToldBy w u (planned w p) p.events.items
+  pub trees : (name : TreeId) (r : Option TreeRecord) → IsTreeRecord w name r → IsTreeRecord (planned_world w p) name (tree_after (tree_changes p.changes.items) name r)
+  pub focus : IsEffectiveFocus (planned_world w p) p.focus
+  pub told : ¬ (IsFirst w) → AreToldBy w u (planned_world w p) p.events.items
   pub quiet : IsFirst w → p.events.items ≡ []
 
 -- The look-ups, from `before` to `after`, with two for each event and each change, are within what is allowed.
 abbrev pub IsPlannedWithin : World → UpdateData → Plan → ℕ → ℕ → Type 0
 IsPlannedWithin w u p before after =
-    (work : Work) → IsWorkOf w u (planned w p) work → after + 2 * (length p.events.items + length p.changes.items) ≤ before + allowed work
+    (work : Work) → IsWorkOf w u (planned_world w p) work → after + 2 * (length p.events.items + length p.changes.items) ≤ before + allowance work
 
 -- what a slot has, if it is there and isn't taken
 abbrev pub slot_data : List (Option NodeData) → ℕ → Option NodeData
 slot_data slots k = option_and_then (λ s. s) (slice_get slots k)
 
 -- the change of a node's record, with its data out of these slots
-abbrev pub moved : List (Option NodeData) → FullNodeId × NodeChange → Change
-moved slots (id, node.Put place (Some k)) = Put id place (slot_data slots k)
-moved slots (id, node.Put place None) = Put id place None
-moved slots (id, node.Gone) = Gone id
+abbrev pub plan_change : List (Option NodeData) → FullNodeId × NodeChange → Change
+plan_change slots (id, node.Put place (Some k)) = Put id place (slot_data slots k)
+plan_change slots (id, node.Put place None) = Put id place None
+plan_change slots (id, node.Gone) = Gone id
 
 abbrev pub entry_of : NodeChange → Option ℕ
 entry_of (node.Put place entry) = entry

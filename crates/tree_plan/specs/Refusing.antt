@@ -4,7 +4,7 @@ use Rattle.std.specs.BTreeSet.{BTreeSet}
 use Rattle.model.specs.declared.FullNodeId.{FullNodeId}
 use Rattle.model.specs.World.{World, Place, Reached}
 use Rattle.model.specs.State.{Lists}
-use Rattle.model.specs.Update.{UpdateData, index_for, merged}
+use Rattle.model.specs.Update.{UpdateData, index_for, merged_world}
 use Rattle.model.specs.Surgery.{Spot, Entered, Gone}
 use Rattle.tree_changes.specs.declared.error.UpdateError.{UpdateError}
 use Rattle.tree_changes.specs.declared.error.UpdateError.TheVariants as error
@@ -35,7 +35,7 @@ IsDoubled c r id place = (at c.left id ≡ None) × (p : Place) × (place ≡ So
 
 -- a node that entered is still listed where it was, by a node that doesn't go
 abbrev pub IsListedStill : World → UpdateData → FullNodeId → Type 0
-IsListedStill w u c = (s : Spot) × (q : Place) × Entered w u s c × Lists w q c × Lists (merged w u) q c × ¬ (Gone w u q.0)
+IsListedStill w u c = (s : Spot) × (q : Place) × Entered w u s c × Lists w q c × Lists (merged_world w u) q c × ¬ (Gone w u q.0)
 
 -- what is seen is what the queue has
 abbrev pub IsSearch : Search → Type 0
@@ -52,13 +52,13 @@ pub record Adds (ids : List FullNodeId) (a b : Search) : Type 0 where
 pub record SearchesAll (w : World) (u : UpdateData) (a b : Search) : Type 0 where
   pub search : IsSearch b
   pub kept : (id : FullNodeId) → Contains a.queue.items id → Contains b.queue.items id
-  pub closed : (p : Place) (c : FullNodeId) → Contains b.queue.items p.0 → Lists (merged w u) p c → Contains b.queue.items c
-  pub reached : ((id : FullNodeId) → Contains a.queue.items id → Reached (merged w u) id × (id.tree ≡ index_for w u.name))
-      → (id : FullNodeId) → Contains b.queue.items id → Reached (merged w u) id × (id.tree ≡ index_for w u.name)
+  pub closed : (p : Place) (c : FullNodeId) → Contains b.queue.items p.0 → Lists (merged_world w u) p c → Contains b.queue.items c
+  pub reached : ((id : FullNodeId) → Contains a.queue.items id → Reached (merged_world w u) id × (id.tree ≡ index_for w u.name))
+      → (id : FullNodeId) → Contains b.queue.items id → Reached (merged_world w u) id × (id.tree ≡ index_for w u.name)
 
 -- the nodes of the named tree that are reached afterwards
 abbrev pub HasReached : World → UpdateData → BTreeSet FullNodeId → Type 0
-HasReached w u s = (id : FullNodeId) → has s id ↔ (Reached (merged w u) id × (id.tree ≡ index_for w u.name))
+HasReached w u s = (id : FullNodeId) → has s id ↔ (Reached (merged_world w u) id × (id.tree ≡ index_for w u.name))
 
 -- the error names a named node that isn't reached, or where all are the double
 abbrev pub Explains : Compared → BTreeSet FullNodeId → FullNodeId → UpdateError → Type 0

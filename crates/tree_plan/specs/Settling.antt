@@ -3,7 +3,7 @@ use Rattle.std.specs.Prelude.{◌≡◌, ◌≢◌, ℕ, false, ◌||◌, is_som
 use Rattle.model.specs.declared.FullNodeId.{FullNodeId}
 use Rattle.model.specs.World.{World, Place, IsNode, root_of}
 use Rattle.model.specs.State.{Lists}
-use Rattle.model.specs.Update.{UpdateData, index_for, merged}
+use Rattle.model.specs.Update.{UpdateData, index_for, merged_world}
 use Rattle.model.specs.Surgery.{Spot, Entered, HasEntered, Adopts}
 use Rattle.tree_plan.specs.declared.passes.Settled.{Settled}
 use Rattle.tree_plan.specs.Passes.{at, has}
@@ -11,7 +11,7 @@ use Rattle.tree_plan.specs.Passes.{at, has}
 -- the node entered, and no place as the root that it is
 pub record Comes (w : World) (u : UpdateData) (c : FullNodeId) : Type 0 where
   pub entered : HasEntered w u c
-  pub root : root_of (merged w u) (index_for w u.name) ≡ Some c → Entered w u None c
+  pub root : root_of (merged_world w u) (index_for w u.name) ≡ Some c → Entered w u None c
 
 -- where a node stood: an old one at a place of a list, or at none, and a new one nowhere
 pub record StoodAt (w : World) (id : FullNodeId) (was : Option (Option Place)) : Type 0 where
@@ -51,8 +51,8 @@ pub record Settles (w : World) (a b : Settled) : Type 0 where
 
 -- a node that entered this spot is settled
 pub record IsSettledAt (w : World) (u : UpdateData) (c : FullNodeId) (s : Spot) (a : Settled) : Type 0 where
-  pub is_node : IsNode (merged w u) c
-  pub unlisted : (p : Place) → s ≡ Some p → root_of (merged w u) (index_for w u.name) ≢ Some c
+  pub is_node : IsNode (merged_world w u) c
+  pub unlisted : (p : Place) → s ≡ Some p → root_of (merged_world w u) (index_for w u.name) ≢ Some c
   pub listed : (q : Place) → Lists w q c → at a.old_places c ≡ Some (Some q)
   pub adopter : (p : Place) → s ≡ Some p → ((j : ℕ) → ¬ (Lists w (p.0, j) c)) → has a.adopters p.0
   pub unmoved : a.has_moved ≡ false → (p : Place) → s ≡ Some p → IsNode w c → (k : ℕ) × Lists w (p.0, k) c

@@ -4,13 +4,13 @@ use Rattle.std.specs.BTreeMap.{BTreeMap}
 use Rattle.model.specs.declared.FullNodeId.{FullNodeId}
 use Rattle.model.specs.World.{World, Place, IsNode, data_of}
 use Rattle.model.specs.Forest.{place_of}
-use Rattle.model.specs.Update.{UpdateData, IsRebuild, KeepsRules, index_for, merged}
+use Rattle.model.specs.Update.{UpdateData, IsRebuild, KeepsRules, index_for, merged_world}
 use Rattle.model.specs.Differences.{IsAdded, IsInBoth, told_root}
 use Rattle.model.specs.Surgery.{IsOld}
 use Rattle.tree_changes.specs.declared.decision.NodeChange.{NodeChange}
 use Rattle.tree_changes.specs.declared.decision.NodeChange.TheVariants.{Put}
 use Rattle.tree_changes.specs.Looks.{IsPlaceOf}
-use Rattle.tree_changes.specs.Changes.{changed}
+use Rattle.tree_changes.specs.Changes.{changed_data}
 use Rattle.tree_changes.specs.Decisions.{IsChangeOf}
 use Rattle.tree_plan.specs.declared.verdicts.Verdict.{Verdict}
 use Rattle.tree_plan.specs.declared.verdicts.Verdict.TheVariants.{Added, Updated, Told, Removed}
@@ -31,12 +31,12 @@ pub record IsFound (s : Step) (f : Found) : Type 0 where
   pub removal : IsRemoval s.old s.update f.removed.now
   pub regrafting : IsRegrafting s.old s.update f.regrafted.now.trees.items f.regrafted.now.moved_in
   pub kept : KeepsRules s.old s.update
-  pub rebuilt : IsRebuild (merged s.old s.update) s.new
+  pub rebuilt : IsRebuild (merged_world s.old s.update) s.new
   pub told : f.told ≡ told_root (index_for s.old s.update.name) s.update.info
 
 -- the change is one of this node, and gives it its data
 abbrev pub Makes : Step → FullNodeId → NodeChange → Type 0
-Makes s id c = IsChangeOf s.old s.update s.new id c × (changed s.update.nodes c (data_of s.old id) ≡ data_of s.new id)
+Makes s id c = IsChangeOf s.old s.update s.new id c × (changed_data s.update.nodes c (data_of s.old id) ≡ data_of s.new id)
 
 -- the node has the data and the place that it had
 abbrev pub Stays : Step → FullNodeId → Type 0

@@ -59,15 +59,15 @@ abbrev pub told_of : Group → FullNodeId × Verdict → List PlanEvent
 told_of g e = event_in (group_of e.1) g e.0
 
 -- a focused node, unless there is a verdict on it
-abbrev pub untold : (FullNodeId → Option Verdict) → Option FullNodeId → List PlanEvent
-untold verdicts None = []
-untold verdicts (Some id) = if is_some (verdicts id) then [] else event.Updated id ∷ []
+abbrev pub untold_updates : (FullNodeId → Option Verdict) → Option FullNodeId → List PlanEvent
+untold_updates verdicts None = []
+untold_updates verdicts (Some id) = if is_some (verdicts id) then [] else event.Updated id ∷ []
 
 -- what a move of the focus tells
 abbrev pub IsMove : (FullNodeId → Option Verdict) → Option FullNodeId → Option FullNodeId → List PlanEvent → Type 0
 IsMove verdicts before after events =
     ((before ≡ after) × (events ≡ []))
-    ⊎ ((before ≢ after) × (events ≡ untold verdicts before ++ untold verdicts after ++ event.FocusMoved before after ∷ []))
+    ⊎ ((before ≢ after) × (events ≡ untold_updates verdicts before ++ untold_updates verdicts after ++ event.FocusMoved before after ∷ []))
 
 -- the record of the named tree afterwards, where the update declares this focus
 abbrev pub own_record : TreeId → NodeId → Opened → TreeRecord

@@ -1,7 +1,7 @@
 //! The named nodes against their old records.
 ghost use Rattle.std.specs.Prelude.{◌≡◌, ◌≢◌, ℕ, ◌+◌, ◌<◌, ◌≤◌, ◌↔◌, IsTrue, IsSome, IfOk, IfErr, OnOk, Some, None, length, map, option_map, slice_get};
 ghost use Rattle.schema.specs.UpdateData.{update_data};
-ghost use Rattle.model.specs.World.{in_tree, listed, data_of, graft_name};
+ghost use Rattle.model.specs.World.{in_tree, listed_ids, data_of, graft_name};
 ghost use Rattle.model.specs.Surgery.{IsOld};
 ghost use Rattle.tree_changes.specs.declared.error.UpdateError.TheVariants.{Memory};
 ghost use Rattle.tree_changes.specs.Refusals.{IsRefusal};

@@ -1,10 +1,10 @@
 //! The decision on an update, pass by pass.
 ghost use Rattle.std.specs.Prelude.{◌≡◌, ◌≤◌, ◌+◌, ◌*◌, length, IfOk, IfErr, OnOk};
 ghost use Rattle.schema.specs.UpdateData.{update_data};
-ghost use Rattle.model.specs.Update.{IsRebuild, KeepsRules, merged};
+ghost use Rattle.model.specs.Update.{IsRebuild, KeepsRules, merged_world};
 ghost use Rattle.model.specs.Work.{Work, IsWorkOf};
 ghost use Rattle.model.specs.Surgery.{IsOld};
-ghost use Rattle.tree_changes.specs.Changes.{overlaid};
+ghost use Rattle.tree_changes.specs.Changes.{overlaid_world};
 ghost use Rattle.tree_changes.specs.Decisions.{IsDecision, IsWithinWork};
 ghost use Rattle.tree_changes.specs.Refusals.{IsRefusal};
 ghost use Rattle.tree_plan.specs.Deciding.{AreFindings, IsCount};
@@ -75,17 +75,17 @@ fn conclude<L: LookUps>(
     ghost step: { Step }
     requires old { step.old ≡ L.world look_ups.old }
     requires update { step.update ≡ update_data update.now }
-    requires new { IsRebuild (merged step.old step.update) step.new }
+    requires new { IsRebuild (merged_world step.old step.update) step.new }
     requires findings { AreFindings step.old step.update findings.now }
     ensures world { L.world look_ups.new ≡ L.world look_ups.old }
     ensures err { IfErr result (λ e. IsRefusal step.old step.update e) }
     ensures kept { OnOk result (KeepsRules step.old step.update) }
     ensures ok { IfOk result (IsDecision step.old step.update) }
-    ensures new { IfOk result (λ d. overlaid step.old step.update d ≡ step.new) }
+    ensures new { IfOk result (λ d. overlaid_world step.old step.update d ≡ step.new) }
     ensures small { IfOk result (λ d. (work : Work) → IsWorkOf step.old step.update step.new work
         → IsSmall findings.now.compared findings.now.removed findings.now.regrafted d work) }
     ensures count { OnOk result (L.asked look_ups.new
-        ≤ L.asked look_ups.old + 4 * length (merged step.old step.update).known + 2) }
+        ≤ L.asked look_ups.old + 4 * length (merged_world step.old step.update).known + 2) }
 {
     let Findings {
         opened,

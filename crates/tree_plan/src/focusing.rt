@@ -5,7 +5,7 @@ ghost use Rattle.std.specs.Option.{option_map};
 ghost use Rattle.schema.specs.UpdateData.{update_data};
 ghost use Rattle.model.specs.World.{IsNode, focus_named, in_tree, Reached};
 ghost use Rattle.model.specs.Focus.{IsFocus};
-ghost use Rattle.model.specs.Update.{IsFirst, KeepsRules, merged};
+ghost use Rattle.model.specs.Update.{IsFirst, KeepsRules, merged_world};
 ghost use Rattle.model.specs.Surgery.{IsOld, IsPassed};
 ghost use Rattle.schema.specs.NodeData.{NodeData};
 ghost use Rattle.tree_changes.specs.Changes.{entry_data};
@@ -51,8 +51,8 @@ pub(crate) fn find_focus<L: LookUps>(
     ensures err { IfErr result (λ e. IsRefusal (L.world look_ups.old) (update_data update.now) e) }
     ensures ok { IfOk result (λ f. IsFocusing (L.world look_ups.old) (update_data update.now) f) }
     ensures keeps { IfOk result (λ f. KeepsRules (L.world look_ups.old) (update_data update.now)) }
-    ensures ends { IfOk result (λ f. EndsWell (merged (L.world look_ups.old) (update_data update.now)) f.effective) }
-    ensures counts { IfOk result (λ f. let m = merged (L.world look_ups.old) (update_data update.now) in
+    ensures ends { IfOk result (λ f. EndsWell (merged_world (L.world look_ups.old) (update_data update.now)) f.effective) }
+    ensures counts { IfOk result (λ f. let m = merged_world (L.world look_ups.old) (update_data update.now) in
         L.asked look_ups.new ≤ L.asked look_ups.old + 4 * length m.known + 2) }
 {
     let before = focus_before(look_ups, opened);
@@ -191,9 +191,9 @@ fn end_after<L: LookUps>(
     requires passed { IsPassed (L.world look_ups.old) (update_data update.now) }
     ensures world { L.world look_ups.new ≡ L.world look_ups.old }
     ensures err { IfErr result (λ e. IsRefusal (L.world look_ups.old) (update_data update.now) e) }
-    ensures end { IfOk result (λ e. IsEnd (merged (L.world look_ups.old) (update_data update.now)) e) }
-    ensures reached { IfOk result (λ e. Reached (merged (L.world look_ups.old) (update_data update.now)) e.id) }
-    ensures counts { IfOk result (λ e. let m = merged (L.world look_ups.old) (update_data update.now) in
+    ensures end { IfOk result (λ e. IsEnd (merged_world (L.world look_ups.old) (update_data update.now)) e) }
+    ensures reached { IfOk result (λ e. Reached (merged_world (L.world look_ups.old) (update_data update.now)) e.id) }
+    ensures counts { IfOk result (λ e. let m = merged_world (L.world look_ups.old) (update_data update.now) in
         L.asked look_ups.new ≤ L.asked look_ups.old + 2 * length m.known) }
 {
     let limit = u64::from(look_ups.known_trees()) + 1;
@@ -286,7 +286,7 @@ fn declared_after<L: LookUps>(
     requires opening { IsOpening (L.world look_ups.old) (update_data update.now) opened.now }
     ensures world { L.world look_ups.new ≡ L.world look_ups.old }
     ensures counts { L.asked look_ups.new ≤ L.asked look_ups.old + 1 }
-    ensures focus { result ≡ focus_named (merged (L.world look_ups.old) (update_data update.now)) name.now }
+    ensures focus { result ≡ focus_named (merged_world (L.world look_ups.old) (update_data update.now)) name.now }
 {
     if is_same(name, &update.tree_id) {
         return Some(FullNodeId {

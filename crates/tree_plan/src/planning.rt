@@ -5,7 +5,7 @@ ghost use Rattle.tree_changes.specs.declared.error.UpdateError.TheVariants.{Memo
 ghost use Rattle.tree_changes.specs.declared.plan.Change.TheVariants.{Tree};
 ghost use Rattle.tree_changes.specs.Refusals.{IsRefusal};
 ghost use Rattle.tree_changes.specs.Plans.{replaced_texts};
-ghost use Rattle.tree_plan.specs.Planned.{IsPlan, IsPlannedWithin, moved, entry_of, AreTakenOnce, slot_data, replaces};
+ghost use Rattle.tree_plan.specs.Planned.{IsPlan, IsPlannedWithin, plan_change, entry_of, AreTakenOnce, slot_data, replaces};
 
 use crate::deciding::decide;
 use crate::opening::is_root_tree;
@@ -39,7 +39,7 @@ fn take_data(slots: &mut Vec<Option<Node>>, entry: usize) -> Option<Node>
 
 /// The change of a node's record, with its data.
 fn node_change(slots: &mut Vec<Option<Node>>, id: FullNodeId, change: NodeChange) -> Change
-    ensures moved { result ≡ moved slots.old.items (id, change) }
+    ensures moved { result ≡ plan_change slots.old.items (id, change) }
     ensures others { (k : ℕ) → entry_of change ≢ Some k → slot_data slots.new.items k ≡ slot_data slots.old.items k }
 {
     let NodeChange::Put { place, entry } = change else {
@@ -74,7 +74,7 @@ fn push_nodes(
     slots: &mut Vec<Option<Node>>,
 ) -> Result<(), UpdateError>
     requires { AreTakenOnce nodes.now }
-    ensures ok { OnOk result (changes.new.items ≡ changes.old.items ++ map (moved slots.old.items) nodes.now) }
+    ensures ok { OnOk result (changes.new.items ≡ changes.old.items ++ map (plan_change slots.old.items) nodes.now) }
     ensures err { IfErr result (λ e. e ≡ Memory) }
 {
     for (id, change) in nodes {

@@ -1,6 +1,6 @@
 //! Records by look-ups.
 ghost use Rattle.std.specs.Prelude.{◌≡◌, None};
-ghost use Rattle.tree_changes.specs.Looks.{raised};
+ghost use Rattle.tree_changes.specs.Looks.{raised_count};
 ghost use Rattle.tree_plan.specs.Passes.{IsOfName};
 
 use schema::TreeId;
@@ -9,7 +9,7 @@ use tree_changes::{LookUps, TreeRecord};
 /// What is known of a tree: where there is no record, nothing but its name.
 pub(crate) fn tree_record<L: LookUps>(look_ups: &mut L, name: &TreeId) -> TreeRecord
     ensures world { L.world look_ups.new ≡ L.world look_ups.old }
-    ensures counts { L.asked look_ups.new ≡ raised (L.asked look_ups.old) }
+    ensures counts { L.asked look_ups.new ≡ raised_count (L.asked look_ups.old) }
     ensures record { IsOfName (L.world look_ups.old) name.now result }
 {
     match look_ups.tree(*name) {

@@ -3,8 +3,8 @@ ghost use Rattle.std.specs.Prelude.{◌≡◌, ◌↔◌, ◌∷◌, [], map, Is
 ghost use Rattle.std.specs.Option.{option_copied};
 ghost use Rattle.schema.specs.UpdateData.{update_data};
 ghost use Rattle.model.specs.declared.FullNodeId.{FullNodeId};
-ghost use Rattle.model.specs.World.{Place, in_tree, listed};
-ghost use Rattle.model.specs.Update.{merged};
+ghost use Rattle.model.specs.World.{Place, in_tree, listed_ids};
+ghost use Rattle.model.specs.Update.{merged_world};
 ghost use Rattle.model.specs.Surgery.{IsOld, IsRefined};
 ghost use Rattle.tree_changes.specs.Refusals.{IsRefusal};
 ghost use Rattle.tree_changes.specs.declared.error.UpdateError.TheVariants.{Memory};
@@ -107,7 +107,7 @@ fn visit<L: LookUps>(
     requires search { IsSearch search.old }
     ensures world { L.world look_ups.new ≡ L.world look_ups.old }
     ensures ok { OnOk result (Adds
-        (listed (merged (L.world look_ups.old) (update_data update.now)) id) search.old search.new) }
+        (listed_ids (merged_world (L.world look_ups.old) (update_data update.now)) id) search.old search.new) }
     ensures err { IfErr result (λ e. e ≡ Memory) }
 {
     if let Some(named) = compared.named.get(&id) {

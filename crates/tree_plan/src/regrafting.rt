@@ -4,7 +4,7 @@ ghost use Rattle.schema.specs.UpdateData.{update_data};
 ghost use Rattle.tree_changes.specs.declared.error.UpdateError.TheVariants.{Memory, GraftedTwice};
 ghost use Rattle.model.specs.Surgery.{IsOld, IsClimbed};
 ghost use Rattle.tree_changes.specs.Refusals.{IsRefusal};
-ghost use Rattle.tree_changes.specs.Looks.{raised};
+ghost use Rattle.tree_changes.specs.Looks.{raised_count};
 ghost use Rattle.tree_plan.specs.Passes.{at, at_name, has, IsComparison, IsRemoval, IsRegrafting};
 ghost use Rattle.tree_plan.specs.Regrafts.{HasRival, HasNoRival, MovesIn, PutsRoot, grafted_record};
 
@@ -78,7 +78,7 @@ impl Regrafted {
     ) -> Result<(), UpdateError>
         requires { IsSome (at_name compared.now.grafted name.now) }
         ensures world { L.world look_ups.new ≡ L.world look_ups.old }
-        ensures counts { L.asked look_ups.new ≡ raised (L.asked look_ups.old) }
+        ensures counts { L.asked look_ups.new ≡ raised_count (L.asked look_ups.old) }
         ensures err { IfErr result (λ e. (e ≡ Memory)
             ⊎ ((e ≡ GraftedTwice name.now) × HasRival (L.world look_ups.old) compared.now removed.now name.now)) }
         ensures free { OnOk result (HasNoRival (L.world look_ups.old) compared.now removed.now name.now) }

@@ -3,7 +3,7 @@ ghost use Rattle.std.specs.Prelude.{◌≡◌, ℕ, ◌+◌, ◌≤◌, ◌↔�
 ghost use Rattle.schema.specs.UpdateData.{update_data};
 ghost use Rattle.model.specs.World.{IsNode, in_tree};
 ghost use Rattle.model.specs.Surgery.{IsOld, Entered};
-ghost use Rattle.model.specs.Update.{merged};
+ghost use Rattle.model.specs.Update.{merged_world};
 ghost use Rattle.tree_changes.specs.Refusals.{IsRefusal};
 ghost use Rattle.tree_changes.specs.declared.error.UpdateError.TheVariants.{Memory};
 ghost use Rattle.tree_plan.specs.Passes.{IsOpening, IsComparison, IsSettlement};
@@ -41,7 +41,7 @@ fn find_old_place<L: LookUps>(
     ensures count { L.asked look_ups.new ≤ L.asked look_ups.old + 1 }
     ensures ok { IfOk result (StoodAt (L.world look_ups.old) id) }
     ensures there { OnOk result
-        (IsNode (merged (L.world look_ups.old) (update_data update.now)) id) }
+        (IsNode (merged_world (L.world look_ups.old) (update_data update.now)) id) }
     ensures err { IfErr result (λ e. IsRefusal (L.world look_ups.old) (update_data update.now) e) }
 {
     if let Some(spot) = compared.left.get(&id).copied() {

@@ -9,10 +9,10 @@ ghost use Rattle.model.specs.declared.events.PlanEvent.{PlanEvent};
 ghost use Rattle.tree_changes.specs.declared.error.UpdateError.TheVariants.{Memory};
 ghost use Rattle.tree_plan.specs.declared.verdicts.Verdict.{Verdict};
 ghost use Rattle.tree_plan.specs.Passes.{at, IsFocusing};
-ghost use Rattle.tree_plan.specs.Writing.{change_of, change_entry, group_of, told_of, untold, IsMove, event_in, AreEvents, AreTrees, IsSmall, own_record};
+ghost use Rattle.tree_plan.specs.Writing.{change_of, change_entry, group_of, told_of, untold_updates, IsMove, event_in, AreEvents, AreTrees, IsSmall, own_record};
 ghost use Rattle.model.specs.Differences.{told_root};
 ghost use Rattle.model.specs.Work.{Work, IsWorkOf};
-ghost use Rattle.tree_changes.specs.Changes.{overlaid};
+ghost use Rattle.tree_changes.specs.Changes.{overlaid_world};
 ghost use Rattle.tree_changes.specs.Decisions.{IsDecision};
 ghost use Rattle.tree_plan.specs.Verdicts.{Step, IsFound};
 
@@ -121,7 +121,7 @@ fn push_untold(
     focus: Option<FullNodeId>,
     events: &mut Vec<PlanEvent>,
 ) -> Result<(), UpdateError>
-    ensures ok { OnOk result (events.new.items ≡ events.old.items ++ untold (at verdicts.now) focus) }
+    ensures ok { OnOk result (events.new.items ≡ events.old.items ++ untold_updates (at verdicts.now) focus) }
     ensures err { IfErr result (λ e. e ≡ Memory) }
 {
     let Some(id) = focus else {
@@ -254,7 +254,7 @@ pub(crate) fn write(
     requires found { IsFound step found }
     requires focusing { IsFocusing step.old step.update focused.now }
     ensures ok { IfOk result (IsDecision step.old step.update) }
-    ensures new { IfOk result (λ d. overlaid step.old step.update d ≡ step.new) }
+    ensures new { IfOk result (λ d. overlaid_world step.old step.update d ≡ step.new) }
     ensures small { IfOk result (λ d.
         (work : Work) → IsWorkOf step.old step.update step.new work → IsSmall found.entry.compared.now found.entry.removed.now found.entry.regrafted.now d work) }
     ensures err { IfErr result (λ e. e ≡ Memory) }

@@ -17,7 +17,7 @@ use Rattle.tree_changes.specs.declared.look_ups.TreeRecord.{TreeRecord}
 use Rattle.tree_changes.specs.declared.decision.NodeChange.{NodeChange}
 use Rattle.tree_changes.specs.declared.decision.NodeChange.TheVariants.{Put, Gone}
 use Rattle.tree_changes.specs.declared.decision.Decision.{Decision}
-use Rattle.tree_changes.specs.Changes.{NodeChanges, change_at, changed, entry_data, place_in, put_all, put_trees, overlaid, tree_change, tree_after, if_kept}
+use Rattle.tree_changes.specs.Changes.{NodeChanges, change_at, changed_data, entry_data, place_in, put_all, put_trees, overlaid_world, tree_change, tree_after, if_kept}
 use Rattle.tree_changes.specs.Looks.{IsPlaceOf, IsTreeRecord}
 use Rattle.tree_changes.specs.Decisions.{IsDecision}
 use Rattle.tree_store.specs.declared.records.Record.{Record}
@@ -28,7 +28,7 @@ use Rattle.tree_store.specs.Stored.{Slots, nodes_shown, trees_shown, texts_shown
 use Rattle.tree_store.specs.KeptNames.{name_at, name_kept, name_after, kept_in}
 use Rattle.tree_store.specs.NameRecords.{record_of}
 use Rattle.tree_store.specs.Shown.{world_shown, NamesAreTrue, IsStored}
-use Rattle.tree_store.specs.Commits.{moved, record_after, after_change, HasNoSpare, HasRoomFor}
+use Rattle.tree_store.specs.Commits.{record_moved_to, record_after, after_change, HasNoSpare, HasRoomFor}
 use Rattle.tree_store.proofs.Maps.{node_in, get-nodes_shown, contains-slots_shown}
 use Rattle.tree_store.proofs.KeptReads.{stored_record}
 use Rattle.tree_store.proofs.Laid.{effect, get-put_all}
@@ -81,7 +81,7 @@ node_given : (place : Option Place) (o : Option NodeData) → node_in (option_ma
 node_given place None = refl
 node_given place (Some d) = refl
 
-node_moved : (place : Option Place) (r : Option Record) → node_in (moved place r) ≡ node_in r
+node_moved : (place : Option Place) (r : Option Record) → node_in (record_moved_to place r) ≡ node_in r
 node_moved place None = refl
 node_moved place (Some r) = refl
 
@@ -95,7 +95,7 @@ place_given : (place : Option Place) (o : Option NodeData) (r : Record) → opti
 place_given place None r e = cc
 place_given place (Some d) r e = let x : Record = record { place = place; node = d } in let j : x ≡ r = cc in sym (ap (λ (y : Record). y.place) j)
 
-place_moved : (place : Option Place) (before : Option Record) (r : Record) → moved place before ≡ Some r → r.place ≡ place
+place_moved : (place : Option Place) (before : Option Record) (r : Record) → record_moved_to place before ≡ Some r → r.place ≡ place
 place_moved place None r e = cc
 place_moved place (Some x) r e = let y : Record = record { place = place; node = x.node } in let j : y ≡ r = cc in sym (ap (λ (z : Record). z.place) j)
 
@@ -145,7 +145,7 @@ pub record_of_name : (a : Inside) (name : TreeId) → NamesAreTrue a.names (worl
 record_of_name a name stored = (_, stored_record a name (name_at a.names name) _ _ _ stored refl refl refl refl)
 
 -- a store whose changes are written shows the world with the changes, and keeps what that asks
-module _ (a b : Inside) (u : UpdateData) (d : Decision) (old_places : PlacesAreTrue a.nodes.entries (world_shown a)) (old_names : NamesAreTrue a.names (world_shown a)) (leaves : IsState (overlaid (world_shown a) u d)) (decided : IsDecision (world_shown a) u d)
+module _ (a b : Inside) (u : UpdateData) (d : Decision) (old_places : PlacesAreTrue a.nodes.entries (world_shown a)) (old_names : NamesAreTrue a.names (world_shown a)) (leaves : IsState (overlaid_world (world_shown a) u d)) (decided : IsDecision (world_shown a) u d)
     (records : (id : FullNodeId) → record_at b.nodes.entries id ≡ after_change u.nodes (change_at d.nodes.items id) (record_at a.nodes.entries id))
     (known : names_shown b.known.items ≡ known_after (world_shown a) u.name) (trees : trees_shown 0 b.known.items ≡ put_trees (trees_shown 0 a.known.items) d.trees.items)
     (names : (name : TreeId) → name_at b.names name ≡ name_after (tree_change d.trees.items name) (name_at a.names name))
@@ -155,19 +155,19 @@ module _ (a b : Inside) (u : UpdateData) (d : Decision) (old_places : PlacesAreT
       get-nodes_shown b.nodes.entries q ∙ ap node_in (records q) ∙ node_after u.nodes (change_at d.nodes.items q) (record_at a.nodes.entries q)
       ∙ ap (effect u.nodes (change_at d.nodes.items q)) (sym (get-nodes_shown a.nodes.entries q)) ∙ sym (get-put_all u.nodes (nodes_shown a.nodes.entries) d.nodes.items q))
 
-  pub world_written : world_shown b ≡ overlaid (world_shown a) u d
+  pub world_written : world_shown b ≡ overlaid_world (world_shown a) u d
   world_written = λ i. record { known = known i; trees = trees i; nodes = nodes_written i; toolkit = texts i; host_focused = host i }
 
-  place_by : (id : FullNodeId) (r : Record) (o : Option NodeChange) → change_at d.nodes.items id ≡ o → after_change u.nodes o (record_at a.nodes.entries id) ≡ Some r → IsPlaceOf (overlaid (world_shown a) u d) id r.place
+  place_by : (id : FullNodeId) (r : Record) (o : Option NodeChange) → change_at d.nodes.items id ≡ o → after_change u.nodes o (record_at a.nodes.entries id) ≡ Some r → IsPlaceOf (overlaid_world (world_shown a) u d) id r.place
   place_by id r None is e p =
       let here = old_places id r e p in
       ((λ at. decided.others id p is (here.0 at)), (λ at. here.1 (decided.others_back id p is at)))
-  place_by id r (Some c) is e p = subst (IsPlaceOf (overlaid (world_shown a) u d) id) (sym (place_after u.nodes c (record_at a.nodes.entries id) r e)) (decided.changes id c is).place p
+  place_by id r (Some c) is e p = subst (IsPlaceOf (overlaid_world (world_shown a) u d) id) (sym (place_after u.nodes c (record_at a.nodes.entries id) r e)) (decided.changes id c is).place p
 
   record_before : (name : TreeId) → (t : Option PresentTree) × IsTreeRecord (world_shown a) name (record_of name (option_and_then (λ r. r.index) (name_at a.names name)) (option_and_then (λ r. r.graft) (name_at a.names name)) t)
   record_before name = (_, stored_record a name (name_at a.names name) _ _ _ old_names refl refl refl refl)
 
-  names_written : NamesAreTrue b.names (overlaid (world_shown a) u d)
+  names_written : NamesAreTrue b.names (overlaid_world (world_shown a) u d)
   names_written = record {
     index = λ name.
         let h = record_before name in
@@ -179,12 +179,12 @@ module _ (a b : Inside) (u : UpdateData) (d : Decision) (old_places : PlacesAreT
         ((λ e. k.0 (sym same ∙ e)), (λ e. same ∙ k.1 e));
   }
 
-  written_by : (v : World) → v ≡ overlaid (world_shown a) u d → IsStored b v
+  written_by : (v : World) → v ≡ overlaid_world (world_shown a) u d → IsStored b v
   written_by v e = subst (IsStored b) (sym e) (record {
     state = leaves;
     places = λ id r is. place_by id r (change_at d.nodes.items id) refl (sym (records id) ∙ is);
     names = names_written;
-    focus = subst (IsEffectiveFocus (overlaid (world_shown a) u d)) (sym focus) decided.focus;
+    focus = subst (IsEffectiveFocus (overlaid_world (world_shown a) u d)) (sym focus) decided.focus;
   })
 
   pub stored_written : IsStored b (world_shown b)

@@ -22,7 +22,7 @@ use Rattle.tree_changes.specs.declared.look_ups.TreeRecord.{TreeRecord}
 use Rattle.tree_changes.specs.declared.decision.NodeChange.{NodeChange}
 use Rattle.tree_changes.specs.declared.decision.NodeChange.TheVariants.{Put, Gone}
 use Rattle.tree_changes.specs.declared.decision.Decision.{Decision}
-use Rattle.tree_changes.specs.Changes.{change_at, overlaid, tree_change, tree_after, if_kept}
+use Rattle.tree_changes.specs.Changes.{change_at, overlaid_world, tree_change, tree_after, if_kept}
 use Rattle.tree_changes.specs.Looks.{IsTreeRecord}
 use Rattle.tree_changes.specs.Decisions.{FindsData, IsDecision}
 use Rattle.tree_store.specs.Commits.{entry_of, with_name, texts_after, HasEntries, AreEntriesApart}
@@ -100,8 +100,8 @@ module _ (w : World) (u : UpdateData) (d : Decision) (decided : IsDecision w u d
       let after : tree_after d.trees.items r.id before.0 ≡ if_kept r = ap (λ o. option_map_or if_kept o before.0) own in
       if_some r.index (λ i is.
       let kept : if_kept r ≡ Some r = by_index r i is in
-      let at : index_of (overlaid w u d) r.id ≡ Some i = sym (decided.trees r.id before.0 before.1).index ∙ ap (option_and_then (λ (t : TreeRecord). t.index)) (after ∙ kept) ∙ is in
-      slice_get_within (known_after w u.name) i r.id (known-index_of (overlaid w u d) r.id i at))
+      let at : index_of (overlaid_world w u d) r.id ≡ Some i = sym (decided.trees r.id before.0 before.1).index ∙ ap (option_and_then (λ (t : TreeRecord). t.index)) (after ∙ kept) ∙ is in
+      slice_get_within (known_after w u.name) i r.id (known-index_of (overlaid_world w u d) r.id i at))
     where
       by_index : (r : TreeRecord) (i : ℕ) → r.index ≡ Some i → if_kept r ≡ Some r
       by_index r i is = ap (λ b. cond b (Some r) None) (ap (λ o. is_some o || is_some r.graft) is)

@@ -16,7 +16,7 @@ use Rattle.model.specs.FullIds.{full_cmp, full_total, exact_full}
 use Rattle.tree_changes.specs.declared.decision.NodeChange.{NodeChange}
 use Rattle.tree_changes.specs.Changes.{NodeChanges, change_at}
 use Rattle.tree_store.specs.declared.records.Record.{Record}
-use Rattle.tree_store.specs.Stored.{Slots, slot_at, record_at, filled}
+use Rattle.tree_store.specs.Stored.{Slots, slot_at, record_at, record_in}
 use Rattle.tree_store.proofs.Maps.{held}
 
 pub same_id : (k q : FullNodeId) → is_at (full_cmp k) q ≡ true → k ≡ q
@@ -26,19 +26,19 @@ pub none_from_false : {A : Type 0} (o : Option A) → is_some o ≡ false → o 
 none_from_false None e = refl
 none_from_false (Some x) e = cc
 
-blank_by : (b : Bool) (x o : Option (Box (Option Record) Global)) → filled (held x) ≡ None → (b ≡ true → filled (held o) ≡ None) → filled (held (cond b x o)) ≡ filled (held o)
+blank_by : (b : Bool) (x o : Option (Box (Option Record) Global)) → record_in (held x) ≡ None → (b ≡ true → record_in (held o) ≡ None) → record_in (held (cond b x o)) ≡ record_in (held o)
 blank_by true x o e h = e ∙ sym (h refl)
 blank_by false x o e h = refl
 
 -- where there is no record, to make or take away an empty slot changes none
-pub blank_same : (es fs : Slots) (k : FullNodeId) (x : Option (Box (Option Record) Global)) → filled (held x) ≡ None
+pub blank_same : (es fs : Slots) (k : FullNodeId) (x : Option (Box (Option Record) Global)) → record_in (held x) ≡ None
     → ((q : FullNodeId) → lookup (is_at (full_cmp q)) fs ≡ cond (is_at (full_cmp k) q) x (lookup (is_at (full_cmp q)) es)) → record_at es k ≡ None → (q : FullNodeId) → record_at fs q ≡ record_at es q
 blank_same es fs k x blank up none q =
-    ap (λ o. filled (held o)) (up q)
+    ap (λ o. record_in (held o)) (up q)
     ∙ blank_by (is_at (full_cmp k) q) x (lookup (is_at (full_cmp q)) es) blank (λ b. subst (λ i. record_at es i ≡ None) (same_id k q b) none)
 
 pub record_none : (es : Slots) (k : FullNodeId) → is_some (lookup (is_at (full_cmp k)) es) ≡ false → record_at es k ≡ None
-record_none es k e = ap (λ o. filled (held o)) (none_from_false (lookup (is_at (full_cmp k)) es) e)
+record_none es k e = ap (λ o. record_in (held o)) (none_from_false (lookup (is_at (full_cmp k)) es) e)
 
 pub symmetric : (k q : FullNodeId) → eq_by_cmp full_cmp q k ≡ is_at (full_cmp k) q
 symmetric k q = (eq_by_cmp_equiv full_total).symm q k

@@ -9,7 +9,7 @@ use Rattle.std.proofs.lemmas.Bool.{cases_eq}
 use Rattle.std.proofs.lemmas.Map.Lookups.{exact_unsigned}
 use Rattle.model.specs.World.{Tree}
 use Rattle.tree_changes.specs.declared.look_ups.TreeRecord.{TreeRecord}
-use Rattle.tree_changes.specs.Changes.{present, set_tree, put_tree}
+use Rattle.tree_changes.specs.Changes.{tree_from, set_tree, put_tree}
 use Rattle.tree_store.specs.declared.records.KnownTree.{KnownTree}
 use Rattle.tree_store.specs.declared.records.PresentTree.{PresentTree}
 use Rattle.tree_store.specs.Stored.{tree_of, tree_in, trees_shown}
@@ -44,8 +44,8 @@ shown_set ks i x less q =
     (λ n. ap tree_in (get_set_apart ks i q x n) ∙ ap (λ b. cond b (option_map tree_of x.tree) (tree_in (slice_get ks q))) (sym (tied_apart i q n)))
     (cases_eq i q)
 
-pub shown_put : (ks ls : List KnownTree) (r : TreeRecord) (i : ℕ) (t : Option PresentTree) → r.index ≡ Some i → option_map tree_of t ≡ present r.root r.focus
+pub shown_put : (ks ls : List KnownTree) (r : TreeRecord) (i : ℕ) (t : Option PresentTree) → r.index ≡ Some i → option_map tree_of t ≡ tree_from r.root r.focus
     → ((q : ℕ) → tree_in (slice_get ls q) ≡ cond (eq_by_cmp nat_cmp q i) (option_map tree_of t) (tree_in (slice_get ks q))) → trees_shown 0 ls ≡ put_tree (trees_shown 0 ks) r
 shown_put ks ls r i t at is up =
-    same_map nat_cmp_total exact_unsigned _ _ (λ q. get-trees ls q ∙ up q ∙ ap (λ x. cond (eq_by_cmp nat_cmp q i) x (tree_in (slice_get ks q))) is ∙ ap (cond (eq_by_cmp nat_cmp q i) (present r.root r.focus)) (sym (get-trees ks q)) ∙ sym (get-set_tree (trees_shown 0 ks) i (present r.root r.focus) q))
-    ∙ ap (λ o. option_map_or (λ index. set_tree (trees_shown 0 ks) index (present r.root r.focus)) o (trees_shown 0 ks)) (sym at)
+    same_map nat_cmp_total exact_unsigned _ _ (λ q. get-trees ls q ∙ up q ∙ ap (λ x. cond (eq_by_cmp nat_cmp q i) x (tree_in (slice_get ks q))) is ∙ ap (cond (eq_by_cmp nat_cmp q i) (tree_from r.root r.focus)) (sym (get-trees ks q)) ∙ sym (get-set_tree (trees_shown 0 ks) i (tree_from r.root r.focus) q))
+    ∙ ap (λ o. option_map_or (λ index. set_tree (trees_shown 0 ks) index (tree_from r.root r.focus)) o (trees_shown 0 ks)) (sym at)

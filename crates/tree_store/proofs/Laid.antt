@@ -25,7 +25,7 @@ use Rattle.model.proofs.State.StatesKept.{state_kept}
 use Rattle.tree_changes.specs.declared.look_ups.TreeRecord.{TreeRecord}
 use Rattle.tree_changes.specs.declared.decision.NodeChange.{NodeChange}
 use Rattle.tree_changes.specs.declared.decision.Decision.{Decision}
-use Rattle.tree_changes.specs.Changes.{NodeChanges, change_at, changed, place_in, put_all, overlaid, tree_after}
+use Rattle.tree_changes.specs.Changes.{NodeChanges, change_at, changed_data, place_in, put_all, overlaid_world, tree_after}
 use Rattle.tree_changes.specs.Looks.{IsPlaceOf, IsTreeRecord, tree_named}
 use Rattle.tree_changes.specs.Decisions.{IsDecision}
 use Rattle.tree_store.specs.Overlays.{root_recorded}
@@ -34,17 +34,17 @@ use Rattle.tree_store.proofs.Maps.{get-set_at}
 -- the data after a change that may be missing
 abbrev pub effect : List (NodeId × NodeData) → Option NodeChange → Option NodeData → Option NodeData
 effect nodes None before = before
-effect nodes (Some c) before = changed nodes c before
+effect nodes (Some c) before = changed_data nodes c before
 
-by_case : (nodes : List (NodeId × NodeData)) (b : Bool) (q k : FullNodeId) (m : FinMap full_cmp NodeData) (c : NodeChange) (o : Option NodeChange) → (b ≡ true → q ≡ k) → cond b (changed nodes c (get m k)) (effect nodes o (get m q)) ≡ effect nodes (cond b (Some c) o) (get m q)
-by_case nodes true q k m c o e = ap (λ x. changed nodes c (get m x)) (sym (e refl))
+by_case : (nodes : List (NodeId × NodeData)) (b : Bool) (q k : FullNodeId) (m : FinMap full_cmp NodeData) (c : NodeChange) (o : Option NodeChange) → (b ≡ true → q ≡ k) → cond b (changed_data nodes c (get m k)) (effect nodes o (get m q)) ≡ effect nodes (cond b (Some c) o) (get m q)
+by_case nodes true q k m c o e = ap (λ x. changed_data nodes c (get m x)) (sym (e refl))
 by_case nodes false q k m c o e = refl
 
 pub get-put_all : (nodes : List (NodeId × NodeData)) (m : FinMap full_cmp NodeData) (cs : NodeChanges) (q : FullNodeId) → get (put_all nodes m cs) q ≡ effect nodes (change_at cs q) (get m q)
 get-put_all nodes m [] q = refl
 get-put_all nodes m (e ∷ es) q =
-    get-set_at (put_all nodes m es) e.0 (changed nodes e.1 (get m e.0)) q
-    ∙ ap (cond (eq_by_cmp full_cmp q e.0) (changed nodes e.1 (get m e.0))) (get-put_all nodes m es q)
+    get-set_at (put_all nodes m es) e.0 (changed_data nodes e.1 (get m e.0)) q
+    ∙ ap (cond (eq_by_cmp full_cmp q e.0) (changed_data nodes e.1 (get m e.0))) (get-put_all nodes m es q)
     ∙ by_case nodes (eq_by_cmp full_cmp q e.0) q e.0 m e.1 (change_at es q) (λ b. exact_full q e.0 ((Equal-is (full_cmp q e.0)).0 b))
 
 -- that a node stands at a place is an equation
@@ -66,42 +66,42 @@ root_of_record v name (Some t) index root =
 
 module _ (w : World) (u : UpdateData) (d : Decision) where
   -- the data of a node: where it changes those of the change, and else those below
-  pub data_laid : (id : FullNodeId) → data_of (overlaid w u d) id ≡ effect u.nodes (change_at d.nodes.items id) (data_of w id)
+  pub data_laid : (id : FullNodeId) → data_of (overlaid_world w u d) id ≡ effect u.nodes (change_at d.nodes.items id) (data_of w id)
   data_laid id = get-put_all u.nodes w.nodes d.nodes.items id
 
-  pub data_by : (id : FullNodeId) (o : Option NodeChange) → o ≡ change_at d.nodes.items id → effect u.nodes o (data_of w id) ≡ data_of (overlaid w u d) id
+  pub data_by : (id : FullNodeId) (o : Option NodeChange) → o ≡ change_at d.nodes.items id → effect u.nodes o (data_of w id) ≡ data_of (overlaid_world w u d) id
   data_by id o e = ap (λ x. effect u.nodes x (data_of w id)) e ∙ sym (data_laid id)
 
   module _ (t : ∥ IsDecision w u d ∥₁) where
     pub ascending : IsStrictlySortedBy full_cmp (map (λ e. e.0) d.nodes.items)
     ascending = ∥∥₁_elim t (IsStrictlySortedBy-prop full_cmp (map (λ e. e.0) d.nodes.items)) (λ k. k.ascending)
 
-    pub state_laid : IsState w → IsState (overlaid w u d)
-    state_laid s = state_kept (overlaid w u d) (∥∥₁_map t (λ k. update_leaves_state w u (overlaid w u d) s k.accepted))
+    pub state_laid : IsState w → IsState (overlaid_world w u d)
+    state_laid s = state_kept (overlaid_world w u d) (∥∥₁_map t (λ k. update_leaves_state w u (overlaid_world w u d) s k.accepted))
 
-    pub place_changed : (id : FullNodeId) (c : NodeChange) → change_at d.nodes.items id ≡ Some c → IsPlaceOf (overlaid w u d) id (place_in c)
-    place_changed id c e = ∥∥₁_elim t (place_is_prop (overlaid w u d) id (place_in c)) (λ k. (k.changes id c e).place)
+    pub place_changed : (id : FullNodeId) (c : NodeChange) → change_at d.nodes.items id ≡ Some c → IsPlaceOf (overlaid_world w u d) id (place_in c)
+    place_changed id c e = ∥∥₁_elim t (place_is_prop (overlaid_world w u d) id (place_in c)) (λ k. (k.changes id c e).place)
 
-    pub place_kept : (id : FullNodeId) (place : Option Place) → change_at d.nodes.items id ≡ None → IsPlaceOf w id place → IsPlaceOf (overlaid w u d) id place
+    pub place_kept : (id : FullNodeId) (place : Option Place) → change_at d.nodes.items id ≡ None → IsPlaceOf w id place → IsPlaceOf (overlaid_world w u d) id place
     place_kept id place e is =
-        ∥∥₁_elim t (place_is_prop (overlaid w u d) id place) (λ k p. ((λ at. k.others id p e ((is p).0 at)), (λ at. (is p).1 (k.others_back id p e at))))
+        ∥∥₁_elim t (place_is_prop (overlaid_world w u d) id place) (λ k p. ((λ at. k.others id p e ((is p).0 at)), (λ at. (is p).1 (k.others_back id p e at))))
 
-    pub node_below : (id : FullNodeId) → change_at d.nodes.items id ≡ None → IsNode (overlaid w u d) id → IsNode w id
+    pub node_below : (id : FullNodeId) → change_at d.nodes.items id ≡ None → IsNode (overlaid_world w u d) id → IsNode w id
     node_below id e there = subst (λ o. IsSome o) (sym (data_by id None (sym e))) there
 
-    pub focus_laid : IsState w → IsEffectiveFocus (overlaid w u d) d.focus
+    pub focus_laid : IsState w → IsEffectiveFocus (overlaid_world w u d) d.focus
     focus_laid s =
-        let f = focus_is_found (overlaid w u d) (state_laid s) d.focus in
-        f.0 (∥∥₁_elim t (Coded-set (coded_option coded_full) (effective_focus (overlaid w u d)) (Some d.focus)) (λ k. f.1 k.focus))
+        let f = focus_is_found (overlaid_world w u d) (state_laid s) d.focus in
+        f.0 (∥∥₁_elim t (Coded-set (coded_option coded_full) (effective_focus (overlaid_world w u d)) (Some d.focus)) (λ k. f.1 k.focus))
 
     module _ (name : TreeId) (before : Option TreeRecord) (is_before : IsTreeRecord w name before) where
-      pub index_laid : option_and_then (λ r. r.index) (tree_after d.trees.items name before) ≡ index_of (overlaid w u d) name
-      index_laid = ∥∥₁_elim t (Coded-set (coded_option coded_ℕ) (option_and_then (λ r. r.index) (tree_after d.trees.items name before)) (index_of (overlaid w u d) name)) (λ k. (k.trees name before is_before).index)
+      pub index_laid : option_and_then (λ r. r.index) (tree_after d.trees.items name before) ≡ index_of (overlaid_world w u d) name
+      index_laid = ∥∥₁_elim t (Coded-set (coded_option coded_ℕ) (option_and_then (λ r. r.index) (tree_after d.trees.items name before)) (index_of (overlaid_world w u d) name)) (λ k. (k.trees name before is_before).index)
 
-      pub root_laid : root_recorded (tree_after d.trees.items name before) ≡ root_named (overlaid w u d) name
+      pub root_laid : root_recorded (tree_after d.trees.items name before) ≡ root_named (overlaid_world w u d) name
       root_laid =
-          ∥∥₁_elim t (Coded-set (coded_option coded_full) (root_recorded (tree_after d.trees.items name before)) (root_named (overlaid w u d) name))
-          (λ k. let r = k.trees name before is_before in root_of_record (overlaid w u d) name (tree_after d.trees.items name before) r.index r.root)
+          ∥∥₁_elim t (Coded-set (coded_option coded_full) (root_recorded (tree_after d.trees.items name before)) (root_named (overlaid_world w u d) name))
+          (λ k. let r = k.trees name before is_before in root_of_record (overlaid_world w u d) name (tree_after d.trees.items name before) r.index r.root)
 
 -- in a state the root tree's name has index 0
 pub root_at : (v : World) → IsState v → root_named v ROOT_NAME ≡ root_of v 0

@@ -18,7 +18,7 @@ use Rattle.model.specs.World.{Tree}
 use Rattle.tree_changes.specs.Changes.{set_at, set_tree}
 use Rattle.tree_store.specs.declared.records.Record.{Record}
 use Rattle.tree_store.specs.declared.records.KnownTree.{KnownTree}
-use Rattle.tree_store.specs.Stored.{Slots, nodes_shown, trees_shown, slots_shown, tree_of, tree_in, slot_at, record_at, filled}
+use Rattle.tree_store.specs.Stored.{Slots, nodes_shown, trees_shown, slots_shown, tree_of, tree_in, slot_at, record_at, record_in}
 
 pub get-set_at : (m : FinMap full_cmp NodeData) (k : FullNodeId) (d : Option NodeData) (q : FullNodeId) → get (set_at m k d) q ≡ cond (eq_by_cmp full_cmp q k) d (get m q)
 get-set_at m k (Some d) q = get-insert full_total m k d q
@@ -35,7 +35,7 @@ node_in r = option_map (λ x. x.node) r
 abbrev pub held : Option (Box (Option Record) Global) → Option (Option Record)
 held o = option_map (λ b. b.value) o
 
-node_in-cond : (b : Bool) (x : Box (Option Record) Global) (o : Option (Box (Option Record) Global)) → cond b (node_in x.value) (node_in (filled (held o))) ≡ node_in (filled (held (cond b (Some x) o)))
+node_in-cond : (b : Bool) (x : Box (Option Record) Global) (o : Option (Box (Option Record) Global)) → cond b (node_in x.value) (node_in (record_in (held o))) ≡ node_in (record_in (held (cond b (Some x) o)))
 node_in-cond true x o = refl
 node_in-cond false x o = refl
 

@@ -16,11 +16,11 @@ use Rattle.model.proofs.Forest.PlaceOf.{same_from_test, test_self}
 use Rattle.model.proofs.Lists.PreorderCount.{keys_distinct}
 use Rattle.tree_changes.specs.declared.decision.NodeChange.{NodeChange}
 use Rattle.tree_changes.specs.declared.decision.Decision.{Decision}
-use Rattle.tree_changes.specs.Changes.{change_at, overlaid}
+use Rattle.tree_changes.specs.Changes.{change_at, overlaid_world}
 use Rattle.tree_store.specs.declared.records.Record.{Record}
 use Rattle.tree_store.specs.Kept.{Kept}
 use Rattle.tree_store.specs.Commits.{HasSlots}
-use Rattle.tree_store.specs.Stored.{Slots, nodes_shown, slots_shown, slot_at, record_at, filled}
+use Rattle.tree_store.specs.Stored.{Slots, nodes_shown, slots_shown, slot_at, record_at, record_in}
 use Rattle.tree_store.proofs.Maps.{get-nodes_shown, contains-slots_shown, node_in}
 use Rattle.tree_store.proofs.Laid.{effect, data_laid}
 
@@ -69,7 +69,7 @@ pub slots_fit : (es : Slots) → set.len (slots_shown es) ≤ length es
 slots_fit [] = omega (arith, set.len-empty full_cmp)
 slots_fit (e ∷ es) = omega (arith, set.len-insert full_total (slots_shown es) e.0, one_more (set.contains (slots_shown es) e.0) (set.len (slots_shown es)) (length es) (slots_fit es))
 
-filled_some : (o : Option (Option Record)) → is_some (node_in (filled o)) ≡ true → is_some o ≡ true
+filled_some : (o : Option (Option Record)) → is_some (node_in (record_in o)) ≡ true → is_some o ≡ true
 filled_some None h = h
 filled_some (Some r) h = refl
 
@@ -85,7 +85,7 @@ after_or nodes (Some c) None h = refl
 after_or nodes (Some c) (Some d) h = refl
 
 -- so where each node and each changed one has a slot, the nodes after the changes are no more than the slots
-pub laid_fit : (k : Kept) (u : UpdateData) (d : Decision) → HasSlots k d → len (overlaid k.world u d).nodes ≤ set.len k.slots
+pub laid_fit : (k : Kept) (u : UpdateData) (d : Decision) → HasSlots k d → len (overlaid_world k.world u d).nodes ≤ set.len k.slots
 laid_fit k u d slots =
-    nodes_within (overlaid k.world u d).nodes k.slots
+    nodes_within (overlaid_world k.world u d).nodes k.slots
     (λ q h. slots q ∙ after_or u.nodes (change_at d.nodes.items q) (data_of k.world q) (sym (ap is_some (data_laid k.world u d q)) ∙ h))

@@ -40,13 +40,13 @@ abbrev pub AreEntriesApart : NodeChanges → Type 0
 AreEntriesApart cs = AllPairs (λ a b. (k : ℕ) → entry_of a.1 ≡ Some k → entry_of b.1 ≢ Some k) cs
 
 -- the record at another place
-abbrev pub moved : Option Place → Option Record → Option Record
-moved place before = option_map (λ (r : Record). record { place = place; node = r.node }) before
+abbrev pub record_moved_to : Option Place → Option Record → Option Record
+record_moved_to place before = option_map (λ (r : Record). record { place = place; node = r.node }) before
 
 -- the record after a change, where these are the update's nodes
 abbrev pub record_after : List (NodeId × NodeData) → NodeChange → Option Record → Option Record
 record_after nodes (Put place (Some k)) before = option_map (λ d. let r : Record = record { place = place; node = d } in r) (entry_data nodes k)
-record_after nodes (Put place None) before = moved place before
+record_after nodes (Put place None) before = record_moved_to place before
 record_after nodes Gone before = None
 
 -- the record after a change that may be missing

@@ -8,12 +8,12 @@ use Rattle.model.specs.World.{World, in_tree}
 use Rattle.tree_changes.specs.declared.look_ups.TreeRecord.{TreeRecord}
 use Rattle.tree_changes.specs.Looks.{IsTreeRecord}
 use Rattle.model.specs.Update.{index_for}
-use Rattle.tree_changes.specs.Changes.{overlaid, tree_after}
+use Rattle.tree_changes.specs.Changes.{overlaid_world, tree_after}
 use Rattle.tree_changes.specs.Decisions.{IsDecision}
 use Rattle.tree_store.specs.declared.overlay.Overlay.{Overlay}
 
 abbrev pub laid_over : World → Overlay → World
-laid_over w o = overlaid w (update_data o.update.now) o.decision.now
+laid_over w o = overlaid_world w (update_data o.update.now) o.decision.now
 
 -- the decision is one on the update of this world
 abbrev pub IsLaidOver : World → Overlay → Type 0

@@ -56,13 +56,13 @@ texts_shown texts = (option_map string_bytes texts.0, option_map string_bytes te
 abbrev pub slot_at : Slots → FullNodeId → Option (Option Record)
 slot_at es id = option_map (λ b. b.value) (lookup (is_at (full_cmp id)) es)
 
-abbrev pub filled : Option (Option Record) → Option Record
-filled None = None
-filled (Some r) = r
+abbrev pub record_in : Option (Option Record) → Option Record
+record_in None = None
+record_in (Some r) = r
 
 -- the record of an id
 abbrev pub record_at : Slots → FullNodeId → Option Record
-record_at es id = filled (slot_at es id)
+record_at es id = record_in (slot_at es id)
 
 abbrev pub names_shown : List KnownTree → List TreeId
 names_shown ks = map (λ k. k.name) ks

@@ -3,7 +3,7 @@ ghost use Rattle.std.specs.Prelude.{◌≡◌, ◌≢◌, ◌<◌, true, None, m
 ghost use Rattle.std.specs.Vec.{vec_len, vec_capacity};
 ghost use Rattle.tree_store.specs.Stored.{texts_shown, names_shown, trees_shown, record_at};
 ghost use Rattle.schema.specs.UpdateData.{update_data, info_data};
-ghost use Rattle.tree_changes.specs.Changes.{change_at, overlaid, put_trees, tree_change};
+ghost use Rattle.tree_changes.specs.Changes.{change_at, overlaid_world, put_trees, tree_change};
 ghost use Rattle.model.specs.State.{empty_world};
 ghost use Rattle.model.specs.FullIds.{full_cmp};
 ghost use Rattle.std.specs.List.Sorted.{IsStrictlySortedBy};
@@ -50,7 +50,7 @@ impl Store {
     pub fn commit(&mut self, update: TreeUpdate, decision: Decision)
         requires ready { IsReadyFor self.old (update_data update) decision }
         requires decided { IsDecision self.old.world (update_data update) decision }
-        ensures world { self.new.world ≡ overlaid self.old.world (update_data update) decision }
+        ensures world { self.new.world ≡ overlaid_world self.old.world (update_data update) decision }
         ensures tight { IsTight self.new }
     {
         let is_new = self.tree_index(update.tree_id).is_none();
@@ -77,7 +77,7 @@ impl Store {
         is_host_focused: bool,
     ) -> Result<Store, AllocError>
         requires { IsDecision (empty_world is_host_focused) (update_data update) decision }
-        ensures world { IfOk result (λ s. s.world ≡ overlaid (empty_world is_host_focused) (update_data update) decision) }
+        ensures world { IfOk result (λ s. s.world ≡ overlaid_world (empty_world is_host_focused) (update_data update) decision) }
         ensures tight { IfOk result (λ s. IsTight s) }
     {
         let mut nodes = BTreeMap::new(alloc);

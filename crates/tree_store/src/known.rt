@@ -2,7 +2,7 @@
 ghost use Rattle.std.specs.Prelude.{◌≡◌, ◌<◌, true, ℕ, [], ◌∷◌, ◌++◌, All, IfSome, length, option_map, slice_get, cond};
 ghost use Rattle.std.specs.Ordering.{nat_cmp, eq_by_cmp};
 ghost use Rattle.std.specs.Vec.{vec_len, vec_capacity};
-ghost use Rattle.tree_changes.specs.Changes.{present, put_tree, put_trees};
+ghost use Rattle.tree_changes.specs.Changes.{tree_from, put_tree, put_trees};
 ghost use Rattle.tree_store.specs.Stored.{tree_of, names_shown, trees_shown, tree_in};
 ghost use Rattle.tree_store.specs.Commits.{with_name};
 
@@ -73,7 +73,7 @@ fn set_tree(known: &mut Vec<KnownTree>, index: usize, tree: Option<PresentTree>)
 
 // the tree of a record, where it is present
 fn present_in(changed: &TreeRecord) -> Option<PresentTree>
-    ensures { option_map tree_of result ≡ present changed.now.root changed.now.focus }
+    ensures { option_map tree_of result ≡ tree_from changed.now.root changed.now.focus }
 {
     let Some(root) = changed.root else {
         return None;

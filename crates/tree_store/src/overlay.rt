@@ -10,7 +10,7 @@ ghost use Rattle.model.specs.Focus.{IsEffectiveFocus};
 ghost use Rattle.model.specs.Forest.{IsFormed};
 ghost use Rattle.model.specs.State.{IsState};
 ghost use Rattle.tree_changes.specs.Looks.{IsPlaceOf};
-ghost use Rattle.tree_changes.specs.Changes.{change_at, changed, entry_data, place_in, tree_change, if_kept};
+ghost use Rattle.tree_changes.specs.Changes.{change_at, changed_data, entry_data, place_in, tree_change, if_kept};
 ghost use Rattle.std.specs.Ordering.{nat_cmp, is_eq};
 ghost use Rattle.std.specs.Cmp.Lexicographic.{slice_cmp};
 ghost use Rattle.std.specs.String.{string_bytes};
@@ -58,7 +58,7 @@ pub(crate) fn changed_node<'b>(
     change: NodeChange,
     below: Option<&'b Node>,
 ) -> Option<&'b Node>
-    ensures { option_copied result ≡ changed nodes.now change (option_copied below.entry) }
+    ensures { option_copied result ≡ changed_data nodes.now change (option_copied below.entry) }
 {
     match change {
         NodeChange::Put {

@@ -5,7 +5,7 @@ ghost use Rattle.model.specs.declared.FullNodeId.{FullNodeId};
 ghost use Rattle.model.specs.FullIds.{full_cmp};
 ghost use Rattle.tree_changes.specs.Changes.{change_at, entry_data};
 ghost use Rattle.tree_store.specs.Stored.{slot_at, record_at};
-ghost use Rattle.tree_store.specs.Commits.{entry_of, moved, record_after, after_change, HasEntries, AreEntriesApart, HasNoSpare, HasRoomFor};
+ghost use Rattle.tree_store.specs.Commits.{entry_of, record_moved_to, record_after, after_change, HasEntries, AreEntriesApart, HasNoSpare, HasRoomFor};
 ghost use Rattle.std.specs.List.Sorted.{IsStrictlySortedBy};
 ghost use Rattle.tree_changes.specs.declared.decision.NodeChange.TheVariants.{Put};
 ghost use Rattle.tree_store.specs.declared.records.Record.{Record};
@@ -144,7 +144,7 @@ fn put_node(
 // gives a node this place
 fn put_place(slots: &mut Slots, id: FullNodeId, place: Option<Place>)
     requires { IsSome (slot_at slots.old.entries id) }
-    ensures records { (q : FullNodeId) → record_at slots.new.entries q ≡ cond (is_at (full_cmp id) q) (moved place (record_at slots.old.entries id)) (record_at slots.old.entries q) }
+    ensures records { (q : FullNodeId) → record_at slots.new.entries q ≡ cond (is_at (full_cmp id) q) (record_moved_to place (record_at slots.old.entries id)) (record_at slots.old.entries q) }
     ensures tight { (q : FullNodeId) → is_some (slot_at slots.new.entries q) ≡ cond (is_at (full_cmp id) q) (is_some (record_at slots.new.entries q)) (is_some (slot_at slots.old.entries q)) }
 {
     let before = fill(slots, id, None);
@@ -156,7 +156,7 @@ fn put_place(slots: &mut Slots, id: FullNodeId, place: Option<Place>)
 
 // the record with another place
 fn moved_record(place: Option<Place>, before: Option<Record>) -> Option<Record>
-    ensures { result ≡ moved place before }
+    ensures { result ≡ record_moved_to place before }
 {
     match before {
         Some(record) => Some(Record {

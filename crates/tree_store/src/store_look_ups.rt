@@ -2,7 +2,7 @@
 ghost use Rattle.std.specs.Prelude.{◌≡◌, is_some, IfSome};
 ghost use Rattle.model.specs.World.{data_of};
 ghost use Rattle.model.specs.State.{empty_world};
-ghost use Rattle.tree_changes.specs.Looks.{IsNodeRecord, IsTreeRecord, raised};
+ghost use Rattle.tree_changes.specs.Looks.{IsNodeRecord, IsTreeRecord, raised_count};
 
 use crate::store::Store;
 use model::FullNodeId;
@@ -56,14 +56,14 @@ impl<'a> StoreLookUps<'a> {
 
     fn tick(&mut self)
         ensures store { self.new.store ≡ self.old.store }
-        ensures count { self.new.count ≡ raised self.old.count }
+        ensures count { self.new.count ≡ raised_count self.old.count }
     {
         self.count = one_more(self.count);
     }
 }
 
 fn one_more(count: u128) -> u128
-    ensures { result ≡ raised count }
+    ensures { result ≡ raised_count count }
 {
     count.saturating_add(1)
 }
@@ -117,7 +117,7 @@ impl NoRecords {
 
     fn tick(&mut self)
         ensures host { self.new.host_focused ≡ self.old.host_focused }
-        ensures count { self.new.count ≡ raised self.old.count }
+        ensures count { self.new.count ≡ raised_count self.old.count }
     {
         self.count = one_more(self.count);
     }

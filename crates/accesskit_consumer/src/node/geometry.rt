@@ -1,7 +1,7 @@
 //! Where a node lies.
 ghost use Rattle.std.specs.Prelude.{◌≡◌, is_some, ◌<◌, ◌^◌, ◌+ℤ◌, int_lt, FitsSigned};
 ghost use Rattle.std.specs.Int.{int_min, int_max, w32};
-ghost use Rattle.model.specs.Geometry.{direct_transform, transform, bounding_box, meets, whole_rect, moved, ordered};
+ghost use Rattle.model.specs.Geometry.{direct_transform, transform, bounding_box, meets, whole_rect, moved_rect, ordered_rect};
 ghost use Rattle.accesskit_consumer.specs.Nodes.{world_at, id_at, data_at};
 ghost use Rattle.accesskit_consumer.specs.Reach.{IsInReach};
 
@@ -74,7 +74,7 @@ impl NodeRef<'_> {
         ensures { result ≡ bounding_box (world_at self.now) (id_at self.now) }
     {
         let rect = self.node.bounds()?;
-        Some(ordered(moved(rect, self.whole_move())))
+        Some(ordered(moved_rect(rect, self.whole_move())))
     }
 }
 
@@ -109,10 +109,10 @@ fn plus(edge: i32, by: i128) -> i128
 }
 
 /// The rectangle, moved.
-fn moved(rect: Rect, by: WideTranslation) -> WideRect
+fn moved_rect(rect: Rect, by: WideTranslation) -> WideRect
     requires across { IsInReach by.x }
     requires along { IsInReach by.y }
-    ensures { result ≡ moved (whole_rect rect) by }
+    ensures { result ≡ moved_rect (whole_rect rect) by }
 {
     WideRect {
         x0: plus(rect.x0, by.x),
@@ -124,7 +124,7 @@ fn moved(rect: Rect, by: WideTranslation) -> WideRect
 
 /// The rectangle, each axis from the lesser to the greater.
 fn ordered(rect: WideRect) -> WideRect
-    ensures { result ≡ ordered rect }
+    ensures { result ≡ ordered_rect rect }
 {
     WideRect {
         x0: rect.x0.min(rect.x1),

@@ -1,6 +1,6 @@
 //! What is read of a node.
 ghost use Rattle.std.specs.Prelude.{◌≡◌, ◌↔◌, Some, IsTrue, IfSome, option_map};
-ghost use Rattle.model.specs.World.{HasData, root_of, located};
+ghost use Rattle.model.specs.World.{HasData, root_of, local_id_of};
 ghost use Rattle.model.specs.Forest.{place_of};
 ghost use Rattle.model.specs.Focus.{IsEffectiveFocus, IsFocusedNode, Resolves};
 ghost use Rattle.accesskit_consumer.specs.Views.{world_of};
@@ -37,7 +37,7 @@ impl<'a> NodeRef<'a> {
 
     /// The node's id within its tree, and the tree's name.
     pub fn locate(&self) -> (NodeId, TreeId)
-        ensures { located (world_at self.now) (id_at self.now) ≡ Some result }
+        ensures { local_id_of (world_at self.now) (id_at self.now) ≡ Some result }
     {
         (self.id.node, self.state.tree_of(self.id))
     }

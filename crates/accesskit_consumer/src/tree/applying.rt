@@ -6,7 +6,7 @@ ghost use Rattle.model.specs.declared.events.PlanEvent.{PlanEvent};
 ghost use Rattle.model.specs.Differences.{AreOfFocus, events};
 ghost use Rattle.model.specs.Run.{ToUpdate, Accepted, Does};
 ghost use Rattle.model.specs.State.{with_host};
-ghost use Rattle.tree_changes.specs.Changes.{overlaid};
+ghost use Rattle.tree_changes.specs.Changes.{overlaid_world};
 ghost use Rattle.tree_changes.specs.Decisions.{IsDecision};
 
 use crate::tree::refocusing::tell_focus;
@@ -29,7 +29,7 @@ impl TreeState {
         steps: &mut Steps,
     ) -> Result<(), AllocError>
         requires { IsDecision self.old (update_data update) decision }
-        ensures state { OnOk result (self.new ≡ overlaid self.old (update_data update) decision) }
+        ensures state { OnOk result (self.new ≡ overlaid_world self.old (update_data update) decision) }
         ensures does { OnOk result ((told : List Event)
             × Does self.old (ToUpdate (update_data update)) self.new told Accepted
             × Told H.steps handler.old told handler.new) }

@@ -1,7 +1,7 @@
 //! Who is told of changes.
 ghost use Rattle.std.specs.Prelude.{◌≡◌};
 ghost use Rattle.model.specs.Events.{Event, NodeAdded, NodeUpdated, FocusMoved, NodeRemoved};
-ghost use Rattle.accesskit_consumer.specs.Nodes.{seen, seen_through};
+ghost use Rattle.accesskit_consumer.specs.Nodes.{seen_node, seen_through};
 
 use crate::node::NodeRef;
 
@@ -12,11 +12,11 @@ pub trait TreeChangeHandler {
 
     /// A node that is only in the new state.
     fn node_added(&mut self, node: &NodeRef)
-        ensures { steps self.old (NodeAdded (seen node.now)) self.new };
+        ensures { steps self.old (NodeAdded (seen_node node.now)) self.new };
 
     /// A node of both states, whose data or place differ, or on which the focus was or is.
     fn node_updated(&mut self, old_node: &NodeRef, new_node: &NodeRef)
-        ensures { steps self.old (NodeUpdated (seen old_node.now) (seen new_node.now)) self.new };
+        ensures { steps self.old (NodeUpdated (seen_node old_node.now) (seen_node new_node.now)) self.new };
 
     /// The focus is on another node, or on none.
     fn focus_moved(&mut self, old_node: Option<&NodeRef>, new_node: Option<&NodeRef>)
@@ -24,5 +24,5 @@ pub trait TreeChangeHandler {
 
     /// A node that is only in the old state.
     fn node_removed(&mut self, node: &NodeRef)
-        ensures { steps self.old (NodeRemoved (seen node.now)) self.new };
+        ensures { steps self.old (NodeRemoved (seen_node node.now)) self.new };
 }

@@ -1,6 +1,6 @@
 //! A state.
 ghost use Rattle.std.specs.Prelude.{◌≡◌, ◌↔◌, IsTrue, IsSome, true, false, Some, MatchOption, IfSome, option_copied, option_map};
-ghost use Rattle.model.specs.World.{World, IsNode, root_of, root_named, located, toolkit_name, toolkit_version};
+ghost use Rattle.model.specs.World.{World, IsNode, root_of, root_named, local_id_of, toolkit_name, toolkit_version};
 ghost use Rattle.model.specs.Focus.{IsEffectiveFocus, IsFocusId, IsFocus};
 ghost use Rattle.accesskit_consumer.specs.Views.{world_of};
 ghost use Rattle.accesskit_consumer.specs.Nodes.{world_at, id_at, ShowsThe};
@@ -57,7 +57,7 @@ impl TreeState {
 
     /// The node with this id within the tree of this name, if it is in the state.
     pub fn node_by_tree_local_id(&self, node: NodeId, tree: TreeId) -> Option<NodeRef<'_>>
-        ensures { ShowsThe self.now (λ it. located self.now it ≡ Some (node, tree)) result }
+        ensures { ShowsThe self.now (λ it. local_id_of self.now it ≡ Some (node, tree)) result }
     {
         self.view().node_by_tree_local_id(node, tree)
     }
@@ -132,7 +132,7 @@ impl TreeState {
 
     /// The id within its tree, and the tree's name, of a node that is in the state.
     pub fn locate_node(&self, id: FullNodeId) -> Option<(NodeId, TreeId)>
-        ensures { result ≡ located self.now id }
+        ensures { result ≡ local_id_of self.now id }
     {
         self.view().locate_node(id)
     }

@@ -1,6 +1,6 @@
 //! What is read of a state.
 ghost use Rattle.std.specs.Prelude.{◌≡◌, ◌↔◌, IsTrue, true, false, Some, MatchOption, IfSome, IsSome, option_copied, option_map};
-ghost use Rattle.model.specs.World.{IsNode, name_of, root_of, located, toolkit_name, toolkit_version};
+ghost use Rattle.model.specs.World.{IsNode, name_of, root_of, local_id_of, toolkit_name, toolkit_version};
 ghost use Rattle.model.specs.Focus.{IsEffectiveFocus, IsFocusId, IsFocus};
 ghost use Rattle.accesskit_consumer.specs.Views.{world_of};
 ghost use Rattle.accesskit_consumer.specs.Nodes.{world_at, id_at, ShowsThe, IsView};
@@ -83,7 +83,7 @@ impl<'a> StateRef<'a> {
 
     /// The node with this id within the tree of this name, if it is in the state.
     pub fn node_by_tree_local_id(&self, node: NodeId, tree: TreeId) -> Option<NodeRef<'a>>
-        ensures { ShowsThe (world_of self.now) (λ it. located (world_of self.now) it ≡ Some (node, tree)) result }
+        ensures { ShowsThe (world_of self.now) (λ it. local_id_of (world_of self.now) it ≡ Some (node, tree)) result }
     {
         self.know();
         match self.tree_index(tree) {
@@ -182,7 +182,7 @@ impl<'a> StateRef<'a> {
 
     /// The id within its tree, and the tree's name, of a node that is in the state.
     pub fn locate_node(&self, id: FullNodeId) -> Option<(NodeId, TreeId)>
-        ensures { result ≡ located (world_of self.now) id }
+        ensures { result ≡ local_id_of (world_of self.now) id }
     {
         if self.has_node(id) {
             Some((id.node, self.tree_of(id)))

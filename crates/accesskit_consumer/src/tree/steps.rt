@@ -1,6 +1,6 @@
 //! A count of look-ups.
 ghost use Rattle.std.specs.Prelude.{◌≡◌};
-ghost use Rattle.tree_changes.specs.Looks.{raised};
+ghost use Rattle.tree_changes.specs.Looks.{raised_count};
 
 use std::marker::Model;
 
@@ -45,7 +45,7 @@ impl Steps {
 
     /// There were two more.
     pub(crate) fn add_two(&mut self)
-        ensures { self.new ≡ raised (raised self.old) }
+        ensures { self.new ≡ raised_count (raised_count self.old) }
     {
         self.count = self.count.saturating_add(2);
     }

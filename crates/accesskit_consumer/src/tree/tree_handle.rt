@@ -4,7 +4,7 @@ ghost use Rattle.schema.specs.UpdateData.{update_data};
 ghost use Rattle.model.specs.Events.{Event, Told};
 ghost use Rattle.model.specs.Run.{ToUpdate, ToHostFocus, Accepted, Begins, Does};
 ghost use Rattle.model.specs.State.{empty_world};
-ghost use Rattle.model.specs.Work.{Work, IsWorkOf, allowed};
+ghost use Rattle.model.specs.Work.{Work, IsWorkOf, allowance};
 ghost use Rattle.tree_changes.specs.Decisions.{IsDecision, IsWithinWork};
 ghost use Rattle.tree_changes.specs.Refusals.{IsRefusal};
 ghost use Rattle.accesskit_consumer.specs.Replies.{reply_of};
@@ -108,7 +108,7 @@ impl Tree {
             × Does self.old (ToUpdate (update_data update)) self.new told (reply_of result)
             × Told H.steps handler.old told handler.new }
         ensures steps { OnOk result ((work : Work) → IsWorkOf self.old (update_data update) self.new work
-            → steps.new ≤ steps.old + allowed work) }
+            → steps.new ≤ steps.old + allowance work) }
     {
         let decision = self.state.decide(self.alloc, &update, steps)?;
         self.state.apply(update, decision, handler, steps)?;

@@ -5,10 +5,10 @@ ghost use Rattle.std.specs.Int.{w32};
 ghost use Rattle.std.specs.Option.{option_map_or};
 ghost use Rattle.model.specs.declared.FullNodeId.{FullNodeId};
 ghost use Rattle.model.specs.declared.filters.FilterResult.{FilterResult};
-ghost use Rattle.model.specs.Upward.{given};
+ghost use Rattle.model.specs.Upward.{field_at};
 ghost use Rattle.model.specs.Covers.{is_cut_off};
 ghost use Rattle.model.specs.Geometry.{is_between, contains_point, direct_transform, hit as hit_of};
-ghost use Rattle.model.specs.Hits.{widened, seen_by_child, seen_by_parent, is_hit, hit_seen};
+ghost use Rattle.model.specs.Hits.{wide_point, seen_by_child, seen_by_parent, is_hit, hit_seen};
 ghost use Rattle.accesskit_consumer.specs.Nodes.{world_at, id_at};
 ghost use Rattle.accesskit_consumer.specs.Follows.{Follows};
 ghost use Rattle.accesskit_consumer.specs.SeenPoints.{IsNear, wide_of};
@@ -49,7 +49,7 @@ fn wide(number: i64) -> i128
 
 /// A point, before any move.
 fn unmoved(point: Point) -> Seen
-    ensures is { wide_of result ≡ widened point }
+    ensures is { wide_of result ≡ wide_point point }
     ensures across { IsNear 0 result.x }
     ensures along { IsNear 0 result.y }
 {
@@ -129,7 +129,7 @@ fn contains(rect: Rect, seen: Seen) -> bool
 
 /// Whether the node has a rectangle, and that contains the point.
 fn is_at(node: NodeRef<'_>, seen: Seen) -> bool
-    ensures { result ≡ option_map_or (λ r. contains_point r (wide_of seen)) (given (λ d. d.bounds) (world_at node.entry) (id_at node.entry)) false }
+    ensures { result ≡ option_map_or (λ r. contains_point r (wide_of seen)) (field_at (λ d. d.bounds) (world_at node.entry) (id_at node.entry)) false }
 {
     match node.node.bounds() {
         Some(rect) => contains(rect, seen),

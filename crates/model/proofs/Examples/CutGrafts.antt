@@ -7,7 +7,7 @@ use Rattle.model.specs.declared.FullNodeId.{FullNodeId}
 use Rattle.model.specs.World.{ROOT_NAME, World, Tree, IsNode, Reached}
 use Rattle.model.specs.World as world
 use Rattle.model.specs.Focus.{OnChain, first, next}
-use Rattle.model.specs.Update.{FocusMissing, Stands, merged}
+use Rattle.model.specs.Update.{FocusMissing, Stands, merged_world}
 use Rattle.model.specs.Examples as examples
 use Rattle.model.specs.Examples.{at, node, name, window, document, graft, button, plain_tree, nested, focus_on_cut_graft}
 use Rattle.model.proofs.State.StatePlaces.{listed_tree}
@@ -27,7 +27,7 @@ abbrev left : World
 left = examples.world (ROOT_NAME ∷ name 1 ∷ name 2 ∷ []) focused window_nodes
 
 abbrev m : World
-m = merged nested focus_on_cut_graft
+m = merged_world nested focus_on_cut_graft
 
 abbrev merged_trees : List (ℕ × Tree)
 merged_trees = (0, focused_tree) ∷ (1, plain_tree) ∷ (2, plain_tree) ∷ []

@@ -3,7 +3,7 @@ use Rattle.std.proofs.Common.{ℕ, List, [], ◌∷◌, inl, inr, refl}
 use Rattle.model.specs.World.{ROOT_NAME, World, Tree}
 use Rattle.model.specs.World as world
 use Rattle.model.specs.Focus.{first}
-use Rattle.model.specs.Update.{FocusOnEmptyGraft, Stands, merged}
+use Rattle.model.specs.Update.{FocusOnEmptyGraft, Stands, merged_world}
 use Rattle.model.specs.Examples as examples
 use Rattle.model.specs.Examples.{at, node, name, empty_graft, focus_on_graft}
 use Rattle.model.proofs.Examples.Tools.{◌▸◌}
@@ -19,7 +19,7 @@ abbrev left : World
 left = examples.world (ROOT_NAME ∷ []) focused empty_graft_nodes
 
 abbrev m : World
-m = merged empty_graft focus_on_graft
+m = merged_world empty_graft focus_on_graft
 
 before : IsWritten m focused empty_graft_nodes
 before = merged_written empty_graft focus_on_graft empty_graft_written (node 0) refl

@@ -9,7 +9,7 @@ use Rattle.schema.specs.declared.NodeId.{NodeId}
 use Rattle.std.specs.Option.{option_map_or}
 use Rattle.model.specs.declared.FullNodeId.{FullNodeId}
 use Rattle.model.specs.FullIds.{full_cmp}
-use Rattle.model.specs.World.{World, Place, data_of, IsNode, in_tree, listed}
+use Rattle.model.specs.World.{World, Place, data_of, IsNode, in_tree, listed_ids}
 use Rattle.model.specs.Forest.{place_of}
 use Rattle.model.specs.Focus.{first, IsEffectiveFocus, Resolves, IsFocus}
 use Rattle.model.specs.State.{with_host}
@@ -262,7 +262,7 @@ host_loses_focus =
 abbrev labelled : List (FullNodeId × NodeData)
 labelled = (at 0 0, window (1 ∷ [])) ∷ (at 0 1, labelled_button) ∷ []
 
-listed_here : (w : World) (id : FullNodeId) (d : NodeData) → data_of w id ≡ Some d → listed w id ≡ map (in_tree id.tree) d.children
+listed_here : (w : World) (id : FullNodeId) (d : NodeData) → data_of w id ≡ Some d → listed_ids w id ≡ map (in_tree id.tree) d.children
 listed_here w id d e = ap (λ o. option_map_or (λ x. map (in_tree id.tree) x.children) o []) e
 
 stays : (id : FullNodeId) → IsNode (window_with_button 0) id → IsNode window_with_label id

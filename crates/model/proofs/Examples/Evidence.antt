@@ -10,10 +10,10 @@ use Rattle.schema.specs.declared.NodeId.{NodeId}
 use Rattle.schema.specs.declared.TreeId.{TreeId}
 use Rattle.model.specs.declared.FullNodeId.{FullNodeId}
 use Rattle.model.specs.FullIds.{full_total, exact_full}
-use Rattle.model.specs.World.{ROOT_NAME, World, Tree, HasData, IsNode, data_of, in_tree, index_of, listed, graft_name, root_of, root_named, Place, Reached, Kept}
+use Rattle.model.specs.World.{ROOT_NAME, World, Tree, HasData, IsNode, data_of, in_tree, index_of, listed_ids, graft_name, root_of, root_named, Place, Reached, Kept}
 use Rattle.model.specs.World as world
 use Rattle.model.specs.Focus.{OnChain, first, next}
-use Rattle.model.specs.Update.{UpdateData, Fault, MissingTreeInfo, NotRootTree, MissingData, NotReached, NamedTwice, ListedTwice, RootTreeGrafted, GraftWithChildren, GraftedTwice, NoGraft, NoFirstTreeInfo, FocusMissing, FocusOnEmptyGraft, IndexesUsedUp, StandsApart, Stands, Counts, IsNamed, IsFirst, named_at, IsRebuild, IsAccepted, index_for, merged}
+use Rattle.model.specs.Update.{UpdateData, Fault, MissingTreeInfo, NotRootTree, MissingData, NotReached, NamedTwice, ListedTwice, RootTreeGrafted, GraftWithChildren, GraftedTwice, NoGraft, NoFirstTreeInfo, FocusMissing, FocusOnEmptyGraft, IndexesUsedUp, StandsApart, Stands, Counts, IsNamed, IsFirst, named_at, IsRebuild, IsAccepted, index_for, merged_world}
 use Rattle.model.specs.State.{Lists}
 use Rattle.model.proofs.State.StatePlaces.{and_then_some, value_of, IsSome_is, root_of_parts, lister_is_node, listed_tree}
 use Rattle.model.proofs.Update.RebuildKeeps.{listed_same, graft_same, node_kept, node_old}
@@ -117,7 +117,7 @@ pub record IsShownLater (old : World) (u : UpdateData) : Type 0 where
 
 -- that no fault but one of the focus stands for an update that leaves new
 pub record IsShownApart (old : World) (u : UpdateData) (new : World) (ts : List (ℕ × Tree)) (es : List (FullNodeId × NodeData)) : Type 0 where
-  pub rebuilt : IsShownRebuild (merged old u) new ts es
+  pub rebuilt : IsShownRebuild (merged_world old u) new ts es
   pub occasion : IsShownFirst old u ⊎ IsShownLater old u
   pub named_tree : IsSome (get new.trees (index_for old u.name))
   pub named : AllByRecursion (λ e. IsNode new (in_tree (index_for old u.name) e.0)) u.nodes
@@ -125,7 +125,7 @@ pub record IsShownApart (old : World) (u : UpdateData) (new : World) (ts : List 
   pub entry_of : NodeId → ℕ
   pub named_once : EachAt (λ i n. entry_of n ≡ i) 0 (map (λ e. e.0) u.nodes)
   pub place_of : FullNodeId → Place
-  pub listed_once : EachListed (λ p c. (p ≡ place_of c) × (root_of (merged old u) c.tree ≢ Some c)) es
+  pub listed_once : EachListed (λ p c. (p ≡ place_of c) × (root_of (merged_world old u) c.tree ≢ Some c)) es
   pub graft_of : TreeId → FullNodeId
   pub grafted_once : EachGraft (λ id d name. (d.children ≡ []) × (name ≢ ROOT_NAME) × (id ≡ graft_of name)) es
 
@@ -134,9 +134,9 @@ pub record IsShownAccepted (old : World) (u : UpdateData) (new : World) (ts : Li
   pub apart : IsShownApart old u new ts es
   -- the root tree's declared focus is a node and no graft
   pub focus : Tree
-  pub is_focus : get (merged old u).trees 0 ≡ Some focus
+  pub is_focus : get (merged_world old u).trees 0 ≡ Some focus
   pub focus_there : IsNode new (in_tree 0 focus.focus)
-  pub focus_ends : graft_name (merged old u) (in_tree 0 focus.focus) ≡ None
+  pub focus_ends : graft_name (merged_world old u) (in_tree 0 focus.focus) ≡ None
 
 pub nothing : {A : Type 0} (o : Option A) → o ≡ None → IsSome o → ⊥
 nothing o e there = cc
@@ -154,7 +154,7 @@ chain_ends m t is none id (next graft id' on goes) =
     absurd (nothing (graft_name m (in_tree 0 t.focus)) none (IsSome_is goes.name (ap (graft_name m) (sym same) ∙ goes.grafts)))
 
 module _ {old : World} {u : UpdateData} {new : World} {ts : List (ℕ × Tree)} {es : List (FullNodeId × NodeData)} (s : IsShownApart old u new ts es) where
-  pub is_rebuild : IsRebuild (merged old u) new
+  pub is_rebuild : IsRebuild (merged_world old u) new
   is_rebuild = rebuild_shown s.rebuilt
 
   named_there : (id : FullNodeId) → IsNamed old u id → IsNode new id
@@ -164,16 +164,16 @@ module _ {old : World} {u : UpdateData} {new : World} {ts : List (ℕ × Tree)} 
   counted id (inl n) = named_there id n
   counted id (inr k) = shown_reached s.rebuilt id k.1 (shown_kept s.rebuilt id.tree k.0)
 
-  listed_new : (p : Place) (child : FullNodeId) → Counts old u p.0 → Lists (merged old u) p child → Lists new p child
+  listed_new : (p : Place) (child : FullNodeId) → Counts old u p.0 → Lists (merged_world old u) p child → Lists new p child
   listed_new p child c at = let k = node_kept is_rebuild p.0 (counted p.0 c) in subst (λ xs. slice_get xs p.1 ≡ Some child) (sym (listed_same is_rebuild p.0 k.0 k.1)) at
 
-  grafts_new : (id : FullNodeId) (name : TreeId) → Counts old u id → graft_name (merged old u) id ≡ Some name → graft_name new id ≡ Some name
+  grafts_new : (id : FullNodeId) (name : TreeId) → Counts old u id → graft_name (merged_world old u) id ≡ Some name → graft_name new id ≡ Some name
   grafts_new id name c is = let k = node_kept is_rebuild id (counted id c) in graft_same is_rebuild id k.0 k.1 ∙ is
 
-  placed : (p : Place) (child : FullNodeId) → Counts old u p.0 → Lists (merged old u) p child → (p ≡ s.place_of child) × (root_of (merged old u) child.tree ≢ Some child)
-  placed p child c at = each_listed new es s.rebuilt.es_are (λ p c. (p ≡ s.place_of c) × (root_of (merged old u) c.tree ≢ Some c)) s.listed_once p child (listed_new p child c at)
+  placed : (p : Place) (child : FullNodeId) → Counts old u p.0 → Lists (merged_world old u) p child → (p ≡ s.place_of child) × (root_of (merged_world old u) child.tree ≢ Some child)
+  placed p child c at = each_listed new es s.rebuilt.es_are (λ p c. (p ≡ s.place_of c) × (root_of (merged_world old u) c.tree ≢ Some c)) s.listed_once p child (listed_new p child c at)
 
-  grafted : (id : FullNodeId) (name : TreeId) → Counts old u id → graft_name (merged old u) id ≡ Some name → (d : NodeData) × HasData new id d × ((d.children ≡ []) × (name ≢ ROOT_NAME) × (id ≡ s.graft_of name))
+  grafted : (id : FullNodeId) (name : TreeId) → Counts old u id → graft_name (merged_world old u) id ≡ Some name → (d : NodeData) × HasData new id d × ((d.children ≡ []) × (name ≢ ROOT_NAME) × (id ≡ s.graft_of name))
   grafted id name c is = each_graft new es s.rebuilt.es_are (λ id d name. (d.children ≡ []) × (name ≢ ROOT_NAME) × (id ≡ s.graft_of name)) s.grafted_once id name (grafts_new id name c is)
 
   pub none_stands_apart : (f : Fault) → ¬ (StandsApart old u f)
@@ -181,12 +181,12 @@ module _ {old : World} {u : UpdateData} {new : World} {ts : List (ℕ × Tree)} 
   none_stands_apart NotRootTree h = ⊎_elim (λ (o : IsShownFirst old u). h.1 o.for_root) (λ (o : IsShownLater old u). o.later h.0) s.occasion
   none_stands_apart (MissingData n) h = ⊎_elim
       (λ is.
-      let t = root_of_parts (merged old u) (index_for old u.name) h.0 is in
+      let t = root_of_parts (merged_world old u) (index_for old u.name) h.0 is in
       let v = value_of (get new.trees (index_for old u.name)) s.named_tree in
       let f = tree_shown s.rebuilt (index_for old u.name) v.0 v.1 in
       let same : v.0 ≡ t.0 = same_Some v.0 t.0 (sym f.0 ∙ t.1) in
       h.2 (node_old is_rebuild h.0 (subst (IsNode new) (ap (λ x. in_tree (index_for old u.name) x.root) same ∙ t.2) f.2)))
-      (λ (l : (p : Place) × (Counts old u p.0 × Lists (merged old u) p h.0)).
+      (λ (l : (p : Place) × (Counts old u p.0 × Lists (merged_world old u) p h.0)).
       h.2 (node_old is_rebuild h.0 (each_listed new es s.rebuilt.es_are (λ p c. IsNode new c) s.rebuilt.children l.0 h.0 (listed_new l.0 h.0 l.1.0 l.1.1))))
       h.3
   none_stands_apart (NotReached n) h = h.3 (node_kept is_rebuild h.0 (named_there h.0 h.2)).1
@@ -194,13 +194,13 @@ module _ {old : World} {u : UpdateData} {new : World} {ts : List (ℕ × Tree)} 
       let at : (i : ℕ) → named_at u i ≡ Some n → s.entry_of n ≡ i + 0 = λ i is. each_at (λ i k. s.entry_of k ≡ i) 0 (map (λ e. e.0) u.nodes) s.named_once i n is in
       h.2 (let a = at h.0 h.3 in let b = at h.1 h.4 in omega arith)
   none_stands_apart (ListedTwice n) h = ⊎_elim
-      (λ (o : (q : Place) × (h.2 ≢ q) × (Counts old u q.0 × Lists (merged old u) q h.0)). o.1 ((placed h.2 h.0 h.3.0 h.3.1).0 ∙ sym (placed o.0 h.0 o.2.0 o.2.1).0))
+      (λ (o : (q : Place) × (h.2 ≢ q) × (Counts old u q.0 × Lists (merged_world old u) q h.0)). o.1 ((placed h.2 h.0 h.3.0 h.3.1).0 ∙ sym (placed o.0 h.0 o.2.0 o.2.1).0))
       (λ root. (placed h.2 h.0 h.3.0 h.3.1).1 root) h.4
   none_stands_apart (RootTreeGrafted n) h = (grafted h.0 ROOT_NAME h.2.0 h.2.1).2.1 refl
   none_stands_apart (GraftWithChildren n) h =
       let g = grafted h.0 h.2 h.3.0 h.3.1 in
       let k = node_kept is_rebuild h.0 (counted h.0 h.3.0) in
-      let nothing : listed new h.0 ≡ [] = ap (λ o. option_map_or (λ d. map (in_tree h.0.tree) d.children) o []) g.1 ∙ ap (map (in_tree h.0.tree)) g.2.0 in
+      let nothing : listed_ids new h.0 ≡ [] = ap (λ o. option_map_or (λ d. map (in_tree h.0.tree) d.children) o []) g.1 ∙ ap (map (in_tree h.0.tree)) g.2.0 in
       h.4 (sym (listed_same is_rebuild h.0 k.0 k.1) ∙ nothing)
   none_stands_apart (GraftedTwice name) h = h.2 ((grafted h.0 name h.3.0 h.3.1).2.2 ∙ sym (grafted h.1 name h.4.0 h.4.1).2.2)
   none_stands_apart (NoGraft name) h = ⊎_elim
@@ -219,17 +219,17 @@ module _ {old : World} {u : UpdateData} {new : World} {ts : List (ℕ × Tree)} 
       s.occasion
 
   -- where the chain of the focus meets nodes alone, and no graft of a tree that isn't present, no fault stands at all
-  pub accepted_by_chain : ((id : FullNodeId) → OnChain (merged old u) id → IsNode new id) → ((id : FullNodeId) (name : TreeId) → OnChain (merged old u) id → graft_name (merged old u) id ≡ Some name → IsSome (root_named (merged old u) name)) → IsAccepted old u new
+  pub accepted_by_chain : ((id : FullNodeId) → OnChain (merged_world old u) id → IsNode new id) → ((id : FullNodeId) (name : TreeId) → OnChain (merged_world old u) id → graft_name (merged_world old u) id ≡ Some name → IsSome (root_named (merged_world old u) name)) → IsAccepted old u new
   accepted_by_chain meets goes_on = (none, is_rebuild)
     where
       none : (f : Fault) → ¬ (Stands old u f)
       none (FocusMissing n) h = h.5 (node_kept is_rebuild h.2 (meets h.2 h.4)).1
-      none (FocusOnEmptyGraft name) h = let at = h.1 in nothing (root_named (merged old u) name) at.5 (goes_on at.0 name at.1 at.4)
+      none (FocusOnEmptyGraft name) h = let at = h.1 in nothing (root_named (merged_world old u) name) at.5 (goes_on at.0 name at.1 at.4)
       none f h = none_stands_apart f h
 
 module _ {old : World} {u : UpdateData} {new : World} {ts : List (ℕ × Tree)} {es : List (FullNodeId × NodeData)} (s : IsShownAccepted old u new ts es) where
   pub accepted_shown : IsAccepted old u new
-  accepted_shown = accepted_by_chain s.apart (λ id on. subst (IsNode new) (sym (ends id on)) s.focus_there) (λ id name on grafts. absurd (nothing (graft_name (merged old u) id) (ap (graft_name (merged old u)) (ends id on) ∙ s.focus_ends) (IsSome_is name grafts)))
+  accepted_shown = accepted_by_chain s.apart (λ id on. subst (IsNode new) (sym (ends id on)) s.focus_there) (λ id name on grafts. absurd (nothing (graft_name (merged_world old u) id) (ap (graft_name (merged_world old u)) (ends id on) ∙ s.focus_ends) (IsSome_is name grafts)))
     where
-      ends : (id : FullNodeId) → OnChain (merged old u) id → id ≡ in_tree 0 s.focus.focus
-      ends id on = chain_ends (merged old u) s.focus s.is_focus s.focus_ends id on
+      ends : (id : FullNodeId) → OnChain (merged_world old u) id → id ≡ in_tree 0 s.focus.focus
+      ends id on = chain_ends (merged_world old u) s.focus s.is_focus s.focus_ends id on

@@ -10,7 +10,7 @@ use Rattle.model.specs.FullIds.{full_cmp, full_total}
 use Rattle.model.specs.World.{World, Tree, IsNode, HasData, in_tree, Reached, Kept, graft_name, root_named, focus_named}
 use Rattle.model.specs.World as world
 use Rattle.model.specs.Focus.{OnChain, first, next, GoesOn, IsFocus, Resolves}
-use Rattle.model.specs.Update.{IsAccepted, merged}
+use Rattle.model.specs.Update.{IsAccepted, merged_world}
 use Rattle.model.specs.Differences.{Updated, FocusMoved, AreDifferences}
 use Rattle.model.specs.Examples.{at, node, name, window, document, graft, button, with_inner_focus, focus_on}
 use Rattle.model.specs.ToldExamples.{FocusGoesInside, FocusComesBack}
@@ -70,7 +70,7 @@ on_button = (refl, at 1 1, (next (at 0 1) (at 1 1) (first (tree_of 1) (tree_here
 
 module _ (f g : ℕ) (stays : IsSome (find full_cmp (at 0 g) nodes)) where
   abbrev m : World
-  m = merged (with_inner_focus f) (focus_on g)
+  m = merged_world (with_inner_focus f) (focus_on g)
 
   before : IsWritten m (trees g) nodes
   before = merged_written (with_inner_focus f) (focus_on g) (written f) (node 0) refl

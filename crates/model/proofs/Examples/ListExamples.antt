@@ -9,7 +9,7 @@ use Rattle.schema.specs.declared.TreeId.{TreeId}
 use Rattle.model.specs.declared.FullNodeId.{FullNodeId}
 use Rattle.model.specs.FullIds.{full_cmp}
 use Rattle.model.specs.World.{World, Tree, data_of, in_tree, index_of, at_most_one, children, root_of, root_named, Place}
-use Rattle.model.specs.Forest.{Forest, empty, tree, plant, grown, is_same, place_among, place_of, chain, climbed, below, above}
+use Rattle.model.specs.Forest.{Forest, empty, tree, plant, levels_below, is_same, place_among, place_of, chain, places_up, below, above}
 use Rattle.model.specs.Lists.{nodes_of, preorder, following_siblings, preceding_siblings, deepest_first, deepest_last}
 use Rattle.model.specs.Paths.{depth, index_path}
 use Rattle.model.specs.Frontier.{frontier}
@@ -46,17 +46,17 @@ plant_same f g h (c ∷ cs) =
     let first : f c ≡ g c = h c in
     let others : plant f cs ≡ plant g cs = plant_same f g h cs in cc
 
-grown_is : (w : World) (kids : FullNodeId → List FullNodeId) → ((id : FullNodeId) → children w id ≡ kids id) → (n : ℕ) (id : FullNodeId) → grown w n id ≡ grown_by kids n id
+grown_is : (w : World) (kids : FullNodeId → List FullNodeId) → ((id : FullNodeId) → children w id ≡ kids id) → (n : ℕ) (id : FullNodeId) → levels_below w n id ≡ grown_by kids n id
 grown_is w kids h zero id = refl
-grown_is w kids h (suc n) id = ap (plant (grown w n)) (h id) ∙ plant_same (grown w n) (grown_by kids n) (grown_is w kids h n) (kids id)
+grown_is w kids h (suc n) id = ap (plant (levels_below w n)) (h id) ∙ plant_same (levels_below w n) (grown_by kids n) (grown_is w kids h n) (kids id)
 
 chain_same : (f g : FullNodeId → List Place) → ((c : FullNodeId) → f c ≡ g c) → (o : Option Place) → chain f o ≡ chain g o
 chain_same f g h None = refl
 chain_same f g h (Some p) = ap (λ ps. p ∷ ps) (h p.0)
 
-climbed_is : (w : World) (place : FullNodeId → Option Place) → ((id : FullNodeId) → place_of w id ≡ place id) → (n : ℕ) (id : FullNodeId) → climbed w n id ≡ climbed_by place n id
+climbed_is : (w : World) (place : FullNodeId → Option Place) → ((id : FullNodeId) → place_of w id ≡ place id) → (n : ℕ) (id : FullNodeId) → places_up w n id ≡ climbed_by place n id
 climbed_is w place h zero id = refl
-climbed_is w place h (suc n) id = ap (chain (climbed w n)) (h id) ∙ chain_same (climbed w n) (climbed_by place n) (climbed_is w place h n) (place id)
+climbed_is w place h (suc n) id = ap (chain (places_up w n)) (h id) ∙ chain_same (places_up w n) (climbed_by place n) (climbed_is w place h n) (place id)
 
 place_among_is : (w : World) (kids : FullNodeId → List FullNodeId) → ((id : FullNodeId) → children w id ≡ kids id) → (c : FullNodeId) (ps : List FullNodeId) → place_among w c ps ≡ place_by kids c ps
 place_among_is w kids h c [] = refl
@@ -90,11 +90,11 @@ eight = len-entries pictured.nodes ∙ ap length (entries-from_sorted full_cmp p
 
 below_are : (id : FullNodeId) → below pictured id ≡ grown_by written_children 8 id
 unfolding below
-below_are id = ap (λ n. grown pictured n id) eight ∙ grown_is pictured written_children children_are 8 id
+below_are id = ap (λ n. levels_below pictured n id) eight ∙ grown_is pictured written_children children_are 8 id
 
 above_are : (id : FullNodeId) → above pictured id ≡ climbed_by written_place 8 id
 unfolding above
-above_are id = ap (λ n. climbed pictured n id) eight ∙ climbed_is pictured written_place place_is 8 id
+above_are id = ap (λ n. places_up pictured n id) eight ∙ climbed_is pictured written_place place_is 8 id
 
 abbrev written_path : FullNodeId → List ℕ
 written_path id = reverse (map (λ (p : Place). p.1) (climbed_by written_place 8 id))

@@ -4,7 +4,7 @@ use Rattle.schema.specs.NodeData.{NodeData}
 use Rattle.model.specs.declared.FullNodeId.{FullNodeId}
 use Rattle.model.specs.World.{World}
 use Rattle.model.specs.World as world
-use Rattle.model.specs.Update.{ListedTwice, Stands, IsAccepted, merged}
+use Rattle.model.specs.Update.{ListedTwice, Stands, IsAccepted, merged_world}
 use Rattle.model.specs.Examples.{at, node, window, container, button, plain_tree, before_move, after_move, half_a_move, whole_move}
 use Rattle.model.proofs.Examples.Tools.{◌▸◌, lists_at}
 use Rattle.model.proofs.Examples.Tested.{IsWritten, merged_written, node_in, reached_by, is_present, accepted_by_tests}
@@ -19,7 +19,7 @@ moved_child_with_both_parents_is_accepted =
 -- ---- without its old parent
 
 abbrev half : World
-half = merged before_move half_a_move
+half = merged_world before_move half_a_move
 
 abbrev half_nodes : List (FullNodeId × NodeData)
 half_nodes = (at 0 0, window (1 ∷ 2 ∷ [])) ∷ (at 0 1, container (3 ∷ [])) ∷ (at 0 2, container (3 ∷ [])) ∷ (at 0 3, button) ∷ []

@@ -14,7 +14,7 @@ use Rattle.schema.specs.NodeData.{NodeData}
 use Rattle.schema.specs.declared.TreeId.{TreeId}
 use Rattle.model.specs.declared.FullNodeId.{FullNodeId}
 use Rattle.model.specs.FullIds.{full_cmp}
-use Rattle.model.specs.World.{ROOT_NAME, Tree, data_of, IsNode, in_tree, listed, graft_name, root_of, Place, Reached, root, child, Kept, grafted}
+use Rattle.model.specs.World.{ROOT_NAME, Tree, data_of, IsNode, in_tree, listed_ids, graft_name, root_of, Place, Reached, root, child, Kept, grafted}
 use Rattle.model.specs.Focus.{OnChain, first, next}
 use Rattle.model.specs.State.{IsState, Lists}
 use Rattle.model.specs.Forest.{is_same}
@@ -41,7 +41,7 @@ is_node id e = ap is_some (data_is id) ∙ e
 abbrev written_listed : FullNodeId → List FullNodeId
 written_listed id = option_map_or (λ (d : NodeData). map (in_tree id.tree) d.children) (find full_cmp id pictured_nodes) []
 
-listed_is : (id : FullNodeId) → listed pictured id ≡ written_listed id
+listed_is : (id : FullNodeId) → listed_ids pictured id ≡ written_listed id
 listed_is id = ap (λ (o : Option NodeData). option_map_or (λ (d : NodeData). map (in_tree id.tree) d.children) o []) (data_is id)
 
 abbrev written_graft : FullNodeId → Option TreeId

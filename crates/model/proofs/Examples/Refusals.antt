@@ -8,7 +8,7 @@ use Rattle.model.specs.declared.FullNodeId.{FullNodeId}
 use Rattle.model.specs.FullIds.{full_cmp, full_total}
 use Rattle.model.specs.World.{World, Tree, IsNode, Place, Reached, Kept}
 use Rattle.model.specs.World as world
-use Rattle.model.specs.Update.{MissingData, NotReached, NamedTwice, Stands, merged}
+use Rattle.model.specs.Update.{MissingData, NotReached, NamedTwice, Stands, merged_world}
 use Rattle.model.specs.Examples.{at, node, window, container, button, plain_tree, plain, an_island, button_twice, child_without_data}
 use Rattle.model.proofs.State.StatePlaces.{listed_tree}
 use Rattle.model.proofs.Update.Merges.{tree_named}
@@ -25,7 +25,7 @@ plain_tree_is : get plain.trees 0 ≡ Some plain_tree
 plain_tree_is = get_is plain.trees ts (entries-from_entries nat_cmp_total ts) 0
 
 abbrev island : World
-island = merged plain an_island
+island = merged_world plain an_island
 
 abbrev island_nodes : List (FullNodeId × NodeData)
 island_nodes = (at 0 0, window (1 ∷ [])) ∷ (at 0 1, button) ∷ (at 0 5, container (6 ∷ [])) ∷ (at 0 6, container (5 ∷ [])) ∷ []
@@ -53,7 +53,7 @@ pub node_named_twice_is_refused : Stands plain button_twice (NamedTwice (node 1)
 node_named_twice_is_refused = (0, 1, omega arith, refl, refl)
 
 abbrev lacking : World
-lacking = merged plain child_without_data
+lacking = merged_world plain child_without_data
 
 abbrev lacking_nodes : List (FullNodeId × NodeData)
 lacking_nodes = (at 0 0, window (1 ∷ 9 ∷ [])) ∷ (at 0 1, button) ∷ []

@@ -8,11 +8,11 @@ use Rattle.std.specs.FinMap.{FinMap, from_sorted, find, entries, entries-from_so
 use Rattle.std.proofs.lemmas.Map.Views.{tells_apart}
 use Rattle.schema.specs.NodeData.{NodeData}
 use Rattle.model.specs.RoleClasses.{is_multiline}
-use Rattle.model.specs.Upward.{given, says}
+use Rattle.model.specs.Upward.{field_at, says}
 use Rattle.model.specs.declared.FullNodeId.{FullNodeId}
 use Rattle.model.specs.FullIds.{full_cmp, exact_full}
 use Rattle.model.specs.World.{World, data_of, in_tree}
-use Rattle.model.specs.Forest.{empty, tree, plant, grown, below}
+use Rattle.model.specs.Forest.{empty, tree, plant, levels_below, below}
 use Rattle.model.specs.Frontier.{frontier}
 use Rattle.model.specs.TextRuns.{SentRun, is_password, run_filter, run_ids, sent_run, sent_runs, supports_text_ranges}
 use Rattle.model.specs.FlatText.{needs_masking, shown_run, flat_text}
@@ -47,15 +47,15 @@ module _ (w : World) (v a1 l1 a2 l2 : List ℕ) (is : w.nodes ≡ from_sorted (s
   three_nodes : len w.nodes ≡ 3
   three_nodes = len-entries w.nodes ∙ ap (λ (m : FinMap full_cmp NodeData). length (entries m)) is ∙ ap length (entries-from_sorted full_cmp (secret_nodes v (run_node a1 l1) (run_node a2 l2)) tt)
 
-  leaf : (n : ℕ) (id : FullNodeId) (d : NodeData) → data_of w id ≡ Some d → d.tree_id ≡ None → d.children ≡ [] → grown w (suc n) id ≡ empty
-  leaf n id d e bare none = ap (plant (grown w n)) (children_written w id d e bare ∙ ap (map (in_tree id.tree)) none)
+  leaf : (n : ℕ) (id : FullNodeId) (d : NodeData) → data_of w id ≡ Some d → d.tree_id ≡ None → d.children ≡ [] → levels_below w (suc n) id ≡ empty
+  leaf n id d e bare none = ap (plant (levels_below w n)) (children_written w id d e bare ∙ ap (map (in_tree id.tree)) none)
 
   forest : below w (at 0 0) ≡ tree (at 0 1) empty (tree (at 0 2) empty empty)
   unfolding below
   forest =
-      ap (λ n. grown w n (at 0 0)) three_nodes
-      ∙ ap (plant (grown w 2)) (children_written w (at 0 0) (field_node v) root_data refl)
-      ∙ ap (λ f. tree (at 0 1) f (tree (at 0 2) (grown w 2 (at 0 2)) empty)) (leaf 1 (at 0 1) (run_node a1 l1) first_data refl refl)
+      ap (λ n. levels_below w n (at 0 0)) three_nodes
+      ∙ ap (plant (levels_below w 2)) (children_written w (at 0 0) (field_node v) root_data refl)
+      ∙ ap (λ f. tree (at 0 1) f (tree (at 0 2) (levels_below w 2 (at 0 2)) empty)) (leaf 1 (at 0 1) (run_node a1 l1) first_data refl refl)
       ∙ ap (λ f. tree (at 0 1) empty (tree (at 0 2) f empty)) (leaf 1 (at 0 2) (run_node a2 l2) second_data refl refl)
 
   pub runs : run_ids w (at 0 0) ≡ at 0 1 ∷ at 0 2 ∷ []
@@ -147,10 +147,10 @@ shown_first =
 
 told_label : ¬ (EqualShape (at 0 0) one_secret labelled_secret)
 told_label e =
-    let one : given (λ d. d.label) one_secret (at 0 1) ≡ None = ap (option_and_then (λ (d : NodeData). d.label)) (data_in None (secret_nodes (codes "secret") (run_node (112 ∷ 195 ∷ 164 ∷ []) (1 ∷ 2 ∷ [])) (run_node (codes "ss") (1 ∷ 1 ∷ []))) tt (at 0 1)) in
-    let other : given (λ d. d.label) labelled_secret (at 0 1) ≡ Some (codes "x") = ap (option_and_then (λ (d : NodeData). d.label)) (data_in None (secret_nodes (codes "secret") labelled_run (run_node (codes "ss") (1 ∷ 1 ∷ []))) tt (at 0 1)) in
-    let same : given (λ d. d.label) one_secret (at 0 1) ≡ given (λ d. d.label) labelled_secret (at 0 1) =
-    sym (λ i. given_same one_secret (λ d. d.label) (λ d. refl) i (at 0 1)) ∙ ap (λ u. given (λ d. d.label) u (at 0 1)) e.outlines ∙ (λ i. given_same labelled_secret (λ d. d.label) (λ d. refl) i (at 0 1)) in
+    let one : field_at (λ d. d.label) one_secret (at 0 1) ≡ None = ap (option_and_then (λ (d : NodeData). d.label)) (data_in None (secret_nodes (codes "secret") (run_node (112 ∷ 195 ∷ 164 ∷ []) (1 ∷ 2 ∷ [])) (run_node (codes "ss") (1 ∷ 1 ∷ []))) tt (at 0 1)) in
+    let other : field_at (λ d. d.label) labelled_secret (at 0 1) ≡ Some (codes "x") = ap (option_and_then (λ (d : NodeData). d.label)) (data_in None (secret_nodes (codes "secret") labelled_run (run_node (codes "ss") (1 ∷ 1 ∷ []))) tt (at 0 1)) in
+    let same : field_at (λ d. d.label) one_secret (at 0 1) ≡ field_at (λ d. d.label) labelled_secret (at 0 1) =
+    sym (λ i. given_same one_secret (λ d. d.label) (λ d. refl) i (at 0 1)) ∙ ap (λ u. field_at (λ d. d.label) u (at 0 1)) e.outlines ∙ (λ i. given_same labelled_secret (λ d. d.label) (λ d. refl) i (at 0 1)) in
     let no : None ≡ Some (codes "x") = sym one ∙ same ∙ other in
     cc
 

@@ -10,10 +10,10 @@ use Rattle.schema.specs.declared.NodeId.{NodeId}
 use Rattle.schema.specs.declared.TreeId.{TreeId}
 use Rattle.model.specs.declared.FullNodeId.{FullNodeId}
 use Rattle.model.specs.FullIds.{full_cmp}
-use Rattle.model.specs.World.{ROOT_NAME, World, Tree, HasData, IsNode, index_of, in_tree, listed, graft_name, root_of, root_named, at_most_one, children, Place, Reached, Kept}
+use Rattle.model.specs.World.{ROOT_NAME, World, Tree, HasData, IsNode, index_of, in_tree, listed_ids, graft_name, root_of, root_named, at_most_one, children, Place, Reached, Kept}
 use Rattle.model.specs.World as world
 use Rattle.model.specs.Forest.{place_of, place_among, is_same}
-use Rattle.model.specs.Update.{UpdateData, IsAccepted, index_for, root_after, merged}
+use Rattle.model.specs.Update.{UpdateData, IsAccepted, index_for, root_after, merged_world}
 use Rattle.model.proofs.Worlds.Names.{is_name, is_name-itself}
 use Rattle.model.proofs.Forest.PlaceOf.{same_from_test, test_self}
 use Rattle.model.proofs.Worlds.Written.{found_key}
@@ -38,7 +38,7 @@ trees_over w u root ts = put nat_cmp (index_for w u.name) (record { root = root;
 abbrev pub nodes_over : World → UpdateData → List (FullNodeId × NodeData) → List (FullNodeId × NodeData)
 nodes_over w u es = over (index_for w u.name) u.nodes es
 
-pub merged_written : (w : World) (u : UpdateData) {ts : List (ℕ × Tree)} {es : List (FullNodeId × NodeData)} → IsWritten w ts es → (root : NodeId) → root_read w u ts ≡ Some root → IsWritten (merged w u) (trees_over w u root ts) (nodes_over w u es)
+pub merged_written : (w : World) (u : UpdateData) {ts : List (ℕ × Tree)} {es : List (FullNodeId × NodeData)} → IsWritten w ts es → (root : NodeId) → root_read w u ts ≡ Some root → IsWritten (merged_world w u) (trees_over w u root ts) (nodes_over w u es)
 merged_written w u {ts} {es} is root read = record {
   trees =
       ap (λ o. entries (option_map_or (λ r. insert w.trees (index_for w u.name) (record { root = r; focus = u.focus })) o w.trees)) comes
@@ -152,7 +152,7 @@ module _ {w : World} {ts : List (ℕ × Tree)} {es : List (FullNodeId × NodeDat
         let p = passed (λ (p : Place). option_map_or (is_same id) (slice_get (listed_in es p.0) p.1) false && climbs w ts es n p.0) (lister es id) up in
         let both = and_parts (option_map_or (is_same id) (slice_get (listed_in es p.0.0) p.0.1) false) (climbs w ts es n p.0.0) p.2 in
         let c = passed (is_same id) (slice_get (listed_in es p.0.0) p.0.1) both.0 in
-        let lists : slice_get (listed w p.0.0) p.0.1 ≡ Some id = ap (λ o. slice_get (option_map_or (λ d. map (in_tree p.0.0.tree) d.children) o []) p.0.1) (node_in p.0.0) ∙ c.1 ∙ ap Some (sym (same_from_test id c.0 c.2)) in
+        let lists : slice_get (listed_ids w p.0.0) p.0.1 ≡ Some id = ap (λ o. slice_get (option_map_or (λ d. map (in_tree p.0.0.tree) d.children) o []) p.0.1) (node_in p.0.0) ∙ c.1 ∙ ap Some (sym (same_from_test id c.0 c.2)) in
         world.Reached.child p.0.0 id p.0.1 (reached_by n p.0.0 both.1) lists
   ]
 
@@ -177,9 +177,9 @@ module _ {w : World} {ts : List (ℕ × Tree)} {es : List (FullNodeId × NodeDat
   among id h = found_key id es (subst IsSome (node_in id) h)
 
   children_read : (id : FullNodeId) → children w id ≡ children_in w ts es id
-  children_read id = by_graft (graft_name w id) ∙ ap (λ o. option_map_or (λ name. at_most_one (named_in w ts name)) o (listed w id)) (grafts_in id) ∙ ap (option_map_or (λ name. at_most_one (named_in w ts name)) (graft_in es id)) (ap (λ o. option_map_or (λ d. map (in_tree id.tree) d.children) o []) (node_in id))
+  children_read id = by_graft (graft_name w id) ∙ ap (λ o. option_map_or (λ name. at_most_one (named_in w ts name)) o (listed_ids w id)) (grafts_in id) ∙ ap (option_map_or (λ name. at_most_one (named_in w ts name)) (graft_in es id)) (ap (λ o. option_map_or (λ d. map (in_tree id.tree) d.children) o []) (node_in id))
     where
-      by_graft : (o : Option TreeId) → option_map_or (λ name. at_most_one (root_named w name)) o (listed w id) ≡ option_map_or (λ name. at_most_one (named_in w ts name)) o (listed w id)
+      by_graft : (o : Option TreeId) → option_map_or (λ name. at_most_one (root_named w name)) o (listed_ids w id) ≡ option_map_or (λ name. at_most_one (named_in w ts name)) o (listed_ids w id)
       by_graft None = refl
       by_graft (Some name) = ap at_most_one (named_at name)
 
@@ -291,20 +291,20 @@ named_pass w u ts es =
 
 abbrev pub all_tests_pass : World → UpdateData → List (ℕ × Tree) → List (FullNodeId × NodeData) → List (ℕ × Tree) → List (FullNodeId × NodeData) → Bool
 all_tests_pass w u mts mes ts es =
-    ((trees_pass (merged w u) mts mes ts es && nodes_pass (merged w u) mts mes ts es) && (lists_pass mts es && grafts_pass (merged w u) mts ts es)) && named_pass w u ts es
+    ((trees_pass (merged_world w u) mts mes ts es && nodes_pass (merged_world w u) mts mes ts es) && (lists_pass mts es && grafts_pass (merged_world w u) mts ts es)) && named_pass w u ts es
 
 -- what is shown of an update and the world that it leaves: where each comes from, and that all tests pass
 pub record IsTested (w : World) (u : UpdateData) (new : World) (mts : List (ℕ × Tree)) (mes : List (FullNodeId × NodeData)) (ts : List (ℕ × Tree)) (es : List (FullNodeId × NodeData)) : Type 0 where
-  pub before : IsWritten (merged w u) mts mes
+  pub before : IsWritten (merged_world w u) mts mes
   pub after : IsWritten new ts es
-  pub same : (new.known ≡ (merged w u).known) × (new.toolkit ≡ (merged w u).toolkit) × (new.host_focused ≡ w.host_focused)
+  pub same : (new.known ≡ (merged_world w u).known) × (new.toolkit ≡ (merged_world w u).toolkit) × (new.host_focused ≡ w.host_focused)
   pub occasion : IsShownFirst w u ⊎ IsShownLater w u
   pub found : AllByRecursion (λ e. find nat_cmp e.0 mts ≡ Some e.1) ts × AllByRecursion (λ e. find full_cmp e.0 mes ≡ Some e.1) es
   pub passes : all_tests_pass w u mts mes ts es ≡ true
 
 module _ {w : World} {u : UpdateData} {new : World} {mts : List (ℕ × Tree)} {mes : List (FullNodeId × NodeData)} {ts : List (ℕ × Tree)} {es : List (FullNodeId × NodeData)} (s : IsTested w u new mts mes ts es) where
   abbrev m : World
-  m = merged w u
+  m = merged_world w u
 
   pub tested_apart : IsShownApart w u new ts es
   tested_apart =
@@ -380,7 +380,7 @@ module _ {w : World} {u : UpdateData} {new : World} {mts : List (ℕ × Tree)} {
 -- an update of a written world is accepted and leaves another, where the tests pass and the root tree's declared focus is a node and no graft
 pub accepted_by_tests : {w : World} (u : UpdateData) {new : World} {ots : List (ℕ × Tree)} {oes : List (FullNodeId × NodeData)} {ts : List (ℕ × Tree)} {es : List (FullNodeId × NodeData)}
     → IsWritten w ots oes → (root : NodeId) → root_read w u ots ≡ Some root → IsWritten new ts es
-    → (new.known ≡ (merged w u).known) × (new.toolkit ≡ (merged w u).toolkit) × (new.host_focused ≡ w.host_focused) → IsShownFirst w u ⊎ IsShownLater w u
+    → (new.known ≡ (merged_world w u).known) × (new.toolkit ≡ (merged_world w u).toolkit) × (new.host_focused ≡ w.host_focused) → IsShownFirst w u ⊎ IsShownLater w u
     → AllByRecursion (λ e. find nat_cmp e.0 (trees_over w u root ots) ≡ Some e.1) ts × AllByRecursion (λ e. find full_cmp e.0 (nodes_over w u oes) ≡ Some e.1) es
     → all_tests_pass w u (trees_over w u root ots) (nodes_over w u oes) ts es ≡ true
     → (focus : Tree) → find nat_cmp 0 (trees_over w u root ots) ≡ Some focus → has_node es (in_tree 0 focus.focus) ≡ true → graft_in (nodes_over w u oes) (in_tree 0 focus.focus) ≡ None → IsAccepted w u new

@@ -6,7 +6,7 @@ use Rattle.std.specs.List.Sorted.{IsStrictlySortedBy}
 use Rattle.schema.specs.NodeData.{NodeData}
 use Rattle.model.specs.declared.FullNodeId.{FullNodeId}
 use Rattle.model.specs.FullIds.{full_cmp}
-use Rattle.model.specs.World.{World, Place, data_of, in_tree, listed}
+use Rattle.model.specs.World.{World, Place, data_of, in_tree, listed_ids}
 use Rattle.model.specs.Forest.{place_of}
 use Rattle.model.specs.Differences.{Added, Updated, Removed, IsAscendingListOf, IsAdded, IsUpdated}
 use Rattle.model.specs.Examples.{at, node, window, document, button, labelled_document, nested, graft_moves_out, moved_out, empty_graft, pushed, labelled}
@@ -156,11 +156,11 @@ both_children = at 0 1 ∷ at 0 2 ∷ []
 member_of : (xs : List FullNodeId) → EachAt (λ _ c. Contains both_children c) 0 xs → (i : ℕ) (c : FullNodeId) → slice_get xs i ≡ Some c → Contains both_children c
 member_of xs each i c at = each_at (λ _ d. Contains both_children d) 0 xs each i c at
 
-listed_by : (w : World) (id : FullNodeId) (o : Option NodeData) → data_of w id ≡ o → listed w id ≡ option_map_or (λ d. map (in_tree id.tree) d.children) o []
+listed_by : (w : World) (id : FullNodeId) (o : Option NodeData) → data_of w id ≡ o → listed_ids w id ≡ option_map_or (λ d. map (in_tree id.tree) d.children) o []
 listed_by w id o e = ap (λ x. option_map_or (λ d. map (in_tree id.tree) d.children) x []) e
 
-children_within : (w : World) (xs : List FullNodeId) (p : Place) (id parent : FullNodeId) → parent ≡ p.0 → listed w parent ≡ xs → EachAt (λ _ c. Contains both_children c) 0 xs → Lists w p id → Contains both_children id
-children_within w xs p id parent same is each at = member_of xs each p.1 id (subst (λ ys. slice_get ys p.1 ≡ Some id) is (subst (λ x. slice_get (listed w x) p.1 ≡ Some id) (sym same) at))
+children_within : (w : World) (xs : List FullNodeId) (p : Place) (id parent : FullNodeId) → parent ≡ p.0 → listed_ids w parent ≡ xs → EachAt (λ _ c. Contains both_children c) 0 xs → Lists w p id → Contains both_children id
+children_within w xs p id parent same is each at = member_of xs each p.1 id (subst (λ ys. slice_get ys p.1 ≡ Some id) is (subst (λ x. slice_get (listed_ids w x) p.1 ≡ Some id) (sym same) at))
 
 of_parent : (p : Place) (id : FullNodeId) → (at 0 0 ≡ p.0) ⊎ (at 0 2 ≡ p.0) → Lists nested p id ⊎ Lists moved_out p id → Contains both_children id
 of_parent p id (inl root) (inl before) = children_within nested (at 0 1 ∷ []) p id (at 0 0) root (listed_by nested (at 0 0) _ (node_in nested_written (at 0 0))) ((0, omega arith, refl), tt) before

@@ -7,7 +7,7 @@ use Rattle.schema.specs.NodeData.{NodeData}
 use Rattle.schema.specs.declared.NodeId.{NodeId}
 use Rattle.model.specs.declared.FullNodeId.{FullNodeId}
 use Rattle.model.specs.FullIds.{full_cmp}
-use Rattle.model.specs.World.{World, IsNode, data_of, in_tree, listed, Place}
+use Rattle.model.specs.World.{World, IsNode, data_of, in_tree, listed_ids, Place}
 use Rattle.model.specs.State.{Lists}
 use Rattle.model.specs.Update.{UpdateData}
 use Rattle.model.specs.Work.{HasDepthInTree, IsSumOfDepths, IsChildOfNamed, IsWorkOf, named_ids}
@@ -75,7 +75,7 @@ tree_in o = option_map_or (λ id. id.tree) o 0
 
 lists_none : (w : World) (id : FullNodeId) (d : NodeData) → data_of w id ≡ Some d → d.children ≡ [] → (p : Place) (c : FullNodeId) → id ≡ p.0 → ¬ (Lists w p c)
 lists_none w id d is none p c same at_place =
-    let empty : listed w p.0 ≡ [] = subst (λ x. listed w x ≡ []) same (ap (λ o. option_map_or (λ x. map (in_tree id.tree) x.children) o []) is ∙ ap (map (in_tree id.tree)) none) in
+    let empty : listed_ids w p.0 ≡ [] = subst (λ x. listed_ids w x ≡ []) same (ap (λ o. option_map_or (λ x. map (in_tree id.tree) x.children) o []) is ∙ ap (map (in_tree id.tree)) none) in
     let nothing : slice_get [] p.1 ≡ Some c = subst (λ xs. slice_get xs p.1 ≡ Some c) empty at_place in
     cc
 

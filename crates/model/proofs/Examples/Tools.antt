@@ -12,8 +12,8 @@ use Rattle.schema.specs.declared.NodeId.{NodeId}
 use Rattle.schema.specs.declared.TreeId.{TreeId}
 use Rattle.model.specs.declared.FullNodeId.{FullNodeId}
 use Rattle.model.specs.FullIds.{full_cmp, full_total}
-use Rattle.model.specs.World.{World, Tree, HasData, IsNode, in_tree, listed, graft_name, root_of}
-use Rattle.model.specs.Update.{overwritten}
+use Rattle.model.specs.World.{World, Tree, HasData, IsNode, in_tree, listed_ids, graft_name, root_of}
+use Rattle.model.specs.Update.{overwritten_nodes}
 use Rattle.model.specs.Examples.{name}
 
 infixr 5 ◌▸◌
@@ -63,7 +63,7 @@ abbrev pub over : ℕ → List (NodeId × NodeData) → List (FullNodeId × Node
 over index [] es = es
 over index (u ∷ us) es = over index us (put full_cmp (in_tree index u.0) u.1 es)
 
-pub entries-overwritten : (nodes : FinMap full_cmp NodeData) (index : ℕ) (us : List (NodeId × NodeData)) → entries (overwritten nodes index us) ≡ over index us (entries nodes)
+pub entries-overwritten : (nodes : FinMap full_cmp NodeData) (index : ℕ) (us : List (NodeId × NodeData)) → entries (overwritten_nodes nodes index us) ≡ over index us (entries nodes)
 entries-overwritten nodes index [] = refl
 entries-overwritten nodes index (u ∷ us) = entries-overwritten (insert nodes (in_tree index u.0) u.1) index us ∙ ap (over index us) (entries-insert full_total nodes (in_tree index u.0) u.1)
 
@@ -80,7 +80,7 @@ each_at P k (y ∷ xs) each (suc i) x is = subst (λ n. P n x) (omega arith) (ea
 pub node_at : (w : World) (es : List (FullNodeId × NodeData)) → entries w.nodes ≡ es → (id : FullNodeId) → IsSome (find full_cmp id es) → IsNode w id
 node_at w es are id there = subst IsSome (sym (get_is w.nodes es are id)) there
 
-pub lists_at : (w : World) (p : FullNodeId) (d : NodeData) (i : ℕ) (c : FullNodeId) → HasData w p d → slice_get (map (in_tree p.tree) d.children) i ≡ Some c → slice_get (listed w p) i ≡ Some c
+pub lists_at : (w : World) (p : FullNodeId) (d : NodeData) (i : ℕ) (c : FullNodeId) → HasData w p d → slice_get (map (in_tree p.tree) d.children) i ≡ Some c → slice_get (listed_ids w p) i ≡ Some c
 lists_at w p d i c has at = ap (λ o. slice_get (option_map_or (λ d. map (in_tree p.tree) d.children) o []) i) has ∙ at
 
 pub grafts_at : (w : World) (id : FullNodeId) (d : NodeData) → HasData w id d → graft_name w id ≡ d.tree_id

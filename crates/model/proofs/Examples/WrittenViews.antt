@@ -9,7 +9,7 @@ use Rattle.schema.specs.declared.TreeId.{TreeId}
 use Rattle.model.specs.declared.FullNodeId.{FullNodeId}
 use Rattle.model.specs.FullIds.{full_cmp}
 use Rattle.model.specs.World.{ROOT_NAME, World, Tree, data_of, in_tree, index_of, at_most_one, children, root_of, focus_of, Place}
-use Rattle.model.specs.Forest.{Forest, empty, plant, grown, is_same, place_among, place_of, chain, climbed, below, above}
+use Rattle.model.specs.Forest.{Forest, empty, plant, levels_below, is_same, place_among, place_of, chain, places_up, below, above}
 use Rattle.model.specs.FocusFound.{focus_beyond, focus_from, effective_focus}
 use Rattle.model.specs.ViewExamples.{written, one_tree, root_tree, focus_at, has_host}
 
@@ -32,11 +32,11 @@ focus_by beyond (suc n) id = option_map_or (focus_by beyond n) (beyond id) id
 -- ---- of any world: its lists by its children, its climbs by its places
 
 module _ (w : World) where
-  pub grown_from : (n : ℕ) (id : FullNodeId) → grown w n id ≡ grown_by (children w) n id
+  pub grown_from : (n : ℕ) (id : FullNodeId) → levels_below w n id ≡ grown_by (children w) n id
   grown_from zero id = refl
   grown_from (suc n) id = ap (λ (g : FullNodeId → Forest). plant g (children w id)) (λ i c. grown_from n c i)
 
-  pub climbed_from : (n : ℕ) (id : FullNodeId) → climbed w n id ≡ climbed_by (place_of w) n id
+  pub climbed_from : (n : ℕ) (id : FullNodeId) → places_up w n id ≡ climbed_by (place_of w) n id
   climbed_from zero id = refl
   climbed_from (suc n) id = ap (λ (g : FullNodeId → List Place). chain g (place_of w id)) (λ i c. climbed_from n c i)
 
@@ -102,11 +102,11 @@ module _ (known : List TreeId) (ts : List (ℕ × Tree)) (es : List (FullNodeId 
 
     below_is : below w ≡ grown_by kids_by (length es)
     unfolding below
-    below_is = (λ i id. grown w (count_is i) id) ∙ (λ i id. grown_from w (length es) id i) ∙ (λ i id. grown_by (kids_are i) (length es) id)
+    below_is = (λ i id. levels_below w (count_is i) id) ∙ (λ i id. grown_from w (length es) id i) ∙ (λ i id. grown_by (kids_are i) (length es) id)
 
     above_is : above w ≡ climbed_by parent_by (length es)
     unfolding above
-    above_is = (λ i id. climbed w (count_is i) id) ∙ (λ i id. climbed_from w (length es) id i) ∙ (λ i id. climbed_by (place_is i) (length es) id)
+    above_is = (λ i id. places_up w (count_is i) id) ∙ (λ i id. climbed_from w (length es) id i) ∙ (λ i id. climbed_by (place_is i) (length es) id)
 
     beyond_is : focus_beyond w ≡ beyond_by
     beyond_is i id = option_and_then (λ name. option_and_then (declared_is i) (index_of w name)) (option_and_then (λ (d : NodeData). d.tree_id) (data_is i id))

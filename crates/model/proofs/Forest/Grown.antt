@@ -4,7 +4,7 @@ use Rattle.std.specs.Prelude.{Option, Some, None, slice_get}
 use Rattle.std.specs.FinMap.{len}
 use Rattle.model.specs.declared.FullNodeId.{FullNodeId}
 use Rattle.model.specs.World.{World, children, Place, StandsAt}
-use Rattle.model.specs.Forest.{Forest, plant, grown, place_of, chain, climbed, below, above, IsFormed}
+use Rattle.model.specs.Forest.{Forest, plant, levels_below, place_of, chain, places_up, below, above, IsFormed}
 use Rattle.model.specs.Paths.{depth}
 
 -- two ways to fill in what is below agree on the ids listed
@@ -18,9 +18,9 @@ chain_length : (up : FullNodeId → List Place) (o : Option Place) (n : ℕ) →
 chain_length up None n h = omega arith
 chain_length up (Some p) n h = omega (arith, h p.0)
 
-pub climbed_length : (w : World) (n : ℕ) (id : FullNodeId) → length (climbed w n id) ≤ n
+pub climbed_length : (w : World) (n : ℕ) (id : FullNodeId) → length (places_up w n id) ≤ n
 climbed_length w zero id = omega arith
-climbed_length w (suc n) id = chain_length (climbed w n) (place_of w id) n (climbed_length w n)
+climbed_length w (suc n) id = chain_length (places_up w n) (place_of w id) n (climbed_length w n)
 
 pub depth_at_most : (w : World) (id : FullNodeId) → depth w id ≤ len w.nodes
 unfolding above
@@ -41,10 +41,10 @@ none_below w formed id h (c ∷ cs) e =
     let child : slice_get (children w id) 0 ≡ Some c = ap (λ (xs : List FullNodeId). slice_get xs 0) e in
     absurd (omega (arith, depth_child w formed (id, 0) c child, depth_at_most w c))
 
-pub grown_same : (w : World) → IsFormed w → (n m : ℕ) (id : FullNodeId) → len w.nodes ≤ n + depth w id → len w.nodes ≤ m + depth w id → grown w n id ≡ grown w m id
+pub grown_same : (w : World) → IsFormed w → (n m : ℕ) (id : FullNodeId) → len w.nodes ≤ n + depth w id → len w.nodes ≤ m + depth w id → levels_below w n id ≡ levels_below w m id
 grown_same w formed zero zero id p q = refl
-grown_same w formed zero (suc m) id p q = sym (ap (plant (grown w m)) (none_below w formed id (omega arith) (children w id) refl))
-grown_same w formed (suc n) zero id p q = ap (plant (grown w n)) (none_below w formed id (omega arith) (children w id) refl)
+grown_same w formed zero (suc m) id p q = sym (ap (plant (levels_below w m)) (none_below w formed id (omega arith) (children w id) refl))
+grown_same w formed (suc n) zero id p q = ap (plant (levels_below w n)) (none_below w formed id (omega arith) (children w id) refl)
 grown_same w formed (suc n) (suc m) id p q =
     plant_same _ _ _ (λ i c e. grown_same w formed n m c (omega (arith, depth_child w formed (id, i) c e)) (omega (arith, depth_child w formed (id, i) c e)))
 

@@ -14,7 +14,7 @@ use Rattle.schema.specs.declared.TreeId.{TreeId}
 use Rattle.model.specs.declared.FullNodeId.{FullNodeId}
 use Rattle.model.specs.FullIds.{full_total}
 use Rattle.model.specs.World.{World, Tree, IsNode, in_tree, graft_name, Place, StandsAt, Reached, root, child, Kept, grafted, root_of}
-use Rattle.model.specs.Forest.{is_same, place_of, chain, climbed, above, IsFormed}
+use Rattle.model.specs.Forest.{is_same, place_of, chain, places_up, above, IsFormed}
 use Rattle.model.specs.State.{IsState, Lists}
 use Rattle.model.proofs.State.StatePlaces.{listed_tree, stands_listed, stands_grafted, root_named_parts, child_is_node, place_unique, root_has_no_place}
 use Rattle.model.proofs.Forest.PlaceOf.{stands_at_place, parent_is_node, same_from_test, place_from_one}
@@ -29,12 +29,12 @@ pub trail : (w : World) (c : FullNodeId) → Ends w c → List Place
 trail w c (top _ e) = []
 trail w c (up _ p e h) = p ∷ trail w p.0 h
 
-climbed_is : (w : World) (c : FullNodeId) (h : Ends w c) (n : ℕ) → length (trail w c h) ≤ n → climbed w n c ≡ trail w c h
+climbed_is : (w : World) (c : FullNodeId) (h : Ends w c) (n : ℕ) → length (trail w c h) ≤ n → places_up w n c ≡ trail w c h
 unfolding trail
 climbed_is w c (top _ e) zero l = refl
-climbed_is w c (top _ e) (suc n) l = ap (chain (climbed w n)) e
+climbed_is w c (top _ e) (suc n) l = ap (chain (places_up w n)) e
 climbed_is w c (up _ p e h) zero l = absurd (omega arith)
-climbed_is w c (up _ p e h) (suc n) l = ap (chain (climbed w n)) e ∙ ap (λ xs. p ∷ xs) (climbed_is w p.0 h n (omega arith))
+climbed_is w c (up _ p e h) (suc n) l = ap (chain (places_up w n)) e ∙ ap (λ xs. p ∷ xs) (climbed_is w p.0 h n (omega arith))
 
 -- there is only one
 trail_same : (w : World) (c d : FullNodeId) (h : Ends w c) (g : Ends w d) → c ≡ d → trail w c h ≡ trail w d g

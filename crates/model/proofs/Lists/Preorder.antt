@@ -11,7 +11,7 @@ use Rattle.std.proofs.lemmas.List.{map-append, reverse-append}
 use Rattle.std.proofs.lemmas.Map.Keys.{Less-from_sorted}
 use Rattle.model.specs.declared.FullNodeId.{FullNodeId}
 use Rattle.model.specs.World.{World, children, Place, StandsAt}
-use Rattle.model.specs.Forest.{Forest, empty, tree, plant, grown, below, above, IsFormed}
+use Rattle.model.specs.Forest.{Forest, empty, tree, plant, levels_below, below, above, IsFormed}
 use Rattle.model.specs.Lists.{nodes_of, preorder}
 use Rattle.model.specs.Paths.{index_path, IsBefore}
 use Rattle.model.proofs.Forest.Grown.{above_child}
@@ -32,10 +32,10 @@ hangs_plant w sub p k (c ∷ cs) stands hangs =
       hangs_plant w sub p (suc k) cs (λ i d e. let next : k + suc i ≡ suc k + i = omega arith in rw next at (stands (suc i) d e)) hangs,
     )
 
-hangs_grown : (w : World) (n : ℕ) (id : FullNodeId) → HangsAt w id 0 (grown w n id)
+hangs_grown : (w : World) (n : ℕ) (id : FullNodeId) → HangsAt w id 0 (levels_below w n id)
 unfolding HangsAt
 hangs_grown w zero id = tt
-hangs_grown w (suc n) id = hangs_plant w (grown w n) id 0 (children w id) (λ i c e. let here : i ≡ 0 + i = omega arith in rw (← here) e) (hangs_grown w n)
+hangs_grown w (suc n) id = hangs_plant w (levels_below w n) id 0 (children w id) (λ i c e. let here : i ≡ 0 + i = omega arith in rw (← here) e) (hangs_grown w n)
 
 pub hangs_below : (w : World) (id : FullNodeId) → HangsAt w id 0 (below w id)
 unfolding below

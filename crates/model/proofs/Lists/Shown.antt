@@ -12,7 +12,7 @@ use Rattle.model.specs.declared.filters.FilterResult.TheVariants.{Include, Exclu
 use Rattle.model.specs.World.{World, children, Place, StandsAt}
 use Rattle.model.specs.Forest.{Forest, empty, tree, place_of, chain, below, above, IsFormed}
 use Rattle.model.specs.Paths.{index_path, IsBefore}
-use Rattle.model.specs.Frontier.{shown, frontier, filtered_children, LeadsUpTo, IsShown}
+use Rattle.model.specs.Frontier.{shown_part, frontier, filtered_children, LeadsUpTo, IsShown}
 use Rattle.model.proofs.Forest.PlaceOf.{stands_at_place}
 use Rattle.model.proofs.Forest.Grown.{above_child}
 use Rattle.model.proofs.Lists.Preorder.{HangsAt, hangs_below, Under, under_child, under_deeper, under_lower, all_append, all_weaker, sorted_append, Precedes, under_before, by_path}
@@ -40,7 +40,7 @@ module _ (f : FullNodeId → FilterResult) (w : World) (formed : IsFormed w) whe
       inr (ap f here ∙ out, rw (sym (above_parts d q up e).1 ∙ ap (above w) here ∙ above_child w formed p c stands) (inl refl))
   leads_on p c stands out (q ∷ up) d e (inr h) = inr (h.0, leads_on p c stands out up q.0 (above_parts d q up e).1 h.1)
 
-  shown_of : (p : Place) (c : FullNodeId) → StandsAt w p c → (r : FilterResult) → f c ≡ r → (inner : List FullNodeId) → AllByRecursion (IsShown f w c) inner → AllByRecursion (IsShown f w p.0) (shown r c inner)
+  shown_of : (p : Place) (c : FullNodeId) → StandsAt w p c → (r : FilterResult) → f c ≡ r → (inner : List FullNodeId) → AllByRecursion (IsShown f w c) inner → AllByRecursion (IsShown f w p.0) (shown_part r c inner)
   shown_of p c stands Include e inner a = ((e, rw (above_child w formed p c stands) (inl refl)), tt)
   shown_of p c stands ExcludeNode e inner a = all_weaker (IsShown f w c) (IsShown f w p.0) (λ d s. (s.0, leads_on p c stands e (above w d) d refl s.1)) inner a
   shown_of p c stands ExcludeSubtree e inner a = tt
@@ -49,7 +49,7 @@ module _ (f : FullNodeId → FilterResult) (w : World) (formed : IsFormed w) whe
   unfolding HangsAt
   all_shown p k empty h = tt
   all_shown p k (tree c inner rest) h =
-      all_append (IsShown f w p) (shown (f c) c (frontier f inner)) (frontier f rest) (shown_of (p, k) c h.0 (f c) refl (frontier f inner) (all_shown c 0 inner h.1)) (all_shown p (suc k) rest h.2)
+      all_append (IsShown f w p) (shown_part (f c) c (frontier f inner)) (frontier f rest) (shown_of (p, k) c h.0 (f c) refl (frontier f inner) (all_shown c 0 inner h.1)) (all_shown p (suc k) rest h.2)
 
   -- ---- and back: what a node stands for is shown as far up as the nodes above it are left out
 
@@ -58,11 +58,11 @@ module _ (f : FullNodeId → FilterResult) (w : World) (formed : IsFormed w) whe
   in_children g (d ∷ ds) zero c x e h = Contains-append_left (g d) (flat_map g ds) x (rw (same_Some d c e) h)
   in_children g (d ∷ ds) (suc i) c x e h = Contains-append_right (g d) (flat_map g ds) x (in_children g ds i c x e h)
 
-  shown_in_parent : (q : Place) (d x : FullNodeId) → StandsAt w q d → Contains (shown (f d) d (filtered_children f w d)) x → Contains (filtered_children f w q.0) x
+  shown_in_parent : (q : Place) (d x : FullNodeId) → StandsAt w q d → Contains (shown_part (f d) d (filtered_children f w d)) x → Contains (filtered_children f w q.0) x
   shown_in_parent q d x stands h =
-      rw (frontier_is f w formed q.0) (in_children (λ c. shown (f c) c (filtered_children f w c)) (children w q.0) q.1 d x stands h)
+      rw (frontier_is f w formed q.0) (in_children (λ c. shown_part (f c) c (filtered_children f w c)) (children w q.0) q.1 d x stands h)
 
-  shown_in : (top : FullNodeId) (ps : List Place) (d x : FullNodeId) → above w d ≡ ps → LeadsUpTo f top ps → Contains (shown (f d) d (filtered_children f w d)) x → Contains (filtered_children f w top) x
+  shown_in : (top : FullNodeId) (ps : List Place) (d x : FullNodeId) → above w d ≡ ps → LeadsUpTo f top ps → Contains (shown_part (f d) d (filtered_children f w d)) x → Contains (filtered_children f w top) x
   shown_in top [] d x e h m = absurd h
   shown_in top (q ∷ up) d x e (inl here) m = rw here at (shown_in_parent q d x (above_parts d q up e).0 m)
   shown_in top (q ∷ up) d x e (inr h) m =
@@ -70,7 +70,7 @@ module _ (f : FullNodeId → FilterResult) (w : World) (formed : IsFormed w) whe
       let step : Contains (filtered_children f w q.0) x = shown_in_parent q d x parts.0 m in
       shown_in top up q.0 x parts.1 h.1 (ap_shown q.0 x h.0 step)
     where
-      ap_shown : (c x : FullNodeId) → f c ≡ ExcludeNode → Contains (filtered_children f w c) x → Contains (shown (f c) c (filtered_children f w c)) x
+      ap_shown : (c x : FullNodeId) → f c ≡ ExcludeNode → Contains (filtered_children f w c) x → Contains (shown_part (f c) c (filtered_children f w c)) x
       ap_shown c x out m = rw out m
 
   pub shown_is : (top id : FullNodeId) → Contains (filtered_children f w top) id ↔ IsShown f w top id
@@ -88,7 +88,7 @@ module _ (f : FullNodeId → FilterResult) (w : World) (formed : IsFormed w) whe
   abbrev pub At : FullNodeId → ℕ → FullNodeId → Type 0
   At p k d = (u : Under w p k d) × (u.index ≡ k)
 
-  pub shown_at : (p : FullNodeId) (k : ℕ) (c : FullNodeId) → StandsAt w (p, k) c → (r : FilterResult) (inner : List FullNodeId) → AllByRecursion (Under w c 0) inner → AllByRecursion (At p k) (shown r c inner)
+  pub shown_at : (p : FullNodeId) (k : ℕ) (c : FullNodeId) → StandsAt w (p, k) c → (r : FilterResult) (inner : List FullNodeId) → AllByRecursion (Under w c 0) inner → AllByRecursion (At p k) (shown_part r c inner)
   unfolding under_child under_deeper
   shown_at p k c stands Include inner a = ((under_child w formed p k c stands, refl), tt)
   shown_at p k c stands ExcludeNode inner a = all_weaker (Under w c 0) (At p k) (λ d u. (under_deeper w formed p k c d 0 stands u, refl)) inner a
@@ -98,11 +98,11 @@ module _ (f : FullNodeId → FilterResult) (w : World) (formed : IsFormed w) whe
   unfolding HangsAt
   all_below p k empty h = tt
   all_below p k (tree c inner rest) h =
-      all_append (Under w p k) (shown (f c) c (frontier f inner)) (frontier f rest)
-      (all_weaker (At p k) (Under w p k) (λ d a. a.0) (shown (f c) c (frontier f inner)) (shown_at p k c h.0 (f c) (frontier f inner) (all_below c 0 inner h.1)))
+      all_append (Under w p k) (shown_part (f c) c (frontier f inner)) (frontier f rest)
+      (all_weaker (At p k) (Under w p k) (λ d a. a.0) (shown_part (f c) c (frontier f inner)) (shown_at p k c h.0 (f c) (frontier f inner) (all_below c 0 inner h.1)))
       (all_weaker (Under w p (suc k)) (Under w p k) (λ d u. under_lower w p k (suc k) d (omega arith) u) (frontier f rest) (all_below p (suc k) rest h.2))
 
-  shown_sorted : (c : FullNodeId) (r : FilterResult) (inner : List FullNodeId) → IsStrictlySortedBy (by_path w formed) inner → IsStrictlySortedBy (by_path w formed) (shown r c inner)
+  shown_sorted : (c : FullNodeId) (r : FilterResult) (inner : List FullNodeId) → IsStrictlySortedBy (by_path w formed) inner → IsStrictlySortedBy (by_path w formed) (shown_part r c inner)
   unfolding IsStrictlySortedBy
   shown_sorted c Include inner s = (tt, tt)
   shown_sorted c ExcludeNode inner s = s
@@ -112,7 +112,7 @@ module _ (f : FullNodeId → FilterResult) (w : World) (formed : IsFormed w) whe
   unfolding HangsAt IsStrictlySortedBy
   all_sorted p k empty h = tt
   all_sorted p k (tree c inner rest) h =
-      let first : List FullNodeId = shown (f c) c (frontier f inner) in
+      let first : List FullNodeId = shown_part (f c) c (frontier f inner) in
       let later : AllByRecursion (Under w p (suc k)) (frontier f rest) = all_below p (suc k) rest h.2 in
       sorted_append (by_path w formed) first (frontier f rest) (shown_sorted c (f c) (frontier f inner) (all_sorted c 0 inner h.1)) (all_sorted p (suc k) rest h.2)
       (all_weaker (At p k) (λ d. AllByRecursion (Precedes w d) (frontier f rest))

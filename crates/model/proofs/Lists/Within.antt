@@ -7,7 +7,7 @@ use Rattle.std.proofs.lemmas.List.{map-append}
 use Rattle.std.proofs.lemmas.List.Elements.{Contains-append_left, Contains-append_right, Contains-append_cases, All-contains, All-from_recursion}
 use Rattle.model.specs.declared.FullNodeId.{FullNodeId}
 use Rattle.model.specs.World.{World, children, Place, StandsAt}
-use Rattle.model.specs.Forest.{Forest, empty, tree, plant, grown, place_of, chain, below, above, IsFormed}
+use Rattle.model.specs.Forest.{Forest, empty, tree, plant, levels_below, place_of, chain, below, above, IsFormed}
 use Rattle.model.specs.Lists.{nodes_of, preorder, ancestors, IsWithin}
 use Rattle.model.specs.Paths.{depth}
 use Rattle.model.proofs.Forest.PlaceOf.{stands_at_place}
@@ -33,10 +33,10 @@ contains_planted sub (d ∷ cs) (suc i) c e =
     contains_later d c (nodes_of (sub d) ++ nodes_of (plant sub cs)) (Contains-append_right (nodes_of (sub d)) (nodes_of (plant sub cs)) c (contains_planted sub cs i c e))
 
 module _ (w : World) (formed : IsFormed w) where
-  whole_grown : (n : ℕ) (id : FullNodeId) → len w.nodes ≤ n + depth w id → IsWhole w (grown w n id)
+  whole_grown : (n : ℕ) (id : FullNodeId) → len w.nodes ≤ n + depth w id → IsWhole w (levels_below w n id)
   unfolding IsWhole below
   whole_grown zero id h = tt
-  whole_grown (suc n) id h = whole_plant w (grown w n) (children w id) (λ i c e.
+  whole_grown (suc n) id h = whole_plant w (levels_below w n) (children w id) (λ i c e.
       let deep : len w.nodes ≤ n + depth w c = omega (arith, depth_child w formed (id, i) c e) in
       (grown_same w formed n (len w.nodes) c deep (omega arith), whole_grown n c deep))
 

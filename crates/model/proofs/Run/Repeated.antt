@@ -13,7 +13,7 @@ use Rattle.model.specs.declared.FullNodeId.{FullNodeId}
 use Rattle.model.specs.FullIds.{full_cmp, full_total, exact_full}
 use Rattle.model.specs.World.{ROOT_NAME, World, Tree, IsNode, index_of, in_tree, root_of, root_named, graft_name, Place, Kept}
 use Rattle.model.specs.World as world
-use Rattle.model.specs.Update.{UpdateData, InfoData, Fault, MissingTreeInfo, NotRootTree, MissingData, NotReached, NamedTwice, ListedTwice, RootTreeGrafted, GraftWithChildren, GraftedTwice, NoGraft, NoFirstTreeInfo, FocusMissing, FocusOnEmptyGraft, IndexesUsedUp, StandsApart, Stands, IsListedAt, IsNamed, IsRebuild, IsAccepted, index_for, overwritten, merged}
+use Rattle.model.specs.Update.{UpdateData, InfoData, Fault, MissingTreeInfo, NotRootTree, MissingData, NotReached, NamedTwice, ListedTwice, RootTreeGrafted, GraftWithChildren, GraftedTwice, NoGraft, NoFirstTreeInfo, FocusMissing, FocusOnEmptyGraft, IndexesUsedUp, StandsApart, Stands, IsListedAt, IsNamed, IsRebuild, IsAccepted, index_for, overwritten_nodes, merged_world}
 use Rattle.model.specs.State.{IsState}
 use Rattle.model.specs.Repeats.{Repeats}
 use Rattle.model.specs.Events.{NodeUpdated, seen_in}
@@ -38,7 +38,7 @@ module _ (nodes : FinMap full_cmp NodeData) (index : ℕ) where
   by_test id k d o true e has same = sym has ∙ ap (get nodes) (sym (tells_apart exact_full id k e))
   by_test id k d o false e has same = same
 
-  overwritten_same : (es : List (NodeId × NodeData)) (m : FinMap full_cmp NodeData) → ((id : FullNodeId) → get m id ≡ get nodes id) → ((e : NodeId × NodeData) → Contains es e → get nodes (in_tree index e.0) ≡ Some e.1) → (id : FullNodeId) → get (overwritten m index es) id ≡ get nodes id
+  overwritten_same : (es : List (NodeId × NodeData)) (m : FinMap full_cmp NodeData) → ((id : FullNodeId) → get m id ≡ get nodes id) → ((e : NodeId × NodeData) → Contains es e → get nodes (in_tree index e.0) ≡ Some e.1) → (id : FullNodeId) → get (overwritten_nodes m index es) id ≡ get nodes id
   overwritten_same [] m same has id = same id
   overwritten_same (e ∷ es) m same has id =
       overwritten_same es (insert m (in_tree index e.0) e.1)
@@ -56,33 +56,33 @@ module _ (w : World) (u : UpdateData) (s : IsState w) (r : Repeats w u) where
   tree_is : Tree
   tree_is = r.tree
 
-  same_tree : (index : ℕ) → get (merged w u).trees index ≡ get w.trees index
+  same_tree : (index : ℕ) → get (merged_world w u).trees index ≡ get w.trees index
   same_tree index = go (cases_eq index (index_for w u.name))
     where
       as_it_was : Some (record { root = r.tree.root; focus = u.focus }) ≡ Some r.tree
       as_it_was = ap (λ f. let t : Tree = record { root = r.tree.root; focus = f } in Some t) r.focus
 
-      go : (index ≡ index_for w u.name) ⊎ (index ≡ index_for w u.name → ⊥) → get (merged w u).trees index ≡ get w.trees index
-      go (inl same) = ap (get (merged w u).trees) same ∙ tree_named w u r.tree.root r.root ∙ as_it_was ∙ sym r.present ∙ ap (get w.trees) (sym index_is ∙ sym same)
+      go : (index ≡ index_for w u.name) ⊎ (index ≡ index_for w u.name → ⊥) → get (merged_world w u).trees index ≡ get w.trees index
+      go (inl same) = ap (get (merged_world w u).trees) same ∙ tree_named w u r.tree.root r.root ∙ as_it_was ∙ sym r.present ∙ ap (get w.trees) (sym index_is ∙ sym same)
       go (inr other) = tree_elsewhere w u index other
 
-  same_nodes : (id : FullNodeId) → get (merged w u).nodes id ≡ get w.nodes id
+  same_nodes : (id : FullNodeId) → get (merged_world w u).nodes id ≡ get w.nodes id
   same_nodes id = overwritten_same w.nodes (index_for w u.name) u.nodes w.nodes (λ x. refl) (λ e c. ap (λ i. get w.nodes (in_tree i e.0)) index_is ∙ r.nodes e c) id
 
-  pub merged_same : merged w u ≡ w
+  pub merged_same : merged_world w u ≡ w
   merged_same =
-      let known : (merged w u).known ≡ w.known = known_stays w u r.index r.known in
-      let trees : (merged w u).trees ≡ w.trees = same_map nat_cmp_total nat_cmp-IsAntisymmetric (merged w u).trees w.trees same_tree in
-      let nodes : (merged w u).nodes ≡ w.nodes = same_map full_total exact_full (merged w u).nodes w.nodes same_nodes in
-      let toolkit : (merged w u).toolkit ≡ w.toolkit = r.toolkit in
+      let known : (merged_world w u).known ≡ w.known = known_stays w u r.index r.known in
+      let trees : (merged_world w u).trees ≡ w.trees = same_map nat_cmp_total nat_cmp-IsAntisymmetric (merged_world w u).trees w.trees same_tree in
+      let nodes : (merged_world w u).nodes ≡ w.nodes = same_map full_total exact_full (merged_world w u).nodes w.nodes same_nodes in
+      let toolkit : (merged_world w u).toolkit ≡ w.toolkit = r.toolkit in
       λ i. record { known = known i; trees = trees i; nodes = nodes i; toolkit = toolkit i; host_focused = w.host_focused }
 
   -- ---- no fault stands
 
-  again : IsState (merged w u)
+  again : IsState (merged_world w u)
   again = subst IsState (sym merged_same) s
 
-  named_is_node : (id : FullNodeId) → IsNamed w u id → IsNode (merged w u) id
+  named_is_node : (id : FullNodeId) → IsNamed w u id → IsNode (merged_world w u) id
   named_is_node id h =
       let entry = named_entry u.nodes id.node h.1 in
       let tree : r.index ≡ id.tree = sym index_is ∙ sym h.0 in
@@ -118,7 +118,7 @@ module _ (w : World) (u : UpdateData) (s : IsState w) (r : Repeats w u) where
 
   none_stands : (f : Fault) → ¬ (Stands w u f)
   none_stands (FocusMissing n) h = h.5 (again.node_reached h.2 (again.focus_is_node h.2 h.4))
-  none_stands (FocusOnEmptyGraft name) h = let at = h.1 in no_some (root_named (merged w u) name) at.5 (again.focus_goes_on at.0 name at.1 at.4)
+  none_stands (FocusOnEmptyGraft name) h = let at = h.1 in no_some (root_named (merged_world w u) name) at.5 (again.focus_goes_on at.0 name at.1 at.4)
   none_stands f h = none_apart f h
 
   pub repeat_accepted : IsAccepted w u w

@@ -2,7 +2,7 @@
 use Rattle.std.proofs.Common.{◌≡◌, List, [], ◌∷◌, ◌++◌, refl, sym, ap, subst, ◌∙◌, Bool}
 use Rattle.std.specs.List.{AllZip}
 use Rattle.model.specs.World.{World}
-use Rattle.model.specs.Update.{UpdateData, IsAccepted, index_for, merged}
+use Rattle.model.specs.Update.{UpdateData, IsAccepted, index_for, merged_world}
 use Rattle.model.specs.Events.{Event}
 use Rattle.model.specs.Differences.{PlanEvent, events, told_root, AreOfFocus}
 use Rattle.model.specs.State.{with_host}
@@ -18,7 +18,7 @@ same_told old v w ds es told heard p q a b = a ∙ ap (λ x. events old x ds) p 
 
 accepted_agree : (old v w : World) (u : UpdateData) (ds es : List PlanEvent) (told heard : List Event) → IsAccepted old u v → IsAccepted old u w → AreToldBy old u v ds → AreToldBy old u w es → told ≡ events old v ds → heard ≡ events old w es → Agree v told Accepted w heard Accepted
 accepted_agree old v w u ds es told heard h g d e a b =
-    let same : v ≡ w = rebuild_unique (merged old u) v w h.1 g.1 in
+    let same : v ≡ w = rebuild_unique (merged_world old u) v w h.1 g.1 in
     let all : ds ≡ es = differences_unique old w (told_root (index_for old u.name) u.info) ds es (subst (λ x. AreToldBy old u x ds) same d) e in
     (same, same_told old v w ds es told heard same all a b, refl)
 

@@ -2,7 +2,7 @@
 use Rattle.std.proofs.Common.{unwrap_or, length, ◌≡◌, ℕ, Bool, true, false, cond, List, [], ◌∷◌, ◌++◌, suc, position, Option, Some, None, option_map, ◌⊎◌, inl, inr, refl, sym, ap, ◌∙◌, subst}
 use Rattle.schema.specs.declared.TreeId.{TreeId}
 use Rattle.model.specs.World.{World, index_of}
-use Rattle.model.specs.Update.{UpdateData, IsAccepted, index_for, merged}
+use Rattle.model.specs.Update.{UpdateData, IsAccepted, index_for, merged_world}
 use Rattle.model.specs.State.{empty_world, with_host, IsState, IsLater, now, updated, told}
 use Rattle.model.proofs.Worlds.Names.{is_name, position-cons}
 use Rattle.model.proofs.Update.Merges.{known_stays, known_grows}
@@ -37,10 +37,10 @@ position_front p (x ∷ xs) ys i e = position-cons p x (xs ++ ys) ∙ go (p x) (
     go false None i below e = cc
     go false (Some j) i below e = ap (option_map suc) (below j refl) ∙ e
 
-index_after : (old : World) (u : UpdateData) (name : TreeId) (i : ℕ) → index_of old name ≡ Some i → index_of (merged old u) name ≡ Some i
+index_after : (old : World) (u : UpdateData) (name : TreeId) (i : ℕ) → index_of old name ≡ Some i → index_of (merged_world old u) name ≡ Some i
 index_after old u name i is = go (index_of old u.name) refl
   where
-    go : (o : Option ℕ) → index_of old u.name ≡ o → index_of (merged old u) name ≡ Some i
+    go : (o : Option ℕ) → index_of old u.name ≡ o → index_of (merged_world old u) name ≡ Some i
     go None e = ap (position (is_name name)) (known_grows old u e) ∙ position_front (is_name name) old.known (u.name ∷ []) i is
     go (Some j) e = ap (position (is_name name)) (known_stays old u j e) ∙ is
 

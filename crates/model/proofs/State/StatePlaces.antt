@@ -6,7 +6,7 @@ use Rattle.std.proofs.lemmas.Option.{same_Some, slice_get-map}
 use Rattle.schema.specs.NodeData.{NodeData}
 use Rattle.schema.specs.declared.TreeId.{TreeId}
 use Rattle.model.specs.declared.FullNodeId.{FullNodeId}
-use Rattle.model.specs.World.{ROOT_NAME, World, Tree, IsNode, HasData, data_of, in_tree, index_of, listed, graft_name, root_of, root_named, at_most_one, children, Place, StandsAt, Reached, root, child, Kept}
+use Rattle.model.specs.World.{ROOT_NAME, World, Tree, IsNode, HasData, data_of, in_tree, index_of, listed_ids, graft_name, root_of, root_named, at_most_one, children, Place, StandsAt, Reached, root, child, Kept}
 use Rattle.model.specs.World as world
 use Rattle.model.specs.State.{IsState, Lists}
 use Rattle.model.proofs.Worlds.Names.{known-index_of, index_of_once}
@@ -58,7 +58,7 @@ by_place w p id at = by_graft (graft_name w p.0) refl at
     only (Some x) zero e = (e, refl)
     only (Some x) (suc i) e = cc
 
-    by_graft : (o : Option TreeId) → graft_name w p.0 ≡ o → slice_get (option_map_or (λ name. at_most_one (root_named w name)) o (listed w p.0)) p.1 ≡ Some id → ((graft_name w p.0 ≡ None) × Lists w p id) ⊎ ((name : TreeId) × (graft_name w p.0 ≡ Some name) × (root_named w name ≡ Some id) × (p.1 ≡ 0))
+    by_graft : (o : Option TreeId) → graft_name w p.0 ≡ o → slice_get (option_map_or (λ name. at_most_one (root_named w name)) o (listed_ids w p.0)) p.1 ≡ Some id → ((graft_name w p.0 ≡ None) × Lists w p id) ⊎ ((name : TreeId) × (graft_name w p.0 ≡ Some name) × (root_named w name ≡ Some id) × (p.1 ≡ 0))
     by_graft None is at = inl (is, at)
     by_graft (Some name) is at = let f = only (root_named w name) p.1 at in inr (name, is, f.0, f.1)
 
@@ -122,7 +122,7 @@ module _ {w : World} (s : IsState w) where
     where
       listed_somewhere : (parent id : FullNodeId) (index : ℕ) (o : Option TreeId) → graft_name w parent ≡ o → Lists w (parent, index) id → (p : Place) × StandsAt w p id
       listed_somewhere parent id index None is at = ((parent, index), stands_listed w (parent, index) id is at)
-      listed_somewhere parent id index (Some name) is at = absurd (no_child (listed w parent) (s.graft_childless parent name is) at)
+      listed_somewhere parent id index (Some name) is at = absurd (no_child (listed_ids w parent) (s.graft_childless parent name is) at)
         where
           no_child : (xs : List FullNodeId) → xs ≡ [] → slice_get xs index ≡ Some id → ⊥
           no_child [] e at = cc

@@ -5,7 +5,7 @@ use Rattle.std.proofs.lemmas.Bool.{cases_eq, cases_lt}
 use Rattle.std.proofs.lemmas.Option.{same_Some}
 use Rattle.std.specs.FinMap.{get}
 use Rattle.schema.specs.declared.TreeId.{TreeId}
-use Rattle.model.specs.World.{ROOT_NAME, World, data_of, listed, root_named}
+use Rattle.model.specs.World.{ROOT_NAME, World, data_of, listed_ids, root_named}
 use Rattle.model.specs.State.{IsState}
 use Rattle.model.proofs.Worlds.Names.{cases_id, cases_place, cases_name, cases_some, certain}
 use Rattle.model.proofs.Update.UpdateLeavesState.{no_empty}
@@ -34,7 +34,7 @@ state_kept w t = record {
   listed_is_node = λ p child at. certain (cases_some (data_of w child)) (λ n. impossible t (λ s. n (s.listed_is_node p child at)));
   listed_once = λ p q child a b. certain (cases_place p q) (λ n. impossible t (λ s. n (s.listed_once p q child a b)));
   root_unlisted = λ p index id is at. impossible t (λ s. s.root_unlisted p index id is at);
-  graft_childless = λ id name grafts. no_empty (listed w id) (λ n. impossible t (λ s. n (s.graft_childless id name grafts)));
+  graft_childless = λ id name grafts. no_empty (listed_ids w id) (λ n. impossible t (λ s. n (s.graft_childless id name grafts)));
   root_ungrafted = λ id grafts. impossible t (λ s. s.root_ungrafted id grafts);
   grafted_once = λ id other name a b. certain (cases_id id other) (λ n. impossible t (λ s. n (s.grafted_once id other name a b)));
   focus_is_node = λ id on. certain (cases_some (data_of w id)) (λ n. impossible t (λ s. n (s.focus_is_node id on)));

@@ -5,9 +5,9 @@ use Rattle.std.proofs.lemmas.Bool.{cases_eq}
 use Rattle.schema.specs.NodeData.{NodeData}
 use Rattle.schema.specs.declared.TreeId.{TreeId}
 use Rattle.model.specs.declared.FullNodeId.{FullNodeId}
-use Rattle.model.specs.World.{ROOT_NAME, World, Tree, IsNode, HasData, data_of, in_tree, index_of, listed, graft_name, root_of, root_named, Place, child_at, StandsAt, Reached, Kept}
+use Rattle.model.specs.World.{ROOT_NAME, World, Tree, IsNode, HasData, data_of, in_tree, index_of, listed_ids, graft_name, root_of, root_named, Place, child_at, StandsAt, Reached, Kept}
 use Rattle.model.specs.World as world
-use Rattle.model.specs.Update.{UpdateData, IsNamed, IsRebuild, index_for, merged}
+use Rattle.model.specs.Update.{UpdateData, IsNamed, IsRebuild, index_for, merged_world}
 use Rattle.model.specs.State.{Lists}
 use Rattle.model.specs.Surgery.{IsOld, IsMovedIn, Spot, IsAt, Entered, HasEntered, IsGraftedByNamed, Gone, IsDropped, IsLive, IsOpened, IsClimbed, IsChanged}
 use Rattle.model.specs.Surgery as surgery
@@ -24,7 +24,7 @@ use Rattle.model.proofs.Surgery.RulesKept.{graft_childless}
 
 module _ (w : World) (u : UpdateData) (o : IsOld w) (c : IsClimbed w u) where
   abbrev m : World
-  m = merged w u
+  m = merged_world w u
 
   abbrev i : ℕ
   i = index_for w u.name
@@ -112,7 +112,7 @@ module _ (w : World) (u : UpdateData) (o : IsOld w) (c : IsClimbed w u) where
 
         none : (x : Option TreeId) → graft_name m p.0 ≡ x → x ≡ None
         none None e = refl
-        none (Some name) e = absurd (no_child (listed m p.0) (graft_childless w u o c.refined.removed.settled.compared p.0 name e) at)
+        none (Some name) e = absurd (no_child (listed_ids m p.0) (graft_childless w u o c.refined.removed.settled.compared p.0 name e) at)
 
     -- the root of the tree that a live node grafts stands at the graft
     graft_stands : (g id : FullNodeId) (name : TreeId) → IsLive w u g → graft_name m g ≡ Some name → root_named m name ≡ Some id → StandsAt new (g, 0) id

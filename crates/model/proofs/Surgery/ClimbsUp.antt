@@ -1,9 +1,9 @@
 -- A climb goes up parents that don't go: where it ends, its nodes are reached, or the node from which it began isn't; and its steps are part of that node's depth.
 use Rattle.std.proofs.Common.{◌≡◌, ◌≢◌, ℕ, ◌+◌, slice_get, Some, None, option_map, ◌⊎◌, inl, inr, ⊎_elim, refl, sym, ap, ◌∙◌, subst, arith}
 use Rattle.model.specs.declared.FullNodeId.{FullNodeId}
-use Rattle.model.specs.World.{World, Tree, IsNode, in_tree, listed, root_of, Place, Reached, Kept}
+use Rattle.model.specs.World.{World, Tree, IsNode, in_tree, listed_ids, root_of, Place, Reached, Kept}
 use Rattle.model.specs.World as world
-use Rattle.model.specs.Update.{UpdateData, NotReached, Stands, IsNamed, IsRebuild, merged}
+use Rattle.model.specs.Update.{UpdateData, NotReached, Stands, IsNamed, IsRebuild, merged_world}
 use Rattle.model.specs.State.{Lists}
 use Rattle.model.specs.Work.{HasDepthInTree, at_root, at_child}
 use Rattle.model.specs.Surgery.{IsOld, Spot, IsAt, Entered, HasEntered, Gone, IsLive, IsRemoved, IsRefined, LeadsDown, here, down, IsClimb}
@@ -15,7 +15,7 @@ use Rattle.model.proofs.Surgery.FaultsStand.{loop_stands}
 
 module _ (w : World) (u : UpdateData) (o : IsOld w) where
   abbrev m : World
-  m = merged w u
+  m = merged_world w u
 
   -- ---- the next node up
 
@@ -99,9 +99,9 @@ reached_deep v x (world.Reached.root j t is) = (0, at_root j (in_tree j t.root) 
 reached_deep v x (world.Reached.child parent x' k reached at) = let f = reached_deep v parent reached in (f.0 + 1, at_child (parent, k) x f.0 f.1 at)
 
 -- from a live node the steps lead down in the rebuild too
-pub leads_new : (w : World) (u : UpdateData) (new : World) → IsRebuild (merged w u) new → (x q : FullNodeId) (steps : ℕ) → LeadsDown (merged w u) x q steps → IsLive w u x → LeadsDown new x q steps
+pub leads_new : (w : World) (u : UpdateData) (new : World) → IsRebuild (merged_world w u) new → (x q : FullNodeId) (steps : ℕ) → LeadsDown (merged_world w u) x q steps → IsLive w u x → LeadsDown new x q steps
 leads_new w u new r x q steps (here n) live = here n
 leads_new w u new r x q steps (down p c n k at leads) live =
     let at' : Lists new p c = subst (λ xs. slice_get xs p.1 ≡ Some c) (sym (listed_same r p.0 live.0 live.1)) at in
-    let live' : IsLive w u c = (subst (Kept (merged w u)) (sym (listed_tree (merged w u) p c at)) live.0, world.Reached.child p.0 c p.1 live.1 at) in
+    let live' : IsLive w u c = (subst (Kept (merged_world w u)) (sym (listed_tree (merged_world w u) p c at)) live.0, world.Reached.child p.0 c p.1 live.1 at) in
     down p c q k at' (leads_new w u new r c q k leads live')

@@ -14,10 +14,10 @@ use Rattle.schema.specs.declared.NodeId.{NodeId}
 use Rattle.model.specs.declared.FullNodeId.{FullNodeId}
 use Rattle.model.specs.FullIds.{full_cmp, full_total}
 use Rattle.model.specs.World.{World, in_tree, graft_name, root_of, root_named, Place}
-use Rattle.model.specs.Update.{UpdateData, InfoData, IsNamed, IsRebuild, index_for, root_after, merged}
+use Rattle.model.specs.Update.{UpdateData, InfoData, IsNamed, IsRebuild, index_for, root_after, merged_world}
 use Rattle.model.specs.State.{IsState}
 use Rattle.model.specs.Differences.{told_root}
-use Rattle.model.specs.Work.{Work, HasDepthInTree, IsSumOfDepths, IsWorkOf, IsChildOfNamed, named_ids, allowed}
+use Rattle.model.specs.Work.{Work, HasDepthInTree, IsSumOfDepths, IsWorkOf, IsChildOfNamed, named_ids, allowance}
 use Rattle.model.specs.Surgery.{IsOld, Spot, Entered, HasEntered, Gone, IsMovedIn, IsLive, IsPassed, LeadsDown, AreSteps}
 use Rattle.model.proofs.Worlds.Names.{same_id}
 use Rattle.model.proofs.Members.{contains_none, contains_head, contains_later, contains_cases}
@@ -47,7 +47,7 @@ named_in index (e ∷ es) n (suc k) fits at = contains_later (in_tree index e.0)
 pub named_contained : (w : World) (u : UpdateData) (id : FullNodeId) → IsNamed w u id → Contains (named_ids w u) id
 named_contained w u id n = subst (Contains (named_ids w u)) (same_id (in_tree (index_for w u.name) id.node) id (sym n.0) refl) (named_in (index_for w u.name) u.nodes id.node n.1.0 n.1.1 n.1.2)
 
-module _ (w : World) (u : UpdateData) (o : IsOld w) (c : IsPassed w u) {new : World} (r : IsRebuild (merged w u) new) (work : Work) (is : IsWorkOf w u new work) where
+module _ (w : World) (u : UpdateData) (o : IsOld w) (c : IsPassed w u) {new : World} (r : IsRebuild (merged_world w u) new) (work : Work) (is : IsWorkOf w u new work) where
   -- what entered a place is a child of a named node
   pub entered_is_child : (p : Place) (id : FullNodeId) → Entered w u (Some p) id → IsChildOfNamed w u new id
   entered_is_child p id e =
@@ -68,7 +68,7 @@ module _ (w : World) (u : UpdateData) (o : IsOld w) (c : IsPassed w u) {new : Wo
       omega arith
 
   -- the steps from live nodes down to a node are no more than its depth
-  pub steps_counted : IsState new → (q x : FullNodeId) (steps depth : ℕ) → IsLive w u x → LeadsDown (merged w u) x q steps → HasDepthInTree new q depth → steps ≤ depth
+  pub steps_counted : IsState new → (q x : FullNodeId) (steps depth : ℕ) → IsLive w u x → LeadsDown (merged_world w u) x q steps → HasDepthInTree new q depth → steps ≤ depth
   steps_counted s q x steps depth live leads has =
       let top = reached_deep new x (reached_new r x live.1 live.0) in
       let same : top.0 + steps ≡ depth = depth_unique new s q (top.0 + steps) depth (steps_deep new x q steps top.0 (leads_new w u new r x q steps leads live) top.1) has in
@@ -96,22 +96,22 @@ contains_map {A} f (y ∷ ys) x h = go (contains_cases y x ys h) (contains_map f
     go (inr h) later = contains_later (f y) (f x) (map f ys) (later h)
 
 -- the told root is the root of the named tree
-pub told_is_root : (w : World) (u : UpdateData) (id : FullNodeId) → told_root (index_for w u.name) u.info ≡ Some id → root_of (merged w u) (index_for w u.name) ≡ Some id
+pub told_is_root : (w : World) (u : UpdateData) (id : FullNodeId) → told_root (index_for w u.name) u.info ≡ Some id → root_of (merged_world w u) (index_for w u.name) ≡ Some id
 told_is_root w u id e = go u.info refl e
   where
     by_test : (b : Bool) (x : FullNodeId) → (if b then None else Some x) ≡ Some id → x ≡ id
     by_test true x e = cc
     by_test false x e = same_Some x id e
 
-    go : (o : Option InfoData) → u.info ≡ o → told_root (index_for w u.name) o ≡ Some id → root_of (merged w u) (index_for w u.name) ≡ Some id
+    go : (o : Option InfoData) → u.info ≡ o → told_root (index_for w u.name) o ≡ Some id → root_of (merged_world w u) (index_for w u.name) ≡ Some id
     go None is e = cc
     go (Some info) is e =
         let after : root_after w u ≡ Some info.root = rw is refl in
         ap (option_map (λ t. in_tree (index_for w u.name) t.root)) (tree_named w u info.root after) ∙ ap Some (by_test (index_for w u.name == 0) (in_tree (index_for w u.name) info.root) e)
 
-module _ (w : World) (u : UpdateData) (o : IsOld w) (c : IsPassed w u) {new : World} (r : IsRebuild (merged w u) new) (work : Work) (is : IsWorkOf w u new work) where
+module _ (w : World) (u : UpdateData) (o : IsOld w) (c : IsPassed w u) {new : World} (r : IsRebuild (merged_world w u) new) (work : Work) (is : IsWorkOf w u new work) where
   grafted_root : FullNodeId → FullNodeId
-  grafted_root n = unwrap_or (option_and_then (root_named w) (graft_name (merged w u) n)) n
+  grafted_root n = unwrap_or (option_and_then (root_named w) (graft_name (merged_world w u) n)) n
 
   -- what has a verdict but that it goes: a named node, one that entered, the root of a tree that gets another graft, or the told root
   pub verdicts_counted : (ids : List FullNodeId) → IsStrictlySortedBy full_cmp ids
@@ -129,7 +129,7 @@ module _ (w : World) (u : UpdateData) (o : IsOld w) (c : IsPassed w u) {new : Wo
       let d : length (map grafted_root (named_ids w u) ++ root.0 ∷ []) ≡ length (map grafted_root (named_ids w u)) + 1 = length-append (map grafted_root (named_ids w u)) (root.0 ∷ []) in
       omega arith
     where
-      root : (root : FullNodeId) × (root_of (merged w u) (index_for w u.name) ≡ Some root)
+      root : (root : FullNodeId) × (root_of (merged_world w u) (index_for w u.name) ≡ Some root)
       root = root_here w u o c.climbed.refined.removed.settled.compared.opened
 
       all : List FullNodeId
@@ -138,11 +138,11 @@ module _ (w : World) (u : UpdateData) (o : IsOld w) (c : IsPassed w u) {new : Wo
       in_rest : (id : FullNodeId) → Contains (map grafted_root (named_ids w u) ++ root.0 ∷ []) id → Contains all id
       in_rest id h = Contains-append_right (named_ids w u) (is.children ++ (map grafted_root (named_ids w u) ++ root.0 ∷ [])) id (Contains-append_right is.children (map grafted_root (named_ids w u) ++ root.0 ∷ []) id h)
 
-      is_root : (id : FullNodeId) → root_of (merged w u) (index_for w u.name) ≡ Some id → Contains all id
+      is_root : (id : FullNodeId) → root_of (merged_world w u) (index_for w u.name) ≡ Some id → Contains all id
       is_root id e = in_rest id (Contains-append_right (map grafted_root (named_ids w u)) (root.0 ∷ []) id (contains_head root.0 id [] (same_Some root.0 id (sym root.1 ∙ e))))
 
       entered : (id : FullNodeId) (s : Spot) → Entered w u s id → Contains all id
-      entered id None e = is_root id (subst (λ k. root_of (merged w u) k ≡ Some id) (entered_tree w u None id e) e.0)
+      entered id None e = is_root id (subst (λ k. root_of (merged_world w u) k ≡ Some id) (entered_tree w u None id e) e.0)
       entered id (Some p) e =
           Contains-append_right (named_ids w u) (is.children ++ (map grafted_root (named_ids w u) ++ root.0 ∷ [])) id
           (Contains-append_left is.children (map grafted_root (named_ids w u) ++ root.0 ∷ []) id ((is.are_children.members id).1 (entered_is_child w u o c r work is p id e)))
@@ -168,5 +168,5 @@ pub sum_allowed : (work : Work) (compared settled removed climbed regrafted focu
     → focused ≤ 4 * work.known + 2
     → changes ≤ 4 * work.named + work.children + 2 * work.removed + 2
     → events ≤ 2 * work.named + work.children + work.removed + 4
-    → compared + settled + removed + climbed + regrafted + focused + 2 * changes + 2 * events ≤ allowed work
+    → compared + settled + removed + climbed + regrafted + focused + 2 * changes + 2 * events ≤ allowance work
 sum_allowed work compared settled removed climbed regrafted focused changes events a b c d e f g h = omega arith

@@ -3,10 +3,10 @@ use Rattle.std.proofs.Common.{[], ◌≡◌, ◌≢◌, ℕ, Some, None, IsSome,
 use Rattle.std.proofs.lemmas.Option.{same_Some}
 use Rattle.schema.specs.declared.TreeId.{TreeId}
 use Rattle.model.specs.declared.FullNodeId.{FullNodeId}
-use Rattle.model.specs.World.{ROOT_NAME, World, Tree, IsNode, data_of, in_tree, listed, graft_name, root_of, root_named, Place, Reached, Kept}
+use Rattle.model.specs.World.{ROOT_NAME, World, Tree, IsNode, data_of, in_tree, listed_ids, graft_name, root_of, root_named, Place, Reached, Kept}
 use Rattle.model.specs.World as world
 use Rattle.model.specs.Focus.{OnChain}
-use Rattle.model.specs.Update.{UpdateData, MissingData, NotReached, ListedTwice, GraftedTwice, RootTreeGrafted, GraftWithChildren, FocusOnEmptyGraft, Stands, Counts, IsNamed, IsListedAt, index_for, merged}
+use Rattle.model.specs.Update.{UpdateData, MissingData, NotReached, ListedTwice, GraftedTwice, RootTreeGrafted, GraftWithChildren, FocusOnEmptyGraft, Stands, Counts, IsNamed, IsListedAt, index_for, merged_world}
 use Rattle.model.specs.State.{Lists}
 use Rattle.model.specs.Surgery.{IsOld, Spot, IsAt, Entered, HasEntered, Gone, IsLive, IsOpened, IsRemoved, IsRefined, IsClimbed, IsPassed}
 use Rattle.model.proofs.State.StatePlaces.{listed_tree, lister_is_node, graft_is_node}
@@ -17,7 +17,7 @@ use Rattle.model.proofs.Surgery.RulesKept.{passed_apart}
 
 module _ (w : World) (u : UpdateData) (o : IsOld w) where
   abbrev m : World
-  m = merged w u
+  m = merged_world w u
 
   abbrev i : ℕ
   i = index_for w u.name
@@ -26,7 +26,7 @@ module _ (w : World) (u : UpdateData) (o : IsOld w) where
   pub named_root_graft_stands : (n : FullNodeId) → IsNamed w u n → graft_name m n ≡ Some ROOT_NAME → Stands w u (RootTreeGrafted n.node)
   named_root_graft_stands n named grafts = (n, refl, (inl named, grafts))
 
-  pub named_children_stand : (n : FullNodeId) (name : TreeId) → IsNamed w u n → graft_name m n ≡ Some name → listed m n ≢ [] → Stands w u (GraftWithChildren n.node)
+  pub named_children_stand : (n : FullNodeId) (name : TreeId) → IsNamed w u n → graft_name m n ≡ Some name → listed_ids m n ≢ [] → Stands w u (GraftWithChildren n.node)
   named_children_stand n name named grafts lists = (n, refl, name, (inl named, grafts), lists)
 
   pub named_grafts_stand : (n k : FullNodeId) (name : TreeId) → n ≢ k → IsNamed w u n → IsNamed w u k → graft_name m n ≡ Some name → graft_name m k ≡ Some name → Stands w u (GraftedTwice name)

@@ -7,7 +7,7 @@ use Rattle.model.specs.declared.FullNodeId.{FullNodeId}
 use Rattle.model.specs.World.{ROOT_NAME, World, Tree, IsNode, data_of, in_tree, index_of, graft_name, root_of, root_named, focus_of, focus_named, Reached, Kept}
 use Rattle.model.specs.World as world
 use Rattle.model.specs.Focus.{OnChain, first, next, GoesOn}
-use Rattle.model.specs.Update.{UpdateData, FocusMissing, Stands, IsNamed, IsOnEmptyGraft, IsRebuild, KeepsRules, merged}
+use Rattle.model.specs.Update.{UpdateData, FocusMissing, Stands, IsNamed, IsOnEmptyGraft, IsRebuild, KeepsRules, merged_world}
 use Rattle.model.specs.Surgery.{IsOld, Gone, IsLive, IsPassed, IsDeep, top, inside}
 use Rattle.model.proofs.Worlds.Names.{known-index_of}
 use Rattle.model.proofs.State.StatePlaces.{IsSome_is, map_some, and_then_some}
@@ -40,7 +40,7 @@ old_next_deep w g id n there f deep =
 
 module _ (w : World) (u : UpdateData) (o : IsOld w) (c : IsPassed w u) where
   abbrev m : World
-  m = merged w u
+  m = merged_world w u
 
   -- ---- the walk ends
 

@@ -3,7 +3,7 @@ use Rattle.std.proofs.Common.{◌≡◌, ◌≢◌, Some, ◌↔◌, ◌⊎◌, 
 use Rattle.schema.specs.declared.TreeId.{TreeId}
 use Rattle.model.specs.declared.FullNodeId.{FullNodeId}
 use Rattle.model.specs.World.{World, graft_name}
-use Rattle.model.specs.Update.{UpdateData, IsNamed, IsRebuild, merged}
+use Rattle.model.specs.Update.{UpdateData, IsNamed, IsRebuild, merged_world}
 use Rattle.model.specs.Surgery.{IsOld, IsGraftedByNamed, Gone, IsLive, IsPassed}
 use Rattle.model.proofs.State.StatePlaces.{graft_is_node}
 use Rattle.model.proofs.Closure.{IsDecided}
@@ -14,9 +14,9 @@ use Rattle.model.proofs.Surgery.LiveAndGone.{gone_unlive, named_live, live_iff}
 use Rattle.model.proofs.Surgery.RulesKept.{grafted_once}
 use Rattle.model.proofs.Surgery.WhatIsDecided.{decide_grafted}
 
-module _ (w : World) (u : UpdateData) (o : IsOld w) (c : IsPassed w u) {new : World} (r : IsRebuild (merged w u) new) where
+module _ (w : World) (u : UpdateData) (o : IsOld w) (c : IsPassed w u) {new : World} (r : IsRebuild (merged_world w u) new) where
   abbrev m : World
-  m = merged w u
+  m = merged_world w u
 
   graft_before : (g : FullNodeId) (name : TreeId) → graft_name new g ≡ Some name → IsLive w u g × (graft_name m g ≡ Some name)
   graft_before g name is = let live = node_kept r g (graft_is_node new g name is) in ((live.0, live.1), sym (graft_same r g live.0 live.1) ∙ is)

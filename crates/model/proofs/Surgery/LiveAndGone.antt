@@ -4,9 +4,9 @@ use Rattle.std.proofs.lemmas.Bool.{cases_eq}
 use Rattle.std.proofs.lemmas.Option.{same_Some}
 use Rattle.schema.specs.declared.TreeId.{TreeId}
 use Rattle.model.specs.declared.FullNodeId.{FullNodeId}
-use Rattle.model.specs.World.{ROOT_NAME, World, Tree, IsNode, data_of, in_tree, index_of, listed, graft_name, root_of, root_named, Place, Reached, Kept}
+use Rattle.model.specs.World.{ROOT_NAME, World, Tree, IsNode, data_of, in_tree, index_of, listed_ids, graft_name, root_of, root_named, Place, Reached, Kept}
 use Rattle.model.specs.World as world
-use Rattle.model.specs.Update.{UpdateData, IsNamed, index_for, merged}
+use Rattle.model.specs.Update.{UpdateData, IsNamed, index_for, merged_world}
 use Rattle.model.specs.State.{Lists}
 use Rattle.model.specs.Surgery.{IsOld, Spot, IsAt, Left, Entered, HasEntered, IsGraftedByNamed, Gone, IsLive, Adopts, IsOpened, IsCompared, IsSettled, IsRemoved, IsRefined, IsClimbed, IsPassed}
 use Rattle.model.specs.Surgery as surgery
@@ -19,7 +19,7 @@ use Rattle.model.proofs.Surgery.Spots.{root_named_from, root_reached, at_reached
 
 module _ (w : World) (u : UpdateData) where
   abbrev m : World
-  m = merged w u
+  m = merged_world w u
 
   abbrev i : ℕ
   i = index_for w u.name

@@ -6,7 +6,7 @@ use Rattle.schema.specs.declared.TreeId.{TreeId}
 use Rattle.model.specs.declared.FullNodeId.{FullNodeId}
 use Rattle.model.specs.World.{ROOT_NAME, World, IsNode, in_tree, index_of, root_of, Kept}
 use Rattle.model.specs.World as world
-use Rattle.model.specs.Update.{UpdateData, IsRebuild, KeepsRules, index_for, merged}
+use Rattle.model.specs.Update.{UpdateData, IsRebuild, KeepsRules, index_for, merged_world}
 use Rattle.model.specs.State.{IsState}
 use Rattle.model.specs.Surgery.{IsOld, IsOpened, IsPassed}
 use Rattle.model.proofs.State.StatePlaces.{IsSome_is, root_of_parts, root_of-tree}
@@ -20,7 +20,7 @@ use Rattle.model.proofs.Surgery.RulesArePassed.{rules_passed}
 
 module _ (w : World) (u : UpdateData) (o : IsOld w) (k : KeepsRules w u) where
   abbrev m : World
-  m = merged w u
+  m = merged_world w u
 
   abbrev i : ℕ
   i = index_for w u.name

@@ -5,7 +5,7 @@ use Rattle.model.specs.declared.FullNodeId.{FullNodeId}
 use Rattle.model.specs.World.{ROOT_NAME, World, Tree, IsNode, data_of, in_tree, graft_name, root_of, Place, Reached, Kept}
 use Rattle.model.specs.World as world
 use Rattle.model.specs.Focus.{OnChain}
-use Rattle.model.specs.Update.{UpdateData, IsNamed, Counts, IsListedAt, IsRebuild, IsAccepted, KeepsRules, index_for, merged}
+use Rattle.model.specs.Update.{UpdateData, IsNamed, Counts, IsListedAt, IsRebuild, IsAccepted, KeepsRules, index_for, merged_world}
 use Rattle.model.specs.State.{IsState, Lists}
 use Rattle.model.specs.Differences.{PlanEvent, Added, Updated, Removed, IsAscendingListOf, IsInBoth, AreOfFocus, AreDifferences}
 use Rattle.model.specs.Surgery.{IsOld, Spot, IsAt, Entered, HasEntered, Gone, IsLive, IsMovedIn, IsOpened, IsPassed, IsChanged}
@@ -28,7 +28,7 @@ use Rattle.model.proofs.Surgery.WhatIsTold.{added_iff, updated_iff, removed_iff}
 
 module _ (w : World) (u : UpdateData) (o : IsOld w) where
   abbrev m : World
-  m = merged w u
+  m = merged_world w u
 
   -- where no fault is named and the chain of the focus ends at a reached node that is no graft, the update is accepted, and leaves the changed world
   pub passed_accepted : IsPassed w u → (e : FullNodeId) → OnChain m e → Reached m e → graft_name m e ≡ None → (new : World) → IsChanged w u new → IsAccepted w u new

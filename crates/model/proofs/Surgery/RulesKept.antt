@@ -4,9 +4,9 @@ use Rattle.std.specs.FinMap.{get}
 use Rattle.std.proofs.lemmas.Option.{same_Some}
 use Rattle.schema.specs.declared.TreeId.{TreeId}
 use Rattle.model.specs.declared.FullNodeId.{FullNodeId}
-use Rattle.model.specs.World.{ROOT_NAME, World, IsNode, listed, graft_name, root_of, root_named, Place, Reached}
+use Rattle.model.specs.World.{ROOT_NAME, World, IsNode, listed_ids, graft_name, root_of, root_named, Place, Reached}
 use Rattle.model.specs.Focus.{OnChain}
-use Rattle.model.specs.Update.{UpdateData, Fault, MissingTreeInfo, NotRootTree, MissingData, NotReached, NamedTwice, ListedTwice, RootTreeGrafted, GraftWithChildren, GraftedTwice, NoGraft, NoFirstTreeInfo, FocusMissing, FocusOnEmptyGraft, IndexesUsedUp, StandsApart, Counts, IsNamed, IsListedAt, IsGraftOf, KeepsRules, index_for, merged}
+use Rattle.model.specs.Update.{UpdateData, Fault, MissingTreeInfo, NotRootTree, MissingData, NotReached, NamedTwice, ListedTwice, RootTreeGrafted, GraftWithChildren, GraftedTwice, NoGraft, NoFirstTreeInfo, FocusMissing, FocusOnEmptyGraft, IndexesUsedUp, StandsApart, Counts, IsNamed, IsListedAt, IsGraftOf, KeepsRules, index_for, merged_world}
 use Rattle.model.specs.State.{Lists}
 use Rattle.model.specs.Surgery.{IsOld, Gone, IsLive, IsOpened, IsCompared, IsSettled, IsClimbed, IsPassed}
 use Rattle.model.proofs.Closure.{IsDecided}
@@ -17,7 +17,7 @@ use Rattle.model.proofs.Surgery.LiveAndGone.{gone_unlive, named_live, at_node, o
 
 module _ (w : World) (u : UpdateData) (o : IsOld w) where
   abbrev m : World
-  m = merged w u
+  m = merged_world w u
 
   unlost : (p : Place) → ¬ (Gone w u p.0) → (q : Place) → Some p ≡ Some q → ¬ (Gone w u q.0)
   unlost p stays q is = subst (λ y. ¬ (Gone w u y.0)) (same_Some p q is) stays
@@ -48,10 +48,10 @@ module _ (w : World) (u : UpdateData) (o : IsOld w) where
       go (inl named) = c.named_ungrafting id named grafts
       go (inr other) = o.root_ungrafted id (sym (unnamed_graft w u id other) ∙ grafts)
 
-  pub graft_childless : IsCompared w u → (id : FullNodeId) (name : TreeId) → graft_name m id ≡ Some name → listed m id ≡ []
+  pub graft_childless : IsCompared w u → (id : FullNodeId) (name : TreeId) → graft_name m id ≡ Some name → listed_ids m id ≡ []
   graft_childless c id name grafts = go (decide_named w u id)
     where
-      go : IsDecided (IsNamed w u id) → listed m id ≡ []
+      go : IsDecided (IsNamed w u id) → listed_ids m id ≡ []
       go (inl named) = c.named_childless id name named grafts
       go (inr other) = unnamed_lists w u id other ∙ o.graft_childless id name (sym (unnamed_graft w u id other) ∙ grafts)
 

@@ -9,9 +9,9 @@ use Rattle.schema.specs.declared.NodeId.{NodeId}
 use Rattle.schema.specs.declared.TreeId.{TreeId}
 use Rattle.model.specs.declared.FullNodeId.{FullNodeId}
 use Rattle.model.specs.FullIds.{full_cmp, full_total}
-use Rattle.model.specs.World.{ROOT_NAME, World, Tree, IsNode, data_of, in_tree, index_of, listed, graft_name, root_of, root_named, Place, Reached, Kept}
+use Rattle.model.specs.World.{ROOT_NAME, World, Tree, IsNode, data_of, in_tree, index_of, listed_ids, graft_name, root_of, root_named, Place, Reached, Kept}
 use Rattle.model.specs.World as world
-use Rattle.model.specs.Update.{UpdateData, IsFirst, IsNamed, index_for, overwritten, root_after, merged}
+use Rattle.model.specs.Update.{UpdateData, IsFirst, IsNamed, index_for, overwritten_nodes, root_after, merged_world}
 use Rattle.model.specs.State.{Lists}
 use Rattle.model.specs.Surgery.{IsOld, Spot, IsAt, Left, Entered, IsOpened}
 use Rattle.model.proofs.Worlds.Names.{same_id, certain, known-index_of, unknown-index_of, index_of-known, index_of_once}
@@ -23,7 +23,7 @@ use Rattle.model.proofs.Update.AcceptedOrFault.{decide_named, decide_id}
 -- ---- the data
 
 -- an entry's node that none of these names stays
-pub overwritten_unnamed : (nodes : FinMap full_cmp NodeData) (index : ℕ) (es : List (NodeId × NodeData)) (id : FullNodeId) → (id.tree ≡ index → Contains (map (λ e. e.0) es) id.node → ⊥) → get (overwritten nodes index es) id ≡ get nodes id
+pub overwritten_unnamed : (nodes : FinMap full_cmp NodeData) (index : ℕ) (es : List (NodeId × NodeData)) (id : FullNodeId) → (id.tree ≡ index → Contains (map (λ e. e.0) es) id.node → ⊥) → get (overwritten_nodes nodes index es) id ≡ get nodes id
 overwritten_unnamed nodes index [] id out = refl
 overwritten_unnamed nodes index (e ∷ es) id out =
     overwritten_unnamed (insert nodes (in_tree index e.0) e.1) index es id (λ same c. out same (suc c.0, omega (arith, c.1), c.2))
@@ -37,14 +37,14 @@ insert_stays nodes k d id there = subst IsSome (sym (get-insert full_total nodes
     go true = refl
     go false = there
 
-overwritten_stays : (nodes : FinMap full_cmp NodeData) (index : ℕ) (es : List (NodeId × NodeData)) (id : FullNodeId) → IsSome (get nodes id) → IsSome (get (overwritten nodes index es) id)
+overwritten_stays : (nodes : FinMap full_cmp NodeData) (index : ℕ) (es : List (NodeId × NodeData)) (id : FullNodeId) → IsSome (get nodes id) → IsSome (get (overwritten_nodes nodes index es) id)
 overwritten_stays nodes index [] id there = there
 overwritten_stays nodes index (e ∷ es) id there = overwritten_stays (insert nodes (in_tree index e.0) e.1) index es id (insert_stays nodes (in_tree index e.0) e.1 id there)
 
 insert_there : (nodes : FinMap full_cmp NodeData) (k : FullNodeId) (d : NodeData) → IsSome (get (insert nodes k d) k)
 insert_there nodes k d = subst IsSome (sym (get-insert full_total nodes k d k)) (subst (λ b. IsSome (cond b (Some d) (get nodes k))) (sym (ap is_eq (tied_itself full_total k))) refl)
 
-overwritten_named : (nodes : FinMap full_cmp NodeData) (index : ℕ) (es : List (NodeId × NodeData)) (n : NodeId) (k : ℕ) → k < length (map (λ e. e.0) es) → get_or (map (λ e. e.0) es) k n ≡ n → IsSome (get (overwritten nodes index es) (in_tree index n))
+overwritten_named : (nodes : FinMap full_cmp NodeData) (index : ℕ) (es : List (NodeId × NodeData)) (n : NodeId) (k : ℕ) → k < length (map (λ e. e.0) es) → get_or (map (λ e. e.0) es) k n ≡ n → IsSome (get (overwritten_nodes nodes index es) (in_tree index n))
 overwritten_named nodes index [] n k fits at = absurd (omega arith)
 overwritten_named nodes index (e ∷ es) n zero fits at =
     overwritten_stays (insert nodes (in_tree index e.0) e.1) index es (in_tree index n)
@@ -56,7 +56,7 @@ pub reached_across : (a b : World) (index : ℕ) → get a.trees index ≡ get b
 reached_across a b index tree same_data id (world.Reached.root i t is) same = world.Reached.root i t (subst (λ k. get b.trees k ≡ get a.trees k) (sym same) (sym tree) ∙ is)
 reached_across a b index tree same_data id (world.Reached.child parent id' k reached at) same =
     let in_it : parent.tree ≡ index = sym (listed_tree a (parent, k) id at) ∙ same in
-    let lists : listed a parent ≡ listed b parent = rw (same_data parent in_it) in
+    let lists : listed_ids a parent ≡ listed_ids b parent = rw (same_data parent in_it) in
     world.Reached.child parent id k (reached_across a b index tree same_data parent reached in_it) (subst (λ xs. slice_get xs k ≡ Some id) lists at)
 
 pub root_named_from : (v : World) (name : TreeId) (index : ℕ) (id : FullNodeId) → index_of v name ≡ Some index → root_of v index ≡ Some id → root_named v name ≡ Some id
@@ -71,7 +71,7 @@ root_reached v index id is = let t = root_of_parts v index id is in subst (Reach
 
 pub decide_at : (v : World) (s : Spot) (c : FullNodeId) → IsDecided (IsAt v s c)
 decide_at v None c = decide_id (root_of v c.tree) c
-decide_at v (Some p) c = decide_id (slice_get (listed v p.0) p.1) c
+decide_at v (Some p) c = decide_id (slice_get (listed_ids v p.0) p.1) c
 
 -- what is at a spot of a reached node, or at a root's, is reached
 pub at_reached : (v : World) (s : Spot) (c : FullNodeId) → IsAt v s c → ((p : Place) → s ≡ Some p → Reached v p.0) → Reached v c
@@ -84,7 +84,7 @@ slice_get_last (x ∷ xs) y = slice_get_last xs y
 
 module _ (w : World) (u : UpdateData) where
   abbrev m : World
-  m = merged w u
+  m = merged_world w u
 
   abbrev i : ℕ
   i = index_for w u.name
@@ -92,7 +92,7 @@ module _ (w : World) (u : UpdateData) where
   pub unnamed_data : (id : FullNodeId) → ¬ (IsNamed w u id) → data_of m id ≡ data_of w id
   unnamed_data id other = overwritten_unnamed w.nodes i u.nodes id (λ same c. other (same, c))
 
-  pub unnamed_lists : (id : FullNodeId) → ¬ (IsNamed w u id) → listed m id ≡ listed w id
+  pub unnamed_lists : (id : FullNodeId) → ¬ (IsNamed w u id) → listed_ids m id ≡ listed_ids w id
   unnamed_lists id other = rw (unnamed_data id other)
 
   pub unnamed_graft : (id : FullNodeId) → ¬ (IsNamed w u id) → graft_name m id ≡ graft_name w id
@@ -119,14 +119,14 @@ module _ (w : World) (u : UpdateData) where
   at_elsewhere None c other at = sym (root_elsewhere c.tree other) ∙ at
   at_elsewhere (Some p) c other at =
       let apart : p.0.tree ≢ i = λ e. other (listed_tree m p c at ∙ e) in
-      let lists : listed m p.0 ≡ listed w p.0 = rw (data_elsewhere w u p.0 apart) in
+      let lists : listed_ids m p.0 ≡ listed_ids w p.0 = rw (data_elsewhere w u p.0 apart) in
       subst (λ xs. slice_get xs p.1 ≡ Some c) lists at
 
   pub at_stays_elsewhere : (s : Spot) (c : FullNodeId) → c.tree ≢ i → IsAt w s c → IsAt m s c
   at_stays_elsewhere None c other at = root_elsewhere c.tree other ∙ at
   at_stays_elsewhere (Some p) c other at =
       let apart : p.0.tree ≢ i = λ e. other (listed_tree w p c at ∙ e) in
-      let lists : listed w p.0 ≡ listed m p.0 = rw (data_elsewhere w u p.0 apart) in
+      let lists : listed_ids w p.0 ≡ listed_ids m p.0 = rw (data_elsewhere w u p.0 apart) in
       subst (λ xs. slice_get xs p.1 ≡ Some c) lists at
 
   -- what entered is in the named tree, and so is what left

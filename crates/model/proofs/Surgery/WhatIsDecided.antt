@@ -4,8 +4,8 @@ use Rattle.std.specs.FinMap.{entries}
 use Rattle.std.proofs.lemmas.Option.{same_Some}
 use Rattle.schema.specs.declared.TreeId.{TreeId}
 use Rattle.model.specs.declared.FullNodeId.{FullNodeId}
-use Rattle.model.specs.World.{World, listed, graft_name, root_named, Place}
-use Rattle.model.specs.Update.{UpdateData, IsNamed, merged}
+use Rattle.model.specs.World.{World, listed_ids, graft_name, root_named, Place}
+use Rattle.model.specs.Update.{UpdateData, IsNamed, merged_world}
 use Rattle.model.specs.State.{Lists}
 use Rattle.model.specs.Surgery.{IsOld, Spot, IsAt, Left, Entered, HasEntered, IsGraftedByNamed, Gone, IsMovedIn}
 use Rattle.model.specs.Surgery as surgery
@@ -17,7 +17,7 @@ use Rattle.model.proofs.Surgery.Spots.{decide_at, named_is_node}
 
 module _ (w : World) (u : UpdateData) where
   abbrev m : World
-  m = merged w u
+  m = merged_world w u
 
   -- a node at some spot of a world, with what is decided of the spot
   decide_spot : (v : World) (c : FullNodeId) (Q : Spot → Type 0) → ((s : Spot) → IsDecided (Q s)) → IsDecided ((s : Spot) × IsAt v s c × Q s)
@@ -81,7 +81,7 @@ module _ (w : World) (u : UpdateData) where
 
   decide_goes : (n c : FullNodeId) → IsDecided (GoesTo n c)
   unfolding GoesTo
-  decide_goes n c = decide_both (decide_not (decide_entered c)) (decide_either (decide_listed (listed w n) c) (decide_under n c))
+  decide_goes n c = decide_both (decide_not (decide_entered c)) (decide_either (decide_listed (listed_ids w n) c) (decide_under n c))
 
   abbrev nodes : List FullNodeId
   nodes = map (λ e. e.0) (entries w.nodes)

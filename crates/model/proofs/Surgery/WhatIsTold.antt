@@ -3,10 +3,10 @@ use Rattle.std.proofs.Common.{Contains, ◌++◌, map, ◌≡◌, ◌≢◌, ℕ
 use Rattle.std.proofs.lemmas.Option.{same_Some}
 use Rattle.schema.specs.declared.TreeId.{TreeId}
 use Rattle.model.specs.declared.FullNodeId.{FullNodeId}
-use Rattle.model.specs.World.{ROOT_NAME, World, Tree, IsNode, data_of, in_tree, index_of, listed, graft_name, root_of, root_named, Place, StandsAt, Reached, Kept}
+use Rattle.model.specs.World.{ROOT_NAME, World, Tree, IsNode, data_of, in_tree, index_of, listed_ids, graft_name, root_of, root_named, Place, StandsAt, Reached, Kept}
 use Rattle.model.specs.World as world
 use Rattle.model.specs.Forest.{place_of}
-use Rattle.model.specs.Update.{UpdateData, IsNamed, IsRebuild, KeepsRules, index_for, merged}
+use Rattle.model.specs.Update.{UpdateData, IsNamed, IsRebuild, KeepsRules, index_for, merged_world}
 use Rattle.model.specs.State.{IsState, Lists}
 use Rattle.model.specs.Focus.{IsFocus, Resolves}
 use Rattle.model.specs.Differences.{Updated, FocusMoved, AreOfFocus, IsAloneIf, IsToldForFocus, IsAdded, IsInBoth, IsUpdated}
@@ -50,9 +50,9 @@ module _ {v : World} (s : IsState v) where
       go None e = e
       go (Some p) e = absurd (nowhere p (stands_at_place v id p e))
 
-module _ (w : World) (u : UpdateData) (o : IsOld w) (c : IsPassed w u) (k : KeepsRules w u) {new : World} (r : IsRebuild (merged w u) new) where
+module _ (w : World) (u : UpdateData) (o : IsOld w) (c : IsPassed w u) (k : KeepsRules w u) {new : World} (r : IsRebuild (merged_world w u) new) where
   abbrev m : World
-  m = merged w u
+  m = merged_world w u
 
   abbrev i : ℕ
   i = index_for w u.name
@@ -156,7 +156,7 @@ module _ (w : World) (u : UpdateData) (o : IsOld w) (c : IsPassed w u) (k : Keep
 
           by_name : (x : Option TreeId) → graft_name w q.0 ≡ x → StandsAt w q id
           by_name None e = stands_listed w q id e was
-          by_name (Some name) e = absurd (no_child (listed w q.0) (o.graft_childless q.0 name e) was)
+          by_name (Some name) e = absurd (no_child (listed_ids w q.0) (o.graft_childless q.0 name e) was)
 
       go : (s : Spot) → Entered w u s id → place_of w id ≢ place_of new id
       go (Some p) e same = placed p e (stands_at_place w id p (same ∙ found_at (new_state id there) p id (entered_stands w u o c.climbed r p id e)))

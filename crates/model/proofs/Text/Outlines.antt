@@ -16,16 +16,16 @@ use Rattle.model.specs.declared.FullNodeId.{FullNodeId}
 use Rattle.model.specs.declared.filters.FilterResult.{FilterResult}
 use Rattle.model.specs.declared.filters.FilterResult.TheVariants.{Include, ExcludeNode, ExcludeSubtree}
 use Rattle.model.specs.FullIds.{full_cmp}
-use Rattle.model.specs.World.{World, data_of, listed, graft_name, focus_of, focus_named, root_named, at_most_one, children, in_tree, Place}
-use Rattle.model.specs.Forest.{plant, grown, below, place_among, place_of, chain, climbed, above, is_same}
+use Rattle.model.specs.World.{World, data_of, listed_ids, graft_name, focus_of, focus_named, root_named, at_most_one, children, in_tree, Place}
+use Rattle.model.specs.Forest.{plant, levels_below, below, place_among, place_of, chain, places_up, above, is_same}
 use Rattle.model.specs.Lists.{ancestors}
 use Rattle.model.specs.Frontier.{frontier, filtered_children}
-use Rattle.model.specs.Upward.{given, says, upward, inherited, is_within, is_before, is_root}
+use Rattle.model.specs.Upward.{field_at, says, upward, inherited_field, is_within, is_before, is_root}
 use Rattle.model.specs.FocusFound.{focus_beyond, focus_from, effective_focus, active_descendant, is_focused}
 use Rattle.model.specs.RoleClasses.{is_see_through}
-use Rattle.model.specs.Covers.{is_included, is_left_out, is_cut_off, filtered_parent, cover, kindred, following_filtered_siblings, preceding_filtered_siblings}
-use Rattle.model.specs.Geometry.{direct_transform, sum_of_moves, transform, transform_within, whole_rect, moved, ordered, bounding_box, meets, seen_from, contains_point, uncut, uncut_preorder, is_at_point, hit}
-use Rattle.model.specs.Filters.{is_hidden, is_transparent, settled, base_filter, is_outside, is_first_inside, is_far_outside, is_clipped_by, is_clipped, answer_at, common_filter, NamedFilter, All, Common, CommonWithRoot, filter_named}
+use Rattle.model.specs.Covers.{is_included, is_left_out, is_cut_off, filtered_parent, cover, kindred_nodes, following_filtered_siblings, preceding_filtered_siblings}
+use Rattle.model.specs.Geometry.{direct_transform, sum_of_moves, transform, transform_within, whole_rect, moved_rect, ordered_rect, bounding_box, meets, seen_from, contains_point, uncut, uncut_preorder, is_at_point, hit}
+use Rattle.model.specs.Filters.{is_hidden, is_transparent, first_answer, base_filter, is_outside, is_first_inside, is_far_outside, is_clipped_by, is_clipped, answer_at, common_filter, NamedFilter, All, Common, CommonWithRoot, filter_named}
 use Rattle.model.specs.Styles.{style_of}
 use Rattle.model.specs.TextRuns.{run_ids, sent_run}
 use Rattle.model.specs.Outline.{outline, without_text, ReadsOutline}
@@ -101,18 +101,18 @@ reads_given of w id h = ap (option_and_then of) (data_bare w id) ∙ and_then_sa
 pub children_same : (w : World) (id : FullNodeId) → children (outline w) id ≡ children w id
 children_same w id =
     let name : graft_name (outline w) id ≡ graft_name w id = reads_given (λ d. d.tree_id) w id (λ d. refl) in
-    let list : listed (outline w) id ≡ listed w id = reads_or (λ d. map (in_tree id.tree) d.children) [] w id (λ d. refl) in
-    ap (λ o. option_map_or (λ n. at_most_one (root_named w n)) o (listed (outline w) id)) name
+    let list : listed_ids (outline w) id ≡ listed_ids w id = reads_or (λ d. map (in_tree id.tree) d.children) [] w id (λ d. refl) in
+    ap (λ o. option_map_or (λ n. at_most_one (root_named w n)) o (listed_ids (outline w) id)) name
     ∙ ap (λ l. option_map_or (λ n. at_most_one (root_named w n)) (graft_name w id) l) list
 
-grown_same : (w : World) (n : ℕ) (id : FullNodeId) → grown (outline w) n id ≡ grown w n id
+grown_same : (w : World) (n : ℕ) (id : FullNodeId) → levels_below (outline w) n id ≡ levels_below w n id
 grown_same w zero id = refl
 grown_same w (suc n) id =
-    ap (plant (grown (outline w) n)) (children_same w id) ∙ ap (λ sub. plant sub (children w id)) (funext (grown (outline w) n) (grown w n) (grown_same w n))
+    ap (plant (levels_below (outline w) n)) (children_same w id) ∙ ap (λ sub. plant sub (children w id)) (funext (levels_below (outline w) n) (levels_below w n) (grown_same w n))
 
 pub below_same_of : (w : World) (id : FullNodeId) → below (outline w) id ≡ below w id
 unfolding below
-below_same_of w id = ap (λ n. grown (outline w) n id) (len_same w) ∙ grown_same w (len w.nodes) id
+below_same_of w id = ap (λ n. levels_below (outline w) n id) (len_same w) ∙ grown_same w (len w.nodes) id
 
 among_same : (w : World) (child : FullNodeId) (ps : List FullNodeId) → place_among (outline w) child ps ≡ place_among w child ps
 among_same w child [] = refl
@@ -124,14 +124,14 @@ pub place_same : (w : World) (id : FullNodeId) → place_of (outline w) id ≡ p
 unfolding place_of
 place_same w id = ap (place_among (outline w) id) (keys_same w) ∙ among_same w id (keys w.nodes)
 
-climbed_same : (w : World) (n : ℕ) (id : FullNodeId) → climbed (outline w) n id ≡ climbed w n id
+climbed_same : (w : World) (n : ℕ) (id : FullNodeId) → places_up (outline w) n id ≡ places_up w n id
 climbed_same w zero id = refl
 climbed_same w (suc n) id =
-    ap (chain (climbed (outline w) n)) (place_same w id) ∙ ap (λ up. chain up (place_of w id)) (funext (climbed (outline w) n) (climbed w n) (climbed_same w n))
+    ap (chain (places_up (outline w) n)) (place_same w id) ∙ ap (λ up. chain up (place_of w id)) (funext (places_up (outline w) n) (places_up w n) (climbed_same w n))
 
 pub above_same : (w : World) (id : FullNodeId) → above (outline w) id ≡ above w id
 unfolding above
-above_same w id = ap (λ n. climbed (outline w) n id) (len_same w) ∙ climbed_same w (len w.nodes) id
+above_same w id = ap (λ n. places_up (outline w) n id) (len_same w) ∙ climbed_same w (len w.nodes) id
 
 -- ---- each word in turn, of the outline and of the world
 
@@ -146,7 +146,7 @@ module _ (w : World) where
       go None = refl
       go (Some d) = refl
 
-  pub given_same : {A : Type 0} (field : NodeData → Option A) → IsBlind field → given field o ≡ given field w
+  pub given_same : {A : Type 0} (field : NodeData → Option A) → IsBlind field → field_at field o ≡ field_at field w
   given_same field h i id = reads_given field w id h i
 
   pub says_same : (test : NodeData → Bool) → IsBlind test → says test o ≡ says test w
@@ -170,7 +170,7 @@ module _ (w : World) where
   before_same : is_before o ≡ is_before w
   before_same i a b = is_lt (slice_cmp nat_cmp (reverse (map (λ (p : Place). p.1) (above_is i a))) (reverse (map (λ (p : Place). p.1) (above_is i b))))
 
-  pub inherited_same : {A : Type 0} (field : NodeData → Option A) → IsBlind field → inherited field o ≡ inherited field w
+  pub inherited_same : {A : Type 0} (field : NodeData → Option A) → IsBlind field → inherited_field field o ≡ inherited_field field w
   inherited_same field h i id = slice_get (filter_map (given_same field h i) (up_same i id)) 0
 
   -- ---- the focus
@@ -209,7 +209,7 @@ module _ (w : World) where
   transform_within_same i top id = moves_same (take_while (λ a. not (is_same top a)) (up_same i id)) i
 
   pub box_same : bounding_box o ≡ bounding_box w
-  box_same i id = option_map (λ r. ordered (moved (whole_rect r) (transform_same i id))) (given_same (λ d. d.bounds) (λ d. refl) i id)
+  box_same i id = option_map (λ r. ordered_rect (moved_rect (whole_rect r) (transform_same i id))) (given_same (λ d. d.bounds) (λ d. refl) i id)
 
   -- ---- lists, by any filter
 
@@ -223,7 +223,7 @@ module _ (w : World) where
     cover_same : cover f o ≡ cover f w
     cover_same i id = option_and_then (λ a. then_some (is_included (f a)) a) (find (λ a. not (is_left_out (f a))) (ancestors_same i id))
 
-    kindred_same : kindred f o ≡ kindred f w
+    kindred_same : kindred_nodes f o ≡ kindred_nodes f w
     kindred_same i id = option_map_or (filtered_same i) (cover_same i id) []
 
     following_same : following_filtered_siblings f o ≡ following_filtered_siblings f w
@@ -243,7 +243,7 @@ module _ (w : World) where
   transparent_same : is_transparent o ≡ is_transparent w
   transparent_same = says_same (λ d. is_some d.tree_id || is_see_through d.role) (λ d. refl)
 
-  settled_same : settled o ≡ settled w
+  settled_same : first_answer o ≡ first_answer w
   settled_same i id = cond (focused_same i id) (Some Include) (cond (hidden_same i id) (Some ExcludeSubtree) (cond (transparent_same i id) (Some ExcludeNode) None))
 
   base_same : base_filter o ≡ base_filter w

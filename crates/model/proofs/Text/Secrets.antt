@@ -5,7 +5,7 @@ use Rattle.std.specs.Option.{option_or}
 use Rattle.model.specs.declared.FullNodeId.{FullNodeId}
 use Rattle.model.specs.World.{World}
 use Rattle.model.specs.RoleClasses.{is_password_input, is_multiline}
-use Rattle.model.specs.Upward.{says, inherited}
+use Rattle.model.specs.Upward.{says, inherited_field}
 use Rattle.model.specs.Geometry.{transform, transform_within}
 use Rattle.model.specs.Styles.{style_of}
 use Rattle.model.specs.TextRuns.{is_password, run_ids, sent_run, sent_runs, cut_by, run_value, supports_text_ranges}
@@ -36,7 +36,7 @@ faced o root password id f =
       move = transform o id;
       move_in_root = transform_within o root id;
       metrics = metrics_of password d;
-      direction = inherited (λ e. e.text_direction) o id;
+      direction = inherited_field (λ e. e.text_direction) o id;
     }
 
 shown_is_faced : (w : World) (root : FullNodeId) (password : Bool) (id : FullNodeId) → shown_run w root password true (sent_run w id) ≡ faced (outline w) root password id (face (sent_run w id))

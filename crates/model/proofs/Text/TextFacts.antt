@@ -10,7 +10,7 @@ use Rattle.model.specs.World.{World}
 use Rattle.model.specs.TextRuns.{sent_runs, has_runs, lie_in_tree, are_cut, have_rising_words, are_empty_last, are_linked_in_order, have_size, IsText, supports_text_ranges}
 use Rattle.model.specs.FlatText.{FlatText, count, count_in, start_of, Position, offset, start_at, end_at, biased_to_start, biased_to_end}
 use Rattle.model.specs.Values.{own_value, shown_value, has_value_in_runs, document_text, value_of, has_value}
-use Rattle.model.specs.Labels.{own_label, label_part, labelled_by, joined, label_of, has_label}
+use Rattle.model.specs.Labels.{own_label, label_part, labelled_by, joined_text, label_of, has_label}
 
 pub both : (a b : Bool) → (a && b) ≡ true → (a ≡ true) × (b ≡ true)
 both true b e = (refl, e)
@@ -49,11 +49,11 @@ pub has_value_is : (w : World) (id : FullNodeId) → has_value w id ≡ is_some 
 unfolding value_of
 has_value_is w id = value_there (own_value w id) (shown_value w id) (has_value_in_runs w id) (document_text w id)
 
-any_part : (part : FullNodeId → Option (List ℕ)) (ids : List FullNodeId) → list_any (λ m. is_some (part m)) ids ≡ is_some (joined (filter_map part ids))
+any_part : (part : FullNodeId → Option (List ℕ)) (ids : List FullNodeId) → list_any (λ m. is_some (part m)) ids ≡ is_some (joined_text (filter_map part ids))
 any_part part [] = refl
 any_part part (id ∷ ids) = go (part id) (any_part part ids)
   where
-    go : (o : Option (List ℕ)) → list_any (λ m. is_some (part m)) ids ≡ is_some (joined (filter_map part ids)) → (is_some o || list_any (λ m. is_some (part m)) ids) ≡ is_some (joined (cons_option o (filter_map part ids)))
+    go : (o : Option (List ℕ)) → list_any (λ m. is_some (part m)) ids ≡ is_some (joined_text (filter_map part ids)) → (is_some o || list_any (λ m. is_some (part m)) ids) ≡ is_some (joined_text (cons_option o (filter_map part ids)))
     go None rest = rest
     go (Some t) rest = refl
 
@@ -61,7 +61,7 @@ pub has_label_is : (w : World) (id : FullNodeId) → has_label w id ≡ is_some 
 unfolding label_of
 has_label_is w id = go (own_label w id)
   where
-    go : (own : Option (List ℕ)) → (is_some own || list_any (λ m. is_some (label_part w m)) (labelled_by w id)) ≡ is_some (option_or own (joined (filter_map (label_part w) (labelled_by w id))))
+    go : (own : Option (List ℕ)) → (is_some own || list_any (λ m. is_some (label_part w m)) (labelled_by w id)) ≡ is_some (option_or own (joined_text (filter_map (label_part w) (labelled_by w id))))
     go None = any_part (label_part w) (labelled_by w id)
     go (Some t) = refl
 

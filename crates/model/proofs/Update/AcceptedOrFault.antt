@@ -8,9 +8,9 @@ use Rattle.std.proofs.lemmas.Option.{same_Some}
 use Rattle.schema.specs.declared.NodeId.{NodeId}
 use Rattle.schema.specs.declared.TreeId.{TreeId}
 use Rattle.model.specs.declared.FullNodeId.{FullNodeId}
-use Rattle.model.specs.World.{ROOT_NAME, World, Tree, IsNode, data_of, in_tree, index_of, listed, graft_name, root_of, root_named, focus_of, focus_named, Place, Reached, Kept}
+use Rattle.model.specs.World.{ROOT_NAME, World, Tree, IsNode, data_of, in_tree, index_of, listed_ids, graft_name, root_of, root_named, focus_of, focus_named, Place, Reached, Kept}
 use Rattle.model.specs.Focus.{OnChain, first, next, GoesOn}
-use Rattle.model.specs.Update.{UpdateData, Fault, MissingTreeInfo, NotRootTree, MissingData, NotReached, NamedTwice, ListedTwice, RootTreeGrafted, GraftWithChildren, GraftedTwice, NoGraft, NoFirstTreeInfo, FocusMissing, FocusOnEmptyGraft, IndexesUsedUp, StandsApart, Stands, Counts, IsFirst, IsNamed, named_at, IsListedAt, IsGraftOf, IsOnEmptyGraft, IsAccepted, index_for, merged}
+use Rattle.model.specs.Update.{UpdateData, Fault, MissingTreeInfo, NotRootTree, MissingData, NotReached, NamedTwice, ListedTwice, RootTreeGrafted, GraftWithChildren, GraftedTwice, NoGraft, NoFirstTreeInfo, FocusMissing, FocusOnEmptyGraft, IndexesUsedUp, StandsApart, Stands, Counts, IsFirst, IsNamed, named_at, IsListedAt, IsGraftOf, IsOnEmptyGraft, IsAccepted, index_for, merged_world}
 use Rattle.model.specs.State.{Lists}
 use Rattle.model.proofs.Worlds.Names.{same_id, cases_id, cases_place, cases_name, cases_some}
 use Rattle.model.proofs.State.StatePlaces.{map_some, and_then_some, value_of, graft_is_node, lister_is_node}
@@ -112,14 +112,14 @@ module _ (w : World) where
 
   pub places : List FullNodeId → List (Place × FullNodeId)
   places [] = []
-  places (k ∷ ks) = placed k 0 (listed w k) ++ places ks
+  places (k ∷ ks) = placed k 0 (listed_ids w k) ++ places ks
 
   is_place_of : (ks : List FullNodeId) (p : Place) (child : FullNodeId) → IsIn p.0 ks → Lists w p child → IsIn (p, child) (places ks)
   unfolding places
   is_place_of [] p child h at = absurd h
   is_place_of (k ∷ ks) p child (inl e) at =
-      is_in_append (placed k 0 (listed w k)) (places ks) (p, child) (inl (subst (λ j. IsIn (p, child) (placed j 0 (listed w j))) (sym e) (placed_in p.0 0 (listed w p.0) p.1 p.1 child (omega arith) at)))
-  is_place_of (k ∷ ks) p child (inr h) at = is_in_append (placed k 0 (listed w k)) (places ks) (p, child) (inr (is_place_of ks p child h at))
+      is_in_append (placed k 0 (listed_ids w k)) (places ks) (p, child) (inl (subst (λ j. IsIn (p, child) (placed j 0 (listed_ids w j))) (sym e) (placed_in p.0 0 (listed_ids w p.0) p.1 p.1 child (omega arith) at)))
+  is_place_of (k ∷ ks) p child (inr h) at = is_in_append (placed k 0 (listed_ids w k)) (places ks) (p, child) (inr (is_place_of ks p child h at))
 
   pub is_place : (p : Place) (child : FullNodeId) → Lists w p child → IsIn (p, child) (places keys)
   is_place p child at = is_place_of keys p child (is_key p.0 (lister_is_node w p child at)) at
@@ -207,7 +207,7 @@ decide_node_at (Some x) n = decide_by (ap Some) (same_Some x n) (decide_node x n
 
 module _ (old : World) (u : UpdateData) where
   abbrev m : World
-  m = merged old u
+  m = merged_world old u
 
   abbrev names : List NodeId
   names = map (λ e. e.0) u.nodes
@@ -219,7 +219,7 @@ module _ (old : World) (u : UpdateData) where
   decide_counts id = decide_either (decide_named id) (decide_both (decide_kept m id.tree) (decide_reached m id))
 
   decide_listed_at : (p : Place) (child : FullNodeId) → IsDecided (IsListedAt old u p child)
-  decide_listed_at p child = decide_both (decide_counts p.0) (decide_id (slice_get (listed m p.0) p.1) child)
+  decide_listed_at p child = decide_both (decide_counts p.0) (decide_id (slice_get (listed_ids m p.0) p.1) child)
 
   decide_graft_of : (id : FullNodeId) (name : TreeId) → IsDecided (IsGraftOf old u id name)
   decide_graft_of id name = decide_both (decide_counts id) (decide_name (graft_name m id) name)
@@ -317,20 +317,20 @@ module _ (old : World) (u : UpdateData) where
   settle_children = go (decide_any Bad decide_bad (keys m))
     where
       Bad : FullNodeId → Type 0
-      Bad id = (name : TreeId) × IsGraftOf old u id name × (listed m id ≢ [])
+      Bad id = (name : TreeId) × IsGraftOf old u id name × (listed_ids m id ≢ [])
 
       decide_empty : (xs : List FullNodeId) → IsDecided (xs ≡ [])
       decide_empty [] = inl refl
       decide_empty (x ∷ xs) = inr (λ e. cc)
 
-      by_parts : (id : FullNodeId) (name : TreeId) → graft_name m id ≡ Some name → IsDecided (IsGraftOf old u id name) → IsDecided (listed m id ≢ []) → IsDecided (Bad id)
+      by_parts : (id : FullNodeId) (name : TreeId) → graft_name m id ≡ Some name → IsDecided (IsGraftOf old u id name) → IsDecided (listed_ids m id ≢ []) → IsDecided (Bad id)
       by_parts id name e (inl g) (inl l) = inl (name, g, l)
       by_parts id name e (inr g) l = inr (λ h. g (subst (λ k. IsGraftOf old u id k) (same_Some h.0 name (sym h.1.1 ∙ e)) h.1))
       by_parts id name e (inl g) (inr l) = inr (λ h. l h.2)
 
       by_name : (id : FullNodeId) (o : Option TreeId) → graft_name m id ≡ o → IsDecided (Bad id)
       by_name id None e = inr (λ h. cc (e, h.1.1))
-      by_name id (Some name) e = by_parts id name e (decide_graft_of id name) (decide_not (decide_empty (listed m id)))
+      by_name id (Some name) e = by_parts id name e (decide_graft_of id name) (decide_not (decide_empty (listed_ids m id)))
 
       decide_bad : (id : FullNodeId) → IsDecided (Bad id)
       decide_bad id = by_name id (graft_name m id) refl

@@ -8,7 +8,7 @@ use Rattle.schema.specs.NodeData.{NodeData}
 use Rattle.schema.specs.declared.TreeId.{TreeId}
 use Rattle.model.specs.declared.FullNodeId.{FullNodeId}
 use Rattle.model.specs.FullIds.{full_cmp, exact_full}
-use Rattle.model.specs.World.{World, Tree, HasData, data_of, in_tree, listed, graft_name, root_of, root_named, Reached, Kept}
+use Rattle.model.specs.World.{World, Tree, HasData, data_of, in_tree, listed_ids, graft_name, root_of, root_named, Reached, Kept}
 use Rattle.model.specs.World as world
 use Rattle.model.specs.Update.{IsRebuild}
 use Rattle.model.proofs.Worlds.Names.{cases_id}
@@ -56,7 +56,7 @@ module _ (w : World) where
   keys = map (λ e. e.0) (entries w.nodes)
 
   Child : FullNodeId → FullNodeId → Type 0
-  Child p id = (i : ℕ) × (slice_get (listed w p) i ≡ Some id)
+  Child p id = (i : ℕ) × (slice_get (listed_ids w p) i ≡ Some id)
 
   Root : FullNodeId → Type 0
   Root id = root_of w id.tree ≡ Some id
@@ -84,14 +84,14 @@ module _ (w : World) where
   path_to id (start id' is) = let t = root_of_parts w id.tree id is in subst (Reached w) t.2 (world.Reached.root id.tree t.0 t.1)
   path_to id (step p q path edge) =
       let e = edge_parts (λ k. k) Child (map (λ e. e.0) (entries w.nodes)) p id edge in
-      world.Reached.child p id e.2.0 (path_to p path) (subst (λ k. slice_get (listed w k) e.2.0 ≡ Some id) e.1 e.2.1)
+      world.Reached.child p id e.2.0 (path_to p path) (subst (λ k. slice_get (listed_ids w k) e.2.0 ≡ Some id) e.1 e.2.1)
 
   pub decide_reached : (id : FullNodeId) → IsDecided (Reached w id)
   unfolding Child
   decide_reached id = decide_by (path_to id) (path_from id) (decide_path (λ k. k) Child decide_child keys Root decide_root id)
     where
       decide_child : (p id : FullNodeId) → IsDecided (Child p id)
-      decide_child p id = decide_listed (listed w p) id
+      decide_child p id = decide_listed (listed_ids w p) id
 
   -- the tree with this index is the one that the reached graft names
   Grafted : FullNodeId → ℕ → Type 0

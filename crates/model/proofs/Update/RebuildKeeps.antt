@@ -3,7 +3,7 @@ use Rattle.std.proofs.Common.{◌≡◌, ℕ, slice_get, Some, IsSome, option_ma
 use Rattle.std.specs.FinMap.{get}
 use Rattle.schema.specs.declared.TreeId.{TreeId}
 use Rattle.model.specs.declared.FullNodeId.{FullNodeId}
-use Rattle.model.specs.World.{World, Tree, IsNode, HasData, data_of, in_tree, index_of, listed, graft_name, root_of, focus_of, root_named, focus_named, Place, Reached, Kept}
+use Rattle.model.specs.World.{World, Tree, IsNode, HasData, data_of, in_tree, index_of, listed_ids, graft_name, root_of, focus_of, root_named, focus_named, Place, Reached, Kept}
 use Rattle.model.specs.World as world
 use Rattle.model.specs.Focus.{OnChain, first, next}
 use Rattle.model.specs.Update.{IsRebuild}
@@ -36,7 +36,7 @@ module _ {m new : World} (r : IsRebuild m new) where
   pub tree_same : (index : ℕ) → Kept m index → get new.trees index ≡ get m.trees index
   tree_same index kept = same_values _ _ _ (r.trees index) (λ t. (λ is. (kept, is), λ k. k.1))
 
-  pub listed_same : (id : FullNodeId) → Kept m id.tree → Reached m id → listed new id ≡ listed m id
+  pub listed_same : (id : FullNodeId) → Kept m id.tree → Reached m id → listed_ids new id ≡ listed_ids m id
   listed_same id kept reached = rw (data_same id kept reached)
 
   pub graft_same : (id : FullNodeId) → Kept m id.tree → Reached m id → graft_name new id ≡ graft_name m id

@@ -5,9 +5,9 @@ use Rattle.std.proofs.lemmas.Bool.{cases_eq, cases_lt}
 use Rattle.std.proofs.lemmas.Option.{same_Some}
 use Rattle.schema.specs.declared.TreeId.{TreeId}
 use Rattle.model.specs.declared.FullNodeId.{FullNodeId}
-use Rattle.model.specs.World.{ROOT_NAME, World, data_of, listed, graft_name, root_named, Place, Reached}
+use Rattle.model.specs.World.{ROOT_NAME, World, data_of, listed_ids, graft_name, root_named, Place, Reached}
 use Rattle.model.specs.Focus.{OnChain}
-use Rattle.model.specs.Update.{UpdateData, Fault, MissingTreeInfo, NotRootTree, MissingData, NotReached, NamedTwice, ListedTwice, RootTreeGrafted, GraftWithChildren, GraftedTwice, NoGraft, NoFirstTreeInfo, FocusMissing, FocusOnEmptyGraft, IndexesUsedUp, StandsApart, Stands, IsListedAt, index_for, merged, KeepsRules}
+use Rattle.model.specs.Update.{UpdateData, Fault, MissingTreeInfo, NotRootTree, MissingData, NotReached, NamedTwice, ListedTwice, RootTreeGrafted, GraftWithChildren, GraftedTwice, NoGraft, NoFirstTreeInfo, FocusMissing, FocusOnEmptyGraft, IndexesUsedUp, StandsApart, Stands, IsListedAt, index_for, merged_world, KeepsRules}
 use Rattle.model.proofs.Worlds.Names.{cases_id, cases_place, cases_name, cases_some, certain}
 use Rattle.model.proofs.State.StatePlaces.{graft_is_node}
 use Rattle.model.proofs.Update.RebuildKeeps.{chain_kept}
@@ -70,21 +70,21 @@ module _ (old : World) (u : UpdateData) where
 
   none_stands : KeepsRules old u → (f : Fault) → ¬ (Stands old u f)
   none_stands k (FocusMissing n) h = h.5 (k.focus_reached h.2 h.4)
-  none_stands k (FocusOnEmptyGraft name) h = let at = h.1 in no_some (root_named (merged old u) name) at.5 (k.focus_goes_on at.0 name at.1 at.4)
+  none_stands k (FocusOnEmptyGraft name) h = let at = h.1 in no_some (root_named (merged_world old u) name) at.5 (k.focus_goes_on at.0 name at.1 at.4)
   none_stands k f h = rules_apart k f h
 
   rules_kept : ((f : Fault) → ¬ (Stands old u f)) → KeepsRules old u
   rules_kept none = record {
     first_has_info = λ first. certain (cases_some u.info) (λ absent. none MissingTreeInfo (first, is_none u.info absent));
     first_for_root = λ first. certain (cases_name u.name ROOT_NAME) (λ other. none NotRootTree (first, other));
-    root_is_node = λ id root. certain (cases_some (data_of (merged old u) id)) (λ absent. none (MissingData id.node) (id, refl, absent, inl root));
-    listed_is_node = λ p child at. certain (cases_some (data_of (merged old u) child)) (λ absent. none (MissingData child.node) (child, refl, absent, inr (p, at)));
-    named_reached = λ id named. certain (decide_reached (merged old u) id) (λ lost. none (NotReached id.node) (id, refl, named, lost));
+    root_is_node = λ id root. certain (cases_some (data_of (merged_world old u) id)) (λ absent. none (MissingData id.node) (id, refl, absent, inl root));
+    listed_is_node = λ p child at. certain (cases_some (data_of (merged_world old u) child)) (λ absent. none (MissingData child.node) (child, refl, absent, inr (p, at)));
+    named_reached = λ id named. certain (decide_reached (merged_world old u) id) (λ lost. none (NotReached id.node) (id, refl, named, lost));
     named_once = λ i j n a b. certain (cases_eq i j) (λ other. none (NamedTwice n) (i, j, other, a, b));
     listed_once = λ p q child a b. certain (cases_place p q) (λ other. none (ListedTwice child.node) (child, refl, p, a, inl (q, other, b)));
     root_unlisted = λ p id at root. none (ListedTwice id.node) (id, refl, p, at, inr root);
     root_ungrafted = λ id grafts. none (RootTreeGrafted id.node) (id, refl, grafts);
-    graft_childless = λ id name grafts. no_empty (listed (merged old u) id) (λ lists. none (GraftWithChildren id.node) (id, refl, name, grafts, lists));
+    graft_childless = λ id name grafts. no_empty (listed_ids (merged_world old u) id) (λ lists. none (GraftWithChildren id.node) (id, refl, name, grafts, lists));
     grafted_once = λ id other name a b. certain (cases_id id other) (λ apart. none (GraftedTwice name) (id, other, apart, a, b));
     later_grafted = λ later other. certain (decide_grafted old u.name) (λ absent. none (NoGraft u.name) (later, refl, other, λ id grafts. absent (id, grafts)));
     later_has_info = λ later absent. certain (cases_some u.info) (λ missing. none (NoFirstTreeInfo u.name) (later, refl, absent, is_none u.info missing));
@@ -93,14 +93,14 @@ module _ (old : World) (u : UpdateData) where
     focus_goes_on = goes_on;
   }
     where
-      no_empty_graft : (id : FullNodeId) (name : TreeId) → OnChain (merged old u) id → Reached (merged old u) id → graft_name (merged old u) id ≡ Some name → root_named (merged old u) name ≡ None → ⊥
-      no_empty_graft id name on reached grafts absent = none (FocusOnEmptyGraft name) (none_apart old u none, (id, on, chain_kept (merged old u) id on, reached, grafts, absent))
+      no_empty_graft : (id : FullNodeId) (name : TreeId) → OnChain (merged_world old u) id → Reached (merged_world old u) id → graft_name (merged_world old u) id ≡ Some name → root_named (merged_world old u) name ≡ None → ⊥
+      no_empty_graft id name on reached grafts absent = none (FocusOnEmptyGraft name) (none_apart old u none, (id, on, chain_kept (merged_world old u) id on, reached, grafts, absent))
 
-      reached : (id : FullNodeId) → OnChain (merged old u) id → Reached (merged old u) id
-      reached id on = certain (decide_reached (merged old u) id) (λ lost. none (FocusMissing id.node) (none_apart old u none, (λ name e. none (FocusOnEmptyGraft name) (none_apart old u none, e)), id, refl, on, lost))
+      reached : (id : FullNodeId) → OnChain (merged_world old u) id → Reached (merged_world old u) id
+      reached id on = certain (decide_reached (merged_world old u) id) (λ lost. none (FocusMissing id.node) (none_apart old u none, (λ name e. none (FocusOnEmptyGraft name) (none_apart old u none, e)), id, refl, on, lost))
 
-      goes_on : (id : FullNodeId) (name : TreeId) → OnChain (merged old u) id → graft_name (merged old u) id ≡ Some name → IsSome (root_named (merged old u) name)
-      goes_on id name on grafts = certain (cases_some (root_named (merged old u) name)) (λ absent. no_empty_graft id name on (reached id on) grafts (is_none (root_named (merged old u) name) absent))
+      goes_on : (id : FullNodeId) (name : TreeId) → OnChain (merged_world old u) id → graft_name (merged_world old u) id ≡ Some name → IsSome (root_named (merged_world old u) name)
+      goes_on id name on grafts = certain (cases_some (root_named (merged_world old u) name)) (λ absent. no_empty_graft id name on (reached id on) grafts (is_none (root_named (merged_world old u) name) absent))
 
   pub rules_or_fault : KeepsRules old u ↔ ((f : Fault) → ¬ (Stands old u f))
   rules_or_fault = (none_stands, rules_kept)

@@ -6,7 +6,7 @@ use Rattle.std.proofs.lemmas.Bool.{cases_eq}
 use Rattle.model.specs.declared.FullNodeId.{FullNodeId}
 use Rattle.model.specs.World.{ROOT_NAME, World, Tree, IsNode, index_of, in_tree, root_of, root_named, Place, Reached, Kept}
 use Rattle.model.specs.World as world
-use Rattle.model.specs.Update.{Fault, MissingTreeInfo, NotRootTree, MissingData, NotReached, NamedTwice, ListedTwice, RootTreeGrafted, GraftWithChildren, GraftedTwice, NoGraft, NoFirstTreeInfo, FocusMissing, FocusOnEmptyGraft, IndexesUsedUp, StandsApart, Stands, IsListedAt, IsRebuild, IsAccepted, index_for, root_after, merged}
+use Rattle.model.specs.Update.{Fault, MissingTreeInfo, NotRootTree, MissingData, NotReached, NamedTwice, ListedTwice, RootTreeGrafted, GraftWithChildren, GraftedTwice, NoGraft, NoFirstTreeInfo, FocusMissing, FocusOnEmptyGraft, IndexesUsedUp, StandsApart, Stands, IsListedAt, IsRebuild, IsAccepted, index_for, root_after, merged_world}
 use Rattle.model.specs.State.{IsState, idle_update}
 use Rattle.model.proofs.Worlds.Names.{index_of-known}
 use Rattle.model.proofs.State.StatePlaces.{IsSome_is}
@@ -40,20 +40,20 @@ module _ (w : World) (t : Tree) (s : IsState w) (is : get w.trees 0 ≡ Some t) 
   root_is : root_after w (idle_update t.focus) ≡ Some t.root
   root_is = ap (λ i. option_map (λ t. t.root) (get w.trees i)) index_is ∙ ap (option_map (λ t. t.root)) is
 
-  same_tree : (index : ℕ) → get (merged w (idle_update t.focus)).trees index ≡ get w.trees index
+  same_tree : (index : ℕ) → get (merged_world w (idle_update t.focus)).trees index ≡ get w.trees index
   same_tree index = go (cases_eq index (index_for w ROOT_NAME))
     where
-      go : (index ≡ index_for w ROOT_NAME) ⊎ (index ≡ index_for w ROOT_NAME → ⊥) → get (merged w (idle_update t.focus)).trees index ≡ get w.trees index
-      go (inl same) = ap (get (merged w (idle_update t.focus)).trees) same ∙ tree_named w (idle_update t.focus) t.root root_is ∙ sym is ∙ ap (get w.trees) (sym index_is ∙ sym same)
+      go : (index ≡ index_for w ROOT_NAME) ⊎ (index ≡ index_for w ROOT_NAME → ⊥) → get (merged_world w (idle_update t.focus)).trees index ≡ get w.trees index
+      go (inl same) = ap (get (merged_world w (idle_update t.focus)).trees) same ∙ tree_named w (idle_update t.focus) t.root root_is ∙ sym is ∙ ap (get w.trees) (sym index_is ∙ sym same)
       go (inr other) = tree_elsewhere w (idle_update t.focus) index other
 
-  pub idle_merged : merged w (idle_update t.focus) ≡ w
+  pub idle_merged : merged_world w (idle_update t.focus) ≡ w
   idle_merged =
-      let known : (merged w (idle_update t.focus)).known ≡ w.known = known_stays w (idle_update t.focus) 0 root_known in
-      let trees : (merged w (idle_update t.focus)).trees ≡ w.trees = same_map nat_cmp_total nat_cmp-IsAntisymmetric (merged w (idle_update t.focus)).trees w.trees same_tree in
+      let known : (merged_world w (idle_update t.focus)).known ≡ w.known = known_stays w (idle_update t.focus) 0 root_known in
+      let trees : (merged_world w (idle_update t.focus)).trees ≡ w.trees = same_map nat_cmp_total nat_cmp-IsAntisymmetric (merged_world w (idle_update t.focus)).trees w.trees same_tree in
       λ i. record { known = known i; trees = trees i; nodes = w.nodes; toolkit = w.toolkit; host_focused = w.host_focused }
 
-  again : IsState (merged w (idle_update t.focus))
+  again : IsState (merged_world w (idle_update t.focus))
   again = subst IsState (sym idle_merged) s
 
   none_apart_idle : (f : Fault) → ¬ (StandsApart w (idle_update t.focus) f)
@@ -77,7 +77,7 @@ module _ (w : World) (t : Tree) (s : IsState w) (is : get w.trees 0 ≡ Some t) 
 
   none_idle : (f : Fault) → ¬ (Stands w (idle_update t.focus) f)
   none_idle (FocusMissing n) h = h.5 (again.node_reached h.2 (again.focus_is_node h.2 h.4))
-  none_idle (FocusOnEmptyGraft name) h = let at = h.1 in no_some (root_named (merged w (idle_update t.focus)) name) at.5 (again.focus_goes_on at.0 name at.1 at.4)
+  none_idle (FocusOnEmptyGraft name) h = let at = h.1 in no_some (root_named (merged_world w (idle_update t.focus)) name) at.5 (again.focus_goes_on at.0 name at.1 at.4)
   none_idle f h = none_apart_idle f h
 
   pub idle_accepted : IsAccepted w (idle_update t.focus) w

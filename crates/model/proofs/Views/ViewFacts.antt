@@ -12,10 +12,10 @@ use Rattle.model.specs.World.{World, Place}
 use Rattle.model.specs.Forest.{chain, place_of, above, IsFormed}
 use Rattle.model.specs.Lists.{ancestors}
 use Rattle.model.specs.FocusFound.{is_focused}
-use Rattle.model.specs.Upward.{given, says, upward, nearest_given, inherited, says_upward}
+use Rattle.model.specs.Upward.{field_at, says, upward, nearest_given, inherited_field, says_upward}
 use Rattle.model.specs.Covers.{is_cut_off}
 use Rattle.model.specs.Geometry.{direct_transform, sum_of_moves, transform}
-use Rattle.model.specs.Filters.{is_hidden, is_transparent, settled, is_clipped, answer_at, common_filter}
+use Rattle.model.specs.Filters.{is_hidden, is_transparent, first_answer, is_clipped, answer_at, common_filter}
 use Rattle.model.specs.ViewLaws.{six_steps}
 
 -- ---- what comes from above
@@ -28,15 +28,15 @@ module _ (w : World) (formed : IsFormed w) where
   from_place : (id : FullNodeId) → ancestors w id ≡ map (λ (p : Place). p.0) (chain (above w) (place_of w id))
   from_place id = ap (map (λ (p : Place). p.0)) (formed.rooted id)
 
-  pub inherited_is : {A : Type 0} (field : NodeData → Option A) (id : FullNodeId) → inherited field w id ≡ option_or (given field w id) (option_and_then (λ p. inherited field w p.0) (place_of w id))
+  pub inherited_is : {A : Type 0} (field : NodeData → Option A) (id : FullNodeId) → inherited_field field w id ≡ option_or (field_at field w id) (option_and_then (λ p. inherited_field field w p.0) (place_of w id))
   inherited_is field id =
-      ap (λ ids. nearest_given field w (id ∷ ids)) (from_place id) ∙ first (given field w id) (filter_map (given field w) (map (λ (p : Place). p.0) (chain (above w) (place_of w id)))) ∙ ap (option_or (given field w id)) (by_place (place_of w id))
+      ap (λ ids. nearest_given field w (id ∷ ids)) (from_place id) ∙ first (field_at field w id) (filter_map (field_at field w) (map (λ (p : Place). p.0) (chain (above w) (place_of w id)))) ∙ ap (option_or (field_at field w id)) (by_place (place_of w id))
     where
       first : {B : Type 0} (o : Option B) (xs : List B) → slice_get (cons_option o xs) 0 ≡ option_or o (slice_get xs 0)
       first None xs = refl
       first (Some x) xs = refl
 
-      by_place : (o : Option Place) → nearest_given field w (map (λ (p : Place). p.0) (chain (above w) o)) ≡ option_and_then (λ p. inherited field w p.0) o
+      by_place : (o : Option Place) → nearest_given field w (map (λ (p : Place). p.0) (chain (above w) o)) ≡ option_and_then (λ p. inherited_field field w p.0) o
       by_place None = refl
       by_place (Some p) = refl
 
@@ -65,7 +65,7 @@ module _ (w : World) (formed : IsFormed w) where
 
   -- the answer, where the parent's stands at this place
   abbrev answer_below : (FullNodeId → FilterResult) → FullNodeId → Option Place → FilterResult
-  answer_below g id o = unwrap_or (settled w id) (cond (option_map_or (λ p. is_cut_off (g p.0)) o false || is_clipped w id) ExcludeSubtree Include)
+  answer_below g id o = unwrap_or (first_answer w id) (cond (option_map_or (λ p. is_cut_off (g p.0)) o false || is_clipped w id) ExcludeSubtree Include)
 
   cut_above : (o : Option Place) → is_cut_off (answer_at w (map (λ (p : Place). p.0) (chain (above w) o))) ≡ option_map_or (λ p. is_cut_off (common_filter w p.0)) o false
   cut_above None = refl
@@ -73,7 +73,7 @@ module _ (w : World) (formed : IsFormed w) where
 
   pub steps : (id : FullNodeId) → common_filter w id ≡ six_steps w (common_filter w) id
   steps id =
-      ap (λ ids. answer_at w (id ∷ ids)) (from_place id) ∙ ap (λ b. unwrap_or (settled w id) (cond (b || is_clipped w id) ExcludeSubtree Include)) (cut_above (place_of w id))
+      ap (λ ids. answer_at w (id ∷ ids)) (from_place id) ∙ ap (λ b. unwrap_or (first_answer w id) (cond (b || is_clipped w id) ExcludeSubtree Include)) (cut_above (place_of w id))
 
   -- above the parent is the rest of what is above the node
   rest_above : (id : FullNodeId) (q : Place) (up : List Place) (p : Place) → above w id ≡ q ∷ up → place_of w id ≡ Some p → above w p.0 ≡ up
@@ -85,7 +85,7 @@ module _ (w : World) (formed : IsFormed w) where
   module _ (g : FullNodeId → FilterResult) (goes : (id : FullNodeId) → g id ≡ six_steps w g id) where
     same_below : (id : FullNodeId) (o : Option Place) → ((p : Place) → o ≡ Some p → g p.0 ≡ common_filter w p.0) → answer_below g id o ≡ answer_below (common_filter w) id o
     same_below id None h = refl
-    same_below id (Some p) h = ap (λ r. unwrap_or (settled w id) (cond (is_cut_off r || is_clipped w id) ExcludeSubtree Include)) (h p refl)
+    same_below id (Some p) h = ap (λ r. unwrap_or (first_answer w id) (cond (is_cut_off r || is_clipped w id) ExcludeSubtree Include)) (h p refl)
 
     only : (ps : List Place) (id : FullNodeId) → above w id ≡ ps → g id ≡ common_filter w id
     only [] id e = goes id ∙ same_below id (place_of w id) (λ p at. absurd (none_above id p e at)) ∙ sym (steps id)
@@ -122,13 +122,13 @@ module _ (w : World) (formed : IsFormed w) where
   cut_if false = refl
 
   abbrev unsettled : FullNodeId → Bool
-  unsettled a = is_none (settled w a)
+  unsettled a = is_none (first_answer w a)
 
   abbrev clipped_from : List FullNodeId → Bool
   clipped_from ids = list_any (is_clipped w) (take_while unsettled ids)
 
   -- of a node that isn't hidden, where it holds of its parent
-  on_the_way : (id : FullNodeId) → is_hidden w id ≡ false → is_cut_off (answer_at w (ancestors w id)) ≡ clipped_from (ancestors w id) → (o : Option FilterResult) → settled w id ≡ o → is_cut_off (common_filter w id) ≡ clipped_from (upward w id)
+  on_the_way : (id : FullNodeId) → is_hidden w id ≡ false → is_cut_off (answer_at w (ancestors w id)) ≡ clipped_from (ancestors w id) → (o : Option FilterResult) → first_answer w id ≡ o → is_cut_off (common_filter w id) ≡ clipped_from (upward w id)
   on_the_way id seen below None e =
       ap (λ o. is_cut_off (unwrap_or o (cond (is_cut_off (answer_at w (ancestors w id)) || is_clipped w id) ExcludeSubtree Include))) e
       ∙ cut_if (is_cut_off (answer_at w (ancestors w id)) || is_clipped w id)
@@ -153,10 +153,10 @@ module _ (w : World) (formed : IsFormed w) where
       ap (λ ids. is_cut_off (answer_at w ids)) (from_place id) ∙ cut_by_above (place_of w id) h ∙ sym (ap clipped_from (from_place id))
 
   climbs : (ps : List Place) (id : FullNodeId) → above w id ≡ ps → is_hidden w id ≡ false → is_cut_off (common_filter w id) ≡ clipped_from (upward w id)
-  climbs [] id e seen = on_the_way id seen (of_ancestors id (λ p at. absurd (none_above id p e at))) (settled w id) refl
-  climbs (q ∷ up) id e seen = on_the_way id seen (of_ancestors id (λ p at. climbs up p.0 (rest_above id q up p e at) (parent_seen id p at seen))) (settled w id) refl
+  climbs [] id e seen = on_the_way id seen (of_ancestors id (λ p at. absurd (none_above id p e at))) (first_answer w id) refl
+  climbs (q ∷ up) id e seen = on_the_way id seen (of_ancestors id (λ p at. climbs up p.0 (rest_above id q up p e at) (parent_seen id p at seen))) (first_answer w id) refl
 
-  pub clipped_on_the_way : (id : FullNodeId) → settled w id ≡ None → common_filter w id ≡ cond (clipped_from (upward w id)) ExcludeSubtree Include
+  pub clipped_on_the_way : (id : FullNodeId) → first_answer w id ≡ None → common_filter w id ≡ cond (clipped_from (upward w id)) ExcludeSubtree Include
   clipped_on_the_way id e =
       let seen : is_hidden w id ≡ false = not_hidden (is_focused w id) (is_hidden w id) (is_transparent w id) e in
       let answer : common_filter w id ≡ cond (is_cut_off (answer_at w (ancestors w id)) || is_clipped w id) ExcludeSubtree Include

@@ -12,7 +12,7 @@ use Rattle.model.specs.World.{World, children, Place, StandsAt}
 use Rattle.model.specs.Forest.{Forest, empty, tree, plant, place_of, below, above, is_same, IsFormed}
 use Rattle.model.specs.Paths.{depth}
 use Rattle.model.specs.Lists.{IsWithin}
-use Rattle.model.specs.Frontier.{shown, frontier, filtered_children, LeadsUpTo, IsShown}
+use Rattle.model.specs.Frontier.{shown_part, frontier, filtered_children, LeadsUpTo, IsShown}
 use Rattle.model.specs.Beside.{next_place, shown_from, shown_until, after, before, left_at, prior_at, weight, weight_from, weight_until, work_after, work_before, work_from, work_until}
 use Rattle.model.proofs.Forest.Grown.{below_is, above_child, above_root, depth_child}
 use Rattle.model.proofs.Forest.PlaceOf.{same_from_test, test_self}
@@ -74,20 +74,20 @@ module _ (w : World) (formed : IsFormed w) where
     pub after_child : (p : Place) (c : FullNodeId) → StandsAt w p c → after f w ends (above w c) ≡ left_at f w ends (next_place p)
     after_child p c e = ap (after f w ends) (above_child w formed p c e)
 
-    pub left_step : (p : Place) (c : FullNodeId) → StandsAt w p c → left_at f w ends p ≡ shown (f c) c (filtered_children f w c) ++ left_at f w ends (next_place p)
+    pub left_step : (p : Place) (c : FullNodeId) → StandsAt w p c → left_at f w ends p ≡ shown_part (f c) c (filtered_children f w c) ++ left_at f w ends (next_place p)
     left_step p c e =
-        ap (λ xs. xs ++ cond (ends p.0) [] (after f w ends (above w p.0))) (planted_step (frontier f) w p c e) ∙ append_assoc (shown (f c) c (filtered_children f w c)) _ _
+        ap (λ xs. xs ++ cond (ends p.0) [] (after f w ends (above w p.0))) (planted_step (frontier f) w p c e) ∙ append_assoc (shown_part (f c) c (filtered_children f w c)) _ _
 
     pub left_include : (p : Place) (c : FullNodeId) → StandsAt w p c → f c ≡ Include → left_at f w ends p ≡ c ∷ after f w ends (above w c)
     left_include p c e kept =
-        left_step p c e ∙ ap (λ r. shown r c (filtered_children f w c) ++ left_at f w ends (next_place p)) kept ∙ ap (λ xs. c ∷ xs) (sym (after_child p c e))
+        left_step p c e ∙ ap (λ r. shown_part r c (filtered_children f w c) ++ left_at f w ends (next_place p)) kept ∙ ap (λ xs. c ∷ xs) (sym (after_child p c e))
 
     pub left_skip : (p : Place) (c : FullNodeId) → StandsAt w p c → f c ≡ ExcludeSubtree → left_at f w ends p ≡ left_at f w ends (next_place p)
-    left_skip p c e cut = left_step p c e ∙ ap (λ r. shown r c (filtered_children f w c) ++ left_at f w ends (next_place p)) cut
+    left_skip p c e cut = left_step p c e ∙ ap (λ r. shown_part r c (filtered_children f w c) ++ left_at f w ends (next_place p)) cut
 
     pub left_descend : (p : Place) (c : FullNodeId) → StandsAt w p c → f c ≡ ExcludeNode → ends c ≡ false → left_at f w ends p ≡ left_at f w ends (c, 0)
     left_descend p c e out on =
-        left_step p c e ∙ ap (λ r. shown r c (filtered_children f w c) ++ left_at f w ends (next_place p)) out
+        left_step p c e ∙ ap (λ r. shown_part r c (filtered_children f w c) ++ left_at f w ends (next_place p)) out
         ∙ ap (λ t. frontier f t ++ left_at f w ends (next_place p)) (below_is w formed c)
         ∙ ap (λ xs. shown_from f w (c, 0) ++ xs) (sym (after_child p c e) ∙ ap (λ b. cond b [] (after f w ends (above w c))) (sym on))
 
@@ -114,7 +114,7 @@ module _ (w : World) (formed : IsFormed w) where
     pub before_child : (p : Place) (c : FullNodeId) → StandsAt w p c → before f w ends (above w c) ≡ prior_at f w ends p
     before_child p c e = ap (before f w ends) (above_child w formed p c e)
 
-    pub prior_step : (p : Place) (c : FullNodeId) → StandsAt w p c → prior_at f w ends (next_place p) ≡ prior_at f w ends p ++ shown (f c) c (filtered_children f w c)
+    pub prior_step : (p : Place) (c : FullNodeId) → StandsAt w p c → prior_at f w ends (next_place p) ≡ prior_at f w ends p ++ shown_part (f c) c (filtered_children f w c)
     prior_step p c e =
         ap (λ xs. cond (ends p.0) [] (before f w ends (above w p.0)) ++ frontier f (plant (below w) xs)) (take_at (children w p.0) p.1 c e)
         ∙ ap (λ xs. cond (ends p.0) [] (before f w ends (above w p.0)) ++ xs) (frontier-plant f (below w) (take p.1 (children w p.0)) (c ∷ []) ∙ ap (λ xs. shown_until f w p ++ xs) (append-nil _))
@@ -122,14 +122,14 @@ module _ (w : World) (formed : IsFormed w) where
 
     pub prior_include : (p : Place) (c : FullNodeId) → StandsAt w p c → f c ≡ Include → prior_at f w ends (next_place p) ≡ before f w ends (above w c) ++ c ∷ []
     prior_include p c e kept =
-        prior_step p c e ∙ ap (λ r. prior_at f w ends p ++ shown r c (filtered_children f w c)) kept ∙ ap (λ xs. xs ++ c ∷ []) (sym (before_child p c e))
+        prior_step p c e ∙ ap (λ r. prior_at f w ends p ++ shown_part r c (filtered_children f w c)) kept ∙ ap (λ xs. xs ++ c ∷ []) (sym (before_child p c e))
 
     pub prior_skip : (p : Place) (c : FullNodeId) → StandsAt w p c → f c ≡ ExcludeSubtree → prior_at f w ends (next_place p) ≡ prior_at f w ends p
-    prior_skip p c e cut = prior_step p c e ∙ ap (λ r. prior_at f w ends p ++ shown r c (filtered_children f w c)) cut ∙ append-nil _
+    prior_skip p c e cut = prior_step p c e ∙ ap (λ r. prior_at f w ends p ++ shown_part r c (filtered_children f w c)) cut ∙ append-nil _
 
     pub prior_descend : (p : Place) (c : FullNodeId) → StandsAt w p c → f c ≡ ExcludeNode → ends c ≡ false → prior_at f w ends (next_place p) ≡ prior_at f w ends (c, length (children w c))
     prior_descend p c e out on =
-        prior_step p c e ∙ ap (λ r. prior_at f w ends p ++ shown r c (filtered_children f w c)) out
+        prior_step p c e ∙ ap (λ r. prior_at f w ends p ++ shown_part r c (filtered_children f w c)) out
         ∙ ap (λ t. prior_at f w ends p ++ frontier f t) (below_is w formed c ∙ ap (plant (below w)) (sym (take_all (children w c))))
         ∙ ap (λ xs. xs ++ shown_until f w (c, length (children w c))) (sym (before_child p c e) ∙ ap (λ b. cond b [] (before f w ends (above w c))) (sym on))
 
@@ -155,7 +155,7 @@ module _ (w : World) (formed : IsFormed w) where
     -- ---- both ways
 
     -- what is shown of a parent's children is shown before a child, of it, and after it
-    pub child_splits : (p : Place) (c : FullNodeId) → StandsAt w p c → filtered_children f w p.0 ≡ shown_until f w p ++ (shown (f c) c (filtered_children f w c) ++ shown_from f w (next_place p))
+    pub child_splits : (p : Place) (c : FullNodeId) → StandsAt w p c → filtered_children f w p.0 ≡ shown_until f w p ++ (shown_part (f c) c (filtered_children f w c) ++ shown_from f w (next_place p))
     child_splits p c e =
         ap (frontier f) (below_is w formed p.0) ∙ ap (λ xs. frontier f (plant (below w) xs)) (sym (take-append-drop p.1 (children w p.0)))
         ∙ frontier-plant f (below w) (take p.1 (children w p.0)) (drop p.1 (children w p.0)) ∙ ap (λ xs. shown_until f w p ++ xs) (planted_step (frontier f) w p c e)
@@ -167,35 +167,35 @@ module _ (w : World) (formed : IsFormed w) where
     regroup a u s v z = simp append_assoc
 
     splits_by : (ps : List Place) (id : FullNodeId) → above w id ≡ ps → LeadsUpTo f top ps →
-        before f w (is_same top) ps ++ (shown (f id) id (filtered_children f w id) ++ after f w (is_same top) ps) ≡ filtered_children f w top
+        before f w (is_same top) ps ++ (shown_part (f id) id (filtered_children f w id) ++ after f w (is_same top) ps) ≡ filtered_children f w top
     splits_by [] id e leads = absurd leads
     splits_by (q ∷ up) id e leads = go (is_same top q.0) refl leads (splits_by up q.0 parts.1)
       where
         parts : StandsAt w q id × (above w q.0 ≡ up)
         parts = above_parts f w formed id q up e
 
-        around : (b : Bool) → (cond b [] (before f w (is_same top) up) ++ shown_until f w q) ++ (shown (f id) id (filtered_children f w id) ++ (shown_from f w (next_place q) ++ cond b [] (after f w (is_same top) up)))
+        around : (b : Bool) → (cond b [] (before f w (is_same top) up) ++ shown_until f w q) ++ (shown_part (f id) id (filtered_children f w id) ++ (shown_from f w (next_place q) ++ cond b [] (after f w (is_same top) up)))
             ≡ cond b [] (before f w (is_same top) up) ++ (filtered_children f w q.0 ++ cond b [] (after f w (is_same top) up))
         around b =
-            regroup (cond b [] (before f w (is_same top) up)) (shown_until f w q) (shown (f id) id (filtered_children f w id)) (shown_from f w (next_place q)) (cond b [] (after f w (is_same top) up))
+            regroup (cond b [] (before f w (is_same top) up)) (shown_until f w q) (shown_part (f id) id (filtered_children f w id)) (shown_from f w (next_place q)) (cond b [] (after f w (is_same top) up))
             ∙ ap (λ xs. cond b [] (before f w (is_same top) up) ++ (xs ++ cond b [] (after f w (is_same top) up))) (sym (child_splits f (is_same top) q id parts.0))
 
         go : (b : Bool) → is_same top q.0 ≡ b → LeadsUpTo f top (q ∷ up) →
-            (LeadsUpTo f top up → before f w (is_same top) up ++ (shown (f q.0) q.0 (filtered_children f w q.0) ++ after f w (is_same top) up) ≡ filtered_children f w top) →
-            (cond (is_same top q.0) [] (before f w (is_same top) up) ++ shown_until f w q) ++ (shown (f id) id (filtered_children f w id) ++ (shown_from f w (next_place q) ++ cond (is_same top q.0) [] (after f w (is_same top) up)))
+            (LeadsUpTo f top up → before f w (is_same top) up ++ (shown_part (f q.0) q.0 (filtered_children f w q.0) ++ after f w (is_same top) up) ≡ filtered_children f w top) →
+            (cond (is_same top q.0) [] (before f w (is_same top) up) ++ shown_until f w q) ++ (shown_part (f id) id (filtered_children f w id) ++ (shown_from f w (next_place q) ++ cond (is_same top q.0) [] (after f w (is_same top) up)))
             ≡ filtered_children f w top
         go true t l higher = around (is_same top q.0) ∙ ap (λ b. cond b [] (before f w (is_same top) up) ++ (filtered_children f w q.0 ++ cond b [] (after f w (is_same top) up))) t ∙ append-nil _ ∙ ap (filtered_children f w) (sym (same_from_test top q.0 t))
         go false t (inl here) higher = absurd (let both : true ≡ false = sym (ap (is_same top) here ∙ test_self top) ∙ t in cc)
         go false t (inr (out, l)) higher =
             around (is_same top q.0) ∙ ap (λ b. cond b [] (before f w (is_same top) up) ++ (filtered_children f w q.0 ++ cond b [] (after f w (is_same top) up))) t
-            ∙ ap (λ r. before f w (is_same top) up ++ (shown r q.0 (filtered_children f w q.0) ++ after f w (is_same top) up)) (sym out) ∙ higher l
+            ∙ ap (λ r. before f w (is_same top) up ++ (shown_part r q.0 (filtered_children f w q.0) ++ after f w (is_same top) up)) (sym out) ∙ higher l
 
     pub splits : (id : FullNodeId) → LeadsUpTo f top (above w id) →
-        before f w (is_same top) (above w id) ++ (shown (f id) id (filtered_children f w id) ++ after f w (is_same top) (above w id)) ≡ filtered_children f w top
+        before f w (is_same top) (above w id) ++ (shown_part (f id) id (filtered_children f w id) ++ after f w (is_same top) (above w id)) ≡ filtered_children f w top
     splits id leads = splits_by (above w id) id refl leads
 
     pub splits_at : (id : FullNodeId) → IsShown f w top id → before f w (is_same top) (above w id) ++ id ∷ after f w (is_same top) (above w id) ≡ filtered_children f w top
-    splits_at id s = ap (λ r. before f w (is_same top) (above w id) ++ (shown r id (filtered_children f w id) ++ after f w (is_same top) (above w id))) (sym s.0) ∙ splits id s.1
+    splits_at id s = ap (λ r. before f w (is_same top) (above w id) ++ (shown_part r id (filtered_children f w id) ++ after f w (is_same top) (above w id))) (sym s.0) ∙ splits id s.1
 
     -- the places below top begin and end with all that is shown
     pub start_left : left_at f w (is_same top) (top, 0) ≡ filtered_children f w top

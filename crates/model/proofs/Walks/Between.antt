@@ -14,8 +14,8 @@ use Rattle.model.specs.Forest.{above, place_of, is_same, IsFormed}
 use Rattle.model.specs.Lists.{ancestors, IsWithin}
 use Rattle.model.specs.Paths.{depth}
 use Rattle.model.specs.Upward.{is_within}
-use Rattle.model.specs.Frontier.{shown, filtered_children, LeadsUpTo, IsShown}
-use Rattle.model.specs.Beside.{next_place, left_at, prior_at, after_in, before_in, is_below, Spans, between, HasNext, HasPrevious, work_from, work_until}
+use Rattle.model.specs.Frontier.{shown_part, filtered_children, LeadsUpTo, IsShown}
+use Rattle.model.specs.Beside.{next_place, left_at, prior_at, after_in, before_in, is_below, Spans, items_between, HasNext, HasPrevious, work_from, work_until}
 use Rattle.model.proofs.Forest.Grown.{above_child, depth_child}
 use Rattle.model.proofs.Forest.PlaceOf.{stands_at_place, same_from_test, test_self}
 use Rattle.model.proofs.Forest.Climbs.{within_child, within_both, within_deeper}
@@ -152,7 +152,7 @@ module _ (w : World) (formed : IsFormed w) (f : FullNodeId → FilterResult) (to
 
   -- ---- one item from the front
 
-  pub last_one : (c b : FullNodeId) → Spans f w top c b → c ≡ b → between f w top c b ≡ c ∷ []
+  pub last_one : (c b : FullNodeId) → Spans f w top c b → c ≡ b → items_between f w top c b ≡ c ∷ []
   last_one c b s e =
       let here : at c ≡ at b = ap at e in
       slice_first (filtered_children f w top) (at c) (at b + 1) c (omega arith) (at_shown c s.first)
@@ -162,7 +162,7 @@ module _ (w : World) (formed : IsFormed w) (f : FullNodeId → FilterResult) (to
   next_at : (c d : FullNodeId) → IsShown f w top c → after_in f w top c ≡ d ∷ after_in f w top d → at d ≡ at c + 1
   next_at c d p e = omega (arith, counted c p, counted d (next_is_shown c d p e), ap length e)
 
-  pub first_off : (c b d : FullNodeId) → Spans f w top c b → c ≢ b → after_in f w top c ≡ d ∷ after_in f w top d → Spans f w top d b × (between f w top c b ≡ c ∷ between f w top d b)
+  pub first_off : (c b d : FullNodeId) → Spans f w top c b → c ≢ b → after_in f w top c ≡ d ∷ after_in f w top d → Spans f w top d b × (items_between f w top c b ≡ c ∷ items_between f w top d b)
   first_off c b d s ne e = (
     record { first = next_is_shown c d s.first e; last = s.last; order = omega (arith, differ c b s ne, next_at c d s.first e) },
     slice_first (filtered_children f w top) (at c) (at b + 1) c (omega (arith, differ c b s ne)) (at_shown c s.first)
@@ -174,13 +174,13 @@ module _ (w : World) (formed : IsFormed w) (f : FullNodeId → FilterResult) (to
 
   -- ---- and from the back
 
-  pub last_one_back : (c b : FullNodeId) → Spans f w top c b → c ≡ b → between f w top c b ≡ [] ++ b ∷ []
+  pub last_one_back : (c b : FullNodeId) → Spans f w top c b → c ≡ b → items_between f w top c b ≡ [] ++ b ∷ []
   last_one_back c b s e = last_one c b s e ∙ ap (λ x. x ∷ []) e
 
   previous_at : (b e : FullNodeId) → before_in f w top b ≡ before_in f w top e ++ e ∷ [] → at b ≡ at e + 1
   previous_at b e h = omega (arith, ap length h, length-append (before_in f w top e) (e ∷ []))
 
-  pub last_off : (c b e : FullNodeId) → Spans f w top c b → c ≢ b → before_in f w top b ≡ before_in f w top e ++ e ∷ [] → Spans f w top c e × (between f w top c b ≡ between f w top c e ++ b ∷ [])
+  pub last_off : (c b e : FullNodeId) → Spans f w top c b → c ≢ b → before_in f w top b ≡ before_in f w top e ++ e ∷ [] → Spans f w top c e × (items_between f w top c b ≡ items_between f w top c e ++ b ∷ [])
   last_off c b e s ne h =
       let end : at b + 1 - 1 ≡ at b = omega arith in
       let there : slice_get (filtered_children f w top) (at b + 1 - 1) ≡ Some b = ap (slice_get (filtered_children f w top)) end ∙ at_shown b s.last in (
@@ -196,7 +196,7 @@ module _ (w : World) (formed : IsFormed w) (f : FullNodeId → FilterResult) (to
 
   -- from the first that is shown after some, to the last before others: what is between
   pub spans_where : (xs ys zs : List FullNodeId) (c b : FullNodeId) → filtered_children f w top ≡ xs ++ (ys ++ zs) → ys ++ zs ≡ c ∷ after_in f w top c → xs ++ ys ≡ before_in f w top b ++ b ∷ [] → 0 < length ys →
-      Spans f w top c b × (between f w top c b ≡ ys)
+      Spans f w top c b × (items_between f w top c b ≡ ys)
   spans_where xs ys zs c b whole front back some =
       let front_shown : IsShown f w top c = shown_where xs (after_in f w top c) c (whole ∙ ap (λ us. xs ++ us) front) in
       let back_shown : IsShown f w top b = shown_where (before_in f w top b) zs b (whole ∙ sym (append_assoc xs ys zs) ∙ ap (λ us. us ++ zs) back ∙ append_assoc (before_in f w top b) (b ∷ []) zs) in
@@ -208,17 +208,17 @@ module _ (w : World) (formed : IsFormed w) (f : FullNodeId → FilterResult) (to
 
   -- filtered children: all that is shown
   pub all_between : (c b : FullNodeId) → filtered_children f w top ≡ c ∷ after_in f w top c → filtered_children f w top ≡ before_in f w top b ++ b ∷ [] →
-      Spans f w top c b × (between f w top c b ≡ filtered_children f w top)
+      Spans f w top c b × (items_between f w top c b ≡ filtered_children f w top)
   all_between c b front back =
       spans_where [] (filtered_children f w top) [] c b (sym (append-nil (filtered_children f w top))) (append-nil (filtered_children f w top) ∙ front) back (omega (arith, ap length front))
 
   module _ (id : FullNodeId) (leads : LeadsUpTo f top (above w id)) where
     abbrev self_shown : List FullNodeId
-    self_shown = shown (f id) id (filtered_children f w id)
+    self_shown = shown_part (f id) id (filtered_children f w id)
 
     -- following siblings: from the first after the node to the last of all
     pub after_between : (c b : FullNodeId) → after_in f w top id ≡ c ∷ after_in f w top c → filtered_children f w top ≡ before_in f w top b ++ b ∷ [] →
-        Spans f w top c b × (between f w top c b ≡ after_in f w top id)
+        Spans f w top c b × (items_between f w top c b ≡ after_in f w top id)
     after_between c b front back =
         let parts : filtered_children f w top ≡ (before_in f w top id ++ self_shown) ++ (after_in f w top id ++ []) =
         sym (splits w formed f top id leads) ∙ sym (append_assoc (before_in f w top id) self_shown (after_in f w top id)) ∙ ap (λ us. (before_in f w top id ++ self_shown) ++ us) (sym (append-nil (after_in f w top id))) in
@@ -227,7 +227,7 @@ module _ (w : World) (formed : IsFormed w) (f : FullNodeId → FilterResult) (to
 
     -- preceding siblings: from the first of all to the last before the node
     pub before_between : (c b : FullNodeId) → filtered_children f w top ≡ c ∷ after_in f w top c → before_in f w top id ≡ before_in f w top b ++ b ∷ [] →
-        Spans f w top c b × (between f w top c b ≡ before_in f w top id)
+        Spans f w top c b × (items_between f w top c b ≡ before_in f w top id)
     before_between c b front back =
         let whole : filtered_children f w top ≡ before_in f w top id ++ (self_shown ++ after_in f w top id) = sym (splits w formed f top id leads) in
         spans_where [] (before_in f w top id) (self_shown ++ after_in f w top id) c b whole (sym whole ∙ front) back

@@ -17,7 +17,7 @@ use Rattle.model.specs.Lists.{ancestors, IsWithin}
 use Rattle.model.specs.Covers.{is_cut_off}
 use Rattle.model.specs.Geometry.{WidePoint, direct_transform, sum_of_moves, transform, below_top, transform_within, uncut, uncut_preorder, hit}
 use Rattle.model.specs.Beside.{next_place}
-use Rattle.model.specs.Hits.{widened, seen_by_child, seen_by_parent, seen_within, is_hit, last_hit, hit_seen, hits_of_children, entered, uncut_until}
+use Rattle.model.specs.Hits.{wide_point, seen_by_child, seen_by_parent, seen_within, is_hit, last_hit, hit_seen, hits_of_children, entered, uncut_until}
 use Rattle.model.proofs.Forest.Grown.{below_is, above_child}
 use Rattle.model.proofs.Forest.PlaceOf.{test_self}
 use Rattle.model.proofs.Lists.Preorder.{HangsAt, hangs_below, Under, under_child, under_deeper, under_lower, all_append, all_weaker}
@@ -211,7 +211,7 @@ module _ (f : FullNodeId → FilterResult) (w : World) (formed : IsFormed w) whe
           ∙ ap (λ r. last_or (cond (is_hit f w id r) (Some id) None) (filter (tested id q) (flat_map (uncut_preorder f w) (children w id)))) (seen_itself w id q)
           ∙ of_children id q (cond (is_hit f w id q) (Some id) None)
 
-  pub hit_is_seen : (top : FullNodeId) (p : Point) → hit f w top p ≡ hit_seen f w top (widened p)
+  pub hit_is_seen : (top : FullNodeId) (p : Point) → hit f w top p ≡ hit_seen f w top (wide_point p)
   hit_is_seen top p = refl
 
   -- ---- the steps of a search backwards

@@ -16,8 +16,8 @@ use Rattle.model.specs.Forest.{plant, place_of, below, above, is_same, IsFormed}
 use Rattle.model.specs.Lists.{IsWithin}
 use Rattle.model.specs.Paths.{index_path}
 use Rattle.model.specs.Upward.{is_within, is_before}
-use Rattle.model.specs.Frontier.{shown, frontier, filtered_children, LeadsUpTo}
-use Rattle.model.specs.Covers.{is_included, is_left_out, filtered_parent, cover, kindred, following_filtered_siblings, preceding_filtered_siblings}
+use Rattle.model.specs.Frontier.{shown_part, frontier, filtered_children, LeadsUpTo}
+use Rattle.model.specs.Covers.{is_included, is_left_out, filtered_parent, cover, kindred_nodes, following_filtered_siblings, preceding_filtered_siblings}
 use Rattle.model.specs.Beside.{next_place, shown_from, shown_until, after, before, is_not_passed, cover_through, left_at, prior_at, shown_after, shown_before, after_in, before_in}
 use Rattle.model.proofs.Forest.Grown.{above_child, above_root}
 use Rattle.model.proofs.Forest.PlaceOf.{same_from_test, test_self}
@@ -188,8 +188,8 @@ module _ (f : FullNodeId → FilterResult) (w : World) (formed : IsFormed w) whe
   planted_all p k [] stands = tt
   planted_all p k (c ∷ cs) stands =
       let here : k + 0 ≡ k = omega arith in
-      all_append (λ m. (u : Under w p k m) × (u.index < k + length (c ∷ cs))) (shown (f c) c (filtered_children f w c)) (frontier f (plant (below w) cs))
-      (all_weaker (At f w formed p k) (λ m. (u : Under w p k m) × (u.index < k + length (c ∷ cs))) (λ m a. (a.0, omega (arith, a.1))) (shown (f c) c (filtered_children f w c))
+      all_append (λ m. (u : Under w p k m) × (u.index < k + length (c ∷ cs))) (shown_part (f c) c (filtered_children f w c)) (frontier f (plant (below w) cs))
+      (all_weaker (At f w formed p k) (λ m. (u : Under w p k m) × (u.index < k + length (c ∷ cs))) (λ m a. (a.0, omega (arith, a.1))) (shown_part (f c) c (filtered_children f w c))
       (shown_at f w formed p k c (rw here at (stands 0 c refl)) (f c) (filtered_children f w c) (all_below f w formed c 0 (below w c) (hangs_below w c))))
       (all_weaker (λ m. (u : Under w p (suc k) m) × (u.index < suc k + length cs)) (λ m. (u : Under w p k m) × (u.index < k + length (c ∷ cs)))
       (λ m a. (record { inner = a.0.inner; index = a.0.index; from = omega (arith, a.0.from); way = a.0.way }, omega (arith, a.1)))
@@ -247,7 +247,7 @@ module _ (f : FullNodeId → FilterResult) (w : World) (formed : IsFormed w) whe
       (record { inner = at.0.inner; index = at.0.index; from = omega (arith, at.1, a.1); way = at.0.way }))
       (shown_until f w q) (until_all q))
 
-  self_all : (r : FilterResult) (id : FullNodeId) → AllByRecursion (IsIn id) (shown r id (filtered_children f w id))
+  self_all : (r : FilterResult) (id : FullNodeId) → AllByRecursion (IsIn id) (shown_part r id (filtered_children f w id))
   self_all Include id = (inl refl, tt)
   self_all ExcludeNode id = all_weaker (Under w id 0) (IsIn id) (λ m u. inr u) (filtered_children f w id) (all_below f w formed id 0 (below w id) (hangs_below w id))
   self_all ExcludeSubtree id = tt
@@ -267,34 +267,34 @@ module _ (f : FullNodeId → FilterResult) (w : World) (formed : IsFormed w) whe
     pub all_after : AllByRecursion (λ m. is_before w m id ≡ false) (after f w ends (above w id))
     all_after = all_weaker (Follows id) (λ m. is_before w m id ≡ false) (λ m h. before_false w m id h.0) (after f w ends (above w id)) (after_all ends (above w id) id id refl (inl refl))
 
-    keeps_after : filter (λ m. is_before w id m && not (is_within w id m)) (before f w ends (above w id) ++ (shown (f id) id (filtered_children f w id) ++ after f w ends (above w id))) ≡ after f w ends (above w id)
+    keeps_after : filter (λ m. is_before w id m && not (is_within w id m)) (before f w ends (above w id) ++ (shown_part (f id) id (filtered_children f w id) ++ after f w ends (above w id))) ≡ after f w ends (above w id)
     keeps_after =
         let p : FullNodeId → Bool = λ m. is_before w id m && not (is_within w id m) in
         filter-append p (before f w ends (above w id)) _
-        ∙ ap (λ xs. xs ++ filter p (shown (f id) id (filtered_children f w id) ++ after f w ends (above w id)))
+        ∙ ap (λ xs. xs ++ filter p (shown_part (f id) id (filtered_children f w id) ++ after f w ends (above w id)))
         (filter_none p (before f w ends (above w id)) (all_weaker (λ m. Precedes w m id) (λ m. p m ≡ false) (λ m h. ap (λ b. b && not (is_within w id m)) (before_false w id m h)) (before f w ends (above w id)) (before_all ends (above w id) id id refl (inl refl))))
-        ∙ filter-append p (shown (f id) id (filtered_children f w id)) (after f w ends (above w id))
+        ∙ filter-append p (shown_part (f id) id (filtered_children f w id)) (after f w ends (above w id))
         ∙ ap (λ xs. xs ++ filter p (after f w ends (above w id)))
-        (filter_none p (shown (f id) id (filtered_children f w id)) (all_weaker (IsIn id) (λ m. p m ≡ false) (λ m h. and_not (is_before w id m) (is_within w id m) (in_within id m h)) (shown (f id) id (filtered_children f w id)) (self_all (f id) id)))
+        (filter_none p (shown_part (f id) id (filtered_children f w id)) (all_weaker (IsIn id) (λ m. p m ≡ false) (λ m h. and_not (is_before w id m) (is_within w id m) (in_within id m h)) (shown_part (f id) id (filtered_children f w id)) (self_all (f id) id)))
         ∙ filter_all p (after f w ends (above w id)) (all_weaker (Follows id) (λ m. p m ≡ true)
         (λ m h. ap (λ b. b && not (is_within w id m)) (before_true w id m h.0) ∙ ap not (within_false w id m h.1)) (after f w ends (above w id)) (after_all ends (above w id) id id refl (inl refl)))
 
-    keeps_before : filter (λ m. is_before w m id) (before f w ends (above w id) ++ (shown (f id) id (filtered_children f w id) ++ after f w ends (above w id))) ≡ before f w ends (above w id)
+    keeps_before : filter (λ m. is_before w m id) (before f w ends (above w id) ++ (shown_part (f id) id (filtered_children f w id) ++ after f w ends (above w id))) ≡ before f w ends (above w id)
     keeps_before =
         let p : FullNodeId → Bool = λ m. is_before w m id in
         filter-append p (before f w ends (above w id)) _
-        ∙ ap (λ xs. xs ++ filter p (shown (f id) id (filtered_children f w id) ++ after f w ends (above w id))) (filter_all p (before f w ends (above w id)) all_before)
+        ∙ ap (λ xs. xs ++ filter p (shown_part (f id) id (filtered_children f w id) ++ after f w ends (above w id))) (filter_all p (before f w ends (above w id)) all_before)
         ∙ ap (λ xs. before f w ends (above w id) ++ xs)
-        (filter-append p (shown (f id) id (filtered_children f w id)) (after f w ends (above w id))
+        (filter-append p (shown_part (f id) id (filtered_children f w id)) (after f w ends (above w id))
         ∙ ap (λ xs. xs ++ filter p (after f w ends (above w id)))
-        (filter_none p (shown (f id) id (filtered_children f w id)) (all_weaker (IsIn id) (λ m. p m ≡ false) (λ m h. in_not_before id m h) (shown (f id) id (filtered_children f w id)) (self_all (f id) id)))
+        (filter_none p (shown_part (f id) id (filtered_children f w id)) (all_weaker (IsIn id) (λ m. p m ≡ false) (λ m h. in_not_before id m h) (shown_part (f id) id (filtered_children f w id)) (self_all (f id) id)))
         ∙ filter_none p (after f w ends (above w id)) all_after)
         ∙ append-nil (before f w ends (above w id))
 
   -- ---- the siblings
 
   module _ (id top : FullNodeId) (covers : cover f w id ≡ Some top) where
-    kin_is : kindred f w id ≡ before_in f w top id ++ (shown (f id) id (filtered_children f w id) ++ after_in f w top id)
+    kin_is : kindred_nodes f w id ≡ before_in f w top id ++ (shown_part (f id) id (filtered_children f w id) ++ after_in f w top id)
     kin_is = rw covers (sym (splits w formed f top id (cover_leads f w id top covers).0))
 
     pub following_in : following_filtered_siblings f w id ≡ after_in f w top id
@@ -318,7 +318,7 @@ module _ (f : FullNodeId → FilterResult) (w : World) (formed : IsFormed w) whe
     siblings_around kept =
         ap (λ xs. reverse xs ++ id ∷ following_filtered_siblings f w id) preceding_in ∙ ap (λ xs. xs ++ id ∷ following_filtered_siblings f w id) (reverse-reverse (before_in f w top id))
         ∙ ap (λ xs. before_in f w top id ++ id ∷ xs) following_in
-        ∙ ap (λ r. before_in f w top id ++ (shown r id (filtered_children f w id) ++ after_in f w top id)) (sym kept) ∙ splits w formed f top id (cover_leads f w id top covers).0
+        ∙ ap (λ r. before_in f w top id ++ (shown_part r id (filtered_children f w id) ++ after_in f w top id)) (sym kept) ∙ splits w formed f top id (cover_leads f w id top covers).0
 
   pub none_uncovered : (id : FullNodeId) → cover f w id ≡ None → (following_filtered_siblings f w id ≡ []) × (preceding_filtered_siblings f w id ≡ [])
   none_uncovered id none = (rw none refl, rw none refl)

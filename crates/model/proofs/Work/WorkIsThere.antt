@@ -4,9 +4,9 @@ use Rattle.std.specs.Option.{option_map}
 use Rattle.schema.specs.NodeData.{NodeData}
 use Rattle.schema.specs.declared.NodeId.{NodeId}
 use Rattle.model.specs.declared.FullNodeId.{FullNodeId}
-use Rattle.model.specs.World.{World, IsNode, in_tree, listed, Place, Reached}
+use Rattle.model.specs.World.{World, IsNode, in_tree, listed_ids, Place, Reached}
 use Rattle.model.specs.World as world
-use Rattle.model.specs.Update.{UpdateData, IsNamed, IsAccepted, KeepsRules, index_for, merged}
+use Rattle.model.specs.Update.{UpdateData, IsNamed, IsAccepted, KeepsRules, index_for, merged_world}
 use Rattle.model.specs.State.{IsState, Lists}
 use Rattle.model.specs.Surgery.{IsOld, IsOpened}
 use Rattle.model.specs.Work.{Work, HasDepthInTree, at_root, at_child, IsSumOfDepths, IsChildOfNamed, IsWorkOf, named_ids}
@@ -42,7 +42,7 @@ named_from index (e ∷ es) id c = elim (contains_cases (in_tree index e.0) id (
 
 -- this node lists the child
 abbrev IsListedBy : World → FullNodeId → FullNodeId → Type 0
-IsListedBy w id child = (i : ℕ) × (slice_get (listed w id) i ≡ Some child)
+IsListedBy w id child = (i : ℕ) × (slice_get (listed_ids w id) i ≡ Some child)
 
 -- one of these nodes lists the child, in one world or the other
 abbrev IsChildOf : World → World → List FullNodeId → FullNodeId → Type 0
@@ -50,10 +50,10 @@ IsChildOf v w ids child = (p : Place) × Contains ids p.0 × (Lists v p child �
 
 child_decided : (v w : World) (ids : List FullNodeId) (child : FullNodeId) → IsDecided (IsChildOf v w ids child)
 child_decided v w [] child = inr (λ h. contains_none h.0.0 h.1)
-child_decided v w (id ∷ ids) child = go (decide_listed (listed v id) child) (decide_listed (listed w id) child) (child_decided v w ids child)
+child_decided v w (id ∷ ids) child = go (decide_listed (listed_ids v id) child) (decide_listed (listed_ids w id) child) (child_decided v w ids child)
   where
     at_this : (x : World) (p : Place) → id ≡ p.0 → Lists x p child → IsListedBy x id child
-    at_this x p same at = (p.1, subst (λ y. slice_get (listed x y) p.1 ≡ Some child) (sym same) at)
+    at_this x p same at = (p.1, subst (λ y. slice_get (listed_ids x y) p.1 ≡ Some child) (sym same) at)
 
     go : IsDecided (IsListedBy v id child) → IsDecided (IsListedBy w id child) → IsDecided (IsChildOf v w ids child) → IsDecided (IsChildOf v w (id ∷ ids) child)
     go (inl at) b rest = inl ((id, at.0), contains_first id ids, inl at.1)
@@ -73,15 +73,15 @@ module _ (old : World) (u : UpdateData) (new : World) (o : IsOld old) (a : IsAcc
 
   -- the named nodes are there afterwards
   named_there : (id : FullNodeId) → IsNamed old u id → IsNode new id
-  named_there id named = node_new a.1 id (subst (world.Kept (merged old u)) (sym named.0) (named_kept old u o (opened rules))) (rules.named_reached id named) (named_is_node old u id named)
+  named_there id named = node_new a.1 id (subst (world.Kept (merged_world old u)) (sym named.0) (named_kept old u o (opened rules))) (rules.named_reached id named) (named_is_node old u id named)
 
-  child_there : (id : FullNodeId) → IsChildOfNamed old u new id → IsNode (merged old u) id
+  child_there : (id : FullNodeId) → IsChildOfNamed old u new id → IsNode (merged_world old u) id
   child_there id h = ⊎_elim (λ before. node_stays old u id (o.listed_is_node h.0 id before)) (λ after. node_old a.1 id (s.listed_is_node h.0 id after)) h.2
 
   -- an accepted update has the numbers of its work
   pub work_exists : (work : Work) × IsWorkOf old u new work
   work_exists =
-      let children = list_of (IsChildOfNamed old u new) (child_decided old new (named_ids old u)) (ids_of (merged old u)) (ids_sorted (merged old u)) (λ id h. among_ids (merged old u) id (child_there id h)) in
+      let children = list_of (IsChildOfNamed old u new) (child_decided old new (named_ids old u)) (ids_of (merged_world old u)) (ids_sorted (merged_world old u)) (λ id h. among_ids (merged_world old u) id (child_there id h)) in
       let removed = added_exist new old in
       let depths = sum_exists new (named_ids old u) (λ id c. s.node_reached id (named_there id (named_from (index_for old u.name) u.nodes id c))) in
       let work : Work = record { named = length u.nodes; children = length children.0; removed = length removed.0; depths = depths.0; known = length new.known } in (

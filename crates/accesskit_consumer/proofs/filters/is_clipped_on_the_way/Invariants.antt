@@ -1,7 +1,7 @@
 use Rattle.std.proofs.Common.{◌≡◌, length, None}
 use Rattle.model.specs.Lists.{ancestors}
 use Rattle.model.specs.Upward.{upward}
-use Rattle.model.specs.Filters.{settled}
+use Rattle.model.specs.Filters.{first_answer}
 use Rattle.accesskit_consumer.specs.Nodes.{world_at, id_at}
 use Rattle.accesskit_consumer.specs.FocusedOne.{clipped_from}
 use Rattle.accesskit_consumer.proofs.filters.is_clipped_on_the_way.Given as goal
@@ -14,6 +14,6 @@ invariant-loop-parent l =
     let w = world_at l.fn.node in
     record {
       world : world_at l.current ≡ w;
-      unsettled : settled w (id_at l.current) ≡ None;
+      unsettled : first_answer w (id_at l.current) ≡ None;
       sought : clipped_from w (upward w (id_at l.current)) ≡ clipped_from w (upward w (id_at l.fn.node));
     }

@@ -4,7 +4,7 @@ use Rattle.schema.specs.declared.NodeId.{NodeId}
 use Rattle.schema.specs.UpdateData.{UpdateData, update_data}
 use Rattle.model.specs.declared.FullNodeId.{FullNodeId}
 use Rattle.model.specs.World.{World, data_of, in_tree, root_of, Reached}
-use Rattle.model.specs.Update.{merged}
+use Rattle.model.specs.Update.{merged_world}
 use Rattle.model.specs.Surgery.{here}
 use Rattle.model.specs.Work.{named_ids}
 use Rattle.model.proofs.Worlds.Names.{cases_some}
@@ -70,7 +70,7 @@ returns-in-Some-clause-climbed g c =
     let climb = before.climb in
     let other = c.in-Some.other.now in
     let marked : at c.up.climbed id ≡ Some other = sym c.get.ensures.value ∙ ap option_copied c.in-Some.is in
-    let reached : Reached (merged w u) id = comes_other w u q.old c.args.opened.now c.args.compared.now c.args.settled.now q.opening q.comparison q.settlement q.refined starts start id other c.up.climbed before.others marked (λ same. let no = c.if-is_same.ensures.1 same in cc) in
+    let reached : Reached (merged_world w u) id = comes_other w u q.old c.args.opened.now c.args.compared.now c.args.settled.now q.opening q.comparison q.settlement q.refined starts start id other c.up.climbed before.others marked (λ same. let no = c.if-is_same.ensures.1 same in cc) in
     subst (λ xs. AreClimbed w u xs c.up.climbed) (sym first.more) (ends w u q.old c.args.opened.now c.args.compared.now c.args.settled.now q.opening q.comparison q.settlement q.refined starts start id climb.0 c.up.climbed before.others climb.1 reached)
 
 pub returns-in-Some-clause-way : goal.returns-in-Some-clause-way
@@ -87,7 +87,7 @@ returns-in-Some-clause-way g c =
     let climb = before.climb in
     let other = c.in-Some.other.now in
     let marked : at c.up.climbed id ≡ Some other = sym c.get.ensures.value ∙ ap option_copied c.in-Some.is in
-    let reached : Reached (merged w u) id = comes_other w u q.old c.args.opened.now c.args.compared.now c.args.settled.now q.opening q.comparison q.settlement q.refined starts start id other c.up.climbed before.others marked (λ same. let no = c.if-is_same.ensures.1 same in cc) in
+    let reached : Reached (merged_world w u) id = comes_other w u q.old c.args.opened.now c.args.compared.now c.args.settled.now q.opening q.comparison q.settlement q.refined starts start id other c.up.climbed before.others marked (λ same. let no = c.if-is_same.ensures.1 same in cc) in
     (climb.0, record { start = start; at = first.at; reached = λ adopts. ends_reached w u q.old c.args.opened.now c.args.compared.now c.args.settled.now q.opening q.comparison q.settlement q.refined start id climb.0 c.up.climbed climb.1 reached; way = (id, climb.1.leads, inl reached) }, climb.2)
 
 pub parent_after-id-requires-clause-next : goal.parent_after-id-requires-clause-next
@@ -102,7 +102,7 @@ parent_after-id-requires-clause-next g c =
     let before = c.up.invariant in
     let id = c.up.id in
     let climb = before.climb in
-    let below : root_of (merged w u) id.tree ≢ Some id = below_root w u q.old c.args.opened.now c.args.compared.now c.args.settled.now q.opening q.comparison q.settlement q.refined start id climb.0 first.named climb.1.leads (c.up-test.ensures.unknown refl) in
+    let below : root_of (merged_world w u) id.tree ≢ Some id = below_root w u q.old c.args.opened.now c.args.compared.now c.args.settled.now q.opening q.comparison q.settlement q.refined start id climb.0 first.named climb.1.leads (c.up-test.ensures.unknown refl) in
     let f = next_there w u q.old c.args.opened.now c.args.compared.now c.args.settled.now q.opening q.comparison q.settlement q.refined id before.found climb.1.stays below in
     subst (λ v. (p : FullNodeId) × IsNext v c.args.compared.now id p) (sym before.world) f
 
@@ -132,7 +132,7 @@ up-smaller g c =
     let before = c.up.invariant in
     let id = c.up.id in
     let climb = before.climb in
-    let below : root_of (merged w u) id.tree ≢ Some id = below_root w u q.old c.args.opened.now c.args.compared.now c.args.settled.now q.opening q.comparison q.settlement q.refined start id climb.0 first.named climb.1.leads (c.up-test.ensures.unknown refl) in
+    let below : root_of (merged_world w u) id.tree ≢ Some id = below_root w u q.old c.args.opened.now c.args.compared.now c.args.settled.now q.opening q.comparison q.settlement q.refined start id climb.0 first.named climb.1.leads (c.up-test.ensures.unknown refl) in
     let next : IsNext w c.args.compared.now id c.parent_after-id.result = subst (λ v. IsNext v c.args.compared.now id c.parent_after-id.result) before.world c.parent_after-id.ensures.next in
     let up = goes_up w u q.old c.args.opened.now c.args.compared.now c.args.settled.now q.opening q.comparison q.settlement q.refined id c.parent_after-id.result below climb.1.stays next in
     let put = c.in_ok-insert.ensures.updates.0 in
@@ -154,7 +154,7 @@ up-preserved g c =
     let before = c.up.invariant in
     let id = c.up.id in
     let climb = before.climb in
-    let below : root_of (merged w u) id.tree ≢ Some id = below_root w u q.old c.args.opened.now c.args.compared.now c.args.settled.now q.opening q.comparison q.settlement q.refined start id climb.0 first.named climb.1.leads (c.up-test.ensures.unknown refl) in
+    let below : root_of (merged_world w u) id.tree ≢ Some id = below_root w u q.old c.args.opened.now c.args.compared.now c.args.settled.now q.opening q.comparison q.settlement q.refined start id climb.0 first.named climb.1.leads (c.up-test.ensures.unknown refl) in
     let next : IsNext w c.args.compared.now id c.parent_after-id.result = subst (λ v. IsNext v c.args.compared.now id c.parent_after-id.result) before.world c.parent_after-id.ensures.next in
     let up = goes_up w u q.old c.args.opened.now c.args.compared.now c.args.settled.now q.opening q.comparison q.settlement q.refined id c.parent_after-id.result below climb.1.stays next in
     let put = c.in_ok-insert.ensures.updates.0 in
@@ -177,7 +177,7 @@ returns-clause-climbed g c =
     let before = c.up.invariant in
     let id = c.up.id in
     let climb = before.climb in
-    let reached : Reached (merged w u) id = known_reached w u q.old c.args.opened.now c.args.compared.now c.args.settled.now q.opening q.comparison q.settlement q.refined id (c.up-test.ensures.known refl) in
+    let reached : Reached (merged_world w u) id = known_reached w u q.old c.args.opened.now c.args.compared.now c.args.settled.now q.opening q.comparison q.settlement q.refined id (c.up-test.ensures.known refl) in
     subst (λ xs. AreClimbed w u xs c.up.climbed) (sym first.more) (ends w u q.old c.args.opened.now c.args.compared.now c.args.settled.now q.opening q.comparison q.settlement q.refined starts start id climb.0 c.up.climbed before.others climb.1 reached)
 
 pub returns-clause-way : goal.returns-clause-way
@@ -192,5 +192,5 @@ returns-clause-way g c =
     let before = c.up.invariant in
     let id = c.up.id in
     let climb = before.climb in
-    let reached : Reached (merged w u) id = known_reached w u q.old c.args.opened.now c.args.compared.now c.args.settled.now q.opening q.comparison q.settlement q.refined id (c.up-test.ensures.known refl) in
+    let reached : Reached (merged_world w u) id = known_reached w u q.old c.args.opened.now c.args.compared.now c.args.settled.now q.opening q.comparison q.settlement q.refined id (c.up-test.ensures.known refl) in
     (climb.0, record { start = start; at = first.at; reached = λ adopts. ends_reached w u q.old c.args.opened.now c.args.compared.now c.args.settled.now q.opening q.comparison q.settlement q.refined start id climb.0 c.up.climbed climb.1 reached; way = (id, climb.1.leads, inl reached) }, climb.2)

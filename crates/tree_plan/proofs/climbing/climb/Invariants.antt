@@ -1,6 +1,6 @@
 use Rattle.std.proofs.Common.{◌≡◌, ◌≤◌, ◌+◌, ◌-◌, ℕ, length, take}
 use Rattle.schema.specs.UpdateData.{update_data}
-use Rattle.model.specs.Update.{merged}
+use Rattle.model.specs.Update.{merged_world}
 use Rattle.model.specs.Work.{named_ids}
 use Rattle.model.specs.Surgery.{IsClimb}
 use Rattle.model.proofs.Update.AcceptedOrFault.{keys}
@@ -16,4 +16,4 @@ invariant-up g l = record {
 }
 
 abbrev pub decreases-up : goal.decreases-up
-decreases-up g l = length (keys (merged (g.L.LookUps.world l.fn.look_ups) (update_data l.update))) - length l.climbed.entries
+decreases-up g l = length (keys (merged_world (g.L.LookUps.world l.fn.look_ups) (update_data l.update))) - length l.climbed.entries

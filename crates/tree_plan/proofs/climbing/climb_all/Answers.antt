@@ -6,7 +6,7 @@ use Rattle.schema.specs.declared.NodeId.{NodeId}
 use Rattle.schema.specs.UpdateData.{UpdateData, update_data}
 use Rattle.model.specs.declared.FullNodeId.{FullNodeId}
 use Rattle.model.specs.World.{World, in_tree, Reached}
-use Rattle.model.specs.Update.{index_for, merged}
+use Rattle.model.specs.Update.{index_for, merged_world}
 use Rattle.model.specs.Work.{named_ids}
 use Rattle.model.specs.Surgery.{IsOld, IsRefined, Adopts}
 use Rattle.tree_plan.specs.Passes.{IsOpening, IsComparison, IsSettlement}
@@ -48,7 +48,7 @@ loop-entry-preserved g c =
     record {
       world = c.climb.ensures.world ∙ before.world;
       climbed = subst (λ v. AreClimbed v u (take (k + 1) (named_ids v u)) c.climb.new.climbed) before.world c.in_ok-climb.ensures.climbed;
-      adopters = subst (λ xs. (n : FullNodeId) → Contains xs n → Adopts w u n → Reached (merged w u) n) (sym first.more) (adopters_push w u starts way.start before.adopters way.reached);
+      adopters = subst (λ xs. (n : FullNodeId) → Contains xs n → Adopts w u n → Reached (merged_world w u) n) (sym first.more) (adopters_push w u starts way.start before.adopters way.reached);
       ways = (before.ways.0 + steps, subst (λ xs. AreWays w u xs (before.ways.0 + steps)) (sym first.more) (ways_push w u starts way.start before.ways.0 steps before.ways.1 way.way), omega (arith, c.in_ok-climb.ensures.way.2, before.ways.2));
     }
 
@@ -59,7 +59,7 @@ returns-clause-ok g c =
     let ids = named_ids w u in
     let same = length-map u.nodes (λ (e : NodeId × NodeData). in_tree (index_for w u.name) e.0) in
     let all : take c.loop-entry.entry ids ≡ ids = take_all c.loop-entry.entry ids (omega (arith, c.loop-entry-test.false, same)) in
-    all_climbed w u c.requires.refined (subst (λ xs. (n : FullNodeId) → Contains xs n → Adopts w u n → Reached (merged w u) n) all c.loop-entry.invariant.adopters)
+    all_climbed w u c.requires.refined (subst (λ xs. (n : FullNodeId) → Contains xs n → Adopts w u n → Reached (merged_world w u) n) all c.loop-entry.invariant.adopters)
 
 pub returns-clause-counts : goal.returns-clause-counts
 returns-clause-counts g c =
@@ -68,6 +68,6 @@ returns-clause-counts g c =
     let ids = named_ids w u in
     let same = length-map u.nodes (λ (e : NodeId × NodeData). in_tree (index_for w u.name) e.0) in
     let all : take c.loop-entry.entry ids ≡ ids = take_all c.loop-entry.entry ids (omega (arith, c.loop-entry-test.false, same)) in
-    let climbed = all_climbed w u c.requires.refined (subst (λ xs. (n : FullNodeId) → Contains xs n → Adopts w u n → Reached (merged w u) n) all c.loop-entry.invariant.adopters) in
+    let climbed = all_climbed w u c.requires.refined (subst (λ xs. (n : FullNodeId) → Contains xs n → Adopts w u n → Reached (merged_world w u) n) all c.loop-entry.invariant.adopters) in
     let ways = c.loop-entry.invariant.ways in
     (ways.0, ways_steps w u c.requires.old climbed ids ways.0 (id_named w u) (subst (λ xs. AreWays w u xs ways.0) all ways.1), ways.2)

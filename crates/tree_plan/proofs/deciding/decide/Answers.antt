@@ -1,7 +1,7 @@
 use Rattle.std.proofs.Common.{refl, sym, subst}
 use Rattle.std.specs.Prelude.{IfOk}
 use Rattle.schema.specs.UpdateData.{update_data}
-use Rattle.model.specs.Update.{merged}
+use Rattle.model.specs.Update.{merged_world}
 use Rattle.model.proofs.Update.RebuildIsThere.{rebuild_exists}
 use Rattle.tree_changes.specs.Decisions.{IsWithinWork}
 use Rattle.tree_plan.specs.Deciding.{AreFindings, IsCount}
@@ -16,7 +16,7 @@ conclude-requires g c κs within = (
     (
       refl,
       (
-        (rebuild_exists (merged (g.L.LookUps.world c.find.new.look_ups) (update_data c.args.update.now))).1,
+        (rebuild_exists (merged_world (g.L.LookUps.world c.find.new.look_ups) (update_data c.args.update.now))).1,
         subst (λ w. AreFindings w (update_data c.args.update.now) c.in_ok-findings.findings) (sym c.find.ensures.world) c.in_ok-findings.ensures.ok,
       ),
     ),
@@ -27,7 +27,7 @@ pub returns-clause-work : goal.returns-clause-work
 returns-clause-work g c =
     let u = update_data c.args.update.now in
     let w = g.L.LookUps.world c.find.new.look_ups in
-    let rebuilt = rebuild_exists (merged w u) in
+    let rebuilt = rebuild_exists (merged_world w u) in
     let before = g.L.LookUps.asked c.args.look_ups.now in
     let middle = g.L.LookUps.asked c.find.new.look_ups in
     let after = g.L.LookUps.asked c.conclude.new.look_ups in

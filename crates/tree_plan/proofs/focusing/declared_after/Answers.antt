@@ -1,7 +1,7 @@
 use Rattle.std.proofs.Common.{refl, sym, ap, ◌∙◌}
 use Rattle.schema.specs.UpdateData.{UpdateData, update_data}
 use Rattle.model.specs.World.{World, focus_named}
-use Rattle.model.specs.Update.{merged}
+use Rattle.model.specs.Update.{merged_world}
 use Rattle.tree_plan.proofs.FocusWays.{focus_here, focus_elsewhere}
 use Rattle.tree_plan.proofs.focusing.declared_after.Goals as goal
 
@@ -9,7 +9,7 @@ pub returns-then-is_same-clause-focus : goal.returns-then-is_same-clause-focus
 returns-then-is_same-clause-focus g c =
     let w : World = g.L.LookUps.world c.args.look_ups.now in
     let u : UpdateData = update_data c.args.update.now in
-    sym (focus_here w u c.requires.old c.args.opened.now c.requires.opening) ∙ ap (focus_named (merged w u)) (sym (c.if-is_same.ensures.0 refl))
+    sym (focus_here w u c.requires.old c.args.opened.now c.requires.opening) ∙ ap (focus_named (merged_world w u)) (sym (c.if-is_same.ensures.0 refl))
 
 pub returns-clause-focus : goal.returns-clause-focus
 returns-clause-focus g c =

@@ -1,7 +1,7 @@
 use Rattle.std.proofs.Common.{◌≡◌, ◌<◌, ◌≤◌, ◌+◌, None, Some, IsSome, length, sym, ap, subst, ◌∙◌, arith}
 use Rattle.schema.specs.UpdateData.{UpdateData, update_data}
 use Rattle.model.specs.World.{World, focus_named, graft_name}
-use Rattle.model.specs.Update.{FocusOnEmptyGraft, Stands, merged}
+use Rattle.model.specs.Update.{FocusOnEmptyGraft, Stands, merged_world}
 use Rattle.model.proofs.State.StatePlaces.{IsSome_is}
 use Rattle.model.proofs.Update.Merges.{length_fits}
 use Rattle.model.proofs.Surgery.FocusWalk.{lost_focus_stands}
@@ -14,7 +14,7 @@ unwrap-id-requires g c =
     let w : World = g.L.LookUps.world c.args.look_ups.now in
     let u : UpdateData = update_data c.args.update.now in
     let e = new_top w u c.requires.old c.requires.opening.opened in
-    subst IsSome (sym (c.declared_after.ensures.focus ∙ ap (focus_named (merged w u)) c.root.ensures)) (IsSome_is e.0 e.1)
+    subst IsSome (sym (c.declared_after.ensures.focus ∙ ap (focus_named (merged_world w u)) c.root.ensures)) (IsSome_is e.0 e.1)
 
 pub loop-depth-init : goal.loop-depth-init
 loop-depth-init g c =
@@ -23,7 +23,7 @@ loop-depth-init g c =
     record {
       world = c.declared_after.ensures.world;
       asked = omega (arith, c.declared_after.ensures.counts);
-      way = new_begins w u c.requires.old c.requires.opening.opened c.unwrap-id.result (sym (c.declared_after.ensures.focus ∙ ap (focus_named (merged w u)) c.root.ensures) ∙ c.unwrap-id.ensures);
+      way = new_begins w u c.requires.old c.requires.opening.opened c.unwrap-id.result (sym (c.declared_after.ensures.focus ∙ ap (focus_named (merged_world w u)) c.root.ensures) ∙ c.unwrap-id.ensures);
     }
 
 pub returns-in_default-clause-err : goal.returns-in_default-clause-err
@@ -48,7 +48,7 @@ returns-in_default-graft-clause-counts g c =
     let w : World = g.L.LookUps.world c.args.look_ups.now in
     let u : UpdateData = update_data c.args.update.now in
     let before = c.loop-depth.invariant in
-    let short : c.loop-depth._depth < length (merged w u).known = new_short w u c.requires.old c.args.compared.now c.args.removed.now c.requires.comparison c.requires.removal c.requires.passed c.loop-depth.id c.loop-depth._depth before.way in
+    let short : c.loop-depth._depth < length (merged_world w u).known = new_short w u c.requires.old c.args.compared.now c.args.removed.now c.requires.comparison c.requires.removal c.requires.passed c.loop-depth.id c.loop-depth._depth before.way in
     omega (arith, short, c.aim_after.ensures.counts, before.asked)
 
 pub returns-in_default-declared_after-clause-err : goal.returns-in_default-declared_after-clause-err
@@ -58,10 +58,10 @@ returns-in_default-declared_after-clause-err g c =
     let id = c.loop-depth.id in
     let before = c.loop-depth.invariant in
     let stays : Stays w c.args.compared.now c.args.removed.now id = subst (λ v. Stays v c.args.compared.now c.args.removed.now id) before.world c.in-Some.ensures.aim.0 in
-    let aim : IsAimIn (merged w u) id c.in-Some.aim = subst (λ v. IsAimIn (merged v u) id c.in-Some.aim) before.world c.in-Some.ensures.aim.1 in
-    let grafts : graft_name (merged w u) id ≡ Some c.in-Some-graft.inner = aim_graft (merged w u) id c.in-Some.aim aim ∙ c.in-Some-graft.is in
-    let declared : focus_named (merged w u) c.in-Some-graft.inner ≡ None =
-    sym (c.declared_after-in-loop-depth.ensures.focus ∙ ap (focus_named (merged (g.L.LookUps.world c.aim_after.new.look_ups) u)) c.in-Some-graft.inner-is ∙ ap (λ v. focus_named (merged v u) c.in-Some-graft.inner) (c.aim_after.ensures.world ∙ before.world)) ∙ c.in_default-declared_after.is in
+    let aim : IsAimIn (merged_world w u) id c.in-Some.aim = subst (λ v. IsAimIn (merged_world v u) id c.in-Some.aim) before.world c.in-Some.ensures.aim.1 in
+    let grafts : graft_name (merged_world w u) id ≡ Some c.in-Some-graft.inner = aim_graft (merged_world w u) id c.in-Some.aim aim ∙ c.in-Some-graft.is in
+    let declared : focus_named (merged_world w u) c.in-Some-graft.inner ≡ None =
+    sym (c.declared_after-in-loop-depth.ensures.focus ∙ ap (focus_named (merged_world (g.L.LookUps.world c.aim_after.new.look_ups) u)) c.in-Some-graft.inner-is ∙ ap (λ v. focus_named (merged_world v u) c.in-Some-graft.inner) (c.aim_after.ensures.world ∙ before.world)) ∙ c.in_default-declared_after.is in
     subst (λ n. Stands w u (FocusOnEmptyGraft n)) (sym c.in-Some-graft.inner-is)
     (empty_stands w u c.requires.old c.args.compared.now c.args.removed.now c.requires.comparison c.requires.removal c.requires.passed id c.in-Some-graft.inner before.way.0 stays grafts declared)
 
@@ -72,10 +72,10 @@ loop-depth-preserved g c =
     let id = c.loop-depth.id in
     let before = c.loop-depth.invariant in
     let stays : Stays w c.args.compared.now c.args.removed.now id = subst (λ v. Stays v c.args.compared.now c.args.removed.now id) before.world c.in-Some.ensures.aim.0 in
-    let aim : IsAimIn (merged w u) id c.in-Some.aim = subst (λ v. IsAimIn (merged v u) id c.in-Some.aim) before.world c.in-Some.ensures.aim.1 in
-    let grafts : graft_name (merged w u) id ≡ Some c.in-Some-graft.inner = aim_graft (merged w u) id c.in-Some.aim aim ∙ c.in-Some-graft.is in
-    let declared : focus_named (merged w u) c.in-Some-graft.inner ≡ Some c.in-Some-declared_after.declared =
-    sym (c.declared_after-in-loop-depth.ensures.focus ∙ ap (focus_named (merged (g.L.LookUps.world c.aim_after.new.look_ups) u)) c.in-Some-graft.inner-is ∙ ap (λ v. focus_named (merged v u) c.in-Some-graft.inner) (c.aim_after.ensures.world ∙ before.world)) ∙ c.in-Some-declared_after.is in
+    let aim : IsAimIn (merged_world w u) id c.in-Some.aim = subst (λ v. IsAimIn (merged_world v u) id c.in-Some.aim) before.world c.in-Some.ensures.aim.1 in
+    let grafts : graft_name (merged_world w u) id ≡ Some c.in-Some-graft.inner = aim_graft (merged_world w u) id c.in-Some.aim aim ∙ c.in-Some-graft.is in
+    let declared : focus_named (merged_world w u) c.in-Some-graft.inner ≡ Some c.in-Some-declared_after.declared =
+    sym (c.declared_after-in-loop-depth.ensures.focus ∙ ap (focus_named (merged_world (g.L.LookUps.world c.aim_after.new.look_ups) u)) c.in-Some-graft.inner-is ∙ ap (λ v. focus_named (merged_world v u) c.in-Some-graft.inner) (c.aim_after.ensures.world ∙ before.world)) ∙ c.in-Some-declared_after.is in
     record {
       world = c.declared_after-in-loop-depth.ensures.world ∙ c.aim_after.ensures.world ∙ before.world;
       asked = omega (arith, c.declared_after-in-loop-depth.ensures.counts, c.aim_after.ensures.counts, before.asked);
@@ -86,6 +86,6 @@ pub unreachable-requires : goal.unreachable-requires
 unreachable-requires g c =
     let w : World = g.L.LookUps.world c.args.look_ups.now in
     let u : UpdateData = update_data c.args.update.now in
-    let short : c.loop-depth._depth < length (merged w u).known = new_short w u c.requires.old c.args.compared.now c.args.removed.now c.requires.comparison c.requires.removal c.requires.passed c.loop-depth.id c.loop-depth._depth c.loop-depth.invariant.way in
-    let most : length (merged w u).known ≤ length w.known + 1 = length_fits w u (length w.known + 1) (omega arith) (λ new. omega arith) in
+    let short : c.loop-depth._depth < length (merged_world w u).known = new_short w u c.requires.old c.args.compared.now c.args.removed.now c.requires.comparison c.requires.removal c.requires.passed c.loop-depth.id c.loop-depth._depth c.loop-depth.invariant.way in
+    let most : length (merged_world w u).known ≤ length w.known + 1 = length_fits w u (length w.known + 1) (omega arith) (λ new. omega arith) in
     omega (arith, c.known_trees.ensures.count, c.from-limit.ensures, c.loop-depth-test.false)

@@ -1,7 +1,7 @@
 use Rattle.std.proofs.Common.{◌≡◌, MatchOption, true, false, subst, ◌∙◌}
 use Rattle.schema.specs.UpdateData.{UpdateData, update_data}
 use Rattle.model.specs.World.{World, Reached}
-use Rattle.model.specs.Update.{merged}
+use Rattle.model.specs.Update.{merged_world}
 use Rattle.model.proofs.Surgery.FocusWalk.{walked_keeps}
 use Rattle.tree_plan.specs.Aims.{IsEnd, Answers, Stays}
 use Rattle.tree_plan.proofs.FocusWays.{end_effective, end_new, after_new, end_ungrafted}
@@ -13,8 +13,8 @@ returns-clause-ok g c =
     let u : UpdateData = update_data c.args.update.now in
     let first = c.focus_before-before.ensures.world in
     let e = c.in_ok-end.end in
-    let end : IsEnd (merged w u) e = subst (λ v. IsEnd (merged v u) e) first c.in_ok-end.ensures.end in
-    let reached : Reached (merged w u) e.id = subst (λ v. Reached (merged v u) e.id) first c.in_ok-end.ensures.reached in
+    let end : IsEnd (merged_world w u) e = subst (λ v. IsEnd (merged_world v u) e) first c.in_ok-end.ensures.end in
+    let reached : Reached (merged_world w u) e.id = subst (λ v. Reached (merged_world v u) e.id) first c.in_ok-end.ensures.reached in
     let last : g.L.LookUps.world c.end_after.new.look_ups ≡ w = c.end_after.ensures.world ∙ first in
     record {
       before = c.focus_before-before.ensures.focus;
@@ -29,6 +29,6 @@ returns-clause-keeps g c =
     let u : UpdateData = update_data c.args.update.now in
     let first = c.focus_before-before.ensures.world in
     let e = c.in_ok-end.end in
-    let end : IsEnd (merged w u) e = subst (λ v. IsEnd (merged v u) e) first c.in_ok-end.ensures.end in
-    let reached : Reached (merged w u) e.id = subst (λ v. Reached (merged v u) e.id) first c.in_ok-end.ensures.reached in
-    walked_keeps w u c.requires.old c.requires.passed e.id end.0 reached (end_ungrafted (merged w u) e end)
+    let end : IsEnd (merged_world w u) e = subst (λ v. IsEnd (merged_world v u) e) first c.in_ok-end.ensures.end in
+    let reached : Reached (merged_world w u) e.id = subst (λ v. Reached (merged_world v u) e.id) first c.in_ok-end.ensures.reached in
+    walked_keeps w u c.requires.old c.requires.passed e.id end.0 reached (end_ungrafted (merged_world w u) e end)

@@ -1,7 +1,7 @@
 use Rattle.std.proofs.Common.{◌++◌, map, refl, ap, ◌∙◌, subst, sym}
 use Rattle.schema.specs.UpdateData.{update_data}
 use Rattle.tree_changes.specs.declared.plan.Change.TheVariants.{Tree}
-use Rattle.tree_plan.specs.Planned.{AreTakenOnce, moved}
+use Rattle.tree_plan.specs.Planned.{AreTakenOnce, plan_change}
 use Rattle.tree_plan.proofs.Plans.{taken_once, plan_is, plan_within}
 use Rattle.tree_plan.proofs.planning.plan_update.Goals as goal
 
@@ -13,7 +13,7 @@ pub returns-clause-ok : goal.returns-clause-ok
 returns-clause-ok g c =
     let slots = c.in_ok-slots.slots.items in
     let trees = c.in_ok-push_trees.ensures.ok ∙ ap (λ xs. xs ++ map Tree c.deref.result.now) c.new-changes.ensures.items ∙ ap (map Tree) c.deref.ensures.value in
-    let changes = c.in_ok-push_nodes.ensures.ok ∙ ap (λ xs. xs ++ map (moved slots) c.deref-2.result.now) trees ∙ ap (λ ns. map Tree c.in_ok-decision.decision.trees.items ++ map (moved slots) ns) c.deref-2.ensures.value in
+    let changes = c.in_ok-push_nodes.ensures.ok ∙ ap (λ xs. xs ++ map (plan_change slots) c.deref-2.result.now) trees ∙ ap (λ ns. map Tree c.in_ok-decision.decision.trees.items ++ map (plan_change slots) ns) c.deref-2.ensures.value in
     plan_is (g.L.LookUps.world c.args.look_ups.now) c.decide.ensures.old (update_data c.args.update) c.in_ok-decision.decision c.in_ok-decision.ensures.ok
     (record { changes = c.push_nodes.new.changes; events = c.in_ok-decision.decision.events; toolkit = c.toolkit_texts.result; focus = c.in_ok-decision.decision.focus })
     slots c.in_ok-slots.ensures.ok changes c.is_root_tree-is_root.result c.is_root_tree-is_root.ensures c.toolkit_texts.ensures refl refl
@@ -22,7 +22,7 @@ pub returns-clause-work : goal.returns-clause-work
 returns-clause-work g c =
     let slots = c.in_ok-slots.slots.items in
     let trees = c.in_ok-push_trees.ensures.ok ∙ ap (λ xs. xs ++ map Tree c.deref.result.now) c.new-changes.ensures.items ∙ ap (map Tree) c.deref.ensures.value in
-    let changes = c.in_ok-push_nodes.ensures.ok ∙ ap (λ xs. xs ++ map (moved slots) c.deref-2.result.now) trees ∙ ap (λ ns. map Tree c.in_ok-decision.decision.trees.items ++ map (moved slots) ns) c.deref-2.ensures.value in
+    let changes = c.in_ok-push_nodes.ensures.ok ∙ ap (λ xs. xs ++ map (plan_change slots) c.deref-2.result.now) trees ∙ ap (λ ns. map Tree c.in_ok-decision.decision.trees.items ++ map (plan_change slots) ns) c.deref-2.ensures.value in
     plan_within (g.L.LookUps.world c.args.look_ups.now) c.decide.ensures.old (update_data c.args.update) c.in_ok-decision.decision c.in_ok-decision.ensures.ok
     (record { changes = c.push_nodes.new.changes; events = c.in_ok-decision.decision.events; toolkit = c.toolkit_texts.result; focus = c.in_ok-decision.decision.focus })
     slots c.in_ok-slots.ensures.ok changes c.is_root_tree-is_root.result c.is_root_tree-is_root.ensures c.toolkit_texts.ensures refl

@@ -1,7 +1,7 @@
 use Rattle.std.proofs.Common.{◌≡◌, None, [], map, ap, ◌∙◌}
 use Rattle.std.proofs.lemmas.Result.{on_ok_weaker, IfErr-weaker}
 use Rattle.schema.specs.NodeData.{NodeData}
-use Rattle.model.specs.World.{World, data_of, in_tree, listed, graft_name}
+use Rattle.model.specs.World.{World, data_of, in_tree, listed_ids, graft_name}
 use Rattle.tree_plan.proofs.IdMaps.{none_if_not}
 use Rattle.tree_plan.proofs.NodeSteps.{node_compared, new_entry, old_entry, old_lists, old_graft, new_lists, new_graft, data_fault}
 use Rattle.tree_plan.proofs.passes.Compared.compare_node.Goals as goal
@@ -23,7 +23,7 @@ returns-clause-ok g c =
     let d : NodeData = c.args.node.now in
     let r = c.in-Some.ensures.given in
     let before : NodeData = c.in-Some.old.node.now in
-    let lists : map (in_tree id.tree) c.children.result.now ≡ listed w id = ap (map (in_tree id.tree)) c.children.ensures ∙ old_lists w id before r.node in
+    let lists : map (in_tree id.tree) c.children.result.now ≡ listed_ids w id = ap (map (in_tree id.tree)) c.children.ensures ∙ old_lists w id before r.node in
     let graft : c.tree_id.result ≡ graft_name w id = c.tree_id.ensures ∙ old_graft w id before r.node in
     on_ok_weaker c.compare_data-2.result (λ h.
     node_compared w id c.args.entry d c.args.self.now c.take_graft.new.self c.compare_data-2.new.self _ (map (in_tree id.tree) c.children.result.now) c.tree_id.result
@@ -34,5 +34,5 @@ returns-clause-err g c =
     let w : World = g.L.LookUps.world c.args.look_ups.now in
     let id = c.args.id in
     let r = c.in-Some.ensures.given in
-    let lists : map (in_tree id.tree) c.children.result.now ≡ listed w id = ap (map (in_tree id.tree)) c.children.ensures ∙ old_lists w id c.in-Some.old.node.now r.node in
+    let lists : map (in_tree id.tree) c.children.result.now ≡ listed_ids w id = ap (map (in_tree id.tree)) c.children.ensures ∙ old_lists w id c.in-Some.old.node.now r.node in
     IfErr-weaker c.compare_data-2.result _ _ (data_fault w id c.args.node.now c.args.self.now c.take_graft.new.self (map (in_tree id.tree) c.children.result.now) lists c.take_graft.ensures.rest) c.compare_data-2.ensures.err

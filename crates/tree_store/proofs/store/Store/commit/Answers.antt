@@ -6,7 +6,7 @@ use Rattle.model.specs.World.{World, index_of}
 use Rattle.tree_changes.specs.declared.decision.NodeChange.{NodeChange}
 use Rattle.model.proofs.Update.UpdateLeavesState.{update_leaves_state}
 use Rattle.model.specs.Update.{index_for, known_after}
-use Rattle.tree_changes.specs.Changes.{NodeChanges, change_at, overlaid, put_trees, tree_change}
+use Rattle.tree_changes.specs.Changes.{NodeChanges, change_at, overlaid_world, put_trees, tree_change}
 use Rattle.tree_changes.specs.Decisions.{IsDecision}
 use Rattle.tree_store.specs.declared.store.Store.TheInside.{Inside}
 use Rattle.tree_store.specs.Kept.{Kept}
@@ -57,7 +57,7 @@ invariant_of-self c =
     let trees = c.write_decision.ensures.trees in
     let names = c.write_decision.ensures.kept in
     let b : Inside = record { alloc = c.self.inside.alloc; nodes = c.write_decision.new.nodes; known = c.write_decision.new.known; names = c.write_decision.new.names; toolkit = c.write_decision.new.toolkit; host_focused = c.self.inside.host_focused; focus = c.args.decision.focus } in
-    stored_written c.self.inside b (update_data c.args.update) c.args.decision c.self.invariant.places c.self.invariant.names (update_leaves_state (world_shown c.self.inside) (update_data c.args.update) (overlaid (world_shown c.self.inside) (update_data c.args.update) c.args.decision) c.self.invariant.state decided.accepted) decided records known trees names texts refl refl
+    stored_written c.self.inside b (update_data c.args.update) c.args.decision c.self.invariant.places c.self.invariant.names (update_leaves_state (world_shown c.self.inside) (update_data c.args.update) (overlaid_world (world_shown c.self.inside) (update_data c.args.update) c.args.decision) c.self.invariant.state decided.accepted) decided records known trees names texts refl refl
 
 pub returns-clause-world : goal.returns-clause-world
 returns-clause-world c =
@@ -71,7 +71,7 @@ returns-clause-world c =
     let trees = c.write_decision.ensures.trees in
     let names = c.write_decision.ensures.kept in
     let b : Inside = record { alloc = c.self.inside.alloc; nodes = c.write_decision.new.nodes; known = c.write_decision.new.known; names = c.write_decision.new.names; toolkit = c.write_decision.new.toolkit; host_focused = c.self.inside.host_focused; focus = c.args.decision.focus } in
-    world_written c.self.inside b (update_data c.args.update) c.args.decision c.self.invariant.places c.self.invariant.names (update_leaves_state (world_shown c.self.inside) (update_data c.args.update) (overlaid (world_shown c.self.inside) (update_data c.args.update) c.args.decision) c.self.invariant.state decided.accepted) decided records known trees names texts refl refl ∙ ap (λ w. overlaid w (update_data c.args.update) c.args.decision) world
+    world_written c.self.inside b (update_data c.args.update) c.args.decision c.self.invariant.places c.self.invariant.names (update_leaves_state (world_shown c.self.inside) (update_data c.args.update) (overlaid_world (world_shown c.self.inside) (update_data c.args.update) c.args.decision) c.self.invariant.state decided.accepted) decided records known trees names texts refl refl ∙ ap (λ w. overlaid_world w (update_data c.args.update) c.args.decision) world
 
 pub returns-clause-tight : goal.returns-clause-tight
 returns-clause-tight c = tight c.write_decision.new.nodes.entries c.write_decision.ensures.tight

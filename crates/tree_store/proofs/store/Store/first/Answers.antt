@@ -8,7 +8,7 @@ use Rattle.model.specs.State.{IsState, empty_world}
 use Rattle.model.specs.World.{World, index_of}
 use Rattle.model.specs.Update.{index_for, known_after}
 use Rattle.model.proofs.Update.UpdateLeavesState.{first_leaves_state}
-use Rattle.tree_changes.specs.Changes.{overlaid}
+use Rattle.tree_changes.specs.Changes.{overlaid_world}
 use Rattle.tree_changes.specs.Decisions.{IsDecision}
 use Rattle.tree_store.specs.declared.store.Store.TheInside.{Inside}
 use Rattle.tree_store.specs.Shown.{world_shown}
@@ -56,7 +56,7 @@ invariant_of-result c =
     sym (ap (λ o. option_map_or (λ _. shown.known) o (shown.known ++ c.args.update.tree_id ∷ [])) (ap (λ w. index_of w c.args.update.tree_id) world)) in
     let old_names = blank_names a c.args.is_host_focused known nodes names refl refl in
     let old_places = blank_places a c.args.is_host_focused known nodes names refl refl in
-    let leaves = subst (λ w. IsState (overlaid w (update_data c.args.update) c.args.decision)) (sym world) (first_leaves_state c.args.is_host_focused (update_data c.args.update) _ c.requires.accepted) in
+    let leaves = subst (λ w. IsState (overlaid_world w (update_data c.args.update) c.args.decision)) (sym world) (first_leaves_state c.args.is_host_focused (update_data c.args.update) _ c.requires.accepted) in
     let b : Inside = record { alloc = c.args.alloc; nodes = c.write_decision.new.nodes; known = c.write_decision.new.known; names = c.write_decision.new.names; toolkit = c.write_decision.new.toolkit; host_focused = c.args.is_host_focused; focus = c.args.decision.focus } in
     let w = c.write_decision.ensures in
     let info = (update_data c.args.update).info in
@@ -79,14 +79,14 @@ returns-clause-world c =
     sym (ap (λ o. option_map_or (λ _. shown.known) o (shown.known ++ c.args.update.tree_id ∷ [])) (ap (λ w. index_of w c.args.update.tree_id) world)) in
     let old_names = blank_names a c.args.is_host_focused known nodes names refl refl in
     let old_places = blank_places a c.args.is_host_focused known nodes names refl refl in
-    let leaves = subst (λ w. IsState (overlaid w (update_data c.args.update) c.args.decision)) (sym world) (first_leaves_state c.args.is_host_focused (update_data c.args.update) _ c.requires.accepted) in
+    let leaves = subst (λ w. IsState (overlaid_world w (update_data c.args.update) c.args.decision)) (sym world) (first_leaves_state c.args.is_host_focused (update_data c.args.update) _ c.requires.accepted) in
     let b : Inside = record { alloc = c.args.alloc; nodes = c.write_decision.new.nodes; known = c.write_decision.new.known; names = c.write_decision.new.names; toolkit = c.write_decision.new.toolkit; host_focused = c.args.is_host_focused; focus = c.args.decision.focus } in
     let w = c.write_decision.ensures in
     let info = (update_data c.args.update).info in
     let texts =
     texts_same true info shown.toolkit
     ∙ ap (λ b. option_map_or (λ (i : InfoData). if b then (i.toolkit_name, i.toolkit_version) else shown.toolkit) info shown.toolkit) (sym (ap (λ w. index_for w c.args.update.tree_id == 0) world)) in
-    world_written a b (update_data c.args.update) c.args.decision old_places old_names leaves decided w.records (w.names ∙ new_name) w.trees w.kept (w.texts ∙ texts) refl refl ∙ ap (λ v. overlaid v (update_data c.args.update) c.args.decision) world
+    world_written a b (update_data c.args.update) c.args.decision old_places old_names leaves decided w.records (w.names ∙ new_name) w.trees w.kept (w.texts ∙ texts) refl refl ∙ ap (λ v. overlaid_world v (update_data c.args.update) c.args.decision) world
 
 pub returns-clause-tight : goal.returns-clause-tight
 returns-clause-tight c = tight c.write_decision.new.nodes.entries c.write_decision.ensures.tight

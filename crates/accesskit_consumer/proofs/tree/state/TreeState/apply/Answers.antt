@@ -2,7 +2,7 @@ use Rattle.std.proofs.Common.{◌∙◌, sym, ap, subst}
 use Rattle.schema.specs.UpdateData.{update_data}
 use Rattle.model.specs.Differences.{events}
 use Rattle.model.specs.State.{IsState}
-use Rattle.tree_changes.specs.Changes.{overlaid}
+use Rattle.tree_changes.specs.Changes.{overlaid_world}
 use Rattle.tree_changes.specs.Decisions.{IsDecision}
 use Rattle.accesskit_consumer.proofs.PlanEvents.{told_differences}
 use Rattle.accesskit_consumer.proofs.Deciding.{views_tellable, does_accepted}
@@ -11,7 +11,7 @@ use Rattle.accesskit_consumer.proofs.tree.state.TreeState.apply.Goals as goal
 pub tell_all-requires : goal.tell_all-requires
 tell_all-requires g c =
     let old = c.new-old.ensures ∙ c.reserve.ensures.same ∙ c.self.view_is in
-    let new = c.over-new.ensures ∙ ap (λ w. overlaid w (update_data c.args.update) c.args.decision) (c.reserve.ensures.same ∙ c.self.view_is) in
+    let new = c.over-new.ensures ∙ ap (λ w. overlaid_world w (update_data c.args.update) c.args.decision) (c.reserve.ensures.same ∙ c.self.view_is) in
     views_tellable c.args.self.now (update_data c.args.update) c.args.decision (subst IsState old c.know.ensures.state) c.requires _ _ _ old new c.as_slice.ensures.value
 
 pub commit-requires-clause-decided : goal.commit-requires-clause-decided
@@ -20,7 +20,7 @@ commit-requires-clause-decided g c = subst (λ w. IsDecision w (update_data c.ar
 pub returns-clause-does : goal.returns-clause-does
 returns-clause-does g c =
     let old = c.new-old.ensures ∙ c.reserve.ensures.same ∙ c.self.view_is in
-    let same = ap (λ w. overlaid w (update_data c.args.update) c.args.decision) (c.reserve.ensures.same ∙ c.self.view_is) in (
+    let same = ap (λ w. overlaid_world w (update_data c.args.update) c.args.decision) (c.reserve.ensures.same ∙ c.self.view_is) in (
       events c.args.self.now c.commit.new.self.world c.args.decision.events.items,
       does_accepted c.args.self.now (update_data c.args.update) c.args.decision (subst IsState old c.know.ensures.state) c.requires c.commit.new.self.world (c.commit.ensures.world ∙ same),
       told_differences g.H.TreeChangeHandler.steps c.args.handler.now c.tell_all.new.handler _ c.args.self.now _ c.commit.new.self.world _ c.args.decision.events.items

@@ -2,7 +2,7 @@ use Rattle.std.proofs.Common.{refl, [], ◌∙◌, sym, ap, subst}
 use Rattle.std.proofs.lemmas.Result.{err_from_is_err_and}
 use Rattle.schema.specs.UpdateData.{update_data}
 use Rattle.model.specs.Run.{ToUpdate, Accepted, Does}
-use Rattle.tree_changes.specs.Changes.{overlaid}
+use Rattle.tree_changes.specs.Changes.{overlaid_world}
 use Rattle.tree_changes.specs.Decisions.{IsWithinWork}
 use Rattle.tree_changes.specs.Refusals.{IsRefusal}
 use Rattle.accesskit_consumer.specs.Replies.{reply_of}
@@ -26,6 +26,6 @@ pub returns-clause-steps : goal.returns-clause-steps
 returns-clause-steps g c =
     let u = update_data c.args.update in
     within c.args.self.now c.apply.new.self u c.in_ok-decision.decision c.args.steps.now c.decide.new.steps c.apply.new.steps
-    (c.in_ok-apply.ensures.state ∙ ap (λ w. overlaid w u c.in_ok-decision.decision) c.self.view_is)
+    (c.in_ok-apply.ensures.state ∙ ap (λ w. overlaid_world w u c.in_ok-decision.decision) c.self.view_is)
     (subst (λ w. IsWithinWork w u c.in_ok-decision.decision c.args.steps.now c.decide.new.steps) c.self.view_is c.in_ok-decision.ensures.work)
     c.in_ok-apply.ensures.steps
