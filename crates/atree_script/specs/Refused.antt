@@ -9,14 +9,14 @@ use Rattle.tree_changes.specs.declared.error.UpdateError.TheVariants.{MissingTre
 
 -- the name of a refusal, and the node that it names
 abbrev pub refused_node : List ℕ → NodeId → List ℕ
-refused_node name id = codes "refusal_line " ++ name ++ codes " " ++ decimal id.0 ++ codes "\n"
+refused_node name id = codes "refused " ++ name ++ codes " " ++ decimal id.0 ++ codes "\n"
 
 abbrev pub refused_tree : List ℕ → TreeId → List ℕ
-refused_tree name id = codes "refusal_line " ++ name ++ codes " " ++ hyphenated_text lower id.0 ++ codes "\n"
+refused_tree name id = codes "refused " ++ name ++ codes " " ++ hyphenated_text lower id.0 ++ codes "\n"
 
 abbrev pub refusal_line : UpdateError → List ℕ
-refusal_line MissingTreeInfo = codes "refusal_line MissingTreeInfo\n"
-refusal_line NotRootTree = codes "refusal_line NotRootTree\n"
+refusal_line MissingTreeInfo = codes "refused MissingTreeInfo\n"
+refusal_line NotRootTree = codes "refused NotRootTree\n"
 refusal_line (MissingData id) = refused_node (codes "MissingData") id
 refusal_line (NotReached id) = refused_node (codes "NotReached") id
 refusal_line (NamedTwice id) = refused_node (codes "NamedTwice") id
@@ -28,5 +28,5 @@ refusal_line (NoGraft id) = refused_tree (codes "NoGraft") id
 refusal_line (NoFirstTreeInfo id) = refused_tree (codes "NoFirstTreeInfo") id
 refusal_line (FocusMissing id) = refused_node (codes "FocusMissing") id
 refusal_line (FocusOnEmptyGraft id) = refused_tree (codes "FocusOnEmptyGraft") id
-refusal_line IndexesUsedUp = codes "refusal_line IndexesUsedUp\n"
-refusal_line Memory = codes "refusal_line Memory\n"
+refusal_line IndexesUsedUp = codes "refused IndexesUsedUp\n"
+refusal_line Memory = codes "refused Memory\n"
