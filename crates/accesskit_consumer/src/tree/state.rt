@@ -1,21 +1,35 @@
-//! A state.
-ghost use Rattle.std.specs.Prelude.{◌≡◌, ◌↔◌, IsTrue, IsSome, true, false, Some, MatchOption, IfSome, option_copied, option_map};
+//! A state, and how changes come into it.
+ghost use Rattle.std.specs.Prelude.{◌≡◌, ◌≤◌, ◌+◌, ◌*◌, ◌↔◌, List, [], length, IsTrue, IsSome, true, false, Some, MatchOption, IfSome, IfOk, IfErr, OnOk, OnErr, option_copied, option_map};
+ghost use Rattle.schema.specs.UpdateData.{update_data};
+ghost use Rattle.model.specs.declared.events.PlanEvent.{PlanEvent};
 ghost use Rattle.model.specs.World.{World, IsNode, root_of, root_named, local_id_of, toolkit_name, toolkit_version};
 ghost use Rattle.model.specs.Focus.{IsEffectiveFocus, IsFocusId, IsFocus};
+ghost use Rattle.model.specs.State.{with_host};
+ghost use Rattle.model.specs.Events.{Event, Told};
+ghost use Rattle.model.specs.Differences.{AreOfFocus, events};
+ghost use Rattle.model.specs.Run.{ToUpdate, Accepted, Does};
+ghost use Rattle.tree_changes.specs.Changes.{overlaid_world};
+ghost use Rattle.tree_changes.specs.Decisions.{IsDecision, IsWithinWork};
+ghost use Rattle.tree_changes.specs.Refusals.{IsRefusal};
 ghost use Rattle.accesskit_consumer.specs.Views.{world_of};
 ghost use Rattle.accesskit_consumer.specs.Nodes.{world_at, id_at, ShowsThe};
 
 use crate::node::NodeRef;
-use crate::tree::StateRef;
+use crate::tree::refocusing::tell_focus;
+use crate::tree::telling::tell_all;
+use crate::tree::{StateRef, Steps, TreeChangeHandler};
 use model::FullNodeId;
-use schema::{NodeId, TreeId};
+use schema::{NodeId, TreeId, TreeUpdate};
+use std::alloc::{AllocError, Global};
 use std::marker::Model;
-use tree_store::Store;
+use tree_changes::{Decision, LookUps, UpdateError};
+use tree_plan::decide;
+use tree_store::{Overlay, Store, StoreLookUps};
 
 /// The nodes and trees of a tree, with its focus.
 #[derive(Drop)]
 pub struct TreeState {
-    pub(crate) store: Store,
+    pub(super) store: Store,
 }
 
 impl Model for TreeState {
@@ -142,5 +156,81 @@ impl TreeState {
         ensures { result ≡ self.now.host_focused }
     {
         self.store.is_host_focused()
+    }
+
+    /// The decision on an update. The look-ups for it are counted.
+    pub(super) fn decide(
+        &self,
+        alloc: Global,
+        update: &TreeUpdate,
+        steps: &mut Steps,
+    ) -> Result<Decision, UpdateError>
+        ensures err { IfErr result (λ e. IsRefusal self.now (update_data update.now) e) }
+        ensures ok { IfOk result (λ decision. IsDecision self.now (update_data update.now) decision) }
+        ensures work { IfOk result (λ decision. IsWithinWork self.now (update_data update.now) decision steps.old steps.new) }
+    {
+        let mut look_ups = StoreLookUps::new(&self.store, steps.count());
+        let decided = decide(alloc, &mut look_ups, update);
+        steps.set(look_ups.count());
+        decided
+    }
+
+    /// Carries a decision on an update out. Room is made for its changes; then they are laid over the state, the handler is
+    /// told, and they are written. Only what comes before the telling takes memory. Two records are looked up for each
+    /// event and each change.
+    pub(crate) fn apply<H: TreeChangeHandler>(
+        &mut self,
+        update: TreeUpdate,
+        decision: Decision,
+        handler: &mut H,
+        steps: &mut Steps,
+    ) -> Result<(), AllocError>
+        requires { IsDecision self.old (update_data update) decision }
+        ensures state { OnOk result (self.new ≡ overlaid_world self.old (update_data update) decision) }
+        ensures does { OnOk result ((told : List Event)
+            × Does self.old (ToUpdate (update_data update)) self.new told Accepted
+            × Told H.steps handler.old told handler.new) }
+        ensures steps { OnOk result (steps.new ≤ steps.old
+            + 2 * (length decision.events.items + (length decision.nodes.items + length decision.trees.items))) }
+        ensures err { OnErr result ((self.new ≡ self.old) × (handler.new ≡ handler.old)) }
+    {
+        self.store.reserve(&update, &decision)?;
+        let overlay = Overlay {
+            update: &update,
+            decision: &decision,
+        };
+        let old = StateRef::new(&self.store);
+        let new = StateRef::over(&self.store, overlay);
+        old.know();
+        tell_all(old, new, decision.events.as_slice(), handler, steps);
+        count_changes(&decision, steps);
+        self.store.commit(update, decision);
+        Ok(())
+    }
+
+    /// Sets whether the host is focused, and tells the handler where the focus is another one then.
+    pub(crate) fn refocus<H: TreeChangeHandler>(&mut self, is_host_focused: bool, handler: &mut H)
+        ensures state { self.new ≡ with_host self.old is_host_focused }
+        ensures told { (differences : List PlanEvent) × AreOfFocus self.old self.new [] differences
+            × Told H.steps handler.old (events self.old self.new differences) handler.new }
+    {
+        tell_focus(
+            StateRef::new(&self.store),
+            StateRef::with_host_focused(&self.store, is_host_focused),
+            handler,
+        );
+        self.store.set_host_focused(is_host_focused);
+    }
+}
+
+/// Counts two look-ups for each change.
+fn count_changes(decision: &Decision, steps: &mut Steps)
+    ensures { steps.new ≤ steps.old + 2 * (length decision.now.nodes.items + length decision.now.trees.items) }
+{
+    for _change in &decision.nodes {
+        steps.add_two();
+    }
+    for _change in &decision.trees {
+        steps.add_two();
     }
 }

@@ -5,7 +5,6 @@ ghost use Rattle.model.specs.Events.{Event, Told};
 ghost use Rattle.model.specs.Run.{ToUpdate, ToHostFocus, Accepted, Begins, Does};
 ghost use Rattle.model.specs.State.{empty_world};
 ghost use Rattle.model.specs.Work.{Work, IsWorkOf, allowance};
-ghost use Rattle.tree_changes.specs.Decisions.{IsDecision, IsWithinWork};
 ghost use Rattle.tree_changes.specs.Refusals.{IsRefusal};
 ghost use Rattle.accesskit_consumer.specs.Replies.{reply_of};
 
@@ -13,9 +12,9 @@ use crate::tree::{Steps, TreeChangeHandler, TreeState};
 use schema::TreeUpdate;
 use std::alloc::Global;
 use std::marker::Model;
-use tree_changes::{Decision, LookUps, UpdateError};
+use tree_changes::UpdateError;
 use tree_plan::decide;
-use tree_store::{NoRecords, Store, StoreLookUps};
+use tree_store::{NoRecords, Store};
 
 /// The root tree of an interface, with the trees that hang under it. Updates change it.
 #[derive(Drop)]
@@ -33,25 +32,6 @@ impl Model for Tree {
     ghost coded = { coded_world };
 
     ghost view = { λ a. a.state };
-}
-
-impl TreeState {
-    /// The decision on an update. The look-ups for it are counted.
-    fn decide(
-        &self,
-        alloc: Global,
-        update: &TreeUpdate,
-        steps: &mut Steps,
-    ) -> Result<Decision, UpdateError>
-        ensures err { IfErr result (λ e. IsRefusal self.now (update_data update.now) e) }
-        ensures ok { IfOk result (λ decision. IsDecision self.now (update_data update.now) decision) }
-        ensures work { IfOk result (λ decision. IsWithinWork self.now (update_data update.now) decision steps.old steps.new) }
-    {
-        let mut look_ups = StoreLookUps::new(&self.store, steps.count());
-        let decided = decide(alloc, &mut look_ups, update);
-        steps.set(look_ups.count());
-        decided
-    }
 }
 
 impl Tree {

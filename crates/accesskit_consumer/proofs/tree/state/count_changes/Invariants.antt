@@ -1,5 +1,5 @@
 use Rattle.std.proofs.Common.{◌≤◌, ◌+◌, ◌*◌, length}
-use Rattle.accesskit_consumer.proofs.tree.applying.count_changes.Given as goal
+use Rattle.accesskit_consumer.proofs.tree.state.count_changes.Given as goal
 
 abbrev pub invariant-loop-change : goal.invariant-loop-change
 invariant-loop-change l = l.steps ≤ l.fn.steps + 2 * l._change-index
