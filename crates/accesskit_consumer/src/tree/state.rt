@@ -1,5 +1,5 @@
 //! A state, and how changes come into it.
-ghost use Rattle.std.specs.Prelude.{◌≡◌, ◌≤◌, ◌+◌, ◌*◌, ◌↔◌, List, [], length, IsTrue, IsSome, true, false, Some, MatchOption, IfSome, IfOk, IfErr, OnOk, OnErr, option_copied, option_map};
+ghost use Rattle.std.specs.Prelude.{◌≡◌, ◌<◌, ◌^◌, ◌*◌, ◌↔◌, ℕ, List, [], IsTrue, IsSome, true, false, Some, MatchOption, IfSome, IfOk, IfErr, OnOk, OnErr, option_copied, option_map};
 ghost use Rattle.schema.specs.UpdateData.{update_data};
 ghost use Rattle.model.specs.declared.events.PlanEvent.{PlanEvent};
 ghost use Rattle.model.specs.World.{World, IsNode, root_of, root_named, local_id_of, toolkit_name, toolkit_version};
@@ -11,6 +11,7 @@ ghost use Rattle.model.specs.Run.{ToUpdate, Accepted, Does};
 ghost use Rattle.tree_changes.specs.Changes.{overlaid_world};
 ghost use Rattle.tree_changes.specs.Decisions.{IsDecision, IsWithinWork};
 ghost use Rattle.tree_changes.specs.Refusals.{IsRefusal};
+ghost use Rattle.accesskit_consumer.specs.Counts.{change_count, IsRaisedBy, CountsEvents};
 ghost use Rattle.accesskit_consumer.specs.Views.{world_of};
 ghost use Rattle.accesskit_consumer.specs.Nodes.{world_at, id_at, ShowsThe};
 
@@ -166,19 +167,20 @@ impl TreeState {
         steps: &mut Steps,
     ) -> Result<Decision, UpdateError>
         ensures err { IfErr result (λ e. IsRefusal self.now (update_data update.now) e) }
-        ensures ok { IfOk result (λ decision. IsDecision self.now (update_data update.now) decision) }
-        ensures work { IfOk result (λ decision. IsWithinWork self.now (update_data update.now) decision steps.old steps.new) }
+        ensures ok { IfOk result (IsDecision self.now (update_data update.now)) }
+        ensures work { IfOk result (λ decision. (looked : ℕ) × IsRaisedBy steps.old looked steps.new
+            × IsWithinWork self.now (update_data update.now) decision 0 looked) }
     {
-        let mut look_ups = StoreLookUps::new(&self.store, steps.count());
+        let mut look_ups = StoreLookUps::new(&self.store, 0);
         let decided = decide(alloc, &mut look_ups, update);
-        steps.set(look_ups.count());
+        steps.add(look_ups.count());
         decided
     }
 
     /// Carries a decision on an update out. Room is made for its changes; then they are laid over the state, the handler is
     /// told, and they are written. Only what comes before the telling takes memory. Two records are looked up for each
     /// event and each change.
-    pub(crate) fn apply<H: TreeChangeHandler>(
+    pub(super) fn apply<H: TreeChangeHandler>(
         &mut self,
         update: TreeUpdate,
         decision: Decision,
@@ -190,8 +192,8 @@ impl TreeState {
         ensures does { OnOk result ((told : List Event)
             × Does self.old (ToUpdate (update_data update)) self.new told Accepted
             × Told H.steps handler.old told handler.new) }
-        ensures steps { OnOk result (steps.new ≤ steps.old
-            + 2 * (length decision.events.items + (length decision.nodes.items + length decision.trees.items))) }
+        ensures steps { OnOk result (IsRaisedBy steps.old (2 * change_count decision) steps.new) }
+        ensures counted { OnOk result (CountsEvents self.old (update_data update) self.new steps.old steps.new) }
         ensures err { OnErr result ((self.new ≡ self.old) × (handler.new ≡ handler.old)) }
     {
         self.store.reserve(&update, &decision)?;
@@ -202,8 +204,8 @@ impl TreeState {
         let old = StateRef::new(&self.store);
         let new = StateRef::over(&self.store, overlay);
         old.know();
-        tell_all(old, new, decision.events.as_slice(), handler, steps);
-        count_changes(&decision, steps);
+        tell_all(old, new, decision.events.as_slice(), handler);
+        steps.add(2 * change_count(&decision));
         self.store.commit(update, decision);
         Ok(())
     }
@@ -223,14 +225,10 @@ impl TreeState {
     }
 }
 
-/// Counts two look-ups for each change.
-fn count_changes(decision: &Decision, steps: &mut Steps)
-    ensures { steps.new ≤ steps.old + 2 * (length decision.now.nodes.items + length decision.now.trees.items) }
+/// How many events and changes there are.
+fn change_count(decision: &Decision) -> u128
+    ensures is { result ≡ change_count decision.now }
+    ensures fits { result < 2 ^ 66 }
 {
-    for _change in &decision.nodes {
-        steps.add_two();
-    }
-    for _change in &decision.trees {
-        steps.add_two();
-    }
+    decision.events.len() as u128 + decision.nodes.len() as u128 + decision.trees.len() as u128
 }

@@ -6,6 +6,7 @@ ghost use Rattle.model.specs.Run.{ToUpdate, ToHostFocus, Accepted, Begins, Does}
 ghost use Rattle.model.specs.State.{empty_world};
 ghost use Rattle.model.specs.Work.{Work, IsWorkOf, allowance};
 ghost use Rattle.tree_changes.specs.Refusals.{IsRefusal};
+ghost use Rattle.accesskit_consumer.specs.Counts.{CountsEvents};
 ghost use Rattle.accesskit_consumer.specs.Replies.{reply_of};
 
 use crate::tree::{Steps, TreeChangeHandler, TreeState};
@@ -77,7 +78,7 @@ impl Tree {
     }
 
     /// As `update_and_process_changes`, and counts the look-ups of records of nodes and trees. Those of an accepted update
-    /// go with what it touches, however large the trees are.
+    /// go with what it touches, however large the trees are; two at least are for each event that is told.
     pub fn update_and_process_changes_counted<H: TreeChangeHandler>(
         &mut self,
         update: TreeUpdate,
@@ -89,6 +90,7 @@ impl Tree {
             × Told H.steps handler.old told handler.new }
         ensures steps { OnOk result ((work : Work) → IsWorkOf self.old (update_data update) self.new work
             → steps.new ≤ steps.old + allowance work) }
+        ensures counted { OnOk result (CountsEvents self.old (update_data update) self.new steps.old steps.new) }
     {
         let decision = self.state.decide(self.alloc, &update, steps)?;
         self.state.apply(update, decision, handler, steps)?;
