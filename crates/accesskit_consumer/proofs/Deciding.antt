@@ -1,31 +1,35 @@
 -- The decision on an update, and what follows where it is carried out.
-use Rattle.std.proofs.Common.{◌≡◌, ◌≤◌, ◌+◌, ◌*◌, ℕ, slice_index_or, List, [], length, Option, Some, None, Result, refl, sym, subst, arith}
-use Rattle.std.specs.Prelude.{All, IfOk, IfSome}
+use Rattle.std.proofs.Common.{◌≡◌, ◌≤◌, ◌+◌, ◌*◌, ℕ, slice_index_or, List, [], length, Option, Some, None, Result, refl, sym, ◌∙◌, ap, subst, arith}
+use Rattle.std.specs.Prelude.{All, IfOk, IfSome, Ok, Err}
 use Rattle.std.specs.Option.{option_map_or}
+use Rattle.std.proofs.lemmas.List.{length-map}
 use Rattle.std.proofs.lemmas.List.Elements.{Contains-get_or}
 use Rattle.model.specs.declared.events.PlanEvent.{PlanEvent}
 use Rattle.model.specs.declared.events.PlanEvent.TheVariants.{Added, Updated, FocusMoved, Removed}
 use Rattle.model.specs.World.{World}
 use Rattle.model.specs.Events.{Event, Told}
-use Rattle.model.specs.Differences.{events, told_root}
+use Rattle.model.specs.Differences.{event, events, told_root}
 use Rattle.model.specs.Reasons.{Reason}
 use Rattle.model.specs.Run.{CommandData, ReplyData, ToUpdate, Refused, OutOfMemory, Accepted, Does}
 use Rattle.model.specs.State.{IsState}
 use Rattle.model.specs.Update.{UpdateData, Fault, IsFirst, Stands, index_for}
 use Rattle.model.specs.Work.{Work, IsWorkOf, allowance}
+use Rattle.model.proofs.Differences.DifferencesAreOne.{differences_unique}
 use Rattle.model.proofs.Differences.Reasons.{has_reason}
 use Rattle.tree_changes.specs.declared.decision.Decision.{Decision}
 use Rattle.tree_changes.specs.declared.error.UpdateError.{UpdateError}
 use Rattle.tree_changes.specs.Changes.{overlaid_world}
 use Rattle.tree_changes.specs.Decisions.{IsDecision, IsWithinWork}
-use Rattle.tree_changes.specs.Looks.{raised_count}
 use Rattle.tree_changes.specs.Refusals.{fault_of, IsRefusal}
+use Rattle.accesskit_consumer.specs.Counts.{IsRaisedAtLeast, IsRaisedBy, CountsEvents, change_count}
 use Rattle.accesskit_consumer.specs.Telling.{IsTellable}
 
-pub work_moved : (result : Result Decision UpdateError) (v w : World) (u : UpdateData) (a b m n : ℕ) → v ≡ w → a ≡ b → m ≡ n → IfOk result (λ d. IsWithinWork v u d a m) → IfOk result (λ d. IsWithinWork w u d b n)
-work_moved result v w u a b m n world before after h =
-    subst (λ x. IfOk result (λ d. IsWithinWork w u d b x)) after
-    (subst (λ x. IfOk result (λ d. IsWithinWork w u d x m)) before (subst (λ x. IfOk result (λ d. IsWithinWork x u d a m)) world h))
+-- what the planner looked up, counted from none, is added to the count
+pub work_counted : (result : Result Decision UpdateError) (v w : World) (u : UpdateData) (start looked before after : ℕ) → v ≡ w → start ≡ 0 → IsRaisedBy before looked after
+    → IfOk result (λ d. IsWithinWork v u d start looked) → IfOk result (λ d. (more : ℕ) × IsRaisedBy before more after × IsWithinWork w u d 0 more)
+work_counted (Ok d) v w u start looked before after world none raised h =
+    (looked, raised, subst (λ n. IsWithinWork w u d n looked) none (subst (λ x. IsWithinWork x u d start looked) world h))
+work_counted (Err e) v w u start looked before after world none raised h = h
 
 -- a world in which a name is known had its first update
 state_not_first : (w : World) → IsState w → ¬ (IsFirst w)
@@ -64,14 +68,26 @@ by_fault w new u (Some f) h same = (h, same, refl)
 pub does_refused : (w new : World) (u : UpdateData) (e : UpdateError) → IsRefusal w u e → new ≡ w → Does w (ToUpdate u) new [] (option_map_or Refused (fault_of e) OutOfMemory)
 does_refused w new u e h same = by_fault w new u (fault_of e) h same
 
--- two more for each of n, and for one more
-pub two_further : (start n count next : ℕ) → count ≤ start + 2 * n → next ≡ raised_count (raised_count count) → next ≤ start + 2 * (n + 1)
-two_further start n count next before is = grind arith
-
 -- what an update adds to the count is within what is allowed
-pub within : (w new : World) (u : UpdateData) (d : Decision) (before decided after : ℕ) → new ≡ overlaid_world w u d → IsWithinWork w u d before decided
-    → after ≤ decided + 2 * (length d.events.items + (length d.nodes.items + length d.trees.items)) → (work : Work) → IsWorkOf w u new work → after ≤ before + allowance work
-within w new u d before decided after is h told work is_work = let least = h work (subst (λ x. IsWorkOf w u x work) is is_work) in omega arith
+pub within : (w new : World) (u : UpdateData) (d : Decision) (looked before decided after : ℕ) → new ≡ overlaid_world w u d → IsWithinWork w u d 0 looked
+    → decided ≤ before + looked → after ≤ decided + 2 * change_count d → (work : Work) → IsWorkOf w u new work → after ≤ before + allowance work
+within w new u d looked before decided after is h asked told work is_work = let least = h work (subst (λ x. IsWorkOf w u x work) is is_work) in omega (arith, asked, told, least)
+
+-- a count that rose, and then rose by more, rose by that at least
+pub raised_further : (before more between other after : ℕ) → IsRaisedBy before more between → IsRaisedAtLeast between other after → IsRaisedAtLeast before other after
+raised_further before more between other after first then = grind (arith, first.1, then)
+
+-- an update tells one list
+told_once : (old new : World) (u : UpdateData) (told heard : List Event) → Does old (ToUpdate u) new told Accepted → Does old (ToUpdate u) new heard Accepted → told ≡ heard
+told_once old new u told heard h g =
+    h.3 ∙ ap (events old new) (differences_unique old new (told_root (index_for old u.name) u.info) h.1 g.1 h.2 g.2) ∙ sym g.3
+
+-- where two look-ups are counted for each event and each change of a decision, they are for each event that is told
+pub events_counted : (w new : World) (u : UpdateData) (d : Decision) (before after : ℕ) → Does w (ToUpdate u) new (events w new d.events.items) Accepted
+    → IsRaisedBy before (2 * change_count d) after → CountsEvents w u new before after
+events_counted w new u d before after does raised = λ told other.
+    let same : length told ≡ length d.events.items = ap length (told_once w new u told (events w new d.events.items) other does) ∙ length-map d.events.items (event w new) in
+    grind (arith, raised.1, same)
 
 -- what is done to the world that a state shows is done to that world
 pub done_moved : {H : Type 0} (steps : H → Event → H → Type 0) (s t : H) (v w new : World) (command : CommandData) (reply : ReplyData) → v ≡ w

@@ -3,6 +3,7 @@ pub mod Views
 pub mod Nodes
 pub mod Telling
 pub mod Replies
+pub mod Counts
 pub mod FocusedOne
 pub mod Follows
 pub mod Reach

@@ -1,11 +1,8 @@
 //! Trees and their states, and what a handler is told of their changes.
-mod applying;
 mod dialogs;
 mod handler;
 mod refocusing;
 mod state;
-mod state_facts;
-mod state_reads;
 mod state_ref;
 mod steps;
 mod telling;

@@ -1,21 +1,36 @@
-//! A state.
-ghost use Rattle.std.specs.Prelude.{◌≡◌, ◌↔◌, IsTrue, IsSome, true, false, Some, MatchOption, IfSome, option_copied, option_map};
+//! A state, and how changes come into it.
+ghost use Rattle.std.specs.Prelude.{◌≡◌, ◌<◌, ◌^◌, ◌*◌, ◌↔◌, ℕ, List, [], IsTrue, IsSome, true, false, Some, MatchOption, IfSome, IfOk, IfErr, OnOk, OnErr, option_copied, option_map};
+ghost use Rattle.schema.specs.UpdateData.{update_data};
+ghost use Rattle.model.specs.declared.events.PlanEvent.{PlanEvent};
 ghost use Rattle.model.specs.World.{World, IsNode, root_of, root_named, local_id_of, toolkit_name, toolkit_version};
 ghost use Rattle.model.specs.Focus.{IsEffectiveFocus, IsFocusId, IsFocus};
+ghost use Rattle.model.specs.State.{with_host};
+ghost use Rattle.model.specs.Events.{Event, Told};
+ghost use Rattle.model.specs.Differences.{AreOfFocus, events};
+ghost use Rattle.model.specs.Run.{ToUpdate, Accepted, Does};
+ghost use Rattle.tree_changes.specs.Changes.{overlaid_world};
+ghost use Rattle.tree_changes.specs.Decisions.{IsDecision, IsWithinWork};
+ghost use Rattle.tree_changes.specs.Refusals.{IsRefusal};
+ghost use Rattle.accesskit_consumer.specs.Counts.{change_count, IsRaisedBy, CountsEvents};
 ghost use Rattle.accesskit_consumer.specs.Views.{world_of};
 ghost use Rattle.accesskit_consumer.specs.Nodes.{world_at, id_at, ShowsThe};
 
 use crate::node::NodeRef;
-use crate::tree::StateRef;
+use crate::tree::refocusing::tell_focus;
+use crate::tree::telling::tell_all;
+use crate::tree::{StateRef, Steps, TreeChangeHandler};
 use model::FullNodeId;
-use schema::{NodeId, TreeId};
+use schema::{NodeId, TreeId, TreeUpdate};
+use std::alloc::{AllocError, Global};
 use std::marker::Model;
-use tree_store::Store;
+use tree_changes::{Decision, LookUps, UpdateError};
+use tree_plan::decide;
+use tree_store::{Overlay, Store, StoreLookUps};
 
 /// The nodes and trees of a tree, with its focus.
 #[derive(Drop)]
 pub struct TreeState {
-    pub(crate) store: Store,
+    pub(super) store: Store,
 }
 
 impl Model for TreeState {
@@ -143,4 +158,77 @@ impl TreeState {
     {
         self.store.is_host_focused()
     }
+
+    /// The decision on an update. The look-ups for it are counted.
+    pub(super) fn decide(
+        &self,
+        alloc: Global,
+        update: &TreeUpdate,
+        steps: &mut Steps,
+    ) -> Result<Decision, UpdateError>
+        ensures err { IfErr result (λ e. IsRefusal self.now (update_data update.now) e) }
+        ensures ok { IfOk result (IsDecision self.now (update_data update.now)) }
+        ensures work { IfOk result (λ decision. (looked : ℕ) × IsRaisedBy steps.old looked steps.new
+            × IsWithinWork self.now (update_data update.now) decision 0 looked) }
+    {
+        let mut look_ups = StoreLookUps::new(&self.store, 0);
+        let decided = decide(alloc, &mut look_ups, update);
+        steps.add(look_ups.count());
+        decided
+    }
+
+    /// Carries a decision on an update out. Room is made for its changes; then they are laid over the state, the handler is
+    /// told, and they are written. Only what comes before the telling takes memory. Two records are looked up for each
+    /// event and each change.
+    pub(super) fn apply<H: TreeChangeHandler>(
+        &mut self,
+        update: TreeUpdate,
+        decision: Decision,
+        handler: &mut H,
+        steps: &mut Steps,
+    ) -> Result<(), AllocError>
+        requires { IsDecision self.old (update_data update) decision }
+        ensures state { OnOk result (self.new ≡ overlaid_world self.old (update_data update) decision) }
+        ensures does { OnOk result ((told : List Event)
+            × Does self.old (ToUpdate (update_data update)) self.new told Accepted
+            × Told H.steps handler.old told handler.new) }
+        ensures steps { OnOk result (IsRaisedBy steps.old (2 * change_count decision) steps.new) }
+        ensures counted { OnOk result (CountsEvents self.old (update_data update) self.new steps.old steps.new) }
+        ensures err { OnErr result ((self.new ≡ self.old) × (handler.new ≡ handler.old)) }
+    {
+        self.store.reserve(&update, &decision)?;
+        let overlay = Overlay {
+            update: &update,
+            decision: &decision,
+        };
+        let old = StateRef::new(&self.store);
+        let new = StateRef::over(&self.store, overlay);
+        old.know();
+        tell_all(old, new, decision.events.as_slice(), handler);
+        steps.add(2 * change_count(&decision));
+        self.store.commit(update, decision);
+        Ok(())
+    }
+
+    /// Sets whether the host is focused, and tells the handler where the focus is another one then.
+    pub(crate) fn refocus<H: TreeChangeHandler>(&mut self, is_host_focused: bool, handler: &mut H)
+        ensures state { self.new ≡ with_host self.old is_host_focused }
+        ensures told { (differences : List PlanEvent) × AreOfFocus self.old self.new [] differences
+            × Told H.steps handler.old (events self.old self.new differences) handler.new }
+    {
+        tell_focus(
+            StateRef::new(&self.store),
+            StateRef::with_host_focused(&self.store, is_host_focused),
+            handler,
+        );
+        self.store.set_host_focused(is_host_focused);
+    }
+}
+
+/// How many events and changes there are.
+fn change_count(decision: &Decision) -> u128
+    ensures is { result ≡ change_count decision.now }
+    ensures fits { result < 2 ^ 66 }
+{
+    decision.events.len() as u128 + decision.nodes.len() as u128 + decision.trees.len() as u128
 }

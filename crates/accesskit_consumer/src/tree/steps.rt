@@ -1,6 +1,6 @@
 //! A count of look-ups.
 ghost use Rattle.std.specs.Prelude.{◌≡◌};
-ghost use Rattle.tree_changes.specs.Looks.{raised_count};
+ghost use Rattle.accesskit_consumer.specs.Counts.{IsRaisedBy};
 
 use std::marker::Model;
 
@@ -36,17 +36,10 @@ impl Steps {
         self.count
     }
 
-    /// There were this many.
-    pub(crate) fn set(&mut self, count: u128)
-        ensures { self.new ≡ count }
+    /// There were so many more.
+    pub(crate) fn add(&mut self, more: u128)
+        ensures { IsRaisedBy self.old more self.new }
     {
-        self.count = count;
-    }
-
-    /// There were two more.
-    pub(crate) fn add_two(&mut self)
-        ensures { self.new ≡ raised_count (raised_count self.old) }
-    {
-        self.count = self.count.saturating_add(2);
+        self.count = self.count.saturating_add(more);
     }
 }

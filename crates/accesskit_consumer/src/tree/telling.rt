@@ -1,11 +1,11 @@
 //! Tells a handler of an update's events.
-ghost use Rattle.std.specs.Prelude.{◌≤◌, ◌+◌, ◌*◌, All, length};
+ghost use Rattle.std.specs.Prelude.{All};
 ghost use Rattle.model.specs.Events.{Told};
 ghost use Rattle.model.specs.Differences.{event, events};
 ghost use Rattle.accesskit_consumer.specs.Telling.{IsTellable};
 ghost use Rattle.accesskit_consumer.specs.Views.{world_of};
 
-use crate::tree::{StateRef, Steps, TreeChangeHandler};
+use crate::tree::{StateRef, TreeChangeHandler};
 use model::PlanEvent;
 
 /// Tells of one event: its old nodes are seen in the old state, and its new ones in the new state.
@@ -30,20 +30,17 @@ pub(crate) fn tell<H: TreeChangeHandler>(
     }
 }
 
-/// Tells of the events in turn. For each two records are looked up at most.
+/// Tells of the events in turn.
 pub(crate) fn tell_all<H: TreeChangeHandler>(
     old: StateRef,
     new: StateRef,
     differences: &[PlanEvent],
     handler: &mut H,
-    steps: &mut Steps,
 )
     requires { All (IsTellable (world_of old) (world_of new)) differences.now }
-    ensures told { Told H.steps handler.old (events (world_of old.entry) (world_of new.entry) differences.now) handler.new }
-    ensures steps { steps.new ≤ steps.old + 2 * length differences.now }
+    ensures { Told H.steps handler.old (events (world_of old.entry) (world_of new.entry) differences.now) handler.new }
 {
     for event in differences {
-        steps.add_two();
         tell(old, new, *event, handler);
     }
 }

@@ -5,17 +5,17 @@ ghost use Rattle.model.specs.Events.{Event, Told};
 ghost use Rattle.model.specs.Run.{ToUpdate, ToHostFocus, Accepted, Begins, Does};
 ghost use Rattle.model.specs.State.{empty_world};
 ghost use Rattle.model.specs.Work.{Work, IsWorkOf, allowance};
-ghost use Rattle.tree_changes.specs.Decisions.{IsDecision, IsWithinWork};
 ghost use Rattle.tree_changes.specs.Refusals.{IsRefusal};
+ghost use Rattle.accesskit_consumer.specs.Counts.{CountsEvents};
 ghost use Rattle.accesskit_consumer.specs.Replies.{reply_of};
 
 use crate::tree::{Steps, TreeChangeHandler, TreeState};
 use schema::TreeUpdate;
 use std::alloc::Global;
 use std::marker::Model;
-use tree_changes::{Decision, LookUps, UpdateError};
+use tree_changes::UpdateError;
 use tree_plan::decide;
-use tree_store::{NoRecords, Store, StoreLookUps};
+use tree_store::{NoRecords, Store};
 
 /// The root tree of an interface, with the trees that hang under it. Updates change it.
 #[derive(Drop)]
@@ -33,25 +33,6 @@ impl Model for Tree {
     ghost coded = { coded_world };
 
     ghost view = { λ a. a.state };
-}
-
-impl TreeState {
-    /// The decision on an update. The look-ups for it are counted.
-    fn decide(
-        &self,
-        alloc: Global,
-        update: &TreeUpdate,
-        steps: &mut Steps,
-    ) -> Result<Decision, UpdateError>
-        ensures err { IfErr result (λ e. IsRefusal self.now (update_data update.now) e) }
-        ensures ok { IfOk result (λ decision. IsDecision self.now (update_data update.now) decision) }
-        ensures work { IfOk result (λ decision. IsWithinWork self.now (update_data update.now) decision steps.old steps.new) }
-    {
-        let mut look_ups = StoreLookUps::new(&self.store, steps.count());
-        let decided = decide(alloc, &mut look_ups, update);
-        steps.set(look_ups.count());
-        decided
-    }
 }
 
 impl Tree {
@@ -97,7 +78,7 @@ impl Tree {
     }
 
     /// As `update_and_process_changes`, and counts the look-ups of records of nodes and trees. Those of an accepted update
-    /// go with what it touches, however large the trees are.
+    /// go with what it touches, however large the trees are; two at least are for each event that is told.
     pub fn update_and_process_changes_counted<H: TreeChangeHandler>(
         &mut self,
         update: TreeUpdate,
@@ -109,6 +90,7 @@ impl Tree {
             × Told H.steps handler.old told handler.new }
         ensures steps { OnOk result ((work : Work) → IsWorkOf self.old (update_data update) self.new work
             → steps.new ≤ steps.old + allowance work) }
+        ensures counted { OnOk result (CountsEvents self.old (update_data update) self.new steps.old steps.new) }
     {
         let decision = self.state.decide(self.alloc, &update, steps)?;
         self.state.apply(update, decision, handler, steps)?;

@@ -1,6 +1,5 @@
 use Rattle.std.proofs.Common.{refl}
 use Rattle.accesskit_consumer.specs.Views.{world_of}
-use Rattle.accesskit_consumer.proofs.Deciding.{two_further}
 use Rattle.model.proofs.Differences.Tellings.{told_next}
 use Rattle.model.specs.Differences.{event}
 use Rattle.model.specs.declared.events.PlanEvent.{PlanEvent}
@@ -9,8 +8,6 @@ use Rattle.accesskit_consumer.proofs.tree.telling.tell_all.Goals as goal
 
 pub loop-event-preserved : goal.loop-event-preserved
 loop-event-preserved g c =
-    let d : PlanEvent = plan.Added (record { tree = 0; node = record { 0 = 0 } }) in (
-      told_next g.H.TreeChangeHandler.steps (λ e. event (world_of c.args.old) (world_of c.args.new) e) c.args.differences.now c.loop-event.event-index d
-          c.args.handler.now c.loop-event.handler c.tell.new.handler _ c.loop-event-test.true c.loop-event.invariant.0 c.tell.ensures refl,
-      two_further c.args.steps.now c.loop-event.event-index c.loop-event.steps c.add_two.new.self c.loop-event.invariant.1 c.add_two.ensures,
-    )
+    let d : PlanEvent = plan.Added (record { tree = 0; node = record { 0 = 0 } }) in
+    told_next g.H.TreeChangeHandler.steps (λ e. event (world_of c.args.old) (world_of c.args.new) e) c.args.differences.now c.loop-event.event-index d
+    c.args.handler.now c.loop-event.handler c.tell.new.handler _ c.loop-event-test.true c.loop-event.invariant c.tell.ensures refl

@@ -1,6 +1,5 @@
-use Rattle.std.proofs.Common.{◌∙◌, ap, subst, rules, Some}
+use Rattle.std.proofs.Common.{◌∙◌, ap, rules}
 use Rattle.std.specs.Prelude.{find}
-use Rattle.model.specs.Focus.{IsActiveDialog}
 use Rattle.model.specs.RoleClasses.{is_dialog}
 use Rattle.model.specs.Upward.{says, upward}
 use Rattle.std.specs.Option.{option_map}
