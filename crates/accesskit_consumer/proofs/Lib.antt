@@ -13,6 +13,7 @@ pub mod Counting
 pub mod Depths
 pub mod Following
 pub mod ItemSteps
+pub mod LabelSteps
 pub mod Named
 pub mod PlanEvents
 pub mod RangeEnds

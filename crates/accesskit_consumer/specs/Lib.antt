@@ -17,3 +17,5 @@ pub mod Deepest
 pub mod Controlled
 pub mod RoleSets
 pub mod SeenPoints
+pub mod LabelCourses
+pub mod LabelWalks

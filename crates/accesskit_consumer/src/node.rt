@@ -4,11 +4,13 @@ mod fields;
 pub(crate) mod geometry;
 mod inherited;
 mod kin;
+mod labels;
 mod node_reads;
 mod node_ref;
 mod roles;
 pub(crate) mod same;
 mod upward;
+mod values;
 
 pub use model::FullNodeId;
 pub use node_ref::NodeRef;

@@ -9,6 +9,7 @@ pub mod filter;
 mod filtered;
 mod hits;
 mod items;
+mod labelled_by;
 mod plain;
 mod range;
 mod sets;
@@ -20,6 +21,7 @@ pub use controls::Controls;
 pub use filter::{ByFn, Filter};
 pub use filtered::{FilteredChildren, FollowingFilteredSiblings, PrecedingFilteredSiblings};
 pub use items::Items;
+pub use labelled_by::LabelledBy;
 pub use model::filters::FilterResult;
 pub use plain::{
     ChildIds, Children, FollowingSiblingNodes, FollowingSiblings, PrecedingSiblingNodes,
