@@ -17,3 +17,5 @@ pub mod Deepest
 pub mod Controlled
 pub mod RoleSets
 pub mod SeenPoints
+pub mod RunPlaces
+pub mod Runs
