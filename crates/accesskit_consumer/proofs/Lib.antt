@@ -22,3 +22,5 @@ pub mod Showing
 pub mod Walked
 pub mod Weights
 pub mod RunSteps
+pub mod RisingNumbers
+pub mod CutTexts
