@@ -22,3 +22,6 @@ pub mod SeenFrom
 pub mod Showing
 pub mod Walked
 pub mod Weights
+pub mod RunSteps
+pub mod RisingNumbers
+pub mod CutTexts

@@ -15,7 +15,9 @@ pub mod ItemAnswers
 pub mod Ranges
 pub mod Deepest
 pub mod Controlled
-pub mod RoleSets
-pub mod SeenPoints
 pub mod LabelCourses
 pub mod LabelWalks
+pub mod RoleSets
+pub mod SeenPoints
+pub mod RunPlaces
+pub mod Runs
