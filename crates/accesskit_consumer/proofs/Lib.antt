@@ -24,3 +24,4 @@ pub mod Weights
 pub mod RunSteps
 pub mod RisingNumbers
 pub mod CutTexts
+pub mod FitRuns

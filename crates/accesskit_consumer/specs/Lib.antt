@@ -19,3 +19,4 @@ pub mod RoleSets
 pub mod SeenPoints
 pub mod RunPlaces
 pub mod Runs
+pub mod WellFormed
