@@ -25,3 +25,4 @@ pub mod Weights
 pub mod RunSteps
 pub mod RisingNumbers
 pub mod CutTexts
+pub mod FitRuns

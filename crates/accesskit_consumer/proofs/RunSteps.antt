@@ -1,5 +1,5 @@
 -- Steps from a run of a root to the ones beside it.
-use Rattle.std.proofs.Common.{◌≡◌, ℕ, List, [], ◌∷◌, ◌++◌, length, refl, sym, ap, ◌∙◌, append_assoc}
+use Rattle.std.proofs.Common.{◌≡◌, ℕ, [], ◌∷◌, ◌++◌, length, sym, ap, ◌∙◌, append_assoc}
 use Rattle.std.proofs.lemmas.List.{append_cancel_left, append_cancel_right}
 use Rattle.model.specs.declared.FullNodeId.{FullNodeId}
 use Rattle.model.specs.World.{World, children}
@@ -9,7 +9,6 @@ use Rattle.model.specs.Beside.{left_at, prior_at}
 use Rattle.model.specs.TextRuns.{run_filter, run_ids}
 use Rattle.model.proofs.Walks.Beside.{splits_at, start_left, start_prior}
 use Rattle.model.proofs.Walks.Between.{shown_where, next_is_shown, previous_is_shown}
-use Rattle.accesskit_consumer.specs.declared.text.runs.RunFilter.{RunFilter}
 use Rattle.accesskit_consumer.specs.Nodes.{world_at, id_at}
 use Rattle.accesskit_consumer.specs.Follows.{Follows}
 use Rattle.accesskit_consumer.specs.RunPlaces.{runs_after, runs_before}
@@ -41,7 +40,7 @@ module _ (w : World) (formed : IsFormed w) (root : FullNodeId) where
   pub last_among : (n : ℕ) (id : FullNodeId) → n ≡ length (children w root) → prior_at (run_filter w root) w (is_same root) (root, n) ≡ runs_before w root id ++ id ∷ [] → IsAmong id × (runs_after w root id ≡ [])
   last_among n id h e =
       let all : run_ids w root ≡ runs_before w root id ++ id ∷ [] =
-          sym (start_prior w formed (run_filter w root) root) ∙ sym (ap (λ k. prior_at (run_filter w root) w (is_same root) (root, k)) h) ∙ e in
+      sym (start_prior w formed (run_filter w root) root) ∙ sym (ap (λ k. prior_at (run_filter w root) w (is_same root) (root, k)) h) ∙ e in
       let among : IsAmong id = among_shown id (shown_where w formed (run_filter w root) root (runs_before w root id) [] id all) in
       let tails : id ∷ runs_after w root id ≡ id ∷ [] = append_cancel_left (runs_before w root id) (id ∷ runs_after w root id) (id ∷ []) (among ∙ all) in
       (among, cc)
@@ -53,14 +52,14 @@ module _ (w : World) (formed : IsFormed w) (root : FullNodeId) where
   next_among id next here e =
       let among : IsAmong next = among_shown next (next_is_shown w formed (run_filter w root) root id next (shown_among id here) e) in
       let there : (runs_before w root id ++ id ∷ []) ++ next ∷ runs_after w root next ≡ run_ids w root =
-          append_assoc (runs_before w root id) (id ∷ []) (next ∷ runs_after w root next) ∙ sym (ap (λ xs. runs_before w root id ++ id ∷ xs) e) ∙ here in
+      append_assoc (runs_before w root id) (id ∷ []) (next ∷ runs_after w root next) ∙ sym (ap (λ xs. runs_before w root id ++ id ∷ xs) e) ∙ here in
       (among, append_cancel_right (runs_before w root next) (runs_before w root id ++ id ∷ []) (next ∷ runs_after w root next) (among ∙ sym there))
 
   pub previous_among : (id previous : FullNodeId) → IsAmong id → runs_before w root id ≡ runs_before w root previous ++ previous ∷ [] → IsAmong previous × (runs_after w root previous ≡ id ∷ runs_after w root id)
   previous_among id previous here e =
       let among : IsAmong previous = among_shown previous (previous_is_shown w formed (run_filter w root) root id previous (shown_among id here) e) in
       let there : runs_before w root previous ++ previous ∷ id ∷ runs_after w root id ≡ run_ids w root =
-          sym (append_assoc (runs_before w root previous) (previous ∷ []) (id ∷ runs_after w root id)) ∙ sym (ap (λ xs. xs ++ id ∷ runs_after w root id) e) ∙ here in
+      sym (append_assoc (runs_before w root previous) (previous ∷ []) (id ∷ runs_after w root id)) ∙ sym (ap (λ xs. xs ++ id ∷ runs_after w root id) e) ∙ here in
       let tails : previous ∷ runs_after w root previous ≡ previous ∷ id ∷ runs_after w root id =
-          append_cancel_left (runs_before w root previous) (previous ∷ runs_after w root previous) (previous ∷ id ∷ runs_after w root id) (among ∙ sym there) in
+      append_cancel_left (runs_before w root previous) (previous ∷ runs_after w root previous) (previous ∷ id ∷ runs_after w root id) (among ∙ sym there) in
       (among, cc)

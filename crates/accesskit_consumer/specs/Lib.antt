@@ -21,3 +21,4 @@ pub mod RoleSets
 pub mod SeenPoints
 pub mod RunPlaces
 pub mod Runs
+pub mod WellFormed

@@ -1,8 +1,8 @@
 -- What a run shows, and how runs follow one another.
-use Rattle.std.specs.Prelude.{◌≡◌, List, [], ◌∷◌, ◌++◌}
+use Rattle.std.specs.Prelude.{◌≡◌, List, [], ◌∷◌, ◌++◌, map}
 use Rattle.model.specs.declared.FullNodeId.{FullNodeId}
 use Rattle.model.specs.World.{World}
-use Rattle.model.specs.TextRuns.{SentRun}
+use Rattle.model.specs.TextRuns.{SentRun, sent_run}
 use Rattle.accesskit_consumer.specs.declared.node.node_ref.NodeRef.{NodeRef}
 use Rattle.accesskit_consumer.specs.declared.text.runs.Run.{Run}
 use Rattle.accesskit_consumer.specs.Nodes.{world_at, id_at, data_at}
@@ -33,6 +33,10 @@ ids_after r = runs_after (run_world r) (root_id r) (run_id r)
 
 abbrev pub ids_before : Run → List FullNodeId
 ids_before r = runs_before (run_world r) (root_id r) (run_id r)
+
+-- the runs after it, as they were sent
+abbrev pub sents_after : Run → List SentRun
+sents_after r = map (sent_run (run_world r)) (ids_after r)
 
 -- it is the root's first run, or its last one
 pub record IsFirstOf (n : NodeRef) (r : Run) : Type 0 where

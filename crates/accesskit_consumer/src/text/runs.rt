@@ -12,7 +12,7 @@ use crate::walks::spot::{Member, Spot};
 use crate::walks::steps::{next_shown, previous_shown};
 use model::FullNodeId;
 use model::filters::FilterResult;
-use schema::Role;
+use schema::{Node, Role};
 
 /// The filter that shows the runs of a root: runs aren't looked into, and all else is.
 #[derive(Clone, Copy)]
@@ -46,8 +46,8 @@ pub(crate) struct Run<'a> {
 
 impl<'a> Run<'a> {
     ghost use Rattle.std.specs.Prelude.{[], MatchOption};
-    ghost use Rattle.model.specs.TextRuns.{run_ids};
-    ghost use Rattle.accesskit_consumer.specs.Runs.{root_of, run_of, sent_of, IsFirstOf, IsLastOf, IsAfter, IsBefore, ids_after, ids_before};
+    ghost use Rattle.model.specs.TextRuns.{run_ids, run_value, said_count, ends_with_newline};
+    ghost use Rattle.accesskit_consumer.specs.Runs.{root_of, run_id, run_of, sent_of, IsFirstOf, IsLastOf, IsAfter, IsBefore, ids_after, ids_before};
 
     /// The first run of a root, where there is one.
     pub(crate) fn first(root: NodeRef<'a>) -> Option<Run<'a>>
@@ -88,12 +88,7 @@ impl<'a> Run<'a> {
     {
         let root = self.root;
         root.state.know();
-        match following(
-            root.state,
-            root.id,
-            self.spot,
-            &RunFilter { root: root.id },
-        ) {
+        match following(root.state, root.id, self.spot, &RunFilter { root: root.id }) {
             Some(spot) => Some(Run { root, spot }),
             None => None,
         }
@@ -105,15 +100,45 @@ impl<'a> Run<'a> {
     {
         let root = self.root;
         root.state.know();
-        match preceding(
-            root.state,
-            root.id,
-            self.spot,
-            &RunFilter { root: root.id },
-        ) {
+        match preceding(root.state, root.id, self.spot, &RunFilter { root: root.id }) {
             Some(spot) => Some(Run { root, spot }),
             None => None,
         }
+    }
+
+    /// The id of the run's node.
+    pub(crate) fn id(self) -> FullNodeId
+        ensures { result ≡ run_id self.entry }
+    {
+        self.spot.member.id
+    }
+
+    /// What was sent of the run.
+    pub(crate) fn node(self) -> &'a Node
+        ensures { result.now ≡ (sent_of self.entry).node }
+    {
+        self.spot.member.node
+    }
+
+    /// The text of the run: an absent one reads as empty.
+    pub(crate) fn value(self) -> &'a str
+        ensures { result.now ≡ run_value (sent_of self.entry) }
+    {
+        self.node().value().unwrap_or("")
+    }
+
+    /// How many characters the run says that it has.
+    pub(crate) fn character_count(self) -> usize
+        ensures { result ≡ said_count (sent_of self.entry) }
+    {
+        self.node().character_lengths().len()
+    }
+
+    /// Whether the run's text ends with a newline.
+    pub(crate) fn ends_with_newline(self) -> bool
+        ensures { result ≡ ends_with_newline (sent_of self.entry) }
+    {
+        self.value().as_bytes().ends_with(b"\n")
     }
 
     /// The run as a node.

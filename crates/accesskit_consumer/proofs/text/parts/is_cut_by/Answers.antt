@@ -1,5 +1,5 @@
-use Rattle.std.proofs.Common.{◌≡◌, ◌<◌, ℕ, false, true, ◌∙◌, sym, refl, arith, get_or}
-use Rattle.std.specs.Str.{IsUtf8, IsCharBoundary}
+use Rattle.std.proofs.Common.{◌≡◌, false, true, ◌∙◌, sym, refl, arith}
+use Rattle.std.specs.Str.{IsCharBoundary}
 use Rattle.std.proofs.lemmas.Str.{IsUtf8-drop}
 use Rattle.accesskit_consumer.proofs.CutTexts.{one_cut, no_cut}
 use Rattle.accesskit_consumer.proofs.text.parts.is_cut_by.Goals as goal
