@@ -4,6 +4,7 @@
 
 pub mod filters;
 pub mod node;
+pub mod text;
 pub mod tree;
 pub mod walks;
 

@@ -4,22 +4,24 @@ mod controls;
 mod course;
 mod deepest;
 mod depths;
-mod ends;
+pub(crate) mod ends;
 pub mod filter;
 mod filtered;
 mod hits;
 mod items;
+mod labelled_by;
 mod plain;
 mod range;
 mod sets;
 pub(crate) mod siblings;
-mod spot;
-mod steps;
+pub(crate) mod spot;
+pub(crate) mod steps;
 
 pub use controls::Controls;
 pub use filter::{ByFn, Filter};
 pub use filtered::{FilteredChildren, FollowingFilteredSiblings, PrecedingFilteredSiblings};
 pub use items::Items;
+pub use labelled_by::LabelledBy;
 pub use model::filters::FilterResult;
 pub use plain::{
     ChildIds, Children, FollowingSiblingNodes, FollowingSiblings, PrecedingSiblingNodes,

@@ -27,10 +27,17 @@ impl<'a> Controls<'a> {
         ensures { let w = world_at node.entry in
             controls_left result ≡ map (node_in w) (controls_of w (id_at node.entry)) }
     {
+        Controls::over(node, node.node.controls())
+    }
+
+    /// Those that the list names in the tree of a node.
+    pub(crate) fn over(node: NodeRef<'a>, ids: &'a [NodeId]) -> Controls<'a>
+        ensures { controls_left result ≡ named_nodes (world_at node.entry) (id_at node.entry).tree ids.entry.now }
+    {
         Controls {
             state: node.state,
             tree: node.id.tree,
-            ids: node.node.controls(),
+            ids,
         }
     }
 }

@@ -1,0 +1,36 @@
+//! What a run says of its characters.
+ghost use Rattle.std.specs.Prelude.{◌≡◌, ◌&&◌, nat_lt, length};
+ghost use Rattle.std.specs.List.{list_all};
+ghost use Rattle.model.specs.TextRuns.{neighbours, is_cut_by as is_cut};
+
+/// Whether lengths of at least 1 cut a text into whole texts that make it up.
+pub(crate) fn is_cut_by(value: &str, lengths: &[u16]) -> bool
+    ensures { result ≡ is_cut value.now lengths.now }
+{
+    let mut rest = value;
+    for length in lengths {
+        if *length == 0 {
+            return false;
+        }
+        let Some((_, after)) = rest.split_at_checked(usize::from(*length)) else {
+            return false;
+        };
+        rest = after;
+    }
+    rest.is_empty()
+}
+
+/// Whether the numbers rise, and are below the count.
+pub(crate) fn rise_below(numbers: &[u16], count: usize) -> bool
+    ensures { result ≡ (list_all (λ p. nat_lt p.0 p.1) (neighbours numbers.now) && list_all (λ k. nat_lt k count) numbers.now) }
+{
+    let mut least = 0usize;
+    for number in numbers {
+        let number = usize::from(*number);
+        if number < least || number >= count {
+            return false;
+        }
+        least = number + 1;
+    }
+    true
+}
