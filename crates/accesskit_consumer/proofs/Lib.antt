@@ -21,3 +21,4 @@ pub mod SeenFrom
 pub mod Showing
 pub mod Walked
 pub mod Weights
+pub mod Mirroring

@@ -17,3 +17,4 @@ pub mod Deepest
 pub mod Controlled
 pub mod RoleSets
 pub mod SeenPoints
+pub mod Mirrored

@@ -2,6 +2,7 @@
 mod applying;
 mod dialogs;
 mod handler;
+mod mirror;
 mod refocusing;
 mod state;
 mod state_facts;
@@ -12,6 +13,7 @@ mod telling;
 mod tree_handle;
 
 pub use handler::TreeChangeHandler;
+pub use mirror::Mirror;
 pub use model::PlanEvent;
 pub use state::TreeState;
 pub use state_ref::StateRef;
@@ -19,3 +21,4 @@ pub use steps::Steps;
 pub use tree_changes::{Change, LookUps, NodeRecord, Plan, TreeRecord, UpdateError};
 pub use tree_handle::Tree;
 pub use tree_plan::plan_update;
+pub use tree_store::MirrorRecord;
