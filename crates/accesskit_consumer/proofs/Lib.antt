@@ -30,3 +30,4 @@ pub mod DocumentTexts
 pub mod RisingNumbers
 pub mod CutTexts
 pub mod FitRuns
+pub mod Mirroring

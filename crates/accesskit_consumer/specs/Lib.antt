@@ -25,3 +25,4 @@ pub mod RunPlaces
 pub mod Runs
 pub mod RunTexts
 pub mod WellFormed
+pub mod Mirrored

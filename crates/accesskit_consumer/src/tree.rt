@@ -1,6 +1,7 @@
 //! Trees and their states, and what a handler is told of their changes.
 mod dialogs;
 mod handler;
+mod mirror;
 mod refocusing;
 mod state;
 mod state_ref;
@@ -9,6 +10,7 @@ mod telling;
 mod tree_handle;
 
 pub use handler::TreeChangeHandler;
+pub use mirror::Mirror;
 pub use model::PlanEvent;
 pub use state::TreeState;
 pub use state_ref::StateRef;
@@ -16,3 +18,4 @@ pub use steps::Steps;
 pub use tree_changes::{Change, LookUps, NodeRecord, Plan, TreeRecord, UpdateError};
 pub use tree_handle::Tree;
 pub use tree_plan::plan_update;
+pub use tree_store::MirrorRecord;

@@ -9,3 +9,4 @@ pub mod KnownTrees
 pub mod Commits
 pub mod Decided
 pub mod SlotCounts
+pub mod CopiedSlots

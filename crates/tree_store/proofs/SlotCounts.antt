@@ -24,7 +24,7 @@ use Rattle.tree_store.specs.Stored.{Slots, nodes_shown, slots_shown, slot_at, re
 use Rattle.tree_store.proofs.Maps.{get-nodes_shown, contains-slots_shown, node_in}
 use Rattle.tree_store.proofs.Laid.{effect, data_laid}
 
-apart_back : (a b : FullNodeId) → is_same a b ≡ false → is_same b a ≡ false
+pub apart_back : (a b : FullNodeId) → is_same a b ≡ false → is_same b a ≡ false
 apart_back a b e = go (is_same b a) refl
   where
     go : (t : Bool) → is_same b a ≡ t → is_same b a ≡ false

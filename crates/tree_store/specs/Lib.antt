@@ -5,3 +5,4 @@ pub mod KeptNames
 pub mod Shown
 pub mod Overlays
 pub mod Commits
+pub mod Copied

@@ -2,6 +2,7 @@
 #![tactic(auto)]
 
 mod commit;
+mod copies;
 mod known;
 mod names;
 mod overlay;
@@ -10,6 +11,7 @@ mod slots;
 mod store;
 mod store_look_ups;
 
+pub use copies::MirrorRecord;
 pub use overlay::Overlay;
 pub use records::PresentTree;
 pub use store::Store;

@@ -1,0 +1,51 @@
+//! Copies of what a state keeps of its nodes.
+ghost use Rattle.std.specs.Prelude.{◌≡◌, IfOk, option_map};
+ghost use Rattle.model.specs.declared.FullNodeId.{FullNodeId};
+ghost use Rattle.tree_store.specs.Copied.{IsCopyOf, copy_at, copy_of};
+ghost use Rattle.tree_store.specs.Stored.{record_at};
+
+use crate::records::Record;
+use crate::slots::Slots;
+use crate::store::Store;
+use model::FullNodeId;
+use schema::Node;
+use std::alloc::{AllocError, Global};
+use std::collections::BTreeMap;
+use tree_changes::Place;
+
+/// A copy of a node's record: its place, and its data.
+#[derive(Drop)]
+pub struct MirrorRecord {
+    pub place: Option<Place>,
+    pub node: Node,
+}
+
+impl Store {
+    /// Copies of the records of all nodes, by id.
+    pub fn copy_records(&self, alloc: Global) -> Result<BTreeMap<FullNodeId, MirrorRecord>, AllocError>
+        ensures { IfOk result (λ copies. (id : FullNodeId) → IsCopyOf self.now.world id (copy_at copies.entries id)) }
+    {
+        copy_all(alloc, &self.nodes)
+    }
+}
+
+// a copy of each filled slot
+fn copy_all(alloc: Global, slots: &Slots) -> Result<BTreeMap<FullNodeId, MirrorRecord>, AllocError>
+    ensures { IfOk result (λ copies. (id : FullNodeId) → copy_at copies.entries id ≡ option_map copy_of (record_at slots.now.entries id)) }
+{
+    let mut copies = BTreeMap::new(alloc);
+    for (id, slot) in slots.iter() {
+        if let Some(record) = &**slot {
+            let copy = copy_record(record)?;
+            drop(copies.insert(*id, copy)?);
+        }
+    }
+    Ok(copies)
+}
+
+fn copy_record(record: &Record) -> Result<MirrorRecord, AllocError>
+    ensures { IfOk result (λ copy. copy ≡ copy_of record.now) }
+{
+    let node = record.node.clone()?;
+    Ok(MirrorRecord { place: record.place, node })
+}
