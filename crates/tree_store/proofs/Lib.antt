@@ -8,4 +8,5 @@ pub mod NamesKept
 pub mod KnownTrees
 pub mod Commits
 pub mod Decided
+pub mod Committed
 pub mod SlotCounts
