@@ -13,6 +13,7 @@ use Rattle.model.proofs.Worlds.Names.{is_name-true, is_name-itself}
 use Rattle.tree_changes.specs.declared.look_ups.TreeRecord.{TreeRecord}
 use Rattle.tree_changes.specs.Changes.{tree_change}
 use Rattle.tree_store.specs.declared.records.NameRecord.{NameRecord}
+use Rattle.tree_store.proofs.KeptSlots.{none_from_false}
 use Rattle.tree_store.specs.KeptNames.{name_cmp, name_kept, name_after, kept_in, IsNoBlank, IsOneOf}
 
 same_name : (k q : TreeId) → is_at (name_cmp k) q ≡ true → k ≡ q
@@ -33,19 +34,11 @@ still_there old new name v up q there = subst (λ o. IsSome o) (sym (up q)) (go 
     go true = refl
     go false = there
 
-none_kept : (o : Option NameRecord) → is_some o ≡ false → kept_in o ≡ (None, None)
-none_kept None e = refl
-none_kept (Some x) e = cc
-
 pub unkept : (o : Option NameRecord) → is_some o ≡ false → kept_in o ≡ (None, None)
-unkept = none_kept
-
-none_is : {A : Type 0} (o : Option A) → is_some o ≡ false → o ≡ None
-none_is None e = refl
-none_is (Some x) e = cc
+unkept o e = ap kept_in (none_from_false o e)
 
 pub unused : (o : Option NameRecord) → is_some (option_and_then (λ r. r.index) o) ≡ false → is_some (option_and_then (λ r. r.graft) o) ≡ false → kept_in o ≡ (None, None)
-unused o i g = λ j. (none_is (option_and_then (λ r. r.index) o) i j, none_is (option_and_then (λ r. r.graft) o) g j)
+unused o i g = λ j. (none_from_false (option_and_then (λ r. r.index) o) i j, none_from_false (option_and_then (λ r. r.graft) o) g j)
 
 unchanged : (name : TreeId) (rs : List TreeRecord) → ((k : ℕ) (d : TreeRecord) → k < length rs → name ≢ (get_or rs k d).id) → tree_change rs name ≡ None
 unchanged name [] h = refl
