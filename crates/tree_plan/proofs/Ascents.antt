@@ -190,6 +190,10 @@ module _ (w : World) (u : UpdateData) (o : IsOld w) (op : Opened) (c : Compared)
       go None e = (compared.is_named id n is).new e
       go (Some was) e = ((compared.is_named id n is).old was e).1
 
+  -- the node of this entry is where a climb starts
+  pub starts_at : (k : ℕ) (start : FullNodeId) → slice_get (map (λ (e : NodeId × NodeData). in_tree op.index e.0) u.nodes) k ≡ Some start → IsStart w u k start
+  starts_at k start at = is_start w u compared.compared.named_once k start (subst (λ j. slice_get (map (λ (e : NodeId × NodeData). in_tree j e.0) u.nodes) k ≡ Some start) opening.index at)
+
   -- ---- the nodes of the climb
 
   pub begins : (starts : List FullNodeId) (start : FullNodeId) (marks : Marks) → AreClimbed w u starts marks → ¬ (Contains starts start) → IsNamed w u start → IsClimb w u start (IsMarked start marks) start 0
@@ -215,6 +219,10 @@ module _ (w : World) (u : UpdateData) (o : IsOld w) (op : Opened) (c : Compared)
   below_root start id steps named leads other is =
       let tree : id.tree ≡ op.index = sym (leads_tree m id start steps leads) ∙ named.0 ∙ sym opening.index in
       other (same_Some id (in_tree op.index op.root) (sym (subst (λ k. root_of m k ≡ Some id) tree is) ∙ opening.root))
+
+  -- below the root a climb goes on
+  pub rises : (start id parent : FullNodeId) (steps : ℕ) → IsNamed w u start → LeadsDown m id start steps → id ≢ in_tree op.index op.root → ¬ (Gone w u id) → IsNext w c id parent → (k : ℕ) × Lists m (parent, k) id × ¬ (Gone w u parent) × IsFound w u parent
+  rises start id parent steps named leads other stays next = goes_up id parent (below_root start id steps named leads other) stays next
 
   pub known_reached : (id : FullNodeId) → (id ≡ in_tree op.index op.root) ⊎ ((s.has_moved ≡ false) × (n : Named) × (at c.named id ≡ Some n) × IsSome n.was) → Reached m id
   known_reached id (inl same) = subst (Reached m) (sym same) (root_reached m op.index (in_tree op.index op.root) opening.root)

@@ -6,11 +6,11 @@ use Rattle.model.specs.declared.FullNodeId.{FullNodeId}
 use Rattle.model.specs.World.{World, graft_name, root_named}
 use Rattle.model.specs.State.{Lists}
 use Rattle.model.specs.Update.{UpdateData, IsNamed}
-use Rattle.model.specs.Surgery.{Spot, Left, HasEntered, IsGraftedByNamed, Gone}
+use Rattle.model.specs.Surgery.{IsOld, Spot, Left, HasEntered, IsGraftedByNamed, Gone}
 use Rattle.tree_changes.specs.declared.look_ups.TreeRecord.{TreeRecord}
 use Rattle.tree_plan.specs.declared.passes.Compared.{Compared}
 use Rattle.tree_plan.specs.declared.removing.Removing.{Removing}
-use Rattle.tree_plan.specs.Passes.{has, IsCut, Loses, cut_record}
+use Rattle.tree_plan.specs.Passes.{IsComparison, has, IsCut, Loses, cut_record}
 
 -- What is found goes and isn't named, and stands in the queue once. Each record is that of a tree that loses its graft, each of another one.
 pub record IsFound (w : World) (u : UpdateData) (r : Removing) : Type 0 where
@@ -20,6 +20,12 @@ pub record IsFound (w : World) (u : UpdateData) (r : Removing) : Type 0 where
   pub goes : (id : FullNodeId) → Contains r.queue.items id → Gone w u id × ¬ (IsNamed w u id)
   pub trees : (t : TreeRecord) → Contains r.trees.items t → IsCut w u t.id × (t ≡ cut_record w t.id)
   pub trees_once : AllPairs (λ a b. a.id ≢ b.id) r.trees.items
+
+-- the update of an old world is compared, and this is found
+pub record IsRemoving (w : World) (u : UpdateData) (c : Compared) (r : Removing) : Type 0 where
+  pub old : IsOld w
+  pub compared : IsComparison w u c
+  pub found : IsFound w u r
 
 -- b has all that a has, and its queue begins with that of a
 pub record Extends (a b : Removing) : Type 0 where

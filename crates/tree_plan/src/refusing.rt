@@ -212,35 +212,6 @@ fn explain<L: LookUps>(
     }
 }
 
-/// Refuses a node that is listed twice.
-fn refuse_doubles<L: LookUps>(
-    alloc: Global,
-    look_ups: &mut L,
-    update: &TreeUpdate,
-    opened: &Opened,
-    compared: &Compared,
-    settled: &Settled,
-    removed: &Removed,
-) -> Result<(), UpdateError>
-    requires old { IsOld (L.world look_ups.old) }
-    requires opening { IsOpening (L.world look_ups.old) (update_data update.now) opened.now }
-    requires compared { IsComparison (L.world look_ups.old) (update_data update.now) compared.now }
-    requires settlement { IsSettlement (L.world look_ups.old) (update_data update.now) settled.now }
-    requires removal { IsRemoval (L.world look_ups.old) (update_data update.now) removed.now }
-    ensures world { L.world look_ups.new ≡ L.world look_ups.old }
-    ensures count { OnOk result (L.asked look_ups.new ≡ L.asked look_ups.old) }
-    ensures ok { OnOk result ((id : FullNodeId) (place : Option Place)
-        → at settled.now.old_places id ≡ Some place → ¬ (IsDoubled compared.now removed.now id place)) }
-    ensures err { IfErr result (λ e. IsRefusal (L.world look_ups.old) (update_data update.now) e) }
-{
-    for (id, place) in &settled.old_places {
-        if is_doubled(compared, removed, *id, *place) {
-            return Err(explain(alloc, look_ups, update, opened, compared, removed, *id));
-        }
-    }
-    Ok(())
-}
-
 /// Refuses an update that lists a named node nowhere, or a node twice.
 pub(crate) fn refuse_misplaced<L: LookUps>(
     alloc: Global,
@@ -262,5 +233,10 @@ pub(crate) fn refuse_misplaced<L: LookUps>(
     ensures err { IfErr result (λ e. IsRefusal (L.world look_ups.old) (update_data update.now) e) }
 {
     refuse_unlisted(compared)?;
-    refuse_doubles(alloc, look_ups, update, opened, compared, settled, removed)
+    for (id, place) in &settled.old_places {
+        if is_doubled(compared, removed, *id, *place) {
+            return Err(explain(alloc, look_ups, update, opened, compared, removed, *id));
+        }
+    }
+    Ok(())
 }

@@ -9,7 +9,7 @@ ghost use Rattle.model.specs.Surgery.{IsOld, HasEntered, Gone, IsSettled};
 ghost use Rattle.tree_changes.specs.Refusals.{IsRefusal};
 ghost use Rattle.tree_changes.specs.declared.look_ups.TreeRecord.{TreeRecord};
 ghost use Rattle.tree_plan.specs.Passes.{IsComparison, IsRemoval, Loses};
-ghost use Rattle.tree_plan.specs.Removing.{IsFound, LosesAll, Drops, Expands, LosesLeft, DropsLost, Follows, IsWorkedOff};
+ghost use Rattle.tree_plan.specs.Removing.{IsRemoving, LosesAll, Drops, Expands, LosesLeft, DropsLost, Follows, IsWorkedOff};
 
 use crate::passes::{Compared, Removed};
 use crate::records::tree_record;
@@ -31,9 +31,7 @@ struct Removing {
 /// A node that lost its spot goes, unless it came to another.
 fn lose(removing: &mut Removing, compared: &Compared, id: FullNodeId) -> Result<(), UpdateError>
     ghost setting: { World × UpdateData }
-    requires old { IsOld setting.0 }
-    requires compared { IsComparison setting.0 setting.1 compared.now }
-    requires found { IsFound setting.0 setting.1 removing.old }
+    requires so_far { IsRemoving setting.0 setting.1 compared.now removing.old }
     requires goes { ¬ (HasEntered setting.0 setting.1 id) → Gone setting.0 setting.1 id }
     ensures ok { OnOk result (LosesAll setting.0 setting.1 (id ∷ []) removing.old removing.new) }
     ensures err { IfErr result (λ e. IsRefusal setting.0 setting.1 e) }
@@ -60,9 +58,7 @@ fn lose_children(
     children: &[NodeId],
 ) -> Result<(), UpdateError>
     ghost setting: { World × UpdateData }
-    requires old { IsOld setting.0 }
-    requires compared { IsComparison setting.0 setting.1 compared.now }
-    requires found { IsFound setting.0 setting.1 removing.old }
+    requires so_far { IsRemoving setting.0 setting.1 compared.now removing.old }
     requires goes { (c : FullNodeId) → Contains (map (in_tree parent.tree) children.now) c
         → ¬ (HasEntered setting.0 setting.1 c) → Gone setting.0 setting.1 c }
     ensures ok { OnOk result (LosesAll setting.0 setting.1
@@ -110,9 +106,7 @@ fn drop_tree<L: LookUps>(
 ) -> Result<(), UpdateError>
     ghost setting: { World × UpdateData }
     requires world { L.world look_ups.old ≡ setting.0 }
-    requires old { IsOld setting.0 }
-    requires compared { IsComparison setting.0 setting.1 compared.now }
-    requires found { IsFound setting.0 setting.1 removing.old }
+    requires so_far { IsRemoving setting.0 setting.1 compared.now removing.old }
     requires lost { (g : FullNodeId) × (graft_name setting.0 g ≡ Some name.now)
         × (Gone setting.0 setting.1 g ⊎ IsNamed setting.0 setting.1 g) }
     requires fresh { (t : TreeRecord) → Contains removing.old.trees.items t → t.id ≢ name.now }
@@ -141,9 +135,7 @@ fn expand<L: LookUps>(
 ) -> Result<(), UpdateError>
     ghost setting: { World × UpdateData }
     requires world { L.world look_ups.old ≡ setting.0 }
-    requires old { IsOld setting.0 }
-    requires compared { IsComparison setting.0 setting.1 compared.now }
-    requires found { IsFound setting.0 setting.1 removing.old }
+    requires so_far { IsRemoving setting.0 setting.1 compared.now removing.old }
     requires queued { Contains removing.old.queue.items id }
     requires fresh { (t : TreeRecord) → Contains removing.old.trees.items t
         → graft_name setting.0 id ≢ Some t.id }
@@ -166,9 +158,7 @@ fn expand<L: LookUps>(
 /// What left its spot loses it.
 fn lose_left(removing: &mut Removing, compared: &Compared) -> Result<(), UpdateError>
     ghost setting: { World × UpdateData }
-    requires old { IsOld setting.0 }
-    requires compared { IsComparison setting.0 setting.1 compared.now }
-    requires found { IsFound setting.0 setting.1 removing.old }
+    requires so_far { IsRemoving setting.0 setting.1 compared.now removing.old }
     ensures ok { OnOk result (LosesLeft setting.0 setting.1 removing.old removing.new) }
     ensures err { IfErr result (λ e. IsRefusal setting.0 setting.1 e) }
 {
@@ -186,9 +176,7 @@ fn drop_lost<L: LookUps>(
 ) -> Result<(), UpdateError>
     ghost setting: { World × UpdateData }
     requires world { L.world look_ups.old ≡ setting.0 }
-    requires old { IsOld setting.0 }
-    requires compared { IsComparison setting.0 setting.1 compared.now }
-    requires found { IsFound setting.0 setting.1 removing.old }
+    requires so_far { IsRemoving setting.0 setting.1 compared.now removing.old }
     requires none { removing.old.trees.items ≡ [] }
     ensures world { L.world look_ups.new ≡ L.world look_ups.old }
     ensures count { L.asked look_ups.new ≤ L.asked look_ups.old + length compared.now.lost.items }
@@ -210,9 +198,7 @@ fn follow<L: LookUps>(
 ) -> Result<(), UpdateError>
     ghost setting: { World × UpdateData }
     requires world { L.world look_ups.old ≡ setting.0 }
-    requires old { IsOld setting.0 }
-    requires compared { IsComparison setting.0 setting.1 compared.now }
-    requires found { IsFound setting.0 setting.1 removing.old }
+    requires so_far { IsRemoving setting.0 setting.1 compared.now removing.old }
     requires lost { (t : TreeRecord) → Contains removing.old.trees.items t
         → Loses setting.0 setting.1 t.id }
     ensures world { L.world look_ups.new ≡ L.world look_ups.old }
@@ -240,9 +226,7 @@ fn find_all<L: LookUps>(
 ) -> Result<(), UpdateError>
     ghost setting: { World × UpdateData }
     requires world { L.world look_ups.old ≡ setting.0 }
-    requires old { IsOld setting.0 }
-    requires compared { IsComparison setting.0 setting.1 compared.now }
-    requires found { IsFound setting.0 setting.1 removing.old }
+    requires so_far { IsRemoving setting.0 setting.1 compared.now removing.old }
     requires none { removing.old.trees.items ≡ [] }
     ensures world { L.world look_ups.new ≡ L.world look_ups.old }
     ensures count { OnOk result (L.asked look_ups.new

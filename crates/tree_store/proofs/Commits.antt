@@ -31,7 +31,7 @@ use Rattle.tree_store.specs.Shown.{world_shown, NamesAreTrue, IsStored}
 use Rattle.tree_store.specs.Commits.{record_moved_to, record_after, after_change, HasNoSpare, HasRoomFor}
 use Rattle.tree_store.proofs.Maps.{node_in, get-nodes_shown, contains-slots_shown}
 use Rattle.tree_store.proofs.KeptReads.{stored_record}
-use Rattle.tree_store.proofs.Laid.{effect, get-put_all}
+use Rattle.tree_changes.proofs.Overlays.{effect, get-put_all}
 
 some_node : (r : Option Record) → is_some (node_in r) ≡ is_some r
 some_node None = refl

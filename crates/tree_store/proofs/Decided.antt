@@ -17,7 +17,7 @@ use Rattle.model.specs.declared.FullNodeId.{FullNodeId}
 use Rattle.model.specs.FullIds.{full_cmp, full_total}
 use Rattle.model.specs.World.{World, index_of}
 use Rattle.model.specs.Update.{UpdateData, index_for, known_after, named_at}
-use Rattle.model.proofs.Worlds.Names.{known-index_of, is_name-true, is_name-itself}
+use Rattle.model.proofs.Worlds.Names.{same_id, known-index_of, is_name-true, is_name-itself}
 use Rattle.tree_changes.specs.declared.look_ups.TreeRecord.{TreeRecord}
 use Rattle.tree_changes.specs.declared.decision.NodeChange.{NodeChange}
 use Rattle.tree_changes.specs.declared.decision.NodeChange.TheVariants.{Put, Gone}
@@ -27,9 +27,7 @@ use Rattle.tree_changes.specs.Looks.{IsTreeRecord}
 use Rattle.tree_changes.specs.Decisions.{FindsData, IsDecision}
 use Rattle.tree_store.specs.Commits.{entry_of, with_name, texts_after, HasEntries, AreEntriesApart}
 use Rattle.tree_store.proofs.Searches.{found, below_by}
-
-one : (id other : FullNodeId) → id.tree ≡ other.tree → id.node ≡ other.node → id ≡ other
-one id other tree node = λ i. record { tree = tree i; node = node i }
+use Rattle.tree_store.proofs.WrittenSlots.{if_some}
 
 same_node : (a b : NodeId) (o : Option NodeId) → o ≡ Some a → o ≡ Some b → a ≡ b
 same_node a b o e f = let j : Some a ≡ Some b = sym e ∙ f in cc
@@ -75,10 +73,6 @@ module _ (w : World) (u : UpdateData) (d : Decision) (decided : IsDecision w u d
   within : (nodes : List (NodeId × NodeData)) (k : ℕ) (n : NodeId) → slice_get (map (λ e. e.0) nodes) k ≡ Some n → k < length nodes
   within nodes k n at = subst (λ m. k < m) (length-keys_of nodes) (slice_get_within (map (λ e. e.0) nodes) k n at)
 
-  if_some : {P : ℕ → Type 0} (o : Option ℕ) → ((k : ℕ) → o ≡ Some k → P k) → IfSome o P
-  if_some None h = tt
-  if_some (Some k) h = h k refl
-
   pub has_entries : HasEntries u.nodes d.nodes.items
   has_entries i e less = if_some (entry_of (get_or d.nodes.items i e).1) (λ k is. within u.nodes k (get_or d.nodes.items i e).0.node (at_index i e less k is).1)
 
@@ -86,7 +80,7 @@ module _ (w : World) (u : UpdateData) (d : Decision) (decided : IsDecision w u d
   entries_apart i j e less end k own other =
       let a = at_index i e (omega (arith, less, end)) k own in
       let b = at_index j e end k other in
-      let same : (get_or d.nodes.items i e).0 ≡ (get_or d.nodes.items j e).0 = one _ _ (a.0 ∙ sym b.0) (same_node _ _ (named_at u k) a.1 b.1) in
+      let same : (get_or d.nodes.items i e).0 ≡ (get_or d.nodes.items j e).0 = same_id _ _ (a.0 ∙ sym b.0) (same_node _ _ (named_at u k) a.1 b.1) in
       let below = below_by d.nodes.items decided.ascending (get_or d.nodes.items i e).0 i j e less end in
       let tied = tied_itself full_total (get_or d.nodes.items i e).0 in
       let bad = sym (ap (full_cmp (get_or d.nodes.items i e).0) same) ∙ tied in

@@ -13,7 +13,8 @@ use Rattle.tree_changes.specs.Changes.{tree_from, set_tree, put_tree}
 use Rattle.tree_store.specs.declared.records.KnownTree.{KnownTree}
 use Rattle.tree_store.specs.declared.records.PresentTree.{PresentTree}
 use Rattle.tree_store.specs.Stored.{tree_of, tree_in, trees_shown}
-use Rattle.tree_store.proofs.Maps.{get-set_tree, get-trees, tied_same, tied_apart}
+use Rattle.tree_changes.proofs.Overlays.{get-set_tree}
+use Rattle.tree_store.proofs.Maps.{get-trees, tied_same, tied_apart}
 
 none_more : (b : Bool) (o : Option Tree) → o ≡ None → cond b None o ≡ None
 none_more true o e = refl

@@ -29,23 +29,7 @@ use Rattle.tree_changes.specs.Changes.{NodeChanges, change_at, changed_data, pla
 use Rattle.tree_changes.specs.Looks.{IsPlaceOf, IsTreeRecord, tree_named}
 use Rattle.tree_changes.specs.Decisions.{IsDecision}
 use Rattle.tree_store.specs.Overlays.{root_recorded}
-use Rattle.tree_store.proofs.Maps.{get-set_at}
-
--- the data after a change that may be missing
-abbrev pub effect : List (NodeId × NodeData) → Option NodeChange → Option NodeData → Option NodeData
-effect nodes None before = before
-effect nodes (Some c) before = changed_data nodes c before
-
-by_case : (nodes : List (NodeId × NodeData)) (b : Bool) (q k : FullNodeId) (m : FinMap full_cmp NodeData) (c : NodeChange) (o : Option NodeChange) → (b ≡ true → q ≡ k) → cond b (changed_data nodes c (get m k)) (effect nodes o (get m q)) ≡ effect nodes (cond b (Some c) o) (get m q)
-by_case nodes true q k m c o e = ap (λ x. changed_data nodes c (get m x)) (sym (e refl))
-by_case nodes false q k m c o e = refl
-
-pub get-put_all : (nodes : List (NodeId × NodeData)) (m : FinMap full_cmp NodeData) (cs : NodeChanges) (q : FullNodeId) → get (put_all nodes m cs) q ≡ effect nodes (change_at cs q) (get m q)
-get-put_all nodes m [] q = refl
-get-put_all nodes m (e ∷ es) q =
-    get-set_at (put_all nodes m es) e.0 (changed_data nodes e.1 (get m e.0)) q
-    ∙ ap (cond (eq_by_cmp full_cmp q e.0) (changed_data nodes e.1 (get m e.0))) (get-put_all nodes m es q)
-    ∙ by_case nodes (eq_by_cmp full_cmp q e.0) q e.0 m e.1 (change_at es q) (λ b. exact_full q e.0 ((Equal-is (full_cmp q e.0)).0 b))
+use Rattle.tree_changes.proofs.Overlays.{effect, get-put_all}
 
 -- that a node stands at a place is an equation
 pub place_is_prop : (w : World) (id : FullNodeId) (place : Option Place) → IsProp (IsPlaceOf w id place)

@@ -8,5 +8,6 @@ pub mod NamesKept
 pub mod KnownTrees
 pub mod Commits
 pub mod Decided
+pub mod Committed
 pub mod SlotCounts
 pub mod CopiedSlots

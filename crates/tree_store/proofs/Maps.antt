@@ -7,26 +7,17 @@ use Rattle.std.specs.Map.{lookup}
 use Rattle.std.specs.BTreeMap.{is_at}
 use Rattle.std.specs.FinSet as set
 use Rattle.std.specs.Prelude.{◌||◌, is_some, slice_get, option_and_then}
-use Rattle.std.specs.FinMap.{FinMap, get, get-empty, get-insert, get-remove}
+use Rattle.std.specs.FinMap.{get, get-empty}
 use Rattle.std.specs.declared.boxed.Box.{Box}
 use Rattle.std.specs.declared.alloc.Global.{Global}
 use Rattle.std.proofs.lemmas.Map.Lookups.{exact_unsigned}
 use Rattle.schema.specs.NodeData.{NodeData}
 use Rattle.model.specs.declared.FullNodeId.{FullNodeId}
 use Rattle.model.specs.FullIds.{full_cmp, full_total}
-use Rattle.model.specs.World.{Tree}
-use Rattle.tree_changes.specs.Changes.{set_at, set_tree}
+use Rattle.tree_changes.proofs.Overlays.{get-set_at, get-set_tree}
 use Rattle.tree_store.specs.declared.records.Record.{Record}
 use Rattle.tree_store.specs.declared.records.KnownTree.{KnownTree}
 use Rattle.tree_store.specs.Stored.{Slots, nodes_shown, trees_shown, slots_shown, tree_of, tree_in, slot_at, record_at, record_in}
-
-pub get-set_at : (m : FinMap full_cmp NodeData) (k : FullNodeId) (d : Option NodeData) (q : FullNodeId) → get (set_at m k d) q ≡ cond (eq_by_cmp full_cmp q k) d (get m q)
-get-set_at m k (Some d) q = get-insert full_total m k d q
-get-set_at m k None q = get-remove full_total m k q
-
-pub get-set_tree : (m : FinMap nat_cmp Tree) (k : ℕ) (t : Option Tree) (q : ℕ) → get (set_tree m k t) q ≡ cond (eq_by_cmp nat_cmp q k) t (get m q)
-get-set_tree m k (Some t) q = get-insert nat_cmp_total m k t q
-get-set_tree m k None q = get-remove nat_cmp_total m k q
 
 -- the data of a record that may be missing
 abbrev pub node_in : Option Record → Option NodeData

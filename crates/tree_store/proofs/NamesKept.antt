@@ -1,6 +1,6 @@
 -- Names whose records are made, written and taken back.
-use Rattle.std.proofs.Common.{◌≡◌, ◌≢◌, ℕ, suc, ◌+◌, ◌<◌, length, get_or, List, [], ◌∷◌, Bool, true, false, cond, Option, Some, None, refl, sym, ap, subst, ◌∙◌, arith, inl, inr}
-use Rattle.std.specs.Prelude.{is_some, IsSome, AllPairs, option_and_then, Contains, ◌⊎◌}
+use Rattle.std.proofs.Common.{◌≡◌, ◌≢◌, ℕ, suc, ◌+◌, ◌<◌, length, get_or, List, [], ◌∷◌, Bool, true, false, cond, Option, Some, None, refl, sym, ap, subst, ◌∙◌, arith, inl, inr, ⊎_elim}
+use Rattle.std.specs.Prelude.{is_some, IsSome, All, AllPairs, option_and_then, Contains, ◌⊎◌}
 use Rattle.std.specs.Map.{keys_of, lookup}
 use Rattle.model.proofs.Members.{contains_none, contains_head, contains_later, contains_cases}
 use Rattle.std.specs.BTreeMap.{is_at}
@@ -13,7 +13,8 @@ use Rattle.model.proofs.Worlds.Names.{is_name-true, is_name-itself}
 use Rattle.tree_changes.specs.declared.look_ups.TreeRecord.{TreeRecord}
 use Rattle.tree_changes.specs.Changes.{tree_change}
 use Rattle.tree_store.specs.declared.records.NameRecord.{NameRecord}
-use Rattle.tree_store.specs.KeptNames.{name_cmp, name_kept, name_after, kept_in}
+use Rattle.tree_store.proofs.KeptSlots.{none_from_false}
+use Rattle.tree_store.specs.KeptNames.{name_cmp, name_kept, name_after, kept_in, IsNoBlank, IsOneOf}
 
 same_name : (k q : TreeId) → is_at (name_cmp k) q ≡ true → k ≡ q
 same_name k q e = is_name-true q k e
@@ -33,19 +34,11 @@ still_there old new name v up q there = subst (λ o. IsSome o) (sym (up q)) (go 
     go true = refl
     go false = there
 
-none_kept : (o : Option NameRecord) → is_some o ≡ false → kept_in o ≡ (None, None)
-none_kept None e = refl
-none_kept (Some x) e = cc
-
 pub unkept : (o : Option NameRecord) → is_some o ≡ false → kept_in o ≡ (None, None)
-unkept = none_kept
-
-none_is : {A : Type 0} (o : Option A) → is_some o ≡ false → o ≡ None
-none_is None e = refl
-none_is (Some x) e = cc
+unkept o e = ap kept_in (none_from_false o e)
 
 pub unused : (o : Option NameRecord) → is_some (option_and_then (λ r. r.index) o) ≡ false → is_some (option_and_then (λ r. r.graft) o) ≡ false → kept_in o ≡ (None, None)
-unused o i g = λ j. (none_is (option_and_then (λ r. r.index) o) i j, none_is (option_and_then (λ r. r.graft) o) g j)
+unused o i g = λ j. (none_from_false (option_and_then (λ r. r.index) o) i j, none_from_false (option_and_then (λ r. r.graft) o) g j)
 
 unchanged : (name : TreeId) (rs : List TreeRecord) → ((k : ℕ) (d : TreeRecord) → k < length rs → name ≢ (get_or rs k d).id) → tree_change rs name ≡ None
 unchanged name [] h = refl
@@ -95,3 +88,55 @@ key_is_kept (e ∷ es) name c = go (is_at (name_cmp name) e.0) refl (contains_ca
     go true same h later = refl
     go false same (inl is) later = let t : is_at (name_cmp name) e.0 ≡ true = ap (λ k. is_at (name_cmp name) k) is ∙ is_name-itself name in cc
     go false same (inr inside) later = later inside
+
+-- ---- what was made is taken back
+
+pub no_blank_index : (r : Option NameRecord) → is_some (option_and_then (λ x. x.index) r) ≡ true → IsNoBlank r
+no_blank_index r some blank = let no : false ≡ true = sym (ap (λ p. is_some p.0) blank) ∙ some in cc
+
+pub no_blank_graft : (r : Option NameRecord) → is_some (option_and_then (λ x. x.graft) r) ≡ true → IsNoBlank r
+no_blank_graft r some blank = let no : false ≡ true = sym (ap (λ p. is_some p.1) blank) ∙ some in cc
+
+-- one name is taken away
+module _ (old new : TreeId → Option NameRecord) (name : TreeId) (up : (q : TreeId) → new q ≡ cond (is_at (name_cmp name) q) None (old q)) where
+  pub away : new name ≡ None
+  away = up name ∙ ap (λ b. cond b None (old name)) (is_name-itself name)
+
+  pub fewer : (q : TreeId) → IsSome (new q) → IsSome (old q)
+  fewer q there = go (is_at (name_cmp name) q) (subst (λ o. IsSome o) (up q) there)
+    where
+      go : (b : Bool) → IsSome (cond b None (old q)) → IsSome (old q)
+      go true h = cc
+      go false h = h
+
+-- one name is put
+pub one_more : (old new : TreeId → Option NameRecord) (name : TreeId) (v : NameRecord) → ((q : TreeId) → new q ≡ cond (is_at (name_cmp name) q) (Some v) (old q)) → (q : TreeId) → IsSome (new q) → IsSome (old q) ⊎ (name ≡ q)
+one_more old new name v up q there = go (is_at (name_cmp name) q) refl (subst (λ o. IsSome o) (up q) there)
+  where
+    go : (b : Bool) → is_at (name_cmp name) q ≡ b → IsSome (cond b (Some v) (old q)) → IsSome (old q) ⊎ (name ≡ q)
+    go true e h = inr (same_name name q e)
+    go false e h = inl h
+
+-- a name that has no blank record has none after fewer are there that say the same
+pub stays_no_blank : (old new : Option NameRecord) → kept_in new ≡ kept_in old → (IsSome new → IsSome old) → IsNoBlank old → IsNoBlank new
+stays_no_blank old None same fewer kept blank = refl
+stays_no_blank None (Some x) same fewer kept blank = let no = fewer refl in cc
+stays_no_blank (Some y) (Some x) same fewer kept blank = let no : Some y ≡ None = kept (sym same ∙ blank) in cc
+
+-- after the made records are taken back there are no more than before
+pub taken_back : (rs : List TreeRecord) (old made new : TreeId → Option NameRecord) → ((q : TreeId) → kept_in (made q) ≡ kept_in (old q)) → ((q : TreeId) → IsSome (made q) → IsSome (old q) ⊎ IsOneOf rs q) → ((q : TreeId) → kept_in (new q) ≡ kept_in (made q))
+    → ((q : TreeId) → IsSome (new q) → IsSome (made q)) → All (λ r. IsNoBlank (new r.id)) rs → (q : TreeId) → IsSome (new q) → IsSome (old q)
+taken_back rs old made new same_made more same less taken q there = by_old (old q) refl (more q (less q there))
+  where
+    by_old : (o : Option NameRecord) → old q ≡ o → IsSome (old q) ⊎ IsOneOf rs q → IsSome (old q)
+    by_old o e (inl h) = h
+    by_old (Some x) e (inr one) = ap is_some e
+    by_old None e (inr one) =
+        let no_blank : IsNoBlank (new q) = subst (λ k. IsNoBlank (new k)) one.2 (subst (λ (r : TreeRecord). IsNoBlank (new r.id)) one.1.2 (taken one.1.0 one.0 one.1.1)) in
+        let none : new q ≡ None = no_blank (same q ∙ same_made q ∙ ap kept_in e) in
+        let no : false ≡ true = sym (ap is_some none) ∙ there in cc
+
+-- one more of these names is made
+pub made_more : (rs : List TreeRecord) (old before after : TreeId → Option NameRecord) (r : TreeRecord) → Contains rs r → ((q : TreeId) → IsSome (before q) → IsSome (old q) ⊎ IsOneOf rs q) → ((q : TreeId) → IsSome (after q) → IsSome (before q) ⊎ (r.id ≡ q))
+    → (q : TreeId) → IsSome (after q) → IsSome (old q) ⊎ IsOneOf rs q
+made_more rs old before after r «in» more made q there = ⊎_elim (more q) (λ e. inr (r, «in», e)) (made q there)

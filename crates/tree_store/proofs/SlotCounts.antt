@@ -22,7 +22,8 @@ use Rattle.tree_store.specs.Kept.{Kept}
 use Rattle.tree_store.specs.Commits.{HasSlots}
 use Rattle.tree_store.specs.Stored.{Slots, nodes_shown, slots_shown, slot_at, record_at, record_in}
 use Rattle.tree_store.proofs.Maps.{get-nodes_shown, contains-slots_shown, node_in}
-use Rattle.tree_store.proofs.Laid.{effect, data_laid}
+use Rattle.tree_changes.proofs.Overlays.{effect}
+use Rattle.tree_store.proofs.Laid.{data_laid}
 
 pub apart_back : (a b : FullNodeId) → is_same a b ≡ false → is_same b a ≡ false
 apart_back a b e = go (is_same b a) refl

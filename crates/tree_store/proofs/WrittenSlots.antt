@@ -47,7 +47,7 @@ or-true false = refl
 at_itself : (q : FullNodeId) → is_at (full_cmp q) q ≡ true
 at_itself q = (eq_by_cmp_equiv full_total).refl q
 
-if_some : {P : ℕ → Type 0} (o : Option ℕ) → ((k : ℕ) → o ≡ Some k → P k) → IfSome o P
+pub if_some : {P : ℕ → Type 0} (o : Option ℕ) → ((k : ℕ) → o ≡ Some k → P k) → IfSome o P
 if_some None h = tt
 if_some (Some k) h = h k refl
 

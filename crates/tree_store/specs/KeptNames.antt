@@ -1,5 +1,5 @@
 -- What is kept of names, and what becomes of it.
-use Rattle.std.specs.Prelude.{◌≡◌, ℕ, List, Option, Some, None, All, IsSome, ◌||◌, is_some, option_and_then, if◌then◌else◌}
+use Rattle.std.specs.Prelude.{◌≡◌, ℕ, List, Option, Some, None, All, Contains, IsSome, ◌⊎◌, ◌||◌, is_some, option_and_then, if◌then◌else◌}
 use Rattle.std.specs.BTreeMap.{BTreeMap, get}
 use Rattle.std.specs.Ordering.{nat_cmp}
 use Rattle.std.specs.Cmp.Lexicographic.{slice_cmp}
@@ -32,3 +32,19 @@ name_after (Some r) before = name_kept r
 -- each changed name has a record
 abbrev pub HasNames : BTreeMap TreeId NameRecord → List TreeRecord → Type 0
 HasNames m rs = All (λ r. IsSome (name_at m r.id)) rs
+
+-- a record that is there says something of its name
+abbrev pub IsNoBlank : Option NameRecord → Type 0
+IsNoBlank r = kept_in r ≡ (None, None) → r ≡ None
+
+-- one of these records is of this name
+abbrev pub IsOneOf : List TreeRecord → TreeId → Type 0
+IsOneOf rs name = (r : TreeRecord) × Contains rs r × (r.id ≡ name)
+
+-- the later map has no record of a name of which the earlier one has none
+abbrev pub HasNoMore : BTreeMap TreeId NameRecord → BTreeMap TreeId NameRecord → Type 0
+HasNoMore earlier later = (name : TreeId) → IsSome (name_at later name) → IsSome (name_at earlier name)
+
+-- or it is one of these names
+abbrev pub HasNoMoreBut : List TreeRecord → BTreeMap TreeId NameRecord → BTreeMap TreeId NameRecord → Type 0
+HasNoMoreBut rs earlier later = (name : TreeId) → IsSome (name_at later name) → IsSome (name_at earlier name) ⊎ IsOneOf rs name

@@ -1,5 +1,5 @@
 //! The first state, and how changes come into a state: room is made for them, and then they are written.
-ghost use Rattle.std.specs.Prelude.{◌≡◌, ◌≢◌, ◌<◌, true, None, map, length, All, AllPairs, IfSome, option_map, IfOk, OnOk, OnErr, if◌then◌else◌};
+ghost use Rattle.std.specs.Prelude.{◌≡◌, ◌≢◌, ◌<◌, true, None, map, length, All, AllPairs, Contains, IfSome, option_map, IfOk, OnOk, OnErr, if◌then◌else◌};
 ghost use Rattle.std.specs.Vec.{vec_len, vec_capacity};
 ghost use Rattle.tree_store.specs.Stored.{texts_shown, names_shown, trees_shown, record_at};
 ghost use Rattle.schema.specs.UpdateData.{update_data, info_data};
@@ -10,7 +10,7 @@ ghost use Rattle.std.specs.List.Sorted.{IsStrictlySortedBy};
 ghost use Rattle.tree_changes.specs.Decisions.{IsDecision};
 ghost use Rattle.tree_store.specs.Kept.{IsTight};
 ghost use Rattle.tree_store.specs.Commits.{texts_after, with_name, after_change, IsReadyFor, HasEntries, AreEntriesApart, HasNoSpare, HasRoomFor};
-ghost use Rattle.tree_store.specs.KeptNames.{name_at, name_after, kept_in, HasNames};
+ghost use Rattle.tree_store.specs.KeptNames.{name_at, name_after, kept_in, HasNames, HasNoMore};
 ghost use Rattle.model.specs.declared.FullNodeId.{FullNodeId};
 ghost use Rattle.schema.specs.declared.TreeId.{TreeId};
 
@@ -34,6 +34,7 @@ impl Store {
         ensures same { self.new.world ≡ self.old.world }
         ensures ok { OnOk result (IsReadyFor self.new (update_data update.now) decision.now) }
         ensures err { OnErr result (IsTight self.new) }
+        ensures names { OnErr result ((name : TreeId) → Contains self.new.names name → Contains self.old.names name) }
     {
         let is_new = self.tree_index(update.tree_id).is_none();
         make_all(
@@ -165,6 +166,7 @@ fn make_all(
     ensures there { OnOk result (HasNames names.new decision.now.trees.items) }
     ensures spare { OnOk result (is_new ≡ true → vec_len known.new < vec_capacity known.new) }
     ensures err { OnErr result (HasNoSpare nodes.new.entries) }
+    ensures fewer { OnErr result (HasNoMore names.old names.new) }
 {
     make_room(alloc, nodes, decision.nodes.as_slice())?;
     if make_names(names, decision.trees.as_slice()).is_err() {

@@ -1,10 +1,10 @@
 //! The known trees by index, and the names that are known or grafted.
-ghost use Rattle.std.specs.Prelude.{◌≡◌, option_copied, option_map, option_and_then, slice_get, Some, None, ◌≢◌, cond, IsSome, OnOk, AllPairs};
+ghost use Rattle.std.specs.Prelude.{◌≡◌, option_copied, option_map, option_and_then, slice_get, Some, None, ◌≢◌, cond, IsSome, OnOk, OnErr, All, AllPairs, ◌⊎◌};
 ghost use Rattle.tree_store.specs.Stored.{tree_of};
 ghost use Rattle.std.specs.Ordering.{is_eq};
 ghost use Rattle.schema.specs.declared.TreeId.{TreeId};
 ghost use Rattle.tree_changes.specs.Changes.{tree_change};
-ghost use Rattle.tree_store.specs.KeptNames.{name_at, name_cmp, name_kept, name_after, kept_in, HasNames};
+ghost use Rattle.tree_store.specs.KeptNames.{name_at, name_cmp, name_kept, name_after, kept_in, HasNames, HasNoMore, HasNoMoreBut, IsNoBlank};
 
 use crate::records::{KnownTree, NameRecord, PresentTree};
 use model::FullNodeId;
@@ -151,7 +151,9 @@ pub(crate) fn make_names(
     records: &[TreeRecord],
 ) -> Result<(), AllocError>
     ensures same { (name : TreeId) → kept_in (name_at names.new name) ≡ kept_in (name_at names.old name) }
+    ensures made { HasNoMoreBut records.now names.old names.new }
     ensures ok { OnOk result (HasNames names.new records.now) }
+    ensures err { OnErr result (HasNoMore names.old names.new) }
 {
     for record in records {
         if make_name(names, &record.id).is_err() {
@@ -165,6 +167,7 @@ pub(crate) fn make_names(
 fn make_name(names: &mut BTreeMap<TreeId, NameRecord>, name: &TreeId) -> Result<(), AllocError>
     ensures same { (q : TreeId) → kept_in (name_at names.new q) ≡ kept_in (name_at names.old q) }
     ensures there { (q : TreeId) → IsSome (name_at names.old q) → IsSome (name_at names.new q) }
+    ensures made { (q : TreeId) → IsSome (name_at names.new q) → IsSome (name_at names.old q) ⊎ (name.now ≡ q) }
     ensures ok { OnOk result (IsSome (name_at names.new name.now)) }
 {
     if names.contains_key(name) {
@@ -180,7 +183,9 @@ fn make_name(names: &mut BTreeMap<TreeId, NameRecord>, name: &TreeId) -> Result<
 
 /// Takes away the empty records of changed names.
 pub(crate) fn take_names_back(names: &mut BTreeMap<TreeId, NameRecord>, records: &[TreeRecord])
-    ensures { (name : TreeId) → kept_in (name_at names.new name) ≡ kept_in (name_at names.old name) }
+    ensures same { (name : TreeId) → kept_in (name_at names.new name) ≡ kept_in (name_at names.old name) }
+    ensures fewer { HasNoMore names.old names.new }
+    ensures taken { All (λ r. IsNoBlank (name_at names.new r.id)) records.now }
 {
     for record in records {
         take_name_back(names, &record.id);
@@ -188,7 +193,9 @@ pub(crate) fn take_names_back(names: &mut BTreeMap<TreeId, NameRecord>, records:
 }
 
 fn take_name_back(names: &mut BTreeMap<TreeId, NameRecord>, name: &TreeId)
-    ensures { (q : TreeId) → kept_in (name_at names.new q) ≡ kept_in (name_at names.old q) }
+    ensures same { (q : TreeId) → kept_in (name_at names.new q) ≡ kept_in (name_at names.old q) }
+    ensures fewer { HasNoMore names.old names.new }
+    ensures taken { IsNoBlank (name_at names.new name.now) }
 {
     let found = name_record(names, name);
     if index_in(found).is_some() {

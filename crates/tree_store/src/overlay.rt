@@ -92,10 +92,10 @@ pub(crate) fn changed_record(records: &[TreeRecord], name: &TreeId) -> Option<Tr
     None
 }
 
-fn is_of_name(record: &TreeRecord, name: &TreeId) -> bool
-    ensures { result ≡ is_eq (slice_cmp nat_cmp record.now.id.0 name.now.0) }
+fn is_of_name(changed: &TreeRecord, name: &TreeId) -> bool
+    ensures { result ≡ is_eq (slice_cmp nat_cmp changed.now.id.0 name.now.0) }
 {
-    record.id.cmp(name).is_eq()
+    changed.id.cmp(name).is_eq()
 }
 
 /// The record, unless it has neither an index nor a graft.

@@ -8,7 +8,7 @@ pub loop-name-init : goal.loop-name-init
 loop-name-init g c = record {
   world = refl;
   count = omega arith;
-  dropping = dropping_start g.setting.0 g.setting.1 c.args.compared.now.lost.items c.args.removing.now c.requires.1.1.1.1.0 c.requires.1.1.1.1.1;
+  dropping = dropping_start g.setting.0 g.setting.1 c.args.compared.now.lost.items c.args.removing.now c.requires.1.1.0.found c.requires.1.1.1;
 }
 
 pub drop_tree-requires : goal.drop_tree-requires
@@ -20,23 +20,17 @@ drop_tree-requires g c =
     let lt : k < length names = subst (λ xs. k < length xs) c.deref-name-items.ensures.value c.loop-name-test.true in
     let read : name ≡ get_or names k name = subst (λ xs. name ≡ get_or xs k name) c.deref-name-items.ensures.value c.name-item.is in
     let is : slice_get names k ≡ Some name = slice_get_read names (length names) k name refl lt read in
-    let comparison = c.requires.1.1.1.0 in
+    let comparison = c.requires.1.1.0.compared in
     let lost = (comparison.lost name).0 (contains_at names k name is) in
     λ κs short. (
       short,
       (
         c.loop-name.invariant.world ∙ c.requires.1.0,
         (
-          c.requires.1.1.0,
+          record { old = c.requires.1.1.0.old; compared = comparison; found = c.loop-name.invariant.dropping.found },
           (
-            comparison,
-            (
-              c.loop-name.invariant.dropping.found,
-              (
-                (lost.0, lost.2, inr lost.1),
-                dropping_fresh w u names k name c.args.removing.now c.loop-name.removing comparison.lost_once is c.loop-name.invariant.dropping,
-              ),
-            ),
+            (lost.0, lost.2, inr lost.1),
+            dropping_fresh w u names k name c.args.removing.now c.loop-name.removing comparison.lost_once is c.loop-name.invariant.dropping,
           ),
         ),
       ),
@@ -64,4 +58,4 @@ returns-clause-ok g c =
     let k = c.loop-name.name-index in
     let all : length d.lost.items ≤ k = subst (λ xs. length xs ≤ k) c.deref-name-items.ensures.value c.loop-name-test.false in
     let within : k ≤ length d.lost.items = subst (λ xs. k ≤ length xs) c.deref-name-items.ensures.value c.loop-name.auto.name-index-end in
-    dropping_end w u d c.requires.1.1.1.0 k c.args.removing.now c.loop-name.removing all within c.loop-name.invariant.dropping
+    dropping_end w u d c.requires.1.1.0.compared k c.args.removing.now c.loop-name.removing all within c.loop-name.invariant.dropping

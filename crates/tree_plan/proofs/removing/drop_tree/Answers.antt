@@ -10,7 +10,7 @@ use Rattle.tree_plan.proofs.removing.drop_tree.Goals as goal
 pub returns-then-contains_key-clause-ok : goal.returns-then-contains_key-clause-ok
 returns-then-contains_key-clause-ok g c =
     let w = g.setting.0 in let u = g.setting.1 in
-    dropped_not w u c.args.name.now c.args.removing.now c.requires.1.1.1.1.0 (grafted_has w u c.args.compared.now c.requires.1.1.1.0 c.args.name.now c.if-contains_key.ensures)
+    dropped_not w u c.args.name.now c.args.removing.now c.requires.1.1.0.found (grafted_has w u c.args.compared.now c.requires.1.1.0.compared c.args.name.now c.if-contains_key.ensures)
 
 pub returns-in_default-clause-ok : goal.returns-in_default-clause-ok
 returns-in_default-clause-ok g c =
@@ -18,8 +18,8 @@ returns-in_default-clause-ok g c =
     let a = c.args.removing.now in
     let b : Removing = record a { trees = c.push.new.self } in
     let of : IsOfName w c.args.name.now c.tree_record-tree.result = subst (λ v. IsOfName v c.args.name.now c.tree_record-tree.result) c.requires.1.0 c.tree_record-tree.ensures.«record» in
-    let other : ¬ (IsGraftedByNamed w u c.args.name.now) = grafted_not w u c.args.compared.now c.requires.1.1.1.0 c.args.name.now c.if-contains_key.ensures in
-    dropped_empty w u c.args.name.now c.tree_record-tree.result c.cut.result of a b c.requires.1.1.1.1.0 c.requires.1.1.1.1.1.1 c.requires.1.1.1.1.1.0 other c.cut.ensures refl refl c.in_ok-push.ensures.items
+    let other : ¬ (IsGraftedByNamed w u c.args.name.now) = grafted_not w u c.args.compared.now c.requires.1.1.0.compared c.args.name.now c.if-contains_key.ensures in
+    dropped_empty w u c.args.name.now c.tree_record-tree.result c.cut.result of a b c.requires.1.1.0.found c.requires.1.1.1.1 c.requires.1.1.1.0 other c.cut.ensures refl refl c.in_ok-push.ensures.items
     c.root_of.result c.root_of.ensures c.in_default.is
 
 pub lose-requires : goal.lose-requires
@@ -28,15 +28,9 @@ lose-requires g c =
     let a = c.args.removing.now in
     let b : Removing = record a { trees = c.push.new.self } in
     let of : IsOfName w c.args.name.now c.tree_record-tree.result = subst (λ v. IsOfName v c.args.name.now c.tree_record-tree.result) c.requires.1.0 c.tree_record-tree.ensures.«record» in
-    let other : ¬ (IsGraftedByNamed w u c.args.name.now) = grafted_not w u c.args.compared.now c.requires.1.1.1.0 c.args.name.now c.if-contains_key.ensures in (
-      c.requires.1.1.0,
-      (
-        c.requires.1.1.1.0,
-        (
-          pushed_found w u c.args.name.now c.tree_record-tree.result c.cut.result of a b c.requires.1.1.1.1.0 c.requires.1.1.1.1.1.1 c.requires.1.1.1.1.1.0 other c.cut.ensures refl refl c.in_ok-push.ensures.items,
-          pushed_goes w u c.args.name.now c.tree_record-tree.result c.cut.result of a b c.requires.1.1.1.1.0 c.requires.1.1.1.1.1.1 c.requires.1.1.1.1.1.0 other c.cut.ensures refl refl c.in_ok-push.ensures.items c.in-Some.root c.root_of.result c.root_of.ensures c.in-Some.is,
-        ),
-      ),
+    let other : ¬ (IsGraftedByNamed w u c.args.name.now) = grafted_not w u c.args.compared.now c.requires.1.1.0.compared c.args.name.now c.if-contains_key.ensures in (
+      record { old = c.requires.1.1.0.old; compared = c.requires.1.1.0.compared; found = pushed_found w u c.args.name.now c.tree_record-tree.result c.cut.result of a b c.requires.1.1.0.found c.requires.1.1.1.1 c.requires.1.1.1.0 other c.cut.ensures refl refl c.in_ok-push.ensures.items },
+      pushed_goes w u c.args.name.now c.tree_record-tree.result c.cut.result of a b c.requires.1.1.0.found c.requires.1.1.1.1 c.requires.1.1.1.0 other c.cut.ensures refl refl c.in_ok-push.ensures.items c.in-Some.root c.root_of.result c.root_of.ensures c.in-Some.is,
     )
 
 pub returns-clause-ok : goal.returns-clause-ok
@@ -45,5 +39,5 @@ returns-clause-ok g c =
     let a = c.args.removing.now in
     let b : Removing = record a { trees = c.push.new.self } in
     let of : IsOfName w c.args.name.now c.tree_record-tree.result = subst (λ v. IsOfName v c.args.name.now c.tree_record-tree.result) c.requires.1.0 c.tree_record-tree.ensures.«record» in
-    let other : ¬ (IsGraftedByNamed w u c.args.name.now) = grafted_not w u c.args.compared.now c.requires.1.1.1.0 c.args.name.now c.if-contains_key.ensures in
-    on_ok_weaker c.lose.result (dropped_root w u c.args.name.now c.tree_record-tree.result c.cut.result of a b c.requires.1.1.1.1.0 c.requires.1.1.1.1.1.1 c.requires.1.1.1.1.1.0 other c.cut.ensures refl refl c.in_ok-push.ensures.items c.lose.new.removing c.in-Some.root c.root_of.result c.root_of.ensures c.in-Some.is) c.lose.ensures.ok
+    let other : ¬ (IsGraftedByNamed w u c.args.name.now) = grafted_not w u c.args.compared.now c.requires.1.1.0.compared c.args.name.now c.if-contains_key.ensures in
+    on_ok_weaker c.lose.result (dropped_root w u c.args.name.now c.tree_record-tree.result c.cut.result of a b c.requires.1.1.0.found c.requires.1.1.1.1 c.requires.1.1.1.0 other c.cut.ensures refl refl c.in_ok-push.ensures.items c.lose.new.removing c.in-Some.root c.root_of.result c.root_of.ensures c.in-Some.is) c.lose.ensures.ok

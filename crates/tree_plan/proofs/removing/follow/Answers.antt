@@ -8,7 +8,7 @@ pub loop-position-init : goal.loop-position-init
 loop-position-init g c = record {
   world = refl;
   count = omega arith;
-  following = following_start g.setting.0 g.setting.1 c.args.removing.now c.requires.1.1.1.1.0 c.requires.1.1.1.1.1;
+  following = following_start g.setting.0 g.setting.1 c.args.removing.now c.requires.1.1.0.found c.requires.1.1.1;
 }
 
 pub expand-requires : goal.expand-requires
@@ -25,16 +25,10 @@ expand-requires g c =
       (
         c.loop-position.invariant.world ∙ c.requires.1.0,
         (
-          c.requires.1.1.0,
+          record { old = c.requires.1.1.0.old; compared = c.requires.1.1.0.compared; found = c.loop-position.invariant.following.found },
           (
-            c.requires.1.1.1.0,
-            (
-              c.loop-position.invariant.following.found,
-              (
-                contains_at b.queue.items k id is,
-                following_fresh w u c.requires.1.1.0 k id a b is c.loop-position.invariant.following,
-              ),
-            ),
+            contains_at b.queue.items k id is,
+            following_fresh w u c.requires.1.1.0.old k id a b is c.loop-position.invariant.following,
           ),
         ),
       ),

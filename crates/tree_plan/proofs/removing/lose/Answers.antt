@@ -10,18 +10,18 @@ use Rattle.tree_plan.proofs.removing.lose.Goals as goal
 pub returns-then-contains_key-clause-ok : goal.returns-then-contains_key-clause-ok
 returns-then-contains_key-clause-ok g c =
     let w = g.setting.0 in let u = g.setting.1 in
-    loses_there w u c.args.id c.args.removing.now c.requires.1.1.0 (inl (entered_has w u c.args.compared.now c.requires.1.0 c.args.id c.if-contains_key.ensures))
+    loses_there w u c.args.id c.args.removing.now c.requires.0.found (inl (entered_has w u c.args.compared.now c.requires.0.compared c.args.id c.if-contains_key.ensures))
 
 pub returns-then-contains_key-2-clause-err : goal.returns-then-contains_key-2-clause-err
 returns-then-contains_key-2-clause-err g c =
     let w = g.setting.0 in let u = g.setting.1 in let d = c.args.compared.now in
-    gone_stands w u c.requires.0 c.requires.1.0.compared.opened c.args.id (named_has w u d c.requires.1.0 c.args.id c.if-contains_key-2.ensures)
-    (c.requires.1.1.1 (entered_not w u d c.requires.1.0 c.args.id c.if-contains_key.ensures))
+    gone_stands w u c.requires.0.old c.requires.0.compared.compared.opened c.args.id (named_has w u d c.requires.0.compared c.args.id c.if-contains_key-2.ensures)
+    (c.requires.1 (entered_not w u d c.requires.0.compared c.args.id c.if-contains_key.ensures))
 
 pub returns-then-contains-clause-ok : goal.returns-then-contains-clause-ok
 returns-then-contains-clause-ok g c =
     let w = g.setting.0 in let u = g.setting.1 in
-    loses_there w u c.args.id c.args.removing.now c.requires.1.1.0 (inr ((c.requires.1.1.0.gone c.args.id).0 (sym c.if-contains.ensures)))
+    loses_there w u c.args.id c.args.removing.now c.requires.0.found (inr ((c.requires.0.found.gone c.args.id).0 (sym c.if-contains.ensures)))
 
 pub returns-clause-ok : goal.returns-clause-ok
 returns-clause-ok g c =
@@ -31,5 +31,5 @@ returns-clause-ok g c =
     let absent : contains full_cmp a.gone c.args.id ≡ false = sym c.if-contains.ensures in
     let added = c.in_ok-insert.ensures.added in
     let count : btree_set_len b.gone ≡ btree_set_len a.gone + 1 = c.in_ok-insert.ensures.len ∙ ap (λ x. btree_set_len a.gone + (if x then 1 else 0)) (added ∙ ap not absent) in
-    loses_new w u c.args.id a b c.requires.1.1.0 (c.requires.1.1.1 (entered_not w u d c.requires.1.0 c.args.id c.if-contains_key.ensures)) (named_not w u d c.requires.1.0 c.args.id c.if-contains_key-2.ensures)
+    loses_new w u c.args.id a b c.requires.0.found (c.requires.1 (entered_not w u d c.requires.0.compared c.args.id c.if-contains_key.ensures)) (named_not w u d c.requires.0.compared c.args.id c.if-contains_key-2.ensures)
     absent c.in_ok-insert.ensures.updates.0 count c.in_ok-push.ensures.items refl

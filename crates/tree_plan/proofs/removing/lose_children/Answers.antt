@@ -10,7 +10,7 @@ use Rattle.tree_plan.proofs.removing.lose_children.Goals as goal
 pub lose-requires : goal.lose-requires
 lose-requires g c =
     let id : FullNodeId = in_tree c.args.parent.tree (get_or c.args.children.now c.loop-child.child-index (record { 0 = 0 })) in
-    (c.requires.0, (c.requires.1.0, (c.loop-child.invariant.found, c.requires.1.1.1 id (contains_map_at (in_tree c.args.parent.tree) c.args.children.now c.loop-child.child-index (record { 0 = 0 }) c.loop-child-test.true))))
+    (record { old = c.requires.0.old; compared = c.requires.0.compared; found = c.loop-child.invariant.found }, c.requires.1 id (contains_map_at (in_tree c.args.parent.tree) c.args.children.now c.loop-child.child-index (record { 0 = 0 }) c.loop-child-test.true))
 
 pub loop-child-preserved : goal.loop-child-preserved
 loop-child-preserved g c =

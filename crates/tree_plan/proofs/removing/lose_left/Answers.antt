@@ -15,7 +15,7 @@ loop-id-init g c =
     let a = c.args.removing.now in
     let f = c.into_iter-id-iterator.ensures.into_iter_gives in
     record {
-      found = c.requires.1.1;
+      found = c.requires.found;
       trees = refl;
       entries = subst (AreEntries m) (sym f.0) (entries_begin m f.6);
       done = subst (IsLeftOrDone m (λ id s. IsPlacedOrFound w u a id)) (sym f.0) (loop_begins m (λ id s. IsPlacedOrFound w u a id));
@@ -27,7 +27,7 @@ lose-requires g c =
     let m = c.args.compared.now.left in
     let e : FullNodeId × Option (FullNodeId × ℕ) = (c.in-Some.id.now, c.in-Some.field-0-1.now) in
     let split = rest_more deref_pair c.loop-id.id-iterator c.next.new.self c.next.result (c.in-Some.id, c.in-Some.field-0-1) c.in-Some.is c.next.ensures.steps in
-    (c.requires.0, (c.requires.1.0, (c.loop-id.invariant.found, left_goes w u c.args.compared.now c.requires.1.0 e.1 e.0 (entries_first m c.loop-id.id-iterator c.next.new.self e split c.loop-id.invariant.entries))))
+    (record { old = c.requires.old; compared = c.requires.compared; found = c.loop-id.invariant.found }, left_goes w u c.args.compared.now c.requires.compared e.1 e.0 (entries_first m c.loop-id.id-iterator c.next.new.self e split c.loop-id.invariant.entries))
 
 pub loop-id-preserved : goal.loop-id-preserved
 loop-id-preserved g c =
@@ -51,4 +51,4 @@ returns-clause-ok g c =
     let m = c.args.compared.now.left in
     let b = c.loop-id.removing in
     let none = rest_all deref_pair c.loop-id.id-iterator c.next.new.self c.next.result c.in-None.is c.next.ensures.steps in
-    left_end w u c.args.compared.now c.requires.1.0 c.args.removing.now b c.loop-id.invariant.found c.loop-id.invariant.trees (loop_ends m (λ id s. IsPlacedOrFound w u b id) c.loop-id.id-iterator none c.loop-id.invariant.done)
+    left_end w u c.args.compared.now c.requires.compared c.args.removing.now b c.loop-id.invariant.found c.loop-id.invariant.trees (loop_ends m (λ id s. IsPlacedOrFound w u b id) c.loop-id.id-iterator none c.loop-id.invariant.done)

@@ -1,12 +1,12 @@
 use Rattle.std.proofs.Common.{rules, ◌≡◌, ◌<◌, ℕ, true, None, nat_lt, Result, Ok, Err, sym, ap, subst, refl, ◌∙◌}
-use Rattle.std.specs.Prelude.{OnOk, OnErr, is_none, slice_index_or}
+use Rattle.std.specs.Prelude.{Contains, OnOk, OnErr, is_none, slice_index_or}
 use Rattle.std.specs.Vec.{vec_len, vec_capacity}
 use Rattle.model.specs.World.{index_of}
 use Rattle.tree_store.specs.declared.store.Store.TheInside.{Inside}
 use Rattle.tree_store.specs.Kept.{Kept, IsTight}
 use Rattle.tree_store.proofs.Commits.{no_spare, tight, ready, world_same, stored_same}
 use Rattle.tree_store.proofs.Decided.{none_is}
-use Rattle.tree_store.proofs.NamesKept.{kept_is_key}
+use Rattle.tree_store.proofs.NamesKept.{kept_is_key, key_is_kept}
 use Rattle.tree_store.proofs.store.Store.reserve.Goals as goal
 
 on_ok : {X Y : Type 0} (r : Result X Y) (P Q R S : Type 0) → (P → Q → R → S) → OnOk r P → OnOk r Q → OnOk r R → OnOk r S
@@ -46,3 +46,8 @@ returns-clause-ok c =
 
 pub returns-clause-err : goal.returns-clause-err
 returns-clause-err c = on_err c.make_all.result _ _ (λ spare. tight c.make_all.new.nodes.entries spare) c.make_all.ensures.err
+
+pub returns-clause-names : goal.returns-clause-names
+returns-clause-names c =
+    on_err c.make_all.result _ _ (λ fewer name there.
+    subst (λ (k : Kept). Contains k.names name) c.self.view_is (kept_is_key c.self.inside.names.entries name (fewer name (key_is_kept c.make_all.new.names.entries name there)))) c.make_all.ensures.fewer

@@ -1,7 +1,7 @@
 use Rattle.std.proofs.Common.{◌≡◌}
 use Rattle.tree_plan.specs.Refusing.{IsDoubled}
 use Rattle.tree_plan.proofs.IdMaps.{IsLeftOrDone, AreEntries}
-use Rattle.tree_plan.proofs.refusing.refuse_doubles.Given as goal
+use Rattle.tree_plan.proofs.refusing.refuse_misplaced.Given as goal
 
 abbrev pub invariant-loop-id : goal.invariant-loop-id
 invariant-loop-id g l = record {
