@@ -1,6 +1,6 @@
 -- Verdicts one after another.
 use Rattle.std.proofs.Common.{Contains, ◌≡◌, Bool, true, false, cond, List, [], ◌∷◌, ◌++◌, map, Option, Some, None, ◌⊎◌, inl, inr, ⊎_elim, refl, sym, ap, ◌∙◌, subst}
-use Rattle.std.specs.Prelude.{◌||◌}
+use Rattle.std.specs.Prelude.{◌||◌, IsSome}
 use Rattle.std.specs.List.{list_any}
 use Rattle.std.specs.Borrow.{Bor}
 use Rattle.std.specs.Map.Iter.{deref}
@@ -91,6 +91,18 @@ module _ (s : Step) where
     judged = λ q c. subst (λ x. Becomes s x (at vs x)) (one_of id q c) (by_sound vs sound id none);
     kept = λ q h. h;
   }
+
+  -- a node that has a verdict is judged
+  pub adds_known : (vs : Verdicts) (id : FullNodeId) → AreSound s vs → IsSome (at vs id) → Adds s (id ∷ []) vs vs
+  adds_known vs id sound there = record {
+    sound = sound;
+    judged = λ q c. subst (λ x. Becomes s x (at vs x)) (one_of id q c) (go (at vs id) refl there);
+    kept = λ q h. h;
+  }
+    where
+      go : (o : Option Verdict) → at vs id ≡ o → IsSome o → Becomes s id (at vs id)
+      go None e h = cc
+      go (Some v) e h = subst (Becomes s id) (sym e) (sound id v e)
 
   pub adds_one : (a b : Verdicts) (id : FullNodeId) (v : Verdict) → AreSound s a → Becomes s id (Some v) → ((q : FullNodeId) → at b q ≡ cond (is_at (full_cmp id) q) (Some v) (at a q)) → Adds s (id ∷ []) a b
   adds_one a b id v sound is up = record {

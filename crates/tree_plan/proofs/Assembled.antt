@@ -38,7 +38,7 @@ use Rattle.tree_changes.specs.Decisions.{IsChangeOf, IsDecision}
 use Rattle.tree_changes.proofs.Overlays.{effect, get-put_all, get-put_trees, tree_at, tree_at_same, tree_at_some, find_index, tree_change_in}
 use Rattle.tree_plan.specs.declared.passes.Focused.{Focused}
 use Rattle.tree_plan.specs.declared.verdicts.Verdict.{Verdict}
-use Rattle.tree_plan.specs.declared.verdicts.Verdict.TheVariants.{Added, Updated, Told, Removed}
+use Rattle.tree_plan.specs.declared.verdicts.Verdict.TheVariants.{Added, Renewed, Moved, Told, Removed}
 use Rattle.tree_plan.specs.declared.verdicts.Found.{Found}
 use Rattle.tree_plan.specs.declared.writing.Group.{Group}
 use Rattle.tree_plan.specs.declared.writing.Group.TheVariants as group
@@ -55,7 +55,8 @@ module _ (s : Step) (id : FullNodeId) where
   data_after : (o : Option Verdict) → Becomes s id o → effect s.update.nodes (option_and_then change_of o) (data_of s.old id) ≡ data_of s.new id
   data_after None b = b.0.0
   data_after (Some (Added place entry)) b = b.1.1
-  data_after (Some (Updated place entry)) b = b.1.1
+  data_after (Some (Renewed place entry)) b = b.1.1
+  data_after (Some (Moved place)) b = b.1.1
   data_after (Some Told) b = b.1.0
   data_after (Some Removed) b = sym (absent (data_of s.new id) b.1)
     where
@@ -67,14 +68,16 @@ module _ (s : Step) (id : FullNodeId) where
   unchanged_place : (o : Option Verdict) → Becomes s id o → option_and_then change_of o ≡ None → place_of s.old id ≡ place_of s.new id
   unchanged_place None b e = b.0.1
   unchanged_place (Some (Added place entry)) b e = cc
-  unchanged_place (Some (Updated place entry)) b e = cc
+  unchanged_place (Some (Renewed place entry)) b e = cc
+  unchanged_place (Some (Moved place)) b e = cc
   unchanged_place (Some Told) b e = b.1.1
   unchanged_place (Some Removed) b e = cc
 
   change_is : IsState s.new → (o : Option Verdict) (c : NodeChange) → Becomes s id o → option_and_then change_of o ≡ Some c → IsChangeOf s.old s.update s.new id c
   change_is t None c b e = cc
   change_is t (Some (Added place entry)) c b e = subst (IsChangeOf s.old s.update s.new id) (same_Some (Put place (Some entry)) c e) b.1.0
-  change_is t (Some (Updated place entry)) c b e = subst (IsChangeOf s.old s.update s.new id) (same_Some (Put place entry) c e) b.1.0
+  change_is t (Some (Renewed place entry)) c b e = subst (IsChangeOf s.old s.update s.new id) (same_Some (Put place (Some entry)) c e) b.1.0
+  change_is t (Some (Moved place)) c b e = subst (IsChangeOf s.old s.update s.new id) (same_Some (Put place None) c e) b.1.0
   change_is t (Some Told) c b e = cc
   change_is t (Some Removed) c b e = subst (IsChangeOf s.old s.update s.new id) (same_Some Gone c e) (record {
     place = no_other id s.new (λ p at. b.1 (child_is_node t p id at));
@@ -85,14 +88,16 @@ module _ (s : Step) (id : FullNodeId) where
   -- which group it is told with
   pub is_added : (v : Verdict) → Becomes s id (Some v) → is_in group.Added v ≡ true → IsAdded s.old s.new id
   is_added (Added place entry) b e = b.0
-  is_added (Updated place entry) b e = cc
+  is_added (Renewed place entry) b e = cc
+  is_added (Moved place) b e = cc
   is_added Told b e = cc
   is_added Removed b e = cc
 
   added_in : (o : Option Verdict) → Becomes s id o → IsAdded s.old s.new id → (v : Verdict) × (o ≡ Some v) × (is_in group.Added v ≡ true)
   added_in None b a = absurd (a.1 (subst IsSome (sym b.0.0) a.0))
   added_in (Some (Added place entry)) b a = (Added place entry, refl, refl)
-  added_in (Some (Updated place entry)) b a = absurd (a.1 b.0.0)
+  added_in (Some (Renewed place entry)) b a = absurd (a.1 b.0.0)
+  added_in (Some (Moved place)) b a = absurd (a.1 b.0.0)
   added_in (Some Told) b a = absurd (a.1 b.0.0)
   added_in (Some Removed) b a = absurd (a.1 b.0)
 
@@ -101,7 +106,8 @@ module _ (s : Step) (id : FullNodeId) where
 
   pub is_updated : (v : Verdict) → Becomes s id (Some v) → is_in group.Updated v ≡ true → IsUpdated s.old s.new root id
   is_updated (Added place entry) b e = cc
-  is_updated (Updated place entry) b e = (b.0, ⊎_elim (λ d. inl d) (λ p. inr (inl p)) b.1.0.differs)
+  is_updated (Renewed place entry) b e = (b.0, ⊎_elim (λ d. inl d) (λ p. inr (inl p)) b.1.0.differs)
+  is_updated (Moved place) b e = (b.0, ⊎_elim (λ d. inl d) (λ p. inr (inl p)) b.1.0.differs)
   is_updated Told b e = (b.0, inr (inr b.2))
   is_updated Removed b e = cc
 
@@ -113,20 +119,23 @@ module _ (s : Step) (id : FullNodeId) where
       nothing (inr (inl p)) = p b.0.1
       nothing (inr (inr t)) = b.1 t
   updated_in (Some (Added place entry)) b u = absurd (b.0.1 u.0.0)
-  updated_in (Some (Updated place entry)) b u = (Updated place entry, refl, refl)
+  updated_in (Some (Renewed place entry)) b u = (Renewed place entry, refl, refl)
+  updated_in (Some (Moved place)) b u = (Moved place, refl, refl)
   updated_in (Some Told) b u = (Told, refl, refl)
   updated_in (Some Removed) b u = absurd (b.1 u.0.1)
 
   is_removed : (v : Verdict) → Becomes s id (Some v) → is_in group.Removed v ≡ true → IsAdded s.new s.old id
   is_removed (Added place entry) b e = cc
-  is_removed (Updated place entry) b e = cc
+  is_removed (Renewed place entry) b e = cc
+  is_removed (Moved place) b e = cc
   is_removed Told b e = cc
   is_removed Removed b e = b
 
   removed_in : (o : Option Verdict) → Becomes s id o → IsAdded s.new s.old id → (v : Verdict) × (o ≡ Some v) × (is_in group.Removed v ≡ true)
   removed_in None b a = absurd (a.1 (subst IsSome b.0.0 a.0))
   removed_in (Some (Added place entry)) b a = absurd (a.1 b.0.0)
-  removed_in (Some (Updated place entry)) b a = absurd (a.1 b.0.1)
+  removed_in (Some (Renewed place entry)) b a = absurd (a.1 b.0.1)
+  removed_in (Some (Moved place)) b a = absurd (a.1 b.0.1)
   removed_in (Some Told) b a = absurd (a.1 b.0.1)
   removed_in (Some Removed) b a = (Removed, refl, refl)
 
@@ -138,7 +147,8 @@ module _ (s : Step) (id : FullNodeId) where
   -- one in both with a verdict is told as updated
   both_updated : (v : Verdict) → Becomes s id (Some v) → IsInBoth s.old s.new id → is_in group.Updated v ≡ true
   both_updated (Added place entry) b h = absurd (b.0.1 h.0)
-  both_updated (Updated place entry) b h = refl
+  both_updated (Renewed place entry) b h = refl
+  both_updated (Moved place) b h = refl
   both_updated Told b h = refl
   both_updated Removed b h = absurd (b.1 h.1)
 

@@ -33,7 +33,7 @@ use Rattle.tree_changes.specs.Looks.{IsPlaceOf}
 use Rattle.tree_plan.specs.declared.passes.Named.{Named}
 use Rattle.tree_plan.specs.Passes.{at, has, IsOfName, IsNamedAs, Gains}
 use Rattle.tree_plan.specs.declared.verdicts.Found.{Found}
-use Rattle.tree_plan.specs.declared.verdicts.Verdict.TheVariants.{Added, Updated, Told, Removed}
+use Rattle.tree_plan.specs.declared.verdicts.Verdict.TheVariants.{Added, Renewed, Moved, Told, Removed}
 use Rattle.tree_plan.specs.Verdicts.{Step, IsFound, Makes, Moves, Becomes}
 use Rattle.tree_plan.proofs.Entries.{entry_named}
 
@@ -187,12 +187,12 @@ module _ (w : World) (u : UpdateData) (o : IsOld w) (k : KeepsRules w u) (new : 
       let before : IsPlaceOf w id None = no_other id w (λ p at. out (standing_is_node o p id at)) in
       ((there, out), entry_makes id n (unwrap_or moved None) is (place_after id None moved before moves) (λ e. out (subst IsSome (sym e) there)))
 
-  pub news_becomes : (id : FullNodeId) (n : Named) (was : Option Place) (moved : Option (Option Place)) → IsNamedAs w u id n → n.was ≡ Some was → n.is_news ≡ true → Moves s id moved → Becomes s id (Some (Updated (unwrap_or moved was) (Some n.entry)))
+  pub news_becomes : (id : FullNodeId) (n : Named) (was : Option Place) (moved : Option (Option Place)) → IsNamedAs w u id n → n.was ≡ Some was → n.is_news ≡ true → Moves s id moved → Becomes s id (Some (Renewed (unwrap_or moved was) n.entry))
   news_becomes id n was moved is old news moves =
       let before = is.old was old in
       ((before.0, named_there id is.named), entry_makes id n (unwrap_or moved was) is (place_after id was moved before.1 moves) (λ e. is.news.0 news (e ∙ named_data id is.named)))
 
-  pub moved_becomes : (id : FullNodeId) (place : Option Place) → data_of w id ≡ data_of new id → Moves s id (Some place) → Becomes s id (Some (Updated place None))
+  pub moved_becomes : (id : FullNodeId) (place : Option Place) → data_of w id ≡ data_of new id → Moves s id (Some place) → Becomes s id (Some (Moved place))
   moved_becomes id place same moves =
       let was : IsNode w id = subst IsSome (sym same) moves.0 in
       ((was, moves.0), (record { place = moves.1; data_found = was; differs = inr (moves.2 was) }, same))
@@ -257,7 +257,7 @@ module _ (s : Step) (f : Found) (h : IsFound s f) where
   new_by id n moved at_id new_one moves = new_becomes w u h.old h.kept s.new h.rebuilt id n moved (h.comparison.is_named id n at_id) new_one moves
 
   -- an old node that is named with other data
-  pub news_by : (id : FullNodeId) (n : Named) (was : Option Place) (moved : Option (Option Place)) → at f.compared.now.named id ≡ Some n → n.was ≡ Some was → n.is_news ≡ true → Moves s id moved → Becomes s id (Some (Updated (unwrap_or moved was) (Some n.entry)))
+  pub news_by : (id : FullNodeId) (n : Named) (was : Option Place) (moved : Option (Option Place)) → at f.compared.now.named id ≡ Some n → n.was ≡ Some was → n.is_news ≡ true → Moves s id moved → Becomes s id (Some (Renewed (unwrap_or moved was) n.entry))
   news_by id n was moved at_id old news moves = news_becomes w u h.old h.kept s.new h.rebuilt id n was moved (h.comparison.is_named id n at_id) old news moves
 
   -- what is named with the data that it has, or isn't named, has them afterwards
@@ -273,5 +273,5 @@ module _ (s : Step) (f : Found) (h : IsFound s f) where
   pub stays_by : (id : FullNodeId) → contains full_cmp f.removed.now.gone id ≡ false → ¬ (Gone w u id)
   stays_by id out gone = let there : contains full_cmp f.removed.now.gone id ≡ true = (h.removal.gone id).1 gone in let clash : false ≡ true = sym out ∙ there in cc
 
-  pub moved_by : (id : FullNodeId) (place : Option Place) (moved : Option (Option Place)) → data_of w id ≡ data_of s.new id → Moves s id moved → moved ≡ Some place → Becomes s id (Some (Updated place None))
+  pub moved_by : (id : FullNodeId) (place : Option Place) (moved : Option (Option Place)) → data_of w id ≡ data_of s.new id → Moves s id moved → moved ≡ Some place → Becomes s id (Some (Moved place))
   moved_by id place moved same moves e = moved_becomes w u h.old h.kept s.new h.rebuilt id place same (subst (Moves s id) e moves)

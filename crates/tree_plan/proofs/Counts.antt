@@ -23,7 +23,7 @@ use Rattle.model.proofs.Surgery.Counts.{no_more, entered_is_child, gone_counted,
 use Rattle.model.proofs.Surgery.RulesArePassed.{rules_passed}
 use Rattle.tree_plan.specs.declared.passes.Focused.{Focused}
 use Rattle.tree_plan.specs.declared.verdicts.Verdict.{Verdict}
-use Rattle.tree_plan.specs.declared.verdicts.Verdict.TheVariants.{Added, Updated, Told, Removed}
+use Rattle.tree_plan.specs.declared.verdicts.Verdict.TheVariants.{Added, Renewed, Moved, Told, Removed}
 use Rattle.tree_plan.specs.declared.verdicts.Found.{Found}
 use Rattle.tree_plan.specs.declared.writing.Group.TheVariants as group
 use Rattle.tree_plan.specs.Passes.{at}
@@ -71,7 +71,8 @@ module _ (s : Step) (f : Found) (h : IsFound s f) (work : Work) (is : IsWorkOf s
 
     touched : (id : FullNodeId) (v : Verdict) → Becomes s id (Some v) → not (is_in group.Removed v) ≡ true → Touched id
     touched id (Added place entry) b e = inl ((added_iff s.old s.update h.old passed h.kept h.rebuilt id).0 b.0).0
-    touched id (Updated place entry) b e = ⊎_elim (λ n. inl n.0) (λ x. inr x) ((updated_iff s.old s.update h.old passed h.kept h.rebuilt (told_root (index_for s.old s.update.name) s.update.info) id).0 (is_updated s id (Updated place entry) b refl)).1
+    touched id (Renewed place entry) b e = ⊎_elim (λ n. inl n.0) (λ x. inr x) ((updated_iff s.old s.update h.old passed h.kept h.rebuilt (told_root (index_for s.old s.update.name) s.update.info) id).0 (is_updated s id (Renewed place entry) b refl)).1
+    touched id (Moved place) b e = ⊎_elim (λ n. inl n.0) (λ x. inr x) ((updated_iff s.old s.update h.old passed h.kept h.rebuilt (told_root (index_for s.old s.update.name) s.update.info) id).0 (is_updated s id (Moved place) b refl)).1
     touched id Told b e = inr (inr (inr b.2))
     touched id Removed b e = cc
 

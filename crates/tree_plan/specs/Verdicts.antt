@@ -13,7 +13,7 @@ use Rattle.tree_changes.specs.Looks.{IsPlaceOf}
 use Rattle.tree_changes.specs.Changes.{changed_data}
 use Rattle.tree_changes.specs.Decisions.{IsChangeOf}
 use Rattle.tree_plan.specs.declared.verdicts.Verdict.{Verdict}
-use Rattle.tree_plan.specs.declared.verdicts.Verdict.TheVariants.{Added, Updated, Told, Removed}
+use Rattle.tree_plan.specs.declared.verdicts.Verdict.TheVariants.{Added, Renewed, Moved, Told, Removed}
 use Rattle.tree_plan.specs.declared.verdicts.Found.{Found}
 use Rattle.tree_plan.specs.Passes.{at, IsOpening, IsComparison, IsRemoval, IsRegrafting}
 
@@ -50,7 +50,8 @@ Moves s id (Some place) = IsNode s.new id × IsPlaceOf s.new id place × (IsNode
 -- this becomes of the node
 abbrev pub Becomes : Step → FullNodeId → Option Verdict → Type 0
 Becomes s id (Some (Added place entry)) = IsAdded s.old s.new id × Makes s id (Put place (Some entry))
-Becomes s id (Some (Updated place entry)) = IsInBoth s.old s.new id × Makes s id (Put place entry)
+Becomes s id (Some (Renewed place entry)) = IsInBoth s.old s.new id × Makes s id (Put place (Some entry))
+Becomes s id (Some (Moved place)) = IsInBoth s.old s.new id × Makes s id (Put place None)
 Becomes s id (Some Told) = IsInBoth s.old s.new id × Stays s id × (told_root (index_for s.old s.update.name) s.update.info ≡ Some id)
 Becomes s id (Some Removed) = IsAdded s.new s.old id
 Becomes s id None = Stays s id × (told_root (index_for s.old s.update.name) s.update.info ≢ Some id)

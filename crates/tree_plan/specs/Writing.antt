@@ -28,7 +28,8 @@ use Rattle.tree_plan.specs.declared.writing.Group.TheVariants as group
 -- the change of a node's record
 abbrev pub change_of : Verdict → Option NodeChange
 change_of (verdict.Added place entry) = Some (Put place (Some entry))
-change_of (verdict.Updated place entry) = Some (Put place entry)
+change_of (verdict.Renewed place entry) = Some (Put place (Some entry))
+change_of (verdict.Moved place) = Some (Put place None)
 change_of verdict.Told = None
 change_of verdict.Removed = Some Gone
 
@@ -38,7 +39,8 @@ change_entry e = option_to_list (option_map (λ c. (e.0, c)) (change_of e.1))
 
 abbrev pub group_of : Verdict → Group
 group_of (verdict.Added place entry) = group.Added
-group_of (verdict.Updated place entry) = group.Updated
+group_of (verdict.Renewed place entry) = group.Updated
+group_of (verdict.Moved place) = group.Updated
 group_of verdict.Told = group.Updated
 group_of verdict.Removed = group.Removed
 

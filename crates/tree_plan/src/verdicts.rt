@@ -19,15 +19,11 @@ use tree_changes::{Place, UpdateError};
 #[derive(Clone, Copy)]
 pub(crate) enum Verdict {
     /// It is new, with the data of this entry.
-    Added {
-        place: Option<Place>,
-        entry: usize,
-    },
-    /// It has this place, and the data of this entry, where there is one.
-    Updated {
-        place: Option<Place>,
-        entry: Option<usize>,
-    },
+    Added { place: Option<Place>, entry: usize },
+    /// It has this place, and the data of this entry.
+    Renewed { place: Option<Place>, entry: usize },
+    /// It has this place, and the data that it had.
+    Moved { place: Option<Place> },
     /// It is as it was, and told as updated.
     Told,
     /// It goes.
@@ -84,7 +80,7 @@ impl Found<'_> {
         ensures { Becomes step id result }
     {
         if let Some(place) = moved {
-            return Some(Verdict::Updated { place, entry: None });
+            return Some(Verdict::Moved { place });
         }
         if self.is_told(id) {
             return Some(Verdict::Told);
@@ -122,10 +118,7 @@ impl Found<'_> {
         };
         if named.is_news {
             let place = moved.unwrap_or(was);
-            return Some(Verdict::Updated {
-                place,
-                entry: Some(entry),
-            });
+            return Some(Verdict::Renewed { place, entry });
         }
         self.moved_or_told(id, moved)
     }
@@ -149,6 +142,38 @@ impl Found<'_> {
         Ok(())
     }
 
+    /// Adds the verdict on a node that may have been judged before.
+    fn judge_more(
+        self,
+        id: FullNodeId,
+        verdicts: &mut BTreeMap<FullNodeId, Verdict>,
+    ) -> Result<(), UpdateError>
+        ghost step: { Step }
+        requires found { IsFound step self }
+        requires sound { AreSound step verdicts.old }
+        ensures ok { OnOk result (Adds step (id ∷ []) verdicts.old verdicts.new) }
+        ensures err { IfErr result (λ e. e ≡ Memory) }
+    {
+        if verdicts.contains_key(&id) {
+            return Ok(());
+        }
+        self.judge(id, verdicts)
+    }
+
+    /// Adds the verdicts on the named nodes.
+    fn judge_named(self, verdicts: &mut BTreeMap<FullNodeId, Verdict>) -> Result<(), UpdateError>
+        ghost step: { Step }
+        requires found { IsFound step self }
+        requires sound { AreSound step verdicts.old }
+        ensures ok { OnOk result (Adds step (keys self.entry.compared.now.named) verdicts.old verdicts.new) }
+        ensures err { IfErr result (λ e. e ≡ Memory) }
+    {
+        for id in self.compared.named.keys() {
+            self.judge(*id, verdicts)?;
+        }
+        Ok(())
+    }
+
     /// Adds the verdicts on the nodes of a map.
     fn judge_keys<V>(
         self,
@@ -163,7 +188,7 @@ impl Found<'_> {
         ensures err { IfErr result (λ e. e ≡ Memory) }
     {
         for id in nodes.keys() {
-            self.judge(*id, verdicts)?;
+            self.judge_more(*id, verdicts)?;
         }
         Ok(())
     }
@@ -178,7 +203,7 @@ impl Found<'_> {
         ensures err { IfErr result (λ e. e ≡ Memory) }
     {
         for id in self.removed.gone.iter() {
-            self.judge(*id, verdicts)?;
+            self.judge_more(*id, verdicts)?;
         }
         Ok(())
     }
@@ -211,7 +236,7 @@ impl Found<'_> {
         ensures err { IfErr result (λ e. e ≡ Memory) }
     {
         let mut verdicts = BTreeMap::new(alloc);
-        self.judge_keys(&self.compared.named, &mut verdicts)?;
+        self.judge_named(&mut verdicts)?;
         self.judge_keys(&self.compared.entered, &mut verdicts)?;
         self.judge_keys(&self.regrafted.moved_in, &mut verdicts)?;
         self.judge_gone(&mut verdicts)?;

@@ -42,7 +42,11 @@ impl Verdict {
                 place,
                 entry: Some(entry),
             }),
-            Verdict::Updated { place, entry } => Some(NodeChange::Put { place, entry }),
+            Verdict::Renewed { place, entry } => Some(NodeChange::Put {
+                place,
+                entry: Some(entry),
+            }),
+            Verdict::Moved { place } => Some(NodeChange::Put { place, entry: None }),
             Verdict::Told => None,
             Verdict::Removed => Some(NodeChange::Gone),
         }
@@ -53,7 +57,8 @@ impl Verdict {
     {
         match self {
             Verdict::Added { .. } => Group::Added,
-            Verdict::Updated { .. } => Group::Updated,
+            Verdict::Renewed { .. } => Group::Updated,
+            Verdict::Moved { .. } => Group::Updated,
             Verdict::Told => Group::Updated,
             Verdict::Removed => Group::Removed,
         }

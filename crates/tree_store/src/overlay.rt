@@ -52,20 +52,21 @@ pub(crate) fn entry_node(nodes: &[(NodeId, Node)], entry: usize) -> Option<&Node
     }
 }
 
-/// The data after a change of a node with these data.
+/// The data of a node after a change. What is kept is looked up only where the data stay.
 pub(crate) fn changed_node<'b>(
+    base: &'b Store,
     nodes: &'b [(NodeId, Node)],
+    id: FullNodeId,
     change: NodeChange,
-    below: Option<&'b Node>,
 ) -> Option<&'b Node>
-    ensures { option_copied result ≡ changed_data nodes.now change (option_copied below.entry) }
+    ensures { option_copied result ≡ changed_data nodes.now change (data_of base.now.world id) }
 {
     match change {
         NodeChange::Put {
             entry: Some(entry),
             ..
         } => entry_node(nodes, entry),
-        NodeChange::Put { entry: None, .. } => below,
+        NodeChange::Put { entry: None, .. } => base.get(id),
         NodeChange::Gone => None,
     }
 }
@@ -166,7 +167,7 @@ impl<'a> Overlay<'a> {
         ensures { option_copied result ≡ data_of (laid_over base.now.world self.entry) id }
     {
         match self.change(id) {
-            Some(change) => changed_node(self.update.nodes.as_slice(), change, base.get(id)),
+            Some(change) => changed_node(base, self.update.nodes.as_slice(), id, change),
             None => base.get(id),
         }
     }

@@ -100,18 +100,6 @@ fn has_record(slots: &Slots, id: FullNodeId) -> bool
     record(slots, id).is_some()
 }
 
-// puts a record in a slot that is there, and gives the one that was in it
-fn fill(slots: &mut Slots, id: FullNodeId, content: Option<Record>) -> Option<Record>
-    requires { IsSome (slot_at slots.old.entries id) }
-    ensures before { result ≡ record_at slots.old.entries id }
-    ensures after { (q : FullNodeId) → slot_at slots.new.entries q ≡ cond (is_at (full_cmp id) q) (Some content) (slot_at slots.old.entries q) }
-{
-    match slots.get_mut(&id) {
-        Some(slot) => mem::replace(&mut **slot, content),
-        None => unreachable!(),
-    }
-}
-
 // takes an entry's node out, and leaves the other
 fn take_node(nodes: &mut Vec<(NodeId, Node)>, entry: usize, other: Node) -> Node
     requires { entry < length nodes.old.items }
@@ -137,8 +125,35 @@ fn put_node(
     ensures nodes { (k : ℕ) → k ≢ entry → slice_get nodes.new.items k ≡ slice_get nodes.old.items k }
     ensures count { length nodes.new.items ≡ length nodes.old.items }
 {
-    let node = take_node(nodes, entry, Node::new(alloc, Role::Unknown));
-    drop(fill(slots, id, Some(Record { place, node })));
+    match slots.get_mut(&id) {
+        Some(slot) => put_record(alloc, &mut **slot, nodes, place, entry),
+        None => unreachable!(),
+    }
+}
+
+// gives what is in a slot this place, and an entry's data; data that were there come to the entry in their place
+fn put_record(
+    alloc: Global,
+    slot: &mut Option<Record>,
+    nodes: &mut Vec<(NodeId, Node)>,
+    place: Option<Place>,
+    entry: usize,
+)
+    requires { entry < length nodes.old.items }
+    ensures slot { slot.new ≡ record_after nodes.old.items (Put place (Some entry)) slot.old }
+    ensures nodes { (k : ℕ) → k ≢ entry → slice_get nodes.new.items k ≡ slice_get nodes.old.items k }
+    ensures count { length nodes.new.items ≡ length nodes.old.items }
+{
+    match slot {
+        Some(record) => {
+            record.place = place;
+            mem::swap(&mut record.node, &mut nodes[entry].1);
+        }
+        None => {
+            let node = take_node(nodes, entry, Node::new(alloc, Role::Unknown));
+            *slot = Some(Record { place, node });
+        }
+    }
 }
 
 // gives a node this place
@@ -147,23 +162,35 @@ fn put_place(slots: &mut Slots, id: FullNodeId, place: Option<Place>)
     ensures records { (q : FullNodeId) → record_at slots.new.entries q ≡ cond (is_at (full_cmp id) q) (record_moved_to place (record_at slots.old.entries id)) (record_at slots.old.entries q) }
     ensures tight { (q : FullNodeId) → is_some (slot_at slots.new.entries q) ≡ cond (is_at (full_cmp id) q) (is_some (record_at slots.new.entries q)) (is_some (slot_at slots.old.entries q)) }
 {
-    let before = fill(slots, id, None);
-    match moved_record(place, before) {
-        Some(record) => drop(fill(slots, id, Some(record))),
-        None => drop(slots.remove(&id)),
+    if set_place(slots, id, place) {
+        return;
+    }
+    drop(slots.remove(&id));
+}
+
+// gives the record in a slot that is there this place, and answers whether there is one
+fn set_place(slots: &mut Slots, id: FullNodeId, place: Option<Place>) -> bool
+    requires { IsSome (slot_at slots.old.entries id) }
+    ensures there { result ≡ is_some (record_at slots.old.entries id) }
+    ensures after { (q : FullNodeId) → slot_at slots.new.entries q ≡ cond (is_at (full_cmp id) q) (Some (record_moved_to place (record_at slots.old.entries id))) (slot_at slots.old.entries q) }
+{
+    match slots.get_mut(&id) {
+        Some(slot) => move_record(&mut **slot, place),
+        None => unreachable!(),
     }
 }
 
-// the record with another place
-fn moved_record(place: Option<Place>, before: Option<Record>) -> Option<Record>
-    ensures { result ≡ record_moved_to place before }
+// gives a record another place, and answers whether there is one
+fn move_record(slot: &mut Option<Record>, place: Option<Place>) -> bool
+    ensures there { result ≡ is_some slot.old }
+    ensures moved { slot.new ≡ record_moved_to place slot.old }
 {
-    match before {
-        Some(record) => Some(Record {
-            place,
-            node: record.node,
-        }),
-        None => None,
+    match slot {
+        Some(record) => {
+            record.place = place;
+            true
+        }
+        None => false,
     }
 }
 

@@ -1,5 +1,5 @@
 use Rattle.std.proofs.Common.{Some, sym, ◌∙◌, subst}
-use Rattle.tree_plan.specs.declared.verdicts.Verdict.TheVariants.{Added, Updated}
+use Rattle.tree_plan.specs.declared.verdicts.Verdict.TheVariants.{Added, Renewed}
 use Rattle.tree_plan.specs.Verdicts.{Becomes}
 use Rattle.tree_plan.proofs.Becoming.{gone_by, stays_by, new_by, news_by, same_by, unnamed_same_by}
 use Rattle.tree_plan.proofs.verdicts.Found.verdict.Goals as goal
@@ -26,7 +26,7 @@ returns-in_default-was g c =
 
 pub returns-then-named : goal.returns-then-named
 returns-then-named g c =
-    subst (λ p. Becomes g.step c.args.id (Some (Updated p (Some c.in-Some.named.now.entry)))) (sym c.unwrap_or-place-then-named.ensures)
+    subst (λ p. Becomes g.step c.args.id (Some (Renewed p c.in-Some.named.now.entry))) (sym c.unwrap_or-place-then-named.ensures)
     (news_by g.step c.args.self c.requires c.args.id c.in-Some.named.now c.in-Some-was.was c.other_place-moved.result (sym c.in-Some.ensures.value) c.in-Some-was.is c.if-named.true c.other_place-moved.ensures)
 
 pub moved_or_told-requires-2 : goal.moved_or_told-requires-2

@@ -1,6 +1,6 @@
 use Rattle.std.proofs.Common.{sym, ap, ◌∙◌, Some}
-use Rattle.std.specs.Prelude.{option_copied}
 use Rattle.schema.specs.UpdateData.{update_data}
+use Rattle.model.specs.World.{data_of}
 use Rattle.tree_changes.specs.Changes.{changed_data}
 use Rattle.tree_store.proofs.Laid.{ascending, data_by}
 use Rattle.tree_store.proofs.overlay.Overlay.data.Goals as goal
@@ -10,8 +10,8 @@ change-requires c = ascending c.args.base.now.world (update_data c.args.self.upd
 
 pub returns-in-Some : goal.returns-in-Some
 returns-in-Some c =
-    c.changed_node.ensures ∙ ap (λ l. changed_data l c.in-Some.change (option_copied c.get.result)) c.as_slice.ensures.value ∙ ap (changed_data (update_data c.args.self.update.now).nodes c.in-Some.change) c.get.ensures
+    c.changed_node.ensures ∙ ap (λ l. changed_data l c.in-Some.change (data_of c.args.base.now.world c.args.id)) c.as_slice.ensures.value
     ∙ data_by c.args.base.now.world (update_data c.args.self.update.now) c.args.self.decision.now c.args.id (Some c.in-Some.change) c.in-Some.ensures
 
 pub returns-in-None : goal.returns-in-None
-returns-in-None c = c.get-in-None.ensures ∙ data_by c.args.base.now.world (update_data c.args.self.update.now) c.args.self.decision.now c.args.id _ c.in-None.ensures
+returns-in-None c = c.get.ensures ∙ data_by c.args.base.now.world (update_data c.args.self.update.now) c.args.self.decision.now c.args.id _ c.in-None.ensures
