@@ -88,7 +88,8 @@ impl Tree {
         ensures does { (told : List Event)
             × Does self.old (ToUpdate (update_data update)) self.new told (reply_of result)
             × Told H.steps handler.old told handler.new }
-        ensures steps { OnOk result ((work : Work) → IsWorkOf self.old (update_data update) self.new work
+        ensures steps { OnOk result ((work : Work)
+            → IsWorkOf self.old (update_data update) self.new work
             → steps.new ≤ steps.old + allowance work) }
         ensures counted { OnOk result (CountsEvents self.old (update_data update) self.new steps.old steps.new) }
     {
