@@ -50,9 +50,9 @@ impl<'a> NodeRef<'a> {
     ) -> Option<NodeRef<'a>>
         requires { F.IsAlwaysCallable filter.now }
         ensures world { IfSome result (λ node. world_at node ≡ world_at self.now) }
-        ensures above { IfSome result (λ node. Contains (ancestors (world_at self.now) (id_at self.now)) (id_at node)) }
-        ensures node { let w = world_at self.now in
-            IsBy (FnReturnsAt F.Fn filter.now) w (λ f. filtered_parent f w (id_at self.now)) (option_map id_at result) }
+        ensures above { let w = world_at self.now in
+            IfSome result (λ node. Contains (ancestors w (id_at self.now)) (id_at node)) }
+        ensures node { IsBy (FnReturnsAt F.Fn filter.now) self.now filtered_parent (option_map id_at result) }
     {
         self.state.know();
         let mut current = *self;
@@ -72,8 +72,7 @@ impl<'a> NodeRef<'a> {
     ) -> Option<NodeRef<'a>>
         requires { F.IsAlwaysCallable filter.now }
         ensures world { IfSome result (λ node. world_at node ≡ world_at self.now) }
-        ensures node { let w = world_at self.now in
-            IsBy (FnReturnsAt F.Fn filter.now) w (λ f. selection_container f w (id_at self.now)) (option_map id_at result) }
+        ensures node { IsBy (FnReturnsAt F.Fn filter.now) self.now selection_container (option_map id_at result) }
     {
         self.state.know();
         let mut current = *self;
@@ -92,8 +91,7 @@ impl<'a> NodeRef<'a> {
         filter: &F,
     ) -> Option<usize>
         requires { F.IsAlwaysCallable filter.now }
-        ensures { let w = world_at self.now in
-            IsBy (FnReturnsAt F.Fn filter.now) w (λ f. size_of_set_from_container f w (id_at self.now)) result }
+        ensures { IsBy (FnReturnsAt F.Fn filter.now) self.now size_of_set_from_container result }
     {
         self.state.know();
         let mut current = *self;
