@@ -6,6 +6,8 @@ pub mod Replies
 pub mod Counts
 pub mod FocusedOne
 pub mod Follows
+pub mod FilterValues
+pub mod Inherited
 pub mod Reach
 pub mod Tests
 pub mod Spots

@@ -1,11 +1,9 @@
 //! What a user may ask of a node, and what can be done with it.
 ghost use Rattle.std.specs.Prelude.{◌≡◌};
 ghost use Rattle.std.specs.Fn.{FnReturnsAt};
-ghost use Rattle.model.specs.declared.FullNodeId.{FullNodeId};
-ghost use Rattle.model.specs.declared.filters.FilterResult.{FilterResult};
 ghost use Rattle.model.specs.Views.{is_selectable, supports_toggle, supports_expand_collapse, supports_url, is_only_clicked, supports_action, is_clickable, supports_increment, supports_decrement, is_focusable, is_invocable};
-ghost use Rattle.accesskit_consumer.specs.Nodes.{world_at, id_at, data_at};
-ghost use Rattle.accesskit_consumer.specs.Follows.{Follows};
+ghost use Rattle.accesskit_consumer.specs.Nodes.{data_at};
+ghost use Rattle.accesskit_consumer.specs.FilterValues.{IsBy};
 
 use crate::node::NodeRef;
 use model::filters::FilterResult;
@@ -50,8 +48,7 @@ impl NodeRef<'_> {
         parent_filter: &F,
     ) -> bool
         requires { F.IsAlwaysCallable parent_filter.now }
-        ensures { (f : FullNodeId → FilterResult) → Follows (FnReturnsAt F.Fn parent_filter.now) (world_at self.now) f →
-            result ≡ supports_action action f (world_at self.now) (id_at self.now) }
+        ensures { IsBy (FnReturnsAt F.Fn parent_filter.now) self.now (supports_action action) result }
     {
         if self.node.supports_action(action) {
             return true;
@@ -65,8 +62,7 @@ impl NodeRef<'_> {
     /// Whether it can be clicked.
     pub fn is_clickable<F: Fn(&NodeRef<'_>) -> FilterResult>(&self, parent_filter: &F) -> bool
         requires { F.IsAlwaysCallable parent_filter.now }
-        ensures { (f : FullNodeId → FilterResult) → Follows (FnReturnsAt F.Fn parent_filter.now) (world_at self.now) f →
-            result ≡ is_clickable f (world_at self.now) (id_at self.now) }
+        ensures { IsBy (FnReturnsAt F.Fn parent_filter.now) self.now is_clickable result }
     {
         self.supports_action(Action::Click, parent_filter)
     }
@@ -74,8 +70,7 @@ impl NodeRef<'_> {
     /// Whether its value can be raised by a step.
     pub fn supports_increment<F: Fn(&NodeRef<'_>) -> FilterResult>(&self, parent_filter: &F) -> bool
         requires { F.IsAlwaysCallable parent_filter.now }
-        ensures { (f : FullNodeId → FilterResult) → Follows (FnReturnsAt F.Fn parent_filter.now) (world_at self.now) f →
-            result ≡ supports_increment f (world_at self.now) (id_at self.now) }
+        ensures { IsBy (FnReturnsAt F.Fn parent_filter.now) self.now supports_increment result }
     {
         self.supports_action(Action::Increment, parent_filter)
     }
@@ -83,8 +78,7 @@ impl NodeRef<'_> {
     /// Whether its value can be lowered by a step.
     pub fn supports_decrement<F: Fn(&NodeRef<'_>) -> FilterResult>(&self, parent_filter: &F) -> bool
         requires { F.IsAlwaysCallable parent_filter.now }
-        ensures { (f : FullNodeId → FilterResult) → Follows (FnReturnsAt F.Fn parent_filter.now) (world_at self.now) f →
-            result ≡ supports_decrement f (world_at self.now) (id_at self.now) }
+        ensures { IsBy (FnReturnsAt F.Fn parent_filter.now) self.now supports_decrement result }
     {
         self.supports_action(Action::Decrement, parent_filter)
     }
@@ -92,8 +86,7 @@ impl NodeRef<'_> {
     /// Whether it can take the focus, or is the effective focus.
     pub fn is_focusable<F: Fn(&NodeRef<'_>) -> FilterResult>(&self, parent_filter: &F) -> bool
         requires { F.IsAlwaysCallable parent_filter.now }
-        ensures { (f : FullNodeId → FilterResult) → Follows (FnReturnsAt F.Fn parent_filter.now) (world_at self.now) f →
-            result ≡ is_focusable f (world_at self.now) (id_at self.now) }
+        ensures { IsBy (FnReturnsAt F.Fn parent_filter.now) self.now is_focusable result }
     {
         self.state.know();
         if self.supports_action(Action::Focus, parent_filter) {
@@ -125,8 +118,7 @@ impl NodeRef<'_> {
     /// Whether it can be clicked, and a click is all that it is for.
     pub fn is_invocable<F: Fn(&NodeRef<'_>) -> FilterResult>(&self, parent_filter: &F) -> bool
         requires { F.IsAlwaysCallable parent_filter.now }
-        ensures { (f : FullNodeId → FilterResult) → Follows (FnReturnsAt F.Fn parent_filter.now) (world_at self.now) f →
-            result ≡ is_invocable f (world_at self.now) (id_at self.now) }
+        ensures { IsBy (FnReturnsAt F.Fn parent_filter.now) self.now is_invocable result }
     {
         if !self.is_only_clicked() {
             return false;

@@ -1,9 +1,9 @@
 //! What a node has from the nodes above it, across grafts: the nearest that gives anything, from the node upwards.
 ghost use Rattle.std.specs.Prelude.{◌≡◌, option_copied};
-ghost use Rattle.model.specs.Upward.{inherited_field};
 ghost use Rattle.model.specs.Views.{is_italic, live};
 ghost use Rattle.model.specs.Filters.{is_hidden};
 ghost use Rattle.accesskit_consumer.specs.Nodes.{world_at, id_at};
+ghost use Rattle.accesskit_consumer.specs.Inherited.{inherited_at};
 
 use crate::node::NodeRef;
 use schema::{Color, Live, TextAlign, TextDecoration, TextDirection, VerticalOffset};
@@ -11,7 +11,7 @@ use schema::{Color, Live, TextAlign, TextDecoration, TextDirection, VerticalOffs
 impl<'a> NodeRef<'a> {
     /// The direction of the text.
     pub fn text_direction(&self) -> Option<TextDirection>
-        ensures { result ≡ inherited_field (λ d. d.text_direction) (world_at self.now) (id_at self.now) }
+        ensures { result ≡ inherited_at (λ d. d.text_direction) self.now }
     {
         self.nearest(|node| node.text_direction().is_some())?
             .node
@@ -20,7 +20,7 @@ impl<'a> NodeRef<'a> {
 
     /// The name of the font.
     pub fn font_family(&self) -> Option<&'a str>
-        ensures { option_copied result ≡ inherited_field (λ d. d.font_family) (world_at self.now) (id_at self.now) }
+        ensures { option_copied result ≡ inherited_at (λ d. d.font_family) self.now }
     {
         self.nearest(|node| node.font_family().is_some())?
             .node
@@ -29,7 +29,7 @@ impl<'a> NodeRef<'a> {
 
     /// The language of the text.
     pub fn language(&self) -> Option<&'a str>
-        ensures { option_copied result ≡ inherited_field (λ d. d.language) (world_at self.now) (id_at self.now) }
+        ensures { option_copied result ≡ inherited_at (λ d. d.language) self.now }
     {
         self.nearest(|node| node.language().is_some())?
             .node
@@ -38,7 +38,7 @@ impl<'a> NodeRef<'a> {
 
     /// The size of the font, in hundredths of a pixel.
     pub fn font_size(&self) -> Option<u32>
-        ensures { result ≡ inherited_field (λ d. d.font_size) (world_at self.now) (id_at self.now) }
+        ensures { result ≡ inherited_at (λ d. d.font_size) self.now }
     {
         self.nearest(|node| node.font_size().is_some())?
             .node
@@ -47,7 +47,7 @@ impl<'a> NodeRef<'a> {
 
     /// The weight of the font.
     pub fn font_weight(&self) -> Option<u16>
-        ensures { result ≡ inherited_field (λ d. d.font_weight) (world_at self.now) (id_at self.now) }
+        ensures { result ≡ inherited_at (λ d. d.font_weight) self.now }
     {
         self.nearest(|node| node.font_weight().is_some())?
             .node
@@ -56,7 +56,7 @@ impl<'a> NodeRef<'a> {
 
     /// The colour behind the text.
     pub fn background_color(&self) -> Option<Color>
-        ensures { result ≡ inherited_field (λ d. d.background_color) (world_at self.now) (id_at self.now) }
+        ensures { result ≡ inherited_at (λ d. d.background_color) self.now }
     {
         self.nearest(|node| node.background_color().is_some())?
             .node
@@ -65,7 +65,7 @@ impl<'a> NodeRef<'a> {
 
     /// The colour of the text.
     pub fn foreground_color(&self) -> Option<Color>
-        ensures { result ≡ inherited_field (λ d. d.foreground_color) (world_at self.now) (id_at self.now) }
+        ensures { result ≡ inherited_at (λ d. d.foreground_color) self.now }
     {
         self.nearest(|node| node.foreground_color().is_some())?
             .node
@@ -74,7 +74,7 @@ impl<'a> NodeRef<'a> {
 
     /// The line above the text.
     pub fn overline(&self) -> Option<TextDecoration>
-        ensures { result ≡ inherited_field (λ d. d.overline) (world_at self.now) (id_at self.now) }
+        ensures { result ≡ inherited_at (λ d. d.overline) self.now }
     {
         self.nearest(|node| node.overline().is_some())?
             .node
@@ -83,7 +83,7 @@ impl<'a> NodeRef<'a> {
 
     /// The line through the text.
     pub fn strikethrough(&self) -> Option<TextDecoration>
-        ensures { result ≡ inherited_field (λ d. d.strikethrough) (world_at self.now) (id_at self.now) }
+        ensures { result ≡ inherited_at (λ d. d.strikethrough) self.now }
     {
         self.nearest(|node| node.strikethrough().is_some())?
             .node
@@ -92,7 +92,7 @@ impl<'a> NodeRef<'a> {
 
     /// The line below the text.
     pub fn underline(&self) -> Option<TextDecoration>
-        ensures { result ≡ inherited_field (λ d. d.underline) (world_at self.now) (id_at self.now) }
+        ensures { result ≡ inherited_at (λ d. d.underline) self.now }
     {
         self.nearest(|node| node.underline().is_some())?
             .node
@@ -101,7 +101,7 @@ impl<'a> NodeRef<'a> {
 
     /// How the text is aligned.
     pub fn text_align(&self) -> Option<TextAlign>
-        ensures { result ≡ inherited_field (λ d. d.text_align) (world_at self.now) (id_at self.now) }
+        ensures { result ≡ inherited_at (λ d. d.text_align) self.now }
     {
         self.nearest(|node| node.text_align().is_some())?
             .node
@@ -110,7 +110,7 @@ impl<'a> NodeRef<'a> {
 
     /// How the text is set against its line.
     pub fn vertical_offset(&self) -> Option<VerticalOffset>
-        ensures { result ≡ inherited_field (λ d. d.vertical_offset) (world_at self.now) (id_at self.now) }
+        ensures { result ≡ inherited_at (λ d. d.vertical_offset) self.now }
     {
         self.nearest(|node| node.vertical_offset().is_some())?
             .node

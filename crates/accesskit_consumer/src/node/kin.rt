@@ -1,14 +1,12 @@
 //! A node's kin, as a caller's filter shows them.
 ghost use Rattle.std.specs.Prelude.{◌≡◌, is_some, Contains, IfSome, option_map};
 ghost use Rattle.std.specs.Fn.{FnReturnsAt};
-ghost use Rattle.model.specs.declared.FullNodeId.{FullNodeId};
-ghost use Rattle.model.specs.declared.filters.FilterResult.{FilterResult};
 ghost use Rattle.model.specs.Lists.{ancestors};
 ghost use Rattle.model.specs.Upward.{is_within};
 ghost use Rattle.model.specs.Covers.{is_included, filtered_parent};
 ghost use Rattle.model.specs.Views.{size_of_set_from_container, selection_container};
 ghost use Rattle.accesskit_consumer.specs.Nodes.{world_at, id_at, data_at};
-ghost use Rattle.accesskit_consumer.specs.Follows.{Follows};
+ghost use Rattle.accesskit_consumer.specs.FilterValues.{IsBy};
 
 use crate::node::NodeRef;
 use crate::node::same::is_same;
@@ -52,9 +50,9 @@ impl<'a> NodeRef<'a> {
     ) -> Option<NodeRef<'a>>
         requires { F.IsAlwaysCallable filter.now }
         ensures world { IfSome result (λ node. world_at node ≡ world_at self.now) }
-        ensures above { IfSome result (λ node. Contains (ancestors (world_at self.now) (id_at self.now)) (id_at node)) }
-        ensures node { (f : FullNodeId → FilterResult) → Follows (FnReturnsAt F.Fn filter.now) (world_at self.now) f →
-            option_map id_at result ≡ filtered_parent f (world_at self.now) (id_at self.now) }
+        ensures above { let w = world_at self.now in
+            IfSome result (λ node. Contains (ancestors w (id_at self.now)) (id_at node)) }
+        ensures node { IsBy (FnReturnsAt F.Fn filter.now) self.now filtered_parent (option_map id_at result) }
     {
         self.state.know();
         let mut current = *self;
@@ -74,8 +72,7 @@ impl<'a> NodeRef<'a> {
     ) -> Option<NodeRef<'a>>
         requires { F.IsAlwaysCallable filter.now }
         ensures world { IfSome result (λ node. world_at node ≡ world_at self.now) }
-        ensures node { (f : FullNodeId → FilterResult) → Follows (FnReturnsAt F.Fn filter.now) (world_at self.now) f →
-            option_map id_at result ≡ selection_container f (world_at self.now) (id_at self.now) }
+        ensures node { IsBy (FnReturnsAt F.Fn filter.now) self.now selection_container (option_map id_at result) }
     {
         self.state.know();
         let mut current = *self;
@@ -94,8 +91,7 @@ impl<'a> NodeRef<'a> {
         filter: &F,
     ) -> Option<usize>
         requires { F.IsAlwaysCallable filter.now }
-        ensures { (f : FullNodeId → FilterResult) → Follows (FnReturnsAt F.Fn filter.now) (world_at self.now) f →
-            result ≡ size_of_set_from_container f (world_at self.now) (id_at self.now) }
+        ensures { IsBy (FnReturnsAt F.Fn filter.now) self.now size_of_set_from_container result }
     {
         self.state.know();
         let mut current = *self;

@@ -19,8 +19,9 @@ impl<'a> NodeRef<'a> {
     ) -> Option<NodeRef<'a>>
         requires { F.IsAlwaysCallable test }
         ensures world { IfSome result (λ node. world_at node ≡ world_at self.entry) }
-        ensures node { (p : FullNodeId → Bool) → TestsNodes (FnReturnsAt F.Fn test) (world_at self.entry) p →
-            option_map id_at result ≡ find p (ancestors (world_at self.entry) (id_at self.entry)) }
+        ensures node { let w = world_at self.entry in
+            (p : FullNodeId → Bool) → TestsNodes (FnReturnsAt F.Fn test) w p →
+            option_map id_at result ≡ find p (ancestors w (id_at self.entry)) }
     {
         self.state.know();
         let mut current = self;
@@ -37,8 +38,9 @@ impl<'a> NodeRef<'a> {
     pub(crate) fn nearest<F: Fn(&Node) -> bool>(self, test: F) -> Option<NodeRef<'a>>
         requires { F.IsAlwaysCallable test }
         ensures world { IfSome result (λ node. world_at node ≡ world_at self.entry) }
-        ensures node { (p : NodeData → Bool) → TestsData (FnReturnsAt F.Fn test) p →
-            option_map id_at result ≡ find (says p (world_at self.entry)) (upward (world_at self.entry) (id_at self.entry)) }
+        ensures node { let w = world_at self.entry in
+            (p : NodeData → Bool) → TestsData (FnReturnsAt F.Fn test) p →
+            option_map id_at result ≡ find (says p w) (upward w (id_at self.entry)) }
     {
         self.state.know();
         let mut current = self;

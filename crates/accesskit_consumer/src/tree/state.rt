@@ -188,12 +188,14 @@ impl TreeState {
         steps: &mut Steps,
     ) -> Result<(), AllocError>
         requires { IsDecision self.old (update_data update) decision }
-        ensures state { OnOk result (self.new ≡ overlaid_world self.old (update_data update) decision) }
+        ensures state { let u = update_data update in
+            OnOk result (self.new ≡ overlaid_world self.old u decision) }
         ensures does { OnOk result ((told : List Event)
             × Does self.old (ToUpdate (update_data update)) self.new told Accepted
             × Told H.steps handler.old told handler.new) }
         ensures steps { OnOk result (IsRaisedBy steps.old (2 * change_count decision) steps.new) }
-        ensures counted { OnOk result (CountsEvents self.old (update_data update) self.new steps.old steps.new) }
+        ensures counted { let u = update_data update in
+            OnOk result (CountsEvents self.old u self.new steps.old steps.new) }
         ensures err { OnErr result ((self.new ≡ self.old) × (handler.new ≡ handler.old)) }
     {
         self.store.reserve(&update, &decision)?;

@@ -231,7 +231,8 @@ impl<'a> StateRef<'a> {
 
     /// The node with this id, if it is in the state.
     pub fn node_by_id(&self, id: FullNodeId) -> Option<NodeRef<'a>>
-        ensures { ShowsThe (world_of self.now) (λ it. (it ≡ id) × IsNode (world_of self.now) it) result }
+        ensures { let w = world_of self.now in
+            ShowsThe w (λ it. (it ≡ id) × IsNode w it) result }
     {
         let state = *self;
         match state.data(id) {
@@ -242,7 +243,8 @@ impl<'a> StateRef<'a> {
 
     /// The node with this id within the tree of this name, if it is in the state.
     pub fn node_by_tree_local_id(&self, node: NodeId, tree: TreeId) -> Option<NodeRef<'a>>
-        ensures { ShowsThe (world_of self.now) (λ it. local_id_of (world_of self.now) it ≡ Some (node, tree)) result }
+        ensures { let w = world_of self.now in
+            ShowsThe w (λ it. local_id_of w it ≡ Some (node, tree)) result }
     {
         self.know();
         match self.tree_index(tree) {

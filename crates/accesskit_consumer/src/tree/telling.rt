@@ -38,7 +38,9 @@ pub(crate) fn tell_all<H: TreeChangeHandler>(
     handler: &mut H,
 )
     requires { All (IsTellable (world_of old) (world_of new)) differences.now }
-    ensures { Told H.steps handler.old (events (world_of old.entry) (world_of new.entry) differences.now) handler.new }
+    ensures { let before = world_of old.entry in
+        let after = world_of new.entry in
+        Told H.steps handler.old (events before after differences.now) handler.new }
 {
     for event in differences {
         tell(old, new, *event, handler);

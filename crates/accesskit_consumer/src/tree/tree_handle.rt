@@ -88,9 +88,11 @@ impl Tree {
         ensures does { (told : List Event)
             × Does self.old (ToUpdate (update_data update)) self.new told (reply_of result)
             × Told H.steps handler.old told handler.new }
-        ensures steps { OnOk result ((work : Work) → IsWorkOf self.old (update_data update) self.new work
+        ensures steps { OnOk result ((work : Work)
+            → IsWorkOf self.old (update_data update) self.new work
             → steps.new ≤ steps.old + allowance work) }
-        ensures counted { OnOk result (CountsEvents self.old (update_data update) self.new steps.old steps.new) }
+        ensures counted { let u = update_data update in
+            OnOk result (CountsEvents self.old u self.new steps.old steps.new) }
     {
         let decision = self.state.decide(self.alloc, &update, steps)?;
         self.state.apply(update, decision, handler, steps)?;
