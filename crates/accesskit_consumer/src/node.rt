@@ -3,7 +3,7 @@ mod actions;
 mod fields;
 pub(crate) mod geometry;
 mod inherited;
-mod kin;
+pub(crate) mod kin;
 mod node_reads;
 mod node_ref;
 mod roles;
