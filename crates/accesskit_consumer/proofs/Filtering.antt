@@ -1,24 +1,26 @@
 -- The common filter on its way up.
 use Rattle.std.proofs.Common.{◌≡◌, Bool, true, false, cond, not, ◌&&◌, ◌||◌, List, [], ◌∷◌, Option, Some, None, refl, sym, ap, subst, ◌∙◌}
 use Rattle.std.specs.Prelude.{find, is_none, take_while, unwrap_or}
-use Rattle.std.specs.Option.{option_map, option_map_or}
+use Rattle.std.specs.Option.{option_map_or}
 use Rattle.std.specs.List.{list_any}
 use Rattle.std.proofs.lemmas.List.Sums.{take_while-cons}
 use Rattle.model.specs.declared.FullNodeId.{FullNodeId}
 use Rattle.model.specs.declared.filters.FilterResult.{FilterResult}
 use Rattle.model.specs.declared.filters.FilterResult.TheVariants.{Include, ExcludeNode, ExcludeSubtree}
-use Rattle.model.specs.World.{World}
+use Rattle.schema.specs.NodeData.{NodeData}
+use Rattle.model.specs.World.{World, data_of}
 use Rattle.model.specs.Forest.{IsFormed}
 use Rattle.model.specs.Lists.{ancestors}
-use Rattle.model.specs.Upward.{says, upward}
-use Rattle.model.specs.Covers.{is_included, filtered_parent}
+use Rattle.model.specs.Upward.{says, says_upward, upward}
+use Rattle.model.specs.Covers.{is_included, is_cut_off, filtered_parent}
+use Rattle.model.specs.Geometry.{bounding_box}
 use Rattle.model.specs.FocusFound.{is_focused}
-use Rattle.model.specs.Filters.{is_hidden, is_transparent, first_answer, base_filter, is_clipped_by, is_clipped, common_filter}
+use Rattle.model.specs.Filters.{is_hidden, is_transparent, first_answer, base_filter, is_far_outside, is_clipped_by, is_clipped, answer_at, common_filter}
 use Rattle.model.proofs.Views.ViewFacts.{clipped_on_the_way}
 use Rattle.accesskit_consumer.specs.declared.node.node_ref.NodeRef.{NodeRef}
 use Rattle.accesskit_consumer.specs.Nodes.{world_at, id_at}
 use Rattle.accesskit_consumer.specs.FocusedOne.{IsFocusedOne, is_passed, clipped_from}
-use Rattle.accesskit_consumer.proofs.Climbing.{parent_of, parent_above, nothing_above, climb_finds, climb_goes_on, climb_ends}
+use Rattle.accesskit_consumer.proofs.Climbing.{parent_of, parent_above, nothing_above, rest_above, climb_finds, climb_goes_on, climb_ends}
 
 -- ---- what is settled, by its three tests
 
@@ -135,6 +137,79 @@ module _ (w : World) (formed : IsFormed w) (v : World) (same : v ≡ w) (id : Fu
 
 pub answer_on_the_way : (w : World) → IsFormed w → (id : FullNodeId) (clipped : Bool) → None ≡ first_answer w id → clipped ≡ clipped_from w (upward w id) → cond clipped ExcludeSubtree Include ≡ common_filter w id
 answer_on_the_way w formed id clipped e is = ap (λ b. cond b ExcludeSubtree Include) is ∙ sym (clipped_on_the_way w formed id (sym e))
+
+-- ---- where nothing is hidden or clips
+
+pub or_first : (a b : Bool) → (a || b) ≡ false → a ≡ false
+or_first true b e = cc
+or_first false b e = refl
+
+neither : (a b : Bool) → a ≡ false → b ≡ false → (a || b) ≡ false
+neither true b e f = cc
+neither false b e f = f
+
+none_by_less : (p q : FullNodeId → Bool) → ((x : FullNodeId) → p x ≡ false → q x ≡ false) → (xs : List FullNodeId) → list_any p xs ≡ false → list_any q xs ≡ false
+none_by_less p q less [] e = refl
+none_by_less p q less (x ∷ xs) e = neither (q x) (list_any q xs) (less x (or_first (p x) (list_any p xs) e)) (none_by_less p q less xs (or_later (p x) (list_any p xs) e))
+
+none_taken : (q g : FullNodeId → Bool) (xs : List FullNodeId) → list_any q xs ≡ false → list_any q (take_while g xs) ≡ false
+none_taken q g [] e = refl
+none_taken q g (x ∷ xs) e = ap (list_any q) (take_while-cons g x xs) ∙ by_test (g x) (none_taken q g xs (or_later (q x) (list_any q xs) e))
+  where
+    by_test : (b : Bool) → list_any q (take_while g xs) ≡ false → list_any q (cond b (x ∷ take_while g xs) []) ≡ false
+    by_test true later = neither (q x) (list_any q (take_while g xs)) (or_first (q x) (list_any q xs) e) later
+    by_test false later = refl
+
+-- what is found is no node that fails
+found_fails : (p c : FullNodeId → Bool) (more : FullNodeId → Bool) (xs : List FullNodeId) → list_any c xs ≡ false → option_map_or (λ r. c r && more r) (find p xs) false ≡ false
+found_fails p c more [] e = refl
+found_fails p c more (x ∷ xs) e = by_test (p x) (found_fails p c more xs (or_later (c x) (list_any c xs) e))
+  where
+    by_test : (b : Bool) → option_map_or (λ r. c r && more r) (find p xs) false ≡ false → option_map_or (λ r. c r && more r) (cond b (Some x) (find p xs)) false ≡ false
+    by_test true later = ap (λ b. b && more x) (or_first (c x) (list_any c xs) e)
+    by_test false later = later
+
+module _ (w : World) (formed : IsFormed w) where
+  unclipped_here : (up : List FullNodeId) (id : FullNodeId) → ancestors w id ≡ up → list_any (says (λ d. d.clips_children) w) up ≡ false → is_clipped w id ≡ false
+  unclipped_here up id above none =
+      ap (λ xs. option_map_or (λ p. is_clipped_by w p id) (find (λ a. is_included (base_filter w a)) xs) false) above
+      ∙ found_fails (λ a. is_included (base_filter w a)) (says (λ d. d.clips_children) w) (λ p. option_map_or (λ frame. is_far_outside w frame id) (bounding_box w p) false) up none
+
+  unclipped : (up : List FullNodeId) (id : FullNodeId) → ancestors w id ≡ up → list_any (says (λ d. d.clips_children) w) up ≡ false → list_any (is_clipped w) (id ∷ up) ≡ false
+  unclipped [] id above none = neither (is_clipped w id) false (unclipped_here [] id above none) refl
+  unclipped (q ∷ up) id above none =
+      neither (is_clipped w id) (list_any (is_clipped w) (q ∷ up)) (unclipped_here (q ∷ up) id above none)
+      (unclipped up q (rest_above w formed id q up above) (or_later (says (λ d. d.clips_children) w q) (list_any (says (λ d. d.clips_children) w) up) none))
+
+  module _ (id : FullNodeId) (free : says_upward (λ d. d.hidden || d.clips_children) w id ≡ false) where
+    data_free : (x : FullNodeId) (o : Option NodeData) → data_of w x ≡ o → says (λ d. d.hidden || d.clips_children) w x ≡ false → (says (λ d. d.hidden) w x ≡ false) × (says (λ d. d.clips_children) w x ≡ false)
+    data_free x None at e = (ap (λ o. option_map_or (λ d. d.hidden) o false) at, ap (λ o. option_map_or (λ d. d.clips_children) o false) at)
+    data_free x (Some d) at e =
+        let both : (d.hidden || d.clips_children) ≡ false = sym (ap (λ o. option_map_or (λ d. d.hidden || d.clips_children) o false) at) ∙ e in
+        (ap (λ o. option_map_or (λ d. d.hidden) o false) at ∙ or_first d.hidden d.clips_children both, ap (λ o. option_map_or (λ d. d.clips_children) o false) at ∙ or_later d.hidden d.clips_children both)
+
+    free_is_seen : is_hidden w id ≡ false
+    free_is_seen = none_by_less (says (λ d. d.hidden || d.clips_children) w) (says (λ d. d.hidden) w) (λ x e. (data_free x (data_of w x) refl e).0) (upward w id) free
+
+    free_is_unclipped : clipped_from w (upward w id) ≡ false
+    free_is_unclipped =
+        none_taken (is_clipped w) (λ a. is_none (first_answer w a)) (upward w id)
+        (unclipped (ancestors w id) id refl
+        (or_later (says (λ d. d.clips_children) w id) (list_any (says (λ d. d.clips_children) w) (ancestors w id))
+        (none_by_less (says (λ d. d.hidden || d.clips_children) w) (says (λ d. d.clips_children) w) (λ x e. (data_free x (data_of w x) refl e).1) (upward w id) free)))
+
+    settled_as : (r : FilterResult) → first_answer w id ≡ Some r → r ≡ common_filter w id
+    settled_as r e = sym (ap (λ o. unwrap_or o (cond (is_cut_off (answer_at w (ancestors w id)) || is_clipped w id) ExcludeSubtree Include)) e)
+
+    pub free_passed : is_passed w id ≡ true → ExcludeNode ≡ common_filter w id
+    free_passed passed = settled_as ExcludeNode (passed_by_tests (is_focused w id) (is_hidden w id) (is_transparent w id) free_is_seen passed)
+
+    pub free_kept : is_passed w id ≡ false → Include ≡ common_filter w id
+    free_kept kept = by_focus (is_focused w id) refl
+      where
+        by_focus : (b : Bool) → is_focused w id ≡ b → Include ≡ common_filter w id
+        by_focus true e = settled_as Include (focused_settled w id e)
+        by_focus false e = answer_on_the_way w formed id false (sym (open_by_tests (is_focused w id) (is_hidden w id) (is_transparent w id) free_is_seen kept e)) (sym free_is_unclipped)
 
 -- ---- what the code's tests say of a view
 

@@ -8,6 +8,7 @@ pub mod Filtering
 pub mod FocusTests
 pub mod Inheriting
 pub mod Moves
+pub mod Missed
 pub mod Children
 pub mod Counting
 pub mod Depths

@@ -1,5 +1,6 @@
 pub mod Sound
 pub mod Views
+pub mod Places
 pub mod Nodes
 pub mod Telling
 pub mod Replies

@@ -1,8 +1,8 @@
 //! The filters that all callers share.
-ghost use Rattle.std.specs.Prelude.{◌≡◌, false, None, IfSome, option_map};
+ghost use Rattle.std.specs.Prelude.{◌≡◌, ◌||◌, false, None, IfSome, option_map};
 ghost use Rattle.std.specs.Option.{option_map_or};
 ghost use Rattle.model.specs.Forest.{is_same};
-ghost use Rattle.model.specs.Upward.{upward};
+ghost use Rattle.model.specs.Upward.{upward, says_upward};
 ghost use Rattle.model.specs.Covers.{filtered_parent};
 ghost use Rattle.model.specs.Geometry.{bounding_box, meets};
 ghost use Rattle.model.specs.Filters.{is_hidden, is_transparent, first_answer, base_filter, is_outside, is_far_outside, is_clipped_by, common_filter, common_filter_with_root_exception};
@@ -18,7 +18,7 @@ use crate::walks::filter::Filter;
 use crate::walks::siblings::{first_following, first_preceding};
 use model::FullNodeId;
 pub use model::filters::FilterResult;
-use schema::{Role, WideRect};
+use schema::{Node, Role, WideRect};
 
 /// The id of the node that is focused, where one is.
 fn focused_id(state: StateRef<'_>) -> Option<FullNodeId>
@@ -204,6 +204,36 @@ fn is_clipped_on_the_way(node: NodeRef<'_>, focused: Option<FullNodeId>) -> bool
     false
 }
 
+/// Whether the data are of a node that is hidden or clips its children.
+fn is_restricting(node: &Node) -> bool
+    ensures { result ≡ (node.now.hidden || node.now.clips_children) }
+{
+    if node.is_hidden() {
+        return true;
+    }
+    node.clips_children()
+}
+
+/// Whether the node or one above it is hidden or clips its children.
+fn is_restricted(node: &NodeRef<'_>) -> bool
+    ensures { result ≡ says_upward (λ d. d.hidden || d.clips_children) (world_at node.now) (id_at node.now) }
+{
+    node.nearest(|data| is_restricting(data)).is_some()
+}
+
+/// What is shown of a node where neither it nor one above it is hidden or clips its children.
+fn unrestricted_answer(node: &NodeRef<'_>, focused: Option<FullNodeId>) -> FilterResult
+    requires focus { IsFocusedOne (world_at node.now) focused }
+    requires free { says_upward (λ d. d.hidden || d.clips_children) (world_at node.now) (id_at node.now) ≡ false }
+    ensures { result ≡ common_filter (world_at node.now) (id_at node.now) }
+{
+    node.state.know();
+    if is_passed(node, focused) {
+        return FilterResult::ExcludeNode;
+    }
+    FilterResult::Include
+}
+
 /// What an adapter shows of a node, by six rules, of which the first that applies decides:
 /// it is focused and shown; it is hidden, itself or by an ancestor, and cut off; it is a graft, a container or a text run
 /// and left out alone; its parent is cut off, and so is it; it lies far outside of what clips it, and is cut off;
@@ -213,6 +243,9 @@ pub fn common_filter(node: &NodeRef<'_>) -> FilterResult
 {
     node.state.know();
     let focused = focused_id(node.state);
+    if !is_restricted(node) {
+        return unrestricted_answer(node, focused);
+    }
     if let Some(answer) = settled(node, focused) {
         return answer;
     }

@@ -3,7 +3,7 @@ mod actions;
 mod fields;
 pub(crate) mod geometry;
 mod inherited;
-mod kin;
+pub(crate) mod kin;
 mod labels;
 mod masking;
 mod node_reads;

@@ -4,7 +4,7 @@ ghost use Rattle.accesskit_consumer.specs.Sound.{IsSound, IsSound-prop, HasRoom,
 use crate::node::NodeRef;
 use model::FullNodeId;
 use schema::{Node, NodeId, TreeId};
-use tree_changes::Place;
+use tree_changes::{NodeRecord, Place};
 use tree_store::{Overlay, Store};
 
 /// A state, as it is read: the one that is kept, with the changes of an update laid over it where there are any.
@@ -103,6 +103,23 @@ impl<'a> StateRef<'a> {
         }
     }
 
+    /// A node's place and data.
+    pub(crate) fn node_record(self, id: FullNodeId) -> Option<NodeRecord<'a>>
+        ensures data { option_map (λ r. r.node.now) result ≡ data_of (world_of self.entry) id }
+        ensures place { IfSome result (λ r. r.place ≡ place_of (world_of self.entry) id) }
+    {
+        match self.overlay {
+            Some(overlay) => match overlay.data(self.base, id) {
+                Some(node) => Some(NodeRecord {
+                    place: overlay.place(self.base, id),
+                    node,
+                }),
+                None => None,
+            },
+            None => self.base.record(id),
+        }
+    }
+
     /// The effective focus.
     pub(crate) fn known_focus(self) -> FullNodeId
         ensures { IsEffectiveFocus (world_of self.entry) result }
@@ -175,11 +192,12 @@ impl<'a> StateRef<'a> {
         requires { IsNode (world_of self) id }
         ensures { IsView (world_of self.entry) id result }
     {
-        let node = self.data(id).unwrap();
+        let found = self.node_record(id).unwrap();
         NodeRef {
             state: self,
             id,
-            node,
+            node: found.node,
+            place: found.place,
         }
     }
 
@@ -235,8 +253,13 @@ impl<'a> StateRef<'a> {
             ShowsThe w (λ it. (it ≡ id) × IsNode w it) result }
     {
         let state = *self;
-        match state.data(id) {
-            Some(node) => Some(NodeRef { state, id, node }),
+        match state.node_record(id) {
+            Some(found) => Some(NodeRef {
+                state,
+                id,
+                node: found.node,
+                place: found.place,
+            }),
             None => None,
         }
     }

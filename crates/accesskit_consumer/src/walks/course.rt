@@ -103,7 +103,7 @@ impl<'a> Course<'a> {
             return None;
         };
         self.ends = without_front(self.state, self.top, ends, filter);
-        Some(self.state.view(ends.front.member))
+        Some(ends.front.view(self.state))
     }
 
     /// Takes the node at the back, where one is left.
@@ -116,6 +116,6 @@ impl<'a> Course<'a> {
             return None;
         };
         self.ends = without_back(self.state, self.top, ends, filter);
-        Some(self.state.view(ends.back.member))
+        Some(ends.back.view(self.state))
     }
 }

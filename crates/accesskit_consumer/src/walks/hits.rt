@@ -1,5 +1,5 @@
 //! What lies at a point.
-ghost use Rattle.std.specs.Prelude.{◌≡◌, ℕ, ◌+◌, ◌^◌, ◌+ℤ◌, ◌-ℤ◌, false, IfSome, FitsSigned, option_map};
+ghost use Rattle.std.specs.Prelude.{◌≡◌, ◌||◌, ℕ, ◌+◌, ◌^◌, ◌+ℤ◌, ◌-ℤ◌, false, IfSome, FitsSigned, option_map};
 ghost use Rattle.std.specs.Fn.{FnReturnsAt};
 ghost use Rattle.std.specs.Int.{w32};
 ghost use Rattle.std.specs.Option.{option_map_or};
@@ -11,9 +11,10 @@ ghost use Rattle.model.specs.Geometry.{is_between, contains_point, direct_transf
 ghost use Rattle.model.specs.Hits.{wide_point, seen_by_child, seen_by_parent, is_hit, hit_seen};
 ghost use Rattle.accesskit_consumer.specs.Nodes.{world_at, id_at};
 ghost use Rattle.accesskit_consumer.specs.Follows.{Follows};
-ghost use Rattle.accesskit_consumer.specs.SeenPoints.{IsNear, wide_of};
+ghost use Rattle.accesskit_consumer.specs.SeenPoints.{IsNear, wide_of, is_bare_miss};
 
 use crate::node::NodeRef;
+use crate::node::kin::is_included;
 use crate::node::same::is_same;
 use crate::walks::filter::{ByRef, Filter};
 use crate::walks::spot::Member;
@@ -137,6 +138,16 @@ fn is_at(node: NodeRef<'_>, seen: Seen) -> bool
     }
 }
 
+/// Whether a node with so many children has none, and isn't at the point itself.
+fn is_bare_miss(node: NodeRef<'_>, count: usize, seen: Seen) -> bool
+    ensures { result ≡ is_bare_miss (world_at node.entry) (id_at node.entry) count (wide_of seen) }
+{
+    if count > 0 {
+        return false;
+    }
+    !is_at(node, seen)
+}
+
 /// Whether the filter cuts a node off.
 fn is_cut<F: Filter>(node: NodeRef<'_>, filter: &F) -> bool
     requires { F.can_answer filter.now }
@@ -155,11 +166,22 @@ fn is_hit_itself<F: Filter>(node: NodeRef<'_>, seen: Seen, filter: &F) -> bool
     ensures { let w = world_at node.entry in
         (f : FullNodeId → FilterResult) → Follows (F.answers filter.now) w f → result ≡ is_hit f w (id_at node.entry) (wide_of seen) }
 {
-    match filter.answer(&node) {
-        FilterResult::Include => is_at(node, seen),
-        FilterResult::ExcludeNode => false,
-        FilterResult::ExcludeSubtree => false,
+    if !is_at(node, seen) {
+        return false;
     }
+    is_included(filter.answer(&node))
+}
+
+/// Whether a node with so many children is passed over: the filter cuts it off, or it has no child and isn't at the point.
+fn is_missed<F: Filter>(node: NodeRef<'_>, count: usize, seen: Seen, filter: &F) -> bool
+    requires { F.can_answer filter.now }
+    ensures { let w = world_at node.entry in
+        (f : FullNodeId → FilterResult) → Follows (F.answers filter.now) w f → result ≡ (is_cut_off (f (id_at node.entry)) || is_bare_miss w (id_at node.entry) count (wide_of seen)) }
+{
+    if is_bare_miss(node, count, seen) {
+        return true;
+    }
+    is_cut(node, filter)
 }
 
 /// The node that is hit at a point, as `top` sees it: the last one in pre-order.
@@ -193,19 +215,23 @@ fn hit_below<'a, F: Filter>(top: NodeRef<'a>, at: Seen, filter: &F) -> Option<No
                 state,
                 id: child.member.id,
                 node: child.member.node,
+                place: Some((child.parent.id, child.index)),
             };
-            if is_cut(node, filter) {
+            let below = into_child(seen, node);
+            let count = state.child_count(child.member);
+            if is_missed(node, count, below, filter) {
                 index -= 1;
             } else {
-                seen = into_child(seen, node);
-                index = state.child_count(child.member);
                 parent = child.member;
+                index = count;
+                seen = below;
             }
         } else {
             let node = NodeRef {
                 state,
                 id: parent.id,
                 node: parent.node,
+                place: state.place(parent.id),
             };
             if is_hit_itself(node, seen, filter) {
                 return Some(node);

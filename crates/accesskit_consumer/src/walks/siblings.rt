@@ -32,7 +32,7 @@ pub(crate) fn first_following<'a, F: Filter>(node: NodeRef<'a>, filter: &F) -> O
         return None;
     };
     match following(state, top.id, spot, filter) {
-        Some(found) => Some(state.view(found.member)),
+        Some(found) => Some(found.view(state)),
         None => None,
     }
 }
@@ -58,7 +58,7 @@ pub(crate) fn first_preceding<'a, F: Filter>(node: NodeRef<'a>, filter: &F) -> O
         return None;
     };
     match preceding(state, top.id, spot, filter) {
-        Some(found) => Some(state.view(found.member)),
+        Some(found) => Some(found.view(state)),
         None => None,
     }
 }

@@ -47,6 +47,7 @@ impl<'a> StateRef<'a> {
             state: self,
             id: member.id,
             node: member.node,
+            place: self.place(member.id),
         }
     }
 
@@ -115,6 +116,23 @@ impl<'a> StateRef<'a> {
                 })
             }
             None => None,
+        }
+    }
+}
+
+impl<'a> Spot<'a> {
+    /// The view of the node.
+    pub(crate) fn view(self, state: StateRef<'a>) -> NodeRef<'a>
+        requires { IsSpot (world_of state) self }
+        ensures world { world_at result ≡ world_of state.entry }
+        ensures id { id_at result ≡ self.entry.member.id }
+    {
+        state.know();
+        NodeRef {
+            state,
+            id: self.member.id,
+            node: self.member.node,
+            place: Some((self.parent.id, self.index)),
         }
     }
 }

@@ -43,7 +43,7 @@ pub(crate) fn next_shown<'a, F: Filter>(
     let mut index = start_index;
     loop {
         match state.child(parent, index) {
-            Some(child) => match filter.answer(&state.view(child.member)) {
+            Some(child) => match filter.answer(&child.view(state)) {
                 FilterResult::Include => return Some(child),
                 FilterResult::ExcludeNode => {
                     parent = child.member;
@@ -94,7 +94,7 @@ pub(crate) fn previous_shown<'a, F: Filter>(
             let Some(child) = state.child(parent, index - 1) else {
                 return None;
             };
-            match filter.answer(&state.view(child.member)) {
+            match filter.answer(&child.view(state)) {
                 FilterResult::Include => return Some(child),
                 FilterResult::ExcludeNode => {
                     index = state.child_count(child.member);
