@@ -14,9 +14,7 @@ pub mod Counting
 pub mod Depths
 pub mod Following
 pub mod ItemSteps
-pub mod Alike
 pub mod LabelSteps
-pub mod Writing
 pub mod Named
 pub mod PlanEvents
 pub mod RangeEnds
@@ -26,8 +24,6 @@ pub mod Showing
 pub mod Walked
 pub mod Weights
 pub mod RunSteps
-pub mod RunTexts
-pub mod DocumentTexts
 pub mod RisingNumbers
 pub mod CutTexts
 pub mod FitRuns
