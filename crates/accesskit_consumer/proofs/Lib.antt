@@ -25,3 +25,9 @@ pub mod RunSteps
 pub mod RisingNumbers
 pub mod CutTexts
 pub mod FitRuns
+pub mod FlatRuns
+pub mod CharacterMoves
+pub mod PositionSteps
+pub mod Boundaries
+pub mod TextEnds
+pub mod PositionTests

@@ -20,3 +20,6 @@ pub mod SeenPoints
 pub mod RunPlaces
 pub mod Runs
 pub mod WellFormed
+pub mod RunNumbers
+pub mod Positions
+pub mod Marks
