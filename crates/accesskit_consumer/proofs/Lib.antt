@@ -28,3 +28,9 @@ pub mod RisingNumbers
 pub mod CutTexts
 pub mod FitRuns
 pub mod Mirroring
+pub mod FlatRuns
+pub mod CharacterMoves
+pub mod PositionSteps
+pub mod Boundaries
+pub mod TextEnds
+pub mod PositionTests

@@ -27,3 +27,6 @@ pub mod RunPlaces
 pub mod Runs
 pub mod WellFormed
 pub mod Mirrored
+pub mod RunNumbers
+pub mod Positions
+pub mod Marks

@@ -1,4 +1,12 @@
 //! Texts that are made of runs: positions in them, and ranges of them.
+mod boundaries;
+mod characters;
+mod ends;
+mod lines;
 mod parts;
+mod position;
+mod predicates;
 pub(crate) mod runs;
 mod well_formed;
+
+pub use position::TextPosition;

@@ -106,6 +106,13 @@ impl<'a> Run<'a> {
         }
     }
 
+    /// The node whose run it is.
+    pub(super) fn root(self) -> NodeRef<'a>
+        ensures { result ≡ root_of self.entry }
+    {
+        self.root
+    }
+
     /// The id of the run's node.
     pub(crate) fn id(self) -> FullNodeId
         ensures { result ≡ run_id self.entry }

@@ -1,0 +1,17 @@
+use Rattle.std.proofs.Common.{◌≡◌, ◌<◌, ◌-◌, refl, sym, ap, ◌∙◌, arith}
+use Rattle.accesskit_consumer.specs.Positions.{text_at, position_at}
+use Rattle.accesskit_consumer.proofs.FlatRuns.{text_is_whole, is_position}
+use Rattle.accesskit_consumer.proofs.PositionSteps.{room_before}
+use Rattle.accesskit_consumer.proofs.CharacterMoves.{same_place, character_before}
+use Rattle.accesskit_consumer.proofs.text.position.TextPosition.backward_to_character_start.Goals as goal
+
+pub overflow_sub-result : goal.overflow_sub-result
+overflow_sub-result c =
+    let room = room_before c.args.self.now c.biased_to_end-end.result c.biased_to_end-end.ensures c.requires in
+    omega (arith, room)
+
+pub returns : goal.returns
+returns c =
+    let p = c.args.self.now in
+    let q = c.biased_to_end-end.ensures.at in
+    record { same = c.biased_to_end-end.ensures.same; at = same_place _ _ _ (ap (λ s. s.run) q) (ap (λ s. s.index - 1) q) ∙ sym (character_before (text_at p) (text_is_whole p) (position_at p) (is_position p) c.requires) }

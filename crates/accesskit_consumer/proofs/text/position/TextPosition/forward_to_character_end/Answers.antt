@@ -1,0 +1,26 @@
+use Rattle.std.proofs.Common.{◌≡◌, ◌<◌, ◌+◌, refl, sym, ap, subst, ◌∙◌, arith}
+use Rattle.model.specs.TextRuns.{said_count}
+use Rattle.model.specs.FlatText.{count_in}
+use Rattle.accesskit_consumer.specs.Runs.{sent_of}
+use Rattle.accesskit_consumer.specs.RunNumbers.{number_in}
+use Rattle.accesskit_consumer.specs.Positions.{text_of, text_at, position_at}
+use Rattle.accesskit_consumer.proofs.FlatRuns.{text_is_whole, is_position}
+use Rattle.accesskit_consumer.proofs.PositionSteps.{room_after}
+use Rattle.accesskit_consumer.proofs.CharacterMoves.{same_place, character_end}
+use Rattle.accesskit_consumer.proofs.text.position.TextPosition.forward_to_character_end.Goals as goal
+
+pub overflow_add-result : goal.overflow_add-result
+overflow_add-result c =
+    let room = room_after c.args.self.now c.biased_to_start-start.result c.biased_to_start-start.ensures c.requires in
+    omega (arith, room, c.character_count-count.ensures, c.character_count-count.type_inv)
+
+pub invariant_of-result : goal.invariant_of-result
+invariant_of-result c =
+    let room = room_after c.args.self.now c.biased_to_start-start.result c.biased_to_start-start.ensures c.requires in
+    record { text = c.biased_to_start-start.result.text; within = omega (arith, room) }
+
+pub returns : goal.returns
+returns c =
+    let p = c.args.self.now in
+    let q = c.biased_to_start-start.ensures.at in
+    record { same = c.biased_to_start-start.ensures.same; at = same_place _ _ _ (ap (λ s. s.run) q) (ap (λ s. s.index + 1) q) ∙ sym (character_end (text_at p) (text_is_whole p) (position_at p) (is_position p) c.requires) }

@@ -1,0 +1,12 @@
+use Rattle.std.proofs.Common.{◌+◌}
+use Rattle.model.specs.FlatText.{FlatText, Position, biased_to_start, ends_line}
+use Rattle.model.specs.Moves.{end_from}
+use Rattle.accesskit_consumer.specs.RunNumbers.{number_in}
+use Rattle.accesskit_consumer.specs.Positions.{root_at, text_at, position_at}
+use Rattle.accesskit_consumer.proofs.TextEnds.{then_at}
+use Rattle.accesskit_consumer.proofs.text.position.TextPosition.forward_to_line_start.Goals as goal
+
+pub returns : goal.returns
+returns c =
+    let p = c.args.self.now in
+    then_at biased_to_start (root_at p) (end_from (text_at p) (number_in p.run) (ends_line (text_at p))) c.end_of.result c.biased_to_start.result c.end_of.ensures c.biased_to_start.ensures

@@ -1,0 +1,92 @@
+//! What a position is.
+ghost use Rattle.std.specs.Prelude.{◌≡◌, Some, slice_get, option_map};
+ghost use Rattle.model.specs.FlatText.{is_line_start, is_line_end, is_document_start, is_document_end, is_page_start, is_paragraph_start, is_paragraph_end};
+ghost use Rattle.accesskit_consumer.specs.Nodes.{world_at, id_at};
+ghost use Rattle.accesskit_consumer.specs.Positions.{root_at, text_at, position_at};
+
+use crate::node::NodeRef;
+use crate::text::position::TextPosition;
+
+impl<'a> TextPosition<'a> {
+    /// The run that the position names.
+    pub fn inner_node(&self) -> NodeRef<'a>
+        ensures world { world_at result ≡ world_at (root_at self.now) }
+        ensures run { option_map (λ r. r.id) (slice_get (text_at self.now) (position_at self.now).run) ≡ Some (id_at result) }
+    {
+        let position = *self;
+        position.run.view()
+    }
+
+    /// Whether a line starts at the position.
+    pub fn is_line_start(&self) -> bool
+        ensures { result ≡ is_line_start (text_at self.now) (position_at self.now) }
+    {
+        let position = *self;
+        if position.index != 0 {
+            return false;
+        }
+        position.run.begins_line()
+    }
+
+    /// Whether a line ends at the position.
+    pub fn is_line_end(&self) -> bool
+        ensures { result ≡ is_line_end (text_at self.now) (position_at self.now) }
+    {
+        let position = *self;
+        if position.index != position.run.character_count() {
+            return false;
+        }
+        position.run.ends_line()
+    }
+
+    /// Whether the text starts at the position.
+    pub fn is_document_start(&self) -> bool
+        ensures { result ≡ is_document_start (text_at self.now) (position_at self.now) }
+    {
+        let position = *self;
+        if position.index != 0 {
+            return false;
+        }
+        position.run.is_first()
+    }
+
+    /// Whether the text ends at the position.
+    pub fn is_document_end(&self) -> bool
+        ensures { result ≡ is_document_end (text_at self.now) (position_at self.now) }
+    {
+        let position = *self;
+        if !position.run.is_last() {
+            return false;
+        }
+        position.index == position.run.character_count()
+    }
+
+    /// Whether the text starts at the position: a text has one page.
+    pub fn is_page_start(&self) -> bool
+        ensures { result ≡ is_page_start (text_at self.now) (position_at self.now) }
+    {
+        self.is_document_start()
+    }
+
+    /// Whether a paragraph starts at the position.
+    pub fn is_paragraph_start(&self) -> bool
+        ensures { result ≡ is_paragraph_start (text_at self.now) (position_at self.now) }
+    {
+        let position = *self;
+        if position.index != 0 {
+            return false;
+        }
+        position.run.begins_paragraph()
+    }
+
+    /// Whether a paragraph ends at the position.
+    pub fn is_paragraph_end(&self) -> bool
+        ensures { result ≡ is_paragraph_end (text_at self.now) (position_at self.now) }
+    {
+        let position = *self;
+        if position.index != position.run.character_count() {
+            return false;
+        }
+        position.run.ends_paragraph()
+    }
+}
