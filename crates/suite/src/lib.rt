@@ -24,6 +24,8 @@ mod grafts;
 #[cfg(test)]
 mod hostile;
 #[cfg(test)]
+mod mirrors;
+#[cfg(test)]
 mod nodes;
 #[cfg(test)]
 mod rebuild;
