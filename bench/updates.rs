@@ -74,7 +74,11 @@ fn root_update(nodes: Vec<(NodeId, Node)>, tree: Option<TreeInfo>) -> TreeUpdate
 /// A button with a label that the number chooses.
 fn button(alloc: Global, number: u64) -> Result<Node, AllocError> {
     let mut node = Node::new(alloc, Role::Button);
-    node.set_label(if number & 1 == 0 { "an even label" } else { "an odd label" })?;
+    node.set_label(if number & 1 == 0 {
+        "an even label"
+    } else {
+        "an odd label"
+    })?;
     Ok(node)
 }
 
@@ -131,8 +135,14 @@ fn relabelled(alloc: Global, leaves: u64, turn: u64) -> Result<TreeUpdate, Alloc
 fn moved(alloc: Global, turn: u64) -> Result<TreeUpdate, AllocError> {
     let is_back = turn & 1 == 0;
     let mut nodes = Vec::with_capacity(alloc, 2)?;
-    nodes.push((NodeId(PARENTS[0]), container(alloc, MOVED, u64::from(is_back))?))?;
-    nodes.push((NodeId(PARENTS[1]), container(alloc, MOVED, u64::from(!is_back))?))?;
+    nodes.push((
+        NodeId(PARENTS[0]),
+        container(alloc, MOVED, u64::from(is_back))?,
+    ))?;
+    nodes.push((
+        NodeId(PARENTS[1]),
+        container(alloc, MOVED, u64::from(!is_back))?,
+    ))?;
     Ok(root_update(nodes, None))
 }
 
