@@ -14,7 +14,9 @@ pub mod Counting
 pub mod Depths
 pub mod Following
 pub mod ItemSteps
+pub mod Alike
 pub mod LabelSteps
+pub mod Writing
 pub mod Named
 pub mod PlanEvents
 pub mod RangeEnds
@@ -24,6 +26,8 @@ pub mod Showing
 pub mod Walked
 pub mod Weights
 pub mod RunSteps
+pub mod RunTexts
+pub mod DocumentTexts
 pub mod RisingNumbers
 pub mod CutTexts
 pub mod FitRuns
