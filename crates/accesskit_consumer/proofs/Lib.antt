@@ -13,7 +13,11 @@ pub mod Counting
 pub mod Depths
 pub mod Following
 pub mod ItemSteps
+pub mod Alike
 pub mod LabelSteps
+pub mod LabelTexts
+pub mod ValueTexts
+pub mod Writing
 pub mod Named
 pub mod PlanEvents
 pub mod RangeEnds
@@ -23,6 +27,8 @@ pub mod Showing
 pub mod Walked
 pub mod Weights
 pub mod RunSteps
+pub mod RunTexts
+pub mod DocumentTexts
 pub mod RisingNumbers
 pub mod CutTexts
 pub mod FitRuns

@@ -15,10 +15,13 @@ pub mod ItemAnswers
 pub mod Ranges
 pub mod Deepest
 pub mod Controlled
+pub mod Writes
 pub mod LabelCourses
 pub mod LabelWalks
+pub mod LabelTexts
 pub mod RoleSets
 pub mod SeenPoints
 pub mod RunPlaces
 pub mod Runs
+pub mod RunTexts
 pub mod WellFormed
