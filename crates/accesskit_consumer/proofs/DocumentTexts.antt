@@ -1,14 +1,18 @@
 -- The text of a document is what is shown of its runs.
 use Rattle.std.proofs.Common.{◌≡◌, ℕ, zero, suc, ◌+◌, ◌-◌, ◌<◌, ◌≤◌, Bool, true, false, List, [], ◌∷◌, ◌++◌, length, take, drop, map, refl, sym, ap, ◌∙◌, arith}
-use Rattle.std.specs.Prelude.{nat_lt, nat_le, ◌&&◌, if◌then◌else◌, sum_by, slice_range}
-use Rattle.std.specs.List.{flat_map, concat, list_all}
+use Rattle.std.specs.Prelude.{nat_lt, nat_le, not, bytes_eq, ◌&&◌, if◌then◌else◌, sum_by, slice_range}
+use Rattle.std.specs.Option.{option_map_or}
+use Rattle.std.specs.List.{flat_map, concat}
 use Rattle.std.specs.Str.{is_utf8}
+use Rattle.std.proofs.lemmas.Bool.{eqb-true}
 use Rattle.std.proofs.lemmas.List.{take_all, take-append-drop}
 use Rattle.std.proofs.lemmas.List.Folds.{concat-append}
+use Rattle.schema.specs.NodeData.{NodeData}
 use Rattle.model.specs.declared.FullNodeId.{FullNodeId}
 use Rattle.model.specs.World.{World}
-use Rattle.model.specs.TextRuns.{SentRun, IsText, sent_runs, is_password, run_value, is_cut_by, cut_by, are_cut, supports_text_ranges}
-use Rattle.model.specs.FlatText.{FlatText, shown_character, needs_masking, shown_run, flat_text, characters, start_of, offset, document_start, document_end}
+use Rattle.model.specs.RoleClasses.{is_password_input}
+use Rattle.model.specs.TextRuns.{SentRun, sent_characters, IsText, sent_runs, is_password, run_value, is_cut_by, cut_by, are_cut, supports_text_ranges}
+use Rattle.model.specs.FlatText.{FlatText, are_alike, shown_character, needs_masking, shown_run, flat_text, characters, start_of, offset, document_start, document_end}
 use Rattle.model.specs.Ranges.{document_range, text_of}
 use Rattle.model.specs.Values.{bullets, document_text}
 use Rattle.model.specs.TextLaws.{IsWhole}
@@ -16,6 +20,8 @@ use Rattle.model.proofs.Text.TextFacts.{both, is_text, start_next}
 use Rattle.model.proofs.Text.WholeTexts.{whole_text}
 use Rattle.model.proofs.Text.Indexes.{start_at_end, total_is}
 use Rattle.model.proofs.Text.RangeTexts.{range_text}
+use Rattle.accesskit_consumer.specs.declared.node.node_ref.NodeRef.{NodeRef}
+use Rattle.accesskit_consumer.specs.Nodes.{world_at, id_at, data_at}
 use Rattle.accesskit_consumer.specs.RunTexts.{shown_of, shown_of_all, shown_text}
 
 -- ---- what is shown of a run
@@ -26,7 +32,7 @@ masked_run bs (n ∷ ns) = ap (λ xs. 226 ∷ 128 ∷ 162 ∷ xs) (masked_run (d
 
 no_bytes : (bs : List ℕ) → is_cut_by bs [] ≡ true → [] ≡ bs
 no_bytes [] e = refl
-no_bytes (b ∷ bs) e = cc
+no_bytes (b ∷ bs) e = let h : length (b ∷ bs) ≡ 0 = eqb-true (length (b ∷ bs)) 0 e in absurd (omega (arith, h))
 
 plain_run : (bs ns : List ℕ) → is_cut_by bs ns ≡ true → concat (map (shown_character false) (cut_by bs ns)) ≡ bs
 plain_run bs [] e = no_bytes bs e
@@ -71,3 +77,19 @@ unfolding flat_text
 document_is_shown w root e =
     let text = is_text w root e in
     document_is_characters (flat_text w root) (whole_text w root text) ∙ all_shown w root (is_password w root) (needs_masking w root) (sent_runs w root) text.cut
+
+-- ---- whether it is masked
+
+module _ (n : NodeRef) where
+  abbrev differs : Bool
+  differs = not (are_alike bytes_eq (flat_map sent_characters (sent_runs (world_at n) (id_at n))))
+
+  by_role : needs_masking (world_at n) (id_at n) ≡ (is_password_input (data_at n).role && differs)
+  unfolding needs_masking
+  by_role = ap (λ o. option_map_or (λ (d : NodeData). is_password_input d.role) o false && differs) n.known
+
+  pub plain_unmasked : is_password_input (data_at n).role ≡ false → false ≡ needs_masking (world_at n) (id_at n)
+  plain_unmasked e = sym (by_role ∙ ap (λ b. b && differs) e)
+
+  pub password_masked : is_password_input (data_at n).role ≡ true → differs ≡ needs_masking (world_at n) (id_at n)
+  password_masked e = sym (by_role ∙ ap (λ b. b && differs) e)

@@ -16,6 +16,8 @@ pub mod Following
 pub mod ItemSteps
 pub mod Alike
 pub mod LabelSteps
+pub mod LabelTexts
+pub mod ValueTexts
 pub mod Writing
 pub mod Named
 pub mod PlanEvents

@@ -1,6 +1,7 @@
 -- A text is written part by part.
 use Rattle.std.proofs.Common.{◌≡◌, ℕ, suc, ◌+◌, ◌-◌, ◌<◌, ◌≤◌, arith, List, [], ◌++◌, append_assoc, append-nil, refl, sym, ◌∙◌, ap, subst}
-use Rattle.std.specs.Prelude.{Result, Ok, Err, OnErr}
+use Rattle.std.specs.Prelude.{Result, Ok, Err, OnOk, OnErr}
+use Rattle.std.proofs.lemmas.Result.{on_ok_weaker, on_err_weaker}
 use Rattle.model.specs.FlatText.{BULLET}
 use Rattle.model.specs.Values.{bullets}
 use Rattle.accesskit_consumer.specs.Writes.{IsWritten, IsCutShort, IsUnderWay}
@@ -46,6 +47,37 @@ module _ {W : Type 0} {received : W → List ℕ} {faults : W → ℕ} where
   -- another name for the rest
   pub rest_is : {text rest other : List ℕ} {old new : W} → rest ≡ other → IsUnderWay received faults text rest old new → IsUnderWay received faults text other old new
   rest_is {text = text} {old = old} {new = new} e way = subst (λ r. IsUnderWay received faults text r old new) e way
+
+  pub nothing_written : (w : W) → IsWritten received faults [] w w
+  nothing_written w = record { has = sym (append-nil (received w)); failed = refl }
+
+  -- another name for the text
+  pub text_is : {text other : List ℕ} {old new : W} → text ≡ other → IsWritten received faults text old new → IsWritten received faults other old new
+  text_is {old = old} {new = new} e h = subst (λ t. IsWritten received faults t old new) e h
+
+  pub cut_is : {text other : List ℕ} {old new : W} → text ≡ other → IsCutShort received faults text old new → IsCutShort received faults other old new
+  cut_is {old = old} {new = new} e h = subst (λ t. IsCutShort received faults t old new) e h
+
+  -- the last part
+  pub last_written : {text rest : List ℕ} {old mid : W} → IsUnderWay received faults text rest old mid → {A E : Type 0} (r : Result A E) (new : W) → OnOk r (IsWritten received faults rest mid new) → OnOk r (IsWritten received faults text old new)
+  last_written {rest = rest} way r new h = on_ok_weaker r (λ k. ends (goes_on (rest_is (sym (append-nil rest)) way) k)) h
+
+  pub last_cut_short : {text rest : List ℕ} {old mid : W} → IsUnderWay received faults text rest old mid → {A E : Type 0} (r : Result A E) (new : W) → OnErr r (IsCutShort received faults rest mid new) → OnErr r (IsCutShort received faults text old new)
+  last_cut_short {rest = rest} way r new h = on_err_weaker r (λ k. stops rest [] (rest_is (sym (append-nil rest)) way) k) h
+
+-- another name for the text of a call
+module _ {W A E : Type 0} (received : W → List ℕ) (faults : W → ℕ) (old new : W) (r : Result A E) {text other : List ℕ} where
+  pub written_as : text ≡ other → OnOk r (IsWritten received faults text old new) → OnOk r (IsWritten received faults other old new)
+  written_as e h = subst (λ t. OnOk r (IsWritten received faults t old new)) e h
+
+  pub cut_short_as : text ≡ other → OnErr r (IsCutShort received faults text old new) → OnErr r (IsCutShort received faults other old new)
+  cut_short_as e h = subst (λ t. OnErr r (IsCutShort received faults t old new)) e h
+
+  pub taken_as : text ≡ other → OnOk r ((received new ≡ received old ++ text) × (faults new ≡ faults old)) → OnOk r (IsWritten received faults other old new)
+  taken_as e h = written_as e (on_ok_weaker r all_taken h)
+
+  pub refused_as : text ≡ other → OnErr r ((received new ≡ received old) × (faults new ≡ faults old + 1)) → OnErr r (IsCutShort received faults other old new)
+  refused_as e h = cut_short_as e (on_err_weaker r none_taken h)
 
 -- ---- bullets
 

@@ -22,6 +22,7 @@ pub mod Controlled
 pub mod Writes
 pub mod LabelCourses
 pub mod LabelWalks
+pub mod LabelTexts
 pub mod RoleSets
 pub mod SeenPoints
 pub mod RunPlaces

@@ -1,5 +1,6 @@
 -- The text of a root's runs as it is shown, run by run.
-use Rattle.std.specs.Prelude.{ℕ, List, [], ◌∷◌, Bool, Option, Some, None, if◌then◌else◌, bytes_eq}
+use Rattle.std.specs.Prelude.{ℕ, List, [], ◌∷◌, Bool, true, Option, Some, None, if◌then◌else◌, bytes_eq}
+use Rattle.std.specs.Option.{option_map_or}
 use Rattle.std.specs.List.{flat_map, list_all}
 use Rattle.model.specs.declared.FullNodeId.{FullNodeId}
 use Rattle.model.specs.World.{World}
@@ -29,3 +30,7 @@ sents_from (Some r) = sent_of r ∷ sents_after r
 abbrev pub are_like : Option (List ℕ) → List (List ℕ) → Bool
 are_like None cs = are_alike bytes_eq cs
 are_like (Some c) cs = list_all (bytes_eq c) cs
+
+-- whether they are the one that was seen, where one was
+abbrev pub are_all : Option (List ℕ) → List (List ℕ) → Bool
+are_all seen cs = option_map_or (λ c. list_all (bytes_eq c) cs) seen true

@@ -1,12 +1,13 @@
 //! The text of a root's runs, as a value shows it. Nothing takes memory.
 ghost use Rattle.std.specs.Prelude.{◌≡◌, ◌+◌, ◌<◌, ◌^◌, true, OnOk, OnErr, slice_get, option_copied, bytes_eq};
+ghost use Rattle.std.specs.Option.{option_or};
 ghost use Rattle.std.specs.List.{flat_map, list_all};
 ghost use Rattle.model.specs.TextRuns.{sent_runs, sent_characters, cut_by, supports_text_ranges};
 ghost use Rattle.model.specs.FlatText.{are_alike, needs_masking};
 ghost use Rattle.model.specs.Values.{document_text};
 ghost use Rattle.accesskit_consumer.specs.Nodes.{world_at, id_at};
 ghost use Rattle.accesskit_consumer.specs.Runs.{sent_of};
-ghost use Rattle.accesskit_consumer.specs.RunTexts.{shown_of, shown_text, are_like};
+ghost use Rattle.accesskit_consumer.specs.RunTexts.{shown_of, shown_text, are_all};
 ghost use Rattle.accesskit_consumer.specs.Writes.{IsWritten, IsCutShort};
 
 use crate::node::NodeRef;
@@ -72,15 +73,28 @@ fn first_character<'a>(run: Run<'a>) -> Option<&'a [u8]>
     }
 }
 
-/// Whether the characters of a run are the one that was seen.
-fn is_like(run: Run<'_>, seen: &[u8]) -> bool
-    ensures { result ≡ list_all (bytes_eq seen.now) (sent_characters (sent_of run.entry)) }
+/// The character that the ones of a run are compared with: the one that was seen, or else the run's first.
+fn seen_first<'a>(seen: Option<&'a [u8]>, run: Run<'a>) -> Option<&'a [u8]>
+    ensures { option_copied result ≡ option_or (option_copied seen.entry) (slice_get (sent_characters (sent_of run.entry)) 0) }
 {
-    has_only(
-        run.value().as_bytes(),
-        run.node().character_lengths(),
-        seen,
-    )
+    match seen {
+        Some(character) => Some(character),
+        None => first_character(run),
+    }
+}
+
+/// Whether all characters of a run are the one that was seen, where one was.
+fn is_like(run: Run<'_>, seen: Option<&[u8]>) -> bool
+    ensures { result ≡ are_all (option_copied seen.entry) (sent_characters (sent_of run.entry)) }
+{
+    match seen {
+        Some(character) => has_only(
+            run.value().as_bytes(),
+            run.node().character_lengths(),
+            character,
+        ),
+        None => true,
+    }
 }
 
 /// Whether no two characters of the runs differ.
@@ -90,11 +104,9 @@ fn has_one_character(root: NodeRef<'_>) -> bool
     let mut seen = None;
     let mut rest = Run::first(root);
     while let Some(run) = rest {
-        seen = seen.or(first_character(run));
-        if let Some(character) = seen {
-            if !is_like(run, character) {
-                return false;
-            }
+        seen = seen_first(seen, run);
+        if !is_like(run, seen) {
+            return false;
         }
         rest = run.next();
     }
@@ -105,7 +117,10 @@ fn has_one_character(root: NodeRef<'_>) -> bool
 pub(crate) fn needs_masking(root: NodeRef<'_>) -> bool
     ensures { result ≡ needs_masking (world_at root.entry) (id_at root.entry) }
 {
-    root.is_password_input() && !has_one_character(root)
+    if !root.is_password_input() {
+        return false;
+    }
+    !has_one_character(root)
 }
 
 /// Writes what is shown of all runs of a text, which are masked where they need it.

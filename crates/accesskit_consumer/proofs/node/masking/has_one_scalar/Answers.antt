@@ -9,9 +9,10 @@ pub loop-scalar-init : goal.loop-scalar-init
 loop-scalar-init c =
     let rest = chars_rest c.into_iter-scalar-iterator.result in
     let spells : c.args.text.now ≡ encode_utf8 c.in-Some.first ++ rest =
-        sym c.chars-scalars.ensures.rest ∙ c.in-Some.ensures.steps.0 ∙ ap (λ s. encode_utf8 c.in-Some.first ++ chars_rest s) (sym c.into_iter-scalar-iterator.ensures.into_iter_gives) in
+    sym c.chars-scalars.ensures.rest ∙ c.in-Some.ensures.steps.0 ∙ ap (λ s. encode_utf8 c.in-Some.first ++ chars_rest s) (sym c.into_iter-scalar-iterator.ensures.into_iter_gives) in
     record {
-      can = tt; ends = tt;
+      can = tt;
+      ends = tt;
       text = IsUtf8-past_char c.args.text.now rest c.in-Some.first c.utf8.text spells;
       alike = by_first c.args.text.now rest c.in-Some.first c.utf8.text spells;
     }
@@ -23,7 +24,8 @@ loop-scalar-preserved c =
     let rest = chars_rest c.next-in-loop-scalar.new.self in
     let spells = c.in-Some-scalar.ensures.steps.0 in
     record {
-      can = tt; ends = tt;
+      can = tt;
+      ends = tt;
       text = IsUtf8-past_char bs rest c.in-Some-scalar.scalar inv.text spells;
       alike = next_like bs rest c.in-Some-scalar.scalar inv.text spells c.in-Some.first c.if-scalar-first.false ∙ inv.alike;
     }
