@@ -8,7 +8,7 @@ mod ends;
 pub mod filter;
 mod filtered;
 mod hits;
-mod items;
+pub(crate) mod items;
 mod plain;
 mod range;
 mod sets;
