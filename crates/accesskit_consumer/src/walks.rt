@@ -8,7 +8,7 @@ pub(crate) mod ends;
 pub mod filter;
 mod filtered;
 mod hits;
-mod items;
+pub(crate) mod items;
 mod labelled_by;
 mod plain;
 mod range;

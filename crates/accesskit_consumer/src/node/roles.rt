@@ -5,6 +5,7 @@ ghost use Rattle.model.specs.Views.{orientation, is_read_only, is_read_only_or_d
 ghost use Rattle.accesskit_consumer.specs.Nodes.{data_at};
 
 use crate::node::NodeRef;
+use crate::walks::items::is_item;
 use schema::{Orientation, Role};
 
 impl NodeRef<'_> {
@@ -57,21 +58,7 @@ impl NodeRef<'_> {
     pub fn is_item_like(&self) -> bool
         ensures { result ≡ is_item_like (data_at self.now).role }
     {
-        matches!(
-            self.node.role(),
-            Role::Article
-                | Role::Comment
-                | Role::ListItem
-                | Role::MenuItem
-                | Role::MenuItemRadio
-                | Role::Tab
-                | Role::MenuItemCheckBox
-                | Role::TreeItem
-                | Role::ListBoxOption
-                | Role::MenuListOption
-                | Role::RadioButton
-                | Role::Term
-        )
+        is_item(self.node.role())
     }
 
     /// Whether what is in it can be selected.
