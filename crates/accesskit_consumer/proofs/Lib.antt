@@ -31,3 +31,4 @@ pub mod PositionSteps
 pub mod Boundaries
 pub mod TextEnds
 pub mod PositionTests
+pub mod TextSizes

@@ -3,6 +3,7 @@ mod boundaries;
 mod characters;
 mod ends;
 mod lines;
+mod offsets;
 mod parts;
 mod position;
 mod predicates;
