@@ -32,3 +32,5 @@ pub mod Boundaries
 pub mod TextEnds
 pub mod PositionTests
 pub mod TextSizes
+pub mod Separators
+pub mod PositionKeys

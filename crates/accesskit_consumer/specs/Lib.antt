@@ -23,3 +23,4 @@ pub mod WellFormed
 pub mod RunNumbers
 pub mod Positions
 pub mod Marks
+pub mod SamePositions

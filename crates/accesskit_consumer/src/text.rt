@@ -2,6 +2,7 @@
 mod boundaries;
 mod characters;
 mod ends;
+mod equality;
 mod lines;
 mod offsets;
 mod parts;
