@@ -60,7 +60,7 @@ take_all : (t : FlatText) → take (length t) t ≡ t
 take_all [] = refl
 take_all (r ∷ t) = ap (λ s. r ∷ s) (take_all t)
 
-start_of_all : (t : FlatText) → start_of t (length t) ≡ total t
+pub start_of_all : (t : FlatText) → start_of t (length t) ≡ total t
 start_of_all t = ap (sum_by count) (take_all t)
 
 module _ (t : FlatText) (whole : IsWhole t) (p : Position) (is : IsPosition t p) where

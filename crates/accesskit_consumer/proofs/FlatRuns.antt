@@ -27,7 +27,7 @@ behind : {A : Type 0} (xs : List A) (x : A) (ys : List A) → slice_get (xs ++ x
 behind [] x ys = refl
 behind (y ∷ xs) x ys = behind xs x ys
 
-cut_count : (g : List ℕ → List ℕ) (bs ns : List ℕ) → length (map g (cut_by bs ns)) ≡ length ns
+pub cut_count : (g : List ℕ → List ℕ) (bs ns : List ℕ) → length (map g (cut_by bs ns)) ≡ length ns
 cut_count g bs [] = refl
 cut_count g bs (n ∷ ns) = ap suc (cut_count g (drop n bs) ns)
 

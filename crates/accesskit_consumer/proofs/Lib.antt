@@ -40,3 +40,6 @@ pub mod PositionSteps
 pub mod Boundaries
 pub mod TextEnds
 pub mod PositionTests
+pub mod TextSizes
+pub mod Separators
+pub mod PositionKeys

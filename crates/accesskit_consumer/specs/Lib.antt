@@ -33,3 +33,4 @@ pub mod Mirrored
 pub mod RunNumbers
 pub mod Positions
 pub mod Marks
+pub mod SamePositions

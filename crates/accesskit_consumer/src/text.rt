@@ -2,7 +2,9 @@
 mod boundaries;
 mod characters;
 mod ends;
+mod equality;
 mod lines;
+mod offsets;
 mod parts;
 mod position;
 mod predicates;

@@ -1,6 +1,6 @@
 //! What a position is.
 ghost use Rattle.std.specs.Prelude.{◌≡◌, Some, slice_get, option_map};
-ghost use Rattle.model.specs.FlatText.{is_line_start, is_line_end, is_document_start, is_document_end, is_page_start, is_paragraph_start, is_paragraph_end};
+ghost use Rattle.model.specs.FlatText.{is_line_start, is_line_end, is_document_start, is_document_end, is_page_start, is_paragraph_start, is_paragraph_end, is_paragraph_separator};
 ghost use Rattle.accesskit_consumer.specs.Nodes.{world_at, id_at};
 ghost use Rattle.accesskit_consumer.specs.Positions.{root_at, text_at, position_at};
 
@@ -88,5 +88,20 @@ impl<'a> TextPosition<'a> {
             return false;
         }
         position.run.ends_paragraph()
+    }
+
+    /// Whether the next character ends a paragraph that isn't the last one.
+    pub fn is_paragraph_separator(&self) -> bool
+        ensures { result ≡ is_paragraph_separator (text_at self.now) (position_at self.now) }
+    {
+        let start = self.biased_to_start();
+        if start.index == start.run.character_count() {
+            return false;
+        }
+        let end = self.forward_to_character_end();
+        if !end.is_paragraph_end() {
+            return false;
+        }
+        !end.is_document_end()
     }
 }

@@ -1,0 +1,40 @@
+//! The offset of a position, and the order of positions.
+ghost use Rattle.std.specs.Prelude.{◌≡◌, Some, None, MatchBool};
+ghost use Rattle.model.specs.Forest.{is_same as is_same_id};
+ghost use Rattle.model.specs.FlatText.{offset, position_cmp};
+ghost use Rattle.accesskit_consumer.specs.Nodes.{id_at};
+ghost use Rattle.accesskit_consumer.specs.Positions.{root_at, text_at, position_at};
+
+use crate::node::same::is_same;
+use crate::text::position::TextPosition;
+use std::cmp::Ordering;
+
+impl TextPosition<'_> {
+    /// How many characters of the text are before the position.
+    fn offset(self) -> usize
+        ensures { result ≡ offset (text_at self.entry) (position_at self.entry) }
+    {
+        let mut run = self.run;
+        let mut before = self.index;
+        while let Some(previous) = run.previous() {
+            before += previous.character_count();
+            run = previous;
+        }
+        before
+    }
+
+    /// The order of two positions of one root, by how many characters are before each. There is none of two roots.
+    pub fn compare(&self, other: &TextPosition<'_>) -> Option<Ordering>
+        ensures { MatchBool (is_same_id (id_at (root_at self.now)) (id_at (root_at other.now)))
+            (result ≡ Some (position_cmp (text_at self.now) (position_at self.now) (text_at other.now) (position_at other.now)))
+            (result ≡ None) }
+    {
+        let (position, other) = (*self, *other);
+        if !is_same(position.run.root().id, other.run.root().id) {
+            return None;
+        }
+        let before = position.offset();
+        let before_other = other.offset();
+        Some(before.cmp(&before_other))
+    }
+}
