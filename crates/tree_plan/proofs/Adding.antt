@@ -5,12 +5,11 @@ use Rattle.std.specs.List.{list_any}
 use Rattle.std.specs.Borrow.{Bor}
 use Rattle.std.specs.Map.Iter.{deref}
 use Rattle.std.proofs.lemmas.List.{map-append}
-use Rattle.std.specs.Cmp.{Equal-is, eq_by_cmp_equiv}
 use Rattle.std.specs.Map.{keys_of, lookup}
 use Rattle.std.specs.BTreeMap.{is_at, keys}
 use Rattle.std.specs.BTreeSet.{contains}
 use Rattle.model.specs.declared.FullNodeId.{FullNodeId}
-use Rattle.model.specs.FullIds.{full_cmp, full_total, exact_full}
+use Rattle.model.specs.FullIds.{full_cmp}
 use Rattle.model.specs.World.{Place, at_most_one}
 use Rattle.model.proofs.Members.{contains_none, contains_head, contains_later, contains_cases}
 use Rattle.model.proofs.Update.AcceptedOrFault.{decide_id}
@@ -21,9 +20,7 @@ use Rattle.tree_plan.specs.declared.verdicts.Found.{Found}
 use Rattle.tree_plan.specs.Passes.{at, has}
 use Rattle.tree_plan.specs.Verdicts.{Step, IsFound, Becomes, Verdicts, AreSound, Adds}
 use Rattle.tree_plan.proofs.Becoming.{untouched}
-
-pub at_itself : (c : FullNodeId) → is_at (full_cmp c) c ≡ true
-at_itself c = (eq_by_cmp_equiv full_total).refl c
+use Rattle.tree_plan.proofs.IdMaps.{at_itself, same_key}
 
 -- what is in one list after another is in one of them
 pub in_either : {A : Type 0} (xs ys : List A) (x : A) → Contains (xs ++ ys) x → Contains xs x ⊎ Contains ys x
@@ -33,9 +30,6 @@ in_either {A} (y ∷ xs) ys x h = go (contains_cases y x (xs ++ ys) h) (in_eithe
     go : (y ≡ x) ⊎ Contains (xs ++ ys) x → (Contains (xs ++ ys) x → Contains xs x ⊎ Contains ys x) → Contains (y ∷ xs) x ⊎ Contains ys x
     go (inl e) later = inl (contains_head y x xs e)
     go (inr h) later = ⊎_elim (λ l. inl (contains_later y x xs l)) (λ r. inr r) (later h)
-
-pub same_key : (c q : FullNodeId) → is_at (full_cmp c) q ≡ true → c ≡ q
-same_key c q e = exact_full c q ((Equal-is (full_cmp c q)).0 e)
 
 -- what a map has an entry for is among its keys
 pub is_among : {X : Type 0} (es : List (FullNodeId × X)) (id : FullNodeId) (v : X) → lookup (is_at (full_cmp id)) es ≡ Some v → Contains (keys_of es) id

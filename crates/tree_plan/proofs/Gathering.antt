@@ -9,7 +9,8 @@ use Rattle.model.proofs.Worlds.Names.{cases_id}
 use Rattle.tree_changes.specs.declared.error.UpdateError.{UpdateError}
 use Rattle.tree_changes.specs.declared.error.UpdateError.TheVariants as error
 use Rattle.tree_plan.specs.Comparisons.{SpotMap, Gathers, GathersNew, IsFoundTwice, OnlyAt, OnlyIn, OnlyInBefore}
-use Rattle.tree_plan.proofs.IdMaps.{Put, put_here, put_apart, some_is, not_some}
+use Rattle.model.proofs.Update.RulesOrFault.{no_some}
+use Rattle.tree_plan.proofs.IdMaps.{Put, put_here, put_apart, some_is}
 
 abbrev pub Found : Type 1
 Found = FullNodeId → Spot → Type 0
@@ -52,12 +53,12 @@ module _ (P Q R : Found) (from : (c : FullNodeId) (s : Spot) → R c s → P c s
 
   -- what had no spot before the second
   none_before : GathersNew P f g → (c : FullNodeId) → g c ≡ None → f c ≡ None
-  none_before a c none = ⊎_elim (λ e. sym e ∙ none) (λ k. absurd (not_some (g c) none (some_is (g c) k.0 k.2))) (a.others c)
+  none_before a c none = ⊎_elim (λ e. sym e ∙ none) (λ k. absurd (no_some (g c) none (some_is (g c) k.0 k.2))) (a.others c)
 
   pub gathers_new_both : GathersNew P f g → GathersNew Q g h → GathersNew R f h
   gathers_new_both a b = record {
     found = λ c s r. ⊎_elim
-        (λ p. ((a.found c s p).0, ⊎_elim (λ e. e ∙ (a.found c s p).1) (λ k. absurd (not_some (g c) (b.found c k.0 k.1).0 (some_is (g c) s (a.found c s p).1))) (b.others c)))
+        (λ p. ((a.found c s p).0, ⊎_elim (λ e. e ∙ (a.found c s p).1) (λ k. absurd (no_some (g c) (b.found c k.0 k.1).0 (some_is (g c) s (a.found c s p).1))) (b.others c)))
         (λ q. (none_before a c (b.found c s q).0, (b.found c s q).1)) (from c s r);
     others = both_others a.others b.others;
   }

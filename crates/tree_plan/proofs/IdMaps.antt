@@ -18,10 +18,10 @@ use Rattle.tree_plan.specs.Passes.{at, has}
 abbrev pub Put : {X : Type 0} → FullNodeId → X → (FullNodeId → X) → (FullNodeId → X) → Type 0
 Put c v before after = (q : FullNodeId) → after q ≡ cond (is_at (full_cmp c) q) v (before q)
 
-same_key : (c q : FullNodeId) → is_at (full_cmp c) q ≡ true → c ≡ q
+pub same_key : (c q : FullNodeId) → is_at (full_cmp c) q ≡ true → c ≡ q
 same_key c q e = exact_full c q ((Equal-is (full_cmp c q)).0 e)
 
-at_itself : (c : FullNodeId) → is_at (full_cmp c) c ≡ true
+pub at_itself : (c : FullNodeId) → is_at (full_cmp c) c ≡ true
 at_itself c = (eq_by_cmp_equiv full_total).refl c
 
 pub put_here : {X : Type 0} (c : FullNodeId) (v : X) (f g : FullNodeId → X) → Put c v f g → g c ≡ v
@@ -41,14 +41,6 @@ none_or_some (Some x) = inr (x, refl)
 pub some_is : {X : Type 0} (o : Option X) (x : X) → o ≡ Some x → IsSome o
 some_is (Some y) x e = refl
 some_is None x e = cc
-
-pub of_some : {X : Type 0} (o : Option X) → IsSome o → (x : X) × (o ≡ Some x)
-of_some (Some y) e = (y, refl)
-of_some None e = cc
-
-pub not_some : {X : Type 0} (o : Option X) → o ≡ None → IsSome o → ⊥
-not_some None e h = cc
-not_some (Some x) e h = cc
 
 pub none_if_not : {X : Type 0} (o : Option X) → false ≡ is_some o → o ≡ None
 none_if_not None h = refl

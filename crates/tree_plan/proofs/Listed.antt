@@ -18,7 +18,7 @@ use Rattle.tree_plan.specs.declared.verdicts.Verdict.{Verdict}
 use Rattle.tree_plan.specs.declared.writing.Group.{Group}
 use Rattle.tree_plan.specs.declared.writing.Group.TheVariants as group
 use Rattle.tree_plan.specs.Writing.{change_of, change_entry, group_of, event_in, told_of}
-use Rattle.tree_plan.proofs.Adding.{same_key, at_itself}
+use Rattle.tree_plan.proofs.IdMaps.{same_key, at_itself}
 
 abbrev pub Entries : Type 0
 Entries = List (FullNodeId × Verdict)

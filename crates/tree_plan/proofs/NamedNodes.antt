@@ -17,7 +17,7 @@ use Rattle.model.specs.World.{ROOT_NAME, World, Tree, Place, data_of, in_tree, l
 use Rattle.model.specs.Update.{UpdateData, index_for, merged_world, IsNamed, named_at}
 use Rattle.model.specs.Surgery.{IsOld, IsOpened, Spot, IsAt, Left, Entered}
 use Rattle.model.proofs.Worlds.Names.{cases_id, cases_name, same_id}
-use Rattle.model.proofs.State.StatePlaces.{root_of-tree}
+use Rattle.model.proofs.State.StatePlaces.{value_of, root_of-tree}
 use Rattle.model.proofs.Surgery.Spots.{spot_once, left_tree, entered_tree, lister_named, leaver_named}
 use Rattle.model.proofs.Surgery.FaultsStand.{named_root_graft_stands, named_children_stand, named_grafts_stand, entered_twice_stands}
 use Rattle.tree_changes.specs.declared.error.UpdateError.{UpdateError}
@@ -29,7 +29,8 @@ use Rattle.tree_plan.specs.declared.passes.Compared.{Compared}
 use Rattle.tree_plan.specs.Passes.{at, at_name, name_cmp, IsNamedAs, IsOpening, IsComparison}
 use Rattle.tree_plan.specs.Comparisons.{IsNamedBefore, AreTaken, Gathers, GathersNew, OnlyAt, OnlyIn, child_ids, ChangesGraft, ComparesNode, Begins, IsNodeFault, IsDone, AreCompared}
 use Rattle.tree_plan.proofs.Entries.{AreNamedOnce, entry_named}
-use Rattle.tree_plan.proofs.IdMaps.{contains_at, at_contains, put_here, put_apart, some_is, of_some, not_some}
+use Rattle.model.proofs.Update.RulesOrFault.{no_some}
+use Rattle.tree_plan.proofs.IdMaps.{contains_at, at_contains, put_here, put_apart, some_is}
 use Rattle.tree_plan.proofs.Opens.{tree_is}
 use Rattle.tree_plan.proofs.Taking.{entry_id, last_or_before}
 
@@ -205,7 +206,7 @@ module _ (w : World) (u : UpdateData) (o : IsOld w) where
           (s.compares.left.others c)
 
       left_from : (c : FullNodeId) (t : Spot) → Left w u t c → IsDone w u (k + 1) t → at b.left c ≡ Some t
-      left_from c t l done = there (of_some (at b.left c) (found t l done))
+      left_from c t l done = there (value_of (at b.left c) (found t l done))
         where
           there : (x : Spot) × (at b.left c ≡ Some x) → at b.left c ≡ Some t
           there f = f.1 ∙ ap Some (spot_once w u o f.0 t c (left_to c f.0 f.1).0.0 l.0)
@@ -231,7 +232,7 @@ module _ (w : World) (u : UpdateData) (o : IsOld w) where
           before : (t : Spot) → Entered w u t c → IsDone w u k t → at b.entered c ≡ Some t
           before t l done =
               let was : at a.entered c ≡ Some t = (h.entered c t).1 (l, done) in
-              ⊎_elim (λ same. same ∙ was) (λ g. absurd (not_some (at a.entered c) (s.compares.entered.found c g.0 g.1).0 (some_is (at a.entered c) t was))) (s.compares.entered.others c)
+              ⊎_elim (λ same. same ∙ was) (λ g. absurd (no_some (at a.entered c) (s.compares.entered.found c g.0 g.1).0 (some_is (at a.entered c) t was))) (s.compares.entered.others c)
 
           go : (t : Spot) → Entered w u t c → IsDone w u (k + 1) t → at b.entered c ≡ Some t
           go None l done = before None l done
@@ -250,7 +251,7 @@ module _ (w : World) (u : UpdateData) (o : IsOld w) where
           (λ earlier.
           let was : at_name a.grafted name ≡ Some n = (h.grafted name n).1 (earlier, grafts) in
           ⊎_elim
-          (λ takes. absurd (not_some (at_name a.grafted name) (s.grafted.taken name takes).0 (some_is (at_name a.grafted name) n was)))
+          (λ takes. absurd (no_some (at_name a.grafted name) (s.grafted.taken name takes).0 (some_is (at_name a.grafted name) n was)))
           (λ not. s.grafted.others name not ∙ was)
           (decide_some e.1.tree_id name))
           (λ same. (s.grafted.taken name (sym graft_here ∙ subst (λ x. graft_name m x ≡ Some name) (sym same) grafts)).1 ∙ ap Some same)
@@ -316,7 +317,7 @@ module _ (w : World) (u : UpdateData) (o : IsOld w) where
       lost_new v was c = let f = (h.lost v).0 c in apart f.0 f.1 (o.grafted_once id f.0 v was f.2)
 
       gained_new : (v : TreeId) → e.1.tree_id ≡ Some v → Contains a.gained.items v → ⊥
-      gained_new v is c = let f = (h.gained v).0 c in not_some (at_name a.grafted v) (s.grafted.taken v is).0 (some_is (at_name a.grafted v) f.0 ((h.grafted v f.0).1 (f.1, f.2)))
+      gained_new v is c = let f = (h.gained v).0 c in no_some (at_name a.grafted v) (s.grafted.taken v is).0 (some_is (at_name a.grafted v) f.0 ((h.grafted v f.0).1 (f.1, f.2)))
 
       abbrev Once : List TreeId → Type 0
       Once xs = AllPairs (λ a b. a ≢ b) xs
@@ -374,7 +375,7 @@ module _ (w : World) (u : UpdateData) (o : IsOld w) where
     node_refused a h (error.ListedTwice n) x =
         subst (λ y. IsRefusal w u (error.ListedTwice y)) x.1 (⊎_elim
         (λ there.
-        let t = of_some (at a.entered x.0) there in
+        let t = value_of (at a.entered x.0) there in
         let f = (h.entered x.0 t.0).0 t.1 in
         let ne : x.2 ≢ t.0 = λ same. first_named (subst (IsDone w u k) (sym same ∙ x.3.1.0) f.1) in
         entered_twice_stands w u o x.2 t.0 x.0 ne (is_entered x.0 x.2 x.3) f.0)
@@ -416,7 +417,7 @@ module _ (w : World) (u : UpdateData) (o : IsOld w) where
 
       root_first : (x : FullNodeId) (s : Spot) → at c.left x ≡ Some s → Left w u s x × IsDone w u 0 s
       root_first x s is = ⊎_elim
-          (λ none. absurd (not_some (at c.left x) none (some_is (at c.left x) s is)))
+          (λ none. absurd (no_some (at c.left x) none (some_is (at c.left x) s is)))
           (λ g.
           let e' : None ≡ s = sym g.1.0 ∙ same_Some g.0 s (sym g.2 ∙ is) in
           subst (λ y. Left w u y x × IsDone w u 0 y) e' (root_only w m x g.1.1.0 g.1.1.1, tt))
@@ -426,12 +427,12 @@ module _ (w : World) (u : UpdateData) (o : IsOld w) where
       root_last x (Some p) l done = absurd (none_named p.0 done)
       root_last x None l done =
           let tree : x.tree ≡ i = left_tree w u None x l in
-          let f = of_some (at c.left x) (left_roots.found x None (refl, (subst (λ j. root_of w j ≡ Some x) tree l.0, subst (λ j. root_of m j ≢ Some x) tree l.1))) in
+          let f = value_of (at c.left x) (left_roots.found x None (refl, (subst (λ j. root_of w j ≡ Some x) tree l.0, subst (λ j. root_of m j ≢ Some x) tree l.1))) in
           f.1 ∙ ap Some (spot_once w u o f.0 None x (root_first x f.0 f.1).0.0 l.0)
 
       root_first_entered : (x : FullNodeId) (s : Spot) → at c.entered x ≡ Some s → Entered w u s x × IsDone w u 0 s
       root_first_entered x s is = ⊎_elim
-          (λ none. absurd (not_some (at c.entered x) none (some_is (at c.entered x) s is)))
+          (λ none. absurd (no_some (at c.entered x) none (some_is (at c.entered x) s is)))
           (λ g.
           let e' : None ≡ s = sym g.1.0 ∙ same_Some g.0 s (sym g.2 ∙ is) in
           subst (λ y. Entered w u y x × IsDone w u 0 y) e' (root_only m w x g.1.1.0 g.1.1.1, tt))
@@ -444,7 +445,7 @@ module _ (w : World) (u : UpdateData) (o : IsOld w) where
           (entered_roots.found x None (refl, (subst (λ j. root_of m j ≡ Some x) tree l.0, subst (λ j. root_of w j ≢ Some x) tree l.1))).1
 
       none_grafted : (name : TreeId) (n : FullNodeId) → at_name c.grafted name ≢ Some n
-      none_grafted name n is = not_some (at_name c.grafted name) (ap (lookup (is_at (name_cmp name))) b.grafted) (some_is (at_name c.grafted name) n is)
+      none_grafted name n is = no_some (at_name c.grafted name) (ap (lookup (is_at (name_cmp name))) b.grafted) (some_is (at_name c.grafted name) n is)
 
       none_in : (xs : List TreeId) → xs ≡ [] → (name : TreeId) → ¬ (Contains xs name)
       none_in xs none name x = let lt : x.0 < length xs = x.1 in let z : length xs ≡ 0 = ap length none in omega arith

@@ -15,7 +15,8 @@ use Rattle.tree_plan.specs.declared.passes.Named.{Named}
 use Rattle.tree_plan.specs.declared.passes.Compared.{Compared}
 use Rattle.tree_plan.specs.Passes.{at, at_name}
 use Rattle.tree_plan.specs.Comparisons.{Gathers, GathersNew, IsFoundTwice, OnlyIn, child_ids, TakesGraft, ChangesGraft, IsEntryOf, ComparesData, ComparesNode, IsNodeFault}
-use Rattle.tree_plan.proofs.IdMaps.{Put, not_some, some_is}
+use Rattle.model.proofs.Update.RulesOrFault.{no_some}
+use Rattle.tree_plan.proofs.IdMaps.{Put, some_is}
 
 -- the map had the key
 pub still_counted : {X : Type 0} (n k : ℕ) (o p : Option X) → k ≡ n + (if is_some o then 0 else 1) → o ≡ p → IsSome p → k ≡ n
@@ -84,9 +85,9 @@ node_compared w id entry d a b c n xs graft takes first stays is lists grafts h 
 pub new_entry : (w : World) (id : FullNodeId) (entry : ℕ) (d : NodeData) → data_of w id ≡ None → IsEntryOf w id entry d (record { entry = entry; was = None; is_news = true })
 new_entry w id entry d none = record {
   entry_is = refl;
-  new = λ _ there. not_some (data_of w id) none there;
+  new = λ _ there. no_some (data_of w id) none there;
   old = λ was is. cc;
-  news = ((λ _ is. not_some (data_of w id) none (some_is (data_of w id) d is)), λ _. refl);
+  news = ((λ _ is. no_some (data_of w id) none (some_is (data_of w id) d is)), λ _. refl);
 }
 
 -- and of an old one

@@ -46,7 +46,8 @@ use Rattle.tree_changes.specs.declared.plan.Plan.{Plan}
 use Rattle.tree_changes.specs.Plans.{tree_changes, nodes_changed, name_tree, name_trees, replaced_texts, planned_world}
 use Rattle.tree_changes.proofs.Overlays.{effect, get-put_all, tree_change_in}
 use Rattle.tree_plan.specs.Planned.{IsPlan, IsPlannedWithin, changed_nodes, slot_data, plan_change, entry_of, AreTakenOnce, replaces}
-use Rattle.tree_plan.proofs.Adding.{at_itself, in_either, is_among, has_entry}
+use Rattle.tree_plan.proofs.Adding.{in_either, is_among, has_entry}
+use Rattle.tree_plan.proofs.IdMaps.{at_itself}
 use Rattle.tree_plan.proofs.Assembled.{kept_record}
 use Rattle.tree_plan.proofs.Moving.{Slots}
 

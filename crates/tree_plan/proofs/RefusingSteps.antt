@@ -17,7 +17,7 @@ use Rattle.model.specs.State.{Lists}
 use Rattle.model.specs.Update.{UpdateData, IsNamed, index_for, merged_world}
 use Rattle.model.specs.Surgery.{IsOld, IsAt, HasEntered, Gone, IsRefined}
 use Rattle.model.proofs.Worlds.Names.{cases_id, certain}
-use Rattle.model.proofs.State.StatePlaces.{listed_tree}
+use Rattle.model.proofs.State.StatePlaces.{value_of, listed_tree}
 use Rattle.model.proofs.Members.{contains_none, contains_first}
 use Rattle.model.proofs.Surgery.Spots.{at_or_left, spot_once, unnamed_data, root_reached}
 use Rattle.model.proofs.Surgery.WhatIsDecided.{decide_entered}
@@ -33,7 +33,8 @@ use Rattle.tree_plan.specs.declared.passes.Removed.{Removed}
 use Rattle.tree_plan.specs.declared.refusing.Search.{Search}
 use Rattle.tree_plan.specs.Passes.{at, has, IsOpening, IsComparison, IsSettlement, IsRemoval}
 use Rattle.tree_plan.specs.Refusing.{AreListed, IsOfUnlisted, IsDoubled, IsListedStill, IsSearch, Adds, SearchesAll, HasReached, Explains}
-use Rattle.tree_plan.proofs.IdMaps.{Put, put_here, put_apart, some_is, of_some, not_some, none_or_some, contains_at, at_contains}
+use Rattle.model.proofs.Update.RulesOrFault.{no_some}
+use Rattle.tree_plan.proofs.IdMaps.{Put, put_here, put_apart, some_is, none_or_some, contains_at, at_contains}
 use Rattle.tree_plan.proofs.Entries.{entry_named}
 use Rattle.tree_plan.proofs.RemovingSteps.{push_keeps, contains_one, contains_push, contains_last}
 
@@ -158,7 +159,7 @@ module _ (w : World) (u : UpdateData) where
         lists_of id e.1 (entry_named w u id n.entry k.compared.named_once f.named.0 f.entry ∙ ap (option_map (λ (x : NodeId × NodeData). x.1)) at_entry)
 
     unnamed : (id : FullNodeId) → at d.named id ≡ None → data_of m id ≡ data_of w id
-    unnamed id none = unnamed_data w u id (λ n. not_some (at d.named id) none (k.has_named id n))
+    unnamed id none = unnamed_data w u id (λ n. no_some (at d.named id) none (k.has_named id n))
 
     pub old_lists : (id : FullNodeId) (x : NodeData) → at d.named id ≡ None → HasData w id x → listed_ids m id ≡ map (in_tree id.tree) x.children
     old_lists id x none has = lists_of id x (unnamed id none ∙ has)
@@ -172,12 +173,12 @@ module _ (w : World) (u : UpdateData) where
     pub unlisted_refused : (e : UpdateError) → IsOfUnlisted d e → IsRefusal w u e
     unlisted_refused e f =
         let n = k.is_named f.0 f.1.0 f.1.1 in
-        let none : ¬ (HasEntered w u f.0) = λ h. not_some (at d.entered f.0) f.1.2.1 (some_is (at d.entered f.0) h.0 ((k.entered f.0 h.0).1 h.1)) in
+        let none : ¬ (HasEntered w u f.0) = λ h. no_some (at d.entered f.0) f.1.2.1 (some_is (at d.entered f.0) h.0 ((k.entered f.0 h.0).1 h.1)) in
         subst (IsRefusal w u) (sym f.2) (unentered_stands w u o f.0 n.named (n.new f.1.2.0) none)
 
     pub explained : (r : Removed) → IsRemoval w u r → (reached : BTreeSet FullNodeId) → HasReached w u reached → (c : FullNodeId) → IsListedStill w u c → (e : UpdateError) → Explains d reached c e → IsRefusal w u e
     explained r removal reached all c (s, q, entered, was, still, stays) e (inl f) =
-        let n = of_some (at d.named f.0) f.1 in
+        let n = value_of (at d.named f.0) f.1 in
         let named : IsNamed w u f.0 = (k.is_named f.0 n.0 n.1).named in
         subst (IsRefusal w u) (sym f.3) (f.0, refl, named, λ h. f.2 ((all f.0).1 (h, named.0)))
     explained r removal reached all c (s, q, entered, was, still, stays) e (inr f) =
@@ -194,7 +195,7 @@ module _ (w : World) (u : UpdateData) where
       pub refined : AreListed d → ((c : FullNodeId) (place : Option Place) → at a.old_places c ≡ Some place → ¬ (IsDoubled d r c place)) → IsRefined w u
       refined listed_ids apart = record {
         removed = removal.removed;
-        new_entered = λ n named absent. certain (decide_entered w u n) (λ none. let x = of_some (at d.named n) (k.has_named n named) in listed_ids n (x.0, x.1, (new n x.0 x.1 absent, no_entry n none)));
+        new_entered = λ n named absent. certain (decide_entered w u n) (λ none. let x = value_of (at d.named n) (k.has_named n named) in listed_ids n (x.0, x.1, (new n x.0 x.1 absent, no_entry n none)));
         doubled_gone = λ s q c e was still. certain_gone q (λ stays. apart c (Some q) (settlement.listed c q (s, e) was) (not_left q c was still, q, refl, stays));
       }
         where

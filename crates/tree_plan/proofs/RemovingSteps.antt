@@ -28,7 +28,10 @@ use Rattle.tree_plan.specs.declared.passes.Removed.{Removed}
 use Rattle.tree_plan.specs.declared.removing.Removing.{Removing}
 use Rattle.tree_plan.specs.Passes.{at, has, at_name, IsOfName, IsComparison, IsCut, IsRemoval, Loses, cut_record}
 use Rattle.tree_plan.specs.Removing.{IsFound, Extends, IsPlacedOrFound, LosesAll, IsOver, Drops, IsExpanded, Expands, LosesLeft, DropsLost, Follows, IsWorkedOff}
-use Rattle.tree_plan.proofs.IdMaps.{Put, put_here, put_apart, some_is, of_some, not_some, none_if_not, contains_at, at_contains}
+use Rattle.tree_plan.proofs.Taking.{last_or_before}
+use Rattle.model.proofs.State.StatePlaces.{value_of}
+use Rattle.model.proofs.Update.RulesOrFault.{no_some}
+use Rattle.tree_plan.proofs.IdMaps.{Put, put_here, put_apart, some_is, none_if_not, contains_at, at_contains}
 
 -- ---- lists
 
@@ -71,22 +74,22 @@ pairs_none R i j d lt within = absurd (omega arith)
 
 module _ (w : World) (u : UpdateData) (d : Compared) (k : IsComparison w u d) where
   pub entered_has : (id : FullNodeId) → true ≡ is_some (at d.entered id) → HasEntered w u id
-  entered_has id is = let f = of_some (at d.entered id) (sym is) in (f.0, (k.entered id f.0).0 f.1)
+  entered_has id is = let f = value_of (at d.entered id) (sym is) in (f.0, (k.entered id f.0).0 f.1)
 
   pub entered_not : (id : FullNodeId) → false ≡ is_some (at d.entered id) → ¬ (HasEntered w u id)
-  entered_not id is h = not_some (at d.entered id) (none_if_not (at d.entered id) is) (some_is (at d.entered id) h.0 ((k.entered id h.0).1 h.1))
+  entered_not id is h = no_some (at d.entered id) (none_if_not (at d.entered id) is) (some_is (at d.entered id) h.0 ((k.entered id h.0).1 h.1))
 
   pub named_has : (id : FullNodeId) → true ≡ is_some (at d.named id) → IsNamed w u id
-  named_has id is = let f = of_some (at d.named id) (sym is) in (k.is_named id f.0 f.1).named
+  named_has id is = let f = value_of (at d.named id) (sym is) in (k.is_named id f.0 f.1).named
 
   pub named_not : (id : FullNodeId) → false ≡ is_some (at d.named id) → ¬ (IsNamed w u id)
-  named_not id is n = not_some (at d.named id) (none_if_not (at d.named id) is) (k.has_named id n)
+  named_not id is n = no_some (at d.named id) (none_if_not (at d.named id) is) (k.has_named id n)
 
   pub grafted_has : (name : TreeId) → true ≡ is_some (at_name d.grafted name) → IsGraftedByNamed w u name
-  grafted_has name is = let f = of_some (at_name d.grafted name) (sym is) in let g = (k.grafted name f.0).0 f.1 in (f.0, g.0, g.1)
+  grafted_has name is = let f = value_of (at_name d.grafted name) (sym is) in let g = (k.grafted name f.0).0 f.1 in (f.0, g.0, g.1)
 
   pub grafted_not : (name : TreeId) → false ≡ is_some (at_name d.grafted name) → ¬ (IsGraftedByNamed w u name)
-  grafted_not name is h = not_some (at_name d.grafted name) (none_if_not (at_name d.grafted name) is) (some_is (at_name d.grafted name) h.0 ((k.grafted name h.0).1 (h.1, h.2)))
+  grafted_not name is h = no_some (at_name d.grafted name) (none_if_not (at_name d.grafted name) is) (some_is (at_name d.grafted name) h.0 ((k.grafted name h.0).1 (h.1, h.2)))
 
 -- the root of a tree that lost its graft loses its spot
 pub root_goes : (w : World) (u : UpdateData) (name : TreeId) → ¬ (IsGraftedByNamed w u name) → (g : FullNodeId) → graft_name w g ≡ Some name → Gone w u g ⊎ IsNamed w u g → (c : FullNodeId) → root_named w name ≡ Some c → ¬ (HasEntered w u c) → Gone w u c
@@ -348,9 +351,6 @@ pub record IsFollowing (w : World) (u : UpdateData) (n : ℕ) (a b : Removing) :
   pub few : length b.trees.items ≤ length a.trees.items + n
   pub within : n ≤ length b.queue.items
 
-below_or_last : (k n : ℕ) → k < n + 1 → (k < n) ⊎ (k ≡ n)
-below_or_last k n lt = ⊎_elim inl (λ le. inr (omega arith)) (cases_lt k n)
-
 module _ (w : World) (u : UpdateData) where
   pub dropping_start : (names : List TreeId) (a : Removing) → IsFound w u a → a.trees.items ≡ [] → IsDropping w u names 0 a a
   dropping_start names a found none = record {
@@ -371,7 +371,7 @@ module _ (w : World) (u : UpdateData) where
   dropping_more names n name a b c is i e = record {
     found = e.found;
     extends = extends_then a b c i.extends e.extends;
-    over = λ k other lt at_k. ⊎_elim (λ before. over_stays w u b c e.extends other (i.over k other before at_k)) (λ same. subst (λ x. IsOver w u x c) (same_Some name other (sym is ∙ ap (slice_get names) (sym same) ∙ at_k)) e.over) (below_or_last k n lt);
+    over = λ k other lt at_k. ⊎_elim (λ before. over_stays w u b c e.extends other (i.over k other before at_k)) (λ same. subst (λ x. IsOver w u x c) (same_Some name other (sym is ∙ ap (slice_get names) (sym same) ∙ at_k)) e.over) (last_or_before k n lt);
     only = λ t h. ⊎_elim (λ before. let f = i.only t before in (f.0, (let lt : f.0 < n = f.1 in omega arith), f.2)) (λ same. (n, omega arith, is ∙ ap Some (sym same))) (e.only t h);
     few = let before : length b.trees.items ≤ n = i.few in let more : length c.trees.items ≤ length b.trees.items + 1 = e.few in omega arith;
   }
@@ -413,7 +413,7 @@ module _ (w : World) (u : UpdateData) where
   following_more n id a b c is i e = record {
     found = e.found;
     extends = extends_then a b c i.extends e.extends;
-    expanded = λ k x lt at_k. ⊎_elim (λ before. expanded_stays w u b c e.extends x (i.expanded k x before (before_at k x before at_k))) (λ same. subst (λ y. IsExpanded w u y c) (same_Some id x (sym here ∙ ap (slice_get c.queue.items) (sym same) ∙ at_k)) e.expanded) (below_or_last k n lt);
+    expanded = λ k x lt at_k. ⊎_elim (λ before. expanded_stays w u b c e.extends x (i.expanded k x before (before_at k x before at_k))) (λ same. subst (λ y. IsExpanded w u y c) (same_Some id x (sym here ∙ ap (slice_get c.queue.items) (sym same) ∙ at_k)) e.expanded) (last_or_before k n lt);
     only = λ t h. ⊎_elim (λ before. kept t (i.only t before)) (λ grafts. inr (n, id, omega arith, here, grafts)) (e.only t h);
     few = let before : length b.trees.items ≤ length a.trees.items + n = i.few in let more : length c.trees.items ≤ length b.trees.items + 1 = e.few in omega arith;
     within = let lt : n < length c.queue.items = slice_get_within c.queue.items n id here in omega arith;

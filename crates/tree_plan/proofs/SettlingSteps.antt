@@ -21,7 +21,8 @@ use Rattle.tree_plan.specs.declared.passes.Compared.{Compared}
 use Rattle.tree_plan.specs.declared.passes.Settled.{Settled}
 use Rattle.tree_plan.specs.Passes.{at, has, IsOpening, IsNamedAs, IsComparison, IsSettlement}
 use Rattle.tree_plan.specs.Settling.{Comes, StoodAt, WasBelow, KeepsPlace, KeepsAdopter, IsSettledSoFar, IsSettledAt, Settles, SettlesOne}
-use Rattle.tree_plan.proofs.IdMaps.{Put, put_here, put_apart, none_or_some, not_some}
+use Rattle.model.proofs.Update.RulesOrFault.{no_some}
+use Rattle.tree_plan.proofs.IdMaps.{Put, put_here, put_apart, none_or_some}
 
 -- ---- what is kept
 
@@ -120,7 +121,7 @@ module _ (w : World) (u : UpdateData) (o : IsOld w) where
     named_there c n is = named_is_node w u c (k.is_named c n is).named
 
     pub missing_stands : (c : FullNodeId) → HasEntered w u c → at d.named c ≡ None → ¬ (IsNode w c) → Stands w u (MissingData c.node)
-    missing_stands c e none absent = entered_missing_stands w u o e.0 c e.1 (λ n. not_some (at d.named c) none (k.has_named c n)) absent
+    missing_stands c e none absent = entered_missing_stands w u o e.0 c e.1 (λ n. no_some (at d.named c) none (k.has_named c n)) absent
 
     module _ (p : Opened) (opening : IsOpening w u p) where
       root_is : (c : FullNodeId) → root_of m (index_for w u.name) ≡ Some c → c ≡ in_tree p.index p.root

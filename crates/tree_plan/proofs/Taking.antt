@@ -14,7 +14,8 @@ use Rattle.model.proofs.Worlds.Names.{cases_id, same_id}
 use Rattle.tree_plan.specs.declared.passes.Named.{Named}
 use Rattle.tree_plan.specs.Passes.{at}
 use Rattle.tree_plan.specs.Comparisons.{AreTaken}
-use Rattle.tree_plan.proofs.IdMaps.{Put, put_here, put_apart, some_is, not_some}
+use Rattle.model.proofs.Update.RulesOrFault.{no_some}
+use Rattle.tree_plan.proofs.IdMaps.{Put, put_here, put_apart, some_is}
 
 -- the id in an entry that was read
 pub entry_id : (u : UpdateData) (k : ℕ) (e : NodeId × NodeData) → slice_get u.nodes k ≡ Some e → named_at u k ≡ Some e.0
@@ -26,7 +27,7 @@ last_or_before j k lt = ⊎_elim inl (λ ge. inr (omega arith)) (cases_lt j k)
 module _ (index : ℕ) (u : UpdateData) where
   pub taken_none : (named : BTreeMap FullNodeId Named) → named.entries ≡ [] → AreTaken index u 0 named
   taken_none named none = record {
-    has = λ id. ((λ there. absurd (not_some (at named id) (ap (lookup (is_at (full_cmp id))) none) there)), λ h. absurd (let lt : h.1 < 0 = h.2 in omega arith));
+    has = λ id. ((λ there. absurd (no_some (at named id) (ap (lookup (is_at (full_cmp id))) none) there)), λ h. absurd (let lt : h.1 < 0 = h.2 in omega arith));
     once = λ i j n lt. absurd (omega (arith, lt));
     count_of = ap length none;
   }
@@ -52,7 +53,7 @@ module _ (index : ℕ) (u : UpdateData) where
           (cases_id (in_tree index n) id)
 
       unnamed : (j : ℕ) (x : NodeId) → j < k → named_at u j ≡ Some x → named_at u k ≡ Some x → ⊥
-      unnamed j x lt at_j at_k = not_some (at a (in_tree index n)) none ((h.has (in_tree index n)).1 (refl, j, lt, at_j ∙ sym at_k ∙ here))
+      unnamed j x lt at_j at_k = no_some (at a (in_tree index n)) none ((h.has (in_tree index n)).1 (refl, j, lt, at_j ∙ sym at_k ∙ here))
 
       pub taken_next : length b.entries ≡ length a.entries + 1 → AreTaken index u (k + 1) b
       taken_next len = record {

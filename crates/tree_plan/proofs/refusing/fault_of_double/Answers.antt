@@ -4,7 +4,8 @@ use Rattle.std.proofs.lemmas.Map.Iter.{rest_more, rest_all}
 use Rattle.model.specs.declared.FullNodeId.{FullNodeId}
 use Rattle.tree_plan.specs.declared.passes.Named.{Named}
 use Rattle.tree_plan.specs.Passes.{has}
-use Rattle.tree_plan.proofs.IdMaps.{some_is, of_some, entries_begin, entries_first, entries_go, loop_begins, loop_goes, loop_ends, AreEntries, IsLeftOrDone}
+use Rattle.model.proofs.State.StatePlaces.{value_of}
+use Rattle.tree_plan.proofs.IdMaps.{some_is, entries_begin, entries_first, entries_go, loop_begins, loop_goes, loop_ends, AreEntries, IsLeftOrDone}
 use Rattle.tree_plan.proofs.refusing.fault_of_double.Goals as goal
 
 pub loop-id-init : goal.loop-id-init
@@ -38,4 +39,4 @@ pub returns : goal.returns
 returns c =
     let m = c.args.compared.now.named in
     let none = rest_all deref_pair c.loop-id.id-iterator c.next.new.self c.next.result c.in-None.is c.next.ensures.steps in
-    inr ((λ id there. let n = of_some _ there in loop_ends m (λ id n. has c.args.reached.now id) c.loop-id.id-iterator none c.loop-id.invariant.done id n.0 n.1), refl)
+    inr ((λ id there. let n = value_of _ there in loop_ends m (λ id n. has c.args.reached.now id) c.loop-id.id-iterator none c.loop-id.invariant.done id n.0 n.1), refl)

@@ -4,7 +4,8 @@ use borrow.Author.Tests.{eqb-true}
 use Rattle.schema.specs.declared.NodeId.{NodeId}
 use Rattle.model.specs.World.{ROOT_NAME}
 use Rattle.tree_plan.specs.Passes.{at_name}
-use Rattle.tree_plan.proofs.IdMaps.{of_some, none_if_not}
+use Rattle.model.proofs.State.StatePlaces.{value_of}
+use Rattle.tree_plan.proofs.IdMaps.{none_if_not}
 use Rattle.tree_plan.proofs.NameMaps.{put_name_here, put_name_apart}
 use Rattle.tree_plan.proofs.passes.Compared.take_graft.Goals as goal
 
@@ -14,7 +15,7 @@ nil_if (x ∷ xs) e = absurd (omega (arith, eqb-true (length (x ∷ xs)) 0 e))
 
 pub returns-then-contains_key-clause-err : goal.returns-then-contains_key-clause-err
 returns-then-contains_key-clause-err c =
-    let k = of_some (at_name c.args.self.now.grafted c.in-Some.name) (sym c.if-contains_key.ensures) in
+    let k = value_of (at_name c.args.self.now.grafted c.in-Some.name) (sym c.if-contains_key.ensures) in
     (sym c.in-Some.ensures, k.0, k.1)
 
 pub returns-clause-ok : goal.returns-clause-ok
