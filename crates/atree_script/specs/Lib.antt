@@ -1,3 +1,4 @@
+pub mod Answered
 pub mod Printed
 pub mod Refused
 pub mod Words

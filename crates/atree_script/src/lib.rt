@@ -1,6 +1,7 @@
-//! Scripts of updates: reads them line by line, keeps the tree, and prints it with its events.
+//! Scripts of updates: reads them line by line, keeps the tree, prints it with its events, and answers questions about it.
 #![tactic(auto)]
 
+mod answers;
 mod lines;
 mod outline;
 mod printer;

@@ -1,13 +1,14 @@
 //! The lines of a script.
 //!
-//! Words stand with one space between them. Numbers are decimal and without a sign; a text stands in double quotes.
+//! Words stand with one space between them. Numbers are decimal, those of units and points with a minus sign where they are
+//! negative; a text stands in double quotes.
 
 ghost use Rattle.std.specs.Prelude.{◌≡◌, ◌<◌, ◌≤◌, length, IfOk, OnOk, option_copied};
 ghost use Rattle.atree_script.specs.declared.lines.Stop.TheVariants.{Memory, WriteFault};
 ghost use Rattle.atree_script.specs.Words.{left};
 
 use crate::roles::role_named;
-use schema::{Node, NodeId, TreeId, TreeInfo, TreeUpdate};
+use schema::{Node, NodeId, Point, Rect, Translation, TreeId, TreeInfo, TreeUpdate};
 use std::alloc::{AllocError, AllocFailed, Global};
 use std::io;
 use uuid::Uuid;
@@ -27,6 +28,31 @@ pub(crate) enum Line {
     HostFocus(bool),
     /// Asks for the tree.
     Print,
+    /// Asks something of a node.
+    Ask(Question),
+    /// Asks where the focus is.
+    Focus,
+}
+
+/// What is asked of a node, which goes by its id and its tree's name.
+#[derive(Clone, Copy)]
+pub(crate) struct Question {
+    pub(crate) node: NodeId,
+    pub(crate) tree: TreeId,
+    pub(crate) asked: Asked,
+}
+
+/// What can be asked of a node.
+#[derive(Clone, Copy)]
+pub(crate) enum Asked {
+    /// Its children.
+    Children,
+    /// What the common filter shows of them.
+    Filtered,
+    /// The size of its set, and its position in it.
+    Set,
+    /// What is hit at a point, which is given as the node sees it.
+    Hit(Point),
 }
 
 /// Why a run stops before the end of its input.
@@ -73,6 +99,11 @@ pub(crate) fn read_line(alloc: Global, line: &str) -> Result<Line, Stop> {
     }
     let mut words = Words { rest: Some(line) };
     match words.word()? {
+        "children" => Ok(Line::Ask(words.question(Asked::Children)?)),
+        "filtered" => Ok(Line::Ask(words.question(Asked::Filtered)?)),
+        "set" => Ok(Line::Ask(words.question(Asked::Set)?)),
+        "hit" => Ok(Line::Ask(hit_line(words)?)),
+        "focus" if words.rest.is_none() => Ok(Line::Focus),
         "update" => Ok(Line::Update(update_line(alloc, words)?)),
         "node" => {
             let (id, node) = node_line(alloc, words)?;
@@ -99,10 +130,12 @@ fn update_line(alloc: Global, mut words: Words) -> Result<TreeUpdate, Stop> {
     let mut toolkit_version = None;
     while words.rest.is_some() {
         match words.field()? {
-            "focus" if focus.is_none() => focus = Some(words.id()?),
-            "root" if root.is_none() => root = Some(words.id()?),
-            "toolkit" if toolkit_name.is_none() => toolkit_name = Some(words.text(alloc)?),
-            "version" if toolkit_version.is_none() => toolkit_version = Some(words.text(alloc)?),
+            ("focus", true) if focus.is_none() => focus = Some(words.id()?),
+            ("root", true) if root.is_none() => root = Some(words.id()?),
+            ("toolkit", true) if toolkit_name.is_none() => toolkit_name = Some(words.text(alloc)?),
+            ("version", true) if toolkit_version.is_none() => toolkit_version = Some(words.text(
+                alloc,
+            )?),
             _ => return Err(Stop::BadLine),
         }
     }
@@ -124,31 +157,53 @@ fn update_line(alloc: Global, mut words: Words) -> Result<TreeUpdate, Stop> {
     })
 }
 
-/// `node ID ROLE [children=ID,ID..] [tree=TREE] [label="t"] [active=ID]`, from `ID` on. The fields come in any order.
+/// `node ID ROLE [children=ID,ID..] [tree=TREE] [label="t"] [active=ID] [bounds=X,Y,X,Y] [move=X,Y] [hidden] [clips]`,
+/// from `ID` on. The fields come in any order.
 fn node_line(alloc: Global, mut words: Words) -> Result<(NodeId, Node), Stop> {
     let id = words.id()?;
     let role = role_named(words.word()?).ok_or(Stop::BadLine)?;
     let mut node = Node::new(alloc, role);
     while words.rest.is_some() {
         match words.field()? {
-            "children" if node.children().is_empty() => {
+            ("children", true) if node.children().is_empty() => {
                 let children = ids(alloc, words.word()?)?;
                 node.set_children(&children)?;
             }
-            "tree" if node.tree_id().is_none() => {
+            ("tree", true) if node.tree_id().is_none() => {
                 node.set_tree_id(tree_named(words.word()?).ok_or(Stop::BadLine)?);
             }
-            "label" if node.label().is_none() => {
+            ("label", true) if node.label().is_none() => {
                 let label = words.text(alloc)?;
                 node.set_label(&label)?;
             }
-            "active" if node.active_descendant().is_none() => {
+            ("active", true) if node.active_descendant().is_none() => {
                 node.set_active_descendant(words.id()?);
             }
+            ("bounds", true) if node.bounds().is_none() => {
+                node.set_bounds(rect(words.word()?).ok_or(Stop::BadLine)?);
+            }
+            ("move", true) if node.transform().is_none() => {
+                node.set_transform(translation(words.word()?).ok_or(Stop::BadLine)?);
+            }
+            ("hidden", false) if !node.is_hidden() => node.set_hidden(),
+            ("clips", false) if !node.clips_children() => node.set_clips_children(),
             _ => return Err(Stop::BadLine),
         }
     }
     Ok((id, node))
+}
+
+/// `hit ID TREE X Y`, from `ID` on.
+fn hit_line(mut words: Words) -> Result<Question, Stop> {
+    let node = words.id()?;
+    let tree = words.tree()?;
+    let x = signed(words.word()?).ok_or(Stop::BadLine)?;
+    let y = signed(words.last_word()?).ok_or(Stop::BadLine)?;
+    Ok(Question {
+        node,
+        tree,
+        asked: Asked::Hit(Point { x, y }),
+    })
 }
 
 /// What is left of a line: `None` at its end, and else what comes after a space.
@@ -191,14 +246,29 @@ impl<'a> Words<'a> {
         Ok(NodeId(number))
     }
 
-    /// The name of the next field. Its value comes next.
-    fn field(&mut self) -> Result<&'a str, Stop>
+    /// The next word, which names a tree.
+    fn tree(&mut self) -> Result<TreeId, Stop> {
+        tree_named(self.word()?).ok_or(Stop::BadLine)
+    }
+
+    /// The rest of a question: a node's id and its tree's name.
+    fn question(mut self, asked: Asked) -> Result<Question, Stop> {
+        let node = self.id()?;
+        let tree = tree_named(self.last_word()?).ok_or(Stop::BadLine)?;
+        Ok(Question { node, tree, asked })
+    }
+
+    /// The name of the next field, and whether a value comes next.
+    fn field(&mut self) -> Result<(&'a str, bool), Stop>
         ensures { OnOk result (left (option_copied self.new.rest) < left (option_copied self.old.rest)) }
     {
         let rest = self.rest.ok_or(Stop::BadLine)?;
+        if !has_value(rest) {
+            return Ok((self.word()?, false));
+        }
         let (name, value) = rest.split_once('=').ok_or(Stop::BadLine)?;
         self.rest = Some(value);
-        Ok(name)
+        Ok((name, true))
     }
 
     /// The next text, which stands in quotes. In it `\"`, `\\` and `\n` are a quote, a backslash and a newline.
@@ -223,6 +293,14 @@ impl<'a> Words<'a> {
             }
         }
         Err(Stop::BadLine)
+    }
+}
+
+/// Whether a value stands in the next word.
+fn has_value(rest: &str) -> bool {
+    match rest.split_once(' ') {
+        Some((word, _)) => word.contains('='),
+        None => rest.contains('='),
     }
 }
 
@@ -252,6 +330,43 @@ pub(crate) fn number(word: &str) -> Option<u64> {
         return None;
     }
     word.parse().ok()
+}
+
+/// A decimal number, with a minus sign before a negative one.
+fn signed(word: &str) -> Option<i64> {
+    if word.starts_with('+') {
+        return None;
+    }
+    word.parse().ok()
+}
+
+/// A number of units.
+fn units(word: &str) -> Option<i32> {
+    i32::try_from(signed(word)?).ok()
+}
+
+/// A rectangle: `X,Y,X,Y`.
+fn rect(word: &str) -> Option<Rect> {
+    let mut parts = word.split(',');
+    let rect = Rect {
+        x0: units(parts.next()?)?,
+        y0: units(parts.next()?)?,
+        x1: units(parts.next()?)?,
+        y1: units(parts.next()?)?,
+    };
+    if parts.next().is_some() {
+        return None;
+    }
+    Some(rect)
+}
+
+/// A move: `X,Y`.
+fn translation(word: &str) -> Option<Translation> {
+    let (x, y) = word.split_once(',')?;
+    Some(Translation {
+        x: units(x)?,
+        y: units(y)?,
+    })
 }
 
 /// Node ids with one comma between them.

@@ -1,7 +1,8 @@
 //! Runs a script.
 ghost use Rattle.std.specs.Prelude.{◌≤◌, ◌≢◌};
 
-use crate::lines::{Line, Stop, read_line};
+use crate::answers::{write_answer, write_focus};
+use crate::lines::{Line, Question, Stop, read_line};
 use crate::outline::print_outline;
 use crate::printer::Printer;
 use crate::refusals::write_refusal;
@@ -135,6 +136,8 @@ impl Run {
             }
             Line::HostFocus(is_host_focused) => self.set_host_focus(is_host_focused, output),
             Line::Print => self.print(output),
+            Line::Ask(question) => self.ask(question, output),
+            Line::Focus => self.tell_focus(output),
         }
     }
 
@@ -177,6 +180,31 @@ impl Run {
         tree.update_host_focus_state_and_process_changes(is_host_focused, &mut printer);
         printer.finish()?;
         output.write_all(b"ok\n")?;
+        Ok(())
+    }
+
+    /// Answers a question, or says that there is no tree, or no such node.
+    fn ask<O: Write>(&self, question: Question, output: &mut O) -> Result<(), Stop> {
+        let Some(tree) = &self.tree else {
+            output.write_all(b"no tree\n")?;
+            return Ok(());
+        };
+        let state = tree.state().view();
+        match state.node_by_tree_local_id(question.node, question.tree) {
+            Some(node) => write_answer(self.alloc, node, question.asked, output),
+            None => {
+                output.write_all(b"no node\n")?;
+                Ok(())
+            }
+        }
+    }
+
+    /// Tells where the focus is, or that there is no tree.
+    fn tell_focus<O: Write>(&self, output: &mut O) -> Result<(), Stop> {
+        match &self.tree {
+            Some(tree) => write_focus(tree.state().view(), output)?,
+            None => output.write_all(b"no tree\n")?,
+        }
         Ok(())
     }
 

@@ -36,6 +36,8 @@ mod roles;
 #[cfg(test)]
 mod scripts;
 #[cfg(test)]
+mod scripts_of_questions;
+#[cfg(test)]
 mod scripts_of_trees;
 #[cfg(test)]
 mod streams;

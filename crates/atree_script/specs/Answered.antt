@@ -1,0 +1,42 @@
+-- What is printed of an answer.
+use Rattle.std.specs.Prelude.{ℕ, List, [], ◌∷◌, ◌++◌, codes, flat_map, Option, Some, None}
+use Rattle.std.specs.Fmt.{decimal}
+use Rattle.model.specs.declared.FullNodeId.{FullNodeId}
+use Rattle.model.specs.World.{World, children}
+use Rattle.model.specs.Frontier.{filtered_children}
+use Rattle.model.specs.Filters.{common_filter}
+use Rattle.model.specs.Geometry.{hit}
+use Rattle.model.specs.Views.{computed_size_of_set, computed_position_in_set}
+use Rattle.atree_script.specs.declared.lines.Asked.{Asked}
+use Rattle.atree_script.specs.declared.lines.Asked.TheVariants.{Children, Filtered, Set, Hit}
+use Rattle.atree_script.specs.Printed.{id_text}
+
+abbrev pub spaced_id : FullNodeId → List ℕ
+spaced_id id = codes " " ++ id_text id
+
+-- ids with one space between them
+abbrev pub ids_text : List FullNodeId → List ℕ
+ids_text [] = codes "-"
+ids_text (id ∷ others) = id_text id ++ flat_map spaced_id others
+
+abbrev pub ids_line : List FullNodeId → List ℕ
+ids_line ids = ids_text ids ++ codes "\n"
+
+abbrev pub found_line : Option FullNodeId → List ℕ
+found_line None = codes "none\n"
+found_line (Some id) = id_text id ++ codes "\n"
+
+abbrev pub count_text : Option ℕ → List ℕ
+count_text None = codes "-"
+count_text (Some count) = decimal count
+
+-- a size and a position
+abbrev pub set_line : Option ℕ → Option ℕ → List ℕ
+set_line size position = count_text size ++ codes " " ++ count_text position ++ codes "\n"
+
+-- what is answered of a node
+abbrev pub answer_line : World → FullNodeId → Asked → List ℕ
+answer_line w id Children = ids_line (children w id)
+answer_line w id Filtered = ids_line (filtered_children (common_filter w) w id)
+answer_line w id Set = set_line (computed_size_of_set (common_filter w) w id) (computed_position_in_set (common_filter w) w id)
+answer_line w id (Hit point) = found_line (hit (common_filter w) w id point)

@@ -1,0 +1,55 @@
+//! Scripts that ask about a tree.
+
+use crate::scripts::{Script, assert_ends, assert_prints};
+
+pub static SCRIPTS: [Script; 6] = [
+    Script {
+        name: "questions before there is a tree",
+        input: "children 0 root\nfiltered 0 root\nset 0 root\nhit 0 root 1 2\nfocus\n",
+        outputs: &["no tree\nno tree\nno tree\nno tree\nno tree\n"],
+    },
+    Script {
+        name: "a window with a moved container",
+        input: "update root focus=0 root=0\nnode 0 Window children=1,2 bounds=0,0,100,100\nnode 1 GenericContainer children=3 move=10,40\nnode 2 TextInput children=4\nnode 3 Label bounds=10,10,90,30\nnode 4 TextRun\nend\nchildren 0 root\nfiltered 0 root\nchildren 4 root\nfiltered 2 root\nhit 0 root 20 50\nhit 0 root 50 20\nhit 0 root 100 70\nhit 1 root 10 10\nhit 0 root -1 -9223372036854775808\nfocus\nhost on\nfocus\nchildren 9 root\nhit 0 00000000-0000-0000-0000-000000000001 0 0\n",
+        outputs: &[
+            "ok\n0:1 0:2\n0:3 0:2\n-\n-\n0:3\n0:0\nnone\n0:3\nnone\nnone\nupdated 0:0\nfocus - 0:0\nok\n0:0\nno node\nno node\n",
+        ],
+    },
+    Script {
+        name: "the sets of a list box, and with its first option hidden",
+        input: "update root focus=0 root=0\nnode 0 Window children=1\nnode 1 ListBox children=2,3,5,6\nnode 2 ListBoxOption\nnode 3 GenericContainer children=4\nnode 4 ListBoxOption\nnode 5 Label\nnode 6 ListBoxOption\nend\nset 4 root\nset 6 root\nset 5 root\nupdate root focus=0\nnode 2 ListBoxOption hidden\nend\nset 4 root\nset 2 root\nset 7 root\n",
+        outputs: &["ok\n3 1\n3 2\n- -\nupdated 0:2\nok\n2 0\n- -\nno node\n"],
+    },
+    Script {
+        name: "a scrolled list shows its rows and the nearest one on each side",
+        input: "update root focus=0 root=0\nnode 0 ScrollView children=1,2,3,4,5,6,7,8,9,10,11 clips bounds=0,0,30,30\nnode 1 Unknown bounds=0,-30,30,-20\nnode 2 Unknown bounds=0,-20,30,-10\nnode 3 Unknown bounds=0,-10,30,0\nnode 4 Unknown hidden\nnode 5 Unknown bounds=0,0,30,10\nnode 6 Unknown bounds=0,10,30,20\nnode 7 Unknown bounds=0,20,30,30\nnode 8 Unknown hidden\nnode 9 Unknown bounds=0,30,30,40\nnode 10 Unknown bounds=0,40,30,50\nnode 11 Unknown bounds=0,50,30,60\nend\nfiltered 0 root\nchildren 0 root\n",
+        outputs: &["ok\n0:3 0:5 0:6 0:7 0:9\n0:1 0:2 0:3 0:4 0:5 0:6 0:7 0:8 0:9 0:10 0:11\n"],
+    },
+    Script {
+        name: "the children of a graft, before its tree is there and then",
+        input: "update root focus=0 root=0\nnode 0 Window children=1\nnode 1 GenericContainer tree=00000000-0000-0000-0000-000000000001\nend\nchildren 1 root\nfiltered 1 root\nupdate 00000000-0000-0000-0000-000000000001 focus=0 root=0\nnode 0 Document children=1\nnode 1 Button\nend\nchildren 1 root\nfiltered 0 root\nfiltered 0 {00000000-0000-0000-0000-000000000001}\nchildren 1 00000000000000000000000000000001\n",
+        outputs: &["ok\n-\n-\nadded 1:0\nadded 1:1\nok\n1:0\n1:0\n1:1\n-\n"],
+    },
+    Script {
+        name: "the focus is on an active descendant",
+        input: "host on\nupdate root focus=1 root=0\nnode 0 Window children=1\nnode 1 ListBox children=2 active=2\nnode 2 ListBoxOption\nend\nfocus\nupdate root focus=1\nnode 1 ListBox active=1 children=2\nend\nfocus\nhost off\nfocus\n",
+        outputs: &[
+            "ok\n0:2\nupdated 0:1\nupdated 0:2\nfocus 0:2 0:1\nok\n0:1\nupdated 0:1\nfocus 0:1 -\nok\nnone\n",
+        ],
+    },
+];
+
+#[test]
+fn scripts_of_questions_print(rt: HostRuntime) {
+    assert_prints(&rt, rt.alloc(), &SCRIPTS);
+}
+
+#[test]
+fn scripts_of_questions_cut_anywhere_end_well(rt: HostRuntime) {
+    for script in &SCRIPTS {
+        let bytes = script.input.as_bytes();
+        for cut in 0..bytes.len() {
+            assert_ends(&rt, rt.alloc(), &bytes[..cut], script.name);
+        }
+    }
+}
