@@ -2,7 +2,7 @@
 use Rattle.std.proofs.Common.{◌≡◌, ℕ, ◌+◌, ◌-◌, ◌<◌, Bool, true, false, cond, [], length, Some, refl, sym, ap, ◌∙◌, arith, eq-eqb}
 use Rattle.std.specs.Prelude.{◌==◌, ◌||◌}
 use Rattle.std.proofs.lemmas.Bool.{eqb-true}
-use Rattle.model.specs.FlatText.{FlatText, first_run, last_run, begins_line, ends_line, begins_paragraph, ends_paragraph, closes_paragraph}
+use Rattle.model.specs.FlatText.{FlatText, first_run, last_run, begins_line, begins_paragraph, closes_paragraph}
 use Rattle.model.specs.TextLaws.{IsWhole}
 use Rattle.model.specs.TextRuns.{supports_text_ranges}
 use Rattle.model.proofs.Text.TextFacts.{is_text}

@@ -1,12 +1,12 @@
 -- Biases and moves by character in a flat text, as steps within a run and over its ends.
-use Rattle.std.proofs.Common.{◌≡◌, ℕ, ◌+◌, ◌-◌, ◌<◌, ◌≤◌, Bool, true, false, List, [], ◌∷◌, length, take, refl, sym, ap, ◌∙◌, arith, eq-eqb}
+use Rattle.std.proofs.Common.{◌≡◌, ℕ, ◌+◌, ◌-◌, ◌<◌, ◌≤◌, Bool, true, false, [], ◌∷◌, length, take, refl, sym, ap, ◌∙◌, arith, eq-eqb}
 use Rattle.std.specs.Prelude.{◌==◌, nat_lt, ◌&&◌, if◌then◌else◌, sum_by}
 use Rattle.std.proofs.lemmas.Bool.{eqb-true, ltb-true, ltb-false, lt-ltb}
 use Rattle.model.specs.FlatText.{FlatText, count, count_in, total, start_of, Position, IsPosition, offset, start_at, end_at, biased_to_start, biased_to_end, start_side, end_side}
 use Rattle.model.specs.Moves.{forward_to_character_start, forward_to_character_end, backward_to_character_start}
 use Rattle.model.specs.TextLaws.{IsWhole}
 use Rattle.model.proofs.Text.TextFacts.{start_next, start_bias, end_bias}
-use Rattle.model.proofs.Text.Sides.{IsOnStartSide, start_bias_side, end_bias_side, start_side_is, end_side_is, start_side_of_bias}
+use Rattle.model.proofs.Text.Sides.{start_bias_side, end_bias_side, start_side_is, end_side_is, start_side_of_bias}
 
 pub same_place : (q : Position) (r i : ℕ) → r ≡ q.run → i ≡ q.index → (let p : Position = record { run = r; index = i } in p) ≡ q
 same_place q r i a b = λ k. record { run = a k; index = b k }

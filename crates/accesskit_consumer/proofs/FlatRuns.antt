@@ -1,10 +1,10 @@
 -- The runs of a root as the runs of its flat text.
-use Rattle.std.proofs.Common.{◌≡◌, ℕ, ◌+◌, ◌<◌, ◌≤◌, List, [], ◌∷◌, ◌++◌, length, map, drop, Some, refl, sym, ap, ◌∙◌, arith, suc, length-append}
+use Rattle.std.proofs.Common.{◌≡◌, ℕ, ◌+◌, ◌<◌, List, [], ◌∷◌, ◌++◌, length, map, drop, Some, refl, sym, ap, ◌∙◌, arith, suc, length-append}
 use Rattle.std.specs.Prelude.{Bool, true, false, not, slice_get, Option, None, option_map, is_some, is_none}
 use Rattle.std.specs.Option.{option_map_or}
 use Rattle.std.proofs.lemmas.List.{length-map}
 use Rattle.std.proofs.lemmas.Option.{slice_get-map}
-use Rattle.model.specs.TextRuns.{SentRun, sent_run, sent_runs, run_ids, cut_by, said_count, ends_with_newline, is_password}
+use Rattle.model.specs.TextRuns.{sent_run, sent_runs, run_ids, cut_by, said_count, ends_with_newline, is_password}
 use Rattle.model.specs.FlatText.{ShownRun, shown_character, needs_masking, shown_run, flat_text, count, count_in, begins_line, ends_line, run_has, IsPosition}
 use Rattle.model.specs.TextLaws.{IsWhole}
 use Rattle.model.proofs.Text.TextFacts.{is_text}

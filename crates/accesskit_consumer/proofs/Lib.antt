@@ -43,3 +43,4 @@ pub mod PositionTests
 pub mod TextSizes
 pub mod Separators
 pub mod PositionKeys
+pub mod LineCounts

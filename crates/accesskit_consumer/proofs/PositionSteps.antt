@@ -1,5 +1,5 @@
 -- How far a position may be moved within its run.
-use Rattle.std.proofs.Common.{◌≡◌, ℕ, ◌<◌, sym, ap, subst, ◌∙◌, arith}
+use Rattle.std.proofs.Common.{◌≡◌, ◌<◌, sym, ap, ◌∙◌, arith}
 use Rattle.model.specs.TextRuns.{said_count}
 use Rattle.model.specs.FlatText.{count_in, total, offset, biased_to_start, biased_to_end}
 use Rattle.accesskit_consumer.specs.declared.text.position.TextPosition.{TextPosition}

@@ -1,5 +1,5 @@
 -- Positions at the ends of runs and of texts, and one move after another.
-use Rattle.std.proofs.Common.{◌≡◌, ℕ, ◌+◌, ◌-◌, Bool, true, false, [], length, Some, refl, sym, ap, ◌∙◌, arith}
+use Rattle.std.proofs.Common.{◌≡◌, ℕ, ◌-◌, Bool, true, false, [], length, Some, refl, sym, ap, ◌∙◌, arith}
 use Rattle.std.specs.Prelude.{Option, None, MatchOption, IsSome}
 use Rattle.std.specs.Option.{option_map_or}
 use Rattle.model.specs.TextRuns.{run_ids, said_count, supports_text_ranges}
@@ -9,7 +9,7 @@ use Rattle.accesskit_consumer.specs.declared.node.node_ref.NodeRef.{NodeRef}
 use Rattle.accesskit_consumer.specs.declared.text.runs.Run.{Run}
 use Rattle.accesskit_consumer.specs.declared.text.position.TextPosition.{TextPosition}
 use Rattle.accesskit_consumer.specs.Nodes.{world_at, id_at}
-use Rattle.accesskit_consumer.specs.Runs.{root_of, sent_of, IsFirstOf, IsLastOf}
+use Rattle.accesskit_consumer.specs.Runs.{root_of, sent_of, IsLastOf}
 use Rattle.accesskit_consumer.specs.RunNumbers.{number_in}
 use Rattle.accesskit_consumer.specs.Positions.{root_at, text_of, text_at, position_at, IsAt}
 use Rattle.accesskit_consumer.proofs.FitRuns.{no_runs_no_text}

@@ -3,6 +3,7 @@ mod boundaries;
 mod characters;
 mod ends;
 mod equality;
+mod line_counts;
 mod lines;
 mod offsets;
 mod parts;

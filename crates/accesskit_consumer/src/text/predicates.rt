@@ -1,6 +1,7 @@
-//! What a position is.
+//! What a position is, and what it names.
 ghost use Rattle.std.specs.Prelude.{◌≡◌, Some, slice_get, option_map};
 ghost use Rattle.model.specs.FlatText.{is_line_start, is_line_end, is_document_start, is_document_end, is_page_start, is_paragraph_start, is_paragraph_end, is_paragraph_separator};
+ghost use Rattle.model.specs.Ranges.{IsRaw};
 ghost use Rattle.accesskit_consumer.specs.Nodes.{world_at, id_at};
 ghost use Rattle.accesskit_consumer.specs.Positions.{root_at, text_at, position_at};
 
@@ -15,6 +16,16 @@ impl<'a> TextPosition<'a> {
     {
         let position = *self;
         position.run.view()
+    }
+
+    /// The position as an application names it: its run's id within the tree, and the index.
+    pub fn to_raw(self) -> schema::TextPosition
+        ensures { IsRaw (text_at self.entry) (position_at self.entry) result }
+    {
+        schema::TextPosition {
+            node: self.run.id().node,
+            character_index: self.index,
+        }
     }
 
     /// Whether a line starts at the position.

@@ -1,4 +1,4 @@
-use Rattle.std.proofs.Common.{◌≡◌, ◌<◌, ◌-◌, refl, sym, ap, ◌∙◌, arith}
+use Rattle.std.proofs.Common.{◌-◌, sym, ap, ◌∙◌, arith}
 use Rattle.accesskit_consumer.specs.Positions.{text_at, position_at}
 use Rattle.accesskit_consumer.proofs.FlatRuns.{text_is_whole, is_position}
 use Rattle.accesskit_consumer.proofs.PositionSteps.{room_before}

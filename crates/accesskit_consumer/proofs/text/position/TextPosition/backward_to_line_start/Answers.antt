@@ -1,7 +1,6 @@
 use Rattle.std.proofs.Common.{◌+◌}
 use Rattle.model.specs.FlatText.{FlatText, Position, biased_to_end, begins_line}
 use Rattle.model.specs.Moves.{start_before}
-use Rattle.accesskit_consumer.specs.RunNumbers.{number_in}
 use Rattle.accesskit_consumer.specs.Positions.{root_at, text_at, position_at}
 use Rattle.accesskit_consumer.proofs.TextEnds.{then_at}
 use Rattle.accesskit_consumer.proofs.text.position.TextPosition.backward_to_line_start.Goals as goal

@@ -1,7 +1,6 @@
-use Rattle.std.proofs.Common.{◌≡◌, refl, sym, ap, ◌∙◌}
-use Rattle.std.specs.Prelude.{length}
+use Rattle.std.proofs.Common.{refl, sym, ap, ◌∙◌}
 use Rattle.model.specs.FlatText.{count_in, end_at}
-use Rattle.accesskit_consumer.specs.RunNumbers.{number_in, text_around}
+use Rattle.accesskit_consumer.specs.RunNumbers.{number_in}
 use Rattle.accesskit_consumer.specs.Positions.{text_of, text_at, position_at}
 use Rattle.accesskit_consumer.proofs.FlatRuns.{count_at_number, first_number, number_previous}
 use Rattle.accesskit_consumer.proofs.CharacterMoves.{same_place, stays_past_start, stays_first, goes_to_previous}

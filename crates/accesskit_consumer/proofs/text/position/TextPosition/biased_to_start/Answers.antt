@@ -1,4 +1,4 @@
-use Rattle.std.proofs.Common.{◌≡◌, refl, sym, ap, ◌∙◌}
+use Rattle.std.proofs.Common.{refl, sym, ◌∙◌}
 use Rattle.accesskit_consumer.specs.Positions.{text_at, position_at}
 use Rattle.accesskit_consumer.proofs.FlatRuns.{count_at_number, last_number, more_runs, number_next}
 use Rattle.accesskit_consumer.proofs.CharacterMoves.{same_place, stays_within, stays_last, goes_to_next}

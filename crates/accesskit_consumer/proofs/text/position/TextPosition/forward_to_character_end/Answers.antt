@@ -1,9 +1,5 @@
-use Rattle.std.proofs.Common.{◌≡◌, ◌<◌, ◌+◌, refl, sym, ap, subst, ◌∙◌, arith}
-use Rattle.model.specs.TextRuns.{said_count}
-use Rattle.model.specs.FlatText.{count_in}
-use Rattle.accesskit_consumer.specs.Runs.{sent_of}
-use Rattle.accesskit_consumer.specs.RunNumbers.{number_in}
-use Rattle.accesskit_consumer.specs.Positions.{text_of, text_at, position_at}
+use Rattle.std.proofs.Common.{◌+◌, sym, ap, ◌∙◌, arith}
+use Rattle.accesskit_consumer.specs.Positions.{text_at, position_at}
 use Rattle.accesskit_consumer.proofs.FlatRuns.{text_is_whole, is_position}
 use Rattle.accesskit_consumer.proofs.PositionSteps.{room_after}
 use Rattle.accesskit_consumer.proofs.CharacterMoves.{same_place, character_end}

@@ -1,4 +1,4 @@
-use Rattle.std.proofs.Common.{◌≡◌, refl, sym, ap, ◌∙◌}
+use Rattle.std.proofs.Common.{sym, ap, ◌∙◌}
 use Rattle.model.specs.FlatText.{biased_to_start}
 use Rattle.accesskit_consumer.specs.Positions.{text_of, text_at, position_at}
 use Rattle.accesskit_consumer.proofs.FlatRuns.{text_is_whole, is_position}

@@ -1,8 +1,7 @@
-use Rattle.std.proofs.Common.{◌+◌}
-use Rattle.model.specs.FlatText.{FlatText, Position, biased_to_start, ends_line}
+use Rattle.model.specs.FlatText.{biased_to_start, ends_line}
 use Rattle.model.specs.Moves.{end_from}
 use Rattle.accesskit_consumer.specs.RunNumbers.{number_in}
-use Rattle.accesskit_consumer.specs.Positions.{root_at, text_at, position_at}
+use Rattle.accesskit_consumer.specs.Positions.{root_at, text_at}
 use Rattle.accesskit_consumer.proofs.TextEnds.{then_at}
 use Rattle.accesskit_consumer.proofs.text.position.TextPosition.forward_to_line_start.Goals as goal
 

@@ -1,7 +1,5 @@
-use Rattle.std.proofs.Common.{◌+◌}
 use Rattle.model.specs.FlatText.{FlatText, Position, biased_to_start, ends_paragraph}
 use Rattle.model.specs.Moves.{end_from}
-use Rattle.accesskit_consumer.specs.RunNumbers.{number_in}
 use Rattle.accesskit_consumer.specs.Positions.{root_at, text_at, position_at}
 use Rattle.accesskit_consumer.proofs.TextEnds.{then_at}
 use Rattle.accesskit_consumer.proofs.text.position.TextPosition.forward_to_paragraph_end.Goals as goal

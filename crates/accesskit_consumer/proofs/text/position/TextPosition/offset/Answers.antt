@@ -1,7 +1,7 @@
-use Rattle.std.proofs.Common.{◌≡◌, ◌+◌, ◌<◌, ◌^◌, refl, sym, ap, ◌∙◌, arith}
+use Rattle.std.proofs.Common.{◌≡◌, refl, ap, ◌∙◌, arith}
 use Rattle.model.specs.FlatText.{start_of}
 use Rattle.accesskit_consumer.specs.RunNumbers.{number_in}
-use Rattle.accesskit_consumer.specs.Positions.{text_at, position_at}
+use Rattle.accesskit_consumer.specs.Positions.{text_at}
 use Rattle.accesskit_consumer.proofs.FlatRuns.{first_number}
 use Rattle.accesskit_consumer.proofs.TextSizes.{offset_fits, one_less}
 use Rattle.accesskit_consumer.proofs.text.position.TextPosition.offset.Goals as goal

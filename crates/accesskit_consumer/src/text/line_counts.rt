@@ -1,0 +1,24 @@
+//! The number of a line.
+ghost use Rattle.std.specs.Prelude.{◌≡◌};
+ghost use Rattle.model.specs.Moves.{to_line_index};
+ghost use Rattle.accesskit_consumer.specs.Positions.{text_at, position_at};
+
+use crate::text::position::TextPosition;
+
+impl TextPosition<'_> {
+    /// How many lines end before the position's run.
+    pub fn to_line_index(&self) -> usize
+        ensures { result ≡ to_line_index (text_at self.now) (position_at self.now) }
+    {
+        let position = *self;
+        let mut run = position.run;
+        let mut lines = 0usize;
+        while let Some(previous) = run.previous() {
+            run = previous;
+            if previous.ends_line() {
+                lines += 1;
+            }
+        }
+        lines
+    }
+}
