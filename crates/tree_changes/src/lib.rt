@@ -10,10 +10,9 @@ mod plan;
 pub use decision::{Decision, NodeChange};
 pub use error::UpdateError;
 pub use look_ups::{LookUps, NodeRecord, TreeRecord};
+use model::FullNodeId;
 pub use model::PlanEvent;
 pub use plan::{Change, Plan};
-
-use model::FullNodeId;
 
 /// A parent, and the index among its children.
 pub type Place = (FullNodeId, usize);

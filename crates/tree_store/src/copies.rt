@@ -22,7 +22,10 @@ pub struct MirrorRecord {
 
 impl Store {
     /// Copies of the records of all nodes, by id.
-    pub fn copy_records(&self, alloc: Global) -> Result<BTreeMap<FullNodeId, MirrorRecord>, AllocError>
+    pub fn copy_records(
+        &self,
+        alloc: Global,
+    ) -> Result<BTreeMap<FullNodeId, MirrorRecord>, AllocError>
         ensures { IfOk result (λ copies. (id : FullNodeId) → IsCopyOf self.now.world id (copy_at copies.entries id)) }
     {
         copy_all(alloc, &self.nodes)
@@ -47,5 +50,8 @@ fn copy_record(record: &Record) -> Result<MirrorRecord, AllocError>
     ensures { IfOk result (λ copy. copy ≡ copy_of record.now) }
 {
     let node = record.node.clone()?;
-    Ok(MirrorRecord { place: record.place, node })
+    Ok(MirrorRecord {
+        place: record.place,
+        node,
+    })
 }
