@@ -12,21 +12,17 @@ use std::alloc::Global;
 use std::process::Abort;
 use std::test::Fail;
 
-/// Where a state has a node.
+/// Where a state has a node: its parent and its first child.
 #[derive(Clone, Copy, Debug, PartialEq, Eq)]
-enum Stands {
-    Nowhere,
-    /// Below no other node.
-    First,
-    Below(u32, u64),
+struct Kin {
+    parent: Option<Id>,
+    child: Option<Id>,
 }
 
-use Stands::{Below, First, Nowhere};
-
-/// Where a state has the nodes that are asked for, and the root of tree 2.
+/// Where a state has the nodes that are asked for and are there, and the root of tree 2.
 #[derive(Clone, Copy, Debug, PartialEq, Eq)]
 struct Shown {
-    nodes: [Stands; 4],
+    nodes: [Option<Kin>; 4],
     inner_root: Option<Id>,
 }
 
@@ -66,34 +62,33 @@ impl Asker {
     fn shown(&self, node: Option<&NodeRef>) -> Option<Shown> {
         let state = node?.tree_state();
         let [a, b, c, d] = self.ids;
-        let inner_root = match state.subtree_root(tree_id(2)) {
-            Some(root) => Some(pair(root)),
-            None => None,
-        };
         Some(Shown {
             nodes: [
-                place_in(state, a),
-                place_in(state, b),
-                place_in(state, c),
-                place_in(state, d),
+                kin_in(state, a),
+                kin_in(state, b),
+                kin_in(state, c),
+                kin_in(state, d),
             ],
-            inner_root,
+            inner_root: state.subtree_root(tree_id(2)).map(pair),
         })
     }
 }
 
-fn place_in(state: StateRef, (tree, node): Id) -> Stands {
+fn kin_in(state: StateRef, (tree, node): Id) -> Option<Kin> {
     let id = FullNodeId {
         tree,
         node: NodeId(node),
     };
-    let Some(node) = state.node_by_id(id) else {
-        return Nowhere;
-    };
-    match node.parent_id() {
-        Some(parent) => Below(parent.tree, parent.node.0),
-        None => First,
-    }
+    let node = state.node_by_id(id)?;
+    Some(Kin {
+        parent: node.parent_id().map(pair),
+        child: node.child_ids().next().map(pair),
+    })
+}
+
+/// A node with this parent and this first child.
+fn between(parent: Option<Id>, child: Option<Id>) -> Option<Kin> {
+    Some(Kin { parent, child })
 }
 
 impl TreeChangeHandler for Asker {
@@ -151,12 +146,15 @@ fn moved_child_has_its_parents(rt: HostRuntime) -> Result<(), Fail> {
         .ok_or("no such course")?;
     let ids = [(0, 0), (0, 1), (0, 2), (0, 3)];
     let asked = ask_about(&rt, rt.alloc(), course, 2, ids)?;
+    let root = between(None, Some((0, 1)));
+    let empty = between(Some((0, 0)), None);
+    let full = between(Some((0, 0)), Some((0, 3)));
     let old = Some(Shown {
-        nodes: [First, Below(0, 0), Below(0, 0), Below(0, 1)],
+        nodes: [root, full, empty, between(Some((0, 1)), None)],
         inner_root: None,
     });
     let new = Some(Shown {
-        nodes: [First, Below(0, 0), Below(0, 0), Below(0, 2)],
+        nodes: [root, empty, full, between(Some((0, 2)), None)],
         inner_root: None,
     });
     let wanted = [1, 2, 3].map(|id| Asked {
@@ -176,11 +174,21 @@ fn moved_graft_is_shown_in_both_states(rt: HostRuntime) -> Result<(), Fail> {
     let ids = [(0, 1), (0, 2), (1, 0), (2, 0)];
     let asked = ask_about(&rt, rt.alloc(), course, 3, ids)?;
     let old = Some(Shown {
-        nodes: [Below(0, 0), Nowhere, Below(0, 1), Below(1, 1)],
+        nodes: [
+            between(Some((0, 0)), Some((1, 0))),
+            None,
+            between(Some((0, 1)), Some((1, 1))),
+            between(Some((1, 1)), Some((2, 1))),
+        ],
         inner_root: Some((2, 0)),
     });
     let new = Some(Shown {
-        nodes: [Nowhere, Below(0, 0), Nowhere, Below(0, 2)],
+        nodes: [
+            None,
+            between(Some((0, 0)), Some((2, 0))),
+            None,
+            between(Some((0, 2)), Some((2, 1))),
+        ],
         inner_root: Some((2, 0)),
     });
     let wanted = [

@@ -62,22 +62,14 @@ fn longer_chain_comes_and_goes(rt: HostRuntime) -> Result<(), Fail> {
     let alloc = rt.alloc();
     let first = root_update(chain_nodes(alloc, 100_000)?, true);
     let mut tree = Tree::new(alloc, first, false)?;
-    let mut id = FullNodeId {
+    let last = FullNodeId {
         tree: 0,
         node: NodeId(99_999),
     };
-    let mut depth = 0u32;
-    for _ in 0..100_000u32 {
-        let node = tree.state().node_by_id(id).ok_or("no node")?;
-        let Some((parent, index)) = node.parent_and_index() else {
-            break;
-        };
-        assert_eq!(rt; index, 0);
-        depth = depth.saturating_add(1);
-        id = parent.id();
-    }
-    assert_eq!(rt; depth, 99_999);
-    assert!(rt; id == tree.state().root_id());
+    let node = tree.state().node_by_id(last).ok_or("no node")?;
+    let path = node.index_path(alloc)?;
+    assert_eq!(rt; path.len(), 99_999);
+    assert!(rt; path.iter().all(|index| *index == 0));
     let mut bare = Vec::new(alloc);
     push_node(alloc, &mut bare, 0, 0, 0)?;
     let mut recorder = Recorder::new(alloc);

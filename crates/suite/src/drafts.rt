@@ -46,7 +46,7 @@ impl Dice {
     }
 
     /// An index up to the bound, and the bound among them.
-    fn index(&mut self, bound: usize) -> usize {
+    pub fn index(&mut self, bound: usize) -> usize {
         let count = u64::try_from(bound).unwrap_or(0).saturating_add(1);
         usize::try_from(self.below(count)).unwrap_or(0).min(bound)
     }

@@ -9,7 +9,7 @@ use schema::NodeId;
 use std::test::Fail;
 
 /// A window whose child grafts a tree.
-const WINDOW: Sent = Sent {
+pub const WINDOW: Sent = Sent {
     tree: ROOT,
     root: Some(0),
     focus: 0,
@@ -18,12 +18,30 @@ const WINDOW: Sent = Sent {
 };
 
 /// The tree that is grafted: a document with a button.
-const DOCUMENT: Sent = Sent {
+pub const DOCUMENT: Sent = Sent {
     tree: 1,
     root: Some(0),
     focus: 0,
     nodes: &[Plain(0, &[1]), Plain(1, &[])],
     gives: Tells(&[Added(1, 0), Added(1, 1)]),
+};
+
+/// The window's focus is on its graft, which has no tree yet.
+pub const FOCUS_ON_GRAFT: Sent = Sent {
+    tree: ROOT,
+    root: None,
+    focus: 1,
+    nodes: &[],
+    gives: Refuses(&[Refused::FocusOnEmptyGraft(1)]),
+};
+
+/// The window's graft names another tree, and the document goes.
+pub const GRAFT_RENAMED: Sent = Sent {
+    tree: ROOT,
+    root: None,
+    focus: 0,
+    nodes: &[Graft(1, 2)],
+    gives: Tells(&[Updated(0, 1), Removed(1, 0), Removed(1, 1)]),
 };
 
 /// A document whose child grafts another tree.
@@ -94,13 +112,7 @@ pub static COURSES: [Course; 11] = [
         is_host_focused: false,
         sent: &[
             WINDOW,
-            Sent {
-                tree: ROOT,
-                root: None,
-                focus: 1,
-                nodes: &[],
-                gives: Refuses(&[Refused::FocusOnEmptyGraft(1)]),
-            },
+            FOCUS_ON_GRAFT,
             Sent {
                 tree: 2,
                 root: Some(0),
@@ -196,17 +208,7 @@ pub static COURSES: [Course; 11] = [
     Course {
         name: "a graft names another tree",
         is_host_focused: false,
-        sent: &[
-            WINDOW,
-            DOCUMENT,
-            Sent {
-                tree: ROOT,
-                root: None,
-                focus: 0,
-                nodes: &[Graft(1, 2)],
-                gives: Tells(&[Updated(0, 1), Removed(1, 0), Removed(1, 1)]),
-            },
-        ],
+        sent: &[WINDOW, DOCUMENT, GRAFT_RENAMED],
     },
     Course {
         name: "a graft that is gone does not lead the focus on",

@@ -18,6 +18,15 @@ const CHAIN: Sent = Sent {
     gives: Tells(&[]),
 };
 
+/// The window's button is the root, and the window goes.
+pub const CHILD_AS_ROOT: Sent = Sent {
+    tree: ROOT,
+    root: Some(1),
+    focus: 1,
+    nodes: &[],
+    gives: Tells(&[Updated(0, 1), Removed(0, 0)]),
+};
+
 pub static COURSES: [Course; 16] = [
     Course {
         name: "a node below its own child",
@@ -106,16 +115,7 @@ pub static COURSES: [Course; 16] = [
     Course {
         name: "a child becomes the root",
         is_host_focused: false,
-        sent: &[
-            PLAIN,
-            Sent {
-                tree: ROOT,
-                root: Some(1),
-                focus: 1,
-                nodes: &[],
-                gives: Tells(&[Updated(0, 1), Removed(0, 0)]),
-            },
-        ],
+        sent: &[PLAIN, CHILD_AS_ROOT],
     },
     Course {
         name: "a graft with children",

@@ -28,6 +28,8 @@ mod mirrors;
 #[cfg(test)]
 mod nodes;
 #[cfg(test)]
+mod planning;
+#[cfg(test)]
 mod rebuild;
 #[cfg(test)]
 mod recorder;
@@ -39,6 +41,10 @@ mod scripts;
 mod scripts_of_questions;
 #[cfg(test)]
 mod scripts_of_trees;
+#[cfg(test)]
+mod spoken;
+#[cfg(test)]
+mod states;
 #[cfg(test)]
 mod streams;
 #[cfg(test)]

@@ -20,12 +20,25 @@ pub const PLAIN: Sent = Sent {
 };
 
 /// The window without its button.
-const BUTTON_DROPPED: Sent = Sent {
+pub const BUTTON_DROPPED: Sent = Sent {
     tree: ROOT,
     root: None,
     focus: 0,
     nodes: &[Plain(0, &[])],
     gives: Tells(&[Updated(0, 0), Removed(0, 1)]),
+};
+
+/// The focus is on the window's button, where the host is focused.
+pub const FOCUS_ON_BUTTON: Sent = Sent {
+    tree: ROOT,
+    root: None,
+    focus: 1,
+    nodes: &[],
+    gives: Tells(&[
+        Updated(0, 0),
+        Updated(0, 1),
+        FocusMoved(Some((0, 0)), Some((0, 1))),
+    ]),
 };
 
 pub static COURSES: [Course; 9] = [
@@ -111,20 +124,7 @@ pub static COURSES: [Course; 9] = [
     Course {
         name: "the focus moves",
         is_host_focused: true,
-        sent: &[
-            PLAIN,
-            Sent {
-                tree: ROOT,
-                root: None,
-                focus: 1,
-                nodes: &[],
-                gives: Tells(&[
-                    Updated(0, 0),
-                    Updated(0, 1),
-                    FocusMoved(Some((0, 0)), Some((0, 1))),
-                ]),
-            },
-        ],
+        sent: &[PLAIN, FOCUS_ON_BUTTON],
     },
     Course {
         name: "first updates that are refused",
