@@ -1,15 +1,32 @@
 //! Texts that are made of runs: positions in them, and ranges of them.
 mod boundaries;
+mod boxes;
 mod characters;
+mod edges;
 mod ends;
 mod equality;
+mod formats;
+mod indexes;
 mod line_counts;
+mod line_ranges;
 mod lines;
+mod metrics;
 mod offsets;
 mod parts;
+mod pieces;
+mod points;
 mod position;
 mod predicates;
+mod properties;
+mod range;
+mod range_ends;
+mod range_properties;
 pub(crate) mod runs;
+mod selections;
+mod traversals;
+mod weak;
 mod well_formed;
+mod words;
 
 pub use position::TextPosition;
+pub use range::TextRange;

@@ -1,6 +1,6 @@
 //! What is told of two worlds, and whether a state shows a world.
 
-use crate::rebuild::{Place, World, in_tree};
+use crate::rebuild::{World, in_tree};
 use crate::recorder::{Told, pair};
 use accesskit_consumer::node::{FullNodeId, NodeRef};
 use accesskit_consumer::tree::StateRef;

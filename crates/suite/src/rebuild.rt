@@ -5,12 +5,10 @@
 use crate::faults::{Counted, count_faults};
 use accesskit_consumer::node::FullNodeId;
 use accesskit_consumer::tree::UpdateError;
+use model::Place;
 use schema::{Node, NodeId, TreeId, TreeUpdate};
 use std::alloc::{AllocError, Global};
 use std::collections::{BTreeMap, BTreeSet};
-
-/// A node's parent, and its index there.
-pub type Place = (FullNodeId, usize);
 
 /// The root and the declared focus of a tree.
 #[derive(Clone, Copy)]

@@ -1,6 +1,6 @@
 //! What an update changes, by its own nodes.
-use crate::{Place, TreeRecord};
-use model::{FullNodeId, PlanEvent};
+use crate::TreeRecord;
+use model::{FullNodeId, Place, PlanEvent};
 
 /// What becomes of a node.
 #[derive(Clone, Copy, Debug, PartialEq, Eq)]

@@ -10,12 +10,8 @@ mod plan;
 pub use decision::{Decision, NodeChange};
 pub use error::UpdateError;
 pub use look_ups::{LookUps, NodeRecord, TreeRecord};
-use model::FullNodeId;
 pub use model::PlanEvent;
 pub use plan::{Change, Plan};
-
-/// A parent, and the index among its children.
-pub type Place = (FullNodeId, usize);
 
 /// The texts of a toolkit's name and version.
 pub type ToolkitTexts = (Option<String>, Option<String>);

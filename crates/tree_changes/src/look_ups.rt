@@ -6,8 +6,7 @@ ghost use Rattle.model.specs.World.{World, data_of};
 ghost use Rattle.model.specs.Surgery.{IsOld};
 ghost use Rattle.tree_changes.specs.Looks.{IsNodeRecord, IsTreeRecord, raised_count};
 
-use crate::Place;
-use model::FullNodeId;
+use model::{FullNodeId, Place};
 use schema::{Node, NodeId, TreeId};
 
 /// A node's place and data.

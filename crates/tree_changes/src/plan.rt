@@ -1,6 +1,6 @@
 //! The whole decision on an update, with the data.
-use crate::{Place, ToolkitTexts, TreeRecord};
-use model::{FullNodeId, PlanEvent};
+use crate::{ToolkitTexts, TreeRecord};
+use model::{FullNodeId, Place, PlanEvent};
 use schema::Node;
 
 /// A change of one record.

@@ -12,11 +12,11 @@ ghost use Rattle.tree_plan.specs.Passes.{at, IsOpening, IsComparison, IsSettleme
 ghost use Rattle.tree_plan.specs.Climbs.{IsNext, IsOldPlace, IsKnown, first_ids, AreClimbed, IsClimbedFrom};
 
 use crate::passes::{Compared, Opened, Settled};
-use model::FullNodeId;
+use model::{FullNodeId, Place};
 use schema::TreeUpdate;
 use std::alloc::Global;
 use std::collections::BTreeMap;
-use tree_changes::{LookUps, Place, UpdateError};
+use tree_changes::{LookUps, UpdateError};
 
 /// Climbs from each named node that got a child, and refuses one that isn't reached.
 pub(crate) fn climb_all<L: LookUps>(

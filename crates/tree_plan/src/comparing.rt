@@ -10,11 +10,11 @@ ghost use Rattle.tree_plan.specs.Comparisons.{AreTaken, IsNamedTwice, Gathers, G
 
 use crate::opening::is_root_tree;
 use crate::passes::{Compared, Named, Opened};
-use model::FullNodeId;
+use model::{FullNodeId, Place};
 use schema::{Node, NodeId, TreeId, TreeUpdate};
 use std::alloc::Global;
 use std::collections::BTreeMap;
-use tree_changes::{LookUps, Place, UpdateError};
+use tree_changes::{LookUps, UpdateError};
 
 /// A node of the tree with this index.
 pub(crate) fn full_id(index: u32, node: NodeId) -> FullNodeId

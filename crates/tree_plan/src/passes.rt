@@ -1,8 +1,8 @@
 //! What each pass finds.
-use model::FullNodeId;
+use model::{FullNodeId, Place};
 use schema::{NodeId, TreeId};
 use std::collections::{BTreeMap, BTreeSet};
-use tree_changes::{Place, TreeRecord};
+use tree_changes::TreeRecord;
 
 /// The tree that the update names: its record before (without index, graft, root and focus where there is none), and its index
 /// and root afterwards.

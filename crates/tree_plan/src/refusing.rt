@@ -12,11 +12,11 @@ ghost use Rattle.tree_plan.specs.Passes.{at, IsOpening, IsComparison, IsSettleme
 ghost use Rattle.tree_plan.specs.Refusing.{IsNowhere, AreListed, IsOfUnlisted, IsDoubled, IsListedStill, IsSearch, Adds, HasReached, SearchesAll, Explains};
 
 use crate::passes::{Compared, Named, Opened, Removed, Settled};
-use model::FullNodeId;
+use model::{FullNodeId, Place};
 use schema::{NodeId, TreeUpdate};
 use std::alloc::Global;
 use std::collections::{BTreeMap, BTreeSet};
-use tree_changes::{LookUps, Place, UpdateError};
+use tree_changes::{LookUps, UpdateError};
 
 /// Whether a named node is new and entered no spot.
 fn is_nowhere(compared: &Compared, id: FullNodeId, named: &Named) -> bool

@@ -10,11 +10,11 @@ ghost use Rattle.tree_plan.specs.Passes.{IsOpening, IsComparison, IsSettlement};
 ghost use Rattle.tree_plan.specs.Settling.{Comes, StoodAt, KeepsPlace, KeepsAdopter, IsSettledSoFar, SettlesOne};
 
 use crate::passes::{Compared, Opened, Settled};
-use model::FullNodeId;
+use model::{FullNodeId, Place};
 use schema::TreeUpdate;
 use std::alloc::Global;
 use std::collections::{BTreeMap, BTreeSet};
-use tree_changes::{LookUps, Place, UpdateError};
+use tree_changes::{LookUps, UpdateError};
 
 /// Whether this is the named tree's root afterwards.
 fn is_root(opened: &Opened, id: FullNodeId) -> bool

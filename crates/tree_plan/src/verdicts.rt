@@ -10,10 +10,10 @@ ghost use Rattle.tree_changes.specs.declared.error.UpdateError.TheVariants.{Memo
 
 use crate::passes::{Compared, Opened, Removed};
 use crate::regrafting::Regrafted;
-use model::FullNodeId;
+use model::{FullNodeId, Place};
 use std::alloc::Global;
 use std::collections::BTreeMap;
-use tree_changes::{Place, UpdateError};
+use tree_changes::UpdateError;
 
 /// What becomes of a node that is not as it was, or is told all the same.
 #[derive(Clone, Copy)]

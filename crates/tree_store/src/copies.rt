@@ -7,11 +7,10 @@ ghost use Rattle.tree_store.specs.Stored.{record_at};
 use crate::records::Record;
 use crate::slots::Slots;
 use crate::store::Store;
-use model::FullNodeId;
+use model::{FullNodeId, Place};
 use schema::Node;
 use std::alloc::{AllocError, Global};
 use std::collections::BTreeMap;
-use tree_changes::Place;
 
 /// A copy of a node's record: its place, and its data.
 #[derive(Drop)]

@@ -20,9 +20,9 @@ ghost use Rattle.tree_store.specs.Commits.{HasSlots};
 ghost use Rattle.tree_store.specs.Overlays.{laid_over, replacing, root_recorded, IsLaidOver, IsRecordAfter};
 
 use crate::store::Store;
-use model::FullNodeId;
+use model::{FullNodeId, Place};
 use schema::{Node, NodeId, TreeId, TreeInfo, TreeUpdate};
-use tree_changes::{Decision, NodeChange, Place, TreeRecord};
+use tree_changes::{Decision, NodeChange, TreeRecord};
 
 /// A decision on an update, with the update that has the data.
 #[derive(Clone, Copy)]

@@ -1,7 +1,6 @@
 //! What is kept of a node and of a tree.
-use model::FullNodeId;
+use model::{FullNodeId, Place};
 use schema::{Node, NodeId, TreeId};
-use tree_changes::Place;
 
 /// A node as it is kept: its place, and its data.
 #[derive(Drop)]

@@ -11,12 +11,12 @@ ghost use Rattle.tree_changes.specs.declared.decision.NodeChange.TheVariants.{Pu
 ghost use Rattle.tree_store.specs.declared.records.Record.{Record};
 
 use crate::records::Record;
-use model::FullNodeId;
+use model::{FullNodeId, Place};
 use schema::{Node, NodeId, Role};
 use std::alloc::{AllocError, Global};
 use std::collections::BTreeMap;
 use std::mem;
-use tree_changes::{NodeChange, Place};
+use tree_changes::NodeChange;
 
 /// An empty slot is one that a commit fills.
 pub(crate) type Slots = BTreeMap<FullNodeId, Box<Option<Record>>>;

@@ -15,12 +15,12 @@ use crate::names::{
 };
 use crate::records::{KnownTree, NameRecord, PresentTree};
 use crate::slots::{Slots, record};
-use model::FullNodeId;
+use model::{FullNodeId, Place};
 use schema::{Node, TreeId};
 use std::alloc::Global;
 use std::collections::BTreeMap;
 use std::marker::Model;
-use tree_changes::{NodeRecord, Place, ToolkitTexts, TreeRecord};
+use tree_changes::{NodeRecord, ToolkitTexts, TreeRecord};
 
 /// A state: each node's data and place, the known trees, the toolkit's texts and the focus. A clause sees the world that it
 /// shows, as `store.now.world`, the ids that there is a slot for, and whether there is room for a new tree.

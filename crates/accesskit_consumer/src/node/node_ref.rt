@@ -8,9 +8,8 @@ ghost use Rattle.model.specs.World.{data_of};
 ghost use Rattle.accesskit_consumer.specs.Views.{world_of};
 
 use crate::tree::StateRef;
-use model::FullNodeId;
+use model::{FullNodeId, Place};
 use schema::Node;
-use tree_changes::Place;
 
 /// A node of a state, as it is read.
 #[derive(Clone, Copy)]

@@ -2,9 +2,9 @@
 ghost use Rattle.accesskit_consumer.specs.Sound.{IsSound, IsSound-prop, HasRoom, HasRoom-prop};
 
 use crate::node::NodeRef;
-use model::FullNodeId;
+use model::{FullNodeId, Place};
 use schema::{Node, NodeId, TreeId};
-use tree_changes::{NodeRecord, Place};
+use tree_changes::NodeRecord;
 use tree_store::{Overlay, Store};
 
 /// A state, as it is read: the one that is kept, with the changes of an update laid over it where there are any.

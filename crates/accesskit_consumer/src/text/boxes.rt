@@ -1,0 +1,1 @@
+//! The boxes of a range, one for each run.

@@ -1,0 +1,1 @@
+//! Moves by format: runs that are shown alike.

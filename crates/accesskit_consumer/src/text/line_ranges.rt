@@ -1,0 +1,1 @@
+//! The range of a line.

@@ -1,0 +1,1 @@
+//! Where the characters of a run stand along it.

@@ -1,0 +1,1 @@
+//! The position of a text at a point.

@@ -1,0 +1,1 @@
+//! What the run of a position says of its look.

@@ -1,0 +1,1 @@
+//! What all runs of a range say of their look.

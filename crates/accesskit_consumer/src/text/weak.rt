@@ -1,0 +1,1 @@
+//! Ranges that outlive a state.
