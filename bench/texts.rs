@@ -143,7 +143,7 @@ fn units(root: NodeRef, total: usize) -> u64 {
     }
     let mut sum = 0u64;
     for part in 0..100usize {
-        let unit = total.saturating_mul(part) / 100;
+        let unit = (total.saturating_mul(part) / 100).saturating_add(7);
         if let Some(position) = root.text_position_from_global_utf16_index(unit) {
             sum = sum.saturating_add(position.to_raw().character_index as u64);
         }
