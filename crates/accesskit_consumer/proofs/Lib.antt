@@ -44,3 +44,4 @@ pub mod TextSizes
 pub mod Separators
 pub mod PositionKeys
 pub mod LineCounts
+pub mod RangeSteps
