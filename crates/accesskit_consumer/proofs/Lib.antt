@@ -46,3 +46,4 @@ pub mod PositionKeys
 pub mod LineCounts
 pub mod RangePieces
 pub mod RangeRuns
+pub mod RangeSteps

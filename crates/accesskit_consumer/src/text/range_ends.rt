@@ -83,4 +83,78 @@ impl<'a> TextRange<'a> {
             index: range.last.index,
         }
     }
+
+    /// Whether there is no character between the ends.
+    pub fn is_degenerate(&self) -> bool
+        ensures { result ≡ is_degenerate (text_in self.now) (range_at self.now) }
+    {
+        let start = self.start().offset();
+        start == self.end().offset()
+    }
+
+    /// Makes the range begin at a position of the same root, in the same state.
+    ///
+    /// An end that isn't past the position goes along. Then a range that isn't degenerate begins on the start side.
+    pub fn set_start(&mut self, position: TextPosition<'a>)
+        requires world { world_at (root_at position) ≡ world_in self.old }
+        requires root { id_at (root_at position) ≡ root_in self.old }
+        ensures { IsRangeOf (world_in self.old) (root_in self.old)
+            (with_start (text_in self.old) (range_at self.old) (position_at position.entry)) self.new }
+    {
+        let end = self.end();
+        if position.offset() < end.offset() {
+            *self = TextRange::over(position.biased_to_start(), end);
+            return;
+        }
+        *self = TextRange::over(position, position);
+    }
+
+    /// Makes the range end at a position of the same root, in the same state.
+    ///
+    /// A start that isn't before the position goes along. Then a range that isn't degenerate begins on the start side.
+    pub fn set_end(&mut self, position: TextPosition<'a>)
+        requires world { world_at (root_at position) ≡ world_in self.old }
+        requires root { id_at (root_at position) ≡ root_in self.old }
+        ensures { IsRangeOf (world_in self.old) (root_in self.old)
+            (with_end (text_in self.old) (range_at self.old) (position_at position.entry)) self.new }
+    {
+        let start = self.start();
+        if start.offset() < position.offset() {
+            *self = TextRange::over(start.biased_to_start(), position);
+            return;
+        }
+        *self = TextRange::over(position, position);
+    }
+
+    /// The range as an application names it: from its start to its end.
+    pub fn to_text_selection(&self) -> schema::TextSelection
+        ensures anchor { IsRaw (text_in self.now) (range_at self.now).start result.anchor }
+        ensures focus { IsRaw (text_in self.now) (range_at self.now).end result.focus }
+    {
+        schema::TextSelection {
+            anchor: self.start().to_raw(),
+            focus: self.end().to_raw(),
+        }
+    }
+}
+
+impl<'a> NodeRef<'a> {
+    /// The range of the node's whole text, which has text ranges.
+    pub fn document_range(&self) -> TextRange<'a>
+        requires { supports_text_ranges (world_at self.now) (id_at self.now) ≡ true }
+        ensures { IsRangeOf (world_at self.now) (id_at self.now) (document_range (text_of self.now)) result }
+    {
+        TextRange::over(self.document_start(), self.document_end())
+    }
+}
+
+impl<'a> TextPosition<'a> {
+    /// The range from the position to itself.
+    pub fn to_degenerate_range(&self) -> TextRange<'a>
+        ensures { IsRangeOf (world_at (root_at self.now)) (id_at (root_at self.now))
+            (record { start = position_at self.now; end = position_at self.now }) result }
+    {
+        let position = *self;
+        TextRange::over(position, position)
+    }
 }
