@@ -9,6 +9,7 @@ pub mod FocusedOne
 pub mod Follows
 pub mod FilterValues
 pub mod Inherited
+pub mod RunLooks
 pub mod Reach
 pub mod Tests
 pub mod Spots
@@ -34,3 +35,6 @@ pub mod RunNumbers
 pub mod Positions
 pub mod Marks
 pub mod SamePositions
+pub mod Edges
+pub mod TextRanges
+pub mod Pieces
