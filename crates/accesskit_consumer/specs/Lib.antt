@@ -9,6 +9,7 @@ pub mod FocusedOne
 pub mod Follows
 pub mod FilterValues
 pub mod Inherited
+pub mod RunLooks
 pub mod Reach
 pub mod Tests
 pub mod Spots
