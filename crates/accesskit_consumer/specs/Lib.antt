@@ -10,6 +10,8 @@ pub mod Follows
 pub mod FilterValues
 pub mod Inherited
 pub mod Reach
+pub mod Measures
+pub mod PointTests
 pub mod Tests
 pub mod Spots
 pub mod Courses
@@ -34,3 +36,6 @@ pub mod RunNumbers
 pub mod Positions
 pub mod Marks
 pub mod SamePositions
+pub mod Edges
+pub mod TextRanges
+pub mod Pieces
