@@ -46,3 +46,5 @@ pub mod TextSizes
 pub mod Separators
 pub mod PositionKeys
 pub mod LineCounts
+pub mod RangePieces
+pub mod RangeRuns
