@@ -34,6 +34,8 @@ pub mod Ranges
 pub mod Points
 pub mod Values
 pub mod Labels
+pub mod Answers
+pub mod Queries
 pub mod Outline
 pub mod Shape
 pub mod ListLaws

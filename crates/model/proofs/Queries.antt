@@ -1,0 +1,4 @@
+-- Queries and their answers.
+pub mod NamedNodes
+pub mod ShownFocus
+pub mod Raws
