@@ -45,6 +45,7 @@ pub mod WorldLaws
 pub mod IdLaws
 pub mod ViewLaws
 pub mod TextLaws
+pub mod QueryLaws
 pub mod OutlineLaws
 pub mod ListExamples
 pub mod Examples
@@ -54,6 +55,7 @@ pub mod ValueExamples
 pub mod LabelExamples
 pub mod TextExamples
 pub mod SecretExamples
+pub mod QueryExamples
 pub mod Surgery
 pub mod SurgeryLaws
 pub mod SiblingLaws

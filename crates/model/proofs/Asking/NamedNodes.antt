@@ -1,5 +1,5 @@
 -- The node that a query names.
-use Rattle.std.proofs.Common.{◌≡◌, Bool, true, false, ℕ, Option, Some, None, refl, sym, ap, ◌∙◌, subst}
+use Rattle.std.proofs.Common.{◌≡◌, true, ℕ, Option, Some, None, refl, ap, ◌∙◌, subst}
 use Rattle.std.specs.Prelude.{is_some, ◌↔◌, option_and_then, option_map}
 use Rattle.std.specs.Bool.{then_some}
 use Rattle.std.proofs.lemmas.Option.{none-some, same_Some}
@@ -10,11 +10,11 @@ use Rattle.model.specs.declared.FullNodeId.{FullNodeId}
 use Rattle.model.specs.World.{World, data_of, in_tree, index_of, name_of, local_id_of}
 use Rattle.model.specs.State.{IsState}
 use Rattle.model.specs.Queries.{node_named}
-use Rattle.model.proofs.Worlds.Names.{same_id, known-index_of, index_of-known}
+use Rattle.model.proofs.Worlds.Names.{known-index_of, index_of-known}
 
 module _ (w : World) (n : NodeId) (tree : TreeId) where
   -- by the index of the tree, and by whether the node is there
-  by_index : Option ℕ → Option FullNodeId
+  abbrev by_index : Option ℕ → Option FullNodeId
   by_index o = option_and_then (λ index. then_some (is_some (data_of w (in_tree index n))) (in_tree index n)) o
 
   located : (index : ℕ) (o : Option NodeData) → data_of w (in_tree index n) ≡ o → name_of w index ≡ Some tree → (id : FullNodeId) → then_some (is_some o) (in_tree index n) ≡ Some id → local_id_of w id ≡ Some (n, tree)

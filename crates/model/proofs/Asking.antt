@@ -2,3 +2,4 @@
 pub mod NamedNodes
 pub mod ShownFocus
 pub mod Raws
+pub mod Asked

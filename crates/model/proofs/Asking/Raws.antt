@@ -1,5 +1,5 @@
 -- The raw form of a position.
-use Rattle.std.proofs.Common.{◌≡◌, ℕ, List, Option, Some, None, refl, sym, ap, ◌∙◌, subst}
+use Rattle.std.proofs.Common.{◌≡◌, ℕ, zero, suc, arith, [], ◌∷◌, Option, Some, None, refl, sym, ap}
 use Rattle.std.specs.Prelude.{◌↔◌, ◌<◌, length, slice_get, option_map, IsSome}
 use Rattle.std.proofs.lemmas.Option.{none-some, same_Some}
 use Rattle.schema.specs.declared.values.TextPosition.{TextPosition}
@@ -29,8 +29,10 @@ is_there : (p : Position) (o : Option ShownRun) → IsSome o → IsSome (option_
 is_there p None h = h
 is_there p (Some s) h = refl
 
+some_within : (xs : FlatText) (k : ℕ) → k < length xs → IsSome (slice_get xs k)
+some_within [] k within = absurd (omega (arith, within))
+some_within (x ∷ xs) zero within = refl
+some_within (x ∷ xs) (suc k) within = some_within xs k (omega (arith, within))
+
 pub position_has_raw : (t : FlatText) (p : Position) → IsPosition t p → IsSome (raw_of t p)
 position_has_raw t p h = is_there p (slice_get t p.run) (some_within t p.run h.run)
-  where
-    some_within : (xs : FlatText) (k : ℕ) → k < length xs → IsSome (slice_get xs k)
-    some_within xs k within = search
