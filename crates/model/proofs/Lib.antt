@@ -16,4 +16,5 @@ pub mod Surgery
 pub mod Views
 pub mod Walks
 pub mod Text
+pub mod Asking
 pub mod Examples

@@ -34,6 +34,8 @@ pub mod Ranges
 pub mod Points
 pub mod Values
 pub mod Labels
+pub mod Answers
+pub mod Queries
 pub mod Outline
 pub mod Shape
 pub mod ListLaws
@@ -43,6 +45,7 @@ pub mod WorldLaws
 pub mod IdLaws
 pub mod ViewLaws
 pub mod TextLaws
+pub mod QueryLaws
 pub mod OutlineLaws
 pub mod ListExamples
 pub mod Examples
@@ -52,6 +55,7 @@ pub mod ValueExamples
 pub mod LabelExamples
 pub mod TextExamples
 pub mod SecretExamples
+pub mod QueryExamples
 pub mod Surgery
 pub mod SurgeryLaws
 pub mod SiblingLaws

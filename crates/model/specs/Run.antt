@@ -1,19 +1,24 @@
 -- A run: commands one after another, what they do to the world, what is told and what is replied.
 use Rattle.std.specs.Prelude.{◌≡◌, ℕ, Bool, List, [], ◌∷◌, ◌++◌, length, take, ◌≤◌, ◌↔◌, ⊤}
+use Rattle.model.specs.declared.queries.Query.{Query}
 use Rattle.model.specs.World.{World}
 use Rattle.model.specs.Update.{UpdateData, Fault, index_for, Stands, IsAccepted}
 use Rattle.model.specs.State.{empty_world, with_host}
 use Rattle.model.specs.Events.{Event}
+use Rattle.model.specs.Answers.{Answer}
+use Rattle.model.specs.Queries.{answer_of}
 use Rattle.model.specs.Differences.{PlanEvent, events, told_root, AreOfFocus, AreDifferences}
 
 pub data CommandData : Type 0 where
   ToUpdate : (update : UpdateData) → CommandData
   ToHostFocus : (focused : Bool) → CommandData
+  ToQuery : (query : Query) → CommandData
 
 pub data ReplyData : Type 0 where
   Accepted : ReplyData
   Refused : (fault : Fault) → ReplyData
   OutOfMemory : ReplyData
+  Answered : (answer : Answer) → ReplyData
 
 -- the world that the first update makes; it tells nothing
 abbrev pub Begins : Bool → UpdateData → World → Type 0
@@ -23,15 +28,18 @@ Begins host_focused u new = IsAccepted (empty_world host_focused) u new
 abbrev pub AreToldBy : World → UpdateData → World → List PlanEvent → Type 0
 AreToldBy old u new differences = AreDifferences old new (told_root (index_for old u.name) u.info) differences
 
--- What a command makes of a world, what is told of it, and its reply. A refusal, and want of memory, leave all as it is.
+-- What a command makes of a world, what is told of it, and its reply. A refusal, want of memory, and a query leave all as it is.
 abbrev pub Does : World → CommandData → World → List Event → ReplyData → Type 0
 Does old (ToUpdate u) new told Accepted =
     IsAccepted old u new × (differences : List PlanEvent) × AreToldBy old u new differences × (told ≡ events old new differences)
 Does old (ToUpdate u) new told (Refused fault) = Stands old u fault × (new ≡ old) × (told ≡ [])
 Does old (ToUpdate u) new told OutOfMemory = (new ≡ old) × (told ≡ [])
+Does old (ToUpdate u) new told (Answered answer) = ⊥
 Does old (ToHostFocus focused) new told Accepted = (new ≡ with_host old focused) × (differences : List PlanEvent) × AreOfFocus old new [] differences × (told ≡ events old new differences)
 Does old (ToHostFocus focused) new told (Refused fault) = ⊥
 Does old (ToHostFocus focused) new told OutOfMemory = ⊥
+Does old (ToHostFocus focused) new told (Answered answer) = ⊥
+Does old (ToQuery query) new told reply = (new ≡ old) × (told ≡ []) × (reply ≡ Answered (answer_of old query))
 
 -- The commands in turn take the world w to v; these events are told, and there is a reply to each command.
 abbrev pub Runs : World → List CommandData → World → List Event → List ReplyData → Type 0

@@ -10,7 +10,7 @@ use Rattle.model.specs.World.{World, data_of, in_tree}
 use Rattle.model.specs.Forest.{is_same}
 use Rattle.model.specs.Update.{UpdateData, index_for}
 use Rattle.model.specs.Events.{Event}
-use Rattle.model.specs.Run.{CommandData, ReplyData, ToUpdate, ToHostFocus, Does, WantAlike}
+use Rattle.model.specs.Run.{CommandData, ReplyData, ToUpdate, ToHostFocus, ToQuery, Does, WantAlike}
 use Rattle.model.specs.TextRuns.{SentRun, run_ids, sent_runs, said_count, ends_with_newline, supports_text_ranges}
 use Rattle.model.specs.FlatText.{needs_masking}
 use Rattle.model.specs.Outline.{without_value, without_text, outline}
@@ -55,8 +55,13 @@ pub record AreAlikeUpdates (p : FullNodeId) (w : World) (u v : UpdateData) : Typ
 abbrev pub AreAlikeCommands : FullNodeId → World → CommandData → CommandData → Type 0
 AreAlikeCommands p w (ToUpdate u) (ToUpdate v) = AreAlikeUpdates p w u v
 AreAlikeCommands p w (ToHostFocus a) (ToHostFocus b) = a ≡ b
+AreAlikeCommands p w (ToQuery q) (ToQuery r) = q ≡ r
 AreAlikeCommands p w (ToUpdate u) (ToHostFocus b) = ⊥
+AreAlikeCommands p w (ToUpdate u) (ToQuery r) = ⊥
 AreAlikeCommands p w (ToHostFocus a) (ToUpdate v) = ⊥
+AreAlikeCommands p w (ToHostFocus a) (ToQuery r) = ⊥
+AreAlikeCommands p w (ToQuery q) (ToUpdate v) = ⊥
+AreAlikeCommands p w (ToQuery q) (ToHostFocus b) = ⊥
 
 -- two runs with these replies: alike commands, memory wanting at the same ones, and alike worlds at the start and after each
 abbrev pub AreAlikeRuns : FullNodeId → World → List CommandData → List ReplyData → World → List CommandData → List ReplyData → Type 0

@@ -5,6 +5,7 @@ pub mod examples;
 pub mod filters;
 pub mod ids;
 pub mod lists;
+pub mod queries;
 pub mod siblings;
 pub mod surgery;
 pub mod texts;

@@ -7,8 +7,10 @@ ghost use Rattle.std.specs.Prelude.{◌≡◌};
 mod events;
 pub mod filters;
 pub mod laws;
+mod queries;
 
 pub use events::PlanEvent;
+pub use queries::{At, Move, NamedFilter, NodeName, Query, Side};
 use schema::NodeId;
 
 /// Names a node of a state.

@@ -27,7 +27,7 @@ use Rattle.model.proofs.Examples.WrittenViews.{data_in}
 use Rattle.model.proofs.Text.Outlines.{given_same}
 use Rattle.model.proofs.Text.Secrets.{one_value, value_by, value_is_faced}
 
-abbrev sent_as : ℕ → List ℕ → List ℕ → SentRun
+abbrev pub sent_as : ℕ → List ℕ → List ℕ → SentRun
 sent_as n value lengths = record { id = at 0 n; node = run_node value lengths }
 
 -- what a world of such nodes has
@@ -67,7 +67,7 @@ module _ (w : World) (v a1 l1 a2 l2 : List ℕ) (is : w.nodes ≡ from_sorted (s
   pub password : is_password w (at 0 0) ≡ true
   password = rw root_data refl
 
-one_masked : IsMaskedText one_secret (at 0 0)
+pub one_masked : IsMaskedText one_secret (at 0 0)
 unfolding supports_text_ranges needs_masking chars is_utf8 encode_utf8
 one_masked =
     let s = sent one_secret (codes "secret") (112 ∷ 195 ∷ 164 ∷ []) (1 ∷ 2 ∷ []) (codes "ss") (1 ∷ 1 ∷ []) refl in
@@ -128,17 +128,21 @@ equal_shape =
       faces = ap (map face) s ∙ sym (ap (map face) t);
     }
 
-all_bullets : document_text one_secret (at 0 0) ≡ bullets 4
+pub one_root : data_of one_secret (at 0 0) ≡ Some (field_node (codes "secret"))
+one_root = root_data one_secret (codes "secret") (112 ∷ 195 ∷ 164 ∷ []) (1 ∷ 2 ∷ []) (codes "ss") (1 ∷ 1 ∷ []) refl
+
+pub one_text_is : flat_text one_secret (at 0 0) ≡ map (shown_run one_secret (at 0 0) true true) (sent_as 1 (112 ∷ 195 ∷ 164 ∷ []) (1 ∷ 2 ∷ []) ∷ sent_as 2 (codes "ss") (1 ∷ 1 ∷ []) ∷ [])
 unfolding flat_text
-all_bullets =
+one_text_is =
     let a1 : List ℕ = 112 ∷ 195 ∷ 164 ∷ [] in
     let l1 : List ℕ = 1 ∷ 2 ∷ [] in
     let ones : List ℕ = 1 ∷ 1 ∷ [] in
-    let text : flat_text one_secret (at 0 0) ≡ map (shown_run one_secret (at 0 0) true true) (sent_as 1 a1 l1 ∷ sent_as 2 (codes "ss") ones ∷ []) =
-    λ i. map (shown_run one_secret (at 0 0) (password one_secret (codes "secret") a1 l1 (codes "ss") ones refl i) (one_masked.masked i)) (sent one_secret (codes "secret") a1 l1 (codes "ss") ones refl i) in
-    ap (λ t. text_of t (document_range t)) text
+    λ i. map (shown_run one_secret (at 0 0) (password one_secret (codes "secret") a1 l1 (codes "ss") ones refl i) (one_masked.masked i)) (sent one_secret (codes "secret") a1 l1 (codes "ss") ones refl i)
 
-shown_first : value_of one_secret (at 0 0) ≡ Some (bullets 4)
+all_bullets : document_text one_secret (at 0 0) ≡ bullets 4
+all_bullets = ap (λ t. text_of t (document_range t)) one_text_is
+
+pub shown_first : value_of one_secret (at 0 0) ≡ Some (bullets 4)
 shown_first =
     let r = root_data one_secret (codes "secret") (112 ∷ 195 ∷ 164 ∷ []) (1 ∷ 2 ∷ []) (codes "ss") (1 ∷ 1 ∷ []) refl in
     value_is_faced one_secret (at 0 0) one_masked.supported one_masked.masked

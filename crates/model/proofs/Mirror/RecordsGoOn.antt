@@ -13,7 +13,7 @@ use Rattle.model.specs.Reasons.{Reason}
 use Rattle.model.specs.Mirror.{Mirrored, Records, IsRecordOf, Notes, Mirrors, AreRecordsOf}
 use Rattle.model.specs.State.{IsState, empty_world, with_host}
 use Rattle.model.specs.Update.{index_for}
-use Rattle.model.specs.Run.{CommandData, ToUpdate, ToHostFocus, ReplyData, Accepted, Refused, OutOfMemory, Does, Runs}
+use Rattle.model.specs.Run.{CommandData, ToUpdate, ToHostFocus, ToQuery, ReplyData, Accepted, Refused, OutOfMemory, Answered, Does, Runs}
 use Rattle.model.proofs.Differences.DifferencesExist.{differences_exist}
 use Rattle.model.proofs.Focus.FocusIsThere.{focus_exists}
 use Rattle.model.proofs.Differences.HostChanges.{differences_of_host}
@@ -76,10 +76,13 @@ command_goes_on : (w v : World) (c : CommandData) (told : List Event) (reply : R
 command_goes_on w v (ToUpdate u) told Accepted r h = subst (GoesOn r) (sym h.3) (records_go_on w v (told_root (index_for w u.name) u.info) h.1 r h.2)
 command_goes_on w v (ToUpdate u) told (Refused fault) r h = (r, subst (λ es. Told Mirrors r es r) (sym h.2) refl)
 command_goes_on w v (ToUpdate u) told OutOfMemory r h = (r, subst (λ es. Told Mirrors r es r) (sym h.1) refl)
+command_goes_on w v (ToUpdate u) told (Answered a) r h = absurd h
 command_goes_on w v (ToHostFocus focused) told Accepted r h =
     subst (GoesOn r) (sym h.3) (subst (λ x. GoesOn r (events w x h.1)) (sym h.0) (host_goes_on w focused h.1 r (subst (λ x. AreOfFocus w x [] h.1) h.0 h.2)))
 command_goes_on w v (ToHostFocus focused) told (Refused fault) r h = absurd h
 command_goes_on w v (ToHostFocus focused) told OutOfMemory r h = absurd h
+command_goes_on w v (ToHostFocus focused) told (Answered a) r h = absurd h
+command_goes_on w v (ToQuery q) told reply r h = (r, subst (λ es. Told Mirrors r es r) (sym h.1) refl)
 
 pub records_go_on_over_run : (w v : World) (cs : List CommandData) (told : List Event) (replies : List ReplyData) (r : Records) → Runs w cs v told replies → GoesOn r told
 records_go_on_over_run w v [] told replies r h = (r, subst (λ es. Told Mirrors r es r) (sym h.1) refl)

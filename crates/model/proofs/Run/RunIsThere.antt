@@ -6,7 +6,8 @@ use Rattle.model.specs.Update.{UpdateData, IsAccepted, index_for}
 use Rattle.model.specs.State.{IsState, with_host}
 use Rattle.model.specs.Events.{Event}
 use Rattle.model.specs.Differences.{events, told_root}
-use Rattle.model.specs.Run.{CommandData, ToUpdate, ToHostFocus, ReplyData, Accepted, Refused, OutOfMemory, Does, Runs}
+use Rattle.model.specs.Queries.{answer_of}
+use Rattle.model.specs.Run.{CommandData, ToUpdate, ToHostFocus, ToQuery, ReplyData, Accepted, Refused, OutOfMemory, Answered, Does, Runs}
 use Rattle.model.proofs.Update.UpdateLeavesState.{update_leaves_state}
 use Rattle.model.proofs.Update.AcceptedOrFault.{accepted_or_fault}
 use Rattle.model.proofs.Differences.DifferencesExist.{differences_exist, of_focus_exists}
@@ -38,6 +39,7 @@ command_done w (ToUpdate u) s = elim (accepted_or_fault w u) [
   | inr fault ↦ (w, [], Refused fault.0, (fault.1, refl, refl), λ e. cc)
 ]
 command_done w (ToHostFocus focused) s = host_told w focused s
+command_done w (ToQuery q) s = (w, [], Answered (answer_of w q), (refl, refl, refl), λ e. cc)
 
 pub run_exists : (w : World) (cs : List CommandData) → IsState w → (v : World) × (told : List Event) × (replies : List ReplyData) × Runs w cs v told replies × ¬ (Contains replies OutOfMemory)
 run_exists w [] s = (w, [], [], (refl, refl, refl), contains_none OutOfMemory)

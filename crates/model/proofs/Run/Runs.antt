@@ -7,7 +7,7 @@ use Rattle.model.specs.Events.{Event, Told}
 use Rattle.model.specs.Differences.{PlanEvent, events, told_root, AreOfFocus}
 use Rattle.model.specs.Mirror.{Records, Mirrors, AreRecordsOf}
 use Rattle.model.specs.State.{IsState, with_host}
-use Rattle.model.specs.Run.{CommandData, ToUpdate, ToHostFocus, ReplyData, Accepted, Refused, OutOfMemory, Does, Runs}
+use Rattle.model.specs.Run.{CommandData, ToUpdate, ToHostFocus, ToQuery, ReplyData, Accepted, Refused, OutOfMemory, Answered, Does, Runs}
 use Rattle.model.proofs.Update.UpdateLeavesState.{update_leaves_state}
 use Rattle.model.proofs.State.HostFocus.{host_leaves_state}
 use Rattle.model.proofs.Differences.Tellings.{told_split}
@@ -49,11 +49,14 @@ follow_command : (w v : World) (c : CommandData) (told : List Event) (reply : Re
 follow_command w v (ToUpdate u) told Accepted r s h are t = records_follow w v (told_root (index_for w u.name) u.info) h.1 h.2 r s are (subst (λ es. Told Mirrors r es s) h.3 t)
 follow_command w v (ToUpdate u) told (Refused fault) r s h are t = subst (λ x. AreRecordsOf x s) (sym h.1) (subst (AreRecordsOf w) (subst (λ es. Told Mirrors r es s) h.2 t) are)
 follow_command w v (ToUpdate u) told OutOfMemory r s h are t = subst (λ x. AreRecordsOf x s) (sym h.0) (subst (AreRecordsOf w) (subst (λ es. Told Mirrors r es s) h.1 t) are)
+follow_command w v (ToUpdate u) told (Answered a) r s h are t = absurd h
 follow_command w v (ToHostFocus focused) told Accepted r s h are t =
     subst (λ x. AreRecordsOf x s) (sym h.0)
     (follow_host w focused h.1 r s (subst (λ x. AreOfFocus w x [] h.1) h.0 h.2) are (subst (λ x. Told Mirrors r (events w x h.1) s) h.0 (subst (λ es. Told Mirrors r es s) h.3 t)))
 follow_command w v (ToHostFocus focused) told (Refused fault) r s h are t = absurd h
 follow_command w v (ToHostFocus focused) told OutOfMemory r s h are t = absurd h
+follow_command w v (ToHostFocus focused) told (Answered a) r s h are t = absurd h
+follow_command w v (ToQuery q) told reply r s h are t = subst (λ x. AreRecordsOf x s) (sym h.0) (subst (AreRecordsOf w) (subst (λ es. Told Mirrors r es s) h.1 t) are)
 
 pub records_follow_run : (w v : World) (cs : List CommandData) (told : List Event) (replies : List ReplyData) (r s : Records) → Runs w cs v told replies → AreRecordsOf w r → Told Mirrors r told s → AreRecordsOf v s
 records_follow_run w v [] told replies r s h are t = subst (λ x. AreRecordsOf x s) h.0 (subst (AreRecordsOf w) (subst (λ es. Told Mirrors r es s) h.1 t) are)
@@ -83,9 +86,12 @@ pub after_command : (w v : World) (c : CommandData) (told : List Event) (reply :
 after_command w v (ToUpdate u) told Accepted h s = update_leaves_state w u v s h.0
 after_command w v (ToUpdate u) told (Refused fault) h s = subst IsState (sym h.1) s
 after_command w v (ToUpdate u) told OutOfMemory h s = subst IsState (sym h.0) s
+after_command w v (ToUpdate u) told (Answered a) h s = absurd h
 after_command w v (ToHostFocus focused) told Accepted h s = subst IsState (sym h.0) (host_leaves_state w focused s)
 after_command w v (ToHostFocus focused) told (Refused fault) h s = absurd h
 after_command w v (ToHostFocus focused) told OutOfMemory h s = absurd h
+after_command w v (ToHostFocus focused) told (Answered a) h s = absurd h
+after_command w v (ToQuery q) told reply h s = subst IsState (sym h.0) s
 
 pub run_leaves_state : (w v : World) (cs : List CommandData) (told : List Event) (replies : List ReplyData) → Runs w cs v told replies → IsState w → IsState v
 run_leaves_state w v [] told replies h s = subst IsState h.0 s

@@ -1,0 +1,16 @@
+-- What is answered to a query.
+use Rattle.std.specs.Prelude.{ℕ, List, Option}
+use Rattle.schema.specs.declared.values.TextPosition.{TextPosition}
+use Rattle.model.specs.declared.FullNodeId.{FullNodeId}
+
+pub data Answer : Type 0 where
+  Ids : (ids : List FullNodeId) → Answer
+  -- as bytes
+  Text : (text : Option (List ℕ)) → Answer
+  Node : (node : Option FullNodeId) → Answer
+  Position : (position : Option TextPosition) → Answer
+  Indexes : (usv utf16 line : ℕ) → Answer
+  -- the node isn't there
+  NoNode : Answer
+  -- the node has no text, or none with this index
+  NotText : Answer
