@@ -40,6 +40,9 @@ pub mod FlatRuns
 pub mod CharacterMoves
 pub mod PositionSteps
 pub mod Boundaries
+pub mod WordMarks
+pub mod RunWords
+pub mod FormatStarts
 pub mod TextEnds
 pub mod PositionTests
 pub mod TextSizes

@@ -10,6 +10,7 @@ pub mod Follows
 pub mod FilterValues
 pub mod Inherited
 pub mod RunLooks
+pub mod Formats
 pub mod Reach
 pub mod Measures
 pub mod PointTests

@@ -88,7 +88,7 @@ impl<'a> Run<'a> {
     }
 
     /// Whether a line or a paragraph begins with the run, which follows another one.
-    fn begins_after(self, mark: Mark, previous: Run<'a>) -> bool
+    pub(super) fn begins_after(self, mark: Mark, previous: Run<'a>) -> bool
         requires { IsAfter previous self }
         ensures { result ≡ begins_at mark (text_around self.entry) (number_in self.entry) }
     {

@@ -1,0 +1,176 @@
+-- Where formats begin, and searches for that, run by run.
+use Rattle.std.proofs.Common.{◌≡◌, ℕ, ◌+◌, ◌-◌, ◌<◌, ◌≤◌, Bool, true, false, cond, [], length, Some, None, refl, sym, ap, ◌∙◌, arith}
+use Rattle.std.specs.Prelude.{◌==◌, ◌||◌, ◌&&◌, nat_lt, not, slice_get, Option, if◌then◌else◌}
+use Rattle.std.specs.Option.{option_map_or}
+use Rattle.std.proofs.lemmas.Bool.{eqb-true, ltb-true, ltb-false}
+use Rattle.schema.specs.SameBy.{same_by-decides}
+use Rattle.model.specs.Styles.{Style, style_of, coded_style, same_style}
+use Rattle.model.specs.TextRuns.{SentRun}
+use Rattle.model.specs.FlatText.{FlatText, ShownRun, Position, start_at, end_at, document_start, document_end, first_run, last_run, run_has, begins_format, biased_to_end}
+use Rattle.model.specs.Moves.{start_from, start_before, backward_to_format_start}
+use Rattle.model.proofs.Text.Searching.{first_next, first_end, last_next}
+use Rattle.accesskit_consumer.specs.declared.text.runs.Run.{Run}
+use Rattle.accesskit_consumer.specs.declared.node.node_ref.NodeRef.{NodeRef}
+use Rattle.accesskit_consumer.specs.Nodes.{world_at, id_at}
+use Rattle.accesskit_consumer.specs.Runs.{run_world, root_of, run_id, run_of, sent_of, ids_after, ids_before, IsAfter, IsBefore}
+use Rattle.accesskit_consumer.specs.RunNumbers.{number_in, text_around}
+use Rattle.accesskit_consumer.specs.Positions.{text_of}
+use Rattle.accesskit_consumer.specs.Formats.{style_at, SameLetters, SameColors, SameStrokes, SameSetting}
+use Rattle.accesskit_consumer.proofs.FlatRuns.{shown_of, shown_at_number, runs_counted, last_number, first_number, number_next, number_previous, more_runs}
+
+-- ---- one format
+
+false_from : (b : Bool) → (b ≡ true → ⊥) → false ≡ b
+false_from true off = absurd (off refl)
+false_from false off = refl
+
+module _ (a b : Style) where
+  one_style : same_style a b ≡ true → a ≡ b
+  unfolding same_style
+  one_style = (same_by-decides coded_style a b).0
+
+  same_itself : a ≡ b → same_style a b ≡ true
+  unfolding same_style
+  same_itself = (same_by-decides coded_style a b).1
+
+  pub other_letters : (SameLetters a b → ⊥) → false ≡ same_style a b
+  other_letters off = false_from (same_style a b) (λ e. let s = one_style e in off (record { font_family = ap (λ x. x.font_family) s; font_size = ap (λ x. x.font_size) s; font_weight = ap (λ x. x.font_weight) s }))
+
+  pub other_colors : (SameColors a b → ⊥) → false ≡ same_style a b
+  other_colors off = false_from (same_style a b) (λ e. let s = one_style e in off (record { background_color = ap (λ x. x.background_color) s; foreground_color = ap (λ x. x.foreground_color) s }))
+
+  pub other_strokes : (SameStrokes a b → ⊥) → false ≡ same_style a b
+  other_strokes off = false_from (same_style a b) (λ e. let s = one_style e in off (record { overline = ap (λ x. x.overline) s; strikethrough = ap (λ x. x.strikethrough) s; underline = ap (λ x. x.underline) s }))
+
+  pub other_setting : (SameSetting a b → ⊥) → false ≡ same_style a b
+  other_setting off = false_from (same_style a b) (λ e. let s = one_style e in off (record { language = ap (λ x. x.language) s; text_align = ap (λ x. x.text_align) s; vertical_offset = ap (λ x. x.vertical_offset) s }))
+
+  pub same_parts : SameLetters a b → SameColors a b → SameStrokes a b → SameSetting a b → true ≡ same_style a b
+  same_parts l c s g = sym (same_itself (λ i. record {
+    font_family = l.font_family i;
+    language = g.language i;
+    font_size = l.font_size i;
+    font_weight = l.font_weight i;
+    background_color = c.background_color i;
+    foreground_color = c.foreground_color i;
+    overline = s.overline i;
+    strikethrough = s.strikethrough i;
+    underline = s.underline i;
+    text_align = g.text_align i;
+    vertical_offset = g.vertical_offset i;
+  }))
+
+-- ---- where a format begins
+
+not_first : (k : ℕ) → (k + 1 == 0) ≡ false
+not_first k = go (k + 1 == 0) refl
+  where
+    go : (c : Bool) → (k + 1 == 0) ≡ c → (k + 1 == 0) ≡ false
+    go true e = absurd (let none : k + 1 ≡ 0 = eqb-true (k + 1) 0 e in omega (arith, none))
+    go false e = e
+
+-- of a run after another one
+pub begins_after_run : (r s : Run) → IsAfter r s → not (same_style (style_of (run_world r) (run_id r)) (style_of (run_world s) (run_id s))) ≡ begins_format (text_around s) (number_in s)
+begins_after_run r s after =
+    let t = text_around s in
+    let number : number_in s ≡ number_in r + 1 = number_next r s after in
+    let first : slice_get t (number_in r + 1 - 1) ≡ Some (shown_of r) =
+    (let back : number_in r + 1 - 1 ≡ number_in r = omega arith in ap (slice_get t) back ∙ ap (λ n. slice_get (text_of n) (number_in r)) after.root ∙ shown_at_number r) in
+    let second : slice_get t (number_in r + 1) ≡ Some (shown_of s) = ap (slice_get t) (sym number) ∙ shown_at_number s in
+    sym (ap (begins_format t) number
+    ∙ ap (λ b. b || not (option_map_or (λ (x : ShownRun). run_has (λ y. same_style x.style y.style) t (number_in r + 1)) (slice_get t (number_in r + 1 - 1)) false)) (not_first (number_in r))
+    ∙ ap (λ o. not (option_map_or (λ (x : ShownRun). run_has (λ y. same_style x.style y.style) t (number_in r + 1)) o false)) first
+    ∙ ap (λ o. not (option_map_or (λ (y : ShownRun). same_style (shown_of r).style y.style) o false)) second)
+
+view_style : (v : NodeRef) (r : Run) → world_at v ≡ world_at (root_of r) → run_of v ≡ sent_of r → style_at v ≡ style_of (run_world r) (run_id r)
+view_style v r world is = ap (λ w. style_of w (id_at v)) world ∙ ap (λ (x : SentRun). style_of (run_world r) x.id) is
+
+-- by the views of both
+pub begins_after_views : (r s : Run) → IsAfter r s → (u v : NodeRef) → world_at u ≡ world_at (root_of r) → run_of u ≡ sent_of r → world_at v ≡ world_at (root_of s) → run_of v ≡ sent_of s →
+    not (same_style (style_at u) (style_at v)) ≡ begins_format (text_around s) (number_in s)
+begins_after_views r s after u v wu iu wv iv =
+    ap (λ a. not (same_style a (style_at v))) (view_style u r wu iu) ∙ ap (λ b. not (same_style (style_of (run_world r) (run_id r)) b)) (view_style v s wv iv) ∙ begins_after_run r s after
+
+pub begins_at_first : (r : Run) → ids_before r ≡ [] → true ≡ begins_format (text_around r) (number_in r)
+begins_at_first r e = sym (ap (begins_format (text_around r)) (first_number r e))
+
+-- ---- searches
+
+-- after a run, and up to one
+abbrev pub search_after : Run → ℕ → Option ℕ
+search_after root k = first_run (text_around root) (k + 1) (begins_format (text_around root))
+
+abbrev pub search_upto : Run → ℕ → Option ℕ
+search_upto root k = last_run (text_around root) (k + 1) (begins_format (text_around root))
+
+module _ (root : Run) (run : Run) (same : root_of run ≡ root_of root) where
+  same_length : length (text_around run) ≡ length (text_around root)
+  same_length = ap (λ n. length (text_of n)) same
+
+  in_text : number_in run < length (text_around root)
+  in_text = let n = runs_counted run in omega (arith, n, same_length)
+
+  tested : (b : Bool) → b ≡ begins_format (text_around run) (number_in run) → begins_format (text_around root) (number_in run) ≡ b
+  tested b is = sym (is ∙ ap (λ n. begins_format (text_of n) (number_in run)) same)
+
+  abbrev starts : ℕ → Bool
+  starts = begins_format (text_around root)
+
+  -- at the next run the search ends or goes on
+  module _ (s : Run) (after : IsAfter run s) (b : Bool) (is : b ≡ begins_format (text_around s) (number_in s)) where
+    step_forth : search_after root (number_in run) ≡ cond b (Some (number_in s)) (search_after root (number_in s))
+    step_forth =
+        let number : number_in s ≡ number_in run + 1 = number_next run s after in
+        let more : number_in s < length (text_around root) = (let m = more_runs run s after in omega (arith, m, same_length, number)) in
+        let test : starts (number_in s) ≡ b = sym (is ∙ ap (λ n. begins_format (text_of n) (number_in s)) (after.root ∙ same)) in
+        ap (λ k. first_run (text_around root) k starts) (sym number)
+        ∙ first_next (length (text_around root)) (number_in s) starts more
+        ∙ ap (λ x. cond x (Some (number_in s)) (first_run (text_around root) (number_in s + 1) starts)) test
+
+    pub starts_at_next : b ≡ true → search_after root (number_in run) ≡ Some (number_in s)
+    starts_at_next e = step_forth ∙ ap (λ x. cond x (Some (number_in s)) (search_after root (number_in s))) e
+
+    pub starts_later : b ≡ false → search_after root (number_in run) ≡ search_after root (number_in s)
+    starts_later e = step_forth ∙ ap (λ x. cond x (Some (number_in s)) (search_after root (number_in s))) e
+
+  pub starts_nowhere : ids_after run ≡ [] → search_after root (number_in run) ≡ None
+  starts_nowhere e = first_end (length (text_around root)) (number_in run + 1) starts (let l = last_number run e in omega (arith, l, same_length))
+
+  -- at a run the search back ends, or goes on before it
+  step_back : (b : Bool) → b ≡ begins_format (text_around run) (number_in run) → search_upto root (number_in run) ≡ cond b (Some (number_in run)) (last_run (text_around root) (number_in run) starts)
+  step_back b is =
+      last_next (length (text_around root)) (number_in run) starts in_text ∙ ap (λ x. cond x (Some (number_in run)) (last_run (text_around root) (number_in run) starts)) (tested b is)
+
+  pub started_here : (b : Bool) → b ≡ begins_format (text_around run) (number_in run) → b ≡ true → search_upto root (number_in run) ≡ Some (number_in run)
+  started_here b is e = step_back b is ∙ ap (λ x. cond x (Some (number_in run)) (last_run (text_around root) (number_in run) starts)) e
+
+  pub started_first : ids_before run ≡ [] → search_upto root (number_in run) ≡ Some (number_in run)
+  started_first e = step_back true (begins_at_first run e)
+
+  pub started_before : (b : Bool) → b ≡ begins_format (text_around run) (number_in run) → b ≡ false → (s : Run) → IsBefore run s → search_upto root (number_in run) ≡ search_upto root (number_in s)
+  started_before b is e s before =
+      step_back b is ∙ ap (λ x. cond x (Some (number_in run)) (last_run (text_around root) (number_in run) starts)) e
+      ∙ ap (λ k. last_run (text_around root) k starts) (sym (number_previous run s before))
+
+-- ---- moves
+
+pub at_start_from : (t : FlatText) (number from : ℕ) (test : ℕ → Bool) → first_run t from test ≡ Some number → start_at number ≡ start_from t from test
+at_start_from t number from test found = sym (ap (λ o. option_map_or start_at o (document_end t)) found)
+
+pub at_no_start : (t : FlatText) (from : ℕ) (test : ℕ → Bool) → first_run t from test ≡ None → document_end t ≡ start_from t from test
+at_no_start t from test found = sym (ap (λ o. option_map_or start_at o (document_end t)) found)
+
+-- back from the end side of a position
+pub from_end_side : (t : FlatText) (p : Position) → 0 < length t → start_before t ((biased_to_end t p).run + 1) (begins_format t) ≡ backward_to_format_start t p
+from_end_side t p some = go (p.index == 0) (nat_lt 0 p.run) refl
+  where
+    go : (a b : Bool) → nat_lt 0 p.run ≡ b →
+        start_before t ((if a && b then end_at t (p.run - 1) else p).run + 1) (begins_format t) ≡ start_before t (if a then p.run else p.run + 1) (begins_format t)
+    go true true e = let later : 0 < p.run = ltb-true 0 p.run e in let back : p.run - 1 + 1 ≡ p.run = omega (arith, later) in ap (λ k. start_before t k (begins_format t)) back
+    go true false e =
+        let none : p.run ≤ 0 = ltb-false 0 p.run e in
+        let first : p.run ≡ 0 = omega (arith, none) in
+        ap (λ k. start_before t (k + 1) (begins_format t)) first
+        ∙ ap (λ o. option_map_or start_at o document_start) (last_next (length t) 0 (begins_format t) some)
+        ∙ sym (ap (λ k. start_before t k (begins_format t)) first)
+    go false b e = refl

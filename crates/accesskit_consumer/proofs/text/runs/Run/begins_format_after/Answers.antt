@@ -1,0 +1,9 @@
+use Rattle.std.proofs.Common.{ap, ◌∙◌}
+use Rattle.std.specs.Prelude.{not}
+use Rattle.accesskit_consumer.proofs.FormatStarts.{begins_after_views}
+use Rattle.accesskit_consumer.proofs.text.runs.Run.begins_format_after.Goals as goal
+
+pub returns : goal.returns
+returns c =
+    ap not c.has_same_format.ensures
+    ∙ begins_after_views c.args.previous c.args.self c.requires c.view.result c.view-2.result c.view.ensures.world c.view.ensures.is c.view-2.ensures.world c.view-2.ensures.is
