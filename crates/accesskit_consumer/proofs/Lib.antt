@@ -44,3 +44,5 @@ pub mod TextSizes
 pub mod Separators
 pub mod PositionKeys
 pub mod LineCounts
+pub mod UnitCounts
+pub mod GlobalIndexes
