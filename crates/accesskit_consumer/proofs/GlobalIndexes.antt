@@ -25,7 +25,7 @@ use Rattle.accesskit_consumer.specs.Nodes.{world_at, id_at}
 use Rattle.accesskit_consumer.specs.Runs.{root_of, run_world, root_id, sent_of, ids_before, ids_after, IsBefore, IsAfter}
 use Rattle.accesskit_consumer.specs.RunNumbers.{number_in, text_around}
 use Rattle.accesskit_consumer.specs.Positions.{text_of, text_at, position_at}
-use Rattle.accesskit_consumer.specs.GlobalIndexes.{unit_len, IsCut, length_to}
+use Rattle.accesskit_consumer.specs.GlobalIndexes.{unit_len, IsCut, length_to, length_of}
 use Rattle.accesskit_consumer.proofs.FlatRuns.{sent_at_number, shown_at_number, count_at_number, runs_counted, first_number, last_number, number_next, number_previous}
 use Rattle.accesskit_consumer.proofs.TextEnds.{at_document_end}
 use Rattle.accesskit_consumer.proofs.UnitCounts.{run_le_bytes}
@@ -160,19 +160,19 @@ module _ (units : Units) (n : NodeRef) (masked : Bool) (is : masked ≡ needs_ma
   before_run r = units_before units n r
 
   -- what is before the next run
-  pub past_run : (r : Run) → root_of r ≡ n → length_before (unit_len units) (text_of n) (start_of (text_of n) (number_in r + 1)) ≡ before_run r + length_to units masked (sent_of r) (said_count (sent_of r))
+  pub past_run : (r : Run) → root_of r ≡ n → length_before (unit_len units) (text_of n) (start_of (text_of n) (number_in r + 1)) ≡ before_run r + length_of units masked (sent_of r)
   past_run r same =
       let t = text_of n in
       let counted : count_in t (number_in r) ≡ said_count (sent_of r) = ap (λ m. count_in (text_of m) (number_in r)) (sym same) ∙ count_at_number r in
       let at : start_of t (number_in r + 1) ≡ start_of t (number_in r) + said_count (sent_of r) = omega (arith, counted, start_next t (number_in r)) in
       ap (length_before (unit_len units) t) at ∙ in_run units n r same masked is (said_count (sent_of r)) (omega arith)
 
-  pub one_back : (r s : Run) (sum count whole : ℕ) → root_of r ≡ n → IsBefore r s → count ≡ length_to units masked (sent_of s) (said_count (sent_of s)) → sum + before_run r ≡ whole → sum + count + before_run s ≡ whole
+  pub one_back : (r s : Run) (sum count whole : ℕ) → root_of r ≡ n → IsBefore r s → count ≡ length_of units masked (sent_of s) → sum + before_run r ≡ whole → sum + count + before_run s ≡ whole
   one_back r s sum count whole same back counted summed =
       let at : length_before (unit_len units) (text_of n) (start_of (text_of n) (number_in s + 1)) ≡ before_run r = ap (λ k. length_before (unit_len units) (text_of n) (start_of (text_of n) k)) (number_previous r s back) in
       omega (arith, at, past_run s (back.root ∙ same), counted, summed)
 
-  pub one_on : (r s : Run) (left count index : ℕ) → root_of r ≡ n → IsAfter r s → count ≡ length_to units masked (sent_of r) (said_count (sent_of r)) → count ≤ left → left + before_run r ≡ index → left - count + before_run s ≡ index
+  pub one_on : (r s : Run) (left count index : ℕ) → root_of r ≡ n → IsAfter r s → count ≡ length_of units masked (sent_of r) → count ≤ left → left + before_run r ≡ index → left - count + before_run s ≡ index
   one_on r s left count index same after counted fits summed =
       let at : before_run s ≡ length_before (unit_len units) (text_of n) (start_of (text_of n) (number_in r + 1)) = ap (λ k. length_before (unit_len units) (text_of n) (start_of (text_of n) k)) (number_next r s after) in
       omega (arith, at, past_run r same, counted, fits, summed)
@@ -181,7 +181,7 @@ module _ (units : Units) (n : NodeRef) (masked : Bool) (is : masked ≡ needs_ma
   none_before r first = ap (λ k. length_before (unit_len units) (text_of n) (start_of (text_of n) k)) (first_number r first)
 
   -- past the last run there is nothing
-  pub all_before : (r : Run) (left count index : ℕ) → root_of r ≡ n → ids_after r ≡ [] → count ≡ length_to units masked (sent_of r) (said_count (sent_of r)) → count ≤ left → left + before_run r ≡ index →
+  pub all_before : (r : Run) (left count index : ℕ) → root_of r ≡ n → ids_after r ≡ [] → count ≡ length_of units masked (sent_of r) → count ≤ left → left + before_run r ≡ index →
       left - count + length_before (unit_len units) (text_of n) (total (text_of n)) ≡ index
   all_before r left count index same last counted fits summed =
       let end : number_in r + 1 ≡ length (text_of n) = last_number r last ∙ ap (λ m. length (text_of m)) same in

@@ -1,6 +1,6 @@
 -- Indexes in the whole text, by what they count.
 use Rattle.std.specs.Prelude.{◌≡◌, ℕ, Bool, true, List, map, take, sum_by}
-use Rattle.model.specs.TextRuns.{SentRun, run_value, is_cut_by, sent_characters}
+use Rattle.model.specs.TextRuns.{SentRun, run_value, said_count, is_cut_by, sent_characters}
 use Rattle.model.specs.FlatText.{shown_character}
 use Rattle.model.specs.Moves.{scalar_len, utf16_len}
 use Rattle.accesskit_consumer.specs.declared.text.indexes.Units.{Units}
@@ -18,3 +18,7 @@ IsCut r = is_cut_by (run_value r) r.node.character_lengths ≡ true
 -- how many the first so many characters of a run have, as they are shown
 abbrev pub length_to : Units → Bool → SentRun → ℕ → ℕ
 length_to units masked r i = sum_by (unit_len units) (take i (map (shown_character masked) (sent_characters r)))
+
+-- how many all of its characters have
+abbrev pub length_of : Units → Bool → SentRun → ℕ
+length_of units masked r = length_to units masked r (said_count r)

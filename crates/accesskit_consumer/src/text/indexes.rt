@@ -1,13 +1,12 @@
 //! The index of a position in the whole text, in scalars or in units of UTF-16, and back.
-ghost use Rattle.std.specs.Prelude.{◌≡◌, ◌<◌, ◌≤◌, ◌+◌, true, IfSome, option_map};
+ghost use Rattle.std.specs.Prelude.{◌≡◌, ◌<◌, ◌≤◌, ◌+◌, true, take, IfSome, option_map};
 ghost use Rattle.std.specs.List.{concat};
-ghost use Rattle.std.specs.Prelude.{take};
 ghost use Rattle.model.specs.TextRuns.{said_count, sent_characters, supports_text_ranges};
 ghost use Rattle.model.specs.Moves.{utf16_len, global_index, position_of, to_global_usv_index, to_global_utf16_index, position_from_usv, position_from_utf16};
 ghost use Rattle.accesskit_consumer.specs.Nodes.{world_at, id_at};
 ghost use Rattle.accesskit_consumer.specs.Runs.{sent_of};
 ghost use Rattle.accesskit_consumer.specs.Positions.{root_at, text_of, text_at, position_at};
-ghost use Rattle.accesskit_consumer.specs.GlobalIndexes.{IsCut, unit_len, length_to};
+ghost use Rattle.accesskit_consumer.specs.GlobalIndexes.{IsCut, unit_len, length_to, length_of};
 
 use crate::node::NodeRef;
 use crate::node::masking::scalar_count;
@@ -26,7 +25,6 @@ enum Units {
 fn utf16_count(text: &str) -> usize
     ensures { result ≡ utf16_len text.now }
 {
-    let _size = text.len();
     let mut count = 0usize;
     for scalar in text.chars() {
         count += scalar.len_utf16();
@@ -76,7 +74,7 @@ impl Units {
     /// How many a run has, as it is shown.
     fn count_run(self, run: Run<'_>, masked: bool) -> usize
         requires { IsCut (sent_of run) }
-        ensures { result ≡ length_to self masked (sent_of run.entry) (said_count (sent_of run.entry)) }
+        ensures { result ≡ length_of self masked (sent_of run.entry) }
     {
         if masked {
             return run.character_count();
@@ -87,7 +85,7 @@ impl Units {
     /// The number of the character of a run in which an index lies.
     fn holder(self, run: Run<'_>, index: usize, masked: bool) -> usize
         requires cut { IsCut (sent_of run) }
-        requires within { index < length_to self masked (sent_of run) (said_count (sent_of run)) }
+        requires within { index < length_of self masked (sent_of run) }
         ensures within { result < said_count (sent_of run.entry) }
         ensures above { length_to self masked (sent_of run.entry) result ≤ index }
         ensures below { index < length_to self masked (sent_of run.entry) (result + 1) }
@@ -174,9 +172,9 @@ impl<'a> NodeRef<'a> {
         Some(TextPosition { run, index })
     }
 
-    /// The position before the character in which an index lies that counts the scalars of the text: the start of a
-    /// run where two runs meet. At the length of the text it is the end of the text, past that there is none. The node
-    /// has text ranges.
+    /// The position of an index that counts the scalars of the whole text: before the character in which it lies, at
+    /// the start of a run where two runs meet. At the length of the text it is its end, and past that there is none. The
+    /// node has text ranges.
     pub fn text_position_from_global_usv_index(&self, index: usize) -> Option<TextPosition<'a>>
         requires { supports_text_ranges (world_at self.now) (id_at self.now) ≡ true }
         ensures at { option_map position_at result ≡ position_from_usv (text_of self.now) index }
@@ -186,9 +184,9 @@ impl<'a> NodeRef<'a> {
         node.position_from(Units::Scalars, index)
     }
 
-    /// The position before the character in which an index lies that counts the units of UTF-16 of the text: the start
-    /// of a run where two runs meet. At the length of the text it is the end of the text, past that there is none. The
-    /// node has text ranges.
+    /// The position of an index that counts the units of UTF-16 of the whole text: before the character in which it
+    /// lies, at the start of a run where two runs meet. At the length of the text it is its end, and past that there is
+    /// none. The node has text ranges.
     pub fn text_position_from_global_utf16_index(&self, index: usize) -> Option<TextPosition<'a>>
         requires { supports_text_ranges (world_at self.now) (id_at self.now) ≡ true }
         ensures at { option_map position_at result ≡ position_from_utf16 (text_of self.now) index }
