@@ -52,3 +52,5 @@ pub mod LineCounts
 pub mod RangePieces
 pub mod RangeRuns
 pub mod RangeSteps
+pub mod UnitCounts
+pub mod GlobalIndexes

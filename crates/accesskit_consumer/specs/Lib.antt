@@ -41,3 +41,4 @@ pub mod SamePositions
 pub mod Edges
 pub mod TextRanges
 pub mod Pieces
+pub mod GlobalIndexes
