@@ -46,3 +46,5 @@ pub mod PositionKeys
 pub mod LineCounts
 pub mod RangePieces
 pub mod RangeRuns
+pub mod CutPieces
+pub mod PieceSteps

@@ -37,3 +37,4 @@ pub mod SamePositions
 pub mod Edges
 pub mod TextRanges
 pub mod Pieces
+pub mod PieceTexts
