@@ -54,3 +54,5 @@ pub mod RangeRuns
 pub mod RangeSteps
 pub mod UnitCounts
 pub mod GlobalIndexes
+pub mod CutPieces
+pub mod PieceSteps

@@ -42,3 +42,4 @@ pub mod Edges
 pub mod TextRanges
 pub mod Pieces
 pub mod GlobalIndexes
+pub mod PieceTexts

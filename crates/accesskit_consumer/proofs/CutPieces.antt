@@ -1,0 +1,136 @@
+-- Parts of a text that is cut into characters.
+use Rattle.std.proofs.Common.{◌≡◌, ℕ, zero, suc, ◌+◌, ◌-◌, ◌<◌, ◌≤◌, Bool, true, false, List, [], ◌∷◌, ◌++◌, length, map, take, drop, get_or, refl, sym, ap, ◌∙◌, arith, add-one, drop-cons, append_assoc}
+use Rattle.std.specs.Prelude.{◌&&◌, nat_lt, nat_le, slice_range}
+use Rattle.std.specs.Option.{option_map_or}
+use Rattle.std.specs.List.{concat}
+use Rattle.std.specs.Str.{is_utf8, IsUtf8, IsCharBoundary}
+use Rattle.std.proofs.Math.Seq.{take-append_seam}
+use Rattle.std.proofs.lemmas.Bool.{leb-true}
+use Rattle.std.proofs.lemmas.List.{take-append-drop, length-append, length-take-le, length-drop, take-map, drop-map}
+use Rattle.std.proofs.lemmas.Str.{IsUtf8-from_is_utf8, IsCharBoundary-from_take, IsCharBoundary-at_seam}
+use Rattle.model.specs.TextRuns.{said_count, sent_characters, is_cut_by, cut_by, is_password}
+use Rattle.model.specs.FlatText.{BULLET, ShownRun, shown_character, needs_masking}
+use Rattle.model.specs.Ranges.{piece_text}
+use Rattle.model.specs.Values.{bullets}
+use Rattle.model.proofs.Text.TextFacts.{both}
+use Rattle.accesskit_consumer.specs.declared.text.pieces.Piece.{Piece}
+use Rattle.accesskit_consumer.specs.Runs.{sent_of, run_world, root_id}
+use Rattle.accesskit_consumer.specs.RunNumbers.{text_around}
+use Rattle.accesskit_consumer.specs.Pieces.{piece_data}
+use Rattle.accesskit_consumer.specs.PieceTexts.{are_cut_off, left_by, IsPart, sent_part, shown_part}
+use Rattle.accesskit_consumer.proofs.FlatRuns.{cut_count, shown_at_number}
+
+-- ---- length by length
+
+module _ (bs ns : List ℕ) (i n : ℕ) (h : i < length ns) (e : get_or ns i 0 ≡ n) where
+  rest_is : drop i ns ≡ n ∷ drop (i + 1) ns
+  rest_is = drop-cons ns i 0 h ∙ ap (λ k. k ∷ drop (suc i) ns) e ∙ ap (λ k. n ∷ drop k ns) (sym (add-one i))
+
+  pub left_next : left_by bs (drop i ns) ≡ left_by (drop n bs) (drop (i + 1) ns)
+  left_next = ap (left_by bs) rest_is
+
+  module _ (cut : are_cut_off bs (drop i ns) ≡ true) where
+    cut_parts : (nat_le n (length bs) && (is_utf8 (take n bs) && are_cut_off (drop n bs) (drop (i + 1) ns))) ≡ true
+    cut_parts = sym (ap (are_cut_off bs) rest_is) ∙ cut
+
+    pub cut_at : IsUtf8 bs → IsCharBoundary bs n
+    cut_at text =
+        let a = both (nat_le n (length bs)) _ cut_parts in
+        let b = both (is_utf8 (take n bs)) _ a.1 in
+        IsCharBoundary-from_take bs n text (leb-true n (length bs) a.0) (IsUtf8-from_is_utf8 (take n bs) b.0)
+
+    pub cut_next : are_cut_off (drop n bs) (drop (i + 1) ns) ≡ true
+    cut_next =
+        let a = both (nat_le n (length bs)) _ cut_parts in
+        (both (is_utf8 (take n bs)) _ a.1).1
+
+-- ---- of lengths that cut the whole text
+
+two_true : (a b : Bool) → a ≡ true → b ≡ true → (a && b) ≡ true
+two_true true b e f = f
+two_true false b e f = e
+
+pub first_cut_off : (bs ns : List ℕ) (i : ℕ) → is_cut_by bs ns ≡ true → are_cut_off bs (take i ns) ≡ true
+first_cut_off bs ns zero e = refl
+first_cut_off bs [] (suc i) e = refl
+first_cut_off bs (n ∷ ns) (suc i) e =
+    let a = both (nat_lt 0 n) _ e in
+    let b = both (nat_le n (length bs)) _ a.1 in
+    let c = both (is_utf8 (take n bs)) _ b.1 in
+    two_true _ _ b.0 (two_true _ _ c.0 (first_cut_off (drop n bs) ns i c.1))
+
+pub rest_cut : (bs ns : List ℕ) (i : ℕ) → is_cut_by bs ns ≡ true → is_cut_by (left_by bs (take i ns)) (drop i ns) ≡ true
+rest_cut bs ns zero e = e
+rest_cut bs [] (suc i) e = e
+rest_cut bs (n ∷ ns) (suc i) e =
+    let a = both (nat_lt 0 n) _ e in
+    let b = both (nat_le n (length bs)) _ a.1 in
+    let c = both (is_utf8 (take n bs)) _ b.1 in
+    rest_cut (drop n bs) ns i c.1
+
+rest_characters : (bs ns : List ℕ) (i : ℕ) → cut_by (left_by bs (take i ns)) (drop i ns) ≡ drop i (cut_by bs ns)
+rest_characters bs ns zero = refl
+rest_characters bs [] (suc i) = refl
+rest_characters bs (n ∷ ns) (suc i) = rest_characters (drop n bs) ns i
+
+first_and_rest : (bs ns : List ℕ) (i : ℕ) → concat (take i (cut_by bs ns)) ++ left_by bs (take i ns) ≡ bs
+first_and_rest bs ns zero = refl
+first_and_rest bs [] (suc i) = refl
+first_and_rest bs (n ∷ ns) (suc i) =
+    append_assoc (take n bs) (concat (take i (cut_by (drop n bs) ns))) (left_by (drop n bs) (take i ns))
+    ∙ ap (λ xs. take n bs ++ xs) (first_and_rest (drop n bs) ns i) ∙ take-append-drop n bs
+
+-- a part, and what is left past it, are what is left before it
+module _ (bs ns : List ℕ) (i j : ℕ) where
+  part_and_rest : concat (slice_range (cut_by bs ns) i j) ++ left_by (left_by bs (take i ns)) (slice_range ns i j) ≡ left_by bs (take i ns)
+  part_and_rest =
+      ap (λ cs. concat (take (j - i) cs) ++ left_by (left_by bs (take i ns)) (slice_range ns i j)) (sym (rest_characters bs ns i))
+      ∙ first_and_rest (left_by bs (take i ns)) (drop i ns) (j - i)
+
+  -- by the texts that were cut off
+  module _ (rest after : List ℕ) (r : rest ≡ left_by bs (take i ns)) (a : after ≡ left_by rest (slice_range ns i j)) where
+    pub seam : rest ≡ concat (slice_range (cut_by bs ns) i j) ++ after
+    seam = r ∙ sym part_and_rest ∙ ap (λ xs. concat (slice_range (cut_by bs ns) i j) ++ left_by xs (slice_range ns i j)) (sym r) ∙ ap (λ xs. concat (slice_range (cut_by bs ns) i j) ++ xs) (sym a)
+
+    part_length : length rest - length after ≡ length (concat (slice_range (cut_by bs ns) i j))
+    part_length = let e = ap length seam in omega (arith, e, length-append (concat (slice_range (cut_by bs ns) i j)) after)
+
+    pub after_fits : length after ≤ length rest
+    after_fits = let e = ap length seam in omega (arith, e, length-append (concat (slice_range (cut_by bs ns) i j)) after)
+
+    pub part_ends : IsUtf8 after → IsCharBoundary rest (length rest - length after)
+    part_ends text = rw part_length (IsCharBoundary-at_seam rest (concat (slice_range (cut_by bs ns) i j)) after seam text)
+
+    pub part_is : take (length rest - length after) rest ≡ concat (slice_range (cut_by bs ns) i j)
+    part_is = ap (λ k. take k rest) part_length ∙ ap (take (length (concat (slice_range (cut_by bs ns) i j)))) seam ∙ take-append_seam (concat (slice_range (cut_by bs ns) i j)) after
+
+-- ---- what is shown
+
+plain_characters : (cs : List (List ℕ)) → map (shown_character false) cs ≡ cs
+plain_characters [] = refl
+plain_characters (c ∷ cs) = ap (λ ds. c ∷ ds) (plain_characters cs)
+
+bullet_each : (cs : List (List ℕ)) → concat (map (shown_character true) cs) ≡ bullets (length cs)
+bullet_each [] = refl
+bullet_each (c ∷ cs) = ap (λ xs. 226 ∷ 128 ∷ 162 ∷ xs) (bullet_each cs)
+
+module _ (p : Piece) where
+  pub plain_part : concat (sent_part p) ≡ shown_part false p
+  plain_part = ap concat (sym (plain_characters (sent_part p)))
+
+  pub masked_part : IsPart p → bullets (p.to - p.from) ≡ shown_part true p
+  masked_part is =
+      let cs = sent_characters (sent_of p.run) in
+      let order = is.order in
+      let within = is.within in
+      let counted : length cs ≡ said_count (sent_of p.run) = sym (ap length (plain_characters cs)) ∙ cut_count (shown_character false) _ _ in
+      let many : length (sent_part p) ≡ p.to - p.from = length-take-le (p.to - p.from) (drop p.from cs) (omega (arith, order, within, counted, length-drop p.from cs)) in
+      ap bullets (sym many) ∙ sym (bullet_each (sent_part p))
+
+  pub text_of_part : piece_text (text_around p.run) (piece_data p) ≡ shown_part (needs_masking (run_world p.run) (root_id p.run)) p
+  text_of_part =
+      let show = shown_character (needs_masking (run_world p.run) (root_id p.run)) in
+      let cs = sent_characters (sent_of p.run) in
+      ap (λ o. concat (slice_range (option_map_or (λ (s : ShownRun). s.characters) o []) p.from p.to)) (shown_at_number p.run)
+      ∙ ap (λ xs. concat (take (p.to - p.from) xs)) (drop-map show p.from cs)
+      ∙ ap concat (take-map show (p.to - p.from) (drop p.from cs))
