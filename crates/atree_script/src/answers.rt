@@ -1,5 +1,6 @@
 //! Answers questions about a tree.
-ghost use Rattle.std.specs.Prelude.{◌≡◌, OnOk, IfOk, Option, Some, flat_map};
+ghost use Rattle.std.specs.Prelude.{◌≡◌, OnOk, IfOk, Option, Some, flat_map, option_copied, option_map};
+ghost use Rattle.std.specs.String.{string_bytes};
 ghost use Rattle.std.specs.Io.KnownBytes.{Appends};
 ghost use Rattle.model.specs.declared.FullNodeId.{FullNodeId as AnId};
 ghost use Rattle.model.specs.Focus.{IsFocus};
@@ -8,7 +9,7 @@ ghost use Rattle.model.specs.Geometry.{hit};
 ghost use Rattle.model.specs.Filters.{common_filter as common};
 ghost use Rattle.accesskit_consumer.specs.Views.{world_of};
 ghost use Rattle.accesskit_consumer.specs.Nodes.{world_at, id_at};
-ghost use Rattle.atree_script.specs.Answered.{spaced_id, ids_text, ids_line, found_line, count_text, set_line, answer_line};
+ghost use Rattle.atree_script.specs.Answered.{spaced_id, ids_text, ids_line, found_line, count_text, set_line, text_in_runs, text_line, quoted_byte, answer_line};
 
 use crate::lines::{Asked, Stop};
 use crate::printer::ShownId;
@@ -85,6 +86,32 @@ fn write_set<O: Write>(size: Option<usize>, position: Option<usize>, out: &mut O
     writeln!(out, "{size} {position}")
 }
 
+/// Writes a text in quotes, or `none`. In it a quote, a backslash and a newline are `\"`, `\\` and `\n`.
+fn write_text<O: Write>(text: Option<&str>, out: &mut O) -> io::Result<()>
+    ensures { OnOk result (Appends (O.contents out.old) (O.contents out.new) (text_line (option_copied text))) }
+{
+    let Some(text) = text else {
+        return writeln!(out, "none");
+    };
+    out.write_all(b"\"")?;
+    for byte in text.as_bytes() {
+        write_byte(*byte, out)?;
+    }
+    out.write_all(b"\"\n")
+}
+
+/// Writes a byte of a text that stands in quotes.
+fn write_byte<O: Write>(byte: u8, out: &mut O) -> io::Result<()>
+    ensures { OnOk result (Appends (O.contents out.old) (O.contents out.new) (quoted_byte byte)) }
+{
+    match byte {
+        b'"' => out.write_all(b"\\\""),
+        b'\\' => out.write_all(b"\\\\"),
+        b'\n' => out.write_all(b"\\n"),
+        _ => out.write_all(&[byte]),
+    }
+}
+
 /// The ids of what the common filter shows below the node.
 fn filtered_ids(alloc: Global, node: NodeRef) -> Result<Vec<FullNodeId>, AllocError>
     ensures { let w = world_at node.entry in
@@ -106,6 +133,16 @@ fn hit_id(node: NodeRef, point: Point) -> Option<FullNodeId>
         Some(found) => Some(found.id()),
         None => None,
     }
+}
+
+/// The text of the node's runs, where they make one.
+fn text_of(alloc: Global, node: NodeRef) -> Result<Option<String>, AllocError>
+    ensures { IfOk result (λ text. option_map string_bytes text ≡ text_in_runs (world_at node.entry) (id_at node.entry)) }
+{
+    if !node.supports_text_ranges() {
+        return Ok(None);
+    }
+    Ok(Some(node.document_range().text(alloc)?))
 }
 
 /// Answers what is asked of a node, on a line.
@@ -132,6 +169,9 @@ pub(crate) fn write_answer<O: Write>(
             write_set(size, position, out)?;
         }
         Asked::Hit(point) => write_found(hit_id(node, point), out)?,
+        Asked::Label => write_text(node.label(alloc)?.as_deref(), out)?,
+        Asked::Value => write_text(node.value(alloc)?.as_deref(), out)?,
+        Asked::Text => write_text(text_of(alloc, node)?.as_deref(), out)?,
     }
     Ok(())
 }

@@ -53,6 +53,12 @@ pub(crate) enum Asked {
     Set,
     /// What is hit at a point, which is given as the node sees it.
     Hit(Point),
+    /// Its label.
+    Label,
+    /// Its value.
+    Value,
+    /// The text of its runs.
+    Text,
 }
 
 /// Why a run stops before the end of its input.
@@ -103,6 +109,9 @@ pub(crate) fn read_line(alloc: Global, line: &str) -> Result<Line, Stop> {
         "filtered" => Ok(Line::Ask(words.question(Asked::Filtered)?)),
         "set" => Ok(Line::Ask(words.question(Asked::Set)?)),
         "hit" => Ok(Line::Ask(hit_line(words)?)),
+        "label" => Ok(Line::Ask(words.question(Asked::Label)?)),
+        "value" => Ok(Line::Ask(words.question(Asked::Value)?)),
+        "text" => Ok(Line::Ask(words.question(Asked::Text)?)),
         "focus" if words.rest.is_none() => Ok(Line::Focus),
         "update" => Ok(Line::Update(update_line(alloc, words)?)),
         "node" => {
@@ -157,34 +166,14 @@ fn update_line(alloc: Global, mut words: Words) -> Result<TreeUpdate, Stop> {
     })
 }
 
-/// `node ID ROLE [children=ID,ID..] [tree=TREE] [label="t"] [active=ID] [bounds=X,Y,X,Y] [move=X,Y] [hidden] [clips]`,
-/// from `ID` on. The fields come in any order.
+/// `node ID ROLE` and fields, from `ID` on. The fields come in any order.
 fn node_line(alloc: Global, mut words: Words) -> Result<(NodeId, Node), Stop> {
     let id = words.id()?;
     let role = role_named(words.word()?).ok_or(Stop::BadLine)?;
     let mut node = Node::new(alloc, role);
     while words.rest.is_some() {
         match words.field()? {
-            ("children", true) if node.children().is_empty() => {
-                let children = ids(alloc, words.word()?)?;
-                node.set_children(&children)?;
-            }
-            ("tree", true) if node.tree_id().is_none() => {
-                node.set_tree_id(tree_named(words.word()?).ok_or(Stop::BadLine)?);
-            }
-            ("label", true) if node.label().is_none() => {
-                let label = words.text(alloc)?;
-                node.set_label(&label)?;
-            }
-            ("active", true) if node.active_descendant().is_none() => {
-                node.set_active_descendant(words.id()?);
-            }
-            ("bounds", true) if node.bounds().is_none() => {
-                node.set_bounds(rect(words.word()?).ok_or(Stop::BadLine)?);
-            }
-            ("move", true) if node.transform().is_none() => {
-                node.set_transform(translation(words.word()?).ok_or(Stop::BadLine)?);
-            }
+            (name, true) => words.valued_field(alloc, name, &mut node)?,
             ("hidden", false) if !node.is_hidden() => node.set_hidden(),
             ("clips", false) if !node.clips_children() => node.set_clips_children(),
             _ => return Err(Stop::BadLine),
@@ -256,6 +245,54 @@ impl<'a> Words<'a> {
         let node = self.id()?;
         let tree = tree_named(self.last_word()?).ok_or(Stop::BadLine)?;
         Ok(Question { node, tree, asked })
+    }
+
+    /// The value of a field of a node, which the node doesn't have yet: a text, a place, or a list or an id of nodes.
+    fn valued_field(&mut self, alloc: Global, name: &str, node: &mut Node) -> Result<(), Stop>
+        ensures { OnOk result (left (option_copied self.new.rest) < left (option_copied self.old.rest)) }
+    {
+        match name {
+            "label" if node.label().is_none() => node.set_label(&self.text(alloc)?)?,
+            "value" if node.value().is_none() => node.set_value(&self.text(alloc)?)?,
+            "bounds" if node.bounds().is_none() => {
+                node.set_bounds(rect(self.word()?).ok_or(Stop::BadLine)?);
+            }
+            "move" if node.transform().is_none() => {
+                node.set_transform(translation(self.word()?).ok_or(Stop::BadLine)?);
+            }
+            "chars" if node.character_lengths().is_empty() => {
+                node.set_character_lengths(&numbers(alloc, self.word()?)?)?;
+            }
+            "words" if node.word_starts().is_empty() => {
+                node.set_word_starts(&numbers(alloc, self.word()?)?)?;
+            }
+            _ => self.kin_field(alloc, name, node)?,
+        }
+        Ok(())
+    }
+
+    /// The value of a field that names nodes or a tree, which the node doesn't have yet.
+    fn kin_field(&mut self, alloc: Global, name: &str, node: &mut Node) -> Result<(), Stop>
+        ensures { OnOk result (left (option_copied self.new.rest) < left (option_copied self.old.rest)) }
+    {
+        match name {
+            "children" if node.children().is_empty() => {
+                node.set_children(&ids(alloc, self.word()?)?)?;
+            }
+            "labelled" if node.labelled_by().is_empty() => {
+                node.set_labelled_by(&ids(alloc, self.word()?)?)?;
+            }
+            "tree" if node.tree_id().is_none() => {
+                node.set_tree_id(tree_named(self.word()?).ok_or(Stop::BadLine)?);
+            }
+            "active" if node.active_descendant().is_none() => {
+                node.set_active_descendant(self.id()?);
+            }
+            "prev" if node.previous_on_line().is_none() => node.set_previous_on_line(self.id()?),
+            "next" if node.next_on_line().is_none() => node.set_next_on_line(self.id()?),
+            _ => return Err(Stop::BadLine),
+        }
+        Ok(())
     }
 
     /// The name of the next field, and whether a value comes next.
@@ -377,6 +414,17 @@ fn ids(alloc: Global, word: &str) -> Result<Vec<NodeId>, Stop> {
         ids.push(NodeId(number))?;
     }
     Ok(ids)
+}
+
+/// Numbers below 65,536 with one comma between them.
+fn numbers(alloc: Global, word: &str) -> Result<Vec<u16>, Stop> {
+    let mut numbers = Vec::new(alloc);
+    for part in word.split(',') {
+        let number = number(part).ok_or(Stop::BadLine)?;
+        let number = u16::try_from(number).or(Err(Stop::BadLine))?;
+        numbers.push(number)?;
+    }
+    Ok(numbers)
 }
 
 /// The tree that a word names: `root`, or a UUID in any form that `uuid` reads.

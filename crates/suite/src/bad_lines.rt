@@ -4,7 +4,7 @@ use crate::scripts::run;
 use std::test::Fail;
 
 /// Each of these lines is bad where no update is open.
-static OUTSIDE: [&str; 68] = [
+static OUTSIDE: [&str; 72] = [
     "bogus",
     " print",
     "print ",
@@ -18,7 +18,11 @@ static OUTSIDE: [&str; 68] = [
     "host  on",
     "host On",
     "host on off",
-    "label 1 root",
+    "label",
+    "label 1",
+    "label 1 root ",
+    "value 1 root 2",
+    "text root 1",
     "children",
     "children 0",
     "children x root",
@@ -76,7 +80,7 @@ static OUTSIDE: [&str; 68] = [
 ];
 
 /// Each of these lines is bad inside an update.
-static INSIDE: [&str; 57] = [
+static INSIDE: [&str; 71] = [
     "host on",
     "print",
     "focus",
@@ -118,7 +122,21 @@ static INSIDE: [&str; 57] = [
     "node 0 Window move=1,2 move=1,2",
     "node 0 Window children",
     "node 0 Window label",
-    "node 0 Window value=\"v\"",
+    "node 0 Window value=\"v\" value=\"v\"",
+    "node 0 Window value=v",
+    "node 0 Window labelled=",
+    "node 0 Window labelled=1 labelled=1",
+    "node 0 TextRun chars=",
+    "node 0 TextRun chars=1,",
+    "node 0 TextRun chars=65536",
+    "node 0 TextRun chars=-1",
+    "node 0 TextRun chars=1 chars=1",
+    "node 0 TextRun words=65536",
+    "node 0 TextRun words=0 words=0",
+    "node 0 TextRun prev=1 prev=1",
+    "node 0 TextRun next=1 next=1",
+    "node 0 TextRun next=",
+    "node 0 TextRun next",
     "node 0 Window tree=root tree=root",
     "node 0 Window tree=",
     "node 0 Window tree=0",

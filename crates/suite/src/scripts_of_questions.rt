@@ -2,7 +2,7 @@
 
 use crate::scripts::{Script, assert_ends, assert_prints};
 
-pub static SCRIPTS: [Script; 6] = [
+pub static SCRIPTS: [Script; 10] = [
     Script {
         name: "questions before there is a tree",
         input: "children 0 root\nfiltered 0 root\nset 0 root\nhit 0 root 1 2\nfocus\n",
@@ -14,6 +14,26 @@ pub static SCRIPTS: [Script; 6] = [
         outputs: &[
             "ok\n0:1 0:2\n0:3 0:2\n-\n-\n0:3\n0:0\nnone\n0:3\nnone\nnone\nupdated 0:0\nfocus - 0:0\nok\n0:0\nno node\nno node\n",
         ],
+    },
+    Script {
+        name: "a label, a value, and what is hit",
+        input: "update root focus=0 root=0\nnode 0 Window children=1,2 bounds=0,0,100,100\nnode 1 GenericContainer children=3 move=10,40\nnode 2 TextInput children=4\nnode 3 Label value=\"a\\\"b\" bounds=10,10,90,30\nnode 4 TextRun value=\"hi\" chars=1,1 words=0\nend\nchildren 0 root\nfiltered 0 root\nlabel 3 root\nvalue 3 root\nvalue 2 root\ntext 3 root\nhit 0 root 20 50\nfocus\nchildren 9 root\n",
+        outputs: &["ok\n0:1 0:2\n0:3 0:2\nnone\n\"a\\\"b\"\n\"hi\"\nnone\n0:3\nnone\nno node\n"],
+    },
+    Script {
+        name: "texts before there is a tree, and of absent nodes",
+        input: "label 0 root\nvalue 0 root\ntext 0 root\nupdate root focus=0 root=0\nnode 0 Window\nend\nlabel 1 root\nvalue 1 root\ntext 1 root\ntext 0 root\n",
+        outputs: &["no tree\nno tree\nno tree\nok\nno node\nno node\nno node\nnone\n"],
+    },
+    Script {
+        name: "a check box that two labels name, and a field of two lines",
+        input: "update root focus=0 root=0\nnode 0 Window children=1,2,3,4\nnode 1 CheckBox labelled=2,3,9\nnode 2 Label value=\"Check email every\"\nnode 3 Label value=\"\\\\minutes\\n\"\nnode 4 MultilineTextInput children=5,6\nnode 5 TextRun chars=1,1,1 value=\"ab\\n\" words=0\nnode 6 TextRun words=0 value=\"c\u{e4}\" chars=1,2\nend\nlabel 1 root\nvalue 4 root\ntext 4 root\ntext 5 root\nupdate root focus=0\nnode 5 TextRun value=\"ab\\n\" chars=1,1,1 next=6\nend\ntext 4 root\nupdate root focus=0\nnode 6 TextRun value=\"cd\" chars=1,1 prev=5\nend\ntext 4 root\n",
+        outputs: &["ok\n\"Check email every \\\\minutes\\n\"\nnone\n\"ab\\nc\u{e4}\"\nnone\nupdated 0:5\nok\nnone\nupdated 0:6\nok\n\"ab\\ncd\"\n"],
+    },
+    Script {
+        name: "a password is shown as bullets",
+        input: "update root focus=0 root=0\nnode 0 PasswordInput children=1 value=\"secret\"\nnode 1 TextRun value=\"p\u{e4}ss\" chars=1,2,1,1\nend\nvalue 0 root\ntext 0 root\n",
+        outputs: &["ok\n\"\u{2022}\u{2022}\u{2022}\u{2022}\"\n\"\u{2022}\u{2022}\u{2022}\u{2022}\"\n"],
     },
     Script {
         name: "the sets of a list box, and with its first option hidden",
