@@ -1,7 +1,9 @@
 //! Texts that are no texts: their roots have no text ranges, and no value comes from their runs.
 
 use crate::planting::{brought, shown};
-use crate::written::{Run, alone, run_node, written};
+use crate::written::Run::{self, Alone, Linked, Measured};
+use crate::written::{run_node, written};
+use accesskit_consumer::tree::Tree;
 use plain_worlds::ids::tree_id;
 use plain_worlds::recorder::Recorder;
 use schema::{Node, NodeId, Role, TextPosition, TextSelection, TreeInfo, TreeUpdate};
@@ -9,54 +11,30 @@ use std::alloc::{AllocError, Global};
 use std::process::Abort;
 use std::test::Fail;
 
-use accesskit_consumer::tree::Tree;
-
-/// A run that is linked to these.
-const fn linked(value: &'static str, previous: Option<u64>, next: Option<u64>) -> Run {
-    Run {
-        value: Some(value),
-        lengths: &[1],
-        words: &[],
-        previous,
-        next,
-        positions: None,
-    }
-}
-
-/// A run of three characters of which two positions are told.
-const SHORT_OF_POSITIONS: Run = Run {
-    value: Some("abc"),
-    lengths: &[1, 1, 1],
-    words: &[],
-    previous: None,
-    next: None,
-    positions: Some(&[0, 10]),
-};
-
 static ILL_FORMED: [(&str, &[Run]); 10] = [
     (
         "a link that isn't answered",
-        &[linked("a", None, Some(2)), linked("b", None, None)],
+        &[Linked("a", None, Some(2)), Linked("b", None, None)],
     ),
-    ("a run that links to itself", &[linked("a", Some(1), Some(1))]),
+    ("a run that links to itself", &[Linked("a", Some(1), Some(1))]),
     (
         "a link past a run",
         &[
-            linked("a", None, Some(3)),
-            linked("b", None, None),
-            linked("c", Some(1), None),
+            Linked("a", None, Some(3)),
+            Linked("b", None, None),
+            Linked("c", Some(1), None),
         ],
     ),
-    ("a character cut in two", &[alone("a\u{e4}", &[1, 1, 1], &[])]),
-    ("a character of no bytes", &[alone("ab", &[1, 1, 0], &[])]),
-    ("lengths short of the value", &[alone("ab", &[1], &[])]),
-    ("a word that starts twice", &[alone("ab", &[1, 1], &[0, 0])]),
-    ("a word past the end", &[alone("ab", &[1, 1], &[2])]),
+    ("a character cut in two", &[Alone("a\u{e4}", &[1, 1, 1], &[])]),
+    ("a character of no bytes", &[Alone("ab", &[1, 1, 0], &[])]),
+    ("lengths short of the value", &[Alone("ab", &[1], &[])]),
+    ("a word that starts twice", &[Alone("ab", &[1, 1], &[0, 0])]),
+    ("a word past the end", &[Alone("ab", &[1, 1], &[2])]),
     (
         "an empty run before another",
-        &[alone("", &[], &[]), alone("ab", &[1, 1], &[])],
+        &[Alone("", &[], &[]), Alone("ab", &[1, 1], &[])],
     ),
-    ("too few positions", &[SHORT_OF_POSITIONS]),
+    ("too few positions", &[Measured("abc", &[1, 1, 1], &[0, 10])]),
 ];
 
 /// All of the first run.
@@ -96,7 +74,7 @@ fn ill_formed_texts_have_no_ranges(rt: HostRuntime) -> Result<(), Fail> {
 /// The update of a tree whose only node is a run.
 fn grafted(alloc: Global) -> Result<TreeUpdate, AllocError> {
     let mut nodes = Vec::new(alloc);
-    nodes.push((NodeId(0), run_node(alloc, alone("ab", &[1, 1], &[]))?))?;
+    nodes.push((NodeId(0), run_node(alloc, Alone("ab", &[1, 1], &[]))?))?;
     Ok(TreeUpdate {
         nodes,
         tree: Some(TreeInfo::new(NodeId(0))),
@@ -115,7 +93,7 @@ fn run_of_another_tree_is_none_of_a_text(rt: HostRuntime) -> Result<(), Fail> {
     let mut nodes = Vec::new(alloc);
     nodes.push((NodeId(0), root))?;
     nodes.push((NodeId(1), graft))?;
-    nodes.push((NodeId(2), run_node(alloc, alone("ab", &[1, 1], &[]))?))?;
+    nodes.push((NodeId(2), run_node(alloc, Alone("ab", &[1, 1], &[]))?))?;
     let mut tree = Tree::new(alloc, brought(nodes), false)?;
     assert!(rt; shown(tree.state().view(), 0)?.supports_text_ranges());
     let mut recorder = Recorder::new(alloc);

@@ -2,9 +2,12 @@
 
 use crate::plain::{PlainText, Spot};
 use crate::planting::{planted, shown, spot};
+use accesskit_consumer::node::NodeRef;
 use accesskit_consumer::text::TextPosition;
 use plain_worlds::drafts::Dice;
 use schema::Role;
+use std::alloc::Global;
+use std::cmp::Ordering;
 use std::process::Abort;
 use std::test::Fail;
 
@@ -63,6 +66,142 @@ fn assert_position(rt: &impl Abort, text: &PlainText, position: TextPosition) {
     assert!(rt; moves(position) == text.moves(at), "{at:?}");
 }
 
+/// Asserts the indexes of a position: how long the characters before it are, and how many lines end before it.
+fn assert_indexes(rt: &impl Abort, text: &PlainText, lengths: &[(usize, usize)], position: TextPosition) {
+    let at = spot(position);
+    let mut wanted = (0usize, 0usize);
+    for (scalars, units) in lengths.iter().take(text.offset(at)) {
+        wanted.0 = wanted.0.saturating_add(*scalars);
+        wanted.1 = wanted.1.saturating_add(*units);
+    }
+    let given = (position.to_global_usv_index(), position.to_global_utf16_index());
+    assert!(rt; given == wanted, "{at:?}");
+    assert!(rt; position.to_line_index() == text.line_index(at.0), "{at:?}");
+}
+
+/// The spot before the character that holds an index, by the characters' lengths.
+fn holding(text: &PlainText, lengths: impl Iterator<Item = usize>, index: usize) -> Option<Spot> {
+    let mut before = 0usize;
+    let mut offset = 0usize;
+    for length in lengths {
+        before = before.saturating_add(length);
+        if index < before {
+            return Some(text.start_side(offset));
+        }
+        offset = offset.saturating_add(1);
+    }
+    if index == before {
+        return Some(text.end());
+    }
+    None
+}
+
+/// All positions of a text, by their offsets and sides.
+fn positions<'a>(
+    alloc: Global,
+    root: NodeRef<'a>,
+    lengths: &[(usize, usize)],
+) -> Result<Vec<TextPosition<'a>>, Fail> {
+    let mut positions = Vec::new(alloc);
+    let mut index = 0usize;
+    for number in 0..=lengths.len() {
+        if !root.supports_text_ranges() {
+            return Err("no text".into());
+        }
+        let position = root
+            .text_position_from_global_usv_index(index)
+            .ok_or("no position")?;
+        let end = position.biased_to_end();
+        if end != position {
+            positions.push(end)?;
+        }
+        positions.push(position)?;
+        let (scalars, _) = lengths.get(number).copied().unwrap_or((0, 0));
+        index = index.saturating_add(scalars);
+    }
+    Ok(positions)
+}
+
+/// Asserts what a text has between two positions.
+fn assert_range(
+    rt: &impl Abort,
+    alloc: Global,
+    text: &PlainText,
+    from: TextPosition,
+    to: TextPosition,
+) -> Result<(), Fail> {
+    let mut range = from.to_degenerate_range();
+    range.set_end(to);
+    let (start, end) = (spot(from), spot(to));
+    let is_degenerate = text.offset(start) >= text.offset(end);
+    let wanted = if is_degenerate {
+        (end, end)
+    } else {
+        (text.to_start(start), end)
+    };
+    assert!(rt; (spot(range.start()), spot(range.end())) == wanted, "{start:?} {end:?}");
+    assert!(rt; range.is_degenerate() == is_degenerate, "{start:?} {end:?}");
+    let wanted = text.text(alloc, text.offset(start), text.offset(end))?;
+    assert!(rt; range.text(alloc)?.as_str() == wanted.as_str(), "{start:?} {end:?}");
+    let mut range = to.to_degenerate_range();
+    range.set_start(from);
+    let wanted = if is_degenerate {
+        (start, start)
+    } else {
+        (text.to_start(start), end)
+    };
+    assert!(rt; (spot(range.start()), spot(range.end())) == wanted, "{start:?} {end:?}");
+    Ok(())
+}
+
+/// Asserts the moves by character from a position, where there is one.
+fn assert_characters(rt: &impl Abort, root: NodeRef, text: &PlainText, position: TextPosition) {
+    let at = spot(position);
+    if !root.supports_text_ranges() {
+        return;
+    }
+    if position.compare(&root.document_end()) == Some(Ordering::Less) {
+        let next = text.next(at);
+        let given = (
+            spot(position.forward_to_character_start()),
+            spot(position.forward_to_character_end()),
+        );
+        assert!(rt; given == (next, text.to_end(next)), "{at:?}");
+    }
+    if position.compare(&root.document_start()) == Some(Ordering::Greater) {
+        let previous = spot(position.backward_to_character_start());
+        assert!(rt; previous == text.previous(at), "{at:?}");
+    }
+}
+
+/// Asserts the positions of all indexes and the ranges of all lines, and of one more of each.
+fn assert_numbered(rt: &impl Abort, root: NodeRef, text: &PlainText, lengths: &[(usize, usize)]) {
+    if !root.supports_text_ranges() {
+        return;
+    }
+    for index in 0..24usize {
+        let wanted = holding(text, lengths.iter().map(|both| both.0), index);
+        let given = match root.text_position_from_global_usv_index(index) {
+            Some(position) => Some(spot(position)),
+            None => None,
+        };
+        assert!(rt; given == wanted, "scalar {index}");
+        let wanted = holding(text, lengths.iter().map(|both| both.1), index);
+        let given = match root.text_position_from_global_utf16_index(index) {
+            Some(position) => Some(spot(position)),
+            None => None,
+        };
+        assert!(rt; given == wanted, "unit {index}");
+    }
+    for line in 0..7usize {
+        let given = match root.line_range_from_index(line) {
+            Some(range) => Some((spot(range.start()), spot(range.end()))),
+            None => None,
+        };
+        assert!(rt; given == text.line_range(line), "line {line}");
+    }
+}
+
 #[test]
 fn made_up_texts_are_one_flat_list(rt: HostRuntime) -> Result<(), Fail> {
     let alloc = rt.alloc();
@@ -73,17 +212,18 @@ fn made_up_texts_are_one_flat_list(rt: HostRuntime) -> Result<(), Fail> {
         let tree = planted(alloc, role, &text)?;
         let root = shown(tree.state().view(), 0)?;
         assert!(rt; root.supports_text_ranges());
-        if !root.supports_text_ranges() {
-            continue;
-        }
-        let mut position = root.document_start();
-        for _ in 0..100u32 {
-            assert_position(&rt, &text, position);
-            assert_position(&rt, &text, position.biased_to_end());
-            if position.compare(&root.document_end()) != Some(Ordering::Less) {
-                break;
+        let lengths = text.lengths(alloc)?;
+        let positions = positions(alloc, root, &lengths)?;
+        assert!(rt; positions.len() == text.spots(alloc)?.len());
+        assert_numbered(&rt, root, &text, &lengths);
+        for position in &positions {
+            assert_position(&rt, &text, *position);
+            assert_indexes(&rt, &text, &lengths, *position);
+            assert_characters(&rt, root, &text, *position);
+            for _ in 0..3u32 {
+                let other = dice.of(&positions).ok_or("no position")?;
+                assert_range(&rt, alloc, &text, *position, other)?;
             }
-            position = position.forward_to_line_start();
         }
     }
     Ok(())

@@ -142,7 +142,7 @@ impl PlainText {
     }
 
     /// The last spot with this offset, or the document's end.
-    fn start_side(&self, offset: usize) -> Spot {
+    pub fn start_side(&self, offset: usize) -> Spot {
         let mut found = self.end();
         for run in 0..self.runs.len() {
             let start = self.offset((run, 0));

@@ -1,7 +1,8 @@
 //! Small texts, worked out by hand.
 
 use crate::planting::{brought, shown};
-use crate::written::{Run, alone, at, between, ends, measured, named, run_node, written};
+use crate::written::Run::{self, Alone};
+use crate::written::{at, between, ends, measured, named, run_node, written};
 use accesskit_consumer::node::NodeRef;
 use accesskit_consumer::tree::Tree;
 use schema::{Node, NodeId, Point, Role, TextDirection, TextPosition, TextSelection, WideRect};
@@ -10,26 +11,19 @@ use std::cmp::Ordering;
 use std::test::Fail;
 
 /// Two paragraphs, each with one word.
-static PARAGRAPHS: [Run; 2] = [alone("ab\n", &[1, 1, 1], &[0]), alone("cd", &[1, 1], &[0])];
+static PARAGRAPHS: [Run; 2] = [Alone("ab\n", &[1, 1, 1], &[0]), Alone("cd", &[1, 1], &[0])];
 
 /// Two runs of two characters each.
-static PAIRS: [Run; 2] = [alone("ab", &[1, 1], &[]), alone("cd", &[1, 1], &[])];
+static PAIRS: [Run; 2] = [Alone("ab", &[1, 1], &[]), Alone("cd", &[1, 1], &[])];
 
 /// A character of four bytes between two of one.
-static WIDE: [Run; 1] = [alone("a\u{1f44d}b", &[1, 4, 1], &[])];
+static WIDE: [Run; 1] = [Alone("a\u{1f44d}b", &[1, 4, 1], &[])];
 
 /// A run of no characters, of which nothing is sent.
-static NOTHING: [Run; 1] = [Run {
-    value: None,
-    lengths: &[],
-    words: &[],
-    previous: None,
-    next: None,
-    positions: None,
-}];
+static NOTHING: [Run; 1] = [Run::Nothing];
 
 /// A paragraph, and an empty run after it.
-static EMPTY_LAST: [Run; 2] = [alone("ab\n", &[1, 1, 1], &[]), alone("", &[], &[])];
+static EMPTY_LAST: [Run; 2] = [Alone("ab\n", &[1, 1, 1], &[]), Alone("", &[], &[])];
 
 /// A selection as it is sent.
 fn selected(anchor: (u64, usize), focus: (u64, usize)) -> TextSelection {
@@ -216,7 +210,7 @@ fn selections_are_ordered(rt: HostRuntime) -> Result<(), Fail> {
     let tree = written(alloc, Role::TextInput, &PAIRS, None, selection)?;
     let root = shown(tree.state().view(), 0)?;
     let range = root.text_selection().ok_or("no selection")?;
-    assert!(rt; range.text(alloc)? == "c");
+    assert!(rt; range.text(alloc)?.as_str() == "c");
     assert!(rt; ends(range) == ((1, 2), (2, 1)));
     let anchor = root.text_selection_anchor().ok_or("no anchor")?;
     let focus = root.text_selection_focus().ok_or("no focus")?;

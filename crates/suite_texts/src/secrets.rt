@@ -1,28 +1,29 @@
 //! Passwords: what is shown of them, and what two of one shape show alike.
 
 use crate::planting::shown;
-use crate::written::{Run, alone, at, between, ends, named, written};
+use crate::written::Run::{self, Alone};
+use crate::written::{at, between, ends, named, written};
 use accesskit_consumer::node::NodeRef;
 use schema::Role;
 use std::alloc::Global;
 use std::test::Fail;
 
 static PAIR: [[Run; 2]; 2] = [
-    [alone("p\u{e4}", &[1, 2], &[]), alone("ss", &[1, 1], &[])],
-    [alone("xy", &[1, 1], &[]), alone("zw", &[1, 1], &[])],
+    [Alone("p\u{e4}", &[1, 2], &[]), Alone("ss", &[1, 1], &[])],
+    [Alone("xy", &[1, 1], &[]), Alone("zw", &[1, 1], &[])],
 ];
 
 static LINES: [[Run; 2]; 2] = [
-    [alone("a\n", &[1, 1], &[]), alone("b", &[1], &[])],
-    [alone("\u{e4}\n", &[2, 1], &[]), alone("c", &[1], &[])],
+    [Alone("a\n", &[1, 1], &[]), Alone("b", &[1], &[])],
+    [Alone("\u{e4}\n", &[2, 1], &[]), Alone("c", &[1], &[])],
 ];
 
 static WORDS: [[Run; 2]; 2] = [
-    [alone("p\u{e4}", &[1, 2], &[0, 1]), alone("ss", &[1, 1], &[])],
-    [alone("xy", &[1, 1], &[0, 1]), alone("zw", &[1, 1], &[])],
+    [Alone("p\u{e4}", &[1, 2], &[0, 1]), Alone("ss", &[1, 1], &[])],
+    [Alone("xy", &[1, 1], &[0, 1]), Alone("zw", &[1, 1], &[])],
 ];
 
-static ALIKE: [Run; 1] = [alone("aaaa", &[1, 1, 1, 1], &[])];
+static ALIKE: [Run; 1] = [Alone("aaaa", &[1, 1, 1, 1], &[])];
 
 static BULLETS: &str = "\u{2022}\u{2022}\u{2022}\u{2022}";
 
@@ -33,8 +34,8 @@ fn masked_passwords_show_bullets(rt: HostRuntime) -> Result<(), Fail> {
         let tree = written(alloc, Role::PasswordInput, runs, own, None)?;
         let root = shown(tree.state().view(), 0)?;
         let value = root.value(alloc)?.ok_or("no value")?;
-        assert!(rt; value == BULLETS);
-        assert!(rt; between(root, 0, 4)?.text(alloc)? == BULLETS);
+        assert!(rt; value.as_str() == BULLETS);
+        assert!(rt; between(root, 0, 4)?.text(alloc)?.as_str() == BULLETS);
         let third = at(root, 3)?;
         assert!(rt; named(third) == (2, 1));
         assert!(rt; third.to_global_usv_index() == 3 && third.to_global_utf16_index() == 3);
@@ -74,7 +75,7 @@ fn password_of_one_character_is_shown(rt: HostRuntime) -> Result<(), Fail> {
     let tree = written(alloc, Role::PasswordInput, &ALIKE, None, None)?;
     let root = shown(tree.state().view(), 0)?;
     let value = root.value(alloc)?.ok_or("no value")?;
-    assert!(rt; value == "aaaa");
+    assert!(rt; value.as_str() == "aaaa");
     Ok(())
 }
 

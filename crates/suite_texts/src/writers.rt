@@ -1,7 +1,8 @@
 //! Writers that fail: they have a beginning of the text then, and hear no more.
 
 use crate::planting::{brought, shown};
-use crate::written::{Run, alone, between, written};
+use crate::written::Run::{self, Alone};
+use crate::written::{between, written};
 use accesskit_consumer::node::NodeRef;
 use accesskit_consumer::tree::Tree;
 use schema::{Node, NodeId, Role, TextBuffer, TextFault, TextWrite};
@@ -67,7 +68,7 @@ impl TextWrite for Failing {
 }
 
 /// A password in two runs, of five bytes that are four characters.
-static PASSWORD: [Run; 2] = [alone("p\u{e4}", &[1, 2], &[]), alone("ss", &[1, 1], &[])];
+static PASSWORD: [Run; 2] = [Alone("p\u{e4}", &[1, 2], &[]), Alone("ss", &[1, 1], &[])];
 
 /// How many bytes a bullet has.
 const BULLET: usize = 3;
@@ -103,7 +104,7 @@ fn masked_text_is_cut_between_bullets(rt: HostRuntime) -> Result<(), Fail> {
     }
     let mut writer = Failing::new(alloc, 5);
     assert!(rt; range.write_text(&mut writer).is_ok());
-    assert!(rt; writer.text == "\u{2022}\u{2022}\u{2022}\u{2022}");
+    assert!(rt; writer.text.as_str() == "\u{2022}\u{2022}\u{2022}\u{2022}");
     Ok(())
 }
 
@@ -119,7 +120,7 @@ fn label_is_cut_at_a_fault(rt: HostRuntime) -> Result<(), Fail> {
         match root.write_label(&mut writer) {
             Ok(there) => {
                 has_ended = true;
-                assert!(rt; there && writer.text == label);
+                assert!(rt; there && writer.text.as_str() == label);
             }
             Err(TextFault) => {
                 assert!(rt; !has_ended && label.starts_with(writer.text.as_str()));

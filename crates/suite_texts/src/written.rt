@@ -8,46 +8,45 @@ use schema::{Node, NodeId, Rect, Role, TextDirection, TextSelection, Translation
 use std::alloc::{AllocError, Global};
 use std::test::Fail;
 
-/// A run: its value, how many bytes each character has, where words start, and its neighbours on the line.
+/// A run of a text.
 #[derive(Clone, Copy)]
-pub struct Run {
-    pub value: Option<&'static str>,
-    pub lengths: &'static [u16],
-    pub words: &'static [u16],
-    pub previous: Option<u64>,
-    pub next: Option<u64>,
-    pub positions: Option<&'static [i32]>,
-}
-
-/// A run that stands alone on its line.
-pub const fn alone(value: &'static str, lengths: &'static [u16], words: &'static [u16]) -> Run {
-    Run {
-        value: Some(value),
-        lengths,
-        words,
-        previous: None,
-        next: None,
-        positions: None,
-    }
+pub enum Run {
+    /// It stands alone on its line: its value, how many bytes each character has, and where words start.
+    Alone(&'static str, &'static [u16], &'static [u16]),
+    /// It has one character of one byte, and these neighbours on its line.
+    Linked(&'static str, Option<u64>, Option<u64>),
+    /// Its characters have one byte each, and these positions.
+    Measured(&'static str, &'static [u16], &'static [i32]),
+    /// Nothing is sent of it.
+    Nothing,
 }
 
 /// The node of a run.
 pub fn run_node(alloc: Global, run: Run) -> Result<Node, AllocError> {
     let mut node = Node::new(alloc, Role::TextRun);
-    if let Some(value) = run.value {
-        node.set_value(value)?;
-    }
-    node.set_character_lengths(run.lengths)?;
-    node.set_word_starts(run.words)?;
-    if let Some(previous) = run.previous {
-        node.set_previous_on_line(NodeId(previous));
-    }
-    if let Some(next) = run.next {
-        node.set_next_on_line(NodeId(next));
-    }
-    if let Some(positions) = run.positions {
-        node.set_character_positions(positions)?;
-        node.set_character_widths(positions)?;
+    match run {
+        Run::Alone(value, lengths, words) => {
+            node.set_value(value)?;
+            node.set_character_lengths(lengths)?;
+            node.set_word_starts(words)?;
+        }
+        Run::Linked(value, previous, next) => {
+            node.set_value(value)?;
+            node.set_character_lengths(&[1])?;
+            if let Some(previous) = previous {
+                node.set_previous_on_line(NodeId(previous));
+            }
+            if let Some(next) = next {
+                node.set_next_on_line(NodeId(next));
+            }
+        }
+        Run::Measured(value, lengths, positions) => {
+            node.set_value(value)?;
+            node.set_character_lengths(lengths)?;
+            node.set_character_positions(positions)?;
+            node.set_character_widths(positions)?;
+        }
+        Run::Nothing => {}
     }
     Ok(node)
 }
@@ -82,7 +81,7 @@ pub fn written(
 
 /// The tree of one run `abc` in a text input that is moved by 5 to the right; the run is moved too, and measured.
 pub fn measured(alloc: Global, direction: TextDirection) -> Result<Tree, Fail> {
-    let mut run = run_node(alloc, alone("abc", &[1, 1, 1], &[]))?;
+    let mut run = run_node(alloc, Run::Alone("abc", &[1, 1, 1], &[]))?;
     run.set_transform(Translation::new(100, 200));
     run.set_bounds(Rect::new(0, 0, 30, 10));
     run.set_character_positions(&[0, 10, 20])?;
