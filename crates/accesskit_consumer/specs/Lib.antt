@@ -12,6 +12,7 @@ pub mod Inherited
 pub mod Reach
 pub mod Measures
 pub mod PointTests
+pub mod Boxes
 pub mod Tests
 pub mod Spots
 pub mod Courses
