@@ -10,6 +10,7 @@ pub mod Inheriting
 pub mod MoveSums
 pub mod Along
 pub mod PointPlaces
+pub mod PieceBoxes
 pub mod Missed
 pub mod Children
 pub mod Counting

@@ -4,18 +4,19 @@ use Rattle.std.specs.Prelude.{ℤ, ◌&&◌, slice_get, option_map, option_and_t
 use Rattle.std.specs.Option.{option_map_or, option_or}
 use Rattle.std.specs.List.{list_all}
 use Rattle.std.proofs.lemmas.Bool.{leb-true}
-use Rattle.std.proofs.lemmas.Option.{slice_get_within}
+use Rattle.std.proofs.lemmas.Option.{slice_get_within, same_Some}
 use Rattle.schema.specs.declared.geometry.Point.{Point}
 use Rattle.model.specs.TextRuns.{SentRun, sent_run, sent_runs, run_ids, said_count, is_password, is_measured, is_enough, are_measured, supports_text_ranges}
-use Rattle.model.specs.FlatText.{FlatText, ShownRun, shown_character, needs_masking, shown_run, flat_text, count, Position, end_at, document_start, document_end, last_run, run_has}
+use Rattle.model.specs.FlatText.{FlatText, ShownRun, Metrics, shown_character, needs_masking, shown_run, flat_text, count, Position, end_at, document_start, document_end, last_run, run_has}
 use Rattle.model.specs.Points.{is_in_run, is_ahead_of, is_past, index_at, position_at_point}
 use Rattle.model.proofs.Text.TextFacts.{both, is_text}
 use Rattle.model.proofs.Text.Searching.{last_next}
 use Rattle.accesskit_consumer.specs.declared.node.node_ref.NodeRef.{NodeRef}
 use Rattle.accesskit_consumer.specs.declared.text.runs.Run.{Run}
 use Rattle.accesskit_consumer.specs.declared.text.points.PointTest.{PointTest}
+use Rattle.accesskit_consumer.specs.declared.text.points.PointTest.TheVariants.{Inside, Past}
 use Rattle.accesskit_consumer.specs.Nodes.{world_at, id_at}
-use Rattle.accesskit_consumer.specs.Runs.{root_of, run_world, root_id, sent_of, ids_after, ids_before, IsBefore}
+use Rattle.accesskit_consumer.specs.Runs.{root_of, run_world, root_id, sent_of, ids_after, ids_before, IsFirstOf, IsBefore}
 use Rattle.accesskit_consumer.specs.RunNumbers.{number_in, text_around}
 use Rattle.accesskit_consumer.specs.Positions.{text_of}
 use Rattle.accesskit_consumer.specs.Measures.{shown_in}
@@ -110,6 +111,30 @@ module _ (t : FlatText) (point : Point) where
     unfolding position_at_point
     found_nowhere e is = sym (ap (λ o. chosen (option_and_then in_run o) ahead past) none ∙ ap (λ b. chosen None b past) e ∙ ap (chosen None false) is)
 
+-- ---- the same by runs
+
+module _ (n : NodeRef) (point : Point) where
+  abbrev pub place : ℕ → ℕ → Position
+  place r k = record { run = r; index = k }
+
+  pub at_inside : (r : Run) (k : ℕ) → root_of r ≡ n → Some (number_in r) ≡ last_passing n Inside point → k ≡ index_at point (shown_in r) → place (number_in r) k ≡ position_at_point (text_of n) point
+  at_inside r k same found e = ap (place (number_in r)) e ∙ found_inside (text_of n) point (number_in r) (shown_in r) (sym found) (shown_there n r same)
+
+  module _ (none : last_passing n Inside point ≡ None) where
+    pub first_tested : (r : Run) → IsFirstOf n r → run_has (is_ahead_of point) (text_of n) 0 ≡ is_ahead_of point (shown_in r)
+    first_tested r first = ap (run_has (is_ahead_of point) (text_of n)) (sym (first_number r first.order)) ∙ has_shown (is_ahead_of point) n r first.root
+
+    pub at_start : (r : Run) → IsFirstOf n r → is_ahead_of point (shown_in r) ≡ true → place (number_in r) 0 ≡ position_at_point (text_of n) point
+    at_start r first e = ap (λ k. place k 0) (first_number r first.order) ∙ found_ahead (text_of n) point none (first_tested r first ∙ e)
+
+    module _ (beyond : run_has (is_ahead_of point) (text_of n) 0 ≡ false) where
+      pub at_past : (r : Run) (k : ℕ) → root_of r ≡ n → Some (number_in r) ≡ last_passing n Past point → k ≡ count (shown_in r) → place (number_in r) k ≡ position_at_point (text_of n) point
+      at_past r k same found e =
+          ap (place (number_in r)) (e ∙ sym (ap (λ o. option_map_or count o 0) (shown_there n r same))) ∙ found_past (text_of n) point none (number_in r) beyond (sym found)
+
+      pub at_document_end : None ≡ last_passing n Past point → document_end (text_of n) ≡ position_at_point (text_of n) point
+      at_document_end e = found_nowhere (text_of n) point none beyond (sym e)
+
 -- ---- no more is told of a run than it has characters
 
 member_passes : (p : SentRun → Bool) (xs : List SentRun) (k : ℕ) (x : SentRun) → list_all p xs ≡ true → slice_get xs k ≡ Some x → p x ≡ true
@@ -125,3 +150,12 @@ told_within r ps text sent =
     let enough : is_enough password (said_count (sent_of r)) (length ps) ≡ true =
     sym (ap (λ o. option_map_or (λ (ks : List ℤ). is_enough password (said_count (sent_of r)) (length ks)) o true) sent) ∙ (both _ _ measured).0 in
     leb-true _ _ (both _ _ enough).0
+
+positions_first : (password : Bool) (ps ws : Option (List ℤ)) (m : Metrics) → Some m ≡ option_and_then (λ xs. option_map (λ ys. let k : Metrics = record { positions = xs; widths = ys; are_alike = password } in k) ws) ps → ps ≡ Some m.positions
+positions_first password None ws m e = cc
+positions_first password (Some xs) None m e = cc
+positions_first password (Some xs) (Some ys) m e = ap (λ (k : Metrics). Some k.positions) (sym (same_Some m (record { positions = xs; widths = ys; are_alike = password }) e))
+
+pub measured_within : (r : Run) (m : Metrics) → supports_text_ranges (run_world r) (root_id r) ≡ true → Some m ≡ (shown_in r).metrics → length m.positions ≤ said_count (sent_of r)
+measured_within r m text e =
+    told_within r m.positions text (positions_first (is_password (run_world r) (root_id r)) (sent_of r).node.character_positions (sent_of r).node.character_widths m e)

@@ -14,6 +14,7 @@ pub mod Formats
 pub mod Reach
 pub mod Measures
 pub mod PointTests
+pub mod Boxes
 pub mod Tests
 pub mod Spots
 pub mod Courses

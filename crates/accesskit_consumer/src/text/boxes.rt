@@ -1,1 +1,203 @@
 //! The boxes of a range, one for each run.
+ghost use Rattle.std.specs.Prelude.{◌≡◌, ◌==◌, ◌&&◌, ◌+ℤ◌, ◌-ℤ◌, IfOk};
+ghost use Rattle.model.specs.TextRuns.{said_count};
+ghost use Rattle.model.specs.Geometry.{whole_rect, moved_rect};
+ghost use Rattle.model.specs.Ranges.{reach_from, reach_to, cut_along, piece_rect, piece_box, bounding_boxes};
+ghost use Rattle.accesskit_consumer.specs.Reach.{IsInReach};
+ghost use Rattle.accesskit_consumer.specs.Runs.{sent_of};
+ghost use Rattle.accesskit_consumer.specs.RunNumbers.{text_around};
+ghost use Rattle.accesskit_consumer.specs.TextRanges.{text_in, range_at};
+ghost use Rattle.accesskit_consumer.specs.Pieces.{piece_data};
+ghost use Rattle.accesskit_consumer.specs.Measures.{measures, shown_in, IsAlong};
+ghost use Rattle.accesskit_consumer.specs.Boxes.{box_of, IsOnRun};
+
+use crate::node::geometry::ordered;
+use crate::text::metrics::Metrics;
+use crate::text::pieces::Piece;
+use crate::text::range::TextRange;
+use crate::text::runs::Run;
+use schema::{Rect, TextDirection, WideRect, WideTranslation};
+use std::alloc::{AllocError, Global};
+
+/// A number so far past an edge.
+fn past(edge: i32, reach: i128) -> i128
+    requires { IsAlong 2 reach }
+    ensures exact { result ≡ edge +ℤ reach }
+    ensures along { IsAlong 3 result }
+{
+    i128::from(edge) + reach
+}
+
+/// A number so far before an edge.
+fn before(edge: i32, reach: i128) -> i128
+    requires { IsAlong 2 reach }
+    ensures exact { result ≡ edge -ℤ reach }
+    ensures along { IsAlong 3 result }
+{
+    i128::from(edge) - reach
+}
+
+/// An edge.
+fn wide(edge: i32) -> i128
+    ensures exact { result ≡ edge }
+    ensures along { IsAlong 3 result }
+{
+    i128::from(edge)
+}
+
+/// The whole rectangle.
+fn whole_rect(rect: Rect) -> WideRect
+    ensures exact { result ≡ whole_rect rect }
+    ensures near { IsOnRun result }
+{
+    WideRect {
+        x0: wide(rect.x0),
+        y0: wide(rect.y0),
+        x1: wide(rect.x1),
+        y1: wide(rect.y1),
+    }
+}
+
+/// What lies from one reach to another along the rectangle.
+fn cut_along(direction: TextDirection, rect: Rect, from: i128, to: i128) -> WideRect
+    requires starts { IsAlong 2 from }
+    requires ends { IsAlong 2 to }
+    ensures exact { result ≡ cut_along direction rect from to }
+    ensures near { IsOnRun result }
+{
+    let whole = whole_rect(rect);
+    match direction {
+        TextDirection::LeftToRight => WideRect {
+            x0: past(rect.x0, from),
+            x1: past(rect.x0, to),
+            ..whole
+        },
+        TextDirection::RightToLeft => WideRect {
+            x0: before(rect.x1, to),
+            x1: before(rect.x1, from),
+            ..whole
+        },
+        TextDirection::TopToBottom => WideRect {
+            y0: past(rect.y0, from),
+            y1: past(rect.y0, to),
+            ..whole
+        },
+        TextDirection::BottomToTop => WideRect {
+            y0: before(rect.y1, to),
+            y1: before(rect.y1, from),
+            ..whole
+        },
+    }
+}
+
+/// A number, moved.
+fn plus(number: i128, by: i128) -> i128
+    requires along { IsAlong 3 number }
+    requires moved { IsInReach by }
+    ensures { result ≡ number +ℤ by }
+{
+    number + by
+}
+
+/// The rectangle, moved.
+fn moved(rect: WideRect, by: WideTranslation) -> WideRect
+    requires near { IsOnRun rect }
+    requires across { IsInReach by.x }
+    requires along { IsInReach by.y }
+    ensures { result ≡ moved_rect rect by }
+{
+    WideRect {
+        x0: plus(rect.x0, by.x),
+        y0: plus(rect.y0, by.y),
+        x1: plus(rect.x1, by.x),
+        y1: plus(rect.y1, by.y),
+    }
+}
+
+impl Run<'_> {
+    /// By how much the run and all above it move it.
+    fn whole_move(self) -> WideTranslation
+        ensures exact { result ≡ (shown_in self.entry).move }
+        ensures across { IsInReach result.x }
+        ensures along { IsInReach result.y }
+    {
+        self.view().whole_move()
+    }
+}
+
+impl Piece<'_> {
+    /// Whether the piece is the whole run.
+    fn is_whole(self) -> bool
+        ensures { result ≡ (self.entry.from == 0 && self.entry.to == said_count (sent_of self.entry.run)) }
+    {
+        if self.from != 0 {
+            return false;
+        }
+        self.to == self.run.character_count()
+    }
+
+    /// The rectangle of the piece within its run, along which it is cut.
+    fn cut(self, rect: Rect, metrics: Metrics<'_>, direction: TextDirection) -> WideRect
+        ensures exact { let count = said_count (sent_of self.entry.run) in
+            result ≡ cut_along direction rect (reach_from (measures metrics.entry) count self.entry.from) (reach_to (measures metrics.entry) count (piece_data self.entry)) }
+        ensures near { IsOnRun result }
+    {
+        let count = self.run.character_count();
+        let from = metrics.reach_from(count, self.from);
+        let to = metrics.reach_to(count, self);
+        cut_along(direction, rect, from, to)
+    }
+
+    /// The rectangle of the piece within its run: all of it where the piece is the whole run.
+    fn rect_in_run(self, rect: Rect, metrics: Metrics<'_>, direction: TextDirection) -> WideRect
+        ensures exact { let count = said_count (sent_of self.entry.run) in
+            result ≡ piece_rect rect (measures metrics.entry) direction count (piece_data self.entry) }
+        ensures near { IsOnRun result }
+    {
+        if self.is_whole() {
+            return whole_rect(rect);
+        }
+        self.cut(rect, metrics, direction)
+    }
+
+    /// Where the piece is shown, by what is told of its run.
+    fn placed(self, rect: Rect, metrics: Metrics<'_>, direction: TextDirection) -> WideRect
+        ensures { result ≡ box_of self.entry rect (measures metrics.entry) direction }
+    {
+        let in_run = self.rect_in_run(rect, metrics, direction);
+        ordered(moved(in_run, self.run.whole_move()))
+    }
+
+    /// Where the piece is shown, where its run has a rectangle, metrics and a direction.
+    fn bounding_box(self) -> Option<WideRect>
+        ensures { result ≡ piece_box (text_around self.entry.run) (piece_data self.entry) }
+    {
+        let rect = self.run.node().bounds()?;
+        let metrics = self.run.metrics()?;
+        let direction = self.run.direction()?;
+        Some(self.placed(rect, metrics, direction))
+    }
+}
+
+impl TextRange<'_> {
+    /// Where the range is shown: one box for each run that it passes, in order; of a range with nothing in it one, where
+    /// its start is. None at all if one of the runs lacks a rectangle, the places or widths of its characters, or a
+    /// direction. It takes memory.
+    pub fn bounding_boxes(&self, alloc: Global) -> Result<Vec<WideRect>, AllocError>
+        ensures { IfOk result (λ boxes. boxes.items ≡ bounding_boxes (text_in self.now) (range_at self.now)) }
+    {
+        let range = *self;
+        let mut boxes = Vec::new(alloc);
+        let mut piece = range.first_piece();
+        loop {
+            let Some(shown) = piece.bounding_box() else {
+                return Ok(Vec::new(alloc));
+            };
+            boxes.push(shown)?;
+            let Some(next) = range.next_piece(piece.run) else {
+                return Ok(boxes);
+            };
+            piece = next;
+        }
+    }
+}

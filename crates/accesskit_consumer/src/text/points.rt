@@ -1,6 +1,7 @@
 //! The position of a text at a point.
-ghost use Rattle.std.specs.Prelude.{◌≡◌, ◌≤◌, ◌||◌, ◌-ℤ◌, true, int_lt, IfSome, option_map};
+ghost use Rattle.std.specs.Prelude.{◌≡◌, ◌≤◌, ◌||◌, ◌-ℤ◌, true, false, None, int_lt, IfSome, option_map};
 ghost use Rattle.model.specs.TextRuns.{said_count, supports_text_ranges};
+ghost use Rattle.model.specs.FlatText.{count, run_has};
 ghost use Rattle.model.specs.Geometry.{seen_from};
 ghost use Rattle.model.specs.Points.{is_in_run, distance, index_at, box_in_root, is_ahead_of, is_past_box, is_past, position_at_point};
 ghost use Rattle.accesskit_consumer.specs.Nodes.{world_at, id_at};
@@ -10,6 +11,7 @@ ghost use Rattle.accesskit_consumer.specs.RunNumbers.{number_in};
 ghost use Rattle.accesskit_consumer.specs.Positions.{IsAt, text_of};
 ghost use Rattle.accesskit_consumer.specs.SeenPoints.{wide_of};
 ghost use Rattle.accesskit_consumer.specs.Measures.{shown_in};
+ghost use Rattle.accesskit_consumer.specs.declared.text.points.PointTest.TheVariants.{Inside};
 ghost use Rattle.accesskit_consumer.specs.PointTests.{passes, last_passing, IsSeen};
 
 use crate::node::NodeRef;
@@ -121,6 +123,14 @@ impl<'a> Run<'a> {
         self.view().text_direction()
     }
 
+    /// How many characters the run shows.
+    fn count(self) -> usize
+        ensures exact { result ≡ count (shown_in self.entry) }
+        ensures said { result ≡ said_count (sent_of self.entry) }
+    {
+        self.character_count()
+    }
+
     /// The run's rectangle in the root.
     fn box_in_root(self) -> Option<WideRect>
         ensures { result ≡ box_in_root (shown_in self.entry) }
@@ -208,12 +218,44 @@ impl<'a> Run<'a> {
         let along = distance(direction, rect, seen_from(self.move_in_root(), point));
         match metrics.character_at(along) {
             Some(index) => index,
-            None => self.character_count(),
+            None => self.count(),
         }
     }
 }
 
 impl<'a> NodeRef<'a> {
+    /// The position at a point that is in no run, and not ahead of the first one.
+    fn position_past(self, point: Point) -> TextPosition<'a>
+        requires text { supports_text_ranges (world_at self) (id_at self) ≡ true }
+        requires outside { last_passing self Inside point ≡ None }
+        requires beyond { run_has (is_ahead_of point) (text_of self) 0 ≡ false }
+        ensures { IsAt self.entry (position_at_point (text_of self.entry) point) result }
+    {
+        let Some(run) = Run::last_at(self, PointTest::Past, point) else {
+            return self.document_end();
+        };
+        TextPosition {
+            run,
+            index: run.count(),
+        }
+    }
+
+    /// The position at a point that is in no run.
+    fn position_beside(self, point: Point) -> TextPosition<'a>
+        requires text { supports_text_ranges (world_at self) (id_at self) ≡ true }
+        requires outside { last_passing self Inside point ≡ None }
+        ensures { IsAt self.entry (position_at_point (text_of self.entry) point) result }
+    {
+        let first = Run::first(self).unwrap();
+        if first.is_after(point) {
+            return TextPosition {
+                run: first,
+                index: 0,
+            };
+        }
+        self.position_past(point)
+    }
+
     /// The position at a point of the node's text, which has text ranges. The point is given as the node sees it.
     ///
     /// It is in the last run whose own rectangle has the point: before the last character that lies there, or at the
@@ -224,25 +266,12 @@ impl<'a> NodeRef<'a> {
         ensures { IsAt self.now (position_at_point (text_of self.now) point) result }
     {
         let root = *self;
-        if let Some(run) = Run::last_at(root, PointTest::Inside, point) {
-            return TextPosition {
-                run,
-                index: run.index_at(point),
-            };
-        }
-        let first = Run::first(root).unwrap();
-        if first.is_after(point) {
-            return TextPosition {
-                run: first,
-                index: 0,
-            };
-        }
-        match Run::last_at(root, PointTest::Past, point) {
-            Some(run) => TextPosition {
-                run,
-                index: run.character_count(),
-            },
-            None => root.document_end(),
+        let Some(run) = Run::last_at(root, PointTest::Inside, point) else {
+            return root.position_beside(point);
+        };
+        TextPosition {
+            run,
+            index: run.index_at(point),
         }
     }
 }

@@ -1,4 +1,5 @@
 use Rattle.std.proofs.Common.{◌≡◌, ◌+◌, ◌-◌, ◌∙◌, sym, ap, arith}
+use Rattle.std.specs.Int.{w128}
 use Rattle.std.proofs.lemmas.Int.{to_z-of_z}
 use Rattle.model.specs.Points.{character_at}
 use Rattle.accesskit_consumer.specs.Measures.{measures}
@@ -13,7 +14,7 @@ returns-then-lies_at-clause-exact c =
     let left = c.loop-left.left in
     let one : left ≡ left - 1 + 1 = omega (arith, c.loop-left-test.true) in
     sym (c.loop-left.invariant.sought ∙ lies_here (measures c.args.self) _ left (left - 1) one c.loop-left.invariant.within (sym c.lies_at.ensures ∙ c.if-lies_at.true))
-    ∙ ap (character_at (measures c.args.self)) (to_z-of_z _ _ c.ranges.distance.sfits)
+    ∙ ap (character_at (measures c.args.self)) (to_z-of_z w128 c.args.distance c.ranges.distance)
 
 pub loop-left-preserved : goal.loop-left-preserved
 loop-left-preserved c =

@@ -1,0 +1,23 @@
+-- Boxes of pieces, and of a run before it is moved.
+use Rattle.schema.specs.declared.geometry.Rect.{Rect}
+use Rattle.schema.specs.declared.geometry.WideRect.{WideRect}
+use Rattle.schema.specs.declared.values.TextDirection.{TextDirection}
+use Rattle.model.specs.TextRuns.{said_count}
+use Rattle.model.specs.FlatText.{Metrics}
+use Rattle.model.specs.Geometry.{moved_rect, ordered_rect}
+use Rattle.model.specs.Ranges.{piece_rect}
+use Rattle.accesskit_consumer.specs.declared.text.pieces.Piece.{Piece}
+use Rattle.accesskit_consumer.specs.Runs.{sent_of}
+use Rattle.accesskit_consumer.specs.Pieces.{piece_data}
+use Rattle.accesskit_consumer.specs.Measures.{shown_in, IsAlong}
+
+-- where a piece is shown, by what is told of its run
+abbrev pub box_of : Piece → Rect → Metrics → TextDirection → WideRect
+box_of p b m d = ordered_rect (moved_rect (piece_rect b m d (said_count (sent_of p.run)) (piece_data p)) (shown_in p.run).move)
+
+-- each edge is no farther than a character of a run and the run's own edge
+pub record IsOnRun (r : WideRect) : Type 0 where
+  pub x0 : IsAlong 3 r.x0
+  pub y0 : IsAlong 3 r.y0
+  pub x1 : IsAlong 3 r.x1
+  pub y1 : IsAlong 3 r.y1
