@@ -4,6 +4,8 @@
 #[cfg(test)]
 mod ill_formed;
 #[cfg(test)]
+mod looks;
+#[cfg(test)]
 mod made_up;
 #[cfg(test)]
 mod plain;

@@ -5,7 +5,10 @@ use crate::written::Run::{self, Alone};
 use crate::written::{at, between, ends, measured, named, run_node, written};
 use accesskit_consumer::node::NodeRef;
 use accesskit_consumer::tree::Tree;
-use schema::{Node, NodeId, Point, Role, TextDirection, TextPosition, TextSelection, WideRect};
+use plain_worlds::recorder::Recorder;
+use schema::{
+    Node, NodeId, Point, Role, TextDirection, TextPosition, TextSelection, TreeId, TreeUpdate, WideRect,
+};
 use std::alloc::{AllocError, Global};
 use std::cmp::Ordering;
 use std::test::Fail;
@@ -290,7 +293,35 @@ fn points_have_positions(rt: HostRuntime) -> Result<(), Fail> {
     Ok(())
 }
 
-/// An update of the root tree that sends its only run again, without tree info.
-fn again(alloc: Global, run: Run) -> Result<(NodeId, Node), AllocError> {
-    Ok((NodeId(1), run_node(alloc, run)?))
+/// An update of the root tree that sends its first run again.
+fn sent_again(alloc: Global, run: Run) -> Result<TreeUpdate, AllocError> {
+    let mut nodes = Vec::new(alloc);
+    nodes.push((NodeId(1), run_node(alloc, run)?))?;
+    Ok(TreeUpdate {
+        nodes,
+        tree: None,
+        tree_id: TreeId::root(),
+        focus: NodeId(0),
+    })
+}
+
+#[test]
+fn weak_range_past_its_run_is_gone(rt: HostRuntime) -> Result<(), Fail> {
+    let alloc = rt.alloc();
+    let runs = [Alone("abc", &[1, 1, 1], &[])];
+    let mut tree = written(alloc, Role::TextInput, &runs, None, None)?;
+    let weak = between(shown(tree.state().view(), 0)?, 0, 2)?.downgrade(alloc)?;
+    let state = tree.state().view();
+    let range = weak.upgrade(state).ok_or("no range")?;
+    assert!(rt; ends(range) == ((1, 0), (1, 2)));
+    assert!(rt; weak.node_id() == shown(state, 0)?.id());
+    assert!(rt; weak.clone(alloc)? == weak);
+    let mut recorder = Recorder::new(alloc);
+    let update = sent_again(alloc, Alone("a", &[1], &[]))?;
+    let sent = tree.update_and_process_changes(update, &mut recorder);
+    assert!(rt; sent.is_ok());
+    let state = tree.state().view();
+    assert!(rt; weak.upgrade(state).is_none());
+    assert!(rt; weak.upgrade_node(state).is_some());
+    Ok(())
 }
