@@ -48,3 +48,4 @@ pub mod RangePieces
 pub mod RangeRuns
 pub mod CutPieces
 pub mod PieceSteps
+pub mod LookSteps

@@ -38,3 +38,4 @@ pub mod Edges
 pub mod TextRanges
 pub mod Pieces
 pub mod PieceTexts
+pub mod RangeProperties
