@@ -57,3 +57,4 @@ pub mod UnitCounts
 pub mod GlobalIndexes
 pub mod CutPieces
 pub mod PieceSteps
+pub mod LookSteps

@@ -38,6 +38,7 @@ module _ (t : FlatText) (r : Range) where
     where
       place : start_of t start_side_of.run ≡ start_of t end_start_side_of.run
       place = ap (start_of t) same
+
       go : (a : Bool) → (start_side_of.index == end_start_side_of.index) ≡ a → (b : Bool) → is_degenerate t r ≡ b → a ≡ b
       go true f true g = refl
       go false f false g = refl

@@ -44,3 +44,4 @@ pub mod TextRanges
 pub mod Pieces
 pub mod GlobalIndexes
 pub mod PieceTexts
+pub mod RangeProperties

@@ -30,3 +30,4 @@ mod words;
 
 pub use position::TextPosition;
 pub use range::TextRange;
+pub use range_properties::TextRangePropertyValue;

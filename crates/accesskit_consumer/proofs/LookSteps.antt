@@ -1,0 +1,105 @@
+-- What the runs of a range have in common, piece by piece.
+use Rattle.std.proofs.Common.{◌≡◌, ℕ, zero, suc, ◌<◌, Bool, true, false, List, [], ◌∷◌, length, Some, refl, sym, ap, subst, ◌∙◌, arith}
+use Rattle.std.specs.Prelude.{◌↔◌, All, Contains, option_map, filter_map, slice_get}
+use Rattle.std.specs.List.{cons_option}
+use Rattle.std.proofs.lemmas.List.Elements.{All-cons}
+use Rattle.model.specs.declared.FullNodeId.{FullNodeId}
+use Rattle.model.specs.TextRuns.{SentRun}
+use Rattle.model.specs.FlatText.{FlatText, ShownRun}
+use Rattle.model.specs.Ranges.{Piece as PieceData, pieces, passed_runs, IsPropertyOf}
+use Rattle.model.specs.Ranges.Property.{Mixed}
+use Rattle.accesskit_consumer.specs.declared.node.node_ref.NodeRef.{NodeRef}
+use Rattle.accesskit_consumer.specs.declared.text.runs.Run.{Run}
+use Rattle.accesskit_consumer.specs.declared.text.range.TextRange.{TextRange}
+use Rattle.accesskit_consumer.specs.declared.text.pieces.Piece.{Piece}
+use Rattle.accesskit_consumer.specs.declared.text.range_properties.Look.{Look}
+use Rattle.accesskit_consumer.specs.Nodes.{world_at, id_at}
+use Rattle.accesskit_consumer.specs.Runs.{root_of, run_id, run_of, sent_of}
+use Rattle.accesskit_consumer.specs.Positions.{text_of as text_under}
+use Rattle.accesskit_consumer.specs.RunNumbers.{number_in}
+use Rattle.accesskit_consumer.specs.TextRanges.{world_in, text_in, range_at}
+use Rattle.accesskit_consumer.specs.Pieces.{piece_data, pieces_past, IsNextPiece}
+use Rattle.accesskit_consumer.specs.RangeProperties.{AreSame, SomeDiffers}
+use Rattle.accesskit_consumer.proofs.Focusing.{is_not}
+use Rattle.accesskit_consumer.proofs.FlatRuns.{shown_of, shown_at_number}
+use Rattle.accesskit_consumer.proofs.PieceSteps.{pieces_from, as_next}
+
+-- the runs of these pieces
+abbrev pub runs_in : FlatText → List PieceData → List FullNodeId
+runs_in t ps = filter_map (λ p. option_map (λ s. s.id) (slice_get t p.run)) ps
+
+all_of_none : {X : Type 0} (P : X → Type 0) → All P []
+all_of_none P k d h = absurd (omega (arith, h))
+
+module _ (r : TextRange) where
+  run_first : (p : Piece) → root_of p.run ≡ r.root → runs_in (text_in r) (pieces_from r p) ≡ run_id p.run ∷ runs_in (text_in r) (pieces_past (text_in r) (range_at r) (number_in p.run))
+  run_first p same =
+      let rest = runs_in (text_in r) (pieces_past (text_in r) (range_at r) (number_in p.run)) in
+      let here : slice_get (text_in r) (number_in p.run) ≡ Some (shown_of p.run) = ap (λ n. slice_get (text_under n) (number_in p.run)) (sym same) ∙ shown_at_number p.run in
+      ap (λ o. cons_option (option_map (λ (s : ShownRun). s.id) o) rest) here
+
+  contains_own : (p : Piece) → root_of p.run ≡ r.root → Contains (runs_in (text_in r) (pieces_from r p)) (run_id p.run)
+  contains_own p same = subst (λ xs. Contains xs (run_id p.run)) (sym (run_first p same)) (0, omega arith, refl)
+
+  -- the view of a piece's run stands in the world of the range
+  pub world_of_view : (left : List PieceData) (p : Piece) (v : NodeRef) → IsNextPiece r left p → world_at v ≡ world_at (root_of p.run) → world_at v ≡ world_in r
+  world_of_view left p v there e = e ∙ ap world_at there.same
+
+  module _ (what : Look) (node : NodeRef) where
+    abbrev IsLike : FullNodeId → Type 0
+    IsLike run = AreSame what (world_in r) run (id_at node)
+
+    -- what is found of the runs from this piece on is found of all
+    pub record IsFarAs (p : Piece) : Type 0 where
+      pub there : IsNextPiece r (pieces_from r p) p
+      pub all : All IsLike (runs_in (text_in r) (pieces_from r p)) → All IsLike (passed_runs (text_in r) (range_at r))
+      pub some : (run : FullNodeId) → Contains (runs_in (text_in r) (pieces_from r p)) run → Contains (passed_runs (text_in r) (range_at r)) run
+
+    pub look_starts : (p : Piece) → IsNextPiece r (pieces (text_in r) (range_at r)) p → IsFarAs p
+    look_starts p first =
+        let same : runs_in (text_in r) (pieces (text_in r) (range_at r)) ≡ runs_in (text_in r) (pieces_from r p) = ap (runs_in (text_in r)) first.is in
+        record {
+          there = as_next r (pieces (text_in r) (range_at r)) p first;
+          all = λ h. subst (All IsLike) (sym same) h;
+          some = λ run h. subst (λ xs. Contains xs run) (sym same) h;
+        }
+
+    module _ (at : world_at node ≡ world_in r) (p : Piece) (far : IsFarAs p) (v : NodeRef) (b : Bool) (is : run_of v ≡ sent_of p.run) (tested : (b ≡ true) ↔ AreSame what (world_at node) (id_at v) (id_at node)) where
+      tested_here : (b ≡ true) ↔ IsLike (run_id p.run)
+      tested_here = subst (λ id. (b ≡ true) ↔ AreSame what (world_in r) id (id_at node)) (ap (λ (s : SentRun). s.id) is) (subst (λ w. (b ≡ true) ↔ AreSame what w (id_at v) (id_at node)) at tested)
+
+      abbrev past : List FullNodeId
+      past = runs_in (text_in r) (pieces_past (text_in r) (range_at r) (number_in p.run))
+
+      all_past : b ≡ true → All IsLike past → All IsLike (passed_runs (text_in r) (range_at r))
+      all_past e h = far.all (subst (All IsLike) (sym (run_first p far.there.same)) (All-cons IsLike (run_id p.run) past (tested_here.0 e) h))
+
+      pub look_stops : b ≡ false → SomeDiffers what r (id_at node)
+      look_stops e = (run_id p.run, far.some (run_id p.run) (contains_own p far.there.same), is_not b (IsLike (run_id p.run)) tested_here e)
+
+      pub look_ends : b ≡ true → pieces_past (text_in r) (range_at r) (number_in p.run) ≡ [] → All IsLike (passed_runs (text_in r) (range_at r))
+      look_ends e none = all_past e (subst (All IsLike) (sym (ap (runs_in (text_in r)) none)) (all_of_none IsLike))
+
+      pub look_goes_on : b ≡ true → (n : Piece) → IsNextPiece r (pieces_past (text_in r) (range_at r) (number_in p.run)) n → IsFarAs n
+      look_goes_on e n next =
+          let same : past ≡ runs_in (text_in r) (pieces_from r n) = ap (runs_in (text_in r)) next.is in
+          record {
+            there = as_next r (pieces_past (text_in r) (range_at r) (number_in p.run)) n next;
+            all = λ h. all_past e (subst (All IsLike) (sym same) h);
+            some = λ run h. far.some run (subst (λ xs. Contains xs run) (sym (run_first p far.there.same)) (later (subst (λ xs. Contains xs run) (sym same) h)));
+          }
+        where
+          later : {run : FullNodeId} → Contains past run → Contains (run_id p.run ∷ past) run
+          later h = (suc h.0, (let l = h.1 in omega (arith, l)), h.2)
+
+  -- what is said of all
+  module _ {A : Type 0} (of : FullNodeId → A) (p : Piece) (v : NodeRef) (first : IsNextPiece r (pieces (text_in r) (range_at r)) p) (is : run_of v ≡ sent_of p.run) where
+    pub all_one : (x : A) → x ≡ of (id_at v) → All (λ run. of run ≡ of (id_at v)) (passed_runs (text_in r) (range_at r)) → All (λ run. of run ≡ x) (passed_runs (text_in r) (range_at r))
+    all_one x e all = λ k d h. all k d h ∙ sym e
+
+    pub not_one : (run : FullNodeId) × Contains (passed_runs (text_in r) (range_at r)) run × ¬ (of run ≡ of (id_at v)) → IsPropertyOf of (text_in r) (range_at r) Mixed
+    not_one h =
+        let own : Contains (passed_runs (text_in r) (range_at r)) (id_at v) =
+        subst (λ id. Contains (passed_runs (text_in r) (range_at r)) id) (sym (ap (λ (s : SentRun). s.id) is))
+        (subst (λ ps. Contains (runs_in (text_in r) ps) (run_id p.run)) (sym first.is) (contains_own p first.same)) in
+        (h.0, id_at v, h.1, own, h.2)
