@@ -45,3 +45,8 @@ pub mod Separators
 pub mod PositionKeys
 pub mod LineCounts
 pub mod RangeSteps
+pub mod NamedRuns
+pub mod LineRanges
+pub mod LineSteps
+pub mod FoundSteps
+pub mod WeakSteps

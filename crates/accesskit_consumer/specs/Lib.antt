@@ -37,3 +37,6 @@ pub mod SamePositions
 pub mod Edges
 pub mod TextRanges
 pub mod Pieces
+pub mod SameRanges
+pub mod FoundRanges
+pub mod WeakRanges
