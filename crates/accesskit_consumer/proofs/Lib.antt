@@ -58,3 +58,8 @@ pub mod GlobalIndexes
 pub mod CutPieces
 pub mod PieceSteps
 pub mod LookSteps
+pub mod NamedRuns
+pub mod LineRanges
+pub mod LineSteps
+pub mod FoundSteps
+pub mod WeakSteps

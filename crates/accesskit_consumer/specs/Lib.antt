@@ -45,3 +45,6 @@ pub mod Pieces
 pub mod GlobalIndexes
 pub mod PieceTexts
 pub mod RangeProperties
+pub mod SameRanges
+pub mod FoundRanges
+pub mod WeakRanges

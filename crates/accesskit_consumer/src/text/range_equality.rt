@@ -1,0 +1,51 @@
+//! When ranges are equal.
+ghost use Rattle.std.specs.Prelude.{◌≡◌, ◌↔◌, IsTrue};
+ghost use Rattle.accesskit_consumer.specs.SameRanges.{end_of, ends_of, same_text_range, same_text_range_laws, same_text_range_equivalence};
+
+use crate::node::same::is_same;
+use crate::text::edges::Edge;
+use crate::text::range::TextRange;
+
+impl Edge<'_> {
+    /// Whether both are at one index of one run.
+    fn is_at(self, other: Edge<'_>) -> bool
+        ensures { IsTrue result ↔ (end_of self.entry ≡ end_of other.entry) }
+    {
+        if !is_same(self.spot.member.id, other.spot.member.id) {
+            return false;
+        }
+        self.index == other.index
+    }
+}
+
+impl TextRange<'_> {
+    /// Whether the root and both ends agree.
+    fn same(self, other: TextRange<'_>) -> bool
+        ensures { IsTrue result ↔ (ends_of self.entry ≡ ends_of other.entry) }
+    {
+        if !is_same(self.root.id, other.root.id) {
+            return false;
+        }
+        if !self.first.is_at(other.first) {
+            return false;
+        }
+        self.last.is_at(other.last)
+    }
+}
+
+impl PartialEq for TextRange<'_> {
+    ghost eq = { same_text_range };
+
+    ghost laws = { same_text_range_laws };
+
+    fn eq(&self, other: &TextRange<'_>) -> bool
+        ensures value { result ≡ same_text_range self.now other.now }
+        ensures exact { IsTrue result ↔ (ends_of self.now ≡ ends_of other.now) }
+    {
+        (*self).same(*other)
+    }
+}
+
+impl Eq for TextRange<'_> {
+    ghost laws = { same_text_range_equivalence };
+}
