@@ -1,4 +1,4 @@
-use Rattle.std.proofs.Common.{◌≡◌, ◌∙◌, sym, refl, subst, ap}
+use Rattle.std.proofs.Common.{◌∙◌, sym, refl, subst, ap}
 use Rattle.model.specs.Geometry.{direct_transform}
 use Rattle.schema.specs.declared.geometry.WideTranslation.{WideTranslation}
 use Rattle.accesskit_consumer.specs.Nodes.{world_at, id_at}
