@@ -28,12 +28,16 @@ pub static SCRIPTS: [Script; 10] = [
     Script {
         name: "a check box that two labels name, and a field of two lines",
         input: "update root focus=0 root=0\nnode 0 Window children=1,2,3,4\nnode 1 CheckBox labelled=2,3,9\nnode 2 Label value=\"Check email every\"\nnode 3 Label value=\"\\\\minutes\\n\"\nnode 4 MultilineTextInput children=5,6\nnode 5 TextRun chars=1,1,1 value=\"ab\\n\" words=0\nnode 6 TextRun words=0 value=\"c\u{e4}\" chars=1,2\nend\nlabel 1 root\nvalue 4 root\ntext 4 root\ntext 5 root\nupdate root focus=0\nnode 5 TextRun value=\"ab\\n\" chars=1,1,1 next=6\nend\ntext 4 root\nupdate root focus=0\nnode 6 TextRun value=\"cd\" chars=1,1 prev=5\nend\ntext 4 root\n",
-        outputs: &["ok\n\"Check email every \\\\minutes\\n\"\nnone\n\"ab\\nc\u{e4}\"\nnone\nupdated 0:5\nok\nnone\nupdated 0:6\nok\n\"ab\\ncd\"\n"],
+        outputs: &[
+            "ok\n\"Check email every \\\\minutes\\n\"\nnone\n\"ab\\nc\u{e4}\"\nnone\nupdated 0:5\nok\nnone\nupdated 0:6\nok\n\"ab\\ncd\"\n",
+        ],
     },
     Script {
         name: "a password is shown as bullets",
         input: "update root focus=0 root=0\nnode 0 PasswordInput children=1 value=\"secret\"\nnode 1 TextRun value=\"p\u{e4}ss\" chars=1,2,1,1\nend\nvalue 0 root\ntext 0 root\n",
-        outputs: &["ok\n\"\u{2022}\u{2022}\u{2022}\u{2022}\"\n\"\u{2022}\u{2022}\u{2022}\u{2022}\"\n"],
+        outputs: &[
+            "ok\n\"\u{2022}\u{2022}\u{2022}\u{2022}\"\n\"\u{2022}\u{2022}\u{2022}\u{2022}\"\n",
+        ],
     },
     Script {
         name: "the sets of a list box, and with its first option hidden",

@@ -16,7 +16,10 @@ static ILL_FORMED: [(&str, &[Run]); 10] = [
         "a link that isn't answered",
         &[Linked("a", None, Some(2)), Linked("b", None, None)],
     ),
-    ("a run that links to itself", &[Linked("a", Some(1), Some(1))]),
+    (
+        "a run that links to itself",
+        &[Linked("a", Some(1), Some(1))],
+    ),
     (
         "a link past a run",
         &[
@@ -25,7 +28,10 @@ static ILL_FORMED: [(&str, &[Run]); 10] = [
             Linked("c", Some(1), None),
         ],
     ),
-    ("a character cut in two", &[Alone("a\u{e4}", &[1, 1, 1], &[])]),
+    (
+        "a character cut in two",
+        &[Alone("a\u{e4}", &[1, 1, 1], &[])],
+    ),
     ("a character of no bytes", &[Alone("ab", &[1, 1, 0], &[])]),
     ("lengths short of the value", &[Alone("ab", &[1], &[])]),
     ("a word that starts twice", &[Alone("ab", &[1, 1], &[0, 0])]),
@@ -34,7 +40,10 @@ static ILL_FORMED: [(&str, &[Run]); 10] = [
         "an empty run before another",
         &[Alone("", &[], &[]), Alone("ab", &[1, 1], &[])],
     ),
-    ("too few positions", &[Measured("abc", &[1, 1, 1], &[0, 10])]),
+    (
+        "too few positions",
+        &[Measured("abc", &[1, 1, 1], &[0, 10])],
+    ),
 ];
 
 /// All of the first run.

@@ -5,7 +5,10 @@ use crate::written::Run::Alone;
 use crate::written::{at, between, run_node};
 use accesskit_consumer::text::{TextPosition, TextRange, TextRangePropertyValue};
 use accesskit_consumer::tree::Tree;
-use schema::{Color, Node, NodeId, Role, TextAlign, TextDecoration, TextDecorationStyle, TextDirection, VerticalOffset};
+use schema::{
+    Color, Node, NodeId, Role, TextAlign, TextDecoration, TextDecorationStyle, TextDirection,
+    VerticalOffset,
+};
 use std::alloc::{AllocError, Global};
 use std::test::Fail;
 

@@ -67,14 +67,22 @@ fn assert_position(rt: &impl Abort, text: &PlainText, position: TextPosition) {
 }
 
 /// Asserts the indexes of a position: how long the characters before it are, and how many lines end before it.
-fn assert_indexes(rt: &impl Abort, text: &PlainText, lengths: &[(usize, usize)], position: TextPosition) {
+fn assert_indexes(
+    rt: &impl Abort,
+    text: &PlainText,
+    lengths: &[(usize, usize)],
+    position: TextPosition,
+) {
     let at = spot(position);
     let mut wanted = (0usize, 0usize);
     for (scalars, units) in lengths.iter().take(text.offset(at)) {
         wanted.0 = wanted.0.saturating_add(*scalars);
         wanted.1 = wanted.1.saturating_add(*units);
     }
-    let given = (position.to_global_usv_index(), position.to_global_utf16_index());
+    let given = (
+        position.to_global_usv_index(),
+        position.to_global_utf16_index(),
+    );
     assert!(rt; given == wanted, "{at:?}");
     assert!(rt; position.to_line_index() == text.line_index(at.0), "{at:?}");
 }
@@ -139,10 +147,16 @@ fn assert_range(
     } else {
         (text.to_start(start), end)
     };
-    assert!(rt; (spot(range.start()), spot(range.end())) == wanted, "{start:?} {end:?}");
+    assert!(rt;
+        (spot(range.start()), spot(range.end())) == wanted,
+        "{start:?} {end:?}"
+    );
     assert!(rt; range.is_degenerate() == is_degenerate, "{start:?} {end:?}");
     let wanted = text.text(alloc, text.offset(start), text.offset(end))?;
-    assert!(rt; range.text(alloc)?.as_str() == wanted.as_str(), "{start:?} {end:?}");
+    assert!(rt;
+        range.text(alloc)?.as_str() == wanted.as_str(),
+        "{start:?} {end:?}"
+    );
     let mut range = to.to_degenerate_range();
     range.set_start(from);
     let wanted = if is_degenerate {
@@ -150,7 +164,10 @@ fn assert_range(
     } else {
         (text.to_start(start), end)
     };
-    assert!(rt; (spot(range.start()), spot(range.end())) == wanted, "{start:?} {end:?}");
+    assert!(rt;
+        (spot(range.start()), spot(range.end())) == wanted,
+        "{start:?} {end:?}"
+    );
     Ok(())
 }
 

@@ -48,7 +48,11 @@ pub struct PlainText {
 
 impl PlainText {
     /// A text of up to four runs of up to four characters each.
-    pub fn made_up(alloc: Global, dice: &mut Dice, is_password: bool) -> Result<PlainText, AllocError> {
+    pub fn made_up(
+        alloc: Global,
+        dice: &mut Dice,
+        is_password: bool,
+    ) -> Result<PlainText, AllocError> {
         let mut runs = Vec::new(alloc);
         let count = dice.index(3).saturating_add(1);
         for number in 1..=count {
@@ -224,9 +228,7 @@ impl PlainText {
             is_end && self.ends_line(run),
             is_start && self.begins_paragraph(run),
             is_end && self.ends_paragraph(run),
-            self.offset(spot) < self.total()
-                && self.is_paragraph_end(after)
-                && after != self.end(),
+            self.offset(spot) < self.total() && self.is_paragraph_end(after) && after != self.end(),
             spot == self.start(),
             spot == self.start(),
             spot == self.end(),

@@ -7,7 +7,8 @@ use accesskit_consumer::node::NodeRef;
 use accesskit_consumer::tree::Tree;
 use plain_worlds::recorder::Recorder;
 use schema::{
-    Node, NodeId, Point, Role, TextDirection, TextPosition, TextSelection, TreeId, TreeUpdate, WideRect,
+    Node, NodeId, Point, Role, TextDirection, TextPosition, TextSelection, TreeId, TreeUpdate,
+    WideRect,
 };
 use std::alloc::{AllocError, Global};
 use std::cmp::Ordering;
@@ -118,7 +119,13 @@ fn nothing_has_one_place(rt: HostRuntime) -> Result<(), Fail> {
 
 #[test]
 fn empty_run_is_the_last_line(rt: HostRuntime) -> Result<(), Fail> {
-    let tree = written(rt.alloc(), Role::MultilineTextInput, &EMPTY_LAST, None, None)?;
+    let tree = written(
+        rt.alloc(),
+        Role::MultilineTextInput,
+        &EMPTY_LAST,
+        None,
+        None,
+    )?;
     let root = shown(tree.state().view(), 0)?;
     let last = at(root, 3)?;
     let before = last.biased_to_end();
@@ -168,7 +175,9 @@ fn indexes_count_scalars_and_units(rt: HostRuntime) -> Result<(), Fail> {
     let end = root.document_end();
     assert!(rt; (end.to_global_usv_index(), end.to_global_utf16_index()) == (3, 4));
     for (unit, index) in [(0usize, 0usize), (1, 1), (2, 1), (3, 2), (4, 3)] {
-        let found = root.text_position_from_global_utf16_index(unit).ok_or("no position")?;
+        let found = root
+            .text_position_from_global_utf16_index(unit)
+            .ok_or("no position")?;
         assert!(rt; named(found) == (1, index), "{unit}");
     }
     assert!(rt; root.text_position_from_global_utf16_index(5).is_none());
@@ -230,7 +239,13 @@ fn selections_are_ordered(rt: HostRuntime) -> Result<(), Fail> {
 #[test]
 fn selections_of_other_nodes_are_none(rt: HostRuntime) -> Result<(), Fail> {
     let alloc = rt.alloc();
-    let tree = written(alloc, Role::TextInput, &PAIRS, None, Some(selected((9, 0), (1, 7))))?;
+    let tree = written(
+        alloc,
+        Role::TextInput,
+        &PAIRS,
+        None,
+        Some(selected((9, 0), (1, 7))),
+    )?;
     let root = shown(tree.state().view(), 0)?;
     assert!(rt; root.text_selection().is_none());
     assert!(rt; root.text_selection_anchor().is_none());

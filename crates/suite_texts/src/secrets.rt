@@ -19,7 +19,10 @@ static LINES: [[Run; 2]; 2] = [
 ];
 
 static WORDS: [[Run; 2]; 2] = [
-    [Alone("p\u{e4}", &[1, 2], &[0, 1]), Alone("ss", &[1, 1], &[])],
+    [
+        Alone("p\u{e4}", &[1, 2], &[0, 1]),
+        Alone("ss", &[1, 1], &[]),
+    ],
     [Alone("xy", &[1, 1], &[0, 1]), Alone("zw", &[1, 1], &[])],
 ];
 

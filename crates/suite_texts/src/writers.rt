@@ -1,5 +1,7 @@
 //! Writers that fail: they have a beginning of the text then, and hear no more.
 
+ghost use Rattle.std.specs.String.{string_bytes};
+
 use crate::planting::{brought, shown};
 use crate::written::Run::{self, Alone};
 use crate::written::{between, written};
@@ -8,8 +10,6 @@ use accesskit_consumer::tree::Tree;
 use schema::{Node, NodeId, Role, TextBuffer, TextFault, TextWrite};
 use std::alloc::{AllocError, Global};
 use std::test::Fail;
-
-ghost use Rattle.std.specs.String.{string_bytes};
 
 /// A writer whose calls fail once so many were made.
 #[derive(Drop)]
@@ -99,8 +99,14 @@ fn masked_text_is_cut_between_bullets(rt: HostRuntime) -> Result<(), Fail> {
         let mut writer = Failing::new(alloc, fails_at);
         assert!(rt; range.write_text(&mut writer).is_err(), "{fails_at}");
         let bullets = usize::try_from(fails_at).unwrap_or(0).saturating_sub(1);
-        assert!(rt; writer.text.len() == bullets.saturating_mul(BULLET), "{fails_at}");
-        assert!(rt; (writer.calls, writer.failures) == (fails_at, 1), "{fails_at}");
+        assert!(rt;
+            writer.text.len() == bullets.saturating_mul(BULLET),
+            "{fails_at}"
+        );
+        assert!(rt;
+            (writer.calls, writer.failures) == (fails_at, 1),
+            "{fails_at}"
+        );
     }
     let mut writer = Failing::new(alloc, 5);
     assert!(rt; range.write_text(&mut writer).is_ok());
@@ -124,7 +130,10 @@ fn label_is_cut_at_a_fault(rt: HostRuntime) -> Result<(), Fail> {
             }
             Err(TextFault) => {
                 assert!(rt; !has_ended && label.starts_with(writer.text.as_str()));
-                assert!(rt; (writer.calls, writer.failures) == (fails_at, 1), "{fails_at}");
+                assert!(rt;
+                    (writer.calls, writer.failures) == (fails_at, 1),
+                    "{fails_at}"
+                );
             }
         }
     }

@@ -114,7 +114,10 @@ pub fn at<'a>(root: NodeRef<'a>, index: usize) -> Result<TextPosition<'a>, Fail>
     if !root.supports_text_ranges() {
         return Err("no text".into());
     }
-    Ok(root.text_position_from_global_usv_index(index).ok_or("no position")?)
+    Ok(
+        root.text_position_from_global_usv_index(index)
+            .ok_or("no position")?,
+    )
 }
 
 /// The range from one index in scalars to another.
