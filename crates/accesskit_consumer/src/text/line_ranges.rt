@@ -40,8 +40,8 @@ impl<'a> Run<'a> {
         requires text { supports_text_ranges (run_world self) (root_id self) ≡ true }
         ensures { let t = text_around self.entry in
             IsRangeFound (run_world self.entry) (root_id self.entry)
-                (if nat_lt (start_of t (number_in self.entry)) (total t)
-                    then Some (record { start = document_end t; end = document_end t }) else None) result }
+            (if nat_lt (start_of t (number_in self.entry)) (total t)
+            then Some (record { start = document_end t; end = document_end t }) else None) result }
     {
         if self.character_count() == 0 {
             return None;
