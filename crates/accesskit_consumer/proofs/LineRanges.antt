@@ -1,12 +1,11 @@
 -- The lines of a text, one after another.
-use Rattle.std.proofs.Common.{◌≡◌, ℕ, zero, suc, ◌+◌, ◌-◌, ◌<◌, ◌≤◌, Bool, true, false, cond, List, [], ◌∷◌, length, drop, get_or, Some, refl, sym, ap, subst, ◌∙◌, arith, add-one, eq-eqb}
-use Rattle.std.specs.Prelude.{None, ◌==◌, ◌&&◌, nat_lt, nat_le, filter, zip, slice_get, Option, option_map, if◌then◌else◌}
-use Rattle.std.specs.Option.{option_map_or, option_or}
-use Rattle.std.specs.List.{range_with_len}
+use Rattle.std.proofs.Common.{◌≡◌, ℕ, zero, suc, ◌+◌, ◌-◌, ◌<◌, ◌≤◌, Bool, true, false, cond, List, [], ◌∷◌, length, drop, get_or, Some, refl, sym, ap, subst, ◌∙◌, arith, add-one}
+use Rattle.std.specs.Prelude.{None, ◌==◌, ◌&&◌, nat_lt, filter, zip, slice_get, Option, option_map, if◌then◌else◌}
+use Rattle.std.specs.Option.{option_or}
 use Rattle.std.proofs.Math.Seq.{drop-cons}
 use Rattle.std.proofs.Math.ListN.{drop_of_length-le}
-use Rattle.std.proofs.lemmas.Bool.{ltb-true, ltb-false, lt-ltb, le-ltb, leb-false, eqb-true}
-use Rattle.std.proofs.lemmas.Option.{same_Some, slice_get_past}
+use Rattle.std.proofs.lemmas.Bool.{ltb-true, ltb-false, lt-ltb, le-ltb}
+use Rattle.std.proofs.lemmas.Option.{same_Some}
 use Rattle.std.proofs.lemmas.List.FromFn.{get_or-range_with_len, length-range_with_len}
 use Rattle.model.specs.FlatText.{FlatText, Position, run_numbers, count_in, total, start_of, start_at, end_at, document_end, first_run, begins_line, ends_line, lines}
 use Rattle.model.specs.Moves.{has_caret_line}
@@ -17,7 +16,6 @@ use Rattle.model.proofs.Text.Sides.{start_rises}
 use Rattle.model.proofs.Text.TextFacts.{start_next}
 use Rattle.accesskit_consumer.specs.FoundRanges.{range_of_line}
 use Rattle.accesskit_consumer.proofs.CharacterMoves.{start_of_all}
-use Rattle.accesskit_consumer.proofs.Boundaries.{differ_tested}
 
 -- what the head of the rest of a list says
 pub record IsHead {A : Type 0} (xs : List A) (k : ℕ) (y : A) (ys : List A) : Type 0 where

@@ -1,8 +1,8 @@
 -- The range of a line, from run to run.
-use Rattle.std.proofs.Common.{◌≡◌, ℕ, zero, suc, ◌+◌, ◌<◌, ◌≤◌, Bool, true, false, [], ◌∷◌, length, drop, Some, ◌-◌, refl, sym, ap, subst, ◌∙◌, arith, add-one}
+use Rattle.std.proofs.Common.{◌≡◌, ℕ, zero, suc, ◌+◌, ◌<◌, ◌≤◌, Bool, true, [], length, drop, Some, ◌-◌, refl, sym, ap, ◌∙◌, arith, add-one}
 use Rattle.std.specs.Prelude.{None, nat_lt, Option, if◌then◌else◌, slice_get}
 use Rattle.model.specs.TextRuns.{said_count, supports_text_ranges}
-use Rattle.model.specs.FlatText.{FlatText, Position, count_in, start_of, total, start_at, end_at, document_end, first_run, begins_line, ends_line, lines}
+use Rattle.model.specs.FlatText.{Position, count_in, start_of, total, document_end, first_run, begins_line, ends_line, lines}
 use Rattle.model.specs.Ranges.{Range}
 use Rattle.model.specs.TextLaws.{IsWhole}
 use Rattle.model.proofs.Text.TextFacts.{is_text}
@@ -15,7 +15,7 @@ use Rattle.accesskit_consumer.specs.Nodes.{world_at, id_at}
 use Rattle.accesskit_consumer.specs.Runs.{root_of, run_world, root_id, sent_of, ids_after, IsFirstOf, IsAfter}
 use Rattle.accesskit_consumer.specs.RunNumbers.{number_in, text_around}
 use Rattle.accesskit_consumer.specs.Positions.{root_at, text_of, position_at, IsAt}
-use Rattle.accesskit_consumer.specs.TextRanges.{range_at, IsRangeOf}
+use Rattle.accesskit_consumer.specs.TextRanges.{IsRangeOf}
 use Rattle.accesskit_consumer.specs.FoundRanges.{IsRangeFound}
 use Rattle.accesskit_consumer.proofs.FlatRuns.{count_at_number, runs_counted, first_number, last_number, number_next, more_runs}
 use Rattle.accesskit_consumer.proofs.FoundSteps.{range_absent}

@@ -1,6 +1,6 @@
 -- What is kept of a range, and looked for in a later state.
-use Rattle.std.proofs.Common.{◌≡◌, Bool, true, false, Some, refl, sym, ap, subst, ◌∙◌}
-use Rattle.std.specs.Prelude.{None, Option, is_some, ◌||◌, ◌&&◌, nat_lt, length}
+use Rattle.std.proofs.Common.{◌≡◌, Bool, true, false, Some, refl, sym, ap, subst}
+use Rattle.std.specs.Prelude.{None, Option, is_some, ◌||◌, nat_lt, length}
 use Rattle.std.specs.Option.{option_map_or}
 use Rattle.model.specs.declared.FullNodeId.{FullNodeId}
 use Rattle.model.specs.World.{World, IsNode, data_of}
@@ -9,7 +9,7 @@ use Rattle.model.specs.Beside.{is_below}
 use Rattle.model.specs.Lists.{IsWithin}
 use Rattle.model.specs.RoleClasses.{holds_text}
 use Rattle.model.specs.Upward.{says}
-use Rattle.model.specs.TextRuns.{sent_runs, has_runs, supports_text_ranges}
+use Rattle.model.specs.TextRuns.{sent_runs, supports_text_ranges}
 use Rattle.model.proofs.Forest.WaysUp.{within_is_tested}
 use Rattle.model.proofs.Text.TextFacts.{both, is_text}
 use Rattle.accesskit_consumer.specs.declared.node.node_ref.NodeRef.{NodeRef}

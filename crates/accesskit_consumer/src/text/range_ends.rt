@@ -2,7 +2,7 @@
 ghost use Rattle.std.specs.Prelude.{◌≡◌, ◌≤◌, true};
 ghost use Rattle.model.specs.TextRuns.{supports_text_ranges};
 ghost use Rattle.model.specs.FlatText.{offset};
-ghost use Rattle.model.specs.Ranges.{Range, range_between, is_degenerate, document_range, with_start, with_end, IsRaw};
+ghost use Rattle.model.specs.Ranges.{range_between, is_degenerate, document_range, with_start, with_end, IsRaw};
 ghost use Rattle.accesskit_consumer.specs.Nodes.{world_at, id_at};
 ghost use Rattle.accesskit_consumer.specs.Positions.{IsAt, root_at, text_of, text_at, position_at};
 ghost use Rattle.accesskit_consumer.specs.TextRanges.{IsRangeOf, world_in, root_in, text_in, range_at};
@@ -39,7 +39,8 @@ impl<'a> TextRange<'a> {
     pub(super) fn between(first: TextPosition<'a>, second: TextPosition<'a>) -> TextRange<'a>
         requires world { world_at (root_at second) ≡ world_at (root_at first) }
         requires root { id_at (root_at second) ≡ id_at (root_at first) }
-        ensures range { IsRangeOf (world_at (root_at first.entry)) (id_at (root_at first.entry)) (range_between (text_at first.entry) (position_at first.entry) (position_at second.entry)) result }
+        ensures range { let t = text_at first.entry in IsRangeOf (world_at (root_at first.entry)) (id_at (root_at first.entry))
+            (range_between t (position_at first.entry) (position_at second.entry)) result }
     {
         if second.offset() < first.offset() {
             return TextRange::over(second, first);

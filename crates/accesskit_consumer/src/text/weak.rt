@@ -46,8 +46,8 @@ impl TextPosition<'_> {
     /// What is kept of the position for comparing: the index of each child on the way from the root to its run, on
     /// the start side, and the index there.
     fn comparable(self, alloc: Global) -> Result<(Vec<usize>, usize), AllocError>
-        ensures { IfOk result (λ kept.
-            comparable (world_at (root_at self.entry)) (id_at (root_at self.entry)) (position_at self.entry) ≡ Some (kept_of kept)) }
+        ensures { let n = root_at self.entry in IfOk result (λ kept.
+            comparable (world_at n) (id_at n) (position_at self.entry) ≡ Some (kept_of kept)) }
     {
         let side = self.biased_to_start();
         let node = side.inner_node();

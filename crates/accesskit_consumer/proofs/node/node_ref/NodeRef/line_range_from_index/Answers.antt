@@ -1,4 +1,4 @@
-use Rattle.std.proofs.Common.{◌≡◌, ◌≤◌, [], Some, sym, ap, subst, ◌∙◌, arith}
+use Rattle.std.proofs.Common.{◌≡◌, [], Some, sym, ap, subst, ◌∙◌, arith}
 use Rattle.std.specs.Prelude.{MatchOption, slice_get}
 use Rattle.model.specs.TextRuns.{run_ids}
 use Rattle.model.specs.FlatText.{lines, start_at, end_at}
@@ -7,7 +7,6 @@ use Rattle.accesskit_consumer.specs.Nodes.{world_at, id_at}
 use Rattle.accesskit_consumer.specs.Runs.{IsFirstOf}
 use Rattle.accesskit_consumer.specs.RunNumbers.{number_in}
 use Rattle.accesskit_consumer.specs.Positions.{text_of}
-use Rattle.accesskit_consumer.specs.FoundRanges.{range_of_line}
 use Rattle.accesskit_consumer.proofs.TextEnds.{some_run}
 use Rattle.accesskit_consumer.proofs.LineRanges.{line_is_there}
 use Rattle.accesskit_consumer.proofs.LineSteps.{at_first_line, line_rises, line_there, no_more_lines, last_line, next_at_line, fewer_left}

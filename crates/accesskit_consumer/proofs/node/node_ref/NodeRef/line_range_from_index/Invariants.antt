@@ -1,4 +1,4 @@
-use Rattle.std.proofs.Common.{◌≡◌, ◌≤◌, length}
+use Rattle.std.proofs.Common.{◌≤◌, length}
 use Rattle.accesskit_consumer.specs.Runs.{ids_after}
 use Rattle.accesskit_consumer.proofs.LineSteps.{IsAtLine}
 use Rattle.accesskit_consumer.proofs.node.node_ref.NodeRef.line_range_from_index.Given as goal
