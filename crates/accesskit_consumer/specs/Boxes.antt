@@ -5,7 +5,7 @@ use Rattle.schema.specs.declared.values.TextDirection.{TextDirection}
 use Rattle.model.specs.TextRuns.{said_count}
 use Rattle.model.specs.FlatText.{Metrics}
 use Rattle.model.specs.Geometry.{moved_rect, ordered_rect}
-use Rattle.model.specs.Ranges.{piece_rect}
+use Rattle.model.specs.Ranges.{reach_from, reach_to, cut_along, piece_rect}
 use Rattle.accesskit_consumer.specs.declared.text.pieces.Piece.{Piece}
 use Rattle.accesskit_consumer.specs.Runs.{sent_of}
 use Rattle.accesskit_consumer.specs.Pieces.{piece_data}
@@ -14,6 +14,10 @@ use Rattle.accesskit_consumer.specs.Measures.{shown_in, IsAlong}
 -- where a piece is shown, by what is told of its run
 abbrev pub box_of : Piece → Rect → Metrics → TextDirection → WideRect
 box_of p b m d = ordered_rect (moved_rect (piece_rect b m d (said_count (sent_of p.run)) (piece_data p)) (shown_in p.run).move)
+
+-- what a piece cuts out of its run, along a rectangle
+abbrev pub cut_of : Piece → Rect → Metrics → TextDirection → WideRect
+cut_of p b m d = cut_along d b (reach_from m (said_count (sent_of p.run)) p.from) (reach_to m (said_count (sent_of p.run)) (piece_data p))
 
 -- each edge is no farther than a character of a run and the run's own edge
 pub record IsOnRun (r : WideRect) : Type 0 where

@@ -2,14 +2,14 @@
 ghost use Rattle.std.specs.Prelude.{◌≡◌, ◌==◌, ◌&&◌, ◌+ℤ◌, ◌-ℤ◌, IfOk};
 ghost use Rattle.model.specs.TextRuns.{said_count};
 ghost use Rattle.model.specs.Geometry.{whole_rect, moved_rect};
-ghost use Rattle.model.specs.Ranges.{reach_from, reach_to, cut_along, piece_rect, piece_box, bounding_boxes};
+ghost use Rattle.model.specs.Ranges.{cut_along, piece_rect, piece_box, bounding_boxes};
 ghost use Rattle.accesskit_consumer.specs.Reach.{IsInReach};
 ghost use Rattle.accesskit_consumer.specs.Runs.{sent_of};
 ghost use Rattle.accesskit_consumer.specs.RunNumbers.{text_around};
 ghost use Rattle.accesskit_consumer.specs.TextRanges.{text_in, range_at};
 ghost use Rattle.accesskit_consumer.specs.Pieces.{piece_data};
 ghost use Rattle.accesskit_consumer.specs.Measures.{measures, shown_in, IsAlong};
-ghost use Rattle.accesskit_consumer.specs.Boxes.{box_of, IsOnRun};
+ghost use Rattle.accesskit_consumer.specs.Boxes.{box_of, cut_of, IsOnRun};
 
 use crate::node::geometry::ordered;
 use crate::text::metrics::Metrics;
@@ -138,8 +138,7 @@ impl Piece<'_> {
 
     /// The rectangle of the piece within its run, along which it is cut.
     fn cut(self, rect: Rect, metrics: Metrics<'_>, direction: TextDirection) -> WideRect
-        ensures exact { let count = said_count (sent_of self.entry.run) in
-            result ≡ cut_along direction rect (reach_from (measures metrics.entry) count self.entry.from) (reach_to (measures metrics.entry) count (piece_data self.entry)) }
+        ensures exact { result ≡ cut_of self.entry rect (measures metrics.entry) direction }
         ensures near { IsOnRun result }
     {
         let count = self.run.character_count();
@@ -180,9 +179,9 @@ impl Piece<'_> {
 }
 
 impl TextRange<'_> {
-    /// Where the range is shown: one box for each run that it passes, in order; of a range with nothing in it one, where
-    /// its start is. None at all if one of the runs lacks a rectangle, the places or widths of its characters, or a
-    /// direction. It takes memory.
+    /// Where the range is shown, in units, as the root of all sees it: one box for each run that it passes, in order;
+    /// of a range with nothing in it one, where its start is. None at all if one of the runs lacks a rectangle, the
+    /// places or widths of its characters, or a direction. It takes memory.
     pub fn bounding_boxes(&self, alloc: Global) -> Result<Vec<WideRect>, AllocError>
         ensures { IfOk result (λ boxes. boxes.items ≡ bounding_boxes (text_in self.now) (range_at self.now)) }
     {
