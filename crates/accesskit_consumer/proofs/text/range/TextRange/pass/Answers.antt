@@ -1,8 +1,7 @@
-use Rattle.std.proofs.Common.{of_calls, sym}
-use Rattle.model.specs.Ranges.{pieces}
+use Rattle.std.proofs.Common.{of_calls}
 use Rattle.accesskit_consumer.specs.RunNumbers.{number_in}
 use Rattle.accesskit_consumer.specs.TextRanges.{text_in, range_at}
-use Rattle.accesskit_consumer.specs.Pieces.{piece_data, pieces_past}
+use Rattle.accesskit_consumer.specs.Pieces.{pieces_past}
 use Rattle.accesskit_consumer.proofs.PieceSteps.{pieces_from, as_next, part_there}
 use Rattle.accesskit_consumer.proofs.Passing.{enough_past, call_is, passed_with, passed_on, passed_all}
 use Rattle.accesskit_consumer.proofs.text.range.TextRange.pass.Goals as goal
