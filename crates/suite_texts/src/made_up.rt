@@ -88,11 +88,17 @@ fn assert_indexes(
     assert!(rt; position.to_line_index() == text.line_index(at.0), "{at:?}");
 }
 
-/// The spot before the character that holds an index, by the characters' lengths.
-fn holding(text: &PlainText, lengths: impl Iterator<Item = usize>, index: usize) -> Option<Spot> {
+/// The spot before the character that holds an index, by the characters' lengths in scalars or in units.
+fn holding(
+    text: &PlainText,
+    lengths: &[(usize, usize)],
+    is_in_units: bool,
+    index: usize,
+) -> Option<Spot> {
     let mut before = 0usize;
     let mut offset = 0usize;
-    for length in lengths {
+    for (scalars, units) in lengths {
+        let length = if is_in_units { *units } else { *scalars };
         before = before.saturating_add(length);
         if index < before {
             return Some(text.start_side(offset));
@@ -194,13 +200,13 @@ fn assert_numbered(rt: &impl Abort, root: NodeRef, text: &PlainText, lengths: &[
         return;
     }
     for index in 0..24usize {
-        let wanted = holding(text, lengths.iter().map(|both| both.0), index);
+        let wanted = holding(text, lengths, false, index);
         let given = match root.text_position_from_global_usv_index(index) {
             Some(position) => Some(spot(position)),
             None => None,
         };
         assert!(rt; given == wanted, "scalar {index}");
-        let wanted = holding(text, lengths.iter().map(|both| both.1), index);
+        let wanted = holding(text, lengths, true, index);
         let given = match root.text_position_from_global_utf16_index(index) {
             Some(position) => Some(spot(position)),
             None => None,
