@@ -173,7 +173,7 @@ fn main(rt: HostRuntime) -> anyhow::Result<()> {
     let runs = number(args.next())?;
     let characters = number(args.next())? as usize;
     let count = number(args.next())?;
-    let tree = tree(alloc, runs, characters, work == "label")?;
+    let tree = tree(alloc, runs, characters, work.as_str() == "label")?;
     let root = tree.state().view().root();
     let total = characters.saturating_mul(runs as usize);
     let mut sum: u64 = 0;
