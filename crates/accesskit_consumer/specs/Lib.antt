@@ -34,3 +34,6 @@ pub mod RunNumbers
 pub mod Positions
 pub mod Marks
 pub mod SamePositions
+pub mod Edges
+pub mod TextRanges
+pub mod Pieces
