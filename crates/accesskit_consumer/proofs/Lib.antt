@@ -7,7 +7,9 @@ pub mod DialogAbove
 pub mod Filtering
 pub mod FocusTests
 pub mod Inheriting
-pub mod Moves
+pub mod MoveSums
+pub mod Along
+pub mod PointPlaces
 pub mod Missed
 pub mod Children
 pub mod Counting
@@ -44,3 +46,6 @@ pub mod TextSizes
 pub mod Separators
 pub mod PositionKeys
 pub mod LineCounts
+pub mod RangePieces
+pub mod RangeRuns
+pub mod RangeSteps

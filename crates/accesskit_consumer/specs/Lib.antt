@@ -9,7 +9,10 @@ pub mod FocusedOne
 pub mod Follows
 pub mod FilterValues
 pub mod Inherited
+pub mod RunLooks
 pub mod Reach
+pub mod Measures
+pub mod PointTests
 pub mod Tests
 pub mod Spots
 pub mod Courses

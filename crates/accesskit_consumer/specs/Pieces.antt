@@ -1,11 +1,12 @@
 -- The pieces of a range, one after another.
-use Rattle.std.specs.Prelude.{◌≡◌, ◌≤◌, ℕ, ◌+◌, ◌-◌, List, [], ◌∷◌, map, if◌then◌else◌}
+use Rattle.std.specs.Prelude.{◌≡◌, ◌≤◌, false, ℕ, ◌+◌, ◌-◌, List, [], ◌∷◌, map, if◌then◌else◌}
 use Rattle.std.specs.List.{range_with_len}
 use Rattle.model.specs.TextRuns.{said_count}
-use Rattle.model.specs.FlatText.{FlatText, biased_to_start, biased_to_end}
+use Rattle.model.specs.FlatText.{FlatText, biased_to_end}
 use Rattle.model.specs.Ranges.{Range, Piece as PieceData, is_degenerate, piece_in}
 use Rattle.accesskit_consumer.specs.declared.text.range.TextRange.{TextRange}
 use Rattle.accesskit_consumer.specs.declared.text.pieces.Piece.{Piece}
+use Rattle.accesskit_consumer.specs.declared.text.runs.Run.{Run}
 use Rattle.accesskit_consumer.specs.Runs.{root_of, sent_of}
 use Rattle.accesskit_consumer.specs.RunNumbers.{number_in}
 use Rattle.accesskit_consumer.specs.TextRanges.{text_in, range_at}
@@ -18,10 +19,14 @@ piece_data p = record { run = number_in p.run; from = p.from; to = p.to }
 abbrev pub pieces_past : FlatText → Range → ℕ → List PieceData
 pieces_past t r k = if is_degenerate t r then [] else map (piece_in t r) (range_with_len (k + 1) ((biased_to_end t r.end).run - k))
 
+-- the run isn't past the last one of a range with something in it
+abbrev pub IsUpTo : TextRange → Run → Type 0
+IsUpTo range k = is_degenerate (text_in range) (range_at range) ≡ false → number_in k ≤ (biased_to_end (text_in range) (range_at range).end).run
+
 -- of these pieces of the range it is the first, and the others are those past its run
 pub record IsNextPiece (range : TextRange) (left : List PieceData) (p : Piece) : Type 0 where
   pub same : root_of p.run ≡ range.root
   pub order : p.from ≤ p.to
   pub within : p.to ≤ said_count (sent_of p.run)
-  pub reached : (biased_to_start (text_in range) (range_at range).start).run ≤ number_in p.run
+  pub reached : IsUpTo range p.run
   pub is : left ≡ piece_data p ∷ pieces_past (text_in range) (range_at range) (number_in p.run)

@@ -1,10 +1,28 @@
--- How far sums of moves reach.
-use Rattle.std.specs.Prelude.{ℕ, ◌-◌, ◌^◌, ℤ, pos, neg_ℤ, ◌≤ℤ◌}
+-- By how much the nodes above a node move it, up to one of them, and how far sums of moves reach.
+use Rattle.std.specs.Prelude.{ℕ, ◌^◌, ℤ, pos, neg_ℤ, ◌≤ℤ◌, Bool, false, not, List, take_while, Option}
+use Rattle.std.specs.Option.{option_map_or}
 use Rattle.schema.specs.declared.geometry.WideTranslation.{WideTranslation}
+use Rattle.model.specs.declared.FullNodeId.{FullNodeId}
+use Rattle.model.specs.World.{World}
+use Rattle.model.specs.Forest.{is_same}
+use Rattle.model.specs.Upward.{upward}
+use Rattle.model.specs.Geometry.{sum_of_moves}
 
--- no more than so many nodes are above one another: 2 ^ 32 - 1 trees have 2 ^ 64 ids each; and each moves by at most 2 ^ 31
+-- the node is the top, where there is one
+abbrev pub is_top : Option FullNodeId → FullNodeId → Bool
+is_top top id = option_map_or (λ t. is_same t id) top false
+
+-- the node and those above it, up to the one below the top
+abbrev pub up_to_top : World → Option FullNodeId → FullNodeId → List FullNodeId
+up_to_top w top id = take_while (λ a. not (is_top top a)) (upward w id)
+
+-- they move it together by this much
+abbrev pub transform_to_top : World → Option FullNodeId → FullNodeId → WideTranslation
+transform_to_top w top id = sum_of_moves w (up_to_top w top id)
+
+-- no more than 2 ^ 64 nodes are above one another, as there are no more; and each moves by at most 2 ^ 31
 abbrev pub FARTHEST : ℕ
-FARTHEST = 2 ^ 127 - 2 ^ 95
+FARTHEST = 2 ^ 95
 
 -- so far and no farther, so that a rectangle may be added
 abbrev pub IsInReach : ℤ → Type 0

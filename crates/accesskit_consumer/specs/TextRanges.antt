@@ -24,7 +24,7 @@ abbrev pub range_at : TextRange → Range
 range_at r = record { start = edge_position (world_in r) (root_in r) r.first; end = edge_position (world_in r) (root_in r) r.last }
 
 -- it is this range of the text of a root
-pub record IsRangeOf (w : World) (root : FullNodeId) (q : Range) (r : TextRange) : Type 0 where
+pub record IsRangeOf (w : World) (id : FullNodeId) (q : Range) (r : TextRange) : Type 0 where
   pub world : world_in r ≡ w
-  pub root : root_in r ≡ root
+  pub root : root_in r ≡ id
   pub at : range_at r ≡ q

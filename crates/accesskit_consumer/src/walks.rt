@@ -7,7 +7,7 @@ mod depths;
 pub(crate) mod ends;
 pub mod filter;
 mod filtered;
-mod hits;
+pub(crate) mod hits;
 pub(crate) mod items;
 mod labelled_by;
 mod plain;

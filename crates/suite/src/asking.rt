@@ -2,11 +2,12 @@
 
 ghost use Rattle.std.specs.Prelude.{⊤};
 
-use crate::courses::{Course, grow, tree_id, update};
-use crate::recorder::{Id, Told, id_of, pair};
+use crate::courses::{Course, grow, update};
 use crate::{grafts, trees};
 use accesskit_consumer::node::{FullNodeId, NodeRef};
 use accesskit_consumer::tree::{StateRef, TreeChangeHandler};
+use plain_worlds::ids::tree_id;
+use plain_worlds::recorder::{Id, Told, id_of, pair};
 use schema::NodeId;
 use std::alloc::Global;
 use std::process::Abort;

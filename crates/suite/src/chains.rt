@@ -1,10 +1,10 @@
 //! Trees that are as deep as they have nodes.
 
 use crate::counted::{chain as chain_nodes, push_node, root_update};
-use crate::recorder::{Recorder, Told};
 use crate::scripts::run;
 use accesskit_consumer::node::FullNodeId;
 use accesskit_consumer::tree::Tree;
+use plain_worlds::recorder::{Recorder, Told};
 use schema::NodeId;
 use std::alloc::{AllocError, Global};
 use std::test::Fail;

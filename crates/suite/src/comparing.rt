@@ -1,12 +1,12 @@
 //! The library beside a program that makes everything anew.
 
 use crate::courses::{Course, Grown, Said, Sent, assert_gives, update};
-use crate::differing::{difference, tell_focus, told};
-use crate::drafts::{Dice, NODES, TREES, draft_update};
-use crate::rebuild::{Outcome, World};
-use crate::recorder::Recorder;
 use crate::{grafts, hostile, trees};
 use accesskit_consumer::tree::UpdateError;
+use plain_worlds::differing::{difference, tell_focus, told};
+use plain_worlds::drafts::{Dice, NODES, TREES, draft_update};
+use plain_worlds::rebuild::{Outcome, World};
+use plain_worlds::recorder::Recorder;
 use schema::TreeUpdate;
 use std::alloc::{AllocError, Global};
 use std::collections::BTreeSet;

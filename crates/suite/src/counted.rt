@@ -2,8 +2,8 @@
 
 use crate::courses::{grow, update};
 use crate::grafts;
-use crate::recorder::{Recorder, Told};
 use accesskit_consumer::tree::{Steps, Tree};
+use plain_worlds::recorder::{Recorder, Told};
 use schema::{Node, NodeId, Role, TreeId, TreeInfo, TreeUpdate};
 use std::alloc::{AllocError, Global};
 use std::process::Abort;

@@ -1,7 +1,8 @@
 //! Courses of updates, with what each of them gives.
 
-use crate::recorder::{Recorder, Told};
 use accesskit_consumer::tree::{Tree, UpdateError};
+use plain_worlds::ids::{node_ids, tree_id};
+use plain_worlds::recorder::{Recorder, Told};
 use schema::{Node, NodeId, Role, TreeId, TreeInfo, TreeUpdate};
 use std::alloc::{AllocError, Global};
 use std::process::Abort;
@@ -120,16 +121,6 @@ impl Grown {
             Err(refusal) => Some(refusal),
         }
     }
-}
-
-/// The tree's name of this number.
-pub fn tree_id(tree: u128) -> TreeId {
-    TreeId(Uuid::from_u128(tree))
-}
-
-/// Node ids of these numbers.
-pub fn node_ids(alloc: Global, numbers: &[u64]) -> Result<Vec<NodeId>, AllocError> {
-    numbers.iter().map(|number| NodeId(*number)).collect(alloc)
 }
 
 /// A node of an update, with its id.

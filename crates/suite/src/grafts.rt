@@ -2,9 +2,10 @@
 
 use crate::courses::Gives::{Refuses, Tells};
 use crate::courses::Said::{Graft, Labelled, Plain};
-use crate::courses::{Course, ROOT, Refused, Sent, assert_courses, grow, tree_id};
-use crate::recorder::Told::{Added, FocusMoved, Removed, Updated};
+use crate::courses::{Course, ROOT, Refused, Sent, assert_courses, grow};
 use accesskit_consumer::node::FullNodeId;
+use plain_worlds::ids::tree_id;
+use plain_worlds::recorder::Told::{Added, FocusMoved, Removed, Updated};
 use schema::NodeId;
 use std::test::Fail;
 

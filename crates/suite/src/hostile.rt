@@ -3,9 +3,9 @@
 use crate::courses::Gives::{Refuses, Tells};
 use crate::courses::Said::{Crowded, Graft, Labelled, Plain};
 use crate::courses::{Course, ROOT, Refused, Sent, assert_courses, grow};
-use crate::recorder::Told::{Added, Removed, Updated};
 use crate::trees::PLAIN;
 use accesskit_consumer::node::FullNodeId;
+use plain_worlds::recorder::Told::{Added, Removed, Updated};
 use schema::NodeId;
 use std::test::Fail;
 

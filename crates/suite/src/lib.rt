@@ -14,12 +14,6 @@ mod counted;
 #[cfg(test)]
 mod courses;
 #[cfg(test)]
-mod differing;
-#[cfg(test)]
-mod drafts;
-#[cfg(test)]
-mod faults;
-#[cfg(test)]
 mod grafts;
 #[cfg(test)]
 mod hostile;
@@ -29,10 +23,6 @@ mod mirrors;
 mod nodes;
 #[cfg(test)]
 mod planning;
-#[cfg(test)]
-mod rebuild;
-#[cfg(test)]
-mod recorder;
 #[cfg(test)]
 mod roles;
 #[cfg(test)]

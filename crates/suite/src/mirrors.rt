@@ -1,8 +1,8 @@
 //! A mirror beside a program that makes everything anew.
 
-use crate::drafts::{Dice, draft_update};
-use crate::rebuild::{Outcome, World};
 use accesskit_consumer::tree::{Mirror, Tree};
+use plain_worlds::drafts::{Dice, draft_update};
+use plain_worlds::rebuild::{Outcome, World};
 use std::alloc::Global;
 use std::process::Abort;
 use std::test::Fail;

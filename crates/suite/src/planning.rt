@@ -1,6 +1,6 @@
 //! Plans of updates, and the look-ups by which they are made.
 
-use crate::courses::{Sent, tree_id, update};
+use crate::courses::{Sent, update};
 use crate::grafts::{DOCUMENT, FOCUS_ON_GRAFT, GRAFT_RENAMED, WINDOW};
 use crate::hostile::CHILD_AS_ROOT;
 use crate::trees::{BUTTON_DROPPED, FOCUS_ON_BUTTON, PLAIN};
@@ -8,6 +8,7 @@ use accesskit_consumer::node::FullNodeId;
 use accesskit_consumer::tree::{
     Change, LookUps, NodeRecord, Plan, PlanEvent, TreeRecord, UpdateError, plan_update,
 };
+use plain_worlds::ids::tree_id;
 use schema::{NodeId, TreeId, TreeUpdate};
 use std::alloc::Global;
 use std::process::Abort;

@@ -1,8 +1,9 @@
 //! Labels, values and placeholders of small interfaces.
 
-use crate::courses::{ROOT, node_ids, tree_id};
+use crate::courses::ROOT;
 use accesskit_consumer::node::FullNodeId;
 use accesskit_consumer::tree::Tree;
+use plain_worlds::ids::{node_ids, tree_id};
 use schema::{Node, NodeId, Role, TextBuffer, TreeInfo, TreeUpdate};
 use std::alloc::{AllocError, Global};
 use std::test::Fail;

@@ -1,9 +1,9 @@
 //! What a state answers of roots, names, focus and dialogs.
 
-use crate::courses::{node_ids, tree_id};
-use crate::recorder::{Id, Recorder, id_of, pair};
 use accesskit_consumer::node::FullNodeId;
 use accesskit_consumer::tree::Tree;
+use plain_worlds::ids::{node_ids, tree_id};
+use plain_worlds::recorder::{Id, Recorder, id_of, pair};
 use schema::{Node, NodeId, Role, TreeId, TreeInfo, TreeUpdate};
 use std::alloc::{AllocError, Global};
 use std::test::Fail;

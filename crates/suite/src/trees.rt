@@ -2,11 +2,12 @@
 
 use crate::courses::Gives::{Refuses, Tells};
 use crate::courses::Said::{Active, Plain};
-use crate::courses::{Course, ROOT, Refused, Sent, assert_courses, tree_id, update};
-use crate::recorder::Recorder;
-use crate::recorder::Told::{Added, FocusMoved, Removed, Updated};
+use crate::courses::{Course, ROOT, Refused, Sent, assert_courses, update};
 use accesskit_consumer::node::FullNodeId;
 use accesskit_consumer::tree::{Tree, UpdateError};
+use plain_worlds::ids::tree_id;
+use plain_worlds::recorder::Recorder;
+use plain_worlds::recorder::Told::{Added, FocusMoved, Removed, Updated};
 use schema::{NodeId, TreeInfo};
 use std::test::Fail;
 

@@ -22,29 +22,29 @@ pub(crate) fn is_root_tree(name: &TreeId) -> bool
 }
 
 /// The tree's root afterwards: that of the tree info, else the one before.
-fn root_after(info: &Option<TreeInfo>, record: &TreeRecord) -> Result<NodeId, UpdateError>
+fn root_after(info: &Option<TreeInfo>, looked_up: &TreeRecord) -> Result<NodeId, UpdateError>
     ensures ok { IfOk result (λ root.
-        option_map_or (λ i. Some i.root) (option_map info_data info.now) record.now.root ≡ Some root) }
+        option_map_or (λ i. Some i.root) (option_map info_data info.now) looked_up.now.root ≡ Some root) }
     ensures err { IfErr result (λ e.
-        (info.now ≡ None) × (record.now.root ≡ None) × (e ≡ NoFirstTreeInfo record.now.id)) }
+        (info.now ≡ None) × (looked_up.now.root ≡ None) × (e ≡ NoFirstTreeInfo looked_up.now.id)) }
 {
     if let Some(info) = info {
         return Ok(info.root);
     }
-    let Some(root) = record.root else {
-        return Err(UpdateError::NoFirstTreeInfo(record.id));
+    let Some(root) = looked_up.root else {
+        return Err(UpdateError::NoFirstTreeInfo(looked_up.id));
     };
     Ok(root)
 }
 
 /// The tree's index afterwards: the one before, else the next one, where so many names are known.
-fn index_after(record: &TreeRecord, known: u32) -> Result<u32, UpdateError>
-    ensures ok { IfOk result (λ index. index ≡ unwrap_or record.now.index known) }
-    ensures room { OnOk result (record.now.index ≡ None → known < 2 ^ 32 - 1) }
+fn index_after(looked_up: &TreeRecord, known: u32) -> Result<u32, UpdateError>
+    ensures ok { IfOk result (λ index. index ≡ unwrap_or looked_up.now.index known) }
+    ensures room { OnOk result (looked_up.now.index ≡ None → known < 2 ^ 32 - 1) }
     ensures err { IfErr result (λ e.
-        (record.now.index ≡ None) × (2 ^ 32 - 1 ≤ known) × (e ≡ IndexesUsedUp)) }
+        (looked_up.now.index ≡ None) × (2 ^ 32 - 1 ≤ known) × (e ≡ IndexesUsedUp)) }
 {
-    if let Some(index) = record.index {
+    if let Some(index) = looked_up.index {
         return Ok(index);
     }
     if known == u32::MAX {

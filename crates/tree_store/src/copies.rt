@@ -45,12 +45,12 @@ fn copy_all(alloc: Global, slots: &Slots) -> Result<BTreeMap<FullNodeId, MirrorR
     Ok(copies)
 }
 
-fn copy_record(record: &Record) -> Result<MirrorRecord, AllocError>
-    ensures { IfOk result (λ copy. copy ≡ copy_of record.now) }
+fn copy_record(kept: &Record) -> Result<MirrorRecord, AllocError>
+    ensures { IfOk result (λ copy. copy ≡ copy_of kept.now) }
 {
-    let node = record.node.clone()?;
+    let node = kept.node.clone()?;
     Ok(MirrorRecord {
-        place: record.place,
+        place: kept.place,
         node,
     })
 }

@@ -1,11 +1,13 @@
 //! Where a node lies.
-ghost use Rattle.std.specs.Prelude.{◌≡◌, is_some, ◌<◌, ◌^◌, ◌+ℤ◌, int_lt, FitsSigned};
+ghost use Rattle.std.specs.Prelude.{◌≡◌, is_some, ◌+ℤ◌, int_lt, FitsSigned};
 ghost use Rattle.std.specs.Int.{int_min, int_max, w32};
 ghost use Rattle.model.specs.Geometry.{direct_transform, transform, bounding_box, meets, whole_rect, moved_rect, ordered_rect};
 ghost use Rattle.accesskit_consumer.specs.Nodes.{world_at, id_at, data_at};
-ghost use Rattle.accesskit_consumer.specs.Reach.{IsInReach};
+ghost use Rattle.accesskit_consumer.specs.Reach.{is_top, transform_to_top, IsInReach};
 
 use crate::node::NodeRef;
+use crate::node::same::is_same;
+use model::FullNodeId;
 use schema::{Rect, Translation, WideRect, WideTranslation};
 
 impl NodeRef<'_> {
@@ -40,33 +42,43 @@ impl NodeRef<'_> {
         self.whole_move()
     }
 
-    /// Its own move, which is narrow, as its id is.
+    /// Its own move, which is narrow.
     fn own_move(self) -> Translation
         ensures exact { result ≡ direct_transform (world_at self.entry) (id_at self.entry) }
         ensures across { FitsSigned w32 result.x }
         ensures along { FitsSigned w32 result.y }
-        ensures id { (id_at self.entry).node.0 < 2 ^ 64 }
     {
-        let _id = self.id.node.0;
         self.direct_transform()
     }
 
-    /// By how much it is moved, which leaves room for a rectangle.
-    fn whole_move(self) -> WideTranslation
-        ensures exact { result ≡ transform (world_at self.entry) (id_at self.entry) }
+    /// By how much it and the nodes above it move it, up to the one below the top where there is one. It leaves room
+    /// for a rectangle.
+    pub(crate) fn move_to_top(self, top: Option<FullNodeId>) -> WideTranslation
+        ensures exact { result ≡ transform_to_top (world_at self.entry) top (id_at self.entry) }
         ensures across { IsInReach result.x }
         ensures along { IsInReach result.y }
     {
         self.state.know();
+        self.state.know_count();
         let mut sum = WideTranslation { x: 0, y: 0 };
         let mut current = self;
-        loop {
+        while !is_top(top, current.id) {
             sum = added(sum, current.own_move());
             let Some(parent) = current.parent() else {
                 return sum;
             };
             current = parent;
         }
+        sum
+    }
+
+    /// By how much it is moved, which leaves room for a rectangle.
+    pub(crate) fn whole_move(self) -> WideTranslation
+        ensures exact { result ≡ transform (world_at self.entry) (id_at self.entry) }
+        ensures across { IsInReach result.x }
+        ensures along { IsInReach result.y }
+    {
+        self.move_to_top(None)
     }
 
     /// Its rectangle, moved as the node is, each axis from the lesser to the greater.
@@ -75,6 +87,16 @@ impl NodeRef<'_> {
     {
         let rect = self.node.bounds()?;
         Some(ordered(moved_rect(rect, self.whole_move())))
+    }
+}
+
+/// Whether the node is the top, where there is one.
+fn is_top(top: Option<FullNodeId>, id: FullNodeId) -> bool
+    ensures { result ≡ is_top top id }
+{
+    match top {
+        Some(top) => is_same(top, id),
+        None => false,
     }
 }
 
@@ -109,7 +131,7 @@ fn plus(edge: i32, by: i128) -> i128
 }
 
 /// The rectangle, moved.
-fn moved_rect(rect: Rect, by: WideTranslation) -> WideRect
+pub(crate) fn moved_rect(rect: Rect, by: WideTranslation) -> WideRect
     requires across { IsInReach by.x }
     requires along { IsInReach by.y }
     ensures { result ≡ moved_rect (whole_rect rect) by }
@@ -123,7 +145,7 @@ fn moved_rect(rect: Rect, by: WideTranslation) -> WideRect
 }
 
 /// The rectangle, each axis from the lesser to the greater.
-fn ordered(rect: WideRect) -> WideRect
+pub(crate) fn ordered(rect: WideRect) -> WideRect
     ensures { result ≡ ordered_rect rect }
 {
     WideRect {

@@ -11,7 +11,7 @@ use std::cmp::Ordering;
 
 impl TextPosition<'_> {
     /// How many characters of the text are before the position.
-    fn offset(self) -> usize
+    pub(super) fn offset(self) -> usize
         ensures { result ≡ offset (text_at self.entry) (position_at self.entry) }
     {
         let mut run = self.run;

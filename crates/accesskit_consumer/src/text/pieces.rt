@@ -1,12 +1,13 @@
 //! The pieces of a range, run by run.
-ghost use Rattle.std.specs.Prelude.{◌≡◌, ◌≤◌, [], MatchOption};
-ghost use Rattle.model.specs.FlatText.{biased_to_start};
-ghost use Rattle.model.specs.Ranges.{pieces};
+ghost use Rattle.std.specs.Prelude.{◌≡◌, [], MatchOption};
+ghost use Rattle.model.specs.FlatText.{biased_to_start, biased_to_end};
+ghost use Rattle.model.specs.Ranges.{is_degenerate, piece_in, pieces};
 ghost use Rattle.accesskit_consumer.specs.Runs.{root_of};
 ghost use Rattle.accesskit_consumer.specs.RunNumbers.{number_in};
 ghost use Rattle.accesskit_consumer.specs.TextRanges.{text_in, range_at};
-ghost use Rattle.accesskit_consumer.specs.Pieces.{IsNextPiece, pieces_past};
+ghost use Rattle.accesskit_consumer.specs.Pieces.{IsNextPiece, IsUpTo, piece_data, pieces_past};
 
+use crate::node::same::is_same;
 use crate::text::range::TextRange;
 use crate::text::runs::Run;
 
@@ -16,4 +17,69 @@ pub(super) struct Piece<'a> {
     pub(super) run: Run<'a>,
     pub(super) from: usize,
     pub(super) to: usize,
+}
+
+impl<'a> TextRange<'a> {
+    /// Whether the range has nothing in it. It is seen without a count of what is before the range.
+    fn has_nothing(self) -> bool
+        ensures { result ≡ is_degenerate (text_in self.entry) (range_at self.entry) }
+    {
+        let start = self.start().biased_to_start();
+        let end = self.end().biased_to_start();
+        if !is_same(start.run.id(), end.run.id()) {
+            return false;
+        }
+        start.index == end.index
+    }
+
+    /// The part of one run that is in the range.
+    fn piece_in(self, run: Run<'a>) -> Piece<'a>
+        requires { root_of run ≡ self.root }
+        ensures run { result.run ≡ run.entry }
+        ensures is { piece_data result ≡ piece_in (text_in self.entry) (range_at self.entry) (number_in run.entry) }
+    {
+        let mut from = 0;
+        if is_same(run.id(), self.first.spot.member.id) {
+            from = self.first.index;
+        }
+        let mut to = run.character_count();
+        if is_same(run.id(), self.last.spot.member.id) {
+            to = self.last.index;
+        }
+        Piece { run, from, to }
+    }
+
+    /// The first piece; of a range with nothing in it the one that there is, with nothing in it.
+    pub(super) fn first_piece(self) -> Piece<'a>
+        ensures { IsNextPiece self.entry (pieces (text_in self.entry) (range_at self.entry)) result }
+    {
+        if self.has_nothing() {
+            let start = self.start();
+            return Piece {
+                run: start.run,
+                from: start.index,
+                to: start.index,
+            };
+        }
+        self.piece_in(self.start().biased_to_start().run)
+    }
+
+    /// The piece after the one in this run, where there is one.
+    pub(super) fn next_piece(self, run: Run<'a>) -> Option<Piece<'a>>
+        requires same { root_of run ≡ self.root }
+        requires reached { IsUpTo self run }
+        ensures { MatchOption result
+            (pieces_past (text_in self.entry) (range_at self.entry) (number_in run.entry) ≡ [])
+            (IsNextPiece self.entry (pieces_past (text_in self.entry) (range_at self.entry) (number_in run.entry))) }
+    {
+        if self.has_nothing() {
+            return None;
+        }
+        let last = self.end().biased_to_end().run;
+        if is_same(run.id(), last.id()) {
+            return None;
+        }
+        let next = run.next()?;
+        Some(self.piece_in(next))
+    }
 }

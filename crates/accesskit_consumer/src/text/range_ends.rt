@@ -1,1 +1,160 @@
-//! The ends of a range.
+//! The ends of ranges, and ranges made of positions.
+ghost use Rattle.std.specs.Prelude.{◌≡◌, ◌≤◌, true};
+ghost use Rattle.model.specs.TextRuns.{supports_text_ranges};
+ghost use Rattle.model.specs.FlatText.{offset};
+ghost use Rattle.model.specs.Ranges.{Range, range_between, is_degenerate, document_range, with_start, with_end, IsRaw};
+ghost use Rattle.accesskit_consumer.specs.Nodes.{world_at, id_at};
+ghost use Rattle.accesskit_consumer.specs.Positions.{IsAt, root_at, text_of, text_at, position_at};
+ghost use Rattle.accesskit_consumer.specs.TextRanges.{IsRangeOf, world_in, root_in, text_in, range_at};
+
+use crate::node::NodeRef;
+use crate::text::edges::Edge;
+use crate::text::position::TextPosition;
+use crate::text::range::TextRange;
+use crate::text::runs::Run;
+
+impl<'a> TextRange<'a> {
+    /// The range from one position up to another of the same root.
+    pub(super) fn over(start: TextPosition<'a>, end: TextPosition<'a>) -> TextRange<'a>
+        requires world { world_at (root_at end) ≡ world_at (root_at start) }
+        requires root { id_at (root_at end) ≡ id_at (root_at start) }
+        requires order { offset (text_at start) (position_at start) ≤ offset (text_at start) (position_at end) }
+        ensures same { result.root ≡ root_at start.entry }
+        ensures at { range_at result ≡ record { start = position_at start.entry; end = position_at end.entry } }
+    {
+        TextRange {
+            root: start.run.root,
+            first: Edge {
+                spot: start.run.spot,
+                index: start.index,
+            },
+            last: Edge {
+                spot: end.run.spot,
+                index: end.index,
+            },
+        }
+    }
+
+    /// The range of two positions of one root: it begins with the one of lesser offset.
+    pub(super) fn between(first: TextPosition<'a>, second: TextPosition<'a>) -> TextRange<'a>
+        requires world { world_at (root_at second) ≡ world_at (root_at first) }
+        requires root { id_at (root_at second) ≡ id_at (root_at first) }
+        ensures range { IsRangeOf (world_at (root_at first.entry)) (id_at (root_at first.entry)) (range_between (text_at first.entry) (position_at first.entry) (position_at second.entry)) result }
+    {
+        if second.offset() < first.offset() {
+            return TextRange::over(second, first);
+        }
+        TextRange::over(first, second)
+    }
+
+    /// The node whose text it is a range of.
+    pub fn node(&self) -> NodeRef<'a>
+        ensures world { world_at result ≡ world_in self.now }
+        ensures root { id_at result ≡ root_in self.now }
+    {
+        let range = *self;
+        range.root
+    }
+
+    /// Where the range begins.
+    pub fn start(&self) -> TextPosition<'a>
+        ensures { IsAt self.now.root (range_at self.now).start result }
+    {
+        let range = *self;
+        TextPosition {
+            run: Run {
+                root: range.root,
+                spot: range.first.spot,
+            },
+            index: range.first.index,
+        }
+    }
+
+    /// Where the range ends.
+    pub fn end(&self) -> TextPosition<'a>
+        ensures { IsAt self.now.root (range_at self.now).end result }
+    {
+        let range = *self;
+        TextPosition {
+            run: Run {
+                root: range.root,
+                spot: range.last.spot,
+            },
+            index: range.last.index,
+        }
+    }
+
+    /// Whether there is no character between the ends.
+    pub fn is_degenerate(&self) -> bool
+        ensures { result ≡ is_degenerate (text_in self.now) (range_at self.now) }
+    {
+        let start = self.start().offset();
+        start == self.end().offset()
+    }
+
+    /// Makes the range begin at a position of the same root, in the same state.
+    ///
+    /// An end that isn't past the position goes along. Then a range that isn't degenerate begins on the start side.
+    pub fn set_start(&mut self, position: TextPosition<'a>)
+        requires world { world_at (root_at position) ≡ world_in self.old }
+        requires root { id_at (root_at position) ≡ root_in self.old }
+        ensures { IsRangeOf (world_in self.old) (root_in self.old)
+            (with_start (text_in self.old) (range_at self.old) (position_at position.entry)) self.new }
+    {
+        let end = self.end();
+        if position.offset() < end.offset() {
+            *self = TextRange::over(position.biased_to_start(), end);
+            return;
+        }
+        *self = TextRange::over(position, position);
+    }
+
+    /// Makes the range end at a position of the same root, in the same state.
+    ///
+    /// A start that isn't before the position goes along. Then a range that isn't degenerate begins on the start side.
+    pub fn set_end(&mut self, position: TextPosition<'a>)
+        requires world { world_at (root_at position) ≡ world_in self.old }
+        requires root { id_at (root_at position) ≡ root_in self.old }
+        ensures { IsRangeOf (world_in self.old) (root_in self.old)
+            (with_end (text_in self.old) (range_at self.old) (position_at position.entry)) self.new }
+    {
+        let start = self.start();
+        if start.offset() < position.offset() {
+            *self = TextRange::over(start.biased_to_start(), position);
+            return;
+        }
+        *self = TextRange::over(position, position);
+    }
+
+    /// The range as an application names it: from its start to its end.
+    pub fn to_text_selection(&self) -> schema::TextSelection
+        ensures anchor { IsRaw (text_in self.now) (range_at self.now).start result.anchor }
+        ensures focus { IsRaw (text_in self.now) (range_at self.now).end result.focus }
+    {
+        schema::TextSelection {
+            anchor: self.start().to_raw(),
+            focus: self.end().to_raw(),
+        }
+    }
+}
+
+impl<'a> NodeRef<'a> {
+    /// The range of the node's whole text, which has text ranges.
+    pub fn document_range(&self) -> TextRange<'a>
+        requires { supports_text_ranges (world_at self.now) (id_at self.now) ≡ true }
+        ensures { IsRangeOf (world_at self.now) (id_at self.now) (document_range (text_of self.now)) result }
+    {
+        TextRange::over(self.document_start(), self.document_end())
+    }
+}
+
+impl<'a> TextPosition<'a> {
+    /// The range from the position to itself.
+    pub fn to_degenerate_range(&self) -> TextRange<'a>
+        ensures { IsRangeOf (world_at (root_at self.now)) (id_at (root_at self.now))
+            (record { start = position_at self.now; end = position_at self.now }) result }
+    {
+        let position = *self;
+        TextRange::over(position, position)
+    }
+}

@@ -39,8 +39,8 @@ impl Filter for RunFilter {
 /// A run of a root, at its place.
 #[derive(Clone, Copy)]
 pub(crate) struct Run<'a> {
-    root: NodeRef<'a>,
-    spot: Spot<'a>,
+    pub(super) root: NodeRef<'a>,
+    pub(super) spot: Spot<'a>,
     ghost known: { IsRunPlace (world_at root) (id_at root) spot } by { IsRunPlace-prop (world_at root) (id_at root) spot },
 }
 

@@ -23,9 +23,9 @@ use schema::{Point, Rect, Translation};
 
 /// A point as a node sees it, however far it was moved.
 #[derive(Clone, Copy)]
-struct Seen {
-    x: i128,
-    y: i128,
+pub(crate) struct Seen {
+    pub(crate) x: i128,
+    pub(crate) y: i128,
 }
 
 /// By how much a node moves itself and what is below it.
@@ -119,7 +119,7 @@ fn is_in_span(low: i32, high: i32, seen: i128) -> bool
 }
 
 /// Whether the rectangle as it was sent contains the point. A reversed one contains nothing.
-fn contains(rect: Rect, seen: Seen) -> bool
+pub(crate) fn contains(rect: Rect, seen: Seen) -> bool
     ensures { result ≡ contains_point rect (wide_of seen) }
 {
     if !is_in_span(rect.x0, rect.x1, seen.x) {

@@ -1,6 +1,6 @@
 //! Updates that are made up, one after the other, of numbers that only look random.
 
-use crate::courses::tree_id;
+use crate::ids::tree_id;
 use crate::rebuild::{World, in_tree};
 use schema::{Node, NodeId, Role, TreeId, TreeInfo, TreeUpdate};
 use std::alloc::{AllocError, Global};

@@ -4,6 +4,7 @@ use crate::rebuild::{World, in_tree};
 use crate::recorder::{Told, pair};
 use accesskit_consumer::node::{FullNodeId, NodeRef};
 use accesskit_consumer::tree::StateRef;
+use model::Place;
 use schema::{NodeId, TreeId, TreeUpdate};
 use std::alloc::AllocError;
 use std::collections::BTreeSet;

@@ -1,0 +1,10 @@
+//! A plain program beside the tree, for tests to compare with: worlds that are rebuilt by child lists after each update,
+//! made-up updates, what is told of two worlds, and a handler that keeps what it is told.
+#![tactic(auto)]
+
+pub mod differing;
+pub mod drafts;
+pub mod faults;
+pub mod ids;
+pub mod rebuild;
+pub mod recorder;

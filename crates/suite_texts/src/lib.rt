@@ -1,0 +1,19 @@
+//! Tests of texts: positions, moves, indexes, ranges, points and selections.
+#![tactic(auto)]
+
+#[cfg(test)]
+mod ill_formed;
+#[cfg(test)]
+mod made_up;
+#[cfg(test)]
+mod plain;
+#[cfg(test)]
+mod planting;
+#[cfg(test)]
+mod rows;
+#[cfg(test)]
+mod secrets;
+#[cfg(test)]
+mod writers;
+#[cfg(test)]
+mod written;
