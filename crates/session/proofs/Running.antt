@@ -1,0 +1,38 @@
+-- A run, command by command.
+use Rattle.std.proofs.Common.{◌≡◌, ℕ, ◌≤◌, ◌+◌, List, [], ◌∷◌, ◌++◌, length, take, map, arith, sym, ap, ◌∙◌, subst}
+use Rattle.std.proofs.lemmas.List.{map-append, length-map, length-append}
+use Rattle.std.proofs.Math.Seq.{take-append_seam}
+use Rattle.model.specs.World.{World}
+use Rattle.model.specs.Events.{Event}
+use Rattle.model.specs.Run.{CommandData, ReplyData, Does, Runs, RunsUpTo}
+use Rattle.model.proofs.Run.Runs.{runs_more, replies_length}
+use Rattle.session.specs.declared.commands.Command.{Command}
+use Rattle.session.specs.declared.commands.Reply.{Reply}
+use Rattle.session.specs.Replied.{command_said, reply_said}
+
+-- one command more
+pub run_more : (w m v : World) (cs : List Command) (c : Command) (first rest : List Event) (rs : List Reply) (r : Reply) → Runs w (map command_said cs) m first (map reply_said rs) → Does m (command_said c) v rest (reply_said r) → Runs w (map command_said (cs ++ c ∷ [])) v (first ++ rest) (map reply_said (rs ++ r ∷ []))
+run_more w m v cs c first rest rs r h d =
+    subst (λ xs. Runs w xs v (first ++ rest) (map reply_said (rs ++ r ∷ []))) (sym (map-append command_said cs (c ∷ [])))
+    (subst (λ ys. Runs w (map command_said cs ++ command_said c ∷ []) v (first ++ rest) ys) (sym (map-append reply_said rs (r ∷ [])))
+    (runs_more w m v (map command_said cs) (command_said c) first rest (map reply_said rs) (reply_said r) h d))
+
+-- there are as many replies as commands
+pub as_many : (w v : World) (cs : List Command) (told : List Event) (rs : List Reply) → Runs w (map command_said cs) v told (map reply_said rs) → length rs ≡ length cs
+as_many w v cs told rs h = sym (length-map rs reply_said) ∙ replies_length w v (map command_said cs) told (map reply_said rs) h ∙ length-map cs command_said
+
+first_said : (cs others : List Command) → take (length cs) (map command_said (cs ++ others)) ≡ map command_said cs
+first_said cs others =
+    ap (take (length cs)) (map-append command_said cs others)
+    ∙ ap (λ n. take n (map command_said cs ++ map command_said others)) (sym (length-map cs command_said))
+    ∙ take-append_seam (map command_said cs) (map command_said others)
+
+within : (cs others : List Command) → length cs ≤ length (map command_said (cs ++ others))
+within cs others = let e = length-map (cs ++ others) command_said in let f = length-append cs others in omega (arith, e, f)
+
+-- it stops after some of them
+pub run_stops : (w v : World) (done : ℕ) (cs others all : List Command) (told : List Event) (rs : List Reply) → Runs w (map command_said cs) v told (map reply_said rs) → done ≡ length cs → all ≡ cs ++ others → RunsUpTo done w (map command_said all) v told (map reply_said rs)
+run_stops w v done cs others all told rs h is e =
+    subst (λ xs. RunsUpTo done w (map command_said xs) v told (map reply_said rs)) (sym e)
+    (subst (λ n. RunsUpTo n w (map command_said (cs ++ others)) v told (map reply_said rs)) (sym is)
+    (within cs others, subst (λ xs. Runs w xs v told (map reply_said rs)) (sym (first_said cs others)) h))

@@ -1,0 +1,158 @@
+//! Answers to questions about the text of a node.
+ghost use Rattle.std.specs.Prelude.{◌≡◌, nat_lt, true, IfOk, IfSome, option_map};
+ghost use Rattle.model.specs.declared.queries.Query.TheVariants.{Move as ToMove, Indexes as ToIndexes, RangeText as ToRangeText};
+ghost use Rattle.model.specs.State.{IsState};
+ghost use Rattle.model.specs.TextRuns.{supports_text_ranges};
+ghost use Rattle.model.specs.FlatText.{offset, total};
+ghost use Rattle.model.specs.Queries.{position_at as place_at, moved as place_after, text_between as between};
+ghost use Rattle.accesskit_consumer.specs.Views.{world_of};
+ghost use Rattle.accesskit_consumer.specs.Nodes.{world_at, id_at};
+ghost use Rattle.accesskit_consumer.specs.Positions.{root_at, text_of, text_at, position_at};
+ghost use Rattle.session.specs.Replied.{IsAnswer};
+
+use crate::answers::named_node;
+use crate::commands::Reply;
+use accesskit_consumer::text::TextPosition;
+use accesskit_consumer::{NodeRef, StateRef};
+use model::{At, Move, NodeName, Side};
+use std::alloc::{AllocError, Global};
+use std::cmp::Ordering;
+
+/// The position with this index, on this side.
+fn position_of<'a>(node: NodeRef<'a>, at: At) -> Option<TextPosition<'a>>
+    requires { supports_text_ranges (world_at node) (id_at node) ≡ true }
+    ensures at { option_map position_at result ≡ place_at (text_of node.entry) at }
+    ensures same { IfSome result (λ p. root_at p ≡ node.entry) }
+{
+    let Some(start) = node.text_position_from_global_usv_index(at.index) else {
+        return None;
+    };
+    match at.side {
+        Side::Start => Some(start),
+        Side::End => Some(start.biased_to_end()),
+    }
+}
+
+/// Whether there is a character after the position.
+fn has_next(position: TextPosition<'_>) -> bool
+    ensures { result ≡ nat_lt (offset (text_at position.entry) (position_at position.entry)) (total (text_at position.entry)) }
+{
+    position.compare(&position.forward_to_page_end()) == Some(Ordering::Less)
+}
+
+/// Whether there is a character before the position.
+fn has_previous(position: TextPosition<'_>) -> bool
+    ensures { result ≡ nat_lt 0 (offset (text_at position.entry) (position_at position.entry)) }
+{
+    position.compare(&position.backward_to_page_start()) == Some(Ordering::Greater)
+}
+
+/// Where a move leads. There is no such place for a move by a character past an end of the text.
+fn moved<'a>(position: TextPosition<'a>, by: Move) -> Option<TextPosition<'a>>
+    ensures at { option_map position_at result ≡ place_after (text_at position.entry) (position_at position.entry) by }
+    ensures same { IfSome result (λ p. root_at p ≡ root_at position.entry) }
+{
+    let to = match by {
+        Move::ForwardToCharacterStart if !has_next(position) => return None,
+        Move::ForwardToCharacterStart => position.forward_to_character_start(),
+        Move::ForwardToCharacterEnd if !has_next(position) => return None,
+        Move::ForwardToCharacterEnd => position.forward_to_character_end(),
+        Move::BackwardToCharacterStart if !has_previous(position) => return None,
+        Move::BackwardToCharacterStart => position.backward_to_character_start(),
+        Move::ForwardToFormatStart => position.forward_to_format_start(),
+        Move::ForwardToFormatEnd => position.forward_to_format_end(),
+        Move::BackwardToFormatStart => position.backward_to_format_start(),
+        Move::ForwardToWordStart => position.forward_to_word_start(),
+        Move::ForwardToWordEnd => position.forward_to_word_end(),
+        Move::BackwardToWordStart => position.backward_to_word_start(),
+        Move::ForwardToLineStart => position.forward_to_line_start(),
+        Move::ForwardToLineEnd => position.forward_to_line_end(),
+        Move::BackwardToLineStart => position.backward_to_line_start(),
+        Move::ForwardToParagraphStart => position.forward_to_paragraph_start(),
+        Move::ForwardToParagraphEnd => position.forward_to_paragraph_end(),
+        Move::BackwardToParagraphStart => position.backward_to_paragraph_start(),
+        Move::ForwardToPageStart => position.forward_to_page_start(),
+        Move::ForwardToPageEnd | Move::DocumentEnd => position.forward_to_page_end(),
+        Move::BackwardToPageStart | Move::DocumentStart => position.backward_to_page_start(),
+    };
+    Some(to)
+}
+
+/// Where a move leads.
+pub(crate) fn movement(state: StateRef, name: NodeName, at: At, by: Move) -> Reply
+    requires { IsState (world_of state) }
+    ensures { IsAnswer (world_of state.entry) (ToMove name at by) result }
+{
+    let Some(node) = named_node(state, name) else {
+        return Reply::NoNode;
+    };
+    if !node.supports_text_ranges() {
+        return Reply::NotText;
+    }
+    let Some(position) = position_of(node, at) else {
+        return Reply::NotText;
+    };
+    match moved(position, by) {
+        Some(to) => Reply::Position(Some(to.to_raw())),
+        None => Reply::Position(None),
+    }
+}
+
+/// The indexes of a position.
+pub(crate) fn indexes(state: StateRef, name: NodeName, at: At) -> Reply
+    requires { IsState (world_of state) }
+    ensures { IsAnswer (world_of state.entry) (ToIndexes name at) result }
+{
+    let Some(node) = named_node(state, name) else {
+        return Reply::NoNode;
+    };
+    if !node.supports_text_ranges() {
+        return Reply::NotText;
+    }
+    let Some(position) = position_of(node, at) else {
+        return Reply::NotText;
+    };
+    Reply::Indexes {
+        usv: position.to_global_usv_index(),
+        utf16: position.to_global_utf16_index(),
+        line: position.to_line_index(),
+    }
+}
+
+/// The text from one position up to another.
+fn text_between<'a>(
+    alloc: Global,
+    from: TextPosition<'a>,
+    to: TextPosition<'a>,
+) -> Result<String, AllocError>
+    requires world { world_at (root_at to) ≡ world_at (root_at from) }
+    requires root { id_at (root_at to) ≡ id_at (root_at from) }
+    ensures { IfOk result (λ text. string_bytes text ≡ between (text_at from.entry) (position_at from.entry) (position_at to.entry)) }
+{
+    let mut range = from.to_degenerate_range();
+    range.set_end(to);
+    range.text(alloc)
+}
+
+/// The text from one position to another.
+pub(crate) fn range_text(
+    alloc: Global,
+    state: StateRef,
+    name: NodeName,
+    from: At,
+    to: At,
+) -> Result<Reply, AllocError>
+    requires { IsState (world_of state) }
+    ensures { IfOk result (IsAnswer (world_of state.entry) (ToRangeText name from to)) }
+{
+    let Some(node) = named_node(state, name) else {
+        return Ok(Reply::NoNode);
+    };
+    if !node.supports_text_ranges() {
+        return Ok(Reply::NotText);
+    }
+    let (Some(start), Some(end)) = (position_of(node, from), position_of(node, to)) else {
+        return Ok(Reply::NotText);
+    };
+    Ok(Reply::Text(Some(text_between(alloc, start, end)?)))
+}
