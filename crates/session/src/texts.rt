@@ -1,9 +1,9 @@
 //! Answers to questions about the text of a node.
-ghost use Rattle.std.specs.Prelude.{◌≡◌, nat_lt, true, IfOk, IfSome, option_map};
+ghost use Rattle.std.specs.Prelude.{◌≡◌, nat_lt, true, IfOk, IfSome, option_map, string_bytes};
 ghost use Rattle.model.specs.declared.queries.Query.TheVariants.{Move as ToMove, Indexes as ToIndexes, RangeText as ToRangeText};
 ghost use Rattle.model.specs.State.{IsState};
 ghost use Rattle.model.specs.TextRuns.{supports_text_ranges};
-ghost use Rattle.model.specs.FlatText.{offset, total};
+ghost use Rattle.model.specs.FlatText.{offset, total, position_cmp};
 ghost use Rattle.model.specs.Queries.{position_at as place_at, moved as place_after, text_between as between};
 ghost use Rattle.accesskit_consumer.specs.Views.{world_of};
 ghost use Rattle.accesskit_consumer.specs.Nodes.{world_at, id_at};
@@ -33,18 +33,28 @@ fn position_of<'a>(node: NodeRef<'a>, at: At) -> Option<TextPosition<'a>>
     }
 }
 
+/// How two positions of one text compare.
+#[tactic(auto, using(crate::proofs::Ends::compared))]
+fn order(position: TextPosition<'_>, other: TextPosition<'_>) -> Ordering
+    requires { root_at other ≡ root_at position }
+    ensures { result ≡ position_cmp (text_at position.entry) (position_at position.entry) (text_at other.entry) (position_at other.entry) }
+{
+    position.compare(&other).unwrap()
+}
+
 /// Whether there is a character after the position.
 fn has_next(position: TextPosition<'_>) -> bool
     ensures { result ≡ nat_lt (offset (text_at position.entry) (position_at position.entry)) (total (text_at position.entry)) }
 {
-    position.compare(&position.forward_to_page_end()) == Some(Ordering::Less)
+    order(position, position.forward_to_page_end()).is_lt()
 }
 
 /// Whether there is a character before the position.
+#[tactic(auto, using(crate::proofs::Ends::after_start))]
 fn has_previous(position: TextPosition<'_>) -> bool
     ensures { result ≡ nat_lt 0 (offset (text_at position.entry) (position_at position.entry)) }
 {
-    position.compare(&position.backward_to_page_start()) == Some(Ordering::Greater)
+    order(position.backward_to_page_start(), position).is_lt()
 }
 
 /// Where a move leads. There is no such place for a move by a character past an end of the text.
@@ -120,6 +130,7 @@ pub(crate) fn indexes(state: StateRef, name: NodeName, at: At) -> Reply
 }
 
 /// The text from one position up to another.
+#[tactic(auto, using(crate::proofs::Betweens::between_two))]
 fn text_between<'a>(
     alloc: Global,
     from: TextPosition<'a>,

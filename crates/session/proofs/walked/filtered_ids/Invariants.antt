@@ -14,4 +14,5 @@ invariant-loop-shown l =
     × (goal.iterator-loop-shown).is_finite l.walk
     × (walked_world l.walk.course ≡ w)
     × IsOnCourse f l.walk.course
+    × (l.walk.filter.f.0 ≡ l.fn.filter)
     × (l.ids.items ++ ids_left f l.walk.course ≡ filtered_children f w (id_at l.fn.node))
