@@ -7,11 +7,15 @@ use Rattle.schema.specs.declared.TreeId.{TreeId}
 use Rattle.model.specs.declared.FullNodeId.{FullNodeId}
 use Rattle.model.specs.World.{World, local_id_of}
 use Rattle.model.specs.State.{IsState}
-use Rattle.model.specs.Queries.{node_named}
+use Rattle.model.specs.Queries.{node_named, raw_of}
 use Rattle.model.specs.Focus.{IsFocus}
 use Rattle.model.specs.FocusFound.{shown_focus}
 use Rattle.model.proofs.Asking.NamedNodes.{named_node_is_located}
 use Rattle.model.proofs.Asking.ShownFocus.{shown_focus_is_focus}
+use Rattle.model.proofs.Asking.Raws.{raw_is_name}
+use Rattle.schema.specs.declared.values.TextPosition.{TextPosition}
+use Rattle.model.specs.FlatText.{FlatText, Position}
+use Rattle.model.specs.Ranges.{IsRaw}
 
 same_options : {A : Type 0} (a b : Option A) → ((x : A) → a ≡ Some x → b ≡ Some x) → ((x : A) → b ≡ Some x → a ≡ Some x) → a ≡ b
 same_options None None there back = refl
@@ -28,3 +32,7 @@ found_is_named w n tree found s h =
 -- the focus is the one that is shown
 pub focus_is_shown : (w : World) (focus : Option FullNodeId) → IsState w → IsFocus w focus → focus ≡ shown_focus w
 focus_is_shown w focus s is = (shown_focus_is_focus w focus s).0 is
+
+-- a position by its name
+pub raw_named : (t : FlatText) (p : Position) (raw : TextPosition) → IsRaw t p raw → raw_of t p ≡ Some raw
+raw_named t p raw is = (raw_is_name t p raw).0 is

@@ -3,12 +3,21 @@ use Rattle.std.proofs.Common.{◌≡◌, ℕ, ◌≤◌, ◌+◌, List, [], ◌�
 use Rattle.std.proofs.lemmas.List.{map-append, length-map, length-append}
 use Rattle.std.proofs.Math.Seq.{take-append_seam}
 use Rattle.model.specs.World.{World}
-use Rattle.model.specs.Events.{Event}
-use Rattle.model.specs.Run.{CommandData, ReplyData, Does, Runs, RunsUpTo}
-use Rattle.model.proofs.Run.Runs.{runs_more, replies_length}
+use Rattle.model.specs.Events.{Event, Told}
+use Rattle.model.specs.State.{IsState}
+use Rattle.model.specs.Update.{UpdateData}
+use Rattle.model.specs.Run.{CommandData, ToUpdate, ReplyData, Does, Runs, RunsUpTo}
+use Rattle.model.proofs.Run.Runs.{runs_more, replies_length, after_command}
+use Rattle.tree_changes.specs.declared.error.UpdateError.{UpdateError}
+use Rattle.accesskit_consumer.specs.Replies.{reply_of}
+use Rattle.std.specs.Prelude.{Result, Ok, Err, Option, Some, None, IfSome, IsSomeAnd}
+use Rattle.std.specs.Global.{Vec}
+use Rattle.model.specs.Mirror.{Records, AreRecordsOf, MirrorsWhileKept}
+use Rattle.model.proofs.Mirror.KeptRecords.{kept_records_follow_run}
+use Rattle.session.specs.declared.commands.RunStopped.{RunStopped}
 use Rattle.session.specs.declared.commands.Command.{Command}
 use Rattle.session.specs.declared.commands.Reply.{Reply}
-use Rattle.session.specs.Replied.{command_said, reply_said}
+use Rattle.session.specs.Replied.{command_said, reply_said, IsRun}
 
 -- one command more
 pub run_more : (w m v : World) (cs : List Command) (c : Command) (first rest : List Event) (rs : List Reply) (r : Reply) → Runs w (map command_said cs) m first (map reply_said rs) → Does m (command_said c) v rest (reply_said r) → Runs w (map command_said (cs ++ c ∷ [])) v (first ++ rest) (map reply_said (rs ++ r ∷ []))
@@ -36,3 +45,22 @@ run_stops w v done cs others all told rs h is e =
     subst (λ xs. RunsUpTo done w (map command_said xs) v told (map reply_said rs)) (sym e)
     (subst (λ n. RunsUpTo n w (map command_said (cs ++ others)) v told (map reply_said rs)) (sym is)
     (within cs others, subst (λ xs. Runs w xs v told (map reply_said rs)) (sym (first_said cs others)) h))
+
+-- a state stays one
+pub after_update : (w v : World) (u : UpdateData) (told : List Event) (r : Result (Unit {0}) UpdateError) → Does w (ToUpdate u) v told (reply_of r) → IsState w → IsState v
+after_update w v u told r = after_command w v (ToUpdate u) told (reply_of r)
+
+-- where memory is wanting for a reply, what ran before stands
+pub stops : {H : Type 0} (steps : H → Event → H → Type 0) (w m v : World) (s t u : H) (done : ℕ) (cs others all : List Command) (told : List Event) (rs : List Reply) →
+    Runs w (map command_said cs) m told (map reply_said rs) → Told steps s told t → ((more : List Event) × ((v ≡ m) × (more ≡ [])) × Told steps t more u) → done ≡ length rs → all ≡ cs ++ others →
+    (x : List Event) × RunsUpTo done w (map command_said all) v x (map reply_said rs) × Told steps s x u
+stops steps w m v s t u done cs others all told rs runs heard rest is e =
+    let kept : t ≡ u = subst (λ es. Told steps t es u) rest.1.1 rest.2 in
+    (told, (subst (λ z. RunsUpTo done w (map command_said all) z told (map reply_said rs)) (sym rest.1.0) (run_stops w m done cs others all told rs runs (is ∙ as_many w m cs told rs runs) e), subst (Told steps s told) kept heard))
+
+-- a mirror follows a run, also one that stopped
+pub mirrored : (old new : World) (commands : List Command) (result : Result (Vec Reply) RunStopped) (told : List Event) (m n : Option Records) →
+    IsRun old commands new told result → Told MirrorsWhileKept m told n → IsSomeAnd m (AreRecordsOf old) → IfSome n (AreRecordsOf new)
+mirrored old new commands result told None n run heard held = absurd held
+mirrored old new commands (Ok replies) told (Some r) n run heard held = kept_records_follow_run old new (map command_said commands) told (map reply_said replies.items) r n run held heard
+mirrored old new commands (Err stopped) told (Some r) n run heard held = kept_records_follow_run old new (take stopped.done (map command_said commands)) told (map reply_said stopped.replies.items) r n run.1 held heard

@@ -3,14 +3,15 @@ ghost use Rattle.std.specs.Prelude.{◌≡◌, [], List, MatchResult, IfOk, IfEr
 ghost use Rattle.schema.specs.UpdateData.{update_data};
 ghost use Rattle.model.specs.Events.{Event, Told};
 ghost use Rattle.model.specs.Mirror.{AreRecordsOf, MirrorsWhileKept};
-ghost use Rattle.model.specs.Run.{Begins, Does};
+ghost use Rattle.model.specs.Run.{Begins, Does, ToUpdate, ToHostFocus, Accepted};
 ghost use Rattle.model.specs.State.{empty_world};
 ghost use Rattle.tree_changes.specs.Refusals.{IsRefusal};
-ghost use Rattle.session.specs.Replied.{command_said, reply_said, IsRun};
+ghost use Rattle.session.specs.Replied.{command_said, reply_said, IsAnswer, IsRun};
 
 use crate::answers::answer;
 use crate::commands::{Command, Reply, RunStopped};
 use accesskit_consumer::tree::{Mirror, Tree, TreeChangeHandler};
+use model::Query;
 use schema::TreeUpdate;
 use std::alloc::{AllocError, Global};
 use std::marker::Model;
@@ -58,6 +59,34 @@ impl Session {
         &self.tree
     }
 
+    /// Applies an update.
+    fn update<H: TreeChangeHandler>(&mut self, update: TreeUpdate, handler: &mut H) -> Reply
+        ensures { (told : List Event)
+            × Does self.old (ToUpdate (update_data update)) self.new told (reply_said result)
+            × Told H.steps handler.old told handler.new }
+    {
+        match self.tree.update_and_process_changes(update, handler) {
+            Ok(()) => Reply::Accepted,
+            Err(error) => Reply::Refused(error),
+        }
+    }
+
+    /// Sets whether the host is focused.
+    fn refocus<H: TreeChangeHandler>(&mut self, is_focused: bool, handler: &mut H)
+        ensures { (told : List Event)
+            × Does self.old (ToHostFocus is_focused) self.new told Accepted
+            × Told H.steps handler.old told handler.new }
+    {
+        self.tree.update_host_focus_state_and_process_changes(is_focused, handler);
+    }
+
+    /// Answers a question.
+    fn ask(&self, query: Query) -> Result<Reply, AllocError>
+        ensures { IfOk result (IsAnswer self.now query) }
+    {
+        answer(self.alloc, self.tree.state().view(), query)
+    }
+
     /// Runs a command. Where memory is wanting for the answer to a question, nothing has changed and nothing is told.
     fn reply<H: TreeChangeHandler>(
         &mut self,
@@ -71,15 +100,12 @@ impl Session {
             × Told H.steps handler.old told handler.new }
     {
         match command {
-            Command::Update(update) => match self.tree.update_and_process_changes(update, handler) {
-                Ok(()) => Ok(Reply::Accepted),
-                Err(error) => Ok(Reply::Refused(error)),
-            },
+            Command::Update(update) => Ok(self.update(update, handler)),
             Command::HostFocus(is_focused) => {
-                self.tree.update_host_focus_state_and_process_changes(is_focused, handler);
+                self.refocus(is_focused, handler);
                 Ok(Reply::Accepted)
             }
-            Command::Query(query) => answer(self.alloc, self.tree.state().view(), query),
+            Command::Query(query) => self.ask(query),
         }
     }
 

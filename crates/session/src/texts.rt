@@ -1,10 +1,10 @@
 //! Answers to questions about the text of a node.
-ghost use Rattle.std.specs.Prelude.{◌≡◌, nat_lt, true, IfOk, IfSome, option_map, string_bytes};
+ghost use Rattle.std.specs.Prelude.{◌≡◌, nat_lt, true, Some, IfOk, IfSome, option_and_then, option_map, string_bytes};
 ghost use Rattle.model.specs.declared.queries.Query.TheVariants.{Move as ToMove, Indexes as ToIndexes, RangeText as ToRangeText};
 ghost use Rattle.model.specs.State.{IsState};
 ghost use Rattle.model.specs.TextRuns.{supports_text_ranges};
 ghost use Rattle.model.specs.FlatText.{offset, total, position_cmp};
-ghost use Rattle.model.specs.Queries.{position_at as place_at, moved as place_after, text_between as between};
+ghost use Rattle.model.specs.Queries.{position_at as place_at, moved as place_after, raw_of, text_between as between};
 ghost use Rattle.accesskit_consumer.specs.Views.{world_of};
 ghost use Rattle.accesskit_consumer.specs.Nodes.{world_at, id_at};
 ghost use Rattle.accesskit_consumer.specs.Positions.{root_at, text_of, text_at, position_at};
@@ -88,6 +88,24 @@ fn moved<'a>(position: TextPosition<'a>, by: Move) -> Option<TextPosition<'a>>
     Some(to)
 }
 
+/// The name of a position.
+#[tactic(auto, using(crate::proofs::Naming::raw_named))]
+fn raw(position: TextPosition<'_>) -> schema::TextPosition
+    ensures { raw_of (text_at position.entry) (position_at position.entry) ≡ Some result }
+{
+    position.to_raw()
+}
+
+/// The name of the place where a move leads.
+fn raw_moved(position: TextPosition<'_>, by: Move) -> Option<schema::TextPosition>
+    ensures { let t = text_at position.entry in result ≡ option_and_then (raw_of t) (place_after t (position_at position.entry) by) }
+{
+    match moved(position, by) {
+        Some(to) => Some(raw(to)),
+        None => None,
+    }
+}
+
 /// Where a move leads.
 pub(crate) fn movement(state: StateRef, name: NodeName, at: At, by: Move) -> Reply
     requires { IsState (world_of state) }
@@ -102,10 +120,7 @@ pub(crate) fn movement(state: StateRef, name: NodeName, at: At, by: Move) -> Rep
     let Some(position) = position_of(node, at) else {
         return Reply::NotText;
     };
-    match moved(position, by) {
-        Some(to) => Reply::Position(Some(to.to_raw())),
-        None => Reply::Position(None),
-    }
+    Reply::Position(raw_moved(position, by))
 }
 
 /// The indexes of a position.
@@ -162,8 +177,12 @@ pub(crate) fn range_text(
     if !node.supports_text_ranges() {
         return Ok(Reply::NotText);
     }
-    let (Some(start), Some(end)) = (position_of(node, from), position_of(node, to)) else {
+    let Some(start) = position_of(node, from) else {
         return Ok(Reply::NotText);
     };
-    Ok(Reply::Text(Some(text_between(alloc, start, end)?)))
+    let Some(end) = position_of(node, to) else {
+        return Ok(Reply::NotText);
+    };
+    let text = text_between(alloc, start, end)?;
+    Ok(Reply::Text(Some(text)))
 }
