@@ -6,6 +6,7 @@ ghost use Rattle.model.specs.Mirror.{AreRecordsOf, MirrorsWhileKept};
 ghost use Rattle.model.specs.Run.{Begins, Does, ToUpdate, ToHostFocus, Accepted};
 ghost use Rattle.model.specs.State.{empty_world};
 ghost use Rattle.tree_changes.specs.Refusals.{IsRefusal};
+ghost use Rattle.accesskit_consumer.specs.Replies.{reply_of};
 ghost use Rattle.session.specs.Replied.{command_said, reply_said, IsAnswer, IsRun};
 
 use crate::answers::answer;
@@ -16,6 +17,16 @@ use schema::TreeUpdate;
 use std::alloc::{AllocError, Global};
 use std::marker::Model;
 use tree_changes::UpdateError;
+
+/// The reply to an update.
+fn said(done: Result<(), UpdateError>) -> Reply
+    ensures { reply_said result ≡ reply_of done.entry }
+{
+    match done {
+        Ok(()) => Reply::Accepted,
+        Err(error) => Reply::Refused(error),
+    }
+}
 
 /// A tree over which commands run.
 #[derive(Drop)]
@@ -65,10 +76,7 @@ impl Session {
             × Does self.old (ToUpdate (update_data update)) self.new told (reply_said result)
             × Told H.steps handler.old told handler.new }
     {
-        match self.tree.update_and_process_changes(update, handler) {
-            Ok(()) => Reply::Accepted,
-            Err(error) => Reply::Refused(error),
-        }
+        said(self.tree.update_and_process_changes(update, handler))
     }
 
     /// Sets whether the host is focused.
