@@ -63,3 +63,4 @@ pub mod LineRanges
 pub mod LineSteps
 pub mod FoundSteps
 pub mod WeakSteps
+pub mod Passing

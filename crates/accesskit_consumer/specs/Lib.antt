@@ -48,3 +48,4 @@ pub mod RangeProperties
 pub mod SameRanges
 pub mod FoundRanges
 pub mod WeakRanges
+pub mod Passes

@@ -88,16 +88,24 @@ fn write_set<O: Write>(size: Option<usize>, position: Option<usize>, out: &mut O
 
 /// Writes a text in quotes, or `none`. In it a quote, a backslash and a newline are `\"`, `\\` and `\n`.
 fn write_text<O: Write>(text: Option<&str>, out: &mut O) -> io::Result<()>
-    ensures { OnOk result (Appends (O.contents out.old) (O.contents out.new) (text_line (option_copied text))) }
+    ensures { OnOk result (Appends (O.contents out.old) (O.contents out.new) (text_line (option_copied text.entry))) }
 {
     let Some(text) = text else {
         return writeln!(out, "none");
     };
     out.write_all(b"\"")?;
-    for byte in text.as_bytes() {
+    write_quoted(text.as_bytes(), out)?;
+    out.write_all(b"\"\n")
+}
+
+/// Writes what stands between the quotes.
+fn write_quoted<O: Write>(text: &[u8], out: &mut O) -> io::Result<()>
+    ensures { OnOk result (Appends (O.contents out.old) (O.contents out.new) (flat_map quoted_byte text.now)) }
+{
+    for byte in text {
         write_byte(*byte, out)?;
     }
-    out.write_all(b"\"\n")
+    Ok(())
 }
 
 /// Writes a byte of a text that stands in quotes.

@@ -2,6 +2,7 @@
 
 use crate::plain::{PlainText, Spot};
 use crate::planting::{planted, shown, spot};
+use crate::written::on_side;
 use accesskit_consumer::node::NodeRef;
 use accesskit_consumer::text::TextPosition;
 use plain_worlds::drafts::Dice;
@@ -104,30 +105,24 @@ fn holding(text: &PlainText, lengths: impl Iterator<Item = usize>, index: usize)
     None
 }
 
-/// All positions of a text, by their offsets and sides.
-fn positions<'a>(
+/// All positions of a text, by their indexes in scalars and their sides.
+fn sides(
     alloc: Global,
-    root: NodeRef<'a>,
+    root: NodeRef,
     lengths: &[(usize, usize)],
-) -> Result<Vec<TextPosition<'a>>, Fail> {
-    let mut positions = Vec::new(alloc);
+) -> Result<Vec<(usize, bool)>, Fail> {
+    let mut sides = Vec::new(alloc);
     let mut index = 0usize;
     for number in 0..=lengths.len() {
-        if !root.supports_text_ranges() {
-            return Err("no text".into());
+        let position = on_side(root, index, false)?;
+        if on_side(root, index, true)? != position {
+            sides.push((index, true))?;
         }
-        let position = root
-            .text_position_from_global_usv_index(index)
-            .ok_or("no position")?;
-        let end = position.biased_to_end();
-        if end != position {
-            positions.push(end)?;
-        }
-        positions.push(position)?;
+        sides.push((index, false))?;
         let (scalars, _) = lengths.get(number).copied().unwrap_or((0, 0));
         index = index.saturating_add(scalars);
     }
-    Ok(positions)
+    Ok(sides)
 }
 
 /// Asserts what a text has between two positions.
@@ -135,12 +130,14 @@ fn assert_range(
     rt: &impl Abort,
     alloc: Global,
     text: &PlainText,
-    from: TextPosition,
-    to: TextPosition,
+    root: NodeRef,
+    ends: [(usize, bool); 2],
 ) -> Result<(), Fail> {
-    let mut range = from.to_degenerate_range();
-    range.set_end(to);
-    let (start, end) = (spot(from), spot(to));
+    let [(from, from_end), (to, to_end)] = ends;
+    let mut range = on_side(root, from, from_end)?.to_degenerate_range();
+    range.set_end(on_side(root, to, to_end)?);
+    let start = spot(on_side(root, from, from_end)?);
+    let end = spot(on_side(root, to, to_end)?);
     let is_degenerate = text.offset(start) >= text.offset(end);
     let wanted = if is_degenerate {
         (end, end)
@@ -157,8 +154,8 @@ fn assert_range(
         range.text(alloc)?.as_str() == wanted.as_str(),
         "{start:?} {end:?}"
     );
-    let mut range = to.to_degenerate_range();
-    range.set_start(from);
+    let mut range = on_side(root, to, to_end)?.to_degenerate_range();
+    range.set_start(on_side(root, from, from_end)?);
     let wanted = if is_degenerate {
         (start, start)
     } else {
@@ -230,16 +227,17 @@ fn made_up_texts_are_one_flat_list(rt: HostRuntime) -> Result<(), Fail> {
         let root = shown(tree.state().view(), 0)?;
         assert!(rt; root.supports_text_ranges());
         let lengths = text.lengths(alloc)?;
-        let positions = positions(alloc, root, &lengths)?;
-        assert!(rt; positions.len() == text.spots(alloc)?.len());
+        let sides = sides(alloc, root, &lengths)?;
+        assert!(rt; sides.len() == text.spots(alloc)?.len());
         assert_numbered(&rt, root, &text, &lengths);
-        for position in &positions {
-            assert_position(&rt, &text, *position);
-            assert_indexes(&rt, &text, &lengths, *position);
-            assert_characters(&rt, root, &text, *position);
+        for side in &sides {
+            let position = on_side(root, side.0, side.1)?;
+            assert_position(&rt, &text, position);
+            assert_indexes(&rt, &text, &lengths, position);
+            assert_characters(&rt, root, &text, position);
             for _ in 0..3u32 {
-                let other = dice.of(&positions).ok_or("no position")?;
-                assert_range(&rt, alloc, &text, *position, other)?;
+                let other = dice.of(&sides).ok_or("no position")?;
+                assert_range(&rt, alloc, &text, root, [*side, other])?;
             }
         }
     }

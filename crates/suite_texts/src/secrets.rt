@@ -3,7 +3,9 @@
 use crate::planting::shown;
 use crate::written::Run::{self, Alone};
 use crate::written::{at, between, ends, named, written};
+use accesskit_consumer::node::NodeRef;
 use schema::Role;
+use std::alloc::Global;
 use std::test::Fail;
 
 static PAIR: [[Run; 2]; 2] = [
@@ -77,5 +79,32 @@ fn password_of_one_character_is_shown(rt: HostRuntime) -> Result<(), Fail> {
     let root = shown(tree.state().view(), 0)?;
     let value = root.value(alloc)?.ok_or("no value")?;
     assert!(rt; value.as_str() == "aaaa");
+    Ok(())
+}
+
+/// The first piece past the first of the text from 0 to 4.
+fn second_piece(alloc: Global, root: NodeRef) -> Result<String, Fail> {
+    let mut has_passed = false;
+    let found = between(root, 0, 4)?.traverse_text(alloc, |_: &NodeRef<'_>, piece: &str| {
+        if has_passed {
+            return Some(piece.len());
+        }
+        has_passed = true;
+        None
+    })?;
+    let mut text = String::new(alloc);
+    for _ in 0..found.unwrap_or(0) {
+        text.push('x')?;
+    }
+    Ok(text)
+}
+
+#[test]
+fn traversal_passes_masked_pieces(rt: HostRuntime) -> Result<(), Fail> {
+    let alloc = rt.alloc();
+    let [runs, _] = &PAIR;
+    let tree = written(alloc, Role::PasswordInput, runs, None, None)?;
+    let root = shown(tree.state().view(), 0)?;
+    assert!(rt; second_piece(alloc, root)?.len() == 6);
     Ok(())
 }

@@ -1,5 +1,10 @@
 //! Texts as they are written down, each run with what it says.
 
+ghost use Rattle.std.specs.Prelude.{◌≡◌, IfOk};
+ghost use Rattle.accesskit_consumer.specs.Nodes.{world_at, id_at};
+ghost use Rattle.accesskit_consumer.specs.Positions.{root_at};
+ghost use Rattle.accesskit_consumer.specs.TextRanges.{world_in, root_in};
+
 use crate::planting::brought;
 use accesskit_consumer::node::NodeRef;
 use accesskit_consumer::text::{TextPosition, TextRange};
@@ -110,18 +115,36 @@ pub fn ends(range: TextRange) -> (Named, Named) {
 }
 
 /// The position at an index in scalars, which is there.
-pub fn at<'a>(root: NodeRef<'a>, index: usize) -> Result<TextPosition<'a>, Fail> {
+pub fn at<'a>(root: NodeRef<'a>, index: usize) -> Result<TextPosition<'a>, Fail>
+    ensures world { IfOk result (λ p. world_at (root_at p) ≡ world_at root.entry) }
+    ensures root { IfOk result (λ p. id_at (root_at p) ≡ id_at root.entry) }
+{
     if !root.supports_text_ranges() {
         return Err("no text".into());
     }
-    Ok(
-        root.text_position_from_global_usv_index(index)
-            .ok_or("no position")?,
-    )
+    match root.text_position_from_global_usv_index(index) {
+        Some(position) => Ok(position),
+        None => Err("no position".into()),
+    }
+}
+
+/// The position at an index in scalars, on the end side of it or on the start side.
+pub fn on_side<'a>(root: NodeRef<'a>, index: usize, is_end: bool) -> Result<TextPosition<'a>, Fail>
+    ensures world { IfOk result (λ p. world_at (root_at p) ≡ world_at root.entry) }
+    ensures root { IfOk result (λ p. id_at (root_at p) ≡ id_at root.entry) }
+{
+    let position = at(root, index)?;
+    if is_end {
+        return Ok(position.biased_to_end());
+    }
+    Ok(position)
 }
 
 /// The range from one index in scalars to another.
-pub fn between<'a>(root: NodeRef<'a>, from: usize, to: usize) -> Result<TextRange<'a>, Fail> {
+pub fn between<'a>(root: NodeRef<'a>, from: usize, to: usize) -> Result<TextRange<'a>, Fail>
+    ensures world { IfOk result (λ r. world_in r ≡ world_at root.entry) }
+    ensures root { IfOk result (λ r. root_in r ≡ id_at root.entry) }
+{
     let mut range = at(root, from)?.to_degenerate_range();
     range.set_end(at(root, to)?);
     Ok(range)

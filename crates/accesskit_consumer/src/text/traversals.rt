@@ -1,12 +1,16 @@
 //! The text of a range, piece by piece.
-ghost use Rattle.std.specs.Prelude.{◌≡◌, ◌+◌, ◌<◌, ◌^◌, true, OnOk, OnErr, IfOk};
+ghost use Rattle.std.specs.Prelude.{◌≡◌, ◌+◌, ◌-◌, ◌<◌, ◌^◌, true, OnOk, OnErr, IfOk};
 ghost use Rattle.std.specs.List.{concat};
 ghost use Rattle.std.specs.String.{string_bytes};
-ghost use Rattle.model.specs.Ranges.{text_of};
-ghost use Rattle.accesskit_consumer.specs.TextRanges.{text_in, range_at};
+ghost use Rattle.model.specs.FlatText.{needs_masking};
+ghost use Rattle.model.specs.Ranges.{pieces, text_of, passed_texts};
+ghost use Rattle.model.specs.Values.{bullets};
+ghost use Rattle.accesskit_consumer.specs.TextRanges.{world_in, root_in, text_in, range_at};
+ghost use Rattle.accesskit_consumer.specs.Passes.{longest, IsEnough, IsPassed};
 ghost use Rattle.accesskit_consumer.specs.PieceTexts.{are_cut_off, left_by, IsPart, sent_part, shown_part};
 ghost use Rattle.accesskit_consumer.specs.Writes.{IsWritten, IsCutShort};
 
+use crate::node::NodeRef;
 use crate::node::masking::write_bullets;
 use crate::node::run_texts::needs_masking;
 use crate::text::pieces::Piece;
@@ -91,5 +95,101 @@ impl TextRange<'_> {
             Ok(()) => Ok(buffer.into_string()),
             Err(_) => Err(AllocError),
         }
+    }
+}
+
+impl<'a> Piece<'a> {
+    /// What is shown of the piece: of a masked one so many of the bullets.
+    fn shown<'b>(self, masked: bool, bullets: &'b str) -> &'b str
+    where
+        'a: 'b,
+        requires part { IsPart self }
+        requires enough { IsEnough masked bullets.now (self.to - self.from) }
+        ensures { result.now ≡ shown_part masked self.entry }
+    {
+        if masked {
+            let many = self.to - self.from;
+            prove!(many <= bullets.len() / 3);
+            return bullets.split_at(3 * many).0;
+        }
+        self.sent()
+    }
+}
+
+/// So many bullets.
+fn text_of_bullets(alloc: Global, count: usize) -> Result<String, AllocError>
+    ensures { IfOk result (λ text. string_bytes text ≡ bullets count) }
+{
+    let mut buffer = TextBuffer::new(alloc);
+    match write_bullets(count, &mut buffer) {
+        Ok(()) => Ok(buffer.into_string()),
+        Err(_) => Err(AllocError),
+    }
+}
+
+impl TextRange<'_> {
+    /// How many characters the longest piece has.
+    fn longest(self) -> usize
+        ensures { result ≡ longest (pieces (text_in self.entry) (range_at self.entry)) }
+    {
+        let mut piece = self.first_piece();
+        let mut most = 0;
+        loop {
+            most = most.max(piece.to - piece.from);
+            let Some(next) = self.next_piece(piece.run) else {
+                return most;
+            };
+            piece = next;
+        }
+    }
+
+    /// Calls the function with each piece, till it answers something.
+    fn pass<T, F: FnMut(&NodeRef<'_>, &str) -> Option<T>>(
+        self,
+        masked: bool,
+        bullets: &str,
+        mut f: F,
+    ) -> Option<T>
+        requires callable { F.IsAlwaysCallable f }
+        requires masking { masked ≡ needs_masking (world_in self) (root_in self) }
+        requires enough { IsEnough masked bullets.now (longest (pieces (text_in self) (range_at self))) }
+        ensures { let passed = passed_texts (text_in self.entry) (range_at self.entry) in
+            (last : F) × IsPassed F.FnMut (world_in self.entry) passed f result last }
+    {
+        let mut piece = self.first_piece();
+        loop {
+            let view = piece.run.view();
+            if let Some(answer) = f(&view, piece.shown(masked, bullets)) {
+                return Some(answer);
+            }
+            let Some(next) = self.next_piece(piece.run) else {
+                return None;
+            };
+            piece = next;
+        }
+    }
+
+    /// Calls the function with each run of the range and what is shown of it, till it answers something, and answers that.
+    /// Memory is taken for a password of which two characters differ alone, before the first call.
+    ///
+    /// # Errors
+    ///
+    /// `AllocError`: memory was wanting.
+    pub fn traverse_text<T, F: FnMut(&NodeRef<'_>, &str) -> Option<T>>(
+        &self,
+        alloc: Global,
+        f: F,
+    ) -> Result<Option<T>, AllocError>
+        requires { F.IsAlwaysCallable f }
+        ensures passed { let passed = passed_texts (text_in self.now) (range_at self.now) in
+            IfOk result (λ answer. (last : F) × IsPassed F.FnMut (world_in self.now) passed f answer last) }
+        ensures refused { OnErr result (needs_masking (world_in self.now) (root_in self.now) ≡ true) }
+    {
+        let range = *self;
+        if !needs_masking(range.root) {
+            return Ok(range.pass(false, "", f));
+        }
+        let bullets = text_of_bullets(alloc, range.longest())?;
+        Ok(range.pass(true, bullets.as_str(), f))
     }
 }
