@@ -56,7 +56,7 @@ pub stops : {H : Type 0} (steps : H → Event → H → Type 0) (w m v : World) 
     (x : List Event) × RunsUpTo done w (map command_said all) v x (map reply_said rs) × Told steps s x u
 stops steps w m v s t u done cs others all told rs runs heard rest is e =
     let kept : t ≡ u = subst (λ es. Told steps t es u) rest.1.1 rest.2 in
-    (told, (subst (λ z. RunsUpTo done w (map command_said all) z told (map reply_said rs)) (sym rest.1.0) (run_stops w m done cs others all told rs runs (is ∙ as_many w m cs told rs runs) e), subst (Told steps s told) kept heard))
+    (told, subst (λ z. RunsUpTo done w (map command_said all) z told (map reply_said rs)) (sym rest.1.0) (run_stops w m done cs others all told rs runs (is ∙ as_many w m cs told rs runs) e), subst (Told steps s told) kept heard)
 
 -- a mirror follows a run, also one that stopped
 pub mirrored : (old new : World) (commands : List Command) (result : Result (Vec Reply) RunStopped) (told : List Event) (m n : Option Records) →

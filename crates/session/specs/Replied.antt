@@ -1,5 +1,5 @@
 -- Commands and replies as those of the model, and what a run is.
-use Rattle.std.specs.Prelude.{◌≡◌, List, map, option_map, Result, Ok, Err}
+use Rattle.std.specs.Prelude.{◌≡◌, List, map, Option, Some, option_map, Result, Ok, Err}
 use Rattle.std.specs.Option.{option_map_or}
 use Rattle.std.specs.Global.{Vec}
 use Rattle.std.specs.String.{string_bytes}
@@ -8,7 +8,8 @@ use Rattle.model.specs.World.{World}
 use Rattle.model.specs.Events.{Event}
 use Rattle.model.specs.declared.queries.Query.{Query}
 use Rattle.model.specs.Answers as answer
-use Rattle.model.specs.Queries.{answer_of}
+use Rattle.model.specs.FlatText.{FlatText, Position}
+use Rattle.model.specs.Queries.{answer_of, text_between}
 use Rattle.model.specs.Run.{CommandData, ToUpdate, ToHostFocus, ToQuery, ReplyData, Accepted, Refused, OutOfMemory, Answered, Runs, RunsUpTo}
 use Rattle.tree_changes.specs.Refusals.{fault_of}
 use Rattle.session.specs.declared.commands.Command.{Command}
@@ -37,6 +38,10 @@ reply_said reply.NotText = Answered answer.NotText
 -- the reply is what is answered to a query of this world
 abbrev pub IsAnswer : World → Query → Reply → Type 0
 IsAnswer w q r = reply_said r ≡ Answered (answer_of w q)
+
+-- what is answered of the text from a position to where another may be
+abbrev pub text_answered : FlatText → Position → Option Position → answer.Answer
+text_answered t p to = option_map_or (λ q. answer.Text (Some (text_between t p q))) to answer.NotText
 
 -- the commands in turn take one world to another, these events are told, and these are the replies; or memory was wanting, and so did the first of them
 abbrev pub IsRun : World → List Command → World → List Event → Result (Vec Reply) RunStopped → Type 0

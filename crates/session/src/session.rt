@@ -20,7 +20,7 @@ use tree_changes::UpdateError;
 
 /// The reply to an update.
 fn said(done: Result<(), UpdateError>) -> Reply
-    ensures { reply_said result ≡ reply_of done.entry }
+    ensures { reply_said result ≡ reply_of done }
 {
     match done {
         Ok(()) => Reply::Accepted,

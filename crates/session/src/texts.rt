@@ -4,11 +4,12 @@ ghost use Rattle.model.specs.declared.queries.Query.TheVariants.{Move as ToMove,
 ghost use Rattle.model.specs.State.{IsState};
 ghost use Rattle.model.specs.TextRuns.{supports_text_ranges};
 ghost use Rattle.model.specs.FlatText.{offset, total, position_cmp};
-ghost use Rattle.model.specs.Queries.{position_at as place_at, moved as place_after, raw_of, text_between as between};
+ghost use Rattle.model.specs.Queries.{position_at as place_at, moved as place_after, raw_of, of_position, text_between as between};
+ghost use Rattle.model.specs.Run.{Answered};
 ghost use Rattle.accesskit_consumer.specs.Views.{world_of};
 ghost use Rattle.accesskit_consumer.specs.Nodes.{world_at, id_at};
 ghost use Rattle.accesskit_consumer.specs.Positions.{root_at, text_of, text_at, position_at};
-ghost use Rattle.session.specs.Replied.{IsAnswer};
+ghost use Rattle.session.specs.Replied.{reply_said, text_answered, IsAnswer};
 
 use crate::answers::named_node;
 use crate::commands::Reply;
@@ -160,6 +161,33 @@ fn text_between<'a>(
     range.text(alloc)
 }
 
+/// The text from a position to where another may be.
+fn text_up_to(
+    alloc: Global,
+    start: TextPosition<'_>,
+    end: Option<TextPosition<'_>>,
+) -> Result<Reply, AllocError>
+    requires { IfSome end (λ p. root_at p ≡ root_at start) }
+    ensures { IfOk result (λ reply. reply_said reply ≡ Answered (text_answered (text_at start.entry) (position_at start.entry) (option_map position_at end.entry))) }
+{
+    let Some(end) = end else {
+        return Ok(Reply::NotText);
+    };
+    let text = text_between(alloc, start, end)?;
+    Ok(Reply::Text(Some(text)))
+}
+
+/// The text of a node from one position to another.
+fn text_within(alloc: Global, node: NodeRef, from: At, to: At) -> Result<Reply, AllocError>
+    requires { supports_text_ranges (world_at node) (id_at node) ≡ true }
+    ensures { let t = text_of node.entry in IfOk result (λ reply. reply_said reply ≡ Answered (of_position t from (λ p. text_answered t p (place_at t to)))) }
+{
+    let Some(start) = position_of(node, from) else {
+        return Ok(Reply::NotText);
+    };
+    text_up_to(alloc, start, position_of(node, to))
+}
+
 /// The text from one position to another.
 pub(crate) fn range_text(
     alloc: Global,
@@ -177,12 +205,5 @@ pub(crate) fn range_text(
     if !node.supports_text_ranges() {
         return Ok(Reply::NotText);
     }
-    let Some(start) = position_of(node, from) else {
-        return Ok(Reply::NotText);
-    };
-    let Some(end) = position_of(node, to) else {
-        return Ok(Reply::NotText);
-    };
-    let text = text_between(alloc, start, end)?;
-    Ok(Reply::Text(Some(text)))
+    text_within(alloc, node, from, to)
 }
