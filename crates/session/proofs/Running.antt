@@ -1,5 +1,5 @@
 -- A run, command by command.
-use Rattle.std.proofs.Common.{◌≡◌, ℕ, ◌≤◌, ◌+◌, List, [], ◌∷◌, ◌++◌, length, take, map, arith, sym, ap, ◌∙◌, subst}
+use Rattle.std.proofs.Common.{◌≡◌, ℕ, ◌≤◌, ◌+◌, List, [], ◌∷◌, ◌++◌, length, take, map, arith, sym, ap, ◌∙◌, subst, append_assoc}
 use Rattle.std.proofs.lemmas.List.{map-append, length-map, length-append}
 use Rattle.std.proofs.Math.Seq.{take-append_seam}
 use Rattle.model.specs.World.{World}
@@ -10,7 +10,8 @@ use Rattle.model.specs.Run.{CommandData, ToUpdate, ReplyData, Does, Runs, RunsUp
 use Rattle.model.proofs.Run.Runs.{runs_more, replies_length, after_command}
 use Rattle.tree_changes.specs.declared.error.UpdateError.{UpdateError}
 use Rattle.accesskit_consumer.specs.Replies.{reply_of}
-use Rattle.std.specs.Prelude.{Result, Ok, Err, Option, Some, None, IfSome, IsSomeAnd}
+use Rattle.std.specs.Prelude.{Result, Ok, Err, Option, Some, None, IfSome, IsSomeAnd, if◌then◌else◌}
+use Rattle.std.specs.Result.{IsOk, is_ok}
 use Rattle.std.specs.Global.{Vec}
 use Rattle.model.specs.Mirror.{Records, AreRecordsOf, MirrorsWhileKept}
 use Rattle.model.proofs.Mirror.KeptRecords.{kept_records_follow_run}
@@ -57,6 +58,19 @@ pub stops : {H : Type 0} (steps : H → Event → H → Type 0) (w m v : World) 
 stops steps w m v s t u done cs others all told rs runs heard rest is e =
     let kept : t ≡ u = subst (λ es. Told steps t es u) rest.1.1 rest.2 in
     (told, subst (λ z. RunsUpTo done w (map command_said all) z told (map reply_said rs)) (sym rest.1.0) (run_stops w m done cs others all told rs runs (is ∙ as_many w m cs told rs runs) e), subst (Told steps s told) kept heard)
+
+-- while a command is left, fewer than all have run
+pub one_left : (all cs others more : List Command) (c : Command) → all ≡ cs ++ others → others ≡ c ∷ more → length cs + 1 ≤ length all
+one_left all cs others more c h left =
+    let a = ap length h in let b = length-append cs others in let d : length others ≡ length more + 1 = (let e = ap length left in omega (arith, e)) in omega (arith, a, b, d)
+
+-- and the others are the rest
+pub others_left : (all cs others more : List Command) (c : Command) → all ≡ cs ++ others → others ≡ c ∷ more → all ≡ (cs ++ c ∷ []) ++ more
+others_left all cs others more c h left = h ∙ ap (λ xs. cs ++ xs) left ∙ sym (append_assoc cs (c ∷ []) more)
+
+-- what was appended
+pub appended : {X U E : Type 0} (r : Result U E) (old new : List X) (x : X) → IsOk r → new ≡ (if is_ok r then old ++ x ∷ [] else old) → new ≡ old ++ x ∷ []
+appended r old new x is h = h ∙ ap (λ b. if b then old ++ x ∷ [] else old) is
 
 -- a mirror follows a run, also one that stopped
 pub mirrored : (old new : World) (commands : List Command) (result : Result (Vec Reply) RunStopped) (told : List Event) (m n : Option Records) →
