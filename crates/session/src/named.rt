@@ -4,9 +4,7 @@ ghost use Rattle.model.specs.Filters.{filter_named};
 ghost use Rattle.accesskit_consumer.specs.Nodes.{world_at, id_at};
 
 use accesskit_consumer::NodeRef;
-use accesskit_consumer::filters::{
-    FilterResult, common_filter, common_filter_with_root_exception,
-};
+use accesskit_consumer::filters::{FilterResult, common_filter, common_filter_with_root_exception};
 use model::NamedFilter;
 
 /// What the filter of this name makes of a node.

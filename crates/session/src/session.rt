@@ -85,7 +85,8 @@ impl Session {
             × Does self.old (ToHostFocus is_focused) self.new told Accepted
             × Told H.steps handler.old told handler.new }
     {
-        self.tree.update_host_focus_state_and_process_changes(is_focused, handler);
+        self.tree
+            .update_host_focus_state_and_process_changes(is_focused, handler);
     }
 
     /// Answers a question.
@@ -103,8 +104,8 @@ impl Session {
     ) -> Result<Reply, AllocError>
         ensures { (told : List Event)
             × MatchResult result
-                (λ reply. Does self.old (command_said command) self.new told (reply_said reply))
-                (λ _. (self.new ≡ self.old) × (told ≡ []))
+            (λ reply. Does self.old (command_said command) self.new told (reply_said reply))
+            (λ _. (self.new ≡ self.old) × (told ≡ []))
             × Told H.steps handler.old told handler.new }
     {
         match command {

@@ -58,8 +58,9 @@ pub(crate) fn following_filtered_ids(
         IfOk result (λ ids. ids.items ≡ following_filtered_siblings (filter_named filter w) w (id_at node.entry)) }
 {
     let mut ids = Vec::new(alloc);
-    let mut walk =
-        node.following_filtered_siblings(move |shown: &NodeRef<'_>| answer_by(filter, shown));
+    let mut walk = node.following_filtered_siblings(move |shown: &NodeRef<'_>| answer_by(
+        filter, shown,
+    ));
     while let Some(shown) = walk.next() {
         ids.push(shown.id())?;
     }
@@ -75,8 +76,9 @@ pub(crate) fn preceding_filtered_ids(
         IfOk result (λ ids. ids.items ≡ preceding_filtered_siblings (filter_named filter w) w (id_at node.entry)) }
 {
     let mut ids = Vec::new(alloc);
-    let mut walk =
-        node.preceding_filtered_siblings(move |shown: &NodeRef<'_>| answer_by(filter, shown));
+    let mut walk = node.preceding_filtered_siblings(move |shown: &NodeRef<'_>| answer_by(
+        filter, shown,
+    ));
     while let Some(shown) = walk.next() {
         ids.push(shown.id())?;
     }
