@@ -1,7 +1,7 @@
 -- The text from one position to another.
-use Rattle.std.proofs.Common.{◌≡◌, ℕ, List, ap, ◌∙◌}
-use Rattle.model.specs.FlatText.{FlatText, flat_text}
-use Rattle.model.specs.Ranges.{Range, text_of, with_end}
+use Rattle.std.proofs.Common.{◌≡◌, ap, ◌∙◌}
+use Rattle.model.specs.FlatText.{flat_text}
+use Rattle.model.specs.Ranges.{text_of, with_end}
 use Rattle.model.specs.Queries.{text_between}
 use Rattle.accesskit_consumer.specs.declared.text.position.TextPosition.{TextPosition}
 use Rattle.accesskit_consumer.specs.declared.text.range.TextRange.{TextRange}

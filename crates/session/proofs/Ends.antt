@@ -1,10 +1,10 @@
 -- Whether there is a character after a position, or before it.
-use Rattle.std.proofs.Common.{◌≡◌, ℕ, ◌+◌, ◌-◌, [], ◌∷◌, length, arith, refl, sym, ap, subst, ◌∙◌, Bool, true, false, Some}
+use Rattle.std.proofs.Common.{◌≡◌, ℕ, ◌+◌, ◌-◌, [], ◌∷◌, length, arith, refl, sym, ap, subst, ◌∙◌, Bool, true, false}
 use Rattle.std.specs.Prelude.{nat_lt, ◌==◌, cond, MatchBool}
 use Rattle.std.specs.declared.cmp.Ordering.TheVariants.{Less, Equal, Greater}
 use Rattle.std.specs.Ordering.{nat_cmp, is_lt}
 use Rattle.model.specs.Forest.{is_same}
-use Rattle.model.specs.FlatText.{FlatText, Position, total, start_of, offset, position_cmp, document_start, document_end}
+use Rattle.model.specs.FlatText.{FlatText, total, start_of, offset, position_cmp, document_start, document_end}
 use Rattle.model.proofs.Forest.PlaceOf.{test_self}
 use Rattle.model.proofs.Text.Indexes.{start_at_end}
 use Rattle.model.proofs.Text.TextFacts.{start_next}

@@ -6,7 +6,7 @@ use Rattle.model.specs.World.{World}
 use Rattle.model.specs.Events.{Event, Told}
 use Rattle.model.specs.State.{IsState}
 use Rattle.model.specs.Update.{UpdateData}
-use Rattle.model.specs.Run.{CommandData, ToUpdate, ReplyData, Does, Runs, RunsUpTo}
+use Rattle.model.specs.Run.{ToUpdate, Does, Runs, RunsUpTo}
 use Rattle.model.proofs.Run.Runs.{runs_more, replies_length, after_command}
 use Rattle.tree_changes.specs.declared.error.UpdateError.{UpdateError}
 use Rattle.accesskit_consumer.specs.Replies.{reply_of}

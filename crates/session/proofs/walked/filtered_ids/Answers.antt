@@ -1,6 +1,6 @@
-use Rattle.std.proofs.Common.{◌≡◌, ◌++◌, ◌∷◌, [], sym, ap, ◌∙◌, append_assoc, rules}
+use Rattle.std.proofs.Common.{◌++◌, ◌∷◌, [], sym, ap, ◌∙◌, append_assoc, rules}
 use Rattle.model.specs.Filters.{filter_named}
-use Rattle.accesskit_consumer.specs.Nodes.{world_at, id_at}
+use Rattle.accesskit_consumer.specs.Nodes.{world_at}
 use Rattle.accesskit_consumer.specs.Walks.{ids_left}
 use Rattle.session.proofs.walked.filtered_ids.Goals as goal
 

@@ -1,5 +1,4 @@
-use Rattle.std.proofs.Common.{◌≡◌, ◌+◌, ◌≤◌, ◌<◌, ◌++◌, ◌∷◌, [], List, map, length, arith, subst, sym, rules}
-use Rattle.std.specs.Vec.{vec_len, vec_capacity}
+use Rattle.std.proofs.Common.{◌≡◌, ◌++◌, ◌∷◌, [], map, length, arith, subst, sym, rules}
 use Rattle.model.specs.Run.{Runs}
 use Rattle.model.proofs.Differences.Tellings.{told_append}
 use Rattle.session.specs.Replied.{command_said, reply_said}
