@@ -1,0 +1,5 @@
+pub mod Naming
+pub mod Running
+pub mod Ends
+pub mod Betweens
+pub mod RangeAnswers

@@ -1,0 +1,19 @@
+//! Filters by their names.
+ghost use Rattle.std.specs.Prelude.{◌≡◌};
+ghost use Rattle.model.specs.Filters.{filter_named};
+ghost use Rattle.accesskit_consumer.specs.Nodes.{world_at, id_at};
+
+use accesskit_consumer::NodeRef;
+use accesskit_consumer::filters::{FilterResult, common_filter, common_filter_with_root_exception};
+use model::NamedFilter;
+
+/// What the filter of this name makes of a node.
+pub(crate) fn answer_by(filter: NamedFilter, node: &NodeRef<'_>) -> FilterResult
+    ensures { result ≡ filter_named filter (world_at node.now) (id_at node.now) }
+{
+    match filter {
+        NamedFilter::All => FilterResult::Include,
+        NamedFilter::Common => common_filter(node),
+        NamedFilter::CommonWithRoot => common_filter_with_root_exception(node),
+    }
+}

@@ -1,0 +1,171 @@
+//! A session, and its runs.
+ghost use Rattle.std.specs.Prelude.{◌≡◌, [], List, MatchResult, IfOk, IfErr, IfSome, IsSomeAnd};
+ghost use Rattle.schema.specs.UpdateData.{update_data};
+ghost use Rattle.model.specs.Events.{Event, Told};
+ghost use Rattle.model.specs.Mirror.{AreRecordsOf, MirrorsWhileKept};
+ghost use Rattle.model.specs.Run.{Begins, Does, ToUpdate, ToHostFocus, Accepted};
+ghost use Rattle.model.specs.State.{empty_world};
+ghost use Rattle.tree_changes.specs.Refusals.{IsRefusal};
+ghost use Rattle.accesskit_consumer.specs.Replies.{reply_of};
+ghost use Rattle.session.specs.Replied.{command_said, reply_said, IsAnswer, IsRun};
+
+use crate::answers::answer;
+use crate::commands::{Command, Reply, RunStopped};
+use accesskit_consumer::tree::{Mirror, Tree, TreeChangeHandler};
+use model::Query;
+use schema::TreeUpdate;
+use std::alloc::{AllocError, Global};
+use std::marker::Model;
+use tree_changes::UpdateError;
+
+/// The reply to an update.
+fn said(done: Result<(), UpdateError>) -> Reply
+    ensures { reply_said result ≡ reply_of done }
+{
+    match done {
+        Ok(()) => Reply::Accepted,
+        Err(error) => Reply::Refused(error),
+    }
+}
+
+/// A tree over which commands run.
+#[derive(Drop)]
+pub struct Session {
+    alloc: Global,
+    tree: Tree,
+}
+
+impl Model for Session {
+    ghost use Rattle.model.specs.World.{World};
+    ghost use Rattle.model.specs.Codes.{coded_world};
+    ghost use Rattle.model.specs.State.{IsState};
+
+    ghost Value = { World };
+
+    ghost coded = { coded_world };
+
+    ghost view = { λ a. a.tree };
+
+    ghost invariant = { λ a. IsState a.tree };
+}
+
+impl Session {
+    /// The session of a first update. Of it nothing is told. It is refused as [`Tree::new`] refuses it.
+    pub fn new(
+        alloc: Global,
+        update: TreeUpdate,
+        is_host_focused: bool,
+    ) -> Result<Session, UpdateError>
+        ensures ok { IfOk result (λ session. Begins is_host_focused (update_data update) session) }
+        ensures err { IfErr result (λ e. IsRefusal (empty_world is_host_focused) (update_data update) e) }
+    {
+        let tree = Tree::new(alloc, update, is_host_focused)?;
+        Ok(Session { alloc, tree })
+    }
+
+    /// The tree as it is now.
+    pub fn tree(&self) -> &Tree
+        ensures { result.now ≡ self.now }
+    {
+        &self.tree
+    }
+
+    /// Applies an update.
+    fn update<H: TreeChangeHandler>(&mut self, update: TreeUpdate, handler: &mut H) -> Reply
+        ensures { (told : List Event)
+            × Does self.old (ToUpdate (update_data update)) self.new told (reply_said result)
+            × Told H.steps handler.old told handler.new }
+    {
+        said(self.tree.update_and_process_changes(update, handler))
+    }
+
+    /// Sets whether the host is focused.
+    fn refocus<H: TreeChangeHandler>(&mut self, is_focused: bool, handler: &mut H)
+        ensures { (told : List Event)
+            × Does self.old (ToHostFocus is_focused) self.new told Accepted
+            × Told H.steps handler.old told handler.new }
+    {
+        self.tree
+            .update_host_focus_state_and_process_changes(is_focused, handler);
+    }
+
+    /// Answers a question.
+    fn ask(&self, query: Query) -> Result<Reply, AllocError>
+        ensures { IfOk result (IsAnswer self.now query) }
+    {
+        answer(self.alloc, self.tree.state().view(), query)
+    }
+
+    /// Runs a command. Where memory is wanting for the answer to a question, nothing has changed and nothing is told.
+    fn reply<H: TreeChangeHandler>(
+        &mut self,
+        command: Command,
+        handler: &mut H,
+    ) -> Result<Reply, AllocError>
+        ensures { (told : List Event)
+            × MatchResult result
+            (λ reply. Does self.old (command_said command) self.new told (reply_said reply))
+            (λ _. (self.new ≡ self.old) × (told ≡ []))
+            × Told H.steps handler.old told handler.new }
+    {
+        match command {
+            Command::Update(update) => Ok(self.update(update, handler)),
+            Command::HostFocus(is_focused) => {
+                self.refocus(is_focused, handler);
+                Ok(Reply::Accepted)
+            }
+            Command::Query(query) => self.ask(query),
+        }
+    }
+
+    /// Runs commands in turn, and replies to each. The handler is told of each change of the tree in order.
+    ///
+    /// An update that finds no memory is refused, and the run goes on. Room for all replies is made before the first
+    /// command.
+    ///
+    /// # Errors
+    ///
+    /// `RunStopped`: memory was wanting for that room, or for the answer to a question. The commands before it stand,
+    /// with their replies, and the others didn't run.
+    pub fn run<H: TreeChangeHandler>(
+        &mut self,
+        commands: Vec<Command>,
+        handler: &mut H,
+    ) -> Result<Vec<Reply>, RunStopped>
+        ensures { (told : List Event)
+            × IsRun self.old commands.items self.new told result
+            × Told H.steps handler.old told handler.new }
+    {
+        let Ok(mut replies) = Vec::with_capacity(self.alloc, commands.len()) else {
+            let replies = Vec::new(self.alloc);
+            return Err(RunStopped { done: 0, replies });
+        };
+        for command in commands {
+            let Ok(reply) = self.reply(command, handler) else {
+                let done = replies.len();
+                return Err(RunStopped { done, replies });
+            };
+            replies.push(reply).unwrap();
+        }
+        Ok(replies)
+    }
+
+    /// As [`Session::run`], with a mirror as its handler: one that held the records of the tree holds those of the tree
+    /// after the run, also after one that was stopped, unless it found no memory.
+    ///
+    /// # Errors
+    ///
+    /// `RunStopped`, as [`Session::run`].
+    pub fn run_mirrored(
+        &mut self,
+        commands: Vec<Command>,
+        mirror: &mut Mirror,
+    ) -> Result<Vec<Reply>, RunStopped>
+        ensures run { (told : List Event)
+            × IsRun self.old commands.items self.new told result
+            × Told MirrorsWhileKept mirror.old told mirror.new }
+        ensures mirrored { IsSomeAnd mirror.old (AreRecordsOf self.old) → IfSome mirror.new (AreRecordsOf self.new) }
+    {
+        self.run(commands, mirror)
+    }
+}

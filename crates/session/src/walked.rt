@@ -1,0 +1,86 @@
+//! The ids that walks give.
+ghost use Rattle.std.specs.Prelude.{◌≡◌, IfOk};
+ghost use Rattle.model.specs.World.{children};
+ghost use Rattle.model.specs.Lists.{following_siblings, preceding_siblings};
+ghost use Rattle.model.specs.Frontier.{filtered_children};
+ghost use Rattle.model.specs.Covers.{following_filtered_siblings, preceding_filtered_siblings};
+ghost use Rattle.model.specs.Filters.{filter_named};
+ghost use Rattle.accesskit_consumer.specs.Nodes.{world_at, id_at};
+
+use crate::named::answer_by;
+use accesskit_consumer::NodeRef;
+use model::{FullNodeId, NamedFilter};
+use std::alloc::{AllocError, Global};
+
+pub(crate) fn child_ids(alloc: Global, node: NodeRef) -> Result<Vec<FullNodeId>, AllocError>
+    ensures { IfOk result (λ ids. ids.items ≡ children (world_at node.entry) (id_at node.entry)) }
+{
+    let ids: Vec<FullNodeId> = node.child_ids().collect(alloc)?;
+    Ok(ids)
+}
+
+pub(crate) fn following_ids(alloc: Global, node: NodeRef) -> Result<Vec<FullNodeId>, AllocError>
+    ensures { IfOk result (λ ids. ids.items ≡ following_siblings (world_at node.entry) (id_at node.entry)) }
+{
+    let ids: Vec<FullNodeId> = node.following_sibling_ids().collect(alloc)?;
+    Ok(ids)
+}
+
+pub(crate) fn preceding_ids(alloc: Global, node: NodeRef) -> Result<Vec<FullNodeId>, AllocError>
+    ensures { IfOk result (λ ids. ids.items ≡ preceding_siblings (world_at node.entry) (id_at node.entry)) }
+{
+    let ids: Vec<FullNodeId> = node.preceding_sibling_ids().collect(alloc)?;
+    Ok(ids)
+}
+
+pub(crate) fn filtered_ids(
+    alloc: Global,
+    node: NodeRef,
+    filter: NamedFilter,
+) -> Result<Vec<FullNodeId>, AllocError>
+    ensures { let w = world_at node.entry in
+        IfOk result (λ ids. ids.items ≡ filtered_children (filter_named filter w) w (id_at node.entry)) }
+{
+    let mut ids = Vec::new(alloc);
+    let mut walk = node.filtered_children(move |shown: &NodeRef<'_>| answer_by(filter, shown));
+    while let Some(shown) = walk.next() {
+        ids.push(shown.id())?;
+    }
+    Ok(ids)
+}
+
+pub(crate) fn following_filtered_ids(
+    alloc: Global,
+    node: NodeRef,
+    filter: NamedFilter,
+) -> Result<Vec<FullNodeId>, AllocError>
+    ensures { let w = world_at node.entry in
+        IfOk result (λ ids. ids.items ≡ following_filtered_siblings (filter_named filter w) w (id_at node.entry)) }
+{
+    let mut ids = Vec::new(alloc);
+    let mut walk = node.following_filtered_siblings(move |shown: &NodeRef<'_>| answer_by(
+        filter, shown,
+    ));
+    while let Some(shown) = walk.next() {
+        ids.push(shown.id())?;
+    }
+    Ok(ids)
+}
+
+pub(crate) fn preceding_filtered_ids(
+    alloc: Global,
+    node: NodeRef,
+    filter: NamedFilter,
+) -> Result<Vec<FullNodeId>, AllocError>
+    ensures { let w = world_at node.entry in
+        IfOk result (λ ids. ids.items ≡ preceding_filtered_siblings (filter_named filter w) w (id_at node.entry)) }
+{
+    let mut ids = Vec::new(alloc);
+    let mut walk = node.preceding_filtered_siblings(move |shown: &NodeRef<'_>| answer_by(
+        filter, shown,
+    ));
+    while let Some(shown) = walk.next() {
+        ids.push(shown.id())?;
+    }
+    Ok(ids)
+}
