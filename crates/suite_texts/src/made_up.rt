@@ -8,7 +8,6 @@ use accesskit_consumer::text::TextPosition;
 use plain_worlds::drafts::Dice;
 use schema::Role;
 use std::alloc::Global;
-use std::cmp::Ordering;
 use std::process::Abort;
 use std::test::Fail;
 
@@ -174,26 +173,6 @@ fn assert_range(
     Ok(())
 }
 
-/// Asserts the moves by character from a position, where there is one.
-fn assert_characters(rt: &impl Abort, root: NodeRef, text: &PlainText, position: TextPosition) {
-    let at = spot(position);
-    if !root.supports_text_ranges() {
-        return;
-    }
-    if position.compare(&root.document_end()) == Some(Ordering::Less) {
-        let next = text.next(at);
-        let given = (
-            spot(position.forward_to_character_start()),
-            spot(position.forward_to_character_end()),
-        );
-        assert!(rt; given == (next, text.to_end(next)), "{at:?}");
-    }
-    if position.compare(&root.document_start()) == Some(Ordering::Greater) {
-        let previous = spot(position.backward_to_character_start());
-        assert!(rt; previous == text.previous(at), "{at:?}");
-    }
-}
-
 /// Asserts the positions of all indexes and the ranges of all lines, and of one more of each.
 fn assert_numbered(rt: &impl Abort, root: NodeRef, text: &PlainText, lengths: &[(usize, usize)]) {
     if !root.supports_text_ranges() {
@@ -240,7 +219,6 @@ fn made_up_texts_are_one_flat_list(rt: HostRuntime) -> Result<(), Fail> {
             let position = on_side(root, side.0, side.1)?;
             assert_position(&rt, &text, position);
             assert_indexes(&rt, &text, &lengths, position);
-            assert_characters(&rt, root, &text, position);
             for _ in 0..3u32 {
                 let other = dice.of(&sides).ok_or("no position")?;
                 assert_range(&rt, alloc, &text, root, [*side, other])?;

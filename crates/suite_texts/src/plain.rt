@@ -158,13 +158,8 @@ impl PlainText {
     }
 
     /// The spot past the next character, on the start side.
-    pub fn next(&self, spot: Spot) -> Spot {
+    fn next(&self, spot: Spot) -> Spot {
         self.start_side(self.offset(spot).saturating_add(1))
-    }
-
-    /// The spot before the last character, on the start side.
-    pub fn previous(&self, spot: Spot) -> Spot {
-        self.start_side(self.offset(spot).saturating_sub(1))
     }
 
     fn ends_line(&self, run: usize) -> bool {
