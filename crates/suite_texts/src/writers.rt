@@ -1,5 +1,6 @@
 //! Writers that fail: they have a beginning of the text then, and hear no more.
 
+ghost use Rattle.std.specs.Prelude.{◌≡◌};
 ghost use Rattle.std.specs.String.{string_bytes};
 
 use crate::planting::{brought, shown};
