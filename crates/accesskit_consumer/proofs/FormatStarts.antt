@@ -1,8 +1,9 @@
 -- Where formats begin, and searches for that, run by run.
-use Rattle.std.proofs.Common.{◌≡◌, ℕ, ◌+◌, ◌-◌, ◌<◌, ◌≤◌, Bool, true, false, cond, [], length, Some, None, refl, sym, ap, ◌∙◌, arith}
+use Rattle.std.proofs.Common.{◌≡◌, ℕ, ◌+◌, ◌-◌, ◌<◌, ◌≤◌, Bool, true, false, cond, [], length, get_or, Some, None, refl, sym, ap, ◌∙◌, arith, lit<}
 use Rattle.std.specs.Prelude.{◌==◌, ◌||◌, ◌&&◌, nat_lt, not, slice_get, Option, if◌then◌else◌}
 use Rattle.std.specs.Option.{option_map_or}
 use Rattle.std.proofs.lemmas.Bool.{eqb-true, ltb-true, ltb-false}
+use Rattle.std.proofs.lemmas.List.Elements.{All-from_recursion}
 use Rattle.schema.specs.SameBy.{same_by-decides}
 use Rattle.model.specs.Styles.{Style, style_of, coded_style, same_style}
 use Rattle.model.specs.TextRuns.{SentRun}
@@ -15,7 +16,11 @@ use Rattle.accesskit_consumer.specs.Nodes.{world_at, id_at}
 use Rattle.accesskit_consumer.specs.Runs.{run_world, root_of, run_id, run_of, sent_of, ids_after, ids_before, IsAfter, IsBefore}
 use Rattle.accesskit_consumer.specs.RunNumbers.{number_in, text_around}
 use Rattle.accesskit_consumer.specs.Positions.{text_of}
-use Rattle.accesskit_consumer.specs.Formats.{style_at, SameLetters, SameColors, SameStrokes, SameSetting}
+use Rattle.accesskit_consumer.specs.declared.text.looks.Look.{Look}
+use Rattle.accesskit_consumer.specs.declared.text.looks.Look.TheVariants.{Direction}
+use Rattle.accesskit_consumer.specs.declared.text.formats.TheConstants.{FORMAT}
+use Rattle.accesskit_consumer.specs.Looks.{AreSame}
+use Rattle.accesskit_consumer.specs.Formats.{style_at}
 use Rattle.accesskit_consumer.proofs.FlatRuns.{shown_of, shown_at_number, runs_counted, last_number, first_number, number_next, number_previous, more_runs}
 
 -- ---- one format
@@ -24,41 +29,54 @@ false_from : (b : Bool) → (b ≡ true → ⊥) → false ≡ b
 false_from true off = absurd (off refl)
 false_from false off = refl
 
-module _ (a b : Style) where
-  one_style : same_style a b ≡ true → a ≡ b
+-- two nodes have the same of the look with this number
+abbrev pub IsAlikeAt : NodeRef → NodeRef → ℕ → Type 0
+IsAlikeAt a b k = AreSame (get_or FORMAT k Direction) (world_at b) (id_at a) (id_at b)
+
+module _ (a b : NodeRef) (same : world_at a ≡ world_at b) where
+  abbrev own : Style
+  own = style_of (world_at b) (id_at a)
+
+  own_is : style_at a ≡ own
+  own_is = ap (λ w. style_of w (id_at a)) same
+
+  pub one_format : ((k : ℕ) → k < 11 → IsAlikeAt a b k) → true ≡ same_style (style_at a) (style_at b)
   unfolding same_style
-  one_style = (same_by-decides coded_style a b).0
+  one_format alike =
+      let one : own ≡ style_at b = λ i. record {
+        font_family = alike 0 (lit< tt) i;
+        language = alike 1 (lit< tt) i;
+        font_size = alike 2 (lit< tt) i;
+        font_weight = alike 3 (lit< tt) i;
+        background_color = alike 4 (lit< tt) i;
+        foreground_color = alike 5 (lit< tt) i;
+        overline = alike 6 (lit< tt) i;
+        strikethrough = alike 7 (lit< tt) i;
+        underline = alike 8 (lit< tt) i;
+        text_align = alike 9 (lit< tt) i;
+        vertical_offset = alike 10 (lit< tt) i;
+      } in
+      sym ((same_by-decides coded_style (style_at a) (style_at b)).1 (own_is ∙ one))
 
-  same_itself : a ≡ b → same_style a b ≡ true
+  all_alike : own ≡ style_at b → (k : ℕ) → k < 11 → IsAlikeAt a b k
+  all_alike s k = All-from_recursion (λ what. AreSame what (world_at b) (id_at a) (id_at b)) FORMAT
+      (ap (λ (x : Style). x.font_family) s,
+      (ap (λ (x : Style). x.language) s,
+      (ap (λ (x : Style). x.font_size) s,
+      (ap (λ (x : Style). x.font_weight) s,
+      (ap (λ (x : Style). x.background_color) s,
+      (ap (λ (x : Style). x.foreground_color) s,
+      (ap (λ (x : Style). x.overline) s,
+      (ap (λ (x : Style). x.strikethrough) s,
+      (ap (λ (x : Style). x.underline) s,
+      (ap (λ (x : Style). x.text_align) s,
+      (ap (λ (x : Style). x.vertical_offset) s,
+      tt))))))))))) k Direction
+
+  pub other_format : (k : ℕ) → k < 11 → (IsAlikeAt a b k → ⊥) → false ≡ same_style (style_at a) (style_at b)
   unfolding same_style
-  same_itself = (same_by-decides coded_style a b).1
-
-  pub other_letters : (SameLetters a b → ⊥) → false ≡ same_style a b
-  other_letters off = false_from (same_style a b) (λ e. let s = one_style e in off (record { font_family = ap (λ x. x.font_family) s; font_size = ap (λ x. x.font_size) s; font_weight = ap (λ x. x.font_weight) s }))
-
-  pub other_colors : (SameColors a b → ⊥) → false ≡ same_style a b
-  other_colors off = false_from (same_style a b) (λ e. let s = one_style e in off (record { background_color = ap (λ x. x.background_color) s; foreground_color = ap (λ x. x.foreground_color) s }))
-
-  pub other_strokes : (SameStrokes a b → ⊥) → false ≡ same_style a b
-  other_strokes off = false_from (same_style a b) (λ e. let s = one_style e in off (record { overline = ap (λ x. x.overline) s; strikethrough = ap (λ x. x.strikethrough) s; underline = ap (λ x. x.underline) s }))
-
-  pub other_setting : (SameSetting a b → ⊥) → false ≡ same_style a b
-  other_setting off = false_from (same_style a b) (λ e. let s = one_style e in off (record { language = ap (λ x. x.language) s; text_align = ap (λ x. x.text_align) s; vertical_offset = ap (λ x. x.vertical_offset) s }))
-
-  pub same_parts : SameLetters a b → SameColors a b → SameStrokes a b → SameSetting a b → true ≡ same_style a b
-  same_parts l c s g = sym (same_itself (λ i. record {
-    font_family = l.font_family i;
-    language = g.language i;
-    font_size = l.font_size i;
-    font_weight = l.font_weight i;
-    background_color = c.background_color i;
-    foreground_color = c.foreground_color i;
-    overline = s.overline i;
-    strikethrough = s.strikethrough i;
-    underline = s.underline i;
-    text_align = g.text_align i;
-    vertical_offset = g.vertical_offset i;
-  }))
+  other_format k lt off =
+      false_from (same_style (style_at a) (style_at b)) (λ e. off (all_alike (sym own_is ∙ (same_by-decides coded_style (style_at a) (style_at b)).0 e) k lt))
 
 -- ---- where a format begins
 

@@ -6,20 +6,20 @@ use Rattle.std.proofs.lemmas.List.Elements.{All-cons}
 use Rattle.model.specs.declared.FullNodeId.{FullNodeId}
 use Rattle.model.specs.TextRuns.{SentRun}
 use Rattle.model.specs.FlatText.{FlatText, ShownRun}
-use Rattle.model.specs.Ranges.{Piece as PieceData, pieces, passed_runs, IsPropertyOf}
-use Rattle.model.specs.Ranges.Property.{Mixed}
+use Rattle.model.specs.Ranges.{Piece as PieceData, pieces, passed_runs}
 use Rattle.accesskit_consumer.specs.declared.node.node_ref.NodeRef.{NodeRef}
 use Rattle.accesskit_consumer.specs.declared.text.runs.Run.{Run}
 use Rattle.accesskit_consumer.specs.declared.text.range.TextRange.{TextRange}
 use Rattle.accesskit_consumer.specs.declared.text.pieces.Piece.{Piece}
-use Rattle.accesskit_consumer.specs.declared.text.range_properties.Look.{Look}
+use Rattle.accesskit_consumer.specs.declared.text.looks.Look.{Look}
 use Rattle.accesskit_consumer.specs.Nodes.{world_at, id_at}
 use Rattle.accesskit_consumer.specs.Runs.{root_of, run_id, run_of, sent_of}
 use Rattle.accesskit_consumer.specs.Positions.{text_of as text_under}
 use Rattle.accesskit_consumer.specs.RunNumbers.{number_in}
 use Rattle.accesskit_consumer.specs.TextRanges.{world_in, text_in, range_at}
 use Rattle.accesskit_consumer.specs.Pieces.{piece_data, pieces_past, IsNextPiece}
-use Rattle.accesskit_consumer.specs.RangeProperties.{AreSame, SomeDiffers}
+use Rattle.accesskit_consumer.specs.Looks.{AreSame}
+use Rattle.accesskit_consumer.specs.RangeProperties.{SomeDiffer}
 use Rattle.accesskit_consumer.proofs.Focusing.{is_not}
 use Rattle.accesskit_consumer.proofs.FlatRuns.{shown_of, shown_at_number}
 use Rattle.accesskit_consumer.proofs.PieceSteps.{pieces_from, as_next}
@@ -44,6 +44,12 @@ module _ (r : TextRange) where
   -- the view of a piece's run stands in the world of the range
   pub world_of_view : (left : List PieceData) (p : Piece) (v : NodeRef) → IsNextPiece r left p → world_at v ≡ world_at (root_of p.run) → world_at v ≡ world_in r
   world_of_view left p v there e = e ∙ ap world_at there.same
+
+  -- the run of the first piece is one of those that the range passes
+  pub passes_first : (p : Piece) (v : NodeRef) → IsNextPiece r (pieces (text_in r) (range_at r)) p → run_of v ≡ sent_of p.run → Contains (passed_runs (text_in r) (range_at r)) (id_at v)
+  passes_first p v first is =
+      subst (λ id. Contains (passed_runs (text_in r) (range_at r)) id) (sym (ap (λ (s : SentRun). s.id) is))
+      (subst (λ ps. Contains (runs_in (text_in r) ps) (run_id p.run)) (sym first.is) (contains_own p first.same))
 
   module _ (what : Look) (node : NodeRef) where
     abbrev IsLike : FullNodeId → Type 0
@@ -74,8 +80,8 @@ module _ (r : TextRange) where
       all_past : b ≡ true → All IsLike past → All IsLike (passed_runs (text_in r) (range_at r))
       all_past e h = far.all (subst (All IsLike) (sym (run_first p far.there.same)) (All-cons IsLike (run_id p.run) past (tested_here.0 e) h))
 
-      pub look_stops : b ≡ false → SomeDiffers what r (id_at node)
-      look_stops e = (run_id p.run, far.some (run_id p.run) (contains_own p far.there.same), is_not b (IsLike (run_id p.run)) tested_here e)
+      pub look_stops : b ≡ false → Contains (passed_runs (text_in r) (range_at r)) (id_at node) → SomeDiffer what r
+      look_stops e own = (run_id p.run, id_at node, far.some (run_id p.run) (contains_own p far.there.same), own, is_not b (IsLike (run_id p.run)) tested_here e)
 
       pub look_ends : b ≡ true → pieces_past (text_in r) (range_at r) (number_in p.run) ≡ [] → All IsLike (passed_runs (text_in r) (range_at r))
       look_ends e none = all_past e (subst (All IsLike) (sym (ap (runs_in (text_in r)) none)) (all_of_none IsLike))
@@ -91,15 +97,3 @@ module _ (r : TextRange) where
         where
           later : {run : FullNodeId} → Contains past run → Contains (run_id p.run ∷ past) run
           later h = (suc h.0, (let l = h.1 in omega (arith, l)), h.2)
-
-  -- what is said of all
-  module _ {A : Type 0} (of : FullNodeId → A) (p : Piece) (v : NodeRef) (first : IsNextPiece r (pieces (text_in r) (range_at r)) p) (is : run_of v ≡ sent_of p.run) where
-    pub all_one : (x : A) → x ≡ of (id_at v) → All (λ run. of run ≡ of (id_at v)) (passed_runs (text_in r) (range_at r)) → All (λ run. of run ≡ x) (passed_runs (text_in r) (range_at r))
-    all_one x e all = λ k d h. all k d h ∙ sym e
-
-    pub not_one : (run : FullNodeId) × Contains (passed_runs (text_in r) (range_at r)) run × ¬ (of run ≡ of (id_at v)) → IsPropertyOf of (text_in r) (range_at r) Mixed
-    not_one h =
-        let own : Contains (passed_runs (text_in r) (range_at r)) (id_at v) =
-        subst (λ id. Contains (passed_runs (text_in r) (range_at r)) id) (sym (ap (λ (s : SentRun). s.id) is))
-        (subst (λ ps. Contains (runs_in (text_in r) ps) (run_id p.run)) (sym first.is) (contains_own p first.same)) in
-        (h.0, id_at v, h.1, own, h.2)

@@ -11,6 +11,7 @@ pub mod FilterValues
 pub mod Inherited
 pub mod RunLooks
 pub mod Formats
+pub mod Looks
 pub mod Reach
 pub mod Measures
 pub mod PointTests

@@ -10,6 +10,7 @@ mod indexes;
 mod line_counts;
 mod line_ranges;
 mod lines;
+mod looks;
 mod metrics;
 mod named;
 mod offsets;

@@ -1,140 +1,43 @@
 //! Where formats begin, and moves by format: a format is made up of runs that look alike.
-ghost use Rattle.std.specs.Prelude.{◌≡◌, ◌↔◌, ◌+◌, IsTrue, option_copied};
+ghost use Rattle.std.specs.Prelude.{◌≡◌, ◌+◌};
 ghost use Rattle.model.specs.Styles.{same_style};
 ghost use Rattle.model.specs.FlatText.{begins_format, is_format_start};
 ghost use Rattle.model.specs.Moves.{start_before, forward_to_format_start, forward_to_format_end, backward_to_format_start};
-ghost use Rattle.accesskit_consumer.specs.Formats.{style_at, SameLetters, SameColors, SameStrokes, SameSetting};
+ghost use Rattle.accesskit_consumer.specs.Nodes.{world_at};
+ghost use Rattle.accesskit_consumer.specs.Formats.{style_at};
 ghost use Rattle.accesskit_consumer.specs.Runs.{IsAfter};
 ghost use Rattle.accesskit_consumer.specs.RunNumbers.{number_in, text_around};
 ghost use Rattle.accesskit_consumer.specs.Positions.{IsAt, root_at, text_at, position_at};
 
 use crate::node::NodeRef;
+use crate::text::looks::{Look, are_same};
 use crate::text::position::TextPosition;
 use crate::text::runs::Run;
-use schema::{Color, TextAlign, TextDecoration, VerticalOffset};
 
-fn same_text(a: Option<&str>, b: Option<&str>) -> bool
-    ensures { IsTrue result ↔ (option_copied a.entry ≡ option_copied b.entry) }
-{
-    match (a, b) {
-        (Some(a), Some(b)) => a == b,
-        (None, None) => true,
-        _ => false,
-    }
-}
+/// What makes up a format.
+const FORMAT: [Look; 11] = [
+    Look::FontFamily,
+    Look::Language,
+    Look::FontSize,
+    Look::FontWeight,
+    Look::BackgroundColor,
+    Look::ForegroundColor,
+    Look::Overline,
+    Look::Strikethrough,
+    Look::Underline,
+    Look::Alignment,
+    Look::Offset,
+];
 
-fn same_size(a: Option<u32>, b: Option<u32>) -> bool
-    ensures { IsTrue result ↔ (a ≡ b) }
-{
-    a == b
-}
-
-fn same_weight(a: Option<u16>, b: Option<u16>) -> bool
-    ensures { IsTrue result ↔ (a ≡ b) }
-{
-    a == b
-}
-
-fn same_color(a: Option<Color>, b: Option<Color>) -> bool
-    ensures { IsTrue result ↔ (a ≡ b) }
-{
-    a == b
-}
-
-fn same_stroke(a: Option<TextDecoration>, b: Option<TextDecoration>) -> bool
-    ensures { IsTrue result ↔ (a ≡ b) }
-{
-    a == b
-}
-
-fn same_align(a: Option<TextAlign>, b: Option<TextAlign>) -> bool
-    ensures { IsTrue result ↔ (a ≡ b) }
-{
-    a == b
-}
-
-fn same_offset(a: Option<VerticalOffset>, b: Option<VerticalOffset>) -> bool
-    ensures { IsTrue result ↔ (a ≡ b) }
-{
-    a == b
-}
-
-/// Whether the letters of two nodes look alike.
-fn same_letters(a: NodeRef<'_>, b: NodeRef<'_>) -> bool
-    ensures { IsTrue result ↔ SameLetters (style_at a.entry) (style_at b.entry) }
-{
-    if !same_text(a.font_family(), b.font_family()) {
-        return false;
-    }
-    if !same_size(a.font_size(), b.font_size()) {
-        return false;
-    }
-    if !same_weight(a.font_weight(), b.font_weight()) {
-        return false;
-    }
-    true
-}
-
-/// Whether the texts of two nodes have the same colours.
-fn same_colors(a: NodeRef<'_>, b: NodeRef<'_>) -> bool
-    ensures { IsTrue result ↔ SameColors (style_at a.entry) (style_at b.entry) }
-{
-    if !same_color(a.background_color(), b.background_color()) {
-        return false;
-    }
-    if !same_color(a.foreground_color(), b.foreground_color()) {
-        return false;
-    }
-    true
-}
-
-/// Whether the texts of two nodes have the same lines along them.
-fn same_strokes(a: NodeRef<'_>, b: NodeRef<'_>) -> bool
-    ensures { IsTrue result ↔ SameStrokes (style_at a.entry) (style_at b.entry) }
-{
-    if !same_stroke(a.overline(), b.overline()) {
-        return false;
-    }
-    if !same_stroke(a.strikethrough(), b.strikethrough()) {
-        return false;
-    }
-    if !same_stroke(a.underline(), b.underline()) {
-        return false;
-    }
-    true
-}
-
-/// Whether the texts of two nodes are of one language and stand alike.
-fn same_setting(a: NodeRef<'_>, b: NodeRef<'_>) -> bool
-    ensures { IsTrue result ↔ SameSetting (style_at a.entry) (style_at b.entry) }
-{
-    if !same_text(a.language(), b.language()) {
-        return false;
-    }
-    if !same_align(a.text_align(), b.text_align()) {
-        return false;
-    }
-    if !same_offset(a.vertical_offset(), b.vertical_offset()) {
-        return false;
-    }
-    true
-}
-
-/// Whether the texts of two nodes have one format.
+/// Whether the texts of two nodes of one state have one format.
 fn has_same_format(a: NodeRef<'_>, b: NodeRef<'_>) -> bool
+    requires { world_at a ≡ world_at b }
     ensures { result ≡ same_style (style_at a.entry) (style_at b.entry) }
 {
-    if !same_letters(a, b) {
-        return false;
-    }
-    if !same_colors(a, b) {
-        return false;
-    }
-    if !same_strokes(a, b) {
-        return false;
-    }
-    if !same_setting(a, b) {
-        return false;
+    for what in &FORMAT {
+        if !are_same(*what, a, b) {
+            return false;
+        }
     }
     true
 }

@@ -1,7 +1,11 @@
-use Rattle.std.proofs.Common.{ap, ◌∙◌}
+use Rattle.std.proofs.Common.{sym, ap, ◌∙◌}
 use Rattle.std.specs.Prelude.{not}
+use Rattle.accesskit_consumer.specs.Nodes.{world_at}
 use Rattle.accesskit_consumer.proofs.FormatStarts.{begins_after_views}
 use Rattle.accesskit_consumer.proofs.text.runs.Run.begins_format_after.Goals as goal
+
+pub has_same_format-requires : goal.has_same_format-requires
+has_same_format-requires c = c.view.ensures.world ∙ ap world_at (sym c.requires.root) ∙ sym c.view-2.ensures.world
 
 pub returns : goal.returns
 returns c =
