@@ -1,7 +1,6 @@
 //! The pieces of a range, run by run.
 ghost use Rattle.std.specs.Prelude.{◌≡◌, [], MatchOption};
-ghost use Rattle.model.specs.FlatText.{biased_to_start, biased_to_end};
-ghost use Rattle.model.specs.Ranges.{is_degenerate, piece_in, pieces};
+ghost use Rattle.model.specs.Ranges.{piece_in, pieces};
 ghost use Rattle.accesskit_consumer.specs.Runs.{root_of};
 ghost use Rattle.accesskit_consumer.specs.RunNumbers.{number_in};
 ghost use Rattle.accesskit_consumer.specs.TextRanges.{text_in, range_at};
@@ -20,18 +19,6 @@ pub(super) struct Piece<'a> {
 }
 
 impl<'a> TextRange<'a> {
-    /// Whether the range has nothing in it. It is seen without a count of what is before the range.
-    fn has_nothing(self) -> bool
-        ensures { result ≡ is_degenerate (text_in self.entry) (range_at self.entry) }
-    {
-        let start = self.start().biased_to_start();
-        let end = self.end().biased_to_start();
-        if !is_same(start.run.id(), end.run.id()) {
-            return false;
-        }
-        start.index == end.index
-    }
-
     /// The part of one run that is in the range.
     fn piece_in(self, run: Run<'a>) -> Piece<'a>
         requires { root_of run ≡ self.root }
@@ -53,7 +40,7 @@ impl<'a> TextRange<'a> {
     pub(super) fn first_piece(self) -> Piece<'a>
         ensures { IsNextPiece self.entry (pieces (text_in self.entry) (range_at self.entry)) result }
     {
-        if self.has_nothing() {
+        if self.is_degenerate() {
             let start = self.start();
             return Piece {
                 run: start.run,
@@ -72,7 +59,7 @@ impl<'a> TextRange<'a> {
             (pieces_past (text_in self.entry) (range_at self.entry) (number_in run.entry) ≡ [])
             (IsNextPiece self.entry (pieces_past (text_in self.entry) (range_at self.entry) (number_in run.entry))) }
     {
-        if self.has_nothing() {
+        if self.is_degenerate() {
             return None;
         }
         let last = self.end().biased_to_end().run;

@@ -8,6 +8,7 @@ ghost use Rattle.accesskit_consumer.specs.Positions.{IsAt, root_at, text_of, tex
 ghost use Rattle.accesskit_consumer.specs.TextRanges.{IsRangeOf, world_in, root_in, text_in, range_at};
 
 use crate::node::NodeRef;
+use crate::node::same::is_same;
 use crate::text::edges::Edge;
 use crate::text::position::TextPosition;
 use crate::text::range::TextRange;
@@ -85,12 +86,16 @@ impl<'a> TextRange<'a> {
         }
     }
 
-    /// Whether there is no character between the ends.
+    /// Whether there is no character between the ends. It is seen without a count of what is before the range.
     pub fn is_degenerate(&self) -> bool
         ensures { result ≡ is_degenerate (text_in self.now) (range_at self.now) }
     {
-        let start = self.start().offset();
-        start == self.end().offset()
+        let start = self.start().biased_to_start();
+        let end = self.end().biased_to_start();
+        if !is_same(start.run.id(), end.run.id()) {
+            return false;
+        }
+        start.index == end.index
     }
 
     /// Makes the range begin at a position of the same root, in the same state.
