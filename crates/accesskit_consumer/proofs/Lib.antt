@@ -48,7 +48,6 @@ pub mod TextEnds
 pub mod PositionTests
 pub mod TextSizes
 pub mod Separators
-pub mod PositionKeys
 pub mod LineCounts
 pub mod RangePieces
 pub mod RangeRuns

@@ -39,6 +39,7 @@ pub mod Mirrored
 pub mod RunNumbers
 pub mod Positions
 pub mod Marks
+pub mod SameKeys
 pub mod SamePositions
 pub mod Edges
 pub mod TextRanges

@@ -22,7 +22,6 @@ mod predicates;
 mod properties;
 mod range;
 mod range_ends;
-mod range_equality;
 mod range_properties;
 pub(crate) mod runs;
 mod selections;

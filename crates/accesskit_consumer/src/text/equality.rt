@@ -1,9 +1,36 @@
-//! When positions are equal.
+//! When positions and ranges are equal.
 ghost use Rattle.std.specs.Prelude.{◌≡◌, ◌↔◌, IsTrue};
-ghost use Rattle.accesskit_consumer.specs.SamePositions.{key_of, same_text_position, same_text_position_laws, same_text_position_equivalence};
+ghost use Rattle.accesskit_consumer.specs.SamePositions.{end_of, key_of, same_text_position, same_text_position_laws, same_text_position_equivalence};
+ghost use Rattle.accesskit_consumer.specs.SameRanges.{ends_of, same_text_range, same_text_range_laws, same_text_range_equivalence};
 
 use crate::node::same::is_same;
+use crate::text::edges::Edge;
 use crate::text::position::TextPosition;
+use crate::text::range::TextRange;
+
+impl Edge<'_> {
+    /// Whether both are at one index of one run.
+    fn is_at(self, other: Edge<'_>) -> bool
+        ensures { IsTrue result ↔ (end_of self.entry ≡ end_of other.entry) }
+    {
+        if !is_same(self.spot.member.id, other.spot.member.id) {
+            return false;
+        }
+        self.index == other.index
+    }
+}
+
+impl TextPosition<'_> {
+    /// Whether the root, the run and the index agree.
+    fn same(self, other: TextPosition<'_>) -> bool
+        ensures { IsTrue result ↔ (key_of self.entry ≡ key_of other.entry) }
+    {
+        if !is_same(self.run.root().id, other.run.root().id) {
+            return false;
+        }
+        self.edge().is_at(other.edge())
+    }
+}
 
 impl PartialEq for TextPosition<'_> {
     ghost eq = { same_text_position };
@@ -14,17 +41,42 @@ impl PartialEq for TextPosition<'_> {
         ensures value { result ≡ same_text_position self.now other.now }
         ensures exact { IsTrue result ↔ (key_of self.now ≡ key_of other.now) }
     {
-        let (position, other) = (*self, *other);
-        if !is_same(position.run.root().id, other.run.root().id) {
-            return false;
-        }
-        if !is_same(position.run.id(), other.run.id()) {
-            return false;
-        }
-        position.index == other.index
+        (*self).same(*other)
     }
 }
 
 impl Eq for TextPosition<'_> {
     ghost laws = { same_text_position_equivalence };
+}
+
+impl TextRange<'_> {
+    /// Whether the root and both ends agree.
+    fn same(self, other: TextRange<'_>) -> bool
+        ensures { IsTrue result ↔ (ends_of self.entry ≡ ends_of other.entry) }
+    {
+        if !is_same(self.root.id, other.root.id) {
+            return false;
+        }
+        if !self.first.is_at(other.first) {
+            return false;
+        }
+        self.last.is_at(other.last)
+    }
+}
+
+impl PartialEq for TextRange<'_> {
+    ghost eq = { same_text_range };
+
+    ghost laws = { same_text_range_laws };
+
+    fn eq(&self, other: &TextRange<'_>) -> bool
+        ensures value { result ≡ same_text_range self.now other.now }
+        ensures exact { IsTrue result ↔ (ends_of self.now ≡ ends_of other.now) }
+    {
+        (*self).same(*other)
+    }
+}
+
+impl Eq for TextRange<'_> {
+    ghost laws = { same_text_range_equivalence };
 }

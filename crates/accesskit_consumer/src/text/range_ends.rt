@@ -9,7 +9,6 @@ ghost use Rattle.accesskit_consumer.specs.TextRanges.{IsRangeOf, world_in, root_
 
 use crate::node::NodeRef;
 use crate::node::same::is_same;
-use crate::text::edges::Edge;
 use crate::text::position::TextPosition;
 use crate::text::range::TextRange;
 use crate::text::runs::Run;
@@ -25,14 +24,8 @@ impl<'a> TextRange<'a> {
     {
         TextRange {
             root: start.run.root,
-            first: Edge {
-                spot: start.run.spot,
-                index: start.index,
-            },
-            last: Edge {
-                spot: end.run.spot,
-                index: end.index,
-            },
+            first: start.edge(),
+            last: end.edge(),
         }
     }
 

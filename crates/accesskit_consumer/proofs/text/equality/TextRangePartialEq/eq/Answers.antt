@@ -1,6 +1,6 @@
 use Rattle.std.proofs.lemmas.Bool.Decides.{same_from_decides}
 use Rattle.accesskit_consumer.specs.SameRanges.{same_text_range, same_text_range-decides}
-use Rattle.accesskit_consumer.proofs.text.range_equality.TextRangePartialEq.eq.Goals as goal
+use Rattle.accesskit_consumer.proofs.text.equality.TextRangePartialEq.eq.Goals as goal
 
 pub returns-clause-value : goal.returns-clause-value
 returns-clause-value c =
