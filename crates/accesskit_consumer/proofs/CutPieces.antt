@@ -8,7 +8,8 @@ use Rattle.std.proofs.Math.Seq.{take-append_seam}
 use Rattle.std.proofs.lemmas.Bool.{leb-true}
 use Rattle.std.proofs.lemmas.List.{take-append-drop, length-append, length-take-le, length-drop, take-map, drop-map}
 use Rattle.std.proofs.lemmas.Str.{IsUtf8-from_is_utf8, IsCharBoundary-from_take, IsCharBoundary-at_seam}
-use Rattle.model.specs.TextRuns.{said_count, sent_characters, is_cut_by, cut_by, is_password}
+use Rattle.schema.specs.NodeData.{NodeData}
+use Rattle.model.specs.TextRuns.{run_value, said_count, sent_characters, is_cut_by, cut_by, is_password}
 use Rattle.model.specs.FlatText.{BULLET, ShownRun, shown_character, needs_masking}
 use Rattle.model.specs.Ranges.{piece_text}
 use Rattle.model.specs.Values.{bullets}
@@ -50,23 +51,23 @@ two_true : (a b : Bool) → a ≡ true → b ≡ true → (a && b) ≡ true
 two_true true b e f = f
 two_true false b e f = e
 
-pub first_cut_off : (bs ns : List ℕ) (i : ℕ) → is_cut_by bs ns ≡ true → are_cut_off bs (take i ns) ≡ true
+-- the first length cuts a character off, and the others cut what that leaves
+cut_on : (bs : List ℕ) (n : ℕ) (ns : List ℕ) → is_cut_by bs (n ∷ ns) ≡ true → (nat_le n (length bs) ≡ true) × (is_utf8 (take n bs) ≡ true) × (is_cut_by (drop n bs) ns ≡ true)
+cut_on bs n ns e =
+    let a = both (nat_lt 0 n) _ e in
+    let b = both (nat_le n (length bs)) _ a.1 in
+    let c = both (is_utf8 (take n bs)) _ b.1 in
+    (b.0, c.0, c.1)
+
+first_cut_off : (bs ns : List ℕ) (i : ℕ) → is_cut_by bs ns ≡ true → are_cut_off bs (take i ns) ≡ true
 first_cut_off bs ns zero e = refl
 first_cut_off bs [] (suc i) e = refl
-first_cut_off bs (n ∷ ns) (suc i) e =
-    let a = both (nat_lt 0 n) _ e in
-    let b = both (nat_le n (length bs)) _ a.1 in
-    let c = both (is_utf8 (take n bs)) _ b.1 in
-    two_true _ _ b.0 (two_true _ _ c.0 (first_cut_off (drop n bs) ns i c.1))
+first_cut_off bs (n ∷ ns) (suc i) e = let c = cut_on bs n ns e in two_true _ _ c.0 (two_true _ _ c.1 (first_cut_off (drop n bs) ns i c.2))
 
-pub rest_cut : (bs ns : List ℕ) (i : ℕ) → is_cut_by bs ns ≡ true → is_cut_by (left_by bs (take i ns)) (drop i ns) ≡ true
+rest_cut : (bs ns : List ℕ) (i : ℕ) → is_cut_by bs ns ≡ true → is_cut_by (left_by bs (take i ns)) (drop i ns) ≡ true
 rest_cut bs ns zero e = e
 rest_cut bs [] (suc i) e = e
-rest_cut bs (n ∷ ns) (suc i) e =
-    let a = both (nat_lt 0 n) _ e in
-    let b = both (nat_le n (length bs)) _ a.1 in
-    let c = both (is_utf8 (take n bs)) _ b.1 in
-    rest_cut (drop n bs) ns i c.1
+rest_cut bs (n ∷ ns) (suc i) e = rest_cut (drop n bs) ns i (cut_on bs n ns e).2
 
 rest_characters : (bs ns : List ℕ) (i : ℕ) → cut_by (left_by bs (take i ns)) (drop i ns) ≡ drop i (cut_by bs ns)
 rest_characters bs ns zero = refl
@@ -101,8 +102,30 @@ module _ (bs ns : List ℕ) (i j : ℕ) where
     pub part_ends : IsUtf8 after → IsCharBoundary rest (length rest - length after)
     part_ends text = rw part_length (IsCharBoundary-at_seam rest (concat (slice_range (cut_by bs ns) i j)) after seam text)
 
-    pub part_is : take (length rest - length after) rest ≡ concat (slice_range (cut_by bs ns) i j)
+    part_is : take (length rest - length after) rest ≡ concat (slice_range (cut_by bs ns) i j)
     part_is = ap (λ k. take k rest) part_length ∙ ap (take (length (concat (slice_range (cut_by bs ns) i j)))) seam ∙ take-append_seam (concat (slice_range (cut_by bs ns) i j)) after
+
+-- ---- by the value and the lengths of the run of a piece
+
+module _ (p : Piece) (part : IsPart p) (value lengths : List ℕ) (node : NodeData) (v : value ≡ run_value (sent_of p.run)) (l : lengths ≡ node.character_lengths) (n : node ≡ (sent_of p.run).node) where
+  lengths_are : lengths ≡ (sent_of p.run).node.character_lengths
+  lengths_are = l ∙ ap (λ (d : NodeData). d.character_lengths) n
+
+  value_cut : is_cut_by value lengths ≡ true
+  value_cut = ap (λ bs. is_cut_by bs lengths) v ∙ ap (is_cut_by (run_value (sent_of p.run))) lengths_are ∙ part.cut
+
+  pub before_cut_off : are_cut_off value (take p.from lengths) ≡ true
+  before_cut_off = first_cut_off value lengths p.from value_cut
+
+  module _ (rest : List ℕ) (r : rest ≡ left_by value (take p.from lengths)) where
+    pub part_cut_off : are_cut_off rest (slice_range lengths p.from p.to) ≡ true
+    part_cut_off = first_cut_off rest (drop p.from lengths) (p.to - p.from) (ap (λ bs. is_cut_by bs (drop p.from lengths)) r ∙ rest_cut value lengths p.from value_cut)
+
+    pub part_as_sent : (after : List ℕ) → after ≡ left_by rest (slice_range lengths p.from p.to) → take (length rest - length after) rest ≡ concat (sent_part p)
+    part_as_sent after a =
+        part_is value lengths p.from p.to rest after r a
+        ∙ ap (λ bs. concat (slice_range (cut_by bs lengths) p.from p.to)) v
+        ∙ ap (λ ns. concat (slice_range (cut_by (run_value (sent_of p.run)) ns) p.from p.to)) lengths_are
 
 -- ---- what is shown
 

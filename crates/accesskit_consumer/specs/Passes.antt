@@ -1,7 +1,7 @@
 -- What a function is called with in a traversal of a range.
 use Rattle.std.specs.Prelude.{◌≡◌, ◌≤◌, ◌-◌, ℕ, max, Bool, true, List, [], ◌∷◌, Option, Some, None}
 use Rattle.std.specs.Fn.{Called, Mut}
-use denote.Ref.{Bor}
+use Rattle.std.specs.Borrow.{Bor}
 use Rattle.model.specs.declared.FullNodeId.{FullNodeId}
 use Rattle.model.specs.World.{World}
 use Rattle.model.specs.Ranges.{Piece as PieceData}
