@@ -59,19 +59,40 @@ module _ (a b : NodeRef) (same : world_at a ≡ world_at b) where
       sym ((same_by-decides coded_style (style_at a) (style_at b)).1 (own_is ∙ one))
 
   all_alike : own ≡ style_at b → (k : ℕ) → k < 11 → IsAlikeAt a b k
-  all_alike s k = All-from_recursion (λ what. AreSame what (world_at b) (id_at a) (id_at b)) FORMAT
-      (ap (λ (x : Style). x.font_family) s,
-      (ap (λ (x : Style). x.language) s,
-      (ap (λ (x : Style). x.font_size) s,
-      (ap (λ (x : Style). x.font_weight) s,
-      (ap (λ (x : Style). x.background_color) s,
-      (ap (λ (x : Style). x.foreground_color) s,
-      (ap (λ (x : Style). x.overline) s,
-      (ap (λ (x : Style). x.strikethrough) s,
-      (ap (λ (x : Style). x.underline) s,
-      (ap (λ (x : Style). x.text_align) s,
-      (ap (λ (x : Style). x.vertical_offset) s,
-      tt))))))))))) k Direction
+  all_alike s k = All-from_recursion (λ what. AreSame what (world_at b) (id_at a) (id_at b)) FORMAT (
+    ap (λ (x : Style). x.font_family) s,
+    (
+      ap (λ (x : Style). x.language) s,
+      (
+        ap (λ (x : Style). x.font_size) s,
+        (
+          ap (λ (x : Style). x.font_weight) s,
+          (
+            ap (λ (x : Style). x.background_color) s,
+            (
+              ap (λ (x : Style). x.foreground_color) s,
+              (
+                ap (λ (x : Style). x.overline) s,
+                (
+                  ap (λ (x : Style). x.strikethrough) s,
+                  (
+                    ap (λ (x : Style). x.underline) s,
+                    (
+                      ap (λ (x : Style). x.text_align) s,
+                      (
+                        ap (λ (x : Style). x.vertical_offset) s,
+                        tt,
+                      ),
+                    ),
+                  ),
+                ),
+              ),
+            ),
+          ),
+        ),
+      ),
+    ),
+  ) k Direction
 
   pub other_format : (k : ℕ) → k < 11 → (IsAlikeAt a b k → ⊥) → false ≡ same_style (style_at a) (style_at b)
   unfolding same_style

@@ -33,6 +33,7 @@ pub mod RoleSets
 pub mod SeenPoints
 pub mod RunPlaces
 pub mod Runs
+pub mod TextRoots
 pub mod RunTexts
 pub mod WellFormed
 pub mod Mirrored

@@ -24,3 +24,7 @@ position_at p = record { run = number_in p.run; index = p.index }
 pub record IsAt (root : NodeRef) (q : Position) (p : TextPosition) : Type 0 where
   pub same : root_at p ≡ root
   pub at : position_at p ≡ q
+
+-- the second position is this move of the first
+abbrev pub IsMoved : (FlatText → Position → Position) → TextPosition → TextPosition → Type 0
+IsMoved move p q = IsAt (root_at p) (move (text_at p) (position_at p)) q

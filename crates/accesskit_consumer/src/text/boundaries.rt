@@ -102,7 +102,8 @@ impl<'a> Run<'a> {
     pub(super) fn last_of(self, mark: Mark) -> Run<'a>
         requires { supports_text_ranges (run_world self) (root_id self) ≡ true }
         ensures same { root_of result ≡ root_of self.entry }
-        ensures found { first_run (text_around self.entry) (number_in self.entry) (ends_at mark (text_around self.entry)) ≡ Some (number_in result) }
+        ensures found { let t = text_around self.entry in
+            first_run t (number_in self.entry) (ends_at mark t) ≡ Some (number_in result) }
     {
         let mut run = self;
         loop {
@@ -120,7 +121,8 @@ impl<'a> Run<'a> {
     pub(super) fn first_of(self, mark: Mark) -> Run<'a>
         requires { supports_text_ranges (run_world self) (root_id self) ≡ true }
         ensures same { root_of result ≡ root_of self.entry }
-        ensures found { last_run (text_around self.entry) (number_in self.entry + 1) (begins_at mark (text_around self.entry)) ≡ Some (number_in result) }
+        ensures found { let t = text_around self.entry in
+            last_run t (number_in self.entry + 1) (begins_at mark t) ≡ Some (number_in result) }
     {
         let mut run = self;
         loop {

@@ -128,7 +128,8 @@ impl Run<'_> {
 impl Piece<'_> {
     /// Whether the piece is the whole run.
     fn is_whole(self) -> bool
-        ensures { result ≡ (self.entry.from == 0 && self.entry.to == said_count (sent_of self.entry.run)) }
+        ensures { let count = said_count (sent_of self.entry.run) in
+            result ≡ (self.entry.from == 0 && self.entry.to == count) }
     {
         if self.from != 0 {
             return false;
@@ -150,7 +151,8 @@ impl Piece<'_> {
     /// The rectangle of the piece within its run: all of it where the piece is the whole run.
     fn rect_in_run(self, rect: Rect, metrics: Metrics<'_>, direction: TextDirection) -> WideRect
         ensures exact { let count = said_count (sent_of self.entry.run) in
-            result ≡ piece_rect rect (measures metrics.entry) direction count (piece_data self.entry) }
+            let piece = piece_data self.entry in
+            result ≡ piece_rect rect (measures metrics.entry) direction count piece }
         ensures near { IsOnRun result }
     {
         if self.is_whole() {
@@ -183,7 +185,8 @@ impl TextRange<'_> {
     /// of a range with nothing in it one, where its start is. None at all if one of the runs lacks a rectangle, the
     /// places or widths of its characters, or a direction. It takes memory.
     pub fn bounding_boxes(&self, alloc: Global) -> Result<Vec<WideRect>, AllocError>
-        ensures { IfOk result (λ boxes. boxes.items ≡ bounding_boxes (text_in self.now) (range_at self.now)) }
+        ensures { let all = bounding_boxes (text_in self.now) (range_at self.now) in
+            IfOk result (λ boxes. boxes.items ≡ all) }
     {
         let range = *self;
         let mut boxes = Vec::new(alloc);

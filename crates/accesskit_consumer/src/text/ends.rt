@@ -3,7 +3,7 @@ ghost use Rattle.std.specs.Prelude.{◌≡◌, true};
 ghost use Rattle.model.specs.TextRuns.{supports_text_ranges};
 ghost use Rattle.model.specs.FlatText.{document_start, document_end, biased_to_start, biased_to_end};
 ghost use Rattle.accesskit_consumer.specs.Nodes.{world_at, id_at};
-ghost use Rattle.accesskit_consumer.specs.Positions.{IsAt, root_at, text_of, text_at, position_at};
+ghost use Rattle.accesskit_consumer.specs.Positions.{IsMoved, IsAt, text_of};
 
 use crate::node::NodeRef;
 use crate::text::position::TextPosition;
@@ -35,7 +35,7 @@ impl<'a> NodeRef<'a> {
 impl<'a> TextPosition<'a> {
     /// At the end of a run the start of the next one, where there is one.
     pub fn biased_to_start(&self) -> TextPosition<'a>
-        ensures { IsAt (root_at self.now) (biased_to_start (text_at self.now) (position_at self.now)) result }
+        ensures { IsMoved biased_to_start self.now result }
     {
         let position = *self;
         if position.index != position.run.character_count() {
@@ -52,7 +52,7 @@ impl<'a> TextPosition<'a> {
 
     /// At the start of a run the end of the one before it, where there is one.
     pub fn biased_to_end(&self) -> TextPosition<'a>
-        ensures { IsAt (root_at self.now) (biased_to_end (text_at self.now) (position_at self.now)) result }
+        ensures { IsMoved biased_to_end self.now result }
     {
         let position = *self;
         if position.index != 0 {

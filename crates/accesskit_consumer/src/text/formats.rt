@@ -7,7 +7,7 @@ ghost use Rattle.accesskit_consumer.specs.Nodes.{world_at};
 ghost use Rattle.accesskit_consumer.specs.Formats.{style_at};
 ghost use Rattle.accesskit_consumer.specs.Runs.{IsAfter};
 ghost use Rattle.accesskit_consumer.specs.RunNumbers.{number_in, text_around};
-ghost use Rattle.accesskit_consumer.specs.Positions.{IsAt, root_at, text_at, position_at};
+ghost use Rattle.accesskit_consumer.specs.Positions.{IsMoved, text_at, position_at};
 
 use crate::node::NodeRef;
 use crate::text::looks::{Look, are_same};
@@ -76,7 +76,7 @@ impl<'a> TextPosition<'a> {
 
     /// The start of the format of the position's run.
     fn start_of_format(self) -> TextPosition<'a>
-        ensures { IsAt (root_at self.entry) (start_before (text_at self.entry) ((position_at self.entry).run + 1) (begins_format (text_at self.entry))) result }
+        ensures { IsMoved (λ t p. start_before t (p.run + 1) (begins_format t)) self.entry result }
     {
         let mut run = self.run;
         loop {
@@ -92,7 +92,7 @@ impl<'a> TextPosition<'a> {
 
     /// The start of the next format after that of the position's run; where there is none, the end of the text.
     pub fn forward_to_format_start(&self) -> TextPosition<'a>
-        ensures { IsAt (root_at self.now) (forward_to_format_start (text_at self.now) (position_at self.now)) result }
+        ensures { IsMoved forward_to_format_start self.now result }
     {
         let position = *self;
         let mut run = position.run;
@@ -115,14 +115,14 @@ impl<'a> TextPosition<'a> {
 
     /// The start of the next format, at the end of the run before it; else the end of the text.
     pub fn forward_to_format_end(&self) -> TextPosition<'a>
-        ensures { IsAt (root_at self.now) (forward_to_format_end (text_at self.now) (position_at self.now)) result }
+        ensures { IsMoved forward_to_format_end self.now result }
     {
         self.forward_to_format_start().biased_to_end()
     }
 
     /// The start of the format; from the start of a run that of the format of the run before it, where there is one.
     pub fn backward_to_format_start(&self) -> TextPosition<'a>
-        ensures { IsAt (root_at self.now) (backward_to_format_start (text_at self.now) (position_at self.now)) result }
+        ensures { IsMoved backward_to_format_start self.now result }
     {
         self.biased_to_end().start_of_format()
     }

@@ -114,7 +114,8 @@ impl Units {
 impl TextPosition<'_> {
     /// How many scalars or units of UTF-16 are before the position.
     fn global_index(self, units: Units) -> usize
-        ensures { result ≡ global_index (unit_len units) (text_at self.entry) (position_at self.entry) }
+        ensures { let p = position_at self.entry in
+            result ≡ global_index (unit_len units) (text_at self.entry) p }
     {
         let masked = needs_masking(self.run.root());
         let mut run = self.run;
@@ -147,7 +148,8 @@ impl<'a> NodeRef<'a> {
     /// The position before the character in which an index of the whole text lies, or the end of the text.
     fn position_from(self, units: Units, index: usize) -> Option<TextPosition<'a>>
         requires { supports_text_ranges (world_at self) (id_at self) ≡ true }
-        ensures at { option_map position_at result ≡ position_of (unit_len units) (text_of self.entry) index }
+        ensures at { option_map position_at result ≡
+            position_of (unit_len units) (text_of self.entry) index }
         ensures same { IfSome result (λ p. root_at p ≡ self.entry) }
     {
         let masked = needs_masking(self);

@@ -53,9 +53,11 @@ impl<'a> Run<'a> {
     fn range_past(self, line: usize, index: usize) -> Option<TextRange<'a>>
         requires text { supports_text_ranges (run_world self) (root_id self) ≡ true }
         requires size { length (lines (text_around self)) ≡ line + 1 }
-        requires last { let t = text_around self in slice_get (lines t) line ≡ Some (number_in self, length t - 1) }
+        requires last { let t = text_around self in
+            slice_get (lines t) line ≡ Some (number_in self, length t - 1) }
         requires past { line < index }
-        ensures { IsRangeFound (run_world self.entry) (root_id self.entry) (range_of_line (text_around self.entry) index) result }
+        ensures { let range = range_of_line (text_around self.entry) index in
+            IsRangeFound (run_world self.entry) (root_id self.entry) range result }
     {
         if line < 1 {
             return None;
@@ -73,7 +75,8 @@ impl<'a> NodeRef<'a> {
     /// Past the last of several lines there is one more, where a caret can be, if that last line isn't empty.
     pub fn line_range_from_index(&self, index: usize) -> Option<TextRange<'a>>
         requires { supports_text_ranges (world_at self.now) (id_at self.now) ≡ true }
-        ensures { IsRangeFound (world_at self.now) (id_at self.now) (range_of_line (text_of self.now) index) result }
+        ensures { let range = range_of_line (text_of self.now) index in
+            IsRangeFound (world_at self.now) (id_at self.now) range result }
     {
         let mut first = Run::first(*self).unwrap();
         let mut line = 0usize;

@@ -2,7 +2,7 @@
 ghost use Rattle.std.specs.Prelude.{◌+◌};
 ghost use Rattle.model.specs.Moves.{end_from, start_before, forward_to_line_start, forward_to_line_end, backward_to_line_start, forward_to_paragraph_start, forward_to_paragraph_end, backward_to_paragraph_start, forward_to_page_start, forward_to_page_end, backward_to_page_start};
 ghost use Rattle.accesskit_consumer.specs.Marks.{begins_at, ends_at};
-ghost use Rattle.accesskit_consumer.specs.Positions.{IsAt, root_at, text_at, position_at};
+ghost use Rattle.accesskit_consumer.specs.Positions.{IsMoved};
 
 use crate::text::boundaries::Mark;
 use crate::text::position::TextPosition;
@@ -10,7 +10,7 @@ use crate::text::position::TextPosition;
 impl<'a> TextPosition<'a> {
     /// The end of the line or the paragraph of the position's run.
     fn end_of(self, mark: Mark) -> TextPosition<'a>
-        ensures { IsAt (root_at self.entry) (end_from (text_at self.entry) (position_at self.entry).run (ends_at mark (text_at self.entry))) result }
+        ensures { IsMoved (λ t p. end_from t p.run (ends_at mark t)) self.entry result }
     {
         let last = self.run.last_of(mark);
         TextPosition {
@@ -21,7 +21,7 @@ impl<'a> TextPosition<'a> {
 
     /// The start of the line or the paragraph of the position's run.
     fn start_of(self, mark: Mark) -> TextPosition<'a>
-        ensures { IsAt (root_at self.entry) (start_before (text_at self.entry) ((position_at self.entry).run + 1) (begins_at mark (text_at self.entry))) result }
+        ensures { IsMoved (λ t p. start_before t (p.run + 1) (begins_at mark t)) self.entry result }
     {
         let first = self.run.first_of(mark);
         TextPosition {
@@ -32,49 +32,49 @@ impl<'a> TextPosition<'a> {
 
     /// Past the end of the line of the position's run.
     pub fn forward_to_line_start(&self) -> TextPosition<'a>
-        ensures { IsAt (root_at self.now) (forward_to_line_start (text_at self.now) (position_at self.now)) result }
+        ensures { IsMoved forward_to_line_start self.now result }
     {
         self.end_of(Mark::Line).biased_to_start()
     }
 
     /// The end of the line; from the end of a line that of the next one, where there is one.
     pub fn forward_to_line_end(&self) -> TextPosition<'a>
-        ensures { IsAt (root_at self.now) (forward_to_line_end (text_at self.now) (position_at self.now)) result }
+        ensures { IsMoved forward_to_line_end self.now result }
     {
         self.biased_to_start().end_of(Mark::Line)
     }
 
     /// The start of the line; from the start of a line that of the one before it, where there is one.
     pub fn backward_to_line_start(&self) -> TextPosition<'a>
-        ensures { IsAt (root_at self.now) (backward_to_line_start (text_at self.now) (position_at self.now)) result }
+        ensures { IsMoved backward_to_line_start self.now result }
     {
         self.biased_to_end().start_of(Mark::Line)
     }
 
     /// Past the end of the paragraph of the position's run.
     pub fn forward_to_paragraph_start(&self) -> TextPosition<'a>
-        ensures { IsAt (root_at self.now) (forward_to_paragraph_start (text_at self.now) (position_at self.now)) result }
+        ensures { IsMoved forward_to_paragraph_start self.now result }
     {
         self.end_of(Mark::Paragraph).biased_to_start()
     }
 
     /// The end of the paragraph; from the end of one that of the next one, where there is one.
     pub fn forward_to_paragraph_end(&self) -> TextPosition<'a>
-        ensures { IsAt (root_at self.now) (forward_to_paragraph_end (text_at self.now) (position_at self.now)) result }
+        ensures { IsMoved forward_to_paragraph_end self.now result }
     {
         self.biased_to_start().end_of(Mark::Paragraph)
     }
 
     /// The start of the paragraph; from the start of one that of the one before it, where there is one.
     pub fn backward_to_paragraph_start(&self) -> TextPosition<'a>
-        ensures { IsAt (root_at self.now) (backward_to_paragraph_start (text_at self.now) (position_at self.now)) result }
+        ensures { IsMoved backward_to_paragraph_start self.now result }
     {
         self.biased_to_end().start_of(Mark::Paragraph)
     }
 
     /// The end of the text: a text has one page.
     pub fn forward_to_page_start(&self) -> TextPosition<'a>
-        ensures { IsAt (root_at self.now) (forward_to_page_start (text_at self.now) (position_at self.now)) result }
+        ensures { IsMoved forward_to_page_start self.now result }
     {
         let position = *self;
         position.run.root().document_end()
@@ -82,7 +82,7 @@ impl<'a> TextPosition<'a> {
 
     /// The end of the text: a text has one page.
     pub fn forward_to_page_end(&self) -> TextPosition<'a>
-        ensures { IsAt (root_at self.now) (forward_to_page_end (text_at self.now) (position_at self.now)) result }
+        ensures { IsMoved forward_to_page_end self.now result }
     {
         let position = *self;
         position.run.root().document_end()
@@ -90,7 +90,7 @@ impl<'a> TextPosition<'a> {
 
     /// The start of the text: a text has one page.
     pub fn backward_to_page_start(&self) -> TextPosition<'a>
-        ensures { IsAt (root_at self.now) (backward_to_page_start (text_at self.now) (position_at self.now)) result }
+        ensures { IsMoved backward_to_page_start self.now result }
     {
         let position = *self;
         position.run.root().document_start()

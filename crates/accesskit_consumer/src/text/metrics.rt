@@ -97,7 +97,7 @@ impl Metrics<'_> {
 
     /// Where the character with this index ends.
     pub(super) fn end(self, index: usize) -> i128
-        ensures exact { result ≡ place (measures self.entry) index +ℤ width (measures self.entry) index }
+        ensures exact { let m = measures self.entry in result ≡ place m index +ℤ width m index }
         ensures along { IsAlong 2 result }
     {
         self.place(index) + self.width(index)

@@ -22,7 +22,8 @@ pub(crate) fn is_cut_by(value: &str, lengths: &[u16]) -> bool
 
 /// Whether the numbers rise, and are below the count.
 pub(crate) fn rise_below(numbers: &[u16], count: usize) -> bool
-    ensures { result ≡ (list_all (λ p. nat_lt p.0 p.1) (neighbours numbers.now) && list_all (λ k. nat_lt k count) numbers.now) }
+    ensures { result ≡ (list_all (λ p. nat_lt p.0 p.1) (neighbours numbers.now)
+        && list_all (λ k. nat_lt k count) numbers.now) }
 {
     let mut least = 0usize;
     for number in numbers {

@@ -23,7 +23,8 @@ impl<'a> TextRange<'a> {
     fn piece_in(self, run: Run<'a>) -> Piece<'a>
         requires { root_of run ≡ self.root }
         ensures run { result.run ≡ run.entry }
-        ensures is { piece_data result ≡ piece_in (text_in self.entry) (range_at self.entry) (number_in run.entry) }
+        ensures is { let range = range_at self.entry in
+            piece_data result ≡ piece_in (text_in self.entry) range (number_in run.entry) }
     {
         let mut from = 0;
         if is_same(run.id(), self.first.spot.member.id) {
@@ -38,7 +39,8 @@ impl<'a> TextRange<'a> {
 
     /// The first piece; of a range with nothing in it the one that there is, with nothing in it.
     pub(super) fn first_piece(self) -> Piece<'a>
-        ensures { IsNextPiece self.entry (pieces (text_in self.entry) (range_at self.entry)) result }
+        ensures { let all = pieces (text_in self.entry) (range_at self.entry) in
+            IsNextPiece self.entry all result }
     {
         if self.is_degenerate() {
             let start = self.start();
@@ -55,9 +57,8 @@ impl<'a> TextRange<'a> {
     pub(super) fn next_piece(self, run: Run<'a>) -> Option<Piece<'a>>
         requires same { root_of run ≡ self.root }
         requires reached { IsUpTo self run }
-        ensures { MatchOption result
-            (pieces_past (text_in self.entry) (range_at self.entry) (number_in run.entry) ≡ [])
-            (IsNextPiece self.entry (pieces_past (text_in self.entry) (range_at self.entry) (number_in run.entry))) }
+        ensures { let left = pieces_past (text_in self.entry) (range_at self.entry) (number_in run.entry) in
+            MatchOption result (left ≡ []) (IsNextPiece self.entry left) }
     {
         if self.is_degenerate() {
             return None;

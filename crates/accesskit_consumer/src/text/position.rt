@@ -1,8 +1,8 @@
 //! A place between characters of a text.
-ghost use Rattle.std.specs.Prelude.{◌≡◌, ◌≤◌, true};
-ghost use Rattle.std.specs.Coded.{Coded-set, coded_bool};
-ghost use Rattle.model.specs.TextRuns.{said_count, supports_text_ranges};
-ghost use Rattle.accesskit_consumer.specs.Runs.{run_world, root_id, sent_of};
+ghost use Rattle.std.specs.Prelude.{◌≤◌};
+ghost use Rattle.model.specs.TextRuns.{said_count};
+ghost use Rattle.accesskit_consumer.specs.Runs.{root_of, sent_of};
+ghost use Rattle.accesskit_consumer.specs.TextRoots.{HasText, HasText-prop};
 
 use crate::text::runs::Run;
 
@@ -13,6 +13,6 @@ use crate::text::runs::Run;
 pub struct TextPosition<'a> {
     pub(super) run: Run<'a>,
     pub(super) index: usize,
-    ghost text: { supports_text_ranges (run_world run) (root_id run) ≡ true } by { Coded-set coded_bool (supports_text_ranges (run_world run) (root_id run)) true },
+    ghost text: { HasText (root_of run) } by { HasText-prop (root_of run) },
     ghost within: { index ≤ said_count (sent_of run) },
 }

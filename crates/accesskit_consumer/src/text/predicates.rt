@@ -12,7 +12,8 @@ impl<'a> TextPosition<'a> {
     /// The run that the position names.
     pub fn inner_node(&self) -> NodeRef<'a>
         ensures world { world_at result ≡ world_at (root_at self.now) }
-        ensures run { option_map (λ r. r.id) (slice_get (text_at self.now) (position_at self.now).run) ≡ Some (id_at result) }
+        ensures run { let run = slice_get (text_at self.now) (position_at self.now).run in
+            option_map (λ r. r.id) run ≡ Some (id_at result) }
     {
         let position = *self;
         position.run.view()

@@ -18,9 +18,11 @@ impl<'a> TextRange<'a> {
     pub(super) fn over(start: TextPosition<'a>, end: TextPosition<'a>) -> TextRange<'a>
         requires world { world_at (root_at end) ≡ world_at (root_at start) }
         requires root { id_at (root_at end) ≡ id_at (root_at start) }
-        requires order { offset (text_at start) (position_at start) ≤ offset (text_at start) (position_at end) }
+        requires order { let t = text_at start in
+            offset t (position_at start) ≤ offset t (position_at end) }
         ensures same { result.root ≡ root_at start.entry }
-        ensures at { range_at result ≡ record { start = position_at start.entry; end = position_at end.entry } }
+        ensures at { range_at result ≡
+            record { start = position_at start.entry; end = position_at end.entry } }
     {
         TextRange {
             root: start.run.root,
@@ -33,8 +35,9 @@ impl<'a> TextRange<'a> {
     pub(super) fn between(first: TextPosition<'a>, second: TextPosition<'a>) -> TextRange<'a>
         requires world { world_at (root_at second) ≡ world_at (root_at first) }
         requires root { id_at (root_at second) ≡ id_at (root_at first) }
-        ensures range { let t = text_at first.entry in IsRangeOf (world_at (root_at first.entry)) (id_at (root_at first.entry))
-            (range_between t (position_at first.entry) (position_at second.entry)) result }
+        ensures range { let root = root_at first.entry in
+            let range = range_between (text_of root) (position_at first.entry) (position_at second.entry) in
+            IsRangeOf (world_at root) (id_at root) range result }
     {
         if second.offset() < first.offset() {
             return TextRange::over(second, first);
@@ -97,8 +100,9 @@ impl<'a> TextRange<'a> {
     pub fn set_start(&mut self, position: TextPosition<'a>)
         requires world { world_at (root_at position) ≡ world_in self.old }
         requires root { id_at (root_at position) ≡ root_in self.old }
-        ensures { IsRangeOf (world_in self.old) (root_in self.old)
-            (with_start (text_in self.old) (range_at self.old) (position_at position.entry)) self.new }
+        ensures { let start = position_at position.entry in
+            IsRangeOf (world_in self.old) (root_in self.old)
+            (with_start (text_in self.old) (range_at self.old) start) self.new }
     {
         let end = self.end();
         if position.offset() < end.offset() {
@@ -114,8 +118,9 @@ impl<'a> TextRange<'a> {
     pub fn set_end(&mut self, position: TextPosition<'a>)
         requires world { world_at (root_at position) ≡ world_in self.old }
         requires root { id_at (root_at position) ≡ root_in self.old }
-        ensures { IsRangeOf (world_in self.old) (root_in self.old)
-            (with_end (text_in self.old) (range_at self.old) (position_at position.entry)) self.new }
+        ensures { let end = position_at position.entry in
+            IsRangeOf (world_in self.old) (root_in self.old)
+            (with_end (text_in self.old) (range_at self.old) end) self.new }
     {
         let start = self.start();
         if start.offset() < position.offset() {
@@ -141,7 +146,8 @@ impl<'a> NodeRef<'a> {
     /// The range of the node's whole text, which has text ranges.
     pub fn document_range(&self) -> TextRange<'a>
         requires { supports_text_ranges (world_at self.now) (id_at self.now) ≡ true }
-        ensures { IsRangeOf (world_at self.now) (id_at self.now) (document_range (text_of self.now)) result }
+        ensures { let range = document_range (text_of self.now) in
+            IsRangeOf (world_at self.now) (id_at self.now) range result }
     {
         TextRange::over(self.document_start(), self.document_end())
     }

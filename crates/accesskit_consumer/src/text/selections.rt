@@ -12,7 +12,8 @@ use crate::text::range::TextRange;
 impl<'a> NodeRef<'a> {
     /// What was sent as selected, where the node has text ranges.
     fn selection_sent(self) -> Option<schema::TextSelection>
-        ensures text { IfSome result (λ _. supports_text_ranges (world_at self.entry) (id_at self.entry) ≡ true) }
+        ensures text { IfSome result
+            (λ _. supports_text_ranges (world_at self.entry) (id_at self.entry) ≡ true) }
         ensures is { result ≡ selection_of (world_at self.entry) (id_at self.entry) }
     {
         if !self.supports_text_ranges() {
@@ -24,7 +25,8 @@ impl<'a> NodeRef<'a> {
     /// The range that is selected: none without a selection, without text ranges, or where an end names none of the
     /// node's own runs. An index past the end of its run is cut to it.
     pub fn text_selection(&self) -> Option<TextRange<'a>>
-        ensures { let w = world_at self.now in IsRangeFound w (id_at self.now) (selection w (id_at self.now)) result }
+        ensures { let w = world_at self.now in
+            IsRangeFound w (id_at self.now) (selection w (id_at self.now)) result }
     {
         let node = *self;
         let Some(selection) = node.selection_sent() else {

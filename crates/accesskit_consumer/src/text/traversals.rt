@@ -46,8 +46,10 @@ impl<'a> Piece<'a> {
     fn write<W: TextWrite>(self, masked: bool, writer: &mut W) -> Result<(), TextFault>
         requires room { W.faults writer.old + 1 < 2 ^ 128 }
         requires part { IsPart self }
-        ensures ok { OnOk result (IsWritten W.received W.faults (shown_part masked self.entry) writer.old writer.new) }
-        ensures err { OnErr result (IsCutShort W.received W.faults (shown_part masked self.entry) writer.old writer.new) }
+        ensures ok { let text = shown_part masked self.entry in
+            OnOk result (IsWritten W.received W.faults text writer.old writer.new) }
+        ensures err { let text = shown_part masked self.entry in
+            OnErr result (IsCutShort W.received W.faults text writer.old writer.new) }
     {
         if masked {
             return write_bullets(self.to - self.from, writer);
@@ -88,7 +90,8 @@ impl TextRange<'_> {
     ///
     /// `AllocError`: memory was wanting.
     pub fn text(&self, alloc: Global) -> Result<String, AllocError>
-        ensures { IfOk result (λ text. string_bytes text ≡ text_of (text_in self.now) (range_at self.now)) }
+        ensures { let bytes = text_of (text_in self.now) (range_at self.now) in
+            IfOk result (λ text. string_bytes text ≡ bytes) }
     {
         let mut buffer = TextBuffer::new(alloc);
         match self.write_text(&mut buffer) {
@@ -152,7 +155,8 @@ impl TextRange<'_> {
     ) -> Option<T>
         requires callable { F.IsAlwaysCallable f }
         requires masking { masked ≡ needs_masking (world_in self) (root_in self) }
-        requires enough { IsEnough masked bullets.now (longest (pieces (text_in self) (range_at self))) }
+        requires enough { let all = pieces (text_in self) (range_at self) in
+            IsEnough masked bullets.now (longest all) }
         ensures { let passed = passed_texts (text_in self.entry) (range_at self.entry) in
             (last : F) × IsPassed F.FnMut (world_in self.entry) passed f result last }
     {

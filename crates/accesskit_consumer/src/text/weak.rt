@@ -59,7 +59,7 @@ impl TextPosition<'_> {
 impl TextRange<'_> {
     /// The range without its state.
     pub fn downgrade(&self, alloc: Global) -> Result<WeakTextRange, AllocError>
-        ensures { IfOk result (λ weak. IsWeak (world_in self.now) (root_in self.now) (range_at self.now) weak) }
+        ensures { IfOk result (IsWeak (world_in self.now) (root_in self.now) (range_at self.now)) }
     {
         let range = *self;
         let (start, end) = (range.start(), range.end());
@@ -101,7 +101,8 @@ impl WeakTextRange {
     pub fn upgrade_node<'a>(&self, state: StateRef<'a>) -> Option<NodeRef<'a>>
         ensures world { IfSome result (λ node. world_at node ≡ world_of state.entry) }
         ensures node { option_map id_at result
-            ≡ (if supports_text_ranges (world_of state.entry) self.now.root then Some self.now.root else None) }
+            ≡ (if supports_text_ranges (world_of state.entry) self.now.root
+            then Some self.now.root else None) }
     {
         let Some(node) = state.node_by_id(self.root) else {
             return None;
@@ -115,7 +116,8 @@ impl WeakTextRange {
     /// The range in a later state: none where the node isn't there or has no text ranges, or where an end names none of
     /// its runs or an index past the end of its run.
     pub fn upgrade<'a>(&self, state: StateRef<'a>) -> Option<TextRange<'a>>
-        ensures { let w = world_of state.entry in IsRangeFound w self.now.root (upgraded_range w self.now) result }
+        ensures { let w = world_of state.entry in
+            IsRangeFound w self.now.root (upgraded_range w self.now) result }
     {
         let Some(node) = self.upgrade_node(state) else {
             return None;

@@ -4,7 +4,7 @@ ghost use Rattle.std.specs.List.{list_any};
 ghost use Rattle.model.specs.FlatText.{biased_to_start, biased_to_end, words_in, is_word_start};
 ghost use Rattle.model.specs.Moves.{forward_to_word_start, forward_to_word_end, backward_to_word_start};
 ghost use Rattle.accesskit_consumer.specs.RunNumbers.{number_in, text_around};
-ghost use Rattle.accesskit_consumer.specs.Positions.{IsAt, root_at, text_at, position_at};
+ghost use Rattle.accesskit_consumer.specs.Positions.{IsMoved, text_at, position_at};
 
 use crate::text::boundaries::Mark;
 use crate::text::position::TextPosition;
@@ -76,7 +76,7 @@ impl<'a> TextPosition<'a> {
     /// Where the next word or paragraph begins after a position that isn't at the end of a run before another one.
     fn word_after(self) -> TextPosition<'a>
         requires { biased_to_start (text_at self) (position_at self) ≡ position_at self }
-        ensures { IsAt (root_at self.entry) (forward_to_word_start (text_at self.entry) (position_at self.entry)) result }
+        ensures { IsMoved forward_to_word_start self.entry result }
     {
         if let Some(index) = first_above(self.run.shown_words(), self.index) {
             return TextPosition {
@@ -111,7 +111,7 @@ impl<'a> TextPosition<'a> {
     /// Where the word or paragraph before begins, of a position that isn't at the start of a run after another one.
     fn word_before(self) -> TextPosition<'a>
         requires { biased_to_end (text_at self) (position_at self) ≡ position_at self }
-        ensures { IsAt (root_at self.entry) (backward_to_word_start (text_at self.entry) (position_at self.entry)) result }
+        ensures { IsMoved backward_to_word_start self.entry result }
     {
         if let Some(index) = last_below(self.run.shown_words(), self.index) {
             return TextPosition {
@@ -139,21 +139,21 @@ impl<'a> TextPosition<'a> {
 
     /// The start of the next word or paragraph; where there is none, the end of the text.
     pub fn forward_to_word_start(&self) -> TextPosition<'a>
-        ensures { IsAt (root_at self.now) (forward_to_word_start (text_at self.now) (position_at self.now)) result }
+        ensures { IsMoved forward_to_word_start self.now result }
     {
         self.biased_to_start().word_after()
     }
 
     /// The start of the next word or paragraph, at the end of a run where two runs meet; else the end of the text.
     pub fn forward_to_word_end(&self) -> TextPosition<'a>
-        ensures { IsAt (root_at self.now) (forward_to_word_end (text_at self.now) (position_at self.now)) result }
+        ensures { IsMoved forward_to_word_end self.now result }
     {
         self.forward_to_word_start().biased_to_end()
     }
 
     /// The start of the word or paragraph before; where there is none, the start of the text.
     pub fn backward_to_word_start(&self) -> TextPosition<'a>
-        ensures { IsAt (root_at self.now) (backward_to_word_start (text_at self.now) (position_at self.now)) result }
+        ensures { IsMoved backward_to_word_start self.now result }
     {
         self.biased_to_end().word_before()
     }

@@ -32,7 +32,8 @@ impl<'a> Controls<'a> {
 
     /// Those that the list names in the tree of a node.
     pub(crate) fn over(node: NodeRef<'a>, ids: &'a [NodeId]) -> Controls<'a>
-        ensures { controls_left result ≡ named_nodes (world_at node.entry) (id_at node.entry).tree ids.entry.now }
+        ensures { let w = world_at node.entry in
+            controls_left result ≡ named_nodes w (id_at node.entry).tree ids.entry.now }
     {
         Controls {
             state: node.state,
@@ -82,8 +83,10 @@ fn first_named<'a>(
 ) -> (Option<NodeRef<'a>>, &'a [NodeId])
     ensures fewer { IfSome result.0 (λ _. length result.1.now < length start.entry.now) }
     ensures steps { let w = world_of state.entry in
-        MatchOption result.0 ((named_nodes w tree start.entry.now ≡ []) × (named_nodes w tree result.1.now ≡ []))
-        (λ n. named_nodes w tree start.entry.now ≡ node_of n ∷ named_nodes w tree result.1.now) }
+        let all = named_nodes w tree start.entry.now in
+        let left = named_nodes w tree result.1.now in
+        MatchOption result.0 ((all ≡ []) × (left ≡ []))
+        (λ n. all ≡ node_of n ∷ left) }
 {
     let mut ids = start;
     while let Some((node, rest)) = ids.split_first() {
@@ -104,8 +107,10 @@ fn last_named<'a>(
 ) -> (Option<NodeRef<'a>>, &'a [NodeId])
     ensures fewer { IfSome result.0 (λ _. length result.1.now < length start.entry.now) }
     ensures steps { let w = world_of state.entry in
-        MatchOption result.0 ((named_nodes w tree start.entry.now ≡ []) × (named_nodes w tree result.1.now ≡ []))
-        (λ n. named_nodes w tree start.entry.now ≡ named_nodes w tree result.1.now ++ node_of n ∷ []) }
+        let all = named_nodes w tree start.entry.now in
+        let left = named_nodes w tree result.1.now in
+        MatchOption result.0 ((all ≡ []) × (left ≡ []))
+        (λ n. all ≡ left ++ node_of n ∷ []) }
 {
     let mut ids = start;
     while let Some((node, rest)) = ids.split_last() {

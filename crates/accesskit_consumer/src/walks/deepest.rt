@@ -22,7 +22,8 @@ fn first_item<'a, F: Filter>(state: StateRef<'a>, node: Member<'a>, filter: &F) 
     requires can { F.can_answer filter.now }
     requires known { IsMember (world_of state) node }
     ensures there { IfSome result (IsSpot (world_of state.entry)) }
-    ensures deeper { let w = world_of state.entry in IfSome result (λ r. depth w node.entry.id < depth w r.member.id) }
+    ensures deeper { let w = world_of state.entry in
+        IfSome result (λ r. depth w node.entry.id < depth w r.member.id) }
     ensures exact { let w = world_of state.entry in
         (f : FullNodeId → FilterResult) → Follows (F.answers filter.now) w f →
         option_map (λ r. r.member.id) result ≡ first_shown f w node.entry.id }
@@ -59,7 +60,8 @@ fn last_item<'a, F: Filter>(state: StateRef<'a>, node: Member<'a>, filter: &F) -
     requires can { F.can_answer filter.now }
     requires known { IsMember (world_of state) node }
     ensures there { IfSome result (IsSpot (world_of state.entry)) }
-    ensures deeper { let w = world_of state.entry in IfSome result (λ r. depth w node.entry.id < depth w r.member.id) }
+    ensures deeper { let w = world_of state.entry in
+        IfSome result (λ r. depth w node.entry.id < depth w r.member.id) }
     ensures exact { let w = world_of state.entry in
         (f : FullNodeId → FilterResult) → Follows (F.answers filter.now) w f →
         option_map (λ r. r.member.id) result ≡ last_shown f w node.entry.id }

@@ -17,8 +17,10 @@ impl<'a> StateRef<'a> {
     /// The last child of a node at its place.
     fn last_child(self, parent: Member<'a>) -> Option<Spot<'a>>
         requires { IsMember (world_of self) parent }
-        ensures none { option_map (λ s. s.member.id) result ≡ last_child (world_of self.entry) parent.entry.id }
-        ensures there { IfSome result (λ s. IsSpot (world_of self.entry) s × (s.parent.id ≡ parent.entry.id)) }
+        ensures none { let w = world_of self.entry in
+            option_map (λ s. s.member.id) result ≡ last_child w parent.entry.id }
+        ensures there { let w = world_of self.entry in
+            IfSome result (λ s. IsSpot w s × (s.parent.id ≡ parent.entry.id)) }
     {
         let count = self.child_count(parent);
         if count == 0 {
@@ -97,7 +99,8 @@ impl<'a> NodeRef<'a> {
         ancestor: FullNodeId,
     ) -> Result<Vec<usize>, AllocError>
         requires { IsWithin (world_at self.now) ancestor (id_at self.now) }
-        ensures { IfOk result (λ path. path.items ≡ path_from (world_at self.now) ancestor (id_at self.now)) }
+        ensures { let way = path_from (world_at self.now) ancestor (id_at self.now) in
+            IfOk result (λ path. path.items ≡ way) }
     {
         let state = self.state;
         state.know();

@@ -39,7 +39,8 @@ pub(crate) fn following<'a, F: Filter>(
     ensures there { IfSome result (IsSpot (world_of state.entry)) }
     ensures below { IfSome result (λ r. is_below (world_of state.entry) top r.member.id ≡ true) }
     ensures nearer { let w = world_of state.entry in
-        IfSome result (λ r. work_after w top (above w r.member.id) < work_after w top (above w node.entry.member.id)) }
+        let left = work_after w top (above w node.entry.member.id) in
+        IfSome result (λ r. work_after w top (above w r.member.id) < left) }
     ensures exact { let w = world_of state.entry in
         (f : FullNodeId → FilterResult) → Follows (F.answers filter.now) w f →
         MatchOption result (after_in f w top node.entry.member.id ≡ [])
@@ -63,7 +64,8 @@ pub(crate) fn preceding<'a, F: Filter>(
     ensures there { IfSome result (IsSpot (world_of state.entry)) }
     ensures below { IfSome result (λ r. is_below (world_of state.entry) top r.member.id ≡ true) }
     ensures nearer { let w = world_of state.entry in
-        IfSome result (λ r. work_before w top (above w r.member.id) < work_before w top (above w node.entry.member.id)) }
+        let left = work_before w top (above w node.entry.member.id) in
+        IfSome result (λ r. work_before w top (above w r.member.id) < left) }
     ensures exact { let w = world_of state.entry in
         (f : FullNodeId → FilterResult) → Follows (F.answers filter.now) w f →
         MatchOption result (before_in f w top node.entry.member.id ≡ [])
@@ -83,11 +85,14 @@ pub(crate) fn without_front<'a, F: Filter>(
     requires can { F.can_answer filter.now }
     requires known { AreEnds (world_of state) top ends }
     ensures there { IfSome result (AreEnds (world_of state.entry) top) }
-    ensures nearer { IfSome result (λ e. work_of_ends (world_of state.entry) top e < work_of_ends (world_of state.entry) top ends.entry) }
+    ensures nearer { let w = world_of state.entry in
+        IfSome result (λ e. work_of_ends w top e < work_of_ends w top ends.entry) }
     ensures exact { let w = world_of state.entry in
-        (f : FullNodeId → FilterResult) → Follows (F.answers filter.now) w f → SpansEnds f w top ends.entry →
+        (f : FullNodeId → FilterResult) → Follows (F.answers filter.now) w f →
+        SpansEnds f w top ends.entry →
         MatchOption result (between_ends f w top ends.entry ≡ ends.entry.front.member.id ∷ [])
-        (λ e. SpansEnds f w top e × (between_ends f w top ends.entry ≡ ends.entry.front.member.id ∷ between_ends f w top e)) }
+        (λ e. SpansEnds f w top e ×
+        (between_ends f w top ends.entry ≡ ends.entry.front.member.id ∷ between_ends f w top e)) }
 {
     state.know();
     if is_same(ends.front.member.id, ends.back.member.id) {
@@ -112,11 +117,14 @@ pub(crate) fn without_back<'a, F: Filter>(
     requires can { F.can_answer filter.now }
     requires known { AreEnds (world_of state) top ends }
     ensures there { IfSome result (AreEnds (world_of state.entry) top) }
-    ensures nearer { IfSome result (λ e. work_of_ends (world_of state.entry) top e < work_of_ends (world_of state.entry) top ends.entry) }
+    ensures nearer { let w = world_of state.entry in
+        IfSome result (λ e. work_of_ends w top e < work_of_ends w top ends.entry) }
     ensures exact { let w = world_of state.entry in
-        (f : FullNodeId → FilterResult) → Follows (F.answers filter.now) w f → SpansEnds f w top ends.entry →
+        (f : FullNodeId → FilterResult) → Follows (F.answers filter.now) w f →
+        SpansEnds f w top ends.entry →
         MatchOption result (between_ends f w top ends.entry ≡ [] ++ ends.entry.back.member.id ∷ [])
-        (λ e. SpansEnds f w top e × (between_ends f w top ends.entry ≡ between_ends f w top e ++ ends.entry.back.member.id ∷ [])) }
+        (λ e. SpansEnds f w top e ×
+        (between_ends f w top ends.entry ≡ between_ends f w top e ++ ends.entry.back.member.id ∷ [])) }
 {
     state.know();
     if is_same(ends.front.member.id, ends.back.member.id) {
@@ -167,7 +175,8 @@ pub(crate) fn cover<'a, F: Filter>(
     ensures there { IfSome result (IsMember (world_of state.entry)) }
     ensures below { IfSome result (λ r. is_below (world_of state.entry) r.id node.entry.id ≡ true) }
     ensures exact { let w = world_of state.entry in
-        (f : FullNodeId → FilterResult) → Follows (F.answers filter.now) w f → option_map (λ r. r.id) result ≡ cover_of f w node.entry.id }
+        (f : FullNodeId → FilterResult) → Follows (F.answers filter.now) w f →
+        option_map (λ r. r.id) result ≡ cover_of f w node.entry.id }
 {
     state.know();
     let mut current = node;

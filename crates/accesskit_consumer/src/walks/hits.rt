@@ -82,7 +82,8 @@ fn plus(seen: i128, own: i32) -> i128
 fn into_child(seen: Seen, child: NodeRef<'_>) -> Seen
     requires across { IsNear (2 ^ 90) seen.x }
     requires along { IsNear (2 ^ 90) seen.y }
-    ensures is { wide_of result ≡ seen_by_child (world_at child.entry) (id_at child.entry) (wide_of seen) }
+    ensures is { let w = world_at child.entry in
+        wide_of result ≡ seen_by_child w (id_at child.entry) (wide_of seen) }
     ensures across { (n : ℕ) → IsNear n seen.x → IsNear (n + 1) result.x }
     ensures along { (n : ℕ) → IsNear n seen.y → IsNear (n + 1) result.y }
 {
@@ -97,7 +98,8 @@ fn into_child(seen: Seen, child: NodeRef<'_>) -> Seen
 fn out_of_child(seen: Seen, child: NodeRef<'_>) -> Seen
     requires across { IsNear (2 ^ 90) seen.x }
     requires along { IsNear (2 ^ 90) seen.y }
-    ensures is { wide_of result ≡ seen_by_parent (world_at child.entry) (id_at child.entry) (wide_of seen) }
+    ensures is { let w = world_at child.entry in
+        wide_of result ≡ seen_by_parent w (id_at child.entry) (wide_of seen) }
     ensures across { (n : ℕ) → IsNear n seen.x → IsNear (n + 1) result.x }
     ensures along { (n : ℕ) → IsNear n seen.y → IsNear (n + 1) result.y }
 {
@@ -130,7 +132,8 @@ pub(crate) fn contains(rect: Rect, seen: Seen) -> bool
 
 /// Whether the node has a rectangle, and that contains the point.
 fn is_at(node: NodeRef<'_>, seen: Seen) -> bool
-    ensures { result ≡ option_map_or (λ r. contains_point r (wide_of seen)) (field_at (λ d. d.bounds) (world_at node.entry) (id_at node.entry)) false }
+    ensures { let bounds = field_at (λ d. d.bounds) (world_at node.entry) (id_at node.entry) in
+        result ≡ option_map_or (λ r. contains_point r (wide_of seen)) bounds false }
 {
     match node.node.bounds() {
         Some(rect) => contains(rect, seen),
@@ -151,7 +154,9 @@ fn is_bare_miss(node: NodeRef<'_>, count: usize, seen: Seen) -> bool
 /// Whether the filter cuts a node off.
 fn is_cut<F: Filter>(node: NodeRef<'_>, filter: &F) -> bool
     requires { F.can_answer filter.now }
-    ensures { (f : FullNodeId → FilterResult) → Follows (F.answers filter.now) (world_at node.entry) f → result ≡ is_cut_off (f (id_at node.entry)) }
+    ensures { let w = world_at node.entry in
+        (f : FullNodeId → FilterResult) → Follows (F.answers filter.now) w f →
+        result ≡ is_cut_off (f (id_at node.entry)) }
 {
     match filter.answer(&node) {
         FilterResult::Include => false,
@@ -164,7 +169,8 @@ fn is_cut<F: Filter>(node: NodeRef<'_>, filter: &F) -> bool
 fn is_hit_itself<F: Filter>(node: NodeRef<'_>, seen: Seen, filter: &F) -> bool
     requires { F.can_answer filter.now }
     ensures { let w = world_at node.entry in
-        (f : FullNodeId → FilterResult) → Follows (F.answers filter.now) w f → result ≡ is_hit f w (id_at node.entry) (wide_of seen) }
+        (f : FullNodeId → FilterResult) → Follows (F.answers filter.now) w f →
+        result ≡ is_hit f w (id_at node.entry) (wide_of seen) }
 {
     if !is_at(node, seen) {
         return false;
@@ -176,7 +182,9 @@ fn is_hit_itself<F: Filter>(node: NodeRef<'_>, seen: Seen, filter: &F) -> bool
 fn is_missed<F: Filter>(node: NodeRef<'_>, count: usize, seen: Seen, filter: &F) -> bool
     requires { F.can_answer filter.now }
     ensures { let w = world_at node.entry in
-        (f : FullNodeId → FilterResult) → Follows (F.answers filter.now) w f → result ≡ (is_cut_off (f (id_at node.entry)) || is_bare_miss w (id_at node.entry) count (wide_of seen)) }
+        (f : FullNodeId → FilterResult) → Follows (F.answers filter.now) w f →
+        let id = id_at node.entry in
+        result ≡ (is_cut_off (f id) || is_bare_miss w id count (wide_of seen)) }
 {
     if is_bare_miss(node, count, seen) {
         return true;
@@ -191,7 +199,8 @@ fn hit_below<'a, F: Filter>(top: NodeRef<'a>, at: Seen, filter: &F) -> Option<No
     requires along { IsNear 0 at.y }
     ensures world { IfSome result (λ n. world_at n ≡ world_at top.entry) }
     ensures exact { let w = world_at top.entry in
-        (f : FullNodeId → FilterResult) → Follows (F.answers filter.now) w f → option_map id_at result ≡ hit_seen f w (id_at top.entry) (wide_of at) }
+        (f : FullNodeId → FilterResult) → Follows (F.answers filter.now) w f →
+        option_map id_at result ≡ hit_seen f w (id_at top.entry) (wide_of at) }
 {
     let state = top.state;
     state.know();

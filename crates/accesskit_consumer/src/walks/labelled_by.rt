@@ -70,7 +70,8 @@ impl<'a> LabelsWithin<'a> {
 
     fn new(node: NodeRef<'a>) -> LabelsWithin<'a>
         ensures { let w = world_at node.entry in
-            within_left result ≡ map (node_in w) (filtered_children (label_filter w) w (id_at node.entry)) }
+            let shown = filtered_children (label_filter w) w (id_at node.entry) in
+            within_left result ≡ map (node_in w) shown }
     {
         LabelsWithin {
             course: Course::below(node, &LabelFilter),

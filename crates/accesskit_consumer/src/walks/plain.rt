@@ -68,7 +68,8 @@ pub struct FollowingSiblings<'a> {
 
 impl<'a> FollowingSiblings<'a> {
     pub(crate) fn new(node: NodeRef<'a>) -> FollowingSiblings<'a>
-        ensures { following_ids_left result ≡ following_siblings (world_at node.entry) (id_at node.entry) }
+        ensures { let w = world_at node.entry in
+            following_ids_left result ≡ following_siblings w (id_at node.entry) }
     {
         FollowingSiblings {
             range: ChildRange::after(node),
@@ -117,7 +118,8 @@ pub struct PrecedingSiblings<'a> {
 
 impl<'a> PrecedingSiblings<'a> {
     pub(crate) fn new(node: NodeRef<'a>) -> PrecedingSiblings<'a>
-        ensures { preceding_ids_left result ≡ preceding_siblings (world_at node.entry) (id_at node.entry) }
+        ensures { let w = world_at node.entry in
+            preceding_ids_left result ≡ preceding_siblings w (id_at node.entry) }
     {
         PrecedingSiblings {
             range: ChildRange::before(node),
@@ -166,7 +168,8 @@ pub struct Children<'a> {
 
 impl<'a> Children<'a> {
     pub(crate) fn new(node: NodeRef<'a>) -> Children<'a>
-        ensures { children_left result ≡ map (node_in (world_at node.entry)) (children_of (world_at node.entry) (id_at node.entry)) }
+        ensures { let w = world_at node.entry in
+            children_left result ≡ map (node_in w) (children_of w (id_at node.entry)) }
     {
         Children {
             range: ChildRange::all(node),
@@ -215,7 +218,8 @@ pub struct FollowingSiblingNodes<'a> {
 
 impl<'a> FollowingSiblingNodes<'a> {
     pub(crate) fn new(node: NodeRef<'a>) -> FollowingSiblingNodes<'a>
-        ensures { following_left result ≡ map (node_in (world_at node.entry)) (following_siblings (world_at node.entry) (id_at node.entry)) }
+        ensures { let w = world_at node.entry in
+            following_left result ≡ map (node_in w) (following_siblings w (id_at node.entry)) }
     {
         FollowingSiblingNodes {
             range: ChildRange::after(node),
@@ -264,7 +268,8 @@ pub struct PrecedingSiblingNodes<'a> {
 
 impl<'a> PrecedingSiblingNodes<'a> {
     pub(crate) fn new(node: NodeRef<'a>) -> PrecedingSiblingNodes<'a>
-        ensures { preceding_left result ≡ map (node_in (world_at node.entry)) (preceding_siblings (world_at node.entry) (id_at node.entry)) }
+        ensures { let w = world_at node.entry in
+            preceding_left result ≡ map (node_in w) (preceding_siblings w (id_at node.entry)) }
     {
         PrecedingSiblingNodes {
             range: ChildRange::before(node),

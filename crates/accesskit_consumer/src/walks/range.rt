@@ -66,7 +66,8 @@ impl<'a> ChildRange<'a> {
     /// The siblings after a node.
     pub(crate) fn after(node: NodeRef<'a>) -> ChildRange<'a>
         ensures world { range_world result ≡ world_at node.entry }
-        ensures siblings { range_left result ≡ following_siblings (world_at node.entry) (id_at node.entry) }
+        ensures siblings { let w = world_at node.entry in
+            range_left result ≡ following_siblings w (id_at node.entry) }
     {
         let member = Member {
             id: node.id,
@@ -86,7 +87,8 @@ impl<'a> ChildRange<'a> {
     /// The siblings before a node, the farthest first.
     pub(crate) fn before(node: NodeRef<'a>) -> ChildRange<'a>
         ensures world { range_world result ≡ world_at node.entry }
-        ensures siblings { reverse (range_left result) ≡ preceding_siblings (world_at node.entry) (id_at node.entry) }
+        ensures siblings { let w = world_at node.entry in
+            reverse (range_left result) ≡ preceding_siblings w (id_at node.entry) }
     {
         let member = Member {
             id: node.id,

@@ -29,7 +29,8 @@ fn set_top<'a, F: Filter>(node: NodeRef<'a>, filter: &F) -> Option<Member<'a>>
     ensures exact { let w = world_at node.entry in
         (f : FullNodeId → FilterResult) → Follows (F.answers filter.now) w f →
         MatchOption result (set_of f w (id_at node.entry) ≡ None)
-        (λ top. set_of f w (id_at node.entry) ≡ Some (of_role w (data_at node.entry).role (filtered_children f w top.id))) }
+        (λ top. let role = (data_at node.entry).role in
+        set_of f w (id_at node.entry) ≡ Some (of_role w role (filtered_children f w top.id))) }
 {
     if !is_item(node.node.role()) {
         return None;

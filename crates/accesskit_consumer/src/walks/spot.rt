@@ -83,8 +83,10 @@ impl<'a> StateRef<'a> {
     /// The child with this index at its place, where the node has so many.
     pub(crate) fn child(self, parent: Member<'a>, index: usize) -> Option<Spot<'a>>
         requires { IsMember (world_of self) parent }
-        ensures none { option_map (λ s. s.member.id) result ≡ child_at (world_of self.entry) (parent.entry.id, index) }
-        ensures there { IfSome result (λ s. IsSpot (world_of self.entry) s × (place_at s ≡ (parent.entry.id, index))) }
+        ensures none { let place = (parent.entry.id, index) in
+            option_map (λ s. s.member.id) result ≡ child_at (world_of self.entry) place }
+        ensures there { let place = (parent.entry.id, index) in
+            IfSome result (λ s. IsSpot (world_of self.entry) s × (place_at s ≡ place)) }
         ensures fits { IfSome result (λ _. index + 1 < 2 ^ 64) }
     {
         self.know();
@@ -102,7 +104,8 @@ impl<'a> StateRef<'a> {
     pub(crate) fn spot(self, member: Member<'a>) -> Option<Spot<'a>>
         requires { IsMember (world_of self) member }
         ensures place { option_map place_at result ≡ place_of (world_of self.entry) member.entry.id }
-        ensures there { IfSome result (λ s. IsSpot (world_of self.entry) s × (s.member.id ≡ member.entry.id)) }
+        ensures there { let w = world_of self.entry in
+            IfSome result (λ s. IsSpot w s × (s.member.id ≡ member.entry.id)) }
         ensures fits { IfSome result (λ s. s.index + 1 < 2 ^ 64) }
     {
         match self.place(member.id) {

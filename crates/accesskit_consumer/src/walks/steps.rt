@@ -32,7 +32,8 @@ pub(crate) fn next_shown<'a, F: Filter>(
     ensures there { IfSome result (IsSpot (world_of state.entry)) }
     ensures below { IfSome result (λ r. is_below (world_of state.entry) top r.member.id ≡ true) }
     ensures nearer { let w = world_of state.entry in
-        IfSome result (λ r. work_after w top (above w r.member.id) < work_from w top (start.entry.id, start_index)) }
+        let left = work_from w top (start.entry.id, start_index) in
+        IfSome result (λ r. work_after w top (above w r.member.id) < left) }
     ensures exact { let w = world_of state.entry in
         (f : FullNodeId → FilterResult) → Follows (F.answers filter.now) w f →
         MatchOption result (left_at f w (is_same_id top) (start.entry.id, start_index) ≡ [])
@@ -80,7 +81,8 @@ pub(crate) fn previous_shown<'a, F: Filter>(
     ensures there { IfSome result (IsSpot (world_of state.entry)) }
     ensures below { IfSome result (λ r. is_below (world_of state.entry) top r.member.id ≡ true) }
     ensures nearer { let w = world_of state.entry in
-        IfSome result (λ r. work_before w top (above w r.member.id) < work_until w top (start.entry.id, start_index)) }
+        let left = work_until w top (start.entry.id, start_index) in
+        IfSome result (λ r. work_before w top (above w r.member.id) < left) }
     ensures exact { let w = world_of state.entry in
         (f : FullNodeId → FilterResult) → Follows (F.answers filter.now) w f →
         MatchOption result (prior_at f w (is_same_id top) (start.entry.id, start_index) ≡ [])

@@ -23,4 +23,4 @@ pub returns : goal.returns
 returns c =
     c.split_at.ensures.front
     ∙ part_as_sent c.args.self c.requires c.value.result.now c.character_lengths-lengths.result.now c.node.result.now c.value.ensures c.character_lengths-lengths.ensures c.node.ensures
-      c.past-rest.result.now c.past-rest.ensures c.past-after.result.now c.past-after.ensures
+    c.past-rest.result.now c.past-rest.ensures c.past-after.result.now c.past-after.ensures
