@@ -8,10 +8,10 @@ use Rattle.model.specs.TextRuns.{supports_text_ranges}
 use Rattle.model.proofs.Text.TextFacts.{is_text}
 use Rattle.model.proofs.Text.WholeTexts.{whole_text}
 use Rattle.model.proofs.Text.Searching.{first_next, last_next}
-use Rattle.accesskit_consumer.specs.declared.text.runs.Run.{Run}
+use Rattle.tree_views.specs.declared.runs.Run.{Run}
 use Rattle.accesskit_consumer.specs.declared.text.boundaries.Mark.{Mark}
 use Rattle.accesskit_consumer.specs.declared.text.boundaries.Mark.TheVariants.{Line, Paragraph}
-use Rattle.accesskit_consumer.specs.Runs.{run_world, root_id, root_of, ids_after, ids_before, IsAfter, IsBefore}
+use Rattle.tree_views.specs.Runs.{run_world, root_id, root_of, ids_after, ids_before, IsAfter, IsBefore}
 use Rattle.accesskit_consumer.specs.RunNumbers.{number_in, text_around}
 use Rattle.accesskit_consumer.specs.Positions.{text_of}
 use Rattle.accesskit_consumer.specs.Marks.{begins_at, ends_at, closes_at}

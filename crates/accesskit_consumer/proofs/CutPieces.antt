@@ -15,7 +15,7 @@ use Rattle.model.specs.Ranges.{piece_text}
 use Rattle.model.specs.Values.{bullets}
 use Rattle.model.proofs.Text.TextFacts.{both}
 use Rattle.accesskit_consumer.specs.declared.text.pieces.Piece.{Piece}
-use Rattle.accesskit_consumer.specs.Runs.{sent_of, run_world, root_id}
+use Rattle.tree_views.specs.Runs.{sent_of, run_world, root_id}
 use Rattle.accesskit_consumer.specs.RunNumbers.{text_around}
 use Rattle.accesskit_consumer.specs.Pieces.{piece_data}
 use Rattle.accesskit_consumer.specs.PieceTexts.{are_cut_off, left_by, IsPart, sent_part, shown_part}

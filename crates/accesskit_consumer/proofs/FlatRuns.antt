@@ -9,12 +9,12 @@ use Rattle.model.specs.FlatText.{ShownRun, shown_character, needs_masking, shown
 use Rattle.model.specs.TextLaws.{IsWhole}
 use Rattle.model.proofs.Text.TextFacts.{is_text}
 use Rattle.model.proofs.Text.WholeTexts.{whole_text}
-use Rattle.accesskit_consumer.specs.declared.text.runs.Run.{Run}
+use Rattle.tree_views.specs.declared.runs.Run.{Run}
 use Rattle.accesskit_consumer.specs.declared.text.position.TextPosition.{TextPosition}
-use Rattle.accesskit_consumer.specs.Runs.{run_world, root_id, run_id, sent_of, ids_after, ids_before, IsAfter, IsBefore}
+use Rattle.tree_views.specs.Runs.{run_world, root_id, run_id, sent_of, ids_after, ids_before, IsAfter, IsBefore}
 use Rattle.accesskit_consumer.specs.RunNumbers.{number_in, text_around}
 use Rattle.accesskit_consumer.specs.Positions.{text_at, position_at}
-use Rattle.accesskit_consumer.proofs.FitRuns.{sent_known}
+use Rattle.tree_views.proofs.FitRuns.{sent_known}
 
 -- a test that isn't true exactly of what is there is true of nothing
 pub none_from_not : {A : Type 0} (b : Bool) (o : Option A) → is_some o ≡ not b → b ≡ is_none o

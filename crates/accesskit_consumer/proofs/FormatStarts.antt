@@ -10,10 +10,10 @@ use Rattle.model.specs.TextRuns.{SentRun}
 use Rattle.model.specs.FlatText.{FlatText, ShownRun, Position, start_at, end_at, document_start, document_end, first_run, last_run, run_has, begins_format, biased_to_end}
 use Rattle.model.specs.Moves.{start_from, start_before, backward_to_format_start}
 use Rattle.model.proofs.Text.Searching.{first_next, first_end, last_next}
-use Rattle.accesskit_consumer.specs.declared.text.runs.Run.{Run}
-use Rattle.accesskit_consumer.specs.declared.node.node_ref.NodeRef.{NodeRef}
-use Rattle.accesskit_consumer.specs.Nodes.{world_at, id_at}
-use Rattle.accesskit_consumer.specs.Runs.{run_world, root_of, run_id, run_of, sent_of, ids_after, ids_before, IsAfter, IsBefore}
+use Rattle.tree_views.specs.declared.runs.Run.{Run}
+use Rattle.tree_views.specs.declared.node.node_ref.NodeRef.{NodeRef}
+use Rattle.tree_views.specs.Nodes.{world_at, id_at}
+use Rattle.tree_views.specs.Runs.{run_world, root_of, run_id, run_of, sent_of, ids_after, ids_before, IsAfter, IsBefore}
 use Rattle.accesskit_consumer.specs.RunNumbers.{number_in, text_around}
 use Rattle.accesskit_consumer.specs.Positions.{text_of}
 use Rattle.accesskit_consumer.specs.declared.text.looks.Look.{Look}

@@ -17,12 +17,12 @@ use Rattle.model.proofs.Text.WholeTexts.{at_each}
 use Rattle.model.proofs.Text.Searching.{first_is, first_is_none}
 use Rattle.model.proofs.Text.Sides.{start_rises, start_side_is}
 use Rattle.model.proofs.Text.Indexes.{eq_same, start_at_end, total_is, before_rises}
-use Rattle.accesskit_consumer.specs.declared.node.node_ref.NodeRef.{NodeRef}
+use Rattle.tree_views.specs.declared.node.node_ref.NodeRef.{NodeRef}
 use Rattle.accesskit_consumer.specs.declared.text.indexes.Units.{Units}
 use Rattle.accesskit_consumer.specs.declared.text.position.TextPosition.{TextPosition}
-use Rattle.accesskit_consumer.specs.declared.text.runs.Run.{Run}
-use Rattle.accesskit_consumer.specs.Nodes.{world_at, id_at}
-use Rattle.accesskit_consumer.specs.Runs.{root_of, run_world, root_id, sent_of, ids_before, ids_after, IsBefore, IsAfter}
+use Rattle.tree_views.specs.declared.runs.Run.{Run}
+use Rattle.tree_views.specs.Nodes.{world_at, id_at}
+use Rattle.tree_views.specs.Runs.{root_of, run_world, root_id, sent_of, ids_before, ids_after, IsBefore, IsAfter}
 use Rattle.accesskit_consumer.specs.RunNumbers.{number_in, text_around}
 use Rattle.accesskit_consumer.specs.Positions.{text_of, text_at, position_at}
 use Rattle.accesskit_consumer.specs.GlobalIndexes.{unit_len, IsCut, length_to, length_of}

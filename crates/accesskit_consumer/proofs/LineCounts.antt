@@ -9,9 +9,9 @@ use Rattle.model.specs.FlatText.{FlatText, ShownRun, ends_line, start_of}
 use Rattle.model.specs.Moves.{to_line_index}
 use Rattle.model.specs.TextLaws.{IsWhole}
 use Rattle.model.proofs.Text.TextFacts.{start_next}
-use Rattle.accesskit_consumer.specs.declared.text.runs.Run.{Run}
+use Rattle.tree_views.specs.declared.runs.Run.{Run}
 use Rattle.accesskit_consumer.specs.declared.text.position.TextPosition.{TextPosition}
-use Rattle.accesskit_consumer.specs.Runs.{root_of, ids_before, IsBefore}
+use Rattle.tree_views.specs.Runs.{root_of, ids_before, IsBefore}
 use Rattle.accesskit_consumer.specs.RunNumbers.{number_in, text_around}
 use Rattle.accesskit_consumer.specs.Positions.{root_at, text_of, text_at, position_at}
 use Rattle.accesskit_consumer.proofs.FlatRuns.{shown_of, shown_at_number, first_number, number_previous, text_is_whole, is_position}

@@ -7,12 +7,12 @@ use Rattle.model.specs.Ranges.{Range}
 use Rattle.model.specs.TextLaws.{IsWhole}
 use Rattle.model.proofs.Text.TextFacts.{is_text}
 use Rattle.model.proofs.Text.WholeTexts.{whole_text}
-use Rattle.accesskit_consumer.specs.declared.node.node_ref.NodeRef.{NodeRef}
-use Rattle.accesskit_consumer.specs.declared.text.runs.Run.{Run}
+use Rattle.tree_views.specs.declared.node.node_ref.NodeRef.{NodeRef}
+use Rattle.tree_views.specs.declared.runs.Run.{Run}
 use Rattle.accesskit_consumer.specs.declared.text.position.TextPosition.{TextPosition}
 use Rattle.accesskit_consumer.specs.declared.text.range.TextRange.{TextRange}
-use Rattle.accesskit_consumer.specs.Nodes.{world_at, id_at}
-use Rattle.accesskit_consumer.specs.Runs.{root_of, run_world, root_id, sent_of, ids_after, IsFirstOf, IsAfter}
+use Rattle.tree_views.specs.Nodes.{world_at, id_at}
+use Rattle.tree_views.specs.Runs.{root_of, run_world, root_id, sent_of, ids_after, IsFirstOf, IsAfter}
 use Rattle.accesskit_consumer.specs.RunNumbers.{number_in, text_around}
 use Rattle.accesskit_consumer.specs.Positions.{root_at, text_of, position_at, IsAt}
 use Rattle.accesskit_consumer.specs.TextRanges.{IsRangeOf}

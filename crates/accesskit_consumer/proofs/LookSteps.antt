@@ -7,20 +7,20 @@ use Rattle.model.specs.declared.FullNodeId.{FullNodeId}
 use Rattle.model.specs.TextRuns.{SentRun}
 use Rattle.model.specs.FlatText.{FlatText, ShownRun}
 use Rattle.model.specs.Ranges.{Piece as PieceData, pieces, passed_runs}
-use Rattle.accesskit_consumer.specs.declared.node.node_ref.NodeRef.{NodeRef}
-use Rattle.accesskit_consumer.specs.declared.text.runs.Run.{Run}
+use Rattle.tree_views.specs.declared.node.node_ref.NodeRef.{NodeRef}
+use Rattle.tree_views.specs.declared.runs.Run.{Run}
 use Rattle.accesskit_consumer.specs.declared.text.range.TextRange.{TextRange}
 use Rattle.accesskit_consumer.specs.declared.text.pieces.Piece.{Piece}
 use Rattle.accesskit_consumer.specs.declared.text.looks.Look.{Look}
-use Rattle.accesskit_consumer.specs.Nodes.{world_at, id_at}
-use Rattle.accesskit_consumer.specs.Runs.{root_of, run_id, run_of, sent_of}
+use Rattle.tree_views.specs.Nodes.{world_at, id_at}
+use Rattle.tree_views.specs.Runs.{root_of, run_id, run_of, sent_of}
 use Rattle.accesskit_consumer.specs.Positions.{text_of as text_under}
 use Rattle.accesskit_consumer.specs.RunNumbers.{number_in}
 use Rattle.accesskit_consumer.specs.TextRanges.{world_in, text_in, range_at}
 use Rattle.accesskit_consumer.specs.Pieces.{piece_data, pieces_past, IsNextPiece}
 use Rattle.accesskit_consumer.specs.Looks.{AreSame}
 use Rattle.accesskit_consumer.specs.RangeProperties.{SomeDiffer}
-use Rattle.accesskit_consumer.proofs.Focusing.{is_not}
+use Rattle.tree_views.proofs.Focusing.{is_not}
 use Rattle.accesskit_consumer.proofs.FlatRuns.{shown_of, shown_at_number}
 use Rattle.accesskit_consumer.proofs.PieceSteps.{pieces_from, as_next}
 

@@ -9,10 +9,10 @@ use Rattle.schema.specs.declared.values.TextPosition.{TextPosition}
 use Rattle.model.specs.TextRuns.{run_ids, sent_run, said_count, is_password}
 use Rattle.model.specs.FlatText.{Position, count_in, ShownRun, shown_run, needs_masking, flat_text}
 use Rattle.model.specs.Ranges.{run_named, position_named, nearest_named}
-use Rattle.accesskit_consumer.specs.declared.node.node_ref.NodeRef.{NodeRef}
-use Rattle.accesskit_consumer.specs.declared.text.runs.Run.{Run}
-use Rattle.accesskit_consumer.specs.Nodes.{world_at, id_at}
-use Rattle.accesskit_consumer.specs.Runs.{root_of, run_id, sent_of, ids_after, IsFirstOf, IsAfter}
+use Rattle.tree_views.specs.declared.node.node_ref.NodeRef.{NodeRef}
+use Rattle.tree_views.specs.declared.runs.Run.{Run}
+use Rattle.tree_views.specs.Nodes.{world_at, id_at}
+use Rattle.tree_views.specs.Runs.{root_of, run_id, sent_of, ids_after, IsFirstOf, IsAfter}
 use Rattle.accesskit_consumer.specs.RunNumbers.{number_in}
 use Rattle.accesskit_consumer.specs.Positions.{text_of}
 use Rattle.accesskit_consumer.proofs.TextEnds.{counted_in}

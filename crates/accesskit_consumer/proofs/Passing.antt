@@ -12,11 +12,11 @@ use Rattle.model.specs.TextRuns.{SentRun}
 use Rattle.model.specs.FlatText.{BULLET, ShownRun, FlatText, needs_masking}
 use Rattle.model.specs.Ranges.{Piece as PieceData, piece_text, pieces, passed_texts}
 use Rattle.model.specs.Values.{bullets}
-use Rattle.accesskit_consumer.specs.declared.node.node_ref.NodeRef.{NodeRef}
+use Rattle.tree_views.specs.declared.node.node_ref.NodeRef.{NodeRef}
 use Rattle.accesskit_consumer.specs.declared.text.range.TextRange.{TextRange}
 use Rattle.accesskit_consumer.specs.declared.text.pieces.Piece.{Piece}
-use Rattle.accesskit_consumer.specs.Nodes.{world_at}
-use Rattle.accesskit_consumer.specs.Runs.{root_of, run_of, sent_of}
+use Rattle.tree_views.specs.Nodes.{world_at}
+use Rattle.tree_views.specs.Runs.{root_of, run_of, sent_of}
 use Rattle.accesskit_consumer.specs.RunNumbers.{number_in}
 use Rattle.accesskit_consumer.specs.Positions.{text_of as text_under}
 use Rattle.accesskit_consumer.specs.TextRanges.{world_in, root_in, text_in, range_at}

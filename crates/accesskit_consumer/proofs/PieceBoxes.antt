@@ -8,11 +8,11 @@ use Rattle.model.specs.Geometry.{moved_rect, ordered_rect}
 use Rattle.model.specs.TextRuns.{said_count}
 use Rattle.model.specs.FlatText.{FlatText, ShownRun, Metrics, count}
 use Rattle.model.specs.Ranges.{Range, Piece as PieceData, pieces, piece_rect, piece_box, all_given, bounding_boxes}
-use Rattle.accesskit_consumer.specs.declared.node.node_ref.NodeRef.{NodeRef}
-use Rattle.accesskit_consumer.specs.declared.text.runs.Run.{Run}
+use Rattle.tree_views.specs.declared.node.node_ref.NodeRef.{NodeRef}
+use Rattle.tree_views.specs.declared.runs.Run.{Run}
 use Rattle.accesskit_consumer.specs.declared.text.range.TextRange.{TextRange}
 use Rattle.accesskit_consumer.specs.declared.text.pieces.Piece.{Piece}
-use Rattle.accesskit_consumer.specs.Runs.{root_of, sent_of}
+use Rattle.tree_views.specs.Runs.{root_of, sent_of}
 use Rattle.accesskit_consumer.specs.RunNumbers.{number_in, text_around}
 use Rattle.accesskit_consumer.specs.Positions.{text_of}
 use Rattle.accesskit_consumer.specs.TextRanges.{text_in, range_at}

@@ -7,11 +7,11 @@ use Rattle.model.specs.TextRuns.{SentRun, sent_run, sent_runs, run_ids, run_valu
 use Rattle.model.specs.FlatText.{needs_masking}
 use Rattle.model.specs.Ranges.{Piece as PieceData, piece_text, pieces, text_of}
 use Rattle.model.proofs.Text.TextFacts.{both, is_text}
-use Rattle.accesskit_consumer.specs.declared.text.runs.Run.{Run}
+use Rattle.tree_views.specs.declared.runs.Run.{Run}
 use Rattle.accesskit_consumer.specs.declared.text.range.TextRange.{TextRange}
 use Rattle.accesskit_consumer.specs.declared.text.pieces.Piece.{Piece}
-use Rattle.accesskit_consumer.specs.Nodes.{world_at, id_at}
-use Rattle.accesskit_consumer.specs.Runs.{root_of, run_world, root_id, sent_of, ids_before, ids_after}
+use Rattle.tree_views.specs.Nodes.{world_at, id_at}
+use Rattle.tree_views.specs.Runs.{root_of, run_world, root_id, sent_of, ids_before, ids_after}
 use Rattle.accesskit_consumer.specs.Positions.{text_of as text_under}
 use Rattle.accesskit_consumer.specs.RunNumbers.{number_in}
 use Rattle.accesskit_consumer.specs.TextRanges.{text_in, range_at}

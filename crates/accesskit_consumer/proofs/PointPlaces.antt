@@ -11,12 +11,12 @@ use Rattle.model.specs.FlatText.{FlatText, ShownRun, Metrics, shown_character, n
 use Rattle.model.specs.Points.{is_in_run, is_ahead_of, is_past, index_at, position_at_point}
 use Rattle.model.proofs.Text.TextFacts.{both, is_text}
 use Rattle.model.proofs.Text.Searching.{last_next}
-use Rattle.accesskit_consumer.specs.declared.node.node_ref.NodeRef.{NodeRef}
-use Rattle.accesskit_consumer.specs.declared.text.runs.Run.{Run}
+use Rattle.tree_views.specs.declared.node.node_ref.NodeRef.{NodeRef}
+use Rattle.tree_views.specs.declared.runs.Run.{Run}
 use Rattle.accesskit_consumer.specs.declared.text.points.PointTest.{PointTest}
 use Rattle.accesskit_consumer.specs.declared.text.points.PointTest.TheVariants.{Inside, Past}
-use Rattle.accesskit_consumer.specs.Nodes.{world_at, id_at}
-use Rattle.accesskit_consumer.specs.Runs.{root_of, run_world, root_id, sent_of, ids_after, ids_before, IsFirstOf, IsBefore}
+use Rattle.tree_views.specs.Nodes.{world_at, id_at}
+use Rattle.tree_views.specs.Runs.{root_of, run_world, root_id, sent_of, ids_after, ids_before, IsFirstOf, IsBefore}
 use Rattle.accesskit_consumer.specs.RunNumbers.{number_in, text_around}
 use Rattle.accesskit_consumer.specs.Positions.{text_of}
 use Rattle.accesskit_consumer.specs.Measures.{shown_in}

@@ -3,7 +3,7 @@ use Rattle.std.proofs.Common.{◌≡◌, ◌<◌, sym, ap, ◌∙◌, arith}
 use Rattle.model.specs.TextRuns.{said_count}
 use Rattle.model.specs.FlatText.{count_in, total, offset, biased_to_start, biased_to_end}
 use Rattle.accesskit_consumer.specs.declared.text.position.TextPosition.{TextPosition}
-use Rattle.accesskit_consumer.specs.Runs.{sent_of}
+use Rattle.tree_views.specs.Runs.{sent_of}
 use Rattle.accesskit_consumer.specs.RunNumbers.{number_in}
 use Rattle.accesskit_consumer.specs.Positions.{root_at, text_of, text_at, position_at, IsAt}
 use Rattle.accesskit_consumer.proofs.FlatRuns.{count_at_number, text_is_whole, is_position}

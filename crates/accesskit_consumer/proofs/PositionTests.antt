@@ -5,7 +5,7 @@ use Rattle.std.proofs.lemmas.Bool.{eqb-true, eqb-false}
 use Rattle.model.specs.TextRuns.{said_count}
 use Rattle.model.specs.FlatText.{count_in, is_document_end}
 use Rattle.accesskit_consumer.specs.declared.text.position.TextPosition.{TextPosition}
-use Rattle.accesskit_consumer.specs.Runs.{sent_of}
+use Rattle.tree_views.specs.Runs.{sent_of}
 use Rattle.accesskit_consumer.specs.RunNumbers.{number_in}
 use Rattle.accesskit_consumer.specs.Positions.{text_at, position_at}
 use Rattle.accesskit_consumer.proofs.FlatRuns.{runs_counted, count_at_number}

@@ -8,18 +8,18 @@ use Rattle.model.specs.TextRuns.{run_ids, said_count}
 use Rattle.model.specs.FlatText.{FlatText, Position, IsPosition, count_in, offset, biased_to_start, biased_to_end}
 use Rattle.model.specs.Ranges.{Piece as PieceData, is_degenerate, piece_in, pieces}
 use Rattle.model.specs.TextLaws.{IsWhole}
-use Rattle.accesskit_consumer.specs.declared.text.runs.Run.{Run}
+use Rattle.tree_views.specs.declared.runs.Run.{Run}
 use Rattle.accesskit_consumer.specs.declared.text.position.TextPosition.{TextPosition}
 use Rattle.accesskit_consumer.specs.declared.text.range.TextRange.{TextRange}
 use Rattle.accesskit_consumer.specs.declared.text.pieces.Piece.{Piece}
-use Rattle.accesskit_consumer.specs.Nodes.{world_at, id_at}
-use Rattle.accesskit_consumer.specs.Runs.{root_of, run_world, root_id, run_id, sent_of, IsAfter}
-use Rattle.accesskit_consumer.specs.RunPlaces.{runs_before}
+use Rattle.tree_views.specs.Nodes.{world_at, id_at}
+use Rattle.tree_views.specs.Runs.{root_of, run_world, root_id, run_id, sent_of, IsAfter}
+use Rattle.tree_views.specs.RunPlaces.{runs_before}
 use Rattle.accesskit_consumer.specs.RunNumbers.{number_in}
 use Rattle.accesskit_consumer.specs.Positions.{IsAt, root_at, text_of, text_at, position_at}
 use Rattle.accesskit_consumer.specs.TextRanges.{text_in, range_at}
 use Rattle.accesskit_consumer.specs.Pieces.{piece_data, pieces_past, IsUpTo, IsNextPiece}
-use Rattle.accesskit_consumer.proofs.Focusing.{is_not}
+use Rattle.tree_views.proofs.Focusing.{is_not}
 use Rattle.accesskit_consumer.proofs.FlatRuns.{id_at_number, count_at_number, number_next, text_is_whole, is_position}
 use Rattle.accesskit_consumer.proofs.TextEnds.{then_at}
 use Rattle.accesskit_consumer.proofs.RangePieces.{apart_by_run, one_run_one_place, runs_in_order, caret_alone, first_in_range, next_in_range, none_past_end, piece_order, piece_within}

@@ -2,9 +2,9 @@
 use Rattle.std.proofs.Common.{◌≡◌, ◌≤◌, ◌<◌, ℕ, sym, ap, ◌∙◌, arith}
 use Rattle.model.specs.FlatText.{flat_text, offset, biased_to_start}
 use Rattle.model.proofs.Text.TextFacts.{start_bias}
-use Rattle.accesskit_consumer.specs.declared.node.node_ref.NodeRef.{NodeRef}
+use Rattle.tree_views.specs.declared.node.node_ref.NodeRef.{NodeRef}
 use Rattle.accesskit_consumer.specs.declared.text.position.TextPosition.{TextPosition}
-use Rattle.accesskit_consumer.specs.Nodes.{world_at, id_at}
+use Rattle.tree_views.specs.Nodes.{world_at, id_at}
 use Rattle.accesskit_consumer.specs.Positions.{root_at, text_of, text_at, position_at, IsAt}
 
 pub same_text : (m n : NodeRef) → world_at m ≡ world_at n → id_at m ≡ id_at n → text_of m ≡ text_of n

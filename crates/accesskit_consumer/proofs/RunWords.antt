@@ -11,10 +11,10 @@ use Rattle.model.specs.Moves.{mark_above, mark_below, forward_to_word_start, bac
 use Rattle.model.specs.TextLaws.{IsWhole}
 use Rattle.model.proofs.Text.TextFacts.{start_bias, end_bias}
 use Rattle.model.proofs.Text.Sides.{IsOnStartSide, IsOnEndSide, start_bias_side, end_bias_side, start_side_is, end_side_is, start_side_of_bias, end_side_of_bias}
-use Rattle.accesskit_consumer.specs.declared.text.runs.Run.{Run}
+use Rattle.tree_views.specs.declared.runs.Run.{Run}
 use Rattle.accesskit_consumer.specs.declared.text.position.TextPosition.{TextPosition}
-use Rattle.accesskit_consumer.specs.Nodes.{world_at, id_at, data_at}
-use Rattle.accesskit_consumer.specs.Runs.{run_world, root_id, root_of, sent_of, ids_after, ids_before, IsAfter, IsBefore}
+use Rattle.tree_views.specs.Nodes.{world_at, id_at, data_at}
+use Rattle.tree_views.specs.Runs.{run_world, root_id, root_of, sent_of, ids_after, ids_before, IsAfter, IsBefore}
 use Rattle.accesskit_consumer.specs.RunNumbers.{number_in, text_around}
 use Rattle.accesskit_consumer.specs.Positions.{IsAt, root_at, text_of, text_at, position_at}
 use Rattle.accesskit_consumer.proofs.TextEnds.{then_at}

@@ -9,7 +9,7 @@ use Rattle.model.specs.TextLaws.{IsWhole}
 use Rattle.model.proofs.Text.TextFacts.{start_next, start_bias}
 use Rattle.model.proofs.Text.Sides.{start_bias_side, start_rises}
 use Rattle.accesskit_consumer.specs.declared.text.position.TextPosition.{TextPosition}
-use Rattle.accesskit_consumer.specs.Runs.{sent_of}
+use Rattle.tree_views.specs.Runs.{sent_of}
 use Rattle.accesskit_consumer.specs.RunNumbers.{number_in}
 use Rattle.accesskit_consumer.specs.Positions.{root_at, text_of, text_at, position_at, IsAt}
 use Rattle.accesskit_consumer.proofs.FlatRuns.{count_at_number, text_is_whole, is_position}

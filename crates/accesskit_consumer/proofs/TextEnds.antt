@@ -5,14 +5,14 @@ use Rattle.std.specs.Option.{option_map_or}
 use Rattle.model.specs.TextRuns.{run_ids, said_count, supports_text_ranges}
 use Rattle.model.specs.FlatText.{FlatText, Position, count_in, start_at, end_at, document_start, document_end, first_run, last_run}
 use Rattle.model.specs.Moves.{end_from, start_before}
-use Rattle.accesskit_consumer.specs.declared.node.node_ref.NodeRef.{NodeRef}
-use Rattle.accesskit_consumer.specs.declared.text.runs.Run.{Run}
+use Rattle.tree_views.specs.declared.node.node_ref.NodeRef.{NodeRef}
+use Rattle.tree_views.specs.declared.runs.Run.{Run}
 use Rattle.accesskit_consumer.specs.declared.text.position.TextPosition.{TextPosition}
-use Rattle.accesskit_consumer.specs.Nodes.{world_at, id_at}
-use Rattle.accesskit_consumer.specs.Runs.{root_of, sent_of, IsLastOf}
+use Rattle.tree_views.specs.Nodes.{world_at, id_at}
+use Rattle.tree_views.specs.Runs.{root_of, sent_of, IsLastOf}
 use Rattle.accesskit_consumer.specs.RunNumbers.{number_in}
 use Rattle.accesskit_consumer.specs.Positions.{root_at, text_of, text_at, position_at, IsAt}
-use Rattle.accesskit_consumer.proofs.FitRuns.{no_runs_no_text}
+use Rattle.tree_views.proofs.FitRuns.{no_runs_no_text}
 use Rattle.accesskit_consumer.proofs.FlatRuns.{count_at_number, last_number}
 use Rattle.accesskit_consumer.proofs.CharacterMoves.{same_place}
 

@@ -10,9 +10,9 @@ use Rattle.model.specs.TextRuns.{SentRun, sent_runs, run_value, said_count, is_c
 use Rattle.model.specs.FlatText.{FlatText, shown_character, needs_masking, shown_run, flat_text, count, count_in, start_of, total, offset, Position, IsPosition}
 use Rattle.model.proofs.Text.TextFacts.{both, is_text, start_next}
 use Rattle.model.proofs.Text.Sides.{start_rises}
-use Rattle.accesskit_consumer.specs.declared.text.runs.Run.{Run}
+use Rattle.tree_views.specs.declared.runs.Run.{Run}
 use Rattle.accesskit_consumer.specs.declared.text.position.TextPosition.{TextPosition}
-use Rattle.accesskit_consumer.specs.Runs.{run_world, root_id, root_of, sent_of, IsBefore}
+use Rattle.tree_views.specs.Runs.{run_world, root_id, root_of, sent_of, IsBefore}
 use Rattle.accesskit_consumer.specs.RunNumbers.{number_in}
 use Rattle.accesskit_consumer.specs.Positions.{root_at, text_of, text_at, position_at}
 use Rattle.accesskit_consumer.proofs.FlatRuns.{cut_count, is_position, count_at_number, number_previous}

@@ -12,10 +12,10 @@ use Rattle.model.specs.Upward.{says}
 use Rattle.model.specs.TextRuns.{sent_runs, supports_text_ranges}
 use Rattle.model.proofs.Forest.WaysUp.{within_is_tested}
 use Rattle.model.proofs.Text.TextFacts.{both, is_text}
-use Rattle.accesskit_consumer.specs.declared.node.node_ref.NodeRef.{NodeRef}
-use Rattle.accesskit_consumer.specs.declared.text.runs.Run.{Run}
-use Rattle.accesskit_consumer.specs.Nodes.{world_at, id_at}
-use Rattle.accesskit_consumer.specs.Runs.{root_of, run_world, root_id, run_id}
+use Rattle.tree_views.specs.declared.node.node_ref.NodeRef.{NodeRef}
+use Rattle.tree_views.specs.declared.runs.Run.{Run}
+use Rattle.tree_views.specs.Nodes.{world_at, id_at}
+use Rattle.tree_views.specs.Runs.{root_of, run_world, root_id, run_id}
 
 or_right : (a b : Bool) → b ≡ true → (a || b) ≡ true
 or_right true b e = refl

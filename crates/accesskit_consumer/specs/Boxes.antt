@@ -7,7 +7,7 @@ use Rattle.model.specs.FlatText.{Metrics}
 use Rattle.model.specs.Geometry.{moved_rect, ordered_rect}
 use Rattle.model.specs.Ranges.{reach_from, reach_to, cut_along, piece_rect}
 use Rattle.accesskit_consumer.specs.declared.text.pieces.Piece.{Piece}
-use Rattle.accesskit_consumer.specs.Runs.{sent_of}
+use Rattle.tree_views.specs.Runs.{sent_of}
 use Rattle.accesskit_consumer.specs.Pieces.{piece_data}
 use Rattle.accesskit_consumer.specs.Measures.{shown_in, IsAlong}
 

@@ -5,7 +5,7 @@ use Rattle.model.specs.World.{World}
 use Rattle.model.specs.TextRuns.{SentRun}
 use Rattle.model.specs.FlatText.{flat_text, Position, offset}
 use Rattle.accesskit_consumer.specs.declared.text.edges.Edge.{Edge}
-use Rattle.accesskit_consumer.specs.RunPlaces.{runs_before}
+use Rattle.tree_views.specs.RunPlaces.{runs_before}
 
 -- its run
 abbrev pub edge_run : Edge → SentRun

@@ -3,8 +3,8 @@ use Rattle.std.specs.Prelude.{ℕ, ◌+◌, ◌*◌, ◌^◌, ℤ, pos, neg_ℤ,
 use Rattle.model.specs.FlatText.{Metrics as MetricsData, ShownRun, shown_run, needs_masking}
 use Rattle.model.specs.TextRuns.{is_password}
 use Rattle.accesskit_consumer.specs.declared.text.metrics.Metrics.{Metrics}
-use Rattle.accesskit_consumer.specs.declared.text.runs.Run.{Run}
-use Rattle.accesskit_consumer.specs.Runs.{run_world, root_id, sent_of}
+use Rattle.tree_views.specs.declared.runs.Run.{Run}
+use Rattle.tree_views.specs.Runs.{run_world, root_id, sent_of}
 
 -- the metrics as the model has them
 abbrev pub measures : Metrics → MetricsData

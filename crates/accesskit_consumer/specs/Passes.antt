@@ -6,8 +6,8 @@ use Rattle.model.specs.declared.FullNodeId.{FullNodeId}
 use Rattle.model.specs.World.{World}
 use Rattle.model.specs.Ranges.{Piece as PieceData}
 use Rattle.model.specs.Values.{bullets}
-use Rattle.accesskit_consumer.specs.declared.node.node_ref.NodeRef.{NodeRef}
-use Rattle.accesskit_consumer.specs.Nodes.{world_at, id_at}
+use Rattle.tree_views.specs.declared.node.node_ref.NodeRef.{NodeRef}
+use Rattle.tree_views.specs.Nodes.{world_at, id_at}
 
 -- how many characters the longest of these pieces has
 abbrev pub longest : List PieceData → ℕ

@@ -5,7 +5,7 @@ use Rattle.std.specs.Str.{is_utf8}
 use Rattle.model.specs.TextRuns.{run_value, said_count, sent_characters, is_cut_by}
 use Rattle.model.specs.FlatText.{shown_character}
 use Rattle.accesskit_consumer.specs.declared.text.pieces.Piece.{Piece}
-use Rattle.accesskit_consumer.specs.Runs.{sent_of}
+use Rattle.tree_views.specs.Runs.{sent_of}
 
 -- the lengths cut whole texts off the beginning of a text
 abbrev pub are_cut_off : List ℕ → List ℕ → Bool

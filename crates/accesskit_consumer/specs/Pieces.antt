@@ -6,8 +6,8 @@ use Rattle.model.specs.FlatText.{FlatText, biased_to_end}
 use Rattle.model.specs.Ranges.{Range, Piece as PieceData, is_degenerate, piece_in}
 use Rattle.accesskit_consumer.specs.declared.text.range.TextRange.{TextRange}
 use Rattle.accesskit_consumer.specs.declared.text.pieces.Piece.{Piece}
-use Rattle.accesskit_consumer.specs.declared.text.runs.Run.{Run}
-use Rattle.accesskit_consumer.specs.Runs.{root_of, sent_of}
+use Rattle.tree_views.specs.declared.runs.Run.{Run}
+use Rattle.tree_views.specs.Runs.{root_of, sent_of}
 use Rattle.accesskit_consumer.specs.RunNumbers.{number_in}
 use Rattle.accesskit_consumer.specs.TextRanges.{text_in, range_at}
 

@@ -3,7 +3,7 @@ use Rattle.std.specs.Prelude.{ℕ, ◌^◌, ℤ, pos, neg_ℤ, ◌≤ℤ◌, Boo
 use Rattle.schema.specs.declared.geometry.Point.{Point}
 use Rattle.model.specs.FlatText.{ShownRun, last_run, run_has}
 use Rattle.model.specs.Points.{is_in_run, is_past}
-use Rattle.accesskit_consumer.specs.declared.node.node_ref.NodeRef.{NodeRef}
+use Rattle.tree_views.specs.declared.node.node_ref.NodeRef.{NodeRef}
 use Rattle.accesskit_consumer.specs.declared.text.points.PointTest.{PointTest}
 use Rattle.accesskit_consumer.specs.declared.text.points.PointTest.TheVariants.{Inside, Past}
 use Rattle.accesskit_consumer.specs.Positions.{text_of}

@@ -1,9 +1,9 @@
 -- Positions in the text of a root.
 use Rattle.std.specs.Prelude.{◌≡◌}
 use Rattle.model.specs.FlatText.{FlatText, flat_text, Position}
-use Rattle.accesskit_consumer.specs.declared.node.node_ref.NodeRef.{NodeRef}
+use Rattle.tree_views.specs.declared.node.node_ref.NodeRef.{NodeRef}
 use Rattle.accesskit_consumer.specs.declared.text.position.TextPosition.{TextPosition}
-use Rattle.accesskit_consumer.specs.Nodes.{world_at, id_at}
+use Rattle.tree_views.specs.Nodes.{world_at, id_at}
 use Rattle.accesskit_consumer.specs.RunNumbers.{number_in}
 
 -- the node whose text it is, and the text

@@ -6,12 +6,12 @@ use Rattle.model.specs.Upward.{inherited_field}
 use Rattle.model.specs.Views.{is_italic}
 use Rattle.model.specs.Ranges.{Property, passed_runs, IsPropertyOf}
 use Rattle.model.specs.Ranges.Property.{Single as single, Mixed as mixed}
-use Rattle.accesskit_consumer.specs.declared.node.node_ref.NodeRef.{NodeRef}
+use Rattle.tree_views.specs.declared.node.node_ref.NodeRef.{NodeRef}
 use Rattle.accesskit_consumer.specs.declared.text.range.TextRange.{TextRange}
 use Rattle.accesskit_consumer.specs.declared.text.looks.Look.{Look}
 use Rattle.accesskit_consumer.specs.declared.text.range_properties.TextRangePropertyValue.{TextRangePropertyValue}
 use Rattle.accesskit_consumer.specs.declared.text.range_properties.TextRangePropertyValue.TheVariants.{Single, Mixed}
-use Rattle.accesskit_consumer.specs.Nodes.{world_at, id_at}
+use Rattle.tree_views.specs.Nodes.{world_at, id_at}
 use Rattle.accesskit_consumer.specs.Looks.{AreSame}
 use Rattle.accesskit_consumer.specs.TextRanges.{world_in, text_in, range_at}
 

@@ -3,7 +3,7 @@ use Rattle.std.specs.Prelude.{Option}
 use Rattle.schema.specs.NodeData.{NodeData}
 use Rattle.model.specs.Upward.{inherited_field}
 use Rattle.accesskit_consumer.specs.declared.text.position.TextPosition.{TextPosition}
-use Rattle.accesskit_consumer.specs.Runs.{run_world, run_id}
+use Rattle.tree_views.specs.Runs.{run_world, run_id}
 
 -- the field, as the nearest node from the position's run upwards gives it
 abbrev pub run_inherits : {A : Type 0} → (NodeData → Option A) → TextPosition → Option A

@@ -1,8 +1,8 @@
 -- The number of a run in its text.
 use Rattle.std.specs.Prelude.{ℕ, length}
 use Rattle.model.specs.FlatText.{FlatText, flat_text}
-use Rattle.accesskit_consumer.specs.declared.text.runs.Run.{Run}
-use Rattle.accesskit_consumer.specs.Runs.{run_world, root_id, ids_before}
+use Rattle.tree_views.specs.declared.runs.Run.{Run}
+use Rattle.tree_views.specs.Runs.{run_world, root_id, ids_before}
 
 -- how many of the root's runs are before it
 abbrev pub number_in : Run → ℕ

@@ -7,8 +7,8 @@ use Rattle.model.specs.declared.FullNodeId.{FullNodeId}
 use Rattle.model.specs.FullIds.{coded_full}
 use Rattle.accesskit_consumer.specs.declared.text.edges.Edge.{Edge}
 use Rattle.accesskit_consumer.specs.declared.text.position.TextPosition.{TextPosition}
-use Rattle.accesskit_consumer.specs.Nodes.{id_at}
-use Rattle.accesskit_consumer.specs.Runs.{run_id}
+use Rattle.tree_views.specs.Nodes.{id_at}
+use Rattle.tree_views.specs.Runs.{run_id}
 use Rattle.accesskit_consumer.specs.Positions.{root_at}
 use Rattle.accesskit_consumer.specs.SameKeys.{same_key, same_key-equivalence, same_key-decides}
 

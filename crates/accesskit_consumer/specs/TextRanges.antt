@@ -5,7 +5,7 @@ use Rattle.model.specs.World.{World}
 use Rattle.model.specs.FlatText.{FlatText}
 use Rattle.model.specs.Ranges.{Range}
 use Rattle.accesskit_consumer.specs.declared.text.range.TextRange.{TextRange}
-use Rattle.accesskit_consumer.specs.Nodes.{world_at, id_at}
+use Rattle.tree_views.specs.Nodes.{world_at, id_at}
 use Rattle.accesskit_consumer.specs.Positions.{text_of}
 use Rattle.accesskit_consumer.specs.Edges.{edge_position}
 

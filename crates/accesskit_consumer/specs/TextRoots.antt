@@ -2,8 +2,8 @@
 use Rattle.std.specs.Prelude.{◌≡◌, true}
 use Rattle.std.specs.Coded.{Coded-set, coded_bool}
 use Rattle.model.specs.TextRuns.{supports_text_ranges}
-use Rattle.accesskit_consumer.specs.declared.node.node_ref.NodeRef.{NodeRef}
-use Rattle.accesskit_consumer.specs.Nodes.{world_at, id_at}
+use Rattle.tree_views.specs.declared.node.node_ref.NodeRef.{NodeRef}
+use Rattle.tree_views.specs.Nodes.{world_at, id_at}
 
 -- the node has text ranges
 abbrev pub HasText : NodeRef → Type 0

@@ -3,19 +3,20 @@ ghost use Rattle.std.specs.Prelude.{◌≡◌, ◌==◌, ◌&&◌, ◌+ℤ◌, �
 ghost use Rattle.model.specs.TextRuns.{said_count};
 ghost use Rattle.model.specs.Geometry.{whole_rect, moved_rect};
 ghost use Rattle.model.specs.Ranges.{cut_along, piece_rect, piece_box, bounding_boxes};
-ghost use Rattle.accesskit_consumer.specs.Reach.{IsInReach};
-ghost use Rattle.accesskit_consumer.specs.Runs.{sent_of};
+ghost use Rattle.tree_views.specs.Reach.{IsInReach};
+ghost use Rattle.tree_views.specs.Runs.{sent_of};
 ghost use Rattle.accesskit_consumer.specs.RunNumbers.{text_around};
 ghost use Rattle.accesskit_consumer.specs.TextRanges.{text_in, range_at};
 ghost use Rattle.accesskit_consumer.specs.Pieces.{piece_data};
 ghost use Rattle.accesskit_consumer.specs.Measures.{measures, shown_in, IsAlong};
 ghost use Rattle.accesskit_consumer.specs.Boxes.{box_of, cut_of, IsOnRun};
 
-use crate::node::geometry::ordered;
-use crate::text::metrics::Metrics;
+use tree_views::node::geometry::ordered;
+use crate::text::metrics::{Metrics, metrics_of};
 use crate::text::pieces::Piece;
+use crate::text::points::direction_of;
 use crate::text::range::TextRange;
-use crate::text::runs::Run;
+use tree_views::runs::Run;
 use schema::{Rect, TextDirection, WideRect, WideTranslation};
 use std::alloc::{AllocError, Global};
 
@@ -114,17 +115,6 @@ fn moved(rect: WideRect, by: WideTranslation) -> WideRect
     }
 }
 
-impl Run<'_> {
-    /// By how much the run and all above it move it.
-    fn whole_move(self) -> WideTranslation
-        ensures exact { result ≡ (shown_in self.entry).move }
-        ensures across { IsInReach result.x }
-        ensures along { IsInReach result.y }
-    {
-        self.view().whole_move()
-    }
-}
-
 impl Piece<'_> {
     /// Whether the piece is the whole run.
     fn is_whole(self) -> bool
@@ -174,8 +164,8 @@ impl Piece<'_> {
         ensures { result ≡ piece_box (text_around self.entry.run) (piece_data self.entry) }
     {
         let rect = self.run.node().bounds()?;
-        let metrics = self.run.metrics()?;
-        let direction = self.run.direction()?;
+        let metrics = metrics_of(self.run)?;
+        let direction = direction_of(self.run)?;
         Some(self.placed(rect, metrics, direction))
     }
 }

@@ -2,7 +2,7 @@
 ghost use Rattle.std.specs.Prelude.{◌≡◌};
 
 use crate::text::position::TextPosition;
-use crate::walks::spot::Spot;
+use tree_views::walks::spot::Spot;
 
 /// An end of a range: a run at its place, and how many of the run's characters are before the end.
 #[derive(Clone, Copy)]

@@ -2,33 +2,31 @@
 ghost use Rattle.std.specs.Prelude.{◌≡◌, true};
 ghost use Rattle.model.specs.TextRuns.{supports_text_ranges};
 ghost use Rattle.model.specs.FlatText.{document_start, document_end, biased_to_start, biased_to_end};
-ghost use Rattle.accesskit_consumer.specs.Nodes.{world_at, id_at};
+ghost use Rattle.tree_views.specs.Nodes.{world_at, id_at};
 ghost use Rattle.accesskit_consumer.specs.Positions.{IsMoved, IsAt, text_of};
 
-use crate::node::NodeRef;
+use tree_views::node::NodeRef;
 use crate::text::position::TextPosition;
-use crate::text::runs::Run;
+use tree_views::runs::Run;
 
-impl<'a> NodeRef<'a> {
-    /// The start of the node's text, which has text ranges.
-    pub fn document_start(&self) -> TextPosition<'a>
-        requires { supports_text_ranges (world_at self.now) (id_at self.now) ≡ true }
-        ensures { IsAt self.now document_start result }
-    {
-        let run = Run::first(*self).unwrap();
-        TextPosition { run, index: 0 }
-    }
+/// The start of the node's text, which has text ranges.
+pub(super) fn document_start<'a>(root: NodeRef<'a>) -> TextPosition<'a>
+    requires { supports_text_ranges (world_at root) (id_at root) ≡ true }
+    ensures { IsAt root.entry document_start result }
+{
+    let run = Run::first(root).unwrap();
+    TextPosition { run, index: 0 }
+}
 
-    /// The end of the node's text, which has text ranges.
-    pub fn document_end(&self) -> TextPosition<'a>
-        requires { supports_text_ranges (world_at self.now) (id_at self.now) ≡ true }
-        ensures { IsAt self.now (document_end (text_of self.now)) result }
-    {
-        let run = Run::last(*self).unwrap();
-        TextPosition {
-            run,
-            index: run.character_count(),
-        }
+/// The end of the node's text, which has text ranges.
+pub(super) fn document_end<'a>(root: NodeRef<'a>) -> TextPosition<'a>
+    requires { supports_text_ranges (world_at root) (id_at root) ≡ true }
+    ensures { IsAt root.entry (document_end (text_of root.entry)) result }
+{
+    let run = Run::last(root).unwrap();
+    TextPosition {
+        run,
+        index: run.character_count(),
     }
 }
 

@@ -3,7 +3,7 @@ ghost use Rattle.std.specs.Prelude.{◌≡◌, ◌↔◌, IsTrue};
 ghost use Rattle.accesskit_consumer.specs.SamePositions.{end_of, key_of, same_text_position, same_text_position_laws, same_text_position_equivalence};
 ghost use Rattle.accesskit_consumer.specs.SameRanges.{ends_of, same_text_range, same_text_range_laws, same_text_range_equivalence};
 
-use crate::node::same::is_same;
+use tree_views::node::same::is_same;
 use crate::text::edges::Edge;
 use crate::text::position::TextPosition;
 use crate::text::range::TextRange;
@@ -25,7 +25,7 @@ impl TextPosition<'_> {
     fn same(self, other: TextPosition<'_>) -> bool
         ensures { IsTrue result ↔ (key_of self.entry ≡ key_of other.entry) }
     {
-        if !is_same(self.run.root().id, other.run.root().id) {
+        if !is_same(self.run.root().id(), other.run.root().id()) {
             return false;
         }
         self.edge().is_at(other.edge())
@@ -54,7 +54,7 @@ impl TextRange<'_> {
     fn same(self, other: TextRange<'_>) -> bool
         ensures { IsTrue result ↔ (ends_of self.entry ≡ ends_of other.entry) }
     {
-        if !is_same(self.root.id, other.root.id) {
+        if !is_same(self.root.id(), other.root.id()) {
             return false;
         }
         if !self.first.is_at(other.first) {

@@ -3,16 +3,16 @@ ghost use Rattle.std.specs.Prelude.{◌≡◌, ◌+◌};
 ghost use Rattle.model.specs.Styles.{same_style};
 ghost use Rattle.model.specs.FlatText.{begins_format, is_format_start};
 ghost use Rattle.model.specs.Moves.{start_before, forward_to_format_start, forward_to_format_end, backward_to_format_start};
-ghost use Rattle.accesskit_consumer.specs.Nodes.{world_at};
+ghost use Rattle.tree_views.specs.Nodes.{world_at};
 ghost use Rattle.accesskit_consumer.specs.Formats.{style_at};
-ghost use Rattle.accesskit_consumer.specs.Runs.{IsAfter};
+ghost use Rattle.tree_views.specs.Runs.{IsAfter};
 ghost use Rattle.accesskit_consumer.specs.RunNumbers.{number_in, text_around};
 ghost use Rattle.accesskit_consumer.specs.Positions.{IsMoved, text_at, position_at};
 
-use crate::node::NodeRef;
+use tree_views::node::NodeRef;
 use crate::text::looks::{Look, are_same};
 use crate::text::position::TextPosition;
-use crate::text::runs::Run;
+use tree_views::runs::Run;
 
 /// What makes up a format.
 const FORMAT: [Look; 11] = [
@@ -42,24 +42,22 @@ fn has_same_format(a: NodeRef<'_>, b: NodeRef<'_>) -> bool
     true
 }
 
-impl<'a> Run<'a> {
-    /// Whether a format begins with the run, which follows another one.
-    fn begins_format_after(self, previous: Run<'a>) -> bool
-        requires { IsAfter previous self }
-        ensures { result ≡ begins_format (text_around self.entry) (number_in self.entry) }
-    {
-        !has_same_format(previous.view(), self.view())
-    }
+/// Whether a format begins with the run, which follows another one.
+fn begins_format_after<'a>(run: Run<'a>, previous: Run<'a>) -> bool
+    requires { IsAfter previous run }
+    ensures { result ≡ begins_format (text_around run.entry) (number_in run.entry) }
+{
+    !has_same_format(previous.view(), run.view())
+}
 
-    /// Whether a format begins with the run.
-    fn begins_format(self) -> bool
-        ensures { result ≡ begins_format (text_around self.entry) (number_in self.entry) }
-    {
-        let Some(previous) = self.previous() else {
-            return true;
-        };
-        self.begins_format_after(previous)
-    }
+/// Whether a format begins with the run.
+fn begins_format(run: Run<'_>) -> bool
+    ensures { result ≡ begins_format (text_around run.entry) (number_in run.entry) }
+{
+    let Some(previous) = run.previous() else {
+        return true;
+    };
+    begins_format_after(run, previous)
 }
 
 impl<'a> TextPosition<'a> {
@@ -71,7 +69,7 @@ impl<'a> TextPosition<'a> {
         if position.index != 0 {
             return false;
         }
-        position.run.begins_format()
+        begins_format(position.run)
     }
 
     /// The start of the format of the position's run.
@@ -83,7 +81,7 @@ impl<'a> TextPosition<'a> {
             let Some(previous) = run.previous() else {
                 return TextPosition { run, index: 0 };
             };
-            if run.begins_format_after(previous) {
+            if begins_format_after(run, previous) {
                 return TextPosition { run, index: 0 };
             }
             run = previous;
@@ -103,7 +101,7 @@ impl<'a> TextPosition<'a> {
                     index: run.character_count(),
                 };
             };
-            if next.begins_format_after(run) {
+            if begins_format_after(next, run) {
                 return TextPosition {
                     run: next,
                     index: 0,

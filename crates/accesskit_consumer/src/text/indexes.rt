@@ -3,20 +3,20 @@ ghost use Rattle.std.specs.Prelude.{◌≡◌, ◌<◌, ◌≤◌, ◌+◌, true
 ghost use Rattle.std.specs.List.{concat};
 ghost use Rattle.model.specs.TextRuns.{said_count, sent_characters, supports_text_ranges};
 ghost use Rattle.model.specs.Moves.{utf16_len, global_index, position_of, to_global_usv_index, to_global_utf16_index, position_from_usv, position_from_utf16};
-ghost use Rattle.accesskit_consumer.specs.Nodes.{world_at, id_at};
-ghost use Rattle.accesskit_consumer.specs.Runs.{sent_of};
+ghost use Rattle.tree_views.specs.Nodes.{world_at, id_at};
+ghost use Rattle.tree_views.specs.Runs.{sent_of};
 ghost use Rattle.accesskit_consumer.specs.Positions.{root_at, text_of, text_at, position_at};
 ghost use Rattle.accesskit_consumer.specs.GlobalIndexes.{IsCut, unit_len, length_to, length_of};
 
-use crate::node::NodeRef;
-use crate::node::masking::scalar_count;
-use crate::node::run_texts::needs_masking;
+use tree_views::node::NodeRef;
+use tree_views::node::masking::scalar_count;
+use tree_views::node::run_texts::needs_masking;
 use crate::text::position::TextPosition;
-use crate::text::runs::Run;
+use tree_views::runs::Run;
 
 /// What an index counts.
 #[derive(Clone, Copy)]
-enum Units {
+pub(super) enum Units {
     Scalars,
     Utf16,
 }
@@ -144,57 +144,31 @@ impl TextPosition<'_> {
     }
 }
 
-impl<'a> NodeRef<'a> {
-    /// The position before the character in which an index of the whole text lies, or the end of the text.
-    fn position_from(self, units: Units, index: usize) -> Option<TextPosition<'a>>
-        requires { supports_text_ranges (world_at self) (id_at self) ≡ true }
-        ensures at { option_map position_at result ≡
-            position_of (unit_len units) (text_of self.entry) index }
-        ensures same { IfSome result (λ p. root_at p ≡ self.entry) }
-    {
-        let masked = needs_masking(self);
-        let mut run = Run::first(self).unwrap();
-        let mut left = index;
-        loop {
-            let count = units.count_run(run, masked);
-            if left < count {
-                let index = units.holder(run, left, masked);
-                return Some(TextPosition { run, index });
-            }
-            left -= count;
-            let Some(next) = run.next() else {
-                break;
-            };
-            run = next;
+/// The position before the character in which an index of the whole text lies, or the end of the text.
+pub(super) fn position_from<'a>(root: NodeRef<'a>, units: Units, index: usize) -> Option<TextPosition<'a>>
+    requires { supports_text_ranges (world_at root) (id_at root) ≡ true }
+    ensures at { option_map position_at result ≡
+        position_of (unit_len units) (text_of root.entry) index }
+    ensures same { IfSome result (λ p. root_at p ≡ root.entry) }
+{
+    let masked = needs_masking(root);
+    let mut run = Run::first(root).unwrap();
+    let mut left = index;
+    loop {
+        let count = units.count_run(run, masked);
+        if left < count {
+            let index = units.holder(run, left, masked);
+            return Some(TextPosition { run, index });
         }
-        if left > 0 {
-            return None;
-        }
-        let index = run.character_count();
-        Some(TextPosition { run, index })
+        left -= count;
+        let Some(next) = run.next() else {
+            break;
+        };
+        run = next;
     }
-
-    /// The position of an index that counts the scalars of the whole text: before the character in which it lies, at
-    /// the start of a run where two runs meet. At the length of the text it is its end, and past that there is none. The
-    /// node has text ranges.
-    pub fn text_position_from_global_usv_index(&self, index: usize) -> Option<TextPosition<'a>>
-        requires { supports_text_ranges (world_at self.now) (id_at self.now) ≡ true }
-        ensures at { option_map position_at result ≡ position_from_usv (text_of self.now) index }
-        ensures same { IfSome result (λ p. root_at p ≡ self.now) }
-    {
-        let node = *self;
-        node.position_from(Units::Scalars, index)
+    if left > 0 {
+        return None;
     }
-
-    /// The position of an index that counts the units of UTF-16 of the whole text: before the character in which it
-    /// lies, at the start of a run where two runs meet. At the length of the text it is its end, and past that there is
-    /// none. The node has text ranges.
-    pub fn text_position_from_global_utf16_index(&self, index: usize) -> Option<TextPosition<'a>>
-        requires { supports_text_ranges (world_at self.now) (id_at self.now) ≡ true }
-        ensures at { option_map position_at result ≡ position_from_utf16 (text_of self.now) index }
-        ensures same { IfSome result (λ p. root_at p ≡ self.now) }
-    {
-        let node = *self;
-        node.position_from(Units::Utf16, index)
-    }
+    let index = run.character_count();
+    Some(TextPosition { run, index })
 }

@@ -3,6 +3,7 @@ ghost use Rattle.std.specs.Prelude.{◌≡◌};
 ghost use Rattle.model.specs.Moves.{to_line_index};
 ghost use Rattle.accesskit_consumer.specs.Positions.{text_at, position_at};
 
+use crate::text::boundaries::ends_line;
 use crate::text::position::TextPosition;
 
 impl TextPosition<'_> {
@@ -15,7 +16,7 @@ impl TextPosition<'_> {
         let mut lines = 0usize;
         while let Some(previous) = run.previous() {
             run = previous;
-            if previous.ends_line() {
+            if ends_line(previous) {
                 lines += 1;
             }
         }

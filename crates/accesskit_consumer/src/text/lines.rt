@@ -4,7 +4,8 @@ ghost use Rattle.model.specs.Moves.{end_from, start_before, forward_to_line_star
 ghost use Rattle.accesskit_consumer.specs.Marks.{begins_at, ends_at};
 ghost use Rattle.accesskit_consumer.specs.Positions.{IsMoved};
 
-use crate::text::boundaries::Mark;
+use crate::text::boundaries::{Mark, first_of, last_of};
+use crate::text::ends::{document_end, document_start};
 use crate::text::position::TextPosition;
 
 impl<'a> TextPosition<'a> {
@@ -12,7 +13,7 @@ impl<'a> TextPosition<'a> {
     fn end_of(self, mark: Mark) -> TextPosition<'a>
         ensures { IsMoved (λ t p. end_from t p.run (ends_at mark t)) self.entry result }
     {
-        let last = self.run.last_of(mark);
+        let last = last_of(self.run, mark);
         TextPosition {
             run: last,
             index: last.character_count(),
@@ -23,7 +24,7 @@ impl<'a> TextPosition<'a> {
     fn start_of(self, mark: Mark) -> TextPosition<'a>
         ensures { IsMoved (λ t p. start_before t (p.run + 1) (begins_at mark t)) self.entry result }
     {
-        let first = self.run.first_of(mark);
+        let first = first_of(self.run, mark);
         TextPosition {
             run: first,
             index: 0,
@@ -77,7 +78,7 @@ impl<'a> TextPosition<'a> {
         ensures { IsMoved forward_to_page_start self.now result }
     {
         let position = *self;
-        position.run.root().document_end()
+        document_end(position.run.root())
     }
 
     /// The end of the text: a text has one page.
@@ -85,7 +86,7 @@ impl<'a> TextPosition<'a> {
         ensures { IsMoved forward_to_page_end self.now result }
     {
         let position = *self;
-        position.run.root().document_end()
+        document_end(position.run.root())
     }
 
     /// The start of the text: a text has one page.
@@ -93,6 +94,6 @@ impl<'a> TextPosition<'a> {
         ensures { IsMoved backward_to_page_start self.now result }
     {
         let position = *self;
-        position.run.root().document_start()
+        document_start(position.run.root())
     }
 }

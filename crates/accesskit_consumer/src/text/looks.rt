@@ -1,9 +1,9 @@
 //! How a text looks, look by look.
 ghost use Rattle.std.specs.Prelude.{◌≡◌, ◌↔◌, IsTrue, option_copied};
-ghost use Rattle.accesskit_consumer.specs.Nodes.{world_at, id_at};
+ghost use Rattle.tree_views.specs.Nodes.{world_at, id_at};
 ghost use Rattle.accesskit_consumer.specs.Looks.{AreSame};
 
-use crate::node::NodeRef;
+use tree_views::node::NodeRef;
 
 /// What a run has from itself or from the nodes above it.
 #[derive(Clone, Copy)]

@@ -8,7 +8,7 @@ ghost use Rattle.accesskit_consumer.specs.Pieces.{piece_data};
 ghost use Rattle.accesskit_consumer.specs.Measures.{measures, shown_in, IsStep, IsAlong};
 
 use crate::text::pieces::Piece;
-use crate::text::runs::Run;
+use tree_views::runs::Run;
 
 /// Where the characters of a run stand along it, and how wide they are. Those of a password are told as if all were
 /// alike.
@@ -46,19 +46,17 @@ pub(super) fn is_between(low: i128, high: i128, number: i128) -> bool
     low <= number && number < high
 }
 
-impl<'a> Run<'a> {
-    /// Where the run's characters stand, where both lists were sent.
-    pub(super) fn metrics(self) -> Option<Metrics<'a>>
-        ensures { option_map measures result ≡ (shown_in self.entry).metrics }
-    {
-        let positions = self.node().character_positions()?;
-        let widths = self.node().character_widths()?;
-        Some(Metrics {
-            positions,
-            widths,
-            are_alike: self.root().is_password_input(),
-        })
-    }
+/// Where the run's characters stand, where both lists were sent.
+pub(super) fn metrics_of<'a>(run: Run<'a>) -> Option<Metrics<'a>>
+    ensures { option_map measures result ≡ (shown_in run.entry).metrics }
+{
+    let positions = run.node().character_positions()?;
+    let widths = run.node().character_widths()?;
+    Some(Metrics {
+        positions,
+        widths,
+        are_alike: run.root().is_password_input(),
+    })
 }
 
 impl Metrics<'_> {

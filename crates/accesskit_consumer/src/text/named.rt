@@ -2,78 +2,74 @@
 ghost use Rattle.std.specs.Prelude.{◌≡◌, ◌==◌, true, IfSome, option_map};
 ghost use Rattle.model.specs.TextRuns.{supports_text_ranges};
 ghost use Rattle.model.specs.Ranges.{run_named, position_named, nearest_named};
-ghost use Rattle.accesskit_consumer.specs.Nodes.{world_at, id_at};
-ghost use Rattle.accesskit_consumer.specs.Runs.{root_of, run_id};
+ghost use Rattle.tree_views.specs.Nodes.{world_at, id_at};
+ghost use Rattle.tree_views.specs.Runs.{root_of, run_id};
 ghost use Rattle.accesskit_consumer.specs.RunNumbers.{number_in};
 ghost use Rattle.accesskit_consumer.specs.Positions.{text_of};
 ghost use Rattle.accesskit_consumer.specs.FoundRanges.{IsAtFound};
 
-use crate::node::NodeRef;
+use tree_views::node::NodeRef;
 use crate::text::position::TextPosition;
-use crate::text::runs::Run;
+use tree_views::runs::Run;
 
-impl Run<'_> {
-    /// Whether the run has this id in its tree.
-    fn is_named(self, raw: schema::TextPosition) -> bool
-        ensures { result ≡ ((run_id self.entry).node.0 == raw.node.0) }
-    {
-        self.id().node.0 == raw.node.0
+/// Whether the run has this id in its tree.
+fn is_named(run: Run<'_>, raw: schema::TextPosition) -> bool
+    ensures { result ≡ ((run_id run.entry).node.0 == raw.node.0) }
+{
+    run.id().node.0 == raw.node.0
+}
+
+/// The first of the node's runs that has this id in its tree, where there is one.
+fn run_named<'a>(root: NodeRef<'a>, raw: schema::TextPosition) -> Option<Run<'a>>
+    ensures same { IfSome result (λ r. root_of r ≡ root.entry) }
+    ensures named { option_map number_in result ≡ run_named (text_of root.entry) raw }
+{
+    let Some(first) = Run::first(root) else {
+        return None;
+    };
+    let mut run = first;
+    loop {
+        if is_named(run, raw) {
+            return Some(run);
+        }
+        let Some(next) = run.next() else {
+            return None;
+        };
+        run = next;
     }
 }
 
-impl<'a> NodeRef<'a> {
-    /// The first of the node's runs that has this id in its tree, where there is one.
-    fn run_named(self, raw: schema::TextPosition) -> Option<Run<'a>>
-        ensures same { IfSome result (λ r. root_of r ≡ self.entry) }
-        ensures named { option_map number_in result ≡ run_named (text_of self.entry) raw }
-    {
-        let Some(first) = Run::first(self) else {
-            return None;
-        };
-        let mut run = first;
-        loop {
-            if run.is_named(raw) {
-                return Some(run);
-            }
-            let Some(next) = run.next() else {
-                return None;
-            };
-            run = next;
-        }
+/// The position of the node's text, which has text ranges, that is named: none past the end of its run.
+pub(super) fn position_named<'a>(root: NodeRef<'a>, raw: schema::TextPosition) -> Option<TextPosition<'a>>
+    requires { supports_text_ranges (world_at root) (id_at root) ≡ true }
+    ensures { IsAtFound root.entry (position_named (text_of root.entry) raw) result }
+{
+    let Some(run) = run_named(root, raw) else {
+        return None;
+    };
+    if raw.character_index > run.character_count() {
+        return None;
     }
+    Some(TextPosition {
+        run,
+        index: raw.character_index,
+    })
+}
 
-    /// The position of the node's text, which has text ranges, that is named: none past the end of its run.
-    pub(super) fn position_named(self, raw: schema::TextPosition) -> Option<TextPosition<'a>>
-        requires { supports_text_ranges (world_at self) (id_at self) ≡ true }
-        ensures { IsAtFound self.entry (position_named (text_of self.entry) raw) result }
-    {
-        let Some(run) = self.run_named(raw) else {
-            return None;
-        };
-        if raw.character_index > run.character_count() {
-            return None;
-        }
-        Some(TextPosition {
-            run,
-            index: raw.character_index,
-        })
+/// The same, but past the end of its run that end.
+pub(super) fn nearest_named<'a>(root: NodeRef<'a>, raw: schema::TextPosition) -> Option<TextPosition<'a>>
+    requires { supports_text_ranges (world_at root) (id_at root) ≡ true }
+    ensures { IsAtFound root.entry (nearest_named (text_of root.entry) raw) result }
+{
+    let Some(run) = run_named(root, raw) else {
+        return None;
+    };
+    let count = run.character_count();
+    if raw.character_index > count {
+        return Some(TextPosition { run, index: count });
     }
-
-    /// The same, but past the end of its run that end.
-    pub(super) fn nearest_named(self, raw: schema::TextPosition) -> Option<TextPosition<'a>>
-        requires { supports_text_ranges (world_at self) (id_at self) ≡ true }
-        ensures { IsAtFound self.entry (nearest_named (text_of self.entry) raw) result }
-    {
-        let Some(run) = self.run_named(raw) else {
-            return None;
-        };
-        let count = run.character_count();
-        if raw.character_index > count {
-            return Some(TextPosition { run, index: count });
-        }
-        Some(TextPosition {
-            run,
-            index: raw.character_index,
-        })
-    }
+    Some(TextPosition {
+        run,
+        index: raw.character_index,
+    })
 }

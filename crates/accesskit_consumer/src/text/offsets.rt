@@ -2,10 +2,10 @@
 ghost use Rattle.std.specs.Prelude.{◌≡◌, Some, None, MatchBool};
 ghost use Rattle.model.specs.Forest.{is_same as is_same_id};
 ghost use Rattle.model.specs.FlatText.{offset, position_cmp};
-ghost use Rattle.accesskit_consumer.specs.Nodes.{id_at};
+ghost use Rattle.tree_views.specs.Nodes.{id_at};
 ghost use Rattle.accesskit_consumer.specs.Positions.{root_at, text_at, position_at};
 
-use crate::node::same::is_same;
+use tree_views::node::same::is_same;
 use crate::text::position::TextPosition;
 use std::cmp::Ordering;
 
@@ -30,7 +30,7 @@ impl TextPosition<'_> {
             (result ≡ None) }
     {
         let (position, other) = (*self, *other);
-        if !is_same(position.run.root().id, other.run.root().id) {
+        if !is_same(position.run.root().id(), other.run.root().id()) {
             return None;
         }
         let before = position.offset();

@@ -1,14 +1,14 @@
 //! The pieces of a range, run by run.
 ghost use Rattle.std.specs.Prelude.{◌≡◌, [], MatchOption};
 ghost use Rattle.model.specs.Ranges.{piece_in, pieces};
-ghost use Rattle.accesskit_consumer.specs.Runs.{root_of};
+ghost use Rattle.tree_views.specs.Runs.{root_of};
 ghost use Rattle.accesskit_consumer.specs.RunNumbers.{number_in};
 ghost use Rattle.accesskit_consumer.specs.TextRanges.{text_in, range_at};
 ghost use Rattle.accesskit_consumer.specs.Pieces.{IsNextPiece, IsUpTo, piece_data, pieces_past};
 
-use crate::node::same::is_same;
+use tree_views::node::same::is_same;
 use crate::text::range::TextRange;
-use crate::text::runs::Run;
+use tree_views::runs::Run;
 
 /// A part of one run: its characters from one index up to another.
 #[derive(Clone, Copy)]

@@ -4,27 +4,28 @@ ghost use Rattle.model.specs.TextRuns.{said_count, supports_text_ranges};
 ghost use Rattle.model.specs.FlatText.{count, run_has};
 ghost use Rattle.model.specs.Geometry.{seen_from};
 ghost use Rattle.model.specs.Points.{is_in_run, distance, index_at, box_in_root, is_ahead_of, is_past_box, is_past, position_at_point};
-ghost use Rattle.accesskit_consumer.specs.Nodes.{world_at, id_at};
-ghost use Rattle.accesskit_consumer.specs.Reach.{IsInReach};
-ghost use Rattle.accesskit_consumer.specs.Runs.{root_of, run_world, root_id, sent_of};
+ghost use Rattle.tree_views.specs.Nodes.{world_at, id_at};
+ghost use Rattle.tree_views.specs.Reach.{IsInReach};
+ghost use Rattle.tree_views.specs.Runs.{root_of, run_world, root_id, sent_of};
 ghost use Rattle.accesskit_consumer.specs.RunNumbers.{number_in};
 ghost use Rattle.accesskit_consumer.specs.Positions.{IsAt, text_of};
-ghost use Rattle.accesskit_consumer.specs.SeenPoints.{wide_of};
+ghost use Rattle.tree_views.specs.SeenPoints.{wide_of};
 ghost use Rattle.accesskit_consumer.specs.Measures.{shown_in};
 ghost use Rattle.accesskit_consumer.specs.declared.text.points.PointTest.TheVariants.{Inside};
 ghost use Rattle.accesskit_consumer.specs.PointTests.{passes, last_passing, IsSeen};
 
-use crate::node::NodeRef;
-use crate::node::geometry::{moved_rect, ordered};
-use crate::text::metrics::is_between;
+use tree_views::node::NodeRef;
+use tree_views::node::geometry::{moved_rect, ordered};
+use crate::text::ends::document_end;
+use crate::text::metrics::{is_between, metrics_of};
 use crate::text::position::TextPosition;
-use crate::text::runs::Run;
-use crate::walks::hits::{Seen, contains};
+use tree_views::runs::Run;
+use tree_views::walks::hits::{Seen, contains};
 use schema::{Point, Rect, TextDirection, WideRect, WideTranslation};
 
 /// What a point is to a run: in its own rectangle, or beside its box, on the side where its text ends.
 #[derive(Clone, Copy)]
-enum PointTest {
+pub(super) enum PointTest {
     Inside,
     Past,
 }
@@ -106,172 +107,140 @@ fn is_past_box(point: Point, direction: TextDirection, around: WideRect) -> bool
     }
 }
 
-impl<'a> Run<'a> {
-    /// By how much the run and the nodes between it and the root move it.
-    fn move_in_root(self) -> WideTranslation
-        ensures exact { result ≡ (shown_in self.entry).move_in_root }
-        ensures across { IsInReach result.x }
-        ensures along { IsInReach result.y }
-    {
-        self.view().move_to_top(Some(self.root().id))
-    }
+/// The direction of the run's text.
+pub(super) fn direction_of(run: Run<'_>) -> Option<TextDirection>
+    ensures { result ≡ (shown_in run.entry).direction }
+{
+    run.view().text_direction()
+}
 
-    /// The direction of the run's text.
-    pub(super) fn direction(self) -> Option<TextDirection>
-        ensures { result ≡ (shown_in self.entry).direction }
-    {
-        self.view().text_direction()
-    }
+/// How many characters the run shows.
+fn shown_count(run: Run<'_>) -> usize
+    ensures exact { result ≡ count (shown_in run.entry) }
+    ensures said { result ≡ said_count (sent_of run.entry) }
+{
+    run.character_count()
+}
 
-    /// How many characters the run shows.
-    fn count(self) -> usize
-        ensures exact { result ≡ count (shown_in self.entry) }
-        ensures said { result ≡ said_count (sent_of self.entry) }
-    {
-        self.character_count()
-    }
+/// The run's rectangle in the root.
+fn box_in_root(run: Run<'_>) -> Option<WideRect>
+    ensures { result ≡ box_in_root (shown_in run.entry) }
+{
+    let rect = run.node().bounds()?;
+    Some(ordered(moved_rect(rect, run.move_in_root())))
+}
 
-    /// The run's rectangle in the root.
-    fn box_in_root(self) -> Option<WideRect>
-        ensures { result ≡ box_in_root (shown_in self.entry) }
-    {
-        let rect = self.node().bounds()?;
-        Some(ordered(moved_rect(rect, self.move_in_root())))
-    }
-
-    /// Whether the point is in the run's own rectangle, which is moved along with the run.
-    fn is_around(self, point: Point) -> bool
-        ensures { result ≡ is_in_run point (shown_in self.entry) }
-    {
-        match self.node().bounds() {
-            Some(rect) => contains(rect, seen_from(self.move_in_root(), point)),
-            None => false,
-        }
-    }
-
-    /// Whether the point is left of the run's box or above it.
-    fn is_after(self, point: Point) -> bool
-        ensures { result ≡ is_ahead_of point (shown_in self.entry) }
-    {
-        match self.box_in_root() {
-            Some(around) => is_ahead_of_box(point, around),
-            None => false,
-        }
-    }
-
-    /// Whether the point is beside the run's box, on the side where its text ends.
-    fn ends_before(self, point: Point) -> bool
-        ensures { result ≡ is_past point (shown_in self.entry) }
-    {
-        let Some(around) = self.box_in_root() else {
-            return false;
-        };
-        let Some(direction) = self.direction() else {
-            return false;
-        };
-        is_past_box(point, direction, around)
-    }
-
-    /// Whether the point is there.
-    fn passes(self, test: PointTest, point: Point) -> bool
-        ensures { result ≡ passes test point (shown_in self.entry) }
-    {
-        match test {
-            PointTest::Inside => self.is_around(point),
-            PointTest::Past => self.ends_before(point),
-        }
-    }
-
-    /// The last run of a root where the point is there.
-    fn last_at(root: NodeRef<'a>, test: PointTest, point: Point) -> Option<Run<'a>>
-        ensures same { IfSome result (λ r. root_of r ≡ root.entry) }
-        ensures found { option_map number_in result ≡ last_passing root.entry test point }
-    {
-        let mut run = Run::last(root)?;
-        loop {
-            if run.passes(test, point) {
-                return Some(run);
-            }
-            let Some(previous) = run.previous() else {
-                return None;
-            };
-            run = previous;
-        }
-    }
-
-    /// The index at a point in a run of a text: 0 where nothing is told of its characters, and the end where none of
-    /// them lies there.
-    fn index_at(self, point: Point) -> usize
-        requires { supports_text_ranges (run_world self) (root_id self) ≡ true }
-        ensures exact { result ≡ index_at point (shown_in self.entry) }
-        ensures within { result ≤ said_count (sent_of self.entry) }
-    {
-        let Some(rect) = self.node().bounds() else {
-            return 0;
-        };
-        let Some(metrics) = self.metrics() else {
-            return 0;
-        };
-        let Some(direction) = self.direction() else {
-            return 0;
-        };
-        let along = distance(direction, rect, seen_from(self.move_in_root(), point));
-        match metrics.character_at(along) {
-            Some(index) => index,
-            None => self.count(),
-        }
+/// Whether the point is in the run's own rectangle, which is moved along with the run.
+fn is_around(run: Run<'_>, point: Point) -> bool
+    ensures { result ≡ is_in_run point (shown_in run.entry) }
+{
+    match run.node().bounds() {
+        Some(rect) => contains(rect, seen_from(run.move_in_root(), point)),
+        None => false,
     }
 }
 
-impl<'a> NodeRef<'a> {
-    /// The position at a point that is in no run, and not ahead of the first one.
-    fn position_past(self, point: Point) -> TextPosition<'a>
-        requires text { supports_text_ranges (world_at self) (id_at self) ≡ true }
-        requires outside { last_passing self Inside point ≡ None }
-        requires beyond { run_has (is_ahead_of point) (text_of self) 0 ≡ false }
-        ensures { IsAt self.entry (position_at_point (text_of self.entry) point) result }
-    {
-        let Some(run) = Run::last_at(self, PointTest::Past, point) else {
-            return self.document_end();
-        };
-        TextPosition {
-            run,
-            index: run.count(),
-        }
+/// Whether the point is left of the run's box or above it.
+fn is_after(run: Run<'_>, point: Point) -> bool
+    ensures { result ≡ is_ahead_of point (shown_in run.entry) }
+{
+    match box_in_root(run) {
+        Some(around) => is_ahead_of_box(point, around),
+        None => false,
     }
+}
 
-    /// The position at a point that is in no run.
-    fn position_beside(self, point: Point) -> TextPosition<'a>
-        requires text { supports_text_ranges (world_at self) (id_at self) ≡ true }
-        requires outside { last_passing self Inside point ≡ None }
-        ensures { IsAt self.entry (position_at_point (text_of self.entry) point) result }
-    {
-        let first = Run::first(self).unwrap();
-        if first.is_after(point) {
-            return TextPosition {
-                run: first,
-                index: 0,
-            };
-        }
-        self.position_past(point)
-    }
+/// Whether the point is beside the run's box, on the side where its text ends.
+fn ends_before(run: Run<'_>, point: Point) -> bool
+    ensures { result ≡ is_past point (shown_in run.entry) }
+{
+    let Some(around) = box_in_root(run) else {
+        return false;
+    };
+    let Some(direction) = direction_of(run) else {
+        return false;
+    };
+    is_past_box(point, direction, around)
+}
 
-    /// The position at a point of the node's text, which has text ranges. The point is given as the node sees it.
-    ///
-    /// It is in the last run whose own rectangle has the point: before the last character that lies there, or at the
-    /// run's end. Else it is the start of the text if the point is left of the first run or above it, else the end of
-    /// the last run that the point is past along its line, and else the end of the text.
-    pub fn text_position_at_point(&self, point: Point) -> TextPosition<'a>
-        requires { supports_text_ranges (world_at self.now) (id_at self.now) ≡ true }
-        ensures { IsAt self.now (position_at_point (text_of self.now) point) result }
-    {
-        let root = *self;
-        let Some(run) = Run::last_at(root, PointTest::Inside, point) else {
-            return root.position_beside(point);
-        };
-        TextPosition {
-            run,
-            index: run.index_at(point),
-        }
+/// Whether the point is there.
+fn passes(run: Run<'_>, test: PointTest, point: Point) -> bool
+    ensures { result ≡ passes test point (shown_in run.entry) }
+{
+    match test {
+        PointTest::Inside => is_around(run, point),
+        PointTest::Past => ends_before(run, point),
     }
+}
+
+/// The last run of a root where the point is there.
+pub(super) fn last_at<'a>(root: NodeRef<'a>, test: PointTest, point: Point) -> Option<Run<'a>>
+    ensures same { IfSome result (λ r. root_of r ≡ root.entry) }
+    ensures found { option_map number_in result ≡ last_passing root.entry test point }
+{
+    let mut run = Run::last(root)?;
+    loop {
+        if passes(run, test, point) {
+            return Some(run);
+        }
+        let Some(previous) = run.previous() else {
+            return None;
+        };
+        run = previous;
+    }
+}
+
+/// The index at a point in a run of a text: 0 where nothing is told of its characters, and the end where none of
+/// them lies there.
+pub(super) fn index_at(run: Run<'_>, point: Point) -> usize
+    requires { supports_text_ranges (run_world run) (root_id run) ≡ true }
+    ensures exact { result ≡ index_at point (shown_in run.entry) }
+    ensures within { result ≤ said_count (sent_of run.entry) }
+{
+    let Some(rect) = run.node().bounds() else {
+        return 0;
+    };
+    let Some(metrics) = metrics_of(run) else {
+        return 0;
+    };
+    let Some(direction) = direction_of(run) else {
+        return 0;
+    };
+    let along = distance(direction, rect, seen_from(run.move_in_root(), point));
+    match metrics.character_at(along) {
+        Some(index) => index,
+        None => shown_count(run),
+    }
+}
+
+/// The position at a point that is in no run, and not ahead of the first one.
+fn position_past<'a>(root: NodeRef<'a>, point: Point) -> TextPosition<'a>
+    requires text { supports_text_ranges (world_at root) (id_at root) ≡ true }
+    requires outside { last_passing root Inside point ≡ None }
+    requires beyond { run_has (is_ahead_of point) (text_of root) 0 ≡ false }
+    ensures { IsAt root.entry (position_at_point (text_of root.entry) point) result }
+{
+    let Some(run) = last_at(root, PointTest::Past, point) else {
+        return document_end(root);
+    };
+    TextPosition {
+        run,
+        index: shown_count(run),
+    }
+}
+
+/// The position at a point that is in no run.
+pub(super) fn position_beside<'a>(root: NodeRef<'a>, point: Point) -> TextPosition<'a>
+    requires text { supports_text_ranges (world_at root) (id_at root) ≡ true }
+    requires outside { last_passing root Inside point ≡ None }
+    ensures { IsAt root.entry (position_at_point (text_of root.entry) point) result }
+{
+    let first = Run::first(root).unwrap();
+    if is_after(first, point) {
+        return TextPosition {
+            run: first,
+            index: 0,
+        };
+    }
+    position_past(root, point)
 }

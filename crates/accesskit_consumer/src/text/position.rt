@@ -1,10 +1,10 @@
 //! A place between characters of a text.
 ghost use Rattle.std.specs.Prelude.{◌≤◌};
 ghost use Rattle.model.specs.TextRuns.{said_count};
-ghost use Rattle.accesskit_consumer.specs.Runs.{root_of, sent_of};
+ghost use Rattle.tree_views.specs.Runs.{root_of, sent_of};
 ghost use Rattle.accesskit_consumer.specs.TextRoots.{HasText, HasText-prop};
 
-use crate::text::runs::Run;
+use tree_views::runs::Run;
 
 /// A place between characters of a text: a run, and how many of its characters are before the place.
 ///

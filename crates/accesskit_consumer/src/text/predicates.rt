@@ -2,10 +2,13 @@
 ghost use Rattle.std.specs.Prelude.{◌≡◌, Some, slice_get, option_map};
 ghost use Rattle.model.specs.FlatText.{is_line_start, is_line_end, is_document_start, is_document_end, is_page_start, is_paragraph_start, is_paragraph_end, is_paragraph_separator};
 ghost use Rattle.model.specs.Ranges.{IsRaw};
-ghost use Rattle.accesskit_consumer.specs.Nodes.{world_at, id_at};
+ghost use Rattle.tree_views.specs.Nodes.{world_at, id_at};
 ghost use Rattle.accesskit_consumer.specs.Positions.{root_at, text_at, position_at};
 
-use crate::node::NodeRef;
+use tree_views::node::NodeRef;
+use crate::text::boundaries::{
+    begins_line, begins_paragraph, ends_line, ends_paragraph, is_first, is_last,
+};
 use crate::text::position::TextPosition;
 
 impl<'a> TextPosition<'a> {
@@ -37,7 +40,7 @@ impl<'a> TextPosition<'a> {
         if position.index != 0 {
             return false;
         }
-        position.run.begins_line()
+        begins_line(position.run)
     }
 
     /// Whether a line ends at the position.
@@ -48,7 +51,7 @@ impl<'a> TextPosition<'a> {
         if position.index != position.run.character_count() {
             return false;
         }
-        position.run.ends_line()
+        ends_line(position.run)
     }
 
     /// Whether the text starts at the position.
@@ -59,7 +62,7 @@ impl<'a> TextPosition<'a> {
         if position.index != 0 {
             return false;
         }
-        position.run.is_first()
+        is_first(position.run)
     }
 
     /// Whether the text ends at the position.
@@ -67,7 +70,7 @@ impl<'a> TextPosition<'a> {
         ensures { result ≡ is_document_end (text_at self.now) (position_at self.now) }
     {
         let position = *self;
-        if !position.run.is_last() {
+        if !is_last(position.run) {
             return false;
         }
         position.index == position.run.character_count()
@@ -88,7 +91,7 @@ impl<'a> TextPosition<'a> {
         if position.index != 0 {
             return false;
         }
-        position.run.begins_paragraph()
+        begins_paragraph(position.run)
     }
 
     /// Whether a paragraph ends at the position.
@@ -99,7 +102,7 @@ impl<'a> TextPosition<'a> {
         if position.index != position.run.character_count() {
             return false;
         }
-        position.run.ends_paragraph()
+        ends_paragraph(position.run)
     }
 
     /// Whether the next character ends a paragraph that isn't the last one.

@@ -1,7 +1,7 @@
 //! What the run of a position says of its look: each is what the nearest node gives, from the run upwards.
 ghost use Rattle.std.specs.Prelude.{◌≡◌, option_copied};
 ghost use Rattle.model.specs.Views.{is_italic};
-ghost use Rattle.accesskit_consumer.specs.Runs.{run_world, run_id};
+ghost use Rattle.tree_views.specs.Runs.{run_world, run_id};
 ghost use Rattle.accesskit_consumer.specs.RunLooks.{run_inherits};
 
 use crate::text::position::TextPosition;

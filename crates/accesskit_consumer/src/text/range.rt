@@ -1,12 +1,12 @@
 //! A range of a text.
 ghost use Rattle.std.specs.Prelude.{◌≤◌};
 ghost use Rattle.model.specs.TextRuns.{said_count};
-ghost use Rattle.accesskit_consumer.specs.Nodes.{world_at, id_at};
+ghost use Rattle.tree_views.specs.Nodes.{world_at, id_at};
 ghost use Rattle.accesskit_consumer.specs.TextRoots.{HasText, HasText-prop};
-ghost use Rattle.accesskit_consumer.specs.RunPlaces.{IsRunPlace, IsRunPlace-prop};
+ghost use Rattle.tree_views.specs.RunPlaces.{IsRunPlace, IsRunPlace-prop};
 ghost use Rattle.accesskit_consumer.specs.Edges.{edge_run, edge_offset};
 
-use crate::node::NodeRef;
+use tree_views::node::NodeRef;
 use crate::text::edges::Edge;
 
 /// A range of a text: from one position up to another.

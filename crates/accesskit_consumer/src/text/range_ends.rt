@@ -3,15 +3,15 @@ ghost use Rattle.std.specs.Prelude.{◌≡◌, ◌≤◌, true};
 ghost use Rattle.model.specs.TextRuns.{supports_text_ranges};
 ghost use Rattle.model.specs.FlatText.{offset};
 ghost use Rattle.model.specs.Ranges.{range_between, is_degenerate, document_range, with_start, with_end, IsRaw};
-ghost use Rattle.accesskit_consumer.specs.Nodes.{world_at, id_at};
+ghost use Rattle.tree_views.specs.Nodes.{world_at, id_at};
 ghost use Rattle.accesskit_consumer.specs.Positions.{IsAt, root_at, text_of, text_at, position_at};
 ghost use Rattle.accesskit_consumer.specs.TextRanges.{IsRangeOf, world_in, root_in, text_in, range_at};
 
-use crate::node::NodeRef;
-use crate::node::same::is_same;
+use tree_views::node::NodeRef;
+use tree_views::node::same::is_same;
 use crate::text::position::TextPosition;
 use crate::text::range::TextRange;
-use crate::text::runs::Run;
+use tree_views::runs::Run;
 
 impl<'a> TextRange<'a> {
     /// The range from one position up to another of the same root.
@@ -142,16 +142,6 @@ impl<'a> TextRange<'a> {
     }
 }
 
-impl<'a> NodeRef<'a> {
-    /// The range of the node's whole text, which has text ranges.
-    pub fn document_range(&self) -> TextRange<'a>
-        requires { supports_text_ranges (world_at self.now) (id_at self.now) ≡ true }
-        ensures { let range = document_range (text_of self.now) in
-            IsRangeOf (world_at self.now) (id_at self.now) range result }
-    {
-        TextRange::over(self.document_start(), self.document_end())
-    }
-}
 
 impl<'a> TextPosition<'a> {
     /// The range from the position to itself.

@@ -2,7 +2,7 @@
 ghost use Rattle.std.specs.Prelude.{◌≡◌, MatchOption, option_copied};
 ghost use Rattle.accesskit_consumer.specs.RangeProperties.{SomeDiffer, IsSample, IsInherited, IsItalic, TakesValue, MapsValue};
 
-use crate::node::NodeRef;
+use tree_views::node::NodeRef;
 use crate::text::looks::{Look, are_same};
 use crate::text::range::TextRange;
 use schema::{Color, TextAlign, TextDecoration, TextDirection, VerticalOffset};

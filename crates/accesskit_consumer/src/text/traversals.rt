@@ -8,11 +8,11 @@ ghost use Rattle.model.specs.Values.{bullets};
 ghost use Rattle.accesskit_consumer.specs.TextRanges.{world_in, root_in, text_in, range_at};
 ghost use Rattle.accesskit_consumer.specs.Passes.{longest, IsEnough, IsPassed};
 ghost use Rattle.accesskit_consumer.specs.PieceTexts.{are_cut_off, left_by, IsPart, sent_part, shown_part};
-ghost use Rattle.accesskit_consumer.specs.Writes.{IsWritten, IsCutShort};
+ghost use Rattle.tree_views.specs.Writes.{IsWritten, IsCutShort};
 
-use crate::node::NodeRef;
-use crate::node::masking::write_bullets;
-use crate::node::run_texts::needs_masking;
+use tree_views::node::NodeRef;
+use tree_views::node::masking::write_bullets;
+use tree_views::node::run_texts::needs_masking;
 use crate::text::pieces::Piece;
 use crate::text::range::TextRange;
 use schema::{TextBuffer, TextFault, TextWrite};

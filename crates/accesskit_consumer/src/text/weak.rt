@@ -2,18 +2,18 @@
 ghost use Rattle.std.specs.Prelude.{◌≡◌, ◌↔◌, IsTrue, IfSome, IfOk, Some, None, option_map, if◌then◌else◌};
 ghost use Rattle.model.specs.TextRuns.{supports_text_ranges};
 ghost use Rattle.model.specs.Ranges.{comparable, IsWeak, upgraded_range};
-ghost use Rattle.accesskit_consumer.specs.Views.{world_of};
-ghost use Rattle.accesskit_consumer.specs.Nodes.{world_at, id_at};
+ghost use Rattle.tree_views.specs.Views.{world_of};
+ghost use Rattle.tree_views.specs.Nodes.{world_at, id_at};
 ghost use Rattle.accesskit_consumer.specs.Positions.{root_at, position_at};
 ghost use Rattle.accesskit_consumer.specs.TextRanges.{world_in, root_in, range_at};
 ghost use Rattle.accesskit_consumer.specs.FoundRanges.{IsRangeFound};
 ghost use Rattle.accesskit_consumer.specs.WeakRanges.{kept_of, same_weak, same_weak_laws, same_weak_equivalence};
 
-use crate::node::NodeRef;
-use crate::node::same::is_same;
+use tree_views::node::NodeRef;
+use tree_views::node::same::is_same;
 use crate::text::position::TextPosition;
 use crate::text::range::TextRange;
-use crate::tree::StateRef;
+use tree_views::tree::StateRef;
 use model::FullNodeId;
 use std::alloc::{AllocError, Global};
 use std::marker::Model;
@@ -51,7 +51,7 @@ impl TextPosition<'_> {
     {
         let side = self.biased_to_start();
         let node = side.inner_node();
-        let path = node.relative_index_path(alloc, side.run.root().id)?;
+        let path = node.relative_index_path(alloc, side.run.root().id())?;
         Ok((path, side.index))
     }
 }
@@ -66,7 +66,7 @@ impl TextRange<'_> {
         let start_comparable = start.comparable(alloc)?;
         let end_comparable = end.comparable(alloc)?;
         Ok(WeakTextRange {
-            root: range.root.id,
+            root: range.root.id(),
             start: start.to_raw(),
             end: end.to_raw(),
             start_comparable,
@@ -122,10 +122,10 @@ impl WeakTextRange {
         let Some(node) = self.upgrade_node(state) else {
             return None;
         };
-        let Some(start) = node.position_named(self.start) else {
+        let Some(start) = position_named(node, self.start) else {
             return None;
         };
-        let Some(end) = node.position_named(self.end) else {
+        let Some(end) = position_named(node, self.end) else {
             return None;
         };
         Some(TextRange::between(start, end))

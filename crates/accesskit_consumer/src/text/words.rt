@@ -6,9 +6,9 @@ ghost use Rattle.model.specs.Moves.{forward_to_word_start, forward_to_word_end, 
 ghost use Rattle.accesskit_consumer.specs.RunNumbers.{number_in, text_around};
 ghost use Rattle.accesskit_consumer.specs.Positions.{IsMoved, text_at, position_at};
 
-use crate::text::boundaries::Mark;
+use crate::text::boundaries::{Mark, begins_after};
 use crate::text::position::TextPosition;
-use crate::text::runs::Run;
+use tree_views::runs::Run;
 
 /// Whether a number is one of these.
 fn is_among(numbers: &[u16], sought: usize) -> bool
@@ -49,16 +49,14 @@ fn last_below(numbers: &[u16], other: usize) -> Option<usize>
     found
 }
 
-impl<'a> Run<'a> {
-    /// Where words begin in the run as it is shown: the indexes of their first characters. A password has none.
-    fn shown_words(self) -> &'a [u16]
-        ensures { result.now ≡ words_in (text_around self.entry) (number_in self.entry) }
-    {
-        if self.root().is_password_input() {
-            return &[];
-        }
-        self.node().word_starts()
+/// Where words begin in the run as it is shown: the indexes of their first characters. A password has none.
+fn shown_words<'a>(run: Run<'a>) -> &'a [u16]
+    ensures { result.now ≡ words_in (text_around run.entry) (number_in run.entry) }
+{
+    if run.root().is_password_input() {
+        return &[];
     }
+    run.node().word_starts()
 }
 
 impl<'a> TextPosition<'a> {
@@ -70,7 +68,7 @@ impl<'a> TextPosition<'a> {
         if position.is_paragraph_start() {
             return true;
         }
-        is_among(position.run.shown_words(), position.index)
+        is_among(shown_words(position.run), position.index)
     }
 
     /// Where the next word or paragraph begins after a position that isn't at the end of a run before another one.
@@ -78,7 +76,7 @@ impl<'a> TextPosition<'a> {
         requires { biased_to_start (text_at self) (position_at self) ≡ position_at self }
         ensures { IsMoved forward_to_word_start self.entry result }
     {
-        if let Some(index) = first_above(self.run.shown_words(), self.index) {
+        if let Some(index) = first_above(shown_words(self.run), self.index) {
             return TextPosition {
                 run: self.run,
                 index,
@@ -92,13 +90,13 @@ impl<'a> TextPosition<'a> {
                     index: run.character_count(),
                 };
             };
-            if next.begins_after(Mark::Paragraph, run) {
+            if begins_after(next, Mark::Paragraph, run) {
                 return TextPosition {
                     run: next,
                     index: 0,
                 };
             }
-            if let Some(first) = next.shown_words().first() {
+            if let Some(first) = shown_words(next).first() {
                 return TextPosition {
                     run: next,
                     index: usize::from(*first),
@@ -113,7 +111,7 @@ impl<'a> TextPosition<'a> {
         requires { biased_to_end (text_at self) (position_at self) ≡ position_at self }
         ensures { IsMoved backward_to_word_start self.entry result }
     {
-        if let Some(index) = last_below(self.run.shown_words(), self.index) {
+        if let Some(index) = last_below(shown_words(self.run), self.index) {
             return TextPosition {
                 run: self.run,
                 index,
@@ -124,10 +122,10 @@ impl<'a> TextPosition<'a> {
             let Some(previous) = run.previous() else {
                 return TextPosition { run, index: 0 };
             };
-            if run.begins_after(Mark::Paragraph, previous) {
+            if begins_after(run, Mark::Paragraph, previous) {
                 return TextPosition { run, index: 0 };
             }
-            if let Some(index) = last_below(previous.shown_words(), previous.character_count()) {
+            if let Some(index) = last_below(shown_words(previous), previous.character_count()) {
                 return TextPosition {
                     run: previous,
                     index,

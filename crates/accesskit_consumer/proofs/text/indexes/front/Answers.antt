@@ -1,5 +1,5 @@
 use Rattle.std.proofs.Common.{◌≡◌, ◌+◌, length, take, ap, ◌∙◌, arith}
-use Rattle.accesskit_consumer.specs.Runs.{sent_of}
+use Rattle.tree_views.specs.Runs.{sent_of}
 use Rattle.accesskit_consumer.proofs.UnitCounts.{sum_next, sum_fits, front_boundary, front_text}
 use Rattle.accesskit_consumer.proofs.text.indexes.front.Goals as goal
 

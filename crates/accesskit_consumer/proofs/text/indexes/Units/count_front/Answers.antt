@@ -1,5 +1,5 @@
 use Rattle.std.proofs.Common.{sym, ap, ◌∙◌}
-use Rattle.accesskit_consumer.specs.Runs.{sent_of}
+use Rattle.tree_views.specs.Runs.{sent_of}
 use Rattle.accesskit_consumer.specs.GlobalIndexes.{unit_len, length_to}
 use Rattle.accesskit_consumer.proofs.UnitCounts.{masked_front, plain_front}
 use Rattle.accesskit_consumer.proofs.text.indexes.Units.count_front.Goals as goal

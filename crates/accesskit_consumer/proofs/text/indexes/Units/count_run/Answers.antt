@@ -1,6 +1,6 @@
 use Rattle.std.proofs.Common.{sym, ap, ◌∙◌, arith}
 use Rattle.model.specs.TextRuns.{said_count}
-use Rattle.accesskit_consumer.specs.Runs.{sent_of}
+use Rattle.tree_views.specs.Runs.{sent_of}
 use Rattle.accesskit_consumer.specs.GlobalIndexes.{unit_len, length_to}
 use Rattle.accesskit_consumer.proofs.UnitCounts.{masked_front, plain_run}
 use Rattle.accesskit_consumer.proofs.text.indexes.Units.count_run.Goals as goal

@@ -1,7 +1,7 @@
 use Rattle.std.proofs.Common.{◌+◌, ap, ◌∙◌, arith}
 use Rattle.std.proofs.lemmas.Str.{IsUtf8-drop}
 use Rattle.model.specs.TextRuns.{run_value, said_count}
-use Rattle.accesskit_consumer.specs.Runs.{sent_of}
+use Rattle.tree_views.specs.Runs.{sent_of}
 use Rattle.accesskit_consumer.specs.GlobalIndexes.{unit_len, length_to}
 use Rattle.accesskit_consumer.proofs.UnitCounts.{masked_is, one_more, cut_on, cut_at, left_on}
 use Rattle.accesskit_consumer.proofs.text.indexes.Units.holder.Goals as goal

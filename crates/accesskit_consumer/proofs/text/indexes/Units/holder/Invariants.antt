@@ -1,7 +1,7 @@
 use Rattle.std.proofs.Common.{◌≡◌, ◌+◌, true, drop}
 use Rattle.std.specs.Str.{IsUtf8}
 use Rattle.model.specs.TextRuns.{is_cut_by, cut_by, run_value}
-use Rattle.accesskit_consumer.specs.Runs.{sent_of}
+use Rattle.tree_views.specs.Runs.{sent_of}
 use Rattle.accesskit_consumer.specs.GlobalIndexes.{length_to}
 use Rattle.accesskit_consumer.proofs.text.indexes.Units.holder.Given as goal
 

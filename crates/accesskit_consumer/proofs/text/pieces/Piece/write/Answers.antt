@@ -1,7 +1,7 @@
 use Rattle.std.proofs.Common.{◌∙◌, sym, ap}
 use Rattle.accesskit_consumer.specs.PieceTexts.{shown_part}
 use Rattle.accesskit_consumer.proofs.CutPieces.{plain_part, masked_part}
-use Rattle.accesskit_consumer.proofs.Writing.{written_as, cut_short_as, taken_as}
+use Rattle.tree_views.proofs.Writing.{written_as, cut_short_as, taken_as}
 use Rattle.accesskit_consumer.proofs.text.pieces.Piece.write.Goals as goal
 
 pub returns-then-masked-clause-ok : goal.returns-then-masked-clause-ok

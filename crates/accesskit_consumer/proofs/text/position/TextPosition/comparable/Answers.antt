@@ -1,8 +1,8 @@
 use Rattle.std.proofs.Common.{sym, ap, ◌∙◌}
 use Rattle.std.specs.Prelude.{option_map}
 use Rattle.std.proofs.lemmas.Option.{same_Some}
-use Rattle.accesskit_consumer.specs.Nodes.{id_at}
-use Rattle.accesskit_consumer.specs.Runs.{run_id}
+use Rattle.tree_views.specs.Nodes.{id_at}
+use Rattle.tree_views.specs.Runs.{run_id}
 use Rattle.accesskit_consumer.proofs.FlatRuns.{shown_at_number}
 use Rattle.accesskit_consumer.proofs.WeakSteps.{view_within}
 use Rattle.accesskit_consumer.proofs.text.position.TextPosition.comparable.Goals as goal

@@ -1,6 +1,6 @@
 use Rattle.std.proofs.Common.{refl, ap, ◌∙◌, arith}
 use Rattle.model.specs.FlatText.{needs_masking}
-use Rattle.accesskit_consumer.specs.Nodes.{world_at, id_at}
+use Rattle.tree_views.specs.Nodes.{world_at, id_at}
 use Rattle.accesskit_consumer.specs.Positions.{root_at}
 use Rattle.accesskit_consumer.proofs.GlobalIndexes.{is_cut_in, in_run, index_fits, one_back, none_before}
 use Rattle.accesskit_consumer.proofs.text.position.TextPosition.global_index.Goals as goal

@@ -1,6 +1,6 @@
 use Rattle.std.proofs.Common.{◌≡◌, ◌+◌, length}
 use Rattle.model.specs.FlatText.{start_of, offset}
-use Rattle.accesskit_consumer.specs.Runs.{root_of, ids_before}
+use Rattle.tree_views.specs.Runs.{root_of, ids_before}
 use Rattle.accesskit_consumer.specs.RunNumbers.{number_in}
 use Rattle.accesskit_consumer.specs.Positions.{root_at, text_at, position_at}
 use Rattle.accesskit_consumer.proofs.text.position.TextPosition.offset.Given as goal

@@ -1,6 +1,6 @@
 use Rattle.std.proofs.Common.{◌≡◌, ◌+◌, length}
 use Rattle.model.specs.Moves.{to_line_index}
-use Rattle.accesskit_consumer.specs.Runs.{root_of, ids_before}
+use Rattle.tree_views.specs.Runs.{root_of, ids_before}
 use Rattle.accesskit_consumer.specs.Positions.{root_at, text_at, position_at}
 use Rattle.accesskit_consumer.proofs.LineCounts.{lines_before}
 use Rattle.accesskit_consumer.proofs.text.position.TextPosition.to_line_index.Given as goal

@@ -1,5 +1,5 @@
 use Rattle.std.proofs.Common.{◌≡◌, length}
-use Rattle.accesskit_consumer.specs.Runs.{root_of}
+use Rattle.tree_views.specs.Runs.{root_of}
 use Rattle.accesskit_consumer.specs.RunNumbers.{number_in}
 use Rattle.accesskit_consumer.specs.TextRanges.{text_in, range_at}
 use Rattle.accesskit_consumer.specs.Pieces.{IsUpTo, pieces_past}

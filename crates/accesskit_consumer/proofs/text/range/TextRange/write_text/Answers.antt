@@ -6,7 +6,7 @@ use Rattle.accesskit_consumer.specs.TextRanges.{text_in, range_at}
 use Rattle.accesskit_consumer.specs.Pieces.{pieces_past}
 use Rattle.accesskit_consumer.specs.PieceTexts.{shown_part}
 use Rattle.accesskit_consumer.proofs.PieceSteps.{pieces_from, as_next, part_there, texts_left, shown_first}
-use Rattle.accesskit_consumer.proofs.Writing.{starts, goes_on, stops, ends, rest_is, err_with}
+use Rattle.tree_views.proofs.Writing.{starts, goes_on, stops, ends, rest_is, err_with}
 use Rattle.accesskit_consumer.proofs.text.range.TextRange.write_text.Goals as goal
 
 pub loop-range-init : goal.loop-range-init

@@ -3,7 +3,7 @@ use Rattle.std.specs.List.{flat_map}
 use Rattle.model.specs.Ranges.{piece_text, text_of}
 use Rattle.accesskit_consumer.specs.TextRanges.{text_in, range_at}
 use Rattle.accesskit_consumer.specs.Pieces.{IsNextPiece}
-use Rattle.accesskit_consumer.specs.Writes.{IsUnderWay}
+use Rattle.tree_views.specs.Writes.{IsUnderWay}
 use Rattle.accesskit_consumer.proofs.PieceSteps.{pieces_from}
 use Rattle.accesskit_consumer.proofs.text.range.TextRange.write_text.Given as goal
 

@@ -2,7 +2,7 @@ use Rattle.std.proofs.Common.{◌≡◌, Some, refl, sym, ap, ◌∙◌}
 use Rattle.std.specs.Prelude.{None, if◌then◌else◌}
 use Rattle.model.specs.TextRuns.{supports_text_ranges}
 use Rattle.model.specs.Ranges.{WeakRange}
-use Rattle.accesskit_consumer.specs.Views.{world_of}
+use Rattle.tree_views.specs.Views.{world_of}
 use Rattle.accesskit_consumer.proofs.WeakSteps.{absent_no_text}
 use Rattle.accesskit_consumer.proofs.text.weak.WeakTextRange.upgrade_node.Goals as goal
 

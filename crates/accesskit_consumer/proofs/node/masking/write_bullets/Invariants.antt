@@ -1,7 +1,0 @@
-use Rattle.std.proofs.Common.{◌-◌}
-use Rattle.model.specs.Values.{bullets}
-use Rattle.accesskit_consumer.specs.Writes.{IsUnderWay}
-use Rattle.accesskit_consumer.proofs.node.masking.write_bullets.Given as goal
-
-abbrev pub invariant-loop : goal.invariant-loop
-invariant-loop g l = IsUnderWay g.W.TextWrite.received g.W.TextWrite.faults (bullets l.fn.count) (bullets (l.fn.count - l.counter)) l.fn.writer l.writer

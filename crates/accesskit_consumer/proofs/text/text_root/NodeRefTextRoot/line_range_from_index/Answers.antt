@@ -1,0 +1,61 @@
+use Rattle.std.proofs.Common.{◌≡◌, [], Some, sym, ap, subst, ◌∙◌, arith}
+use Rattle.std.specs.Prelude.{MatchOption, slice_get}
+use Rattle.model.specs.TextRuns.{run_ids}
+use Rattle.model.specs.FlatText.{lines, start_at, end_at}
+use Rattle.model.specs.Ranges.{Range}
+use Rattle.tree_views.specs.Nodes.{world_at, id_at}
+use Rattle.tree_views.specs.Runs.{IsFirstOf}
+use Rattle.accesskit_consumer.specs.RunNumbers.{number_in}
+use Rattle.accesskit_consumer.specs.Positions.{text_of}
+use Rattle.accesskit_consumer.proofs.TextEnds.{some_run}
+use Rattle.accesskit_consumer.proofs.LineRanges.{line_is_there}
+use Rattle.accesskit_consumer.proofs.LineSteps.{at_first_line, line_rises, line_there, no_more_lines, last_line, next_at_line, fewer_left}
+use Rattle.accesskit_consumer.proofs.text.text_root.NodeRefTextRoot.line_range_from_index.Goals as goal
+
+pub unwrap-first-requires : goal.unwrap-first-requires
+unwrap-first-requires c = some_run (IsFirstOf c.args.self.now) c.args.self.now c.first.result c.requires c.first.ensures
+
+pub loop-line-init : goal.loop-line-init
+loop-line-init c =
+    let n = c.args.self.now in
+    let first : IsFirstOf n c.unwrap-first.result = subst (λ o. MatchOption o (run_ids (world_at n) (id_at n) ≡ []) (IsFirstOf n)) c.unwrap-first.ensures c.first.ensures in
+    record { at = at_first_line n c.requires c.unwrap-first.result first; upto = omega arith }
+
+pub range_to-requires-clause-order : goal.range_to-requires-clause-order
+range_to-requires-clause-order c =
+    line_rises c.args.self.now c.requires c.loop-line.line c.loop-line.first c.last_of-last.result c.loop-line.invariant.at c.last_of-last.ensures.same c.last_of-last.ensures.found
+
+pub returns-then-line-index : goal.returns-then-line-index
+returns-then-line-index c =
+    let n = c.args.self.now in
+    let at = c.loop-line.invariant.at in
+    let upto = c.loop-line.invariant.upto in
+    let past = c.if-line-index.true in
+    let here : c.loop-line.line ≡ c.args.index = omega (arith, upto, past) in
+    let there = line_there n c.requires c.loop-line.line c.loop-line.first c.last_of-last.result at c.last_of-last.ensures.same c.last_of-last.ensures.found in
+    let is = line_is_there (text_of n) c.args.index (number_in c.loop-line.first) (number_in c.last_of-last.result) (sym (ap (slice_get (lines (text_of n))) here) ∙ there) in
+    record {
+      world = c.range_to.ensures.world ∙ ap world_at at.same;
+      root = c.range_to.ensures.root ∙ ap id_at at.same;
+      at = ap Some (c.range_to.ensures.at ∙ ap (λ m. let r : Range = record { start = start_at (number_in c.loop-line.first); end = end_at (text_of m) (number_in c.last_of-last.result) } in r) at.same) ∙ is;
+    }
+
+pub range_past-requires-clause-size : goal.range_past-requires-clause-size
+range_past-requires-clause-size c =
+    no_more_lines c.args.self.now c.requires c.loop-line.line c.loop-line.first c.last_of-last.result c.loop-line.invariant.at c.last_of-last.ensures.same c.last_of-last.ensures.found c.in_default.ensures
+
+pub range_past-requires-clause-last : goal.range_past-requires-clause-last
+range_past-requires-clause-last c =
+    last_line c.args.self.now c.requires c.loop-line.line c.loop-line.first c.last_of-last.result c.loop-line.invariant.at c.last_of-last.ensures.same c.last_of-last.ensures.found c.in_default.ensures
+
+pub loop-line-smaller : goal.loop-line-smaller
+loop-line-smaller c =
+    fewer_left c.args.self.now c.requires c.loop-line.line c.loop-line.first c.last_of-last.result c.loop-line.invariant.at c.last_of-last.ensures.same c.last_of-last.ensures.found c.in-Some.next c.in-Some.ensures
+
+pub loop-line-preserved : goal.loop-line-preserved
+loop-line-preserved c =
+    let below = c.if-line-index.false in
+    record {
+      at = next_at_line c.args.self.now c.requires c.loop-line.line c.loop-line.first c.last_of-last.result c.loop-line.invariant.at c.last_of-last.ensures.same c.last_of-last.ensures.found c.in-Some.next c.in-Some.ensures;
+      upto = omega (arith, below);
+    }

@@ -1,0 +1,193 @@
+//! What is asked of a node as the root of a text: positions in the text, and ranges of it.
+ghost use Rattle.std.specs.Prelude.{◌≡◌, true, IfSome, option_map};
+ghost use Rattle.model.specs.TextRuns.{supports_text_ranges};
+ghost use Rattle.model.specs.FlatText.{document_start, document_end};
+ghost use Rattle.model.specs.Moves.{position_from_usv, position_from_utf16};
+ghost use Rattle.model.specs.Points.{position_at_point};
+ghost use Rattle.model.specs.Ranges.{document_range, selection, selection_anchor, selection_focus};
+ghost use Rattle.tree_views.specs.Nodes.{world_at, id_at};
+ghost use Rattle.accesskit_consumer.specs.TextRoots.{HasText};
+ghost use Rattle.accesskit_consumer.specs.Positions.{IsAt, root_at, text_of, position_at};
+ghost use Rattle.accesskit_consumer.specs.TextRanges.{IsRangeOf};
+ghost use Rattle.accesskit_consumer.specs.FoundRanges.{IsAtFound, IsRangeFound, range_of_line};
+
+use crate::text::boundaries::{Mark, last_of};
+use crate::text::ends::{document_end, document_start};
+use crate::text::indexes::{Units, position_from};
+use crate::text::line_ranges::{range_past, range_to};
+use crate::text::named::nearest_named;
+use crate::text::points::{PointTest, index_at, last_at, position_beside};
+use crate::text::position::TextPosition;
+use crate::text::range::TextRange;
+use crate::text::selections::selection_sent;
+use schema::Point;
+use tree_views::node::NodeRef;
+use tree_views::runs::Run;
+
+/// A node that may be the root of a text. `NodeRef` is the one that is.
+pub trait TextRoot<'a> {
+    ghost may_ask: { Self → Type 0 };
+
+    /// The start of the node's text, which has text ranges.
+    fn document_start(&self) -> TextPosition<'a>
+        requires { may_ask self.now };
+
+    /// The end of the node's text, which has text ranges.
+    fn document_end(&self) -> TextPosition<'a>
+        requires { may_ask self.now };
+
+    /// The range of the node's whole text, which has text ranges.
+    fn document_range(&self) -> TextRange<'a>
+        requires { may_ask self.now };
+
+    /// The position of an index that counts the scalars of the whole text: before the character in which it lies, at
+    /// the start of a run where two runs meet. At the length of the text it is its end, and past that there is none. The
+    /// node has text ranges.
+    fn text_position_from_global_usv_index(&self, index: usize) -> Option<TextPosition<'a>>
+        requires { may_ask self.now };
+
+    /// The position of an index that counts the units of UTF-16 of the whole text: before the character in which it
+    /// lies, at the start of a run where two runs meet. At the length of the text it is its end, and past that there is
+    /// none. The node has text ranges.
+    fn text_position_from_global_utf16_index(&self, index: usize) -> Option<TextPosition<'a>>
+        requires { may_ask self.now };
+
+    /// The range of a line of the node's text, which has text ranges, by its number from 0.
+    ///
+    /// Past the last of several lines there is one more, where a caret can be, if that last line isn't empty.
+    fn line_range_from_index(&self, index: usize) -> Option<TextRange<'a>>
+        requires { may_ask self.now };
+
+    /// The position at a point of the node's text, which has text ranges. The point is given as the node sees it.
+    ///
+    /// It is in the last run whose own rectangle has the point: before the last character that lies there, or at the
+    /// run's end. Else it is the start of the text if the point is left of the first run or above it, else the end of
+    /// the last run that the point is past along its line, and else the end of the text.
+    fn text_position_at_point(&self, point: Point) -> TextPosition<'a>
+        requires { may_ask self.now };
+
+    /// The range that is selected: none without a selection, without text ranges, or where an end names none of the
+    /// node's own runs. An index past the end of its run is cut to it.
+    fn text_selection(&self) -> Option<TextRange<'a>>;
+
+    /// Where the selection was begun: none without a selection, without text ranges, or where it names none of the
+    /// node's own runs. An index past the end of its run is cut to it.
+    fn text_selection_anchor(&self) -> Option<TextPosition<'a>>;
+
+    /// The end of the selection that moves: none without a selection, without text ranges, or where it names none of
+    /// the node's own runs. An index past the end of its run is cut to it.
+    fn text_selection_focus(&self) -> Option<TextPosition<'a>>;
+}
+
+impl<'a> TextRoot<'a> for NodeRef<'a> {
+    ghost may_ask = { HasText };
+
+    fn document_start(&self) -> TextPosition<'a>
+        requires { supports_text_ranges (world_at self.now) (id_at self.now) ≡ true }
+        ensures { IsAt self.now document_start result }
+    {
+        document_start(*self)
+    }
+
+    fn document_end(&self) -> TextPosition<'a>
+        requires { supports_text_ranges (world_at self.now) (id_at self.now) ≡ true }
+        ensures { IsAt self.now (document_end (text_of self.now)) result }
+    {
+        document_end(*self)
+    }
+
+    fn document_range(&self) -> TextRange<'a>
+        requires { supports_text_ranges (world_at self.now) (id_at self.now) ≡ true }
+        ensures { let range = document_range (text_of self.now) in
+            IsRangeOf (world_at self.now) (id_at self.now) range result }
+    {
+        TextRange::over(document_start(*self), document_end(*self))
+    }
+
+    fn text_position_from_global_usv_index(&self, index: usize) -> Option<TextPosition<'a>>
+        requires { supports_text_ranges (world_at self.now) (id_at self.now) ≡ true }
+        ensures at { option_map position_at result ≡ position_from_usv (text_of self.now) index }
+        ensures same { IfSome result (λ p. root_at p ≡ self.now) }
+    {
+        position_from(*self, Units::Scalars, index)
+    }
+
+    fn text_position_from_global_utf16_index(&self, index: usize) -> Option<TextPosition<'a>>
+        requires { supports_text_ranges (world_at self.now) (id_at self.now) ≡ true }
+        ensures at { option_map position_at result ≡ position_from_utf16 (text_of self.now) index }
+        ensures same { IfSome result (λ p. root_at p ≡ self.now) }
+    {
+        position_from(*self, Units::Utf16, index)
+    }
+
+    fn line_range_from_index(&self, index: usize) -> Option<TextRange<'a>>
+        requires { supports_text_ranges (world_at self.now) (id_at self.now) ≡ true }
+        ensures { let range = range_of_line (text_of self.now) index in
+            IsRangeFound (world_at self.now) (id_at self.now) range result }
+    {
+        let mut first = Run::first(*self).unwrap();
+        let mut line = 0usize;
+        loop {
+            let last = last_of(first, Mark::Line);
+            if line >= index {
+                return Some(range_to(first, last));
+            }
+            let Some(next) = last.next() else {
+                return range_past(first, line, index);
+            };
+            line += 1;
+            first = next;
+        }
+    }
+
+    fn text_position_at_point(&self, point: Point) -> TextPosition<'a>
+        requires { supports_text_ranges (world_at self.now) (id_at self.now) ≡ true }
+        ensures { IsAt self.now (position_at_point (text_of self.now) point) result }
+    {
+        let root = *self;
+        let Some(run) = last_at(root, PointTest::Inside, point) else {
+            return position_beside(root, point);
+        };
+        TextPosition {
+            run,
+            index: index_at(run, point),
+        }
+    }
+
+    fn text_selection(&self) -> Option<TextRange<'a>>
+        ensures { let w = world_at self.now in
+            IsRangeFound w (id_at self.now) (selection w (id_at self.now)) result }
+    {
+        let node = *self;
+        let Some(selection) = selection_sent(node) else {
+            return None;
+        };
+        let Some(anchor) = nearest_named(node, selection.anchor) else {
+            return None;
+        };
+        let Some(focus) = nearest_named(node, selection.focus) else {
+            return None;
+        };
+        Some(TextRange::between(anchor, focus))
+    }
+
+    fn text_selection_anchor(&self) -> Option<TextPosition<'a>>
+        ensures { IsAtFound self.now (selection_anchor (world_at self.now) (id_at self.now)) result }
+    {
+        let node = *self;
+        let Some(selection) = selection_sent(node) else {
+            return None;
+        };
+        nearest_named(node, selection.anchor)
+    }
+
+    fn text_selection_focus(&self) -> Option<TextPosition<'a>>
+        ensures { IsAtFound self.now (selection_focus (world_at self.now) (id_at self.now)) result }
+    {
+        let node = *self;
+        let Some(selection) = selection_sent(node) else {
+            return None;
+        };
+        nearest_named(node, selection.focus)
+    }
+}

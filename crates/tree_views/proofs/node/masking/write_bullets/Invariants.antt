@@ -1,0 +1,7 @@
+use Rattle.std.proofs.Common.{◌-◌}
+use Rattle.model.specs.Values.{bullets}
+use Rattle.tree_views.specs.Writes.{IsUnderWay}
+use Rattle.tree_views.proofs.node.masking.write_bullets.Given as goal
+
+abbrev pub invariant-loop : goal.invariant-loop
+invariant-loop g l = IsUnderWay g.W.TextWrite.received g.W.TextWrite.faults (bullets l.fn.count) (bullets (l.fn.count - l.counter)) l.fn.writer l.writer

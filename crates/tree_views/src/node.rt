@@ -1,0 +1,18 @@
+//! Nodes of a state, as they are read.
+mod actions;
+mod fields;
+pub mod geometry;
+mod inherited;
+pub(crate) mod kin;
+mod labels;
+pub mod masking;
+mod node_reads;
+mod node_ref;
+mod roles;
+pub mod run_texts;
+pub mod same;
+mod upward;
+mod values;
+
+pub use model::FullNodeId;
+pub use node_ref::NodeRef;

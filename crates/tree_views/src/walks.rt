@@ -1,0 +1,29 @@
+//! Walks over the nodes of a state: over all of them, or over what a filter shows.
+mod calls;
+mod controls;
+mod course;
+mod deepest;
+mod depths;
+pub(crate) mod ends;
+pub mod filter;
+mod filtered;
+pub mod hits;
+pub(crate) mod items;
+mod labelled_by;
+mod plain;
+mod range;
+mod sets;
+pub(crate) mod siblings;
+pub mod spot;
+pub(crate) mod steps;
+
+pub use controls::Controls;
+pub use filter::{ByFn, Filter};
+pub use filtered::{FilteredChildren, FollowingFilteredSiblings, PrecedingFilteredSiblings};
+pub use items::Items;
+pub use labelled_by::LabelledBy;
+pub use model::filters::FilterResult;
+pub use plain::{
+    ChildIds, Children, FollowingSiblingNodes, FollowingSiblings, PrecedingSiblingNodes,
+    PrecedingSiblings,
+};
