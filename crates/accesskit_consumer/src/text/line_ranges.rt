@@ -21,8 +21,9 @@ impl<'a> Run<'a> {
         requires text { supports_text_ranges (run_world self) (root_id self) ≡ true }
         requires same { root_of last ≡ root_of self }
         requires order { number_in self ≤ number_in last }
-        ensures { IsRangeOf (run_world self.entry) (root_id self.entry)
-            (record { start = start_at (number_in self.entry); end = end_at (text_around self.entry) (number_in last.entry) }) result }
+        ensures { let start = start_at (number_in self.entry) in
+            let end = end_at (text_around self.entry) (number_in last.entry) in
+            IsRangeOf (run_world self.entry) (root_id self.entry) (record { start = start; end = end }) result }
     {
         let start = TextPosition {
             run: self,

@@ -51,7 +51,8 @@ impl<'a> Run<'a> {
 
     /// The first run of a root, where there is one.
     pub(crate) fn first(root: NodeRef<'a>) -> Option<Run<'a>>
-        ensures { MatchOption result (run_ids (world_at root.entry) (id_at root.entry) ≡ []) (IsFirstOf root.entry) }
+        ensures { let ids = run_ids (world_at root.entry) (id_at root.entry) in
+            MatchOption result (ids ≡ []) (IsFirstOf root.entry) }
     {
         let state = root.state;
         state.know();
@@ -67,7 +68,8 @@ impl<'a> Run<'a> {
 
     /// The last run of a root, where there is one.
     pub(crate) fn last(root: NodeRef<'a>) -> Option<Run<'a>>
-        ensures { MatchOption result (run_ids (world_at root.entry) (id_at root.entry) ≡ []) (IsLastOf root.entry) }
+        ensures { let ids = run_ids (world_at root.entry) (id_at root.entry) in
+            MatchOption result (ids ≡ []) (IsLastOf root.entry) }
     {
         let state = root.state;
         state.know();

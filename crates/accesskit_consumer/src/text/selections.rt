@@ -44,7 +44,8 @@ impl<'a> NodeRef<'a> {
     /// Where the selection was begun: none without a selection, without text ranges, or where it names none of the
     /// node's own runs. An index past the end of its run is cut to it.
     pub fn text_selection_anchor(&self) -> Option<TextPosition<'a>>
-        ensures { IsAtFound self.now (selection_anchor (world_at self.now) (id_at self.now)) result }
+        ensures { let anchor = selection_anchor (world_at self.now) (id_at self.now) in
+            IsAtFound self.now anchor result }
     {
         let node = *self;
         let Some(selection) = node.selection_sent() else {
@@ -56,7 +57,8 @@ impl<'a> NodeRef<'a> {
     /// The end of the selection that moves: none without a selection, without text ranges, or where it names none of
     /// the node's own runs. An index past the end of its run is cut to it.
     pub fn text_selection_focus(&self) -> Option<TextPosition<'a>>
-        ensures { IsAtFound self.now (selection_focus (world_at self.now) (id_at self.now)) result }
+        ensures { let focus = selection_focus (world_at self.now) (id_at self.now) in
+            IsAtFound self.now focus result }
     {
         let node = *self;
         let Some(selection) = node.selection_sent() else {
