@@ -16,18 +16,41 @@ use std::process::Abort;
 use std::test::Fail;
 
 /// How many runs are made up,
-const RUNS: u64 = 400;
+const RUNS: u64 = 300;
 
 /// and how many commands each of them has.
-const COMMANDS: u32 = 24;
+const COMMANDS: u32 = 10;
 
-/// A run that is made up: how it begins, its commands, and the world after them by the plain program.
+/// A run that is made up: how it begins, and its commands.
 #[derive(Drop)]
 struct Course {
     is_host_focused: bool,
     first: TreeUpdate,
     commands: Vec<Command>,
-    world: World,
+}
+
+impl Course {
+    fn new(first: TreeUpdate, is_host_focused: bool, alloc: Global) -> Course {
+        Course {
+            is_host_focused,
+            first,
+            commands: Vec::new(alloc),
+        }
+    }
+
+    fn copy(&self, alloc: Global) -> Result<Course, AllocError> {
+        let first = self.first.clone(alloc)?;
+        let mut course = Course::new(first, self.is_host_focused, alloc);
+        for command in &self.commands {
+            let command = match command {
+                Command::Update(update) => Command::Update(update.clone(alloc)?),
+                Command::HostFocus(is_focused) => Command::HostFocus(*is_focused),
+                Command::Query(query) => Command::Query(*query),
+            };
+            course.commands.push(command)?;
+        }
+        Ok(course)
+    }
 }
 
 /// The name of a node, most often of the root tree, and seldom of one that was never there.
@@ -97,27 +120,22 @@ fn any_command(world: &mut World, dice: &mut Dice) -> Result<Command, AllocError
     }
 }
 
-/// The run of this number. It is the same each time.
-fn make_course(alloc: Global, number: u64) -> Result<Course, Fail> {
-    let mut dice = Dice::new(number);
+/// A run that is made up by these dice, and the world after it by the plain program.
+fn make_course(alloc: Global, dice: &mut Dice) -> Result<(Course, World), Fail> {
     let is_host_focused = dice.is_one_in(2);
     let mut world = World::new(alloc, is_host_focused);
     for _ in 0..100u32 {
-        let first = draft_update(&world, &mut dice)?;
+        let first = draft_update(&world, dice)?;
         let Outcome::Accepted(after) = world.rebuilt(&first)? else {
             continue;
         };
         world = after;
-        let mut commands = Vec::new(alloc);
+        let mut course = Course::new(first, is_host_focused, alloc);
         for _ in 0..COMMANDS {
-            commands.push(any_command(&mut world, &mut dice)?)?;
+            let command = any_command(&mut world, dice)?;
+            course.commands.push(command)?;
         }
-        return Ok(Course {
-            is_host_focused,
-            first,
-            commands,
-            world,
-        });
+        return Ok((course, world));
     }
     Err("no first update is accepted".into())
 }
@@ -176,30 +194,34 @@ fn replay(rt: &impl Abort, alloc: Global, course: Course) -> Result<(Session, Ve
     Ok((session, replies))
 }
 
-/// Runs a run's commands in one. Asserts that the tree then shows what the plain program has.
-fn run(rt: &impl Abort, alloc: Global, course: Course) -> Result<(Session, Vec<Reply>), Fail> {
+/// Runs a run's commands in one.
+fn run(alloc: Global, course: Course) -> Result<(Session, Vec<Reply>), Fail> {
     let mut session = Session::new(alloc, course.first, course.is_host_focused)?;
     let mut recorder = Recorder::new(alloc);
     let Ok(replies) = session.run(course.commands, &mut recorder) else {
         return Err("the run stopped".into());
     };
-    let trees = u32::try_from(TREES).unwrap_or(0);
-    let difference = difference(&course.world, session.tree().state().view(), trees, NODES)?;
-    assert!(rt; difference.is_none(), "{difference:?}");
     Ok((session, replies))
 }
 
-/// A run and its replay end alike, with the same replies.
+/// A run and its replay end alike, with the same replies, and where the plain program ends.
 #[test]
 fn replays_are_alike(rt: HostRuntime) -> Result<(), Fail> {
     let alloc = rt.alloc();
+    let trees = u32::try_from(TREES).unwrap_or(0);
+    let mut dice = Dice::new(11);
     for number in 0..RUNS {
-        let (session, replies) = run(&rt, alloc, make_course(alloc, number)?)?;
-        let (again, replayed) = replay(&rt, alloc, make_course(alloc, number)?)?;
+        let (course, world) = make_course(alloc, &mut dice)?;
+        let (session, replies) = run(alloc, course.copy(alloc)?)?;
+        let (again, replayed) = replay(&rt, alloc, course)?;
         assert_eq!(rt; replies.as_slice(), replayed.as_slice(), "run {number}");
         let state = session.tree().state().view();
-        let other = again.tree().state().view();
-        assert!(rt; are_same(alloc, state, other)?, "run {number}");
+        assert!(rt;
+            are_same(alloc, state, again.tree().state().view())?,
+            "run {number}"
+        );
+        let difference = difference(&world, state, trees, NODES)?;
+        assert!(rt; difference.is_none(), "run {number}: {difference:?}");
     }
     Ok(())
 }
