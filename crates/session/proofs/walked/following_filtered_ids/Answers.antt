@@ -1,0 +1,12 @@
+use Rattle.std.proofs.Common.{◌∙◌, rules}
+use Rattle.std.proofs.lemmas.Result.{IfOk-weaker}
+use Rattle.model.specs.Filters.{filter_named}
+use Rattle.accesskit_consumer.specs.Nodes.{world_at}
+use Rattle.accesskit_consumer.specs.FilteredWalks.{following_walk}
+use Rattle.session.proofs.Drained.{gives_all}
+use Rattle.session.proofs.walked.following_filtered_ids.Goals as goal
+
+pub returns : goal.returns
+returns c =
+    let w = world_at c.args.node in
+    IfOk-weaker c.ids_of.result _ _ (λ ids h. h.2 ∙ gives_all _ following_walk _ w (filter_named c.args.filter w) (search rules) _ c.following_filtered_siblings.result h.0 c.following_filtered_siblings.ensures.filter c.following_filtered_siblings.ensures.begins h.1) c.ids_of.ensures
