@@ -23,7 +23,7 @@ use std::alloc::{AllocError, Global};
 
 /// The node that is named, where it is there.
 #[tactic(auto, using(crate::proofs::Naming::found_is_named))]
-pub(crate) fn named_node<'a>(state: StateRef<'a>, name: NodeName) -> Option<NodeRef<'a>>
+fn named_node<'a>(state: StateRef<'a>, name: NodeName) -> Option<NodeRef<'a>>
     requires { IsState (world_of state) }
     ensures world { IfSome result (λ node. world_at node ≡ world_of state.entry) }
     ensures node { option_map id_at result ≡ node_named (world_of state.entry) name }
@@ -55,8 +55,8 @@ fn hit_id(node: NodeRef, point: Point, filter: NamedFilter) -> Option<FullNodeId
 }
 
 /// The name of the node that a question is about. The one about the focus is about none.
-fn subject_of(query: Query) -> Option<NodeName>
-    ensures { result ≡ subject query }
+fn subject_of(query: &Query) -> Option<NodeName>
+    ensures { result ≡ subject query.now }
 {
     match query {
         Query::Focus => None,
@@ -71,7 +71,7 @@ fn subject_of(query: Query) -> Option<NodeName>
         | Query::Hit(name, _, _)
         | Query::Move(name, _, _)
         | Query::Indexes(name, _)
-        | Query::RangeText(name, _, _) => Some(name),
+        | Query::RangeText(name, _, _) => Some(*name),
     }
 }
 
@@ -106,7 +106,7 @@ pub(crate) fn answer(alloc: Global, state: StateRef, query: Query) -> Result<Rep
     requires { IsState (world_of state) }
     ensures { IfOk result (IsAnswer (world_of state.entry) query) }
 {
-    let Some(name) = subject_of(query) else {
+    let Some(name) = subject_of(&query) else {
         return Ok(Reply::Node(focus_id(state)));
     };
     let Some(node) = named_node(state, name) else {
