@@ -70,7 +70,7 @@ pub(crate) enum Stop {
     ReadFault,
     /// An output gave an error.
     WriteFault,
-    /// There was no memory while a line was read or a tree printed.
+    /// There was no memory while a line was read or carried out.
     Memory,
 }
 

@@ -6,8 +6,8 @@ use crate::lines::{Line, Question, Stop, read_line};
 use crate::outline::print_outline;
 use crate::printer::Printer;
 use crate::refusals::write_refusal;
-use accesskit_consumer::tree::Tree;
 use schema::TreeUpdate;
+use session::{Command, Reply, Session};
 use std::alloc::Global;
 use std::io::{BufRead, ErrorKind, Write};
 use std::str;
@@ -18,13 +18,13 @@ const DONE: u8 = 0;
 const BAD_LINE: u8 = 2;
 /// The exit status where the input or an output gave an error.
 const FAULT: u8 = 3;
-/// The exit status for want of memory while a line is read or a tree printed.
+/// The exit status for want of memory while a line is read or carried out.
 const NO_MEMORY: u8 = 4;
 
 /// Runs a script to its end, or to what stops it, and answers the exit status: 0 at the end of the input; 2 for a line
 /// that is not read, whose number is told on `errors`; 3 for an error of the input or an output, after which nothing
-/// more is written; 4 for want of memory while a line is read or a tree printed, which is told on `errors` too. What was
-/// printed before stands in each case.
+/// more is written; 4 for want of memory while a line is read or carried out, which is told on `errors` too. What was
+/// printed before stands in each case. An update that finds no memory is refused, and the script goes on.
 pub fn run_script<R: BufRead, O: Write, E: Write>(
     alloc: Global,
     input: &mut R,
@@ -73,8 +73,8 @@ pub fn tell_no_memory<E: Write>(errors: &mut E) -> u8
 #[derive(Drop)]
 struct Run {
     alloc: Global,
-    /// The tree, from the first accepted update on.
-    tree: Option<Tree>,
+    /// The session of the first accepted update.
+    session: Option<Session>,
     is_host_focused: bool,
     /// The update whose nodes are being read.
     open: Option<TreeUpdate>,
@@ -86,7 +86,7 @@ impl Run {
     fn new(alloc: Global) -> Run {
         Run {
             alloc,
-            tree: None,
+            session: None,
             is_host_focused: false,
             open: None,
             number: 0,
@@ -143,29 +143,20 @@ impl Run {
 
     /// Sends an update, and prints its events and `ok`, or why it is refused.
     fn send<O: Write>(&mut self, update: TreeUpdate, output: &mut O) -> Result<(), Stop> {
-        let refused = match &mut self.tree {
-            Some(tree) => {
-                let mut printer = Printer::new(&mut *output);
-                let sent = tree.update_and_process_changes(update, &mut printer);
-                printer.finish()?;
-                sent.err()
+        if let Some(session) = &mut self.session {
+            return run_command(self.alloc, session, Command::Update(update), output);
+        }
+        match Session::new(self.alloc, update, self.is_host_focused) {
+            Ok(session) => {
+                self.session = Some(session);
+                output.write_all(b"ok\n")?;
             }
-            None => match Tree::new(self.alloc, update, self.is_host_focused) {
-                Ok(tree) => {
-                    self.tree = Some(tree);
-                    None
-                }
-                Err(refusal) => Some(refusal),
-            },
-        };
-        match refused {
-            Some(refusal) => write_refusal(refusal, output)?,
-            None => output.write_all(b"ok\n")?,
+            Err(refusal) => write_refusal(refusal, output)?,
         }
         Ok(())
     }
 
-    /// Tells the tree of the host's focus, and prints the events and `ok`. Before there is a tree the focus is kept
+    /// Tells the session of the host's focus, and prints the events and `ok`. Before there is a tree the focus is kept
     /// for it.
     fn set_host_focus<O: Write>(
         &mut self,
@@ -173,23 +164,24 @@ impl Run {
         output: &mut O,
     ) -> Result<(), Stop> {
         self.is_host_focused = is_host_focused;
-        let Some(tree) = &mut self.tree else {
+        let Some(session) = &mut self.session else {
             return Ok(());
         };
-        let mut printer = Printer::new(&mut *output);
-        tree.update_host_focus_state_and_process_changes(is_host_focused, &mut printer);
-        printer.finish()?;
-        output.write_all(b"ok\n")?;
-        Ok(())
+        run_command(
+            self.alloc,
+            session,
+            Command::HostFocus(is_host_focused),
+            output,
+        )
     }
 
     /// Answers a question, or says that there is no tree, or no such node.
     fn ask<O: Write>(&self, question: Question, output: &mut O) -> Result<(), Stop> {
-        let Some(tree) = &self.tree else {
+        let Some(session) = &self.session else {
             output.write_all(b"no tree\n")?;
             return Ok(());
         };
-        let state = tree.state().view();
+        let state = session.tree().state().view();
         match state.node_by_tree_local_id(question.node, question.tree) {
             Some(node) => write_answer(self.alloc, node, question.asked, output),
             None => {
@@ -201,8 +193,8 @@ impl Run {
 
     /// Tells where the focus is, or that there is no tree.
     fn tell_focus<O: Write>(&self, output: &mut O) -> Result<(), Stop> {
-        match &self.tree {
-            Some(tree) => write_focus(tree.state().view(), output)?,
+        match &self.session {
+            Some(session) => write_focus(session.tree().state().view(), output)?,
             None => output.write_all(b"no tree\n")?,
         }
         Ok(())
@@ -210,14 +202,37 @@ impl Run {
 
     /// Prints the tree, or that there is none.
     fn print<O: Write>(&self, output: &mut O) -> Result<(), Stop> {
-        match &self.tree {
-            Some(tree) => print_outline(self.alloc, tree.state().view(), output),
+        match &self.session {
+            Some(session) => print_outline(self.alloc, session.tree().state().view(), output),
             None => {
                 output.write_all(b"no tree\n")?;
                 Ok(())
             }
         }
     }
+}
+
+/// Runs one command, and prints its events and `ok`, or why it is refused.
+fn run_command<O: Write>(
+    alloc: Global,
+    session: &mut Session,
+    command: Command,
+    output: &mut O,
+) -> Result<(), Stop> {
+    let commands = vec![in alloc; command]?;
+    let mut printer = Printer::new(&mut *output);
+    let ran = session.run(commands, &mut printer);
+    printer.finish()?;
+    let Ok(replies) = ran else {
+        return Err(Stop::Memory);
+    };
+    for reply in replies {
+        match reply {
+            Reply::Refused(refusal) => write_refusal(refusal, output)?,
+            _ => output.write_all(b"ok\n")?,
+        }
+    }
+    Ok(())
 }
 
 /// Adds the bytes up to a newline, and answers whether there were any.

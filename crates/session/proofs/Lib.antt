@@ -2,4 +2,4 @@ pub mod Naming
 pub mod Running
 pub mod Ends
 pub mod Betweens
-pub mod RangeAnswers
+pub mod Drained

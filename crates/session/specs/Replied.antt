@@ -1,15 +1,18 @@
 -- Commands and replies as those of the model, and what a run is.
-use Rattle.std.specs.Prelude.{◌≡◌, List, map, Option, Some, option_map, Result, Ok, Err}
+use Rattle.std.specs.Prelude.{◌≡◌, List, map, Option, Some, None, option_map, option_and_then, Result, Ok, Err}
 use Rattle.std.specs.Option.{option_map_or}
 use Rattle.std.specs.Global.{Vec}
 use Rattle.std.specs.String.{string_bytes}
+use Rattle.schema.specs.declared.NodeId.{NodeId}
+use Rattle.schema.specs.declared.TreeId.{TreeId}
 use Rattle.schema.specs.UpdateData.{update_data}
 use Rattle.model.specs.World.{World}
 use Rattle.model.specs.Events.{Event}
+use Rattle.model.specs.declared.FullNodeId.{FullNodeId}
 use Rattle.model.specs.declared.queries.Query.{Query}
+use Rattle.model.specs.declared.queries.Query.TheVariants as query
 use Rattle.model.specs.Answers as answer
-use Rattle.model.specs.FlatText.{FlatText, Position}
-use Rattle.model.specs.Queries.{answer_of, text_between}
+use Rattle.model.specs.Queries.{node_named, answer_of}
 use Rattle.model.specs.Run.{CommandData, ToUpdate, ToHostFocus, ToQuery, ReplyData, Accepted, Refused, OutOfMemory, Answered, Runs, RunsUpTo}
 use Rattle.tree_changes.specs.Refusals.{fault_of}
 use Rattle.session.specs.declared.commands.Command.{Command}
@@ -35,13 +38,33 @@ reply_said (reply.Indexes usv utf16 line) = Answered (answer.Indexes usv utf16 l
 reply_said reply.NoNode = Answered answer.NoNode
 reply_said reply.NotText = Answered answer.NotText
 
+-- the name of the node that a query is about; that of the focus is about none
+abbrev pub subject : Query → Option (NodeId × TreeId)
+subject (query.Children name) = Some name
+subject (query.FollowingSiblings name) = Some name
+subject (query.PrecedingSiblings name) = Some name
+subject (query.FilteredChildren name filter) = Some name
+subject (query.FollowingFiltered name filter) = Some name
+subject (query.PrecedingFiltered name filter) = Some name
+subject (query.Label name) = Some name
+subject (query.Value name) = Some name
+subject (query.Hit name point filter) = Some name
+subject query.Focus = None
+subject (query.Move name at move) = Some name
+subject (query.Indexes name at) = Some name
+subject (query.RangeText name from to) = Some name
+
+-- the query is about this node of the world
+abbrev pub IsAbout : World → FullNodeId → Query → Type 0
+IsAbout w id q = option_and_then (node_named w) (subject q) ≡ Some id
+
 -- the reply is what is answered to a query of this world
 abbrev pub IsAnswer : World → Query → Reply → Type 0
 IsAnswer w q r = reply_said r ≡ Answered (answer_of w q)
 
--- what is answered of the text from a position to where another may be
-abbrev pub text_answered : FlatText → Position → Option Position → answer.Answer
-text_answered t p to = option_map_or (λ q. answer.Text (Some (text_between t p q))) to answer.NotText
+-- and to one that is asked of this node, by whatever name
+abbrev pub IsAnswerAt : World → FullNodeId → (NodeId × TreeId → Query) → Reply → Type 0
+IsAnswerAt w id asked r = (name : NodeId × TreeId) → node_named w name ≡ Some id → IsAnswer w (asked name) r
 
 -- the commands in turn take one world to another, these events are told, and these are the replies; or memory was wanting, and so did the first of them
 abbrev pub IsRun : World → List Command → World → List Event → Result (Vec Reply) RunStopped → Type 0

@@ -1,6 +1,5 @@
 //! Answers to questions, a function for each kind of question.
 ghost use Rattle.std.specs.Prelude.{◌≡◌, IfOk, IfSome, option_map};
-ghost use Rattle.model.specs.declared.queries.Query.TheVariants.{Children as ToChildren, FollowingSiblings as ToFollowing, PrecedingSiblings as ToPreceding, FilteredChildren as ToFiltered, FollowingFiltered as ToFollowingFiltered, PrecedingFiltered as ToPrecedingFiltered, Label as ToLabel, Value as ToValue, Hit as ToHit};
 ghost use Rattle.model.specs.State.{IsState};
 ghost use Rattle.model.specs.Geometry.{hit};
 ghost use Rattle.model.specs.Filters.{filter_named};
@@ -8,7 +7,7 @@ ghost use Rattle.model.specs.FocusFound.{shown_focus};
 ghost use Rattle.model.specs.Queries.{node_named};
 ghost use Rattle.accesskit_consumer.specs.Views.{world_of};
 ghost use Rattle.accesskit_consumer.specs.Nodes.{world_at, id_at};
-ghost use Rattle.session.specs.Replied.{IsAnswer};
+ghost use Rattle.session.specs.Replied.{subject, IsAbout, IsAnswer};
 
 use crate::commands::Reply;
 use crate::named::answer_by;
@@ -24,7 +23,7 @@ use std::alloc::{AllocError, Global};
 
 /// The node that is named, where it is there.
 #[tactic(auto, using(crate::proofs::Naming::found_is_named))]
-pub(crate) fn named_node<'a>(state: StateRef<'a>, name: NodeName) -> Option<NodeRef<'a>>
+fn named_node<'a>(state: StateRef<'a>, name: NodeName) -> Option<NodeRef<'a>>
     requires { IsState (world_of state) }
     ensures world { IfSome result (λ node. world_at node ≡ world_of state.entry) }
     ensures node { option_map id_at result ≡ node_named (world_of state.entry) name }
@@ -46,7 +45,8 @@ fn focus_id(state: StateRef) -> Option<FullNodeId>
 
 /// The id of what is hit at the point.
 fn hit_id(node: NodeRef, point: Point, filter: NamedFilter) -> Option<FullNodeId>
-    ensures { let w = world_at node.entry in result ≡ hit (filter_named filter w) w (id_at node.entry) point }
+    ensures { let w = world_at node.entry in
+        result ≡ hit (filter_named filter w) w (id_at node.entry) point }
 {
     match node.node_at_point(point, &move |seen: &NodeRef<'_>| answer_by(filter, seen)) {
         Some(found) => Some(found.id()),
@@ -54,109 +54,51 @@ fn hit_id(node: NodeRef, point: Point, filter: NamedFilter) -> Option<FullNodeId
     }
 }
 
-fn children(alloc: Global, state: StateRef, name: NodeName) -> Result<Reply, AllocError>
-    requires { IsState (world_of state) }
-    ensures { IfOk result (IsAnswer (world_of state.entry) (ToChildren name)) }
+/// The name of the node that a question is about. The one about the focus is about none.
+fn subject_of(query: &Query) -> Option<NodeName>
+    ensures { result ≡ subject query.now }
 {
-    let Some(node) = named_node(state, name) else {
-        return Ok(Reply::NoNode);
-    };
-    Ok(Reply::Ids(child_ids(alloc, node)?))
+    match query {
+        Query::Focus => None,
+        Query::Children(name)
+        | Query::FollowingSiblings(name)
+        | Query::PrecedingSiblings(name)
+        | Query::FilteredChildren(name, _)
+        | Query::FollowingFiltered(name, _)
+        | Query::PrecedingFiltered(name, _)
+        | Query::Label(name)
+        | Query::Value(name)
+        | Query::Hit(name, _, _)
+        | Query::Move(name, _, _)
+        | Query::Indexes(name, _)
+        | Query::RangeText(name, _, _) => Some(*name),
+    }
 }
 
-fn following(alloc: Global, state: StateRef, name: NodeName) -> Result<Reply, AllocError>
-    requires { IsState (world_of state) }
-    ensures { IfOk result (IsAnswer (world_of state.entry) (ToFollowing name)) }
+/// Answers a question about the node.
+fn answer_about(alloc: Global, node: NodeRef, query: Query) -> Result<Reply, AllocError>
+    requires { IsAbout (world_at node) (id_at node) query }
+    ensures { IfOk result (IsAnswer (world_at node.entry) query) }
 {
-    let Some(node) = named_node(state, name) else {
-        return Ok(Reply::NoNode);
-    };
-    Ok(Reply::Ids(following_ids(alloc, node)?))
-}
-
-fn preceding(alloc: Global, state: StateRef, name: NodeName) -> Result<Reply, AllocError>
-    requires { IsState (world_of state) }
-    ensures { IfOk result (IsAnswer (world_of state.entry) (ToPreceding name)) }
-{
-    let Some(node) = named_node(state, name) else {
-        return Ok(Reply::NoNode);
-    };
-    Ok(Reply::Ids(preceding_ids(alloc, node)?))
-}
-
-fn filtered(
-    alloc: Global,
-    state: StateRef,
-    name: NodeName,
-    filter: NamedFilter,
-) -> Result<Reply, AllocError>
-    requires { IsState (world_of state) }
-    ensures { IfOk result (IsAnswer (world_of state.entry) (ToFiltered name filter)) }
-{
-    let Some(node) = named_node(state, name) else {
-        return Ok(Reply::NoNode);
-    };
-    Ok(Reply::Ids(filtered_ids(alloc, node, filter)?))
-}
-
-fn following_filtered(
-    alloc: Global,
-    state: StateRef,
-    name: NodeName,
-    filter: NamedFilter,
-) -> Result<Reply, AllocError>
-    requires { IsState (world_of state) }
-    ensures { IfOk result (IsAnswer (world_of state.entry) (ToFollowingFiltered name filter)) }
-{
-    let Some(node) = named_node(state, name) else {
-        return Ok(Reply::NoNode);
-    };
-    Ok(Reply::Ids(following_filtered_ids(alloc, node, filter)?))
-}
-
-fn preceding_filtered(
-    alloc: Global,
-    state: StateRef,
-    name: NodeName,
-    filter: NamedFilter,
-) -> Result<Reply, AllocError>
-    requires { IsState (world_of state) }
-    ensures { IfOk result (IsAnswer (world_of state.entry) (ToPrecedingFiltered name filter)) }
-{
-    let Some(node) = named_node(state, name) else {
-        return Ok(Reply::NoNode);
-    };
-    Ok(Reply::Ids(preceding_filtered_ids(alloc, node, filter)?))
-}
-
-fn label(alloc: Global, state: StateRef, name: NodeName) -> Result<Reply, AllocError>
-    requires { IsState (world_of state) }
-    ensures { IfOk result (IsAnswer (world_of state.entry) (ToLabel name)) }
-{
-    let Some(node) = named_node(state, name) else {
-        return Ok(Reply::NoNode);
-    };
-    Ok(Reply::Text(node.label(alloc)?))
-}
-
-fn value(alloc: Global, state: StateRef, name: NodeName) -> Result<Reply, AllocError>
-    requires { IsState (world_of state) }
-    ensures { IfOk result (IsAnswer (world_of state.entry) (ToValue name)) }
-{
-    let Some(node) = named_node(state, name) else {
-        return Ok(Reply::NoNode);
-    };
-    Ok(Reply::Text(node.value(alloc)?))
-}
-
-fn hit(state: StateRef, name: NodeName, point: Point, filter: NamedFilter) -> Reply
-    requires { IsState (world_of state) }
-    ensures { IsAnswer (world_of state.entry) (ToHit name point filter) result }
-{
-    let Some(node) = named_node(state, name) else {
-        return Reply::NoNode;
-    };
-    Reply::Node(hit_id(node, point, filter))
+    match query {
+        Query::Children(_) => Ok(Reply::Ids(child_ids(alloc, node)?)),
+        Query::FollowingSiblings(_) => Ok(Reply::Ids(following_ids(alloc, node)?)),
+        Query::PrecedingSiblings(_) => Ok(Reply::Ids(preceding_ids(alloc, node)?)),
+        Query::FilteredChildren(_, filter) => Ok(Reply::Ids(filtered_ids(alloc, node, filter)?)),
+        Query::FollowingFiltered(_, filter) => {
+            Ok(Reply::Ids(following_filtered_ids(alloc, node, filter)?))
+        }
+        Query::PrecedingFiltered(_, filter) => {
+            Ok(Reply::Ids(preceding_filtered_ids(alloc, node, filter)?))
+        }
+        Query::Label(_) => Ok(Reply::Text(node.label(alloc)?)),
+        Query::Value(_) => Ok(Reply::Text(node.value(alloc)?)),
+        Query::Hit(_, point, filter) => Ok(Reply::Node(hit_id(node, point, filter))),
+        Query::Move(_, at, by) => Ok(movement(node, at, by)),
+        Query::Indexes(_, at) => Ok(indexes(node, at)),
+        Query::RangeText(_, from, to) => range_text(alloc, node, from, to),
+        Query::Focus => unreachable!(),
+    }
 }
 
 /// Answers a question of a state.
@@ -164,19 +106,11 @@ pub(crate) fn answer(alloc: Global, state: StateRef, query: Query) -> Result<Rep
     requires { IsState (world_of state) }
     ensures { IfOk result (IsAnswer (world_of state.entry) query) }
 {
-    match query {
-        Query::Children(name) => children(alloc, state, name),
-        Query::FollowingSiblings(name) => following(alloc, state, name),
-        Query::PrecedingSiblings(name) => preceding(alloc, state, name),
-        Query::FilteredChildren(name, filter) => filtered(alloc, state, name, filter),
-        Query::FollowingFiltered(name, filter) => following_filtered(alloc, state, name, filter),
-        Query::PrecedingFiltered(name, filter) => preceding_filtered(alloc, state, name, filter),
-        Query::Label(name) => label(alloc, state, name),
-        Query::Value(name) => value(alloc, state, name),
-        Query::Hit(name, point, filter) => Ok(hit(state, name, point, filter)),
-        Query::Focus => Ok(Reply::Node(focus_id(state))),
-        Query::Move(name, at, by) => Ok(movement(state, name, at, by)),
-        Query::Indexes(name, at) => Ok(indexes(state, name, at)),
-        Query::RangeText(name, from, to) => range_text(alloc, state, name, from, to),
-    }
+    let Some(name) = subject_of(&query) else {
+        return Ok(Reply::Node(focus_id(state)));
+    };
+    let Some(node) = named_node(state, name) else {
+        return Ok(Reply::NoNode);
+    };
+    answer_about(alloc, node, query)
 }

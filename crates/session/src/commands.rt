@@ -15,7 +15,7 @@ pub enum Command {
 }
 
 /// What is replied to a command.
-#[derive(Drop)]
+#[derive(Debug, PartialEq, Eq, Drop)]
 pub enum Reply {
     /// The update is accepted, or the host's focus is set.
     Accepted,

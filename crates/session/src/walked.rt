@@ -1,10 +1,12 @@
 //! The ids that walks give.
-ghost use Rattle.std.specs.Prelude.{◌≡◌, IfOk};
+ghost use Rattle.std.specs.Prelude.{◌≡◌, List, map, IfOk};
+ghost use Rattle.std.specs.Iterator.{IsFinite, Drains};
 ghost use Rattle.model.specs.World.{children};
 ghost use Rattle.model.specs.Lists.{following_siblings, preceding_siblings};
 ghost use Rattle.model.specs.Frontier.{filtered_children};
 ghost use Rattle.model.specs.Covers.{following_filtered_siblings, preceding_filtered_siblings};
 ghost use Rattle.model.specs.Filters.{filter_named};
+ghost use Rattle.accesskit_consumer.specs.declared.node.node_ref.NodeRef.{NodeRef as ANode};
 ghost use Rattle.accesskit_consumer.specs.Nodes.{world_at, id_at};
 
 use crate::named::answer_by;
@@ -33,6 +35,22 @@ pub(crate) fn preceding_ids(alloc: Global, node: NodeRef) -> Result<Vec<FullNode
     Ok(ids)
 }
 
+/// The ids of what a walk gives, in its order.
+fn ids_of<'a, W: Iterator<Item = NodeRef<'a>> + Drop>(
+    alloc: Global,
+    walk: W,
+) -> Result<Vec<FullNodeId>, AllocError>
+    requires can { W.can_next walk }
+    requires ends { IsFinite (W.remaining walk) }
+    ensures { IfOk result (λ ids. (nodes : List ANode) × Drains W.next_gives walk nodes × (ids.items ≡ map id_at nodes)) }
+{
+    let mut ids = Vec::new(alloc);
+    for node in walk {
+        ids.push(node.id())?;
+    }
+    Ok(ids)
+}
+
 pub(crate) fn filtered_ids(
     alloc: Global,
     node: NodeRef,
@@ -41,12 +59,8 @@ pub(crate) fn filtered_ids(
     ensures { let w = world_at node.entry in
         IfOk result (λ ids. ids.items ≡ filtered_children (filter_named filter w) w (id_at node.entry)) }
 {
-    let mut ids = Vec::new(alloc);
-    let mut walk = node.filtered_children(move |shown: &NodeRef<'_>| answer_by(filter, shown));
-    while let Some(shown) = walk.next() {
-        ids.push(shown.id())?;
-    }
-    Ok(ids)
+    let shown = move |shown: &NodeRef<'_>| answer_by(filter, shown);
+    ids_of(alloc, node.filtered_children(shown))
 }
 
 pub(crate) fn following_filtered_ids(
@@ -57,14 +71,8 @@ pub(crate) fn following_filtered_ids(
     ensures { let w = world_at node.entry in
         IfOk result (λ ids. ids.items ≡ following_filtered_siblings (filter_named filter w) w (id_at node.entry)) }
 {
-    let mut ids = Vec::new(alloc);
-    let mut walk = node.following_filtered_siblings(move |shown: &NodeRef<'_>| answer_by(
-        filter, shown,
-    ));
-    while let Some(shown) = walk.next() {
-        ids.push(shown.id())?;
-    }
-    Ok(ids)
+    let shown = move |shown: &NodeRef<'_>| answer_by(filter, shown);
+    ids_of(alloc, node.following_filtered_siblings(shown))
 }
 
 pub(crate) fn preceding_filtered_ids(
@@ -75,12 +83,6 @@ pub(crate) fn preceding_filtered_ids(
     ensures { let w = world_at node.entry in
         IfOk result (λ ids. ids.items ≡ preceding_filtered_siblings (filter_named filter w) w (id_at node.entry)) }
 {
-    let mut ids = Vec::new(alloc);
-    let mut walk = node.preceding_filtered_siblings(move |shown: &NodeRef<'_>| answer_by(
-        filter, shown,
-    ));
-    while let Some(shown) = walk.next() {
-        ids.push(shown.id())?;
-    }
-    Ok(ids)
+    let shown = move |shown: &NodeRef<'_>| answer_by(filter, shown);
+    ids_of(alloc, node.preceding_filtered_siblings(shown))
 }

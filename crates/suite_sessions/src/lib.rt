@@ -2,4 +2,14 @@
 #![tactic(auto)]
 
 #[cfg(test)]
+mod asked;
+#[cfg(test)]
+mod asked_of_texts;
+#[cfg(test)]
+mod made;
+#[cfg(test)]
+mod mirrored;
+#[cfg(test)]
+mod replayed;
+#[cfg(test)]
 mod runs;

@@ -1,31 +1,12 @@
-use Rattle.std.proofs.Common.{◌++◌, ◌∷◌, [], sym, ap, ◌∙◌, append_assoc, rules}
+use Rattle.std.proofs.Common.{◌∙◌, rules}
+use Rattle.std.proofs.lemmas.Result.{IfOk-weaker}
 use Rattle.model.specs.Filters.{filter_named}
 use Rattle.accesskit_consumer.specs.Nodes.{world_at}
-use Rattle.accesskit_consumer.specs.Walks.{ids_left}
+use Rattle.accesskit_consumer.specs.FilteredWalks.{children_walk}
+use Rattle.session.proofs.Drained.{gives_all}
 use Rattle.session.proofs.walked.filtered_ids.Goals as goal
 
-pub loop-shown-init : goal.loop-shown-init
-loop-shown-init c =
-    let f = filter_named c.args.filter (world_at c.args.node) in
-    let begins = c.filtered_children-walk.ensures.begins in
-    let all = begins.list f (search rules) in
-    (search rules, search rules, begins.world, all.0, ap (λ b. b.0) c.filtered_children-walk.ensures.filter, ap (λ ids. ids ++ ids_left f c.filtered_children-walk.result.course) c.new-ids.ensures.items ∙ all.1)
-
-pub loop-shown-preserved : goal.loop-shown-preserved
-loop-shown-preserved c =
-    let f = filter_named c.args.filter (world_at c.args.node) in
-    let inv = c.loop-shown.invariant in
-    let steps = c.in-Some.ensures.steps in
-    let next = steps.list f (rw inv.4 (rw inv.2 (search rules))) inv.3 in
-    let left = ids_left f c.next.new.self.course in (
-      search rules,
-      search rules,
-      steps.goes.world ∙ inv.2,
-      next.0,
-      ap (λ b. b.f.0) steps.filter ∙ inv.4,
-      ap (λ ids. ids ++ left) c.in_ok-push.ensures.items
-          ∙ append_assoc c.loop-shown.ids.items (c.id.result ∷ []) left
-          ∙ ap (λ id. c.loop-shown.ids.items ++ id ∷ left) c.id.ensures
-          ∙ ap (λ ids. c.loop-shown.ids.items ++ ids) (sym next.1)
-          ∙ inv.5,
-    )
+pub returns : goal.returns
+returns c =
+    let w = world_at c.args.node in
+    IfOk-weaker c.ids_of.result _ _ (λ ids h. h.2 ∙ gives_all _ children_walk _ w (filter_named c.args.filter w) (search rules) _ c.filtered_children.result h.0 c.filtered_children.ensures.filter c.filtered_children.ensures.begins h.1) c.ids_of.ensures

@@ -1,0 +1,36 @@
+-- What a walk has given once it gives nothing more.
+use Rattle.std.proofs.Common.{◌≡◌, List, [], ◌∷◌, map, sym, ap, subst, ◌∙◌}
+use Rattle.std.specs.Prelude.{Option, None}
+use Rattle.std.specs.Iterator.{Yields, Drains}
+use Rattle.model.specs.declared.FullNodeId.{FullNodeId}
+use Rattle.model.specs.declared.filters.FilterResult.{FilterResult}
+use Rattle.model.specs.World.{World}
+use Rattle.accesskit_consumer.specs.declared.node.node_ref.NodeRef.{NodeRef}
+use Rattle.accesskit_consumer.specs.declared.walks.filter.ByFn.{ByFn}
+use Rattle.accesskit_consumer.specs.Nodes.{id_at}
+use Rattle.accesskit_consumer.specs.Follows.{Follows}
+use Rattle.accesskit_consumer.specs.Walks.{walked_world}
+use Rattle.accesskit_consumer.specs.FilteredWalks.{WalkOf, Begins, GivesFirst}
+
+-- a walk in the world w with a function that answers there what f says
+module _ {S K : Type 0} (says : K → NodeRef → FilterResult → Type 0) (walk : WalkOf S (ByFn K)) (k : K) (w : World) (f : FullNodeId → FilterResult) (follows : Follows (says k) w f) where
+  abbrev Gives : S → Option NodeRef → S → Type 0
+  Gives = GivesFirst (λ filter. says filter.f) walk
+
+  follows_at : (s : S) → (walk.filter s).f ≡ k → walked_world (walk.course s) ≡ w → Follows (says (walk.filter s).f) (walked_world (walk.course s)) f
+  follows_at s same here = subst (λ x. Follows (says x) (walked_world (walk.course s)) f) (sym same) (subst (λ v. Follows (says k) v f) (sym here) follows)
+
+  -- it gives what it had left
+  gives_left : (s : S) (nodes : List NodeRef) (t u : S) → (walk.filter s).f ≡ k → walked_world (walk.course s) ≡ w → walk.OnCourse f s → Yields Gives s nodes t → Gives t None u → map id_at nodes ≡ walk.left f s
+  gives_left s [] t u same here on is last =
+      let over = last.list f (follows_at t (ap (λ z. (walk.filter z).f) (sym is) ∙ same) (ap (λ z. walked_world (walk.course z)) (sym is) ∙ here)) (subst (walk.OnCourse f) is on) in
+      sym over.1.0 ∙ ap (walk.left f) (sym is)
+  gives_left s (n ∷ nodes) t u same here on (j, step, others) last =
+      let next = step.list f (follows_at s same here) on in
+      ap (λ ids. id_at n ∷ ids) (gives_left j nodes t u (ap (λ filter. filter.f) step.filter ∙ same) (step.goes.world ∙ here) next.0 others last) ∙ sym next.1
+
+  -- and one that begins so gives all
+  pub gives_all : (ids : (FullNodeId → FilterResult) → List FullNodeId) (s : S) (nodes : List NodeRef) → (walk.filter s).f ≡ k → Begins (says k) walk w ids s → Drains Gives s nodes → map id_at nodes ≡ ids f
+  gives_all ids s nodes same begins (u, (t, yielded, last)) =
+      let start = begins.list f follows in
+      gives_left s nodes t u same begins.world start.0 yielded last ∙ start.1

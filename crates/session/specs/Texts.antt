@@ -1,0 +1,18 @@
+-- Places in the text of a node.
+use Rattle.std.specs.Prelude.{ℕ, Option, None, if◌then◌else◌}
+use Rattle.model.specs.declared.FullNodeId.{FullNodeId}
+use Rattle.model.specs.declared.queries.At.{At}
+use Rattle.model.specs.World.{World}
+use Rattle.model.specs.TextRuns.{supports_text_ranges}
+use Rattle.model.specs.FlatText.{Position, flat_text, offset}
+use Rattle.model.specs.Queries.{position_at as place_at}
+use Rattle.accesskit_consumer.specs.declared.text.position.TextPosition.{TextPosition}
+use Rattle.accesskit_consumer.specs.Positions.{text_at, position_at}
+
+-- how many characters are before a position
+abbrev pub offset_at : TextPosition → ℕ
+offset_at p = offset (text_at p) (position_at p)
+
+-- the position of a place in the node's text, where there is both
+abbrev pub place_in : World → FullNodeId → At → Option Position
+place_in w id at = if supports_text_ranges w id then place_at (flat_text w id) at else None
