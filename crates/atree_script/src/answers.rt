@@ -7,12 +7,13 @@ ghost use Rattle.model.specs.Focus.{IsFocus};
 ghost use Rattle.model.specs.Frontier.{filtered_children};
 ghost use Rattle.model.specs.Geometry.{hit};
 ghost use Rattle.model.specs.Filters.{common_filter as common};
-ghost use Rattle.accesskit_consumer.specs.Views.{world_of};
-ghost use Rattle.accesskit_consumer.specs.Nodes.{world_at, id_at};
+ghost use Rattle.tree_views.specs.Views.{world_of};
+ghost use Rattle.tree_views.specs.Nodes.{world_at, id_at};
 ghost use Rattle.atree_script.specs.Answered.{spaced_id, ids_text, ids_line, found_line, count_text, set_line, text_in_runs, text_line, quoted_byte, answer_line};
 
 use crate::lines::{Asked, Stop};
 use crate::printer::ShownId;
+use accesskit_consumer::TextRoot;
 use accesskit_consumer::filters::common_filter;
 use accesskit_consumer::node::{FullNodeId, NodeRef};
 use accesskit_consumer::tree::StateRef;

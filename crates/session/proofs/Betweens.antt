@@ -5,7 +5,7 @@ use Rattle.model.specs.Ranges.{text_of, with_end}
 use Rattle.model.specs.Queries.{text_between}
 use Rattle.accesskit_consumer.specs.declared.text.position.TextPosition.{TextPosition}
 use Rattle.accesskit_consumer.specs.declared.text.range.TextRange.{TextRange}
-use Rattle.accesskit_consumer.specs.Nodes.{world_at, id_at}
+use Rattle.tree_views.specs.Nodes.{world_at, id_at}
 use Rattle.accesskit_consumer.specs.Positions.{root_at, text_at, position_at}
 use Rattle.accesskit_consumer.specs.TextRanges.{world_in, root_in, text_in, range_at, IsRangeOf}
 

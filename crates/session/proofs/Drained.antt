@@ -5,12 +5,12 @@ use Rattle.std.specs.Iterator.{Yields, Drains}
 use Rattle.model.specs.declared.FullNodeId.{FullNodeId}
 use Rattle.model.specs.declared.filters.FilterResult.{FilterResult}
 use Rattle.model.specs.World.{World}
-use Rattle.accesskit_consumer.specs.declared.node.node_ref.NodeRef.{NodeRef}
-use Rattle.accesskit_consumer.specs.declared.walks.filter.ByFn.{ByFn}
-use Rattle.accesskit_consumer.specs.Nodes.{id_at}
-use Rattle.accesskit_consumer.specs.Follows.{Follows}
-use Rattle.accesskit_consumer.specs.Walks.{walked_world}
-use Rattle.accesskit_consumer.specs.FilteredWalks.{WalkOf, Begins, GivesFirst}
+use Rattle.tree_views.specs.declared.node.node_ref.NodeRef.{NodeRef}
+use Rattle.tree_views.specs.declared.walks.filter.ByFn.{ByFn}
+use Rattle.tree_views.specs.Nodes.{id_at}
+use Rattle.tree_views.specs.Follows.{Follows}
+use Rattle.tree_views.specs.Walks.{walked_world}
+use Rattle.tree_views.specs.FilteredWalks.{WalkOf, Begins, GivesFirst}
 
 -- a walk in the world w with a function that answers there what f says
 module _ {S K : Type 0} (says : K → NodeRef → FilterResult → Type 0) (walk : WalkOf S (ByFn K)) (k : K) (w : World) (f : FullNodeId → FilterResult) (follows : Follows (says k) w f) where

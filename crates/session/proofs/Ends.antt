@@ -9,7 +9,7 @@ use Rattle.model.proofs.Forest.PlaceOf.{test_self}
 use Rattle.model.proofs.Text.Indexes.{start_at_end}
 use Rattle.model.proofs.Text.TextFacts.{start_next}
 use Rattle.accesskit_consumer.specs.declared.text.position.TextPosition.{TextPosition}
-use Rattle.accesskit_consumer.specs.Nodes.{id_at}
+use Rattle.tree_views.specs.Nodes.{id_at}
 use Rattle.accesskit_consumer.specs.Positions.{root_at, text_of, text_at, position_at, IsAt}
 
 pub end_is_total : (t : FlatText) → offset t (document_end t) ≡ total t

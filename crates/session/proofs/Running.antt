@@ -9,7 +9,7 @@ use Rattle.model.specs.Update.{UpdateData}
 use Rattle.model.specs.Run.{ToUpdate, Does, Runs, RunsUpTo}
 use Rattle.model.proofs.Run.Runs.{runs_more, replies_length, after_command}
 use Rattle.tree_changes.specs.declared.error.UpdateError.{UpdateError}
-use Rattle.accesskit_consumer.specs.Replies.{reply_of}
+use Rattle.tree_views.specs.Replies.{reply_of}
 use Rattle.std.specs.Prelude.{Result, Ok, Err, Option, Some, None, IfSome, IsSomeAnd, if◌then◌else◌}
 use Rattle.std.specs.Result.{IsOk, is_ok}
 use Rattle.std.specs.Global.{Vec}

@@ -5,8 +5,8 @@ ghost use Rattle.model.specs.Geometry.{hit};
 ghost use Rattle.model.specs.Filters.{filter_named};
 ghost use Rattle.model.specs.FocusFound.{shown_focus};
 ghost use Rattle.model.specs.Queries.{node_named};
-ghost use Rattle.accesskit_consumer.specs.Views.{world_of};
-ghost use Rattle.accesskit_consumer.specs.Nodes.{world_at, id_at};
+ghost use Rattle.tree_views.specs.Views.{world_of};
+ghost use Rattle.tree_views.specs.Nodes.{world_at, id_at};
 ghost use Rattle.session.specs.Replied.{subject, IsAbout, IsAnswer};
 
 use crate::commands::Reply;

@@ -6,7 +6,7 @@ ghost use Rattle.model.specs.Mirror.{AreRecordsOf, MirrorsWhileKept};
 ghost use Rattle.model.specs.Run.{Begins, Does, ToUpdate, ToHostFocus, Accepted};
 ghost use Rattle.model.specs.State.{empty_world};
 ghost use Rattle.tree_changes.specs.Refusals.{IsRefusal};
-ghost use Rattle.accesskit_consumer.specs.Replies.{reply_of};
+ghost use Rattle.tree_views.specs.Replies.{reply_of};
 ghost use Rattle.session.specs.Replied.{command_said, reply_said, IsAnswer, IsRun};
 
 use crate::answers::answer;

@@ -5,12 +5,13 @@ ghost use Rattle.model.specs.declared.queries.Query.TheVariants.{Move as ToMove,
 ghost use Rattle.model.specs.TextRuns.{supports_text_ranges};
 ghost use Rattle.model.specs.FlatText.{total};
 ghost use Rattle.model.specs.Queries.{position_at as place_at, moved as place_after, raw_of, text_between as between};
-ghost use Rattle.accesskit_consumer.specs.Nodes.{world_at, id_at};
+ghost use Rattle.tree_views.specs.Nodes.{world_at, id_at};
 ghost use Rattle.accesskit_consumer.specs.Positions.{root_at, text_of, text_at, position_at};
 ghost use Rattle.session.specs.Replied.{IsAnswerAt};
 ghost use Rattle.session.specs.Texts.{offset_at, place_in};
 
 use crate::commands::Reply;
+use accesskit_consumer::TextRoot;
 use accesskit_consumer::NodeRef;
 use accesskit_consumer::text::TextPosition;
 use model::{At, Move, Side};

@@ -1,7 +1,7 @@
 use Rattle.std.proofs.Common.{◌≡◌, ◌++◌, ◌∷◌, [], sym, ap, ◌∙◌, append_assoc, rules}
 use Rattle.model.specs.Filters.{common_filter}
-use Rattle.accesskit_consumer.specs.Nodes.{world_at, id_at}
-use Rattle.accesskit_consumer.specs.Walks.{ids_left}
+use Rattle.tree_views.specs.Nodes.{world_at, id_at}
+use Rattle.tree_views.specs.Walks.{ids_left}
 use Rattle.atree_script.proofs.answers.filtered_ids.Goals as goal
 
 pub loop-shown-init : goal.loop-shown-init

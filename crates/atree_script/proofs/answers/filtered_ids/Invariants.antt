@@ -1,8 +1,8 @@
 use Rattle.std.proofs.Common.{◌≡◌, ◌++◌}
 use Rattle.model.specs.Frontier.{filtered_children}
 use Rattle.model.specs.Filters.{common_filter}
-use Rattle.accesskit_consumer.specs.Nodes.{world_at, id_at}
-use Rattle.accesskit_consumer.specs.Walks.{walked_world, IsOnCourse, ids_left}
+use Rattle.tree_views.specs.Nodes.{world_at, id_at}
+use Rattle.tree_views.specs.Walks.{walked_world, IsOnCourse, ids_left}
 use Rattle.atree_script.proofs.answers.filtered_ids.Given as goal
 
 -- the ids so far and those that are left are all that are shown

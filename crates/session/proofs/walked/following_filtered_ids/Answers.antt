@@ -1,8 +1,8 @@
 use Rattle.std.proofs.Common.{◌∙◌, rules}
 use Rattle.std.proofs.lemmas.Result.{IfOk-weaker}
 use Rattle.model.specs.Filters.{filter_named}
-use Rattle.accesskit_consumer.specs.Nodes.{world_at}
-use Rattle.accesskit_consumer.specs.FilteredWalks.{following_walk}
+use Rattle.tree_views.specs.Nodes.{world_at}
+use Rattle.tree_views.specs.FilteredWalks.{following_walk}
 use Rattle.session.proofs.Drained.{gives_all}
 use Rattle.session.proofs.walked.following_filtered_ids.Goals as goal
 
