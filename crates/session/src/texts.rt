@@ -11,9 +11,8 @@ ghost use Rattle.session.specs.Replied.{IsAnswerAt};
 ghost use Rattle.session.specs.Texts.{offset_at, place_in};
 
 use crate::commands::Reply;
-use accesskit_consumer::TextRoot;
-use accesskit_consumer::NodeRef;
 use accesskit_consumer::text::TextPosition;
+use accesskit_consumer::{NodeRef, TextRoot};
 use model::{At, Move, Side};
 use std::alloc::{AllocError, Global};
 use std::cmp::Ordering;
