@@ -56,7 +56,8 @@ impl<'a> Run<'a> {
 
     /// The first run of a root, where there is one.
     pub fn first(root: NodeRef<'a>) -> Option<Run<'a>>
-        ensures { MatchOption result (run_ids (world_at root.entry) (id_at root.entry) ≡ []) (IsFirstOf root.entry) }
+        ensures { let ids = run_ids (world_at root.entry) (id_at root.entry) in
+            MatchOption result (ids ≡ []) (IsFirstOf root.entry) }
     {
         let state = root.state;
         state.know();
@@ -72,7 +73,8 @@ impl<'a> Run<'a> {
 
     /// The last run of a root, where there is one.
     pub fn last(root: NodeRef<'a>) -> Option<Run<'a>>
-        ensures { MatchOption result (run_ids (world_at root.entry) (id_at root.entry) ≡ []) (IsLastOf root.entry) }
+        ensures { let ids = run_ids (world_at root.entry) (id_at root.entry) in
+            MatchOption result (ids ≡ []) (IsLastOf root.entry) }
     {
         let state = root.state;
         state.know();

@@ -25,8 +25,10 @@ impl TextPosition<'_> {
 
     /// The order of two positions of one root, by how many characters are before each. There is none of two roots.
     pub fn compare(&self, other: &TextPosition<'_>) -> Option<Ordering>
-        ensures { MatchBool (is_same_id (id_at (root_at self.now)) (id_at (root_at other.now)))
-            (result ≡ Some (position_cmp (text_at self.now) (position_at self.now) (text_at other.now) (position_at other.now)))
+        ensures { let p = self.now in
+            let q = other.now in
+            MatchBool (is_same_id (id_at (root_at p)) (id_at (root_at q)))
+            (result ≡ Some (position_cmp (text_at p) (position_at p) (text_at q) (position_at q)))
             (result ≡ None) }
     {
         let (position, other) = (*self, *other);

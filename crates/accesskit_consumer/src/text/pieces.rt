@@ -57,7 +57,8 @@ impl<'a> TextRange<'a> {
     pub(super) fn next_piece(self, run: Run<'a>) -> Option<Piece<'a>>
         requires same { root_of run ≡ self.root }
         requires reached { IsUpTo self run }
-        ensures { let left = pieces_past (text_in self.entry) (range_at self.entry) (number_in run.entry) in
+        ensures { let k = number_in run.entry in
+            let left = pieces_past (text_in self.entry) (range_at self.entry) k in
             MatchOption result (left ≡ []) (IsNextPiece self.entry left) }
     {
         if self.is_degenerate() {

@@ -36,8 +36,9 @@ impl<'a> TextRange<'a> {
         requires world { world_at (root_at second) ≡ world_at (root_at first) }
         requires root { id_at (root_at second) ≡ id_at (root_at first) }
         ensures range { let root = root_at first.entry in
-            let range = range_between (text_of root) (position_at first.entry) (position_at second.entry) in
-            IsRangeOf (world_at root) (id_at root) range result }
+            let p = position_at first.entry in
+            let q = position_at second.entry in
+            IsRangeOf (world_at root) (id_at root) (range_between (text_of root) p q) result }
     {
         if second.offset() < first.offset() {
             return TextRange::over(second, first);

@@ -185,9 +185,11 @@ impl TextRange<'_> {
         f: F,
     ) -> Result<Option<T>, AllocError>
         requires { F.IsAlwaysCallable f }
-        ensures passed { let passed = passed_texts (text_in self.now) (range_at self.now) in
-            IfOk result (λ answer. (last : F) × IsPassed F.FnMut (world_in self.now) passed f answer last) }
-        ensures refused { OnErr result (needs_masking (world_in self.now) (root_in self.now) ≡ true) }
+        ensures passed { let w = world_in self.now in
+            let passed = passed_texts (text_in self.now) (range_at self.now) in
+            IfOk result (λ answer. (last : F) × IsPassed F.FnMut w passed f answer last) }
+        ensures refused { let masked = needs_masking (world_in self.now) (root_in self.now) in
+            OnErr result (masked ≡ true) }
     {
         let range = *self;
         if !needs_masking(range.root) {

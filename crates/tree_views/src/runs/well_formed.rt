@@ -75,7 +75,8 @@ fn links_agree(a: Run<'_>, b: Run<'_>) -> bool
 
 /// Whether a first run and those after it are right, each by itself and beside the next one.
 fn are_fit(first: Run<'_>, tree: u32, password: bool) -> bool
-    ensures { result ≡ are_fit_from tree password 0 (sent_of first.entry) (sents_after first.entry) }
+    ensures { result ≡
+        are_fit_from tree password 0 (sent_of first.entry) (sents_after first.entry) }
 {
     let mut run = first;
     let mut size = 0usize;

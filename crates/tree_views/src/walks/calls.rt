@@ -41,7 +41,8 @@ impl<'a> NodeRef<'a> {
 
     /// The ids of the parent's earlier children, nearest first.
     pub fn preceding_sibling_ids(&self) -> PrecedingSiblings<'a>
-        ensures { preceding_ids_left result ≡ earlier_siblings (world_at self.now) (id_at self.now) }
+        ensures { let w = world_at self.now in
+            preceding_ids_left result ≡ earlier_siblings w (id_at self.now) }
     {
         PrecedingSiblings::new(*self)
     }
@@ -79,7 +80,8 @@ impl<'a> NodeRef<'a> {
         requires { F.IsAlwaysCallable filter }
         ensures filter { (children_walk.filter result).f ≡ filter }
         ensures begins { let w = world_at self.now in
-            Begins (FnReturnsAt F.Fn filter) children_walk w (λ f. shown_children f w (id_at self.now)) result }
+            Begins (FnReturnsAt F.Fn filter) children_walk w
+            (λ f. shown_children f w (id_at self.now)) result }
     {
         FilteredChildren::new(*self, ByFn { f: filter })
     }
@@ -93,7 +95,8 @@ impl<'a> NodeRef<'a> {
         requires { F.IsAlwaysCallable filter }
         ensures filter { (following_walk.filter result).f ≡ filter }
         ensures begins { let w = world_at self.now in
-            Begins (FnReturnsAt F.Fn filter) following_walk w (λ f. shown_after f w (id_at self.now)) result }
+            Begins (FnReturnsAt F.Fn filter) following_walk w
+            (λ f. shown_after f w (id_at self.now)) result }
     {
         FollowingFilteredSiblings::new(*self, ByFn { f: filter })
     }
@@ -106,7 +109,8 @@ impl<'a> NodeRef<'a> {
         requires { F.IsAlwaysCallable filter }
         ensures filter { (preceding_walk.filter result).f ≡ filter }
         ensures begins { let w = world_at self.now in
-            Begins (FnReturnsAt F.Fn filter) preceding_walk w (λ f. shown_before f w (id_at self.now)) result }
+            Begins (FnReturnsAt F.Fn filter) preceding_walk w
+            (λ f. shown_before f w (id_at self.now)) result }
     {
         PrecedingFilteredSiblings::new(*self, ByFn { f: filter })
     }
@@ -116,7 +120,8 @@ impl<'a> NodeRef<'a> {
         requires { F.IsAlwaysCallable filter }
         ensures filter { (items_walk.filter result).f ≡ filter }
         ensures begins { let w = world_at self.now in
-            Begins (FnReturnsAt F.Fn filter) items_walk w (λ f. items_of f w (id_at self.now)) result }
+            Begins (FnReturnsAt F.Fn filter) items_walk w
+            (λ f. items_of f w (id_at self.now)) result }
     {
         Items::new(*self, ByFn { f: filter })
     }

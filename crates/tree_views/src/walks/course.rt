@@ -49,7 +49,8 @@ impl<'a> Course<'a> {
     pub(crate) fn after<F: Filter>(node: NodeRef<'a>, filter: &F) -> Course<'a>
         requires { F.can_answer filter.now }
         ensures { let w = world_at node.entry in
-            Shows (F.answers filter.now) w (λ f. following_filtered_siblings f w (id_at node.entry)) result }
+            Shows (F.answers filter.now) w
+            (λ f. following_filtered_siblings f w (id_at node.entry)) result }
     {
         let member = Member {
             id: node.id,
@@ -73,7 +74,8 @@ impl<'a> Course<'a> {
     pub(crate) fn before<F: Filter>(node: NodeRef<'a>, filter: &F) -> Course<'a>
         requires { F.can_answer filter.now }
         ensures { let w = world_at node.entry in
-            Shows (F.answers filter.now) w (λ f. reverse (preceding_filtered_siblings f w (id_at node.entry))) result }
+            Shows (F.answers filter.now) w
+            (λ f. reverse (preceding_filtered_siblings f w (id_at node.entry))) result }
     {
         let member = Member {
             id: node.id,

@@ -34,7 +34,8 @@ impl<'a> NodeRef<'a> {
     /// The first child, its first child, and so on to a node without any.
     pub fn deepest_first_child(self) -> Option<NodeRef<'a>>
         ensures world { IfSome result (λ n. world_at n ≡ world_at self.entry) }
-        ensures node { option_map id_at result ≡ deepest_first (world_at self.entry) (id_at self.entry) }
+        ensures node { let w = world_at self.entry in
+            option_map id_at result ≡ deepest_first w (id_at self.entry) }
     {
         let state = self.state;
         state.know();
@@ -55,7 +56,8 @@ impl<'a> NodeRef<'a> {
     /// The last child, its last child, and so on to a node without any.
     pub fn deepest_last_child(self) -> Option<NodeRef<'a>>
         ensures world { IfSome result (λ n. world_at n ≡ world_at self.entry) }
-        ensures node { option_map id_at result ≡ deepest_last (world_at self.entry) (id_at self.entry) }
+        ensures node { let w = world_at self.entry in
+            option_map id_at result ≡ deepest_last w (id_at self.entry) }
     {
         let state = self.state;
         state.know();

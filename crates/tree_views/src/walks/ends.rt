@@ -69,7 +69,8 @@ pub(crate) fn preceding<'a, F: Filter>(
     ensures exact { let w = world_of state.entry in
         (f : FullNodeId → FilterResult) → Follows (F.answers filter.now) w f →
         MatchOption result (before_in f w top node.entry.member.id ≡ [])
-        (λ r. before_in f w top node.entry.member.id ≡ before_in f w top r.member.id ++ r.member.id ∷ []) }
+        (λ r. before_in f w top node.entry.member.id ≡
+        before_in f w top r.member.id ++ r.member.id ∷ []) }
 {
     state.know();
     previous_shown(state, top, node.parent, node.index, filter)
@@ -124,7 +125,8 @@ pub(crate) fn without_back<'a, F: Filter>(
         SpansEnds f w top ends.entry →
         MatchOption result (between_ends f w top ends.entry ≡ [] ++ ends.entry.back.member.id ∷ [])
         (λ e. SpansEnds f w top e ×
-        (between_ends f w top ends.entry ≡ between_ends f w top e ++ ends.entry.back.member.id ∷ [])) }
+        (between_ends f w top ends.entry ≡
+        between_ends f w top e ++ ends.entry.back.member.id ∷ [])) }
 {
     state.know();
     if is_same(ends.front.member.id, ends.back.member.id) {
@@ -151,7 +153,8 @@ pub(crate) fn all_ends<'a, F: Filter>(
     ensures exact { let w = world_of state.entry in
         (f : FullNodeId → FilterResult) → Follows (F.answers filter.now) w f →
         MatchOption result (filtered_children f w top.entry.id ≡ [])
-        (λ e. SpansEnds f w top.entry.id e × (between_ends f w top.entry.id e ≡ filtered_children f w top.entry.id)) }
+        (λ e. SpansEnds f w top.entry.id e ×
+        (between_ends f w top.entry.id e ≡ filtered_children f w top.entry.id)) }
 {
     state.know();
     let count = state.child_count(top);
@@ -204,7 +207,8 @@ pub(crate) fn following_ends<'a, F: Filter>(
     ensures exact { let w = world_of state.entry in
         (f : FullNodeId → FilterResult) → Follows (F.answers filter.now) w f →
         MatchOption result (following_filtered_siblings f w node.entry.id ≡ [])
-        (λ r. SpansEnds f w r.0 r.1 × (between_ends f w r.0 r.1 ≡ following_filtered_siblings f w node.entry.id)) }
+        (λ r. SpansEnds f w r.0 r.1 ×
+        (between_ends f w r.0 r.1 ≡ following_filtered_siblings f w node.entry.id)) }
 {
     state.know();
     let Some(spot) = state.spot(node) else {
@@ -235,7 +239,8 @@ pub(crate) fn preceding_ends<'a, F: Filter>(
     ensures exact { let w = world_of state.entry in
         (f : FullNodeId → FilterResult) → Follows (F.answers filter.now) w f →
         MatchOption result (preceding_filtered_siblings f w node.entry.id ≡ [])
-        (λ r. SpansEnds f w r.0 r.1 × (reverse (between_ends f w r.0 r.1) ≡ preceding_filtered_siblings f w node.entry.id)) }
+        (λ r. SpansEnds f w r.0 r.1 ×
+        (reverse (between_ends f w r.0 r.1) ≡ preceding_filtered_siblings f w node.entry.id)) }
 {
     state.know();
     let Some(spot) = state.spot(node) else {

@@ -24,7 +24,8 @@ impl<'a, F: Filter> FilteredChildren<'a, F> {
         requires { F.can_answer filter }
         ensures filter { result.filter ≡ filter }
         ensures begins { let w = world_at node.entry in
-            Begins (F.answers filter) children_walk w (λ f. filtered_children f w (id_at node.entry)) result }
+            Begins (F.answers filter) children_walk w
+            (λ f. filtered_children f w (id_at node.entry)) result }
     {
         FilteredChildren {
             course: Course::below(node, &filter),
@@ -71,7 +72,8 @@ impl<'a, F: Filter> FollowingFilteredSiblings<'a, F> {
         requires { F.can_answer filter }
         ensures filter { result.filter ≡ filter }
         ensures begins { let w = world_at node.entry in
-            Begins (F.answers filter) following_walk w (λ f. following_filtered_siblings f w (id_at node.entry)) result }
+            Begins (F.answers filter) following_walk w
+            (λ f. following_filtered_siblings f w (id_at node.entry)) result }
     {
         FollowingFilteredSiblings {
             course: Course::after(node, &filter),
@@ -118,7 +120,8 @@ impl<'a, F: Filter> PrecedingFilteredSiblings<'a, F> {
         requires { F.can_answer filter }
         ensures filter { result.filter ≡ filter }
         ensures begins { let w = world_at node.entry in
-            Begins (F.answers filter) preceding_walk w (λ f. preceding_filtered_siblings f w (id_at node.entry)) result }
+            Begins (F.answers filter) preceding_walk w
+            (λ f. preceding_filtered_siblings f w (id_at node.entry)) result }
     {
         PrecedingFilteredSiblings {
             course: Course::before(node, &filter),

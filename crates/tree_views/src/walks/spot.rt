@@ -83,10 +83,10 @@ impl<'a> StateRef<'a> {
     /// The child with this index at its place, where the node has so many.
     pub(crate) fn child(self, parent: Member<'a>, index: usize) -> Option<Spot<'a>>
         requires { IsMember (world_of self) parent }
-        ensures none { let place = (parent.entry.id, index) in
-            option_map (λ s. s.member.id) result ≡ child_at (world_of self.entry) place }
-        ensures there { let place = (parent.entry.id, index) in
-            IfSome result (λ s. IsSpot (world_of self.entry) s × (place_at s ≡ place)) }
+        ensures none { let w = world_of self.entry in
+            option_map (λ s. s.member.id) result ≡ child_at w (parent.entry.id, index) }
+        ensures there { let w = world_of self.entry in
+            IfSome result (λ s. IsSpot w s × (place_at s ≡ (parent.entry.id, index))) }
         ensures fits { IfSome result (λ _. index + 1 < 2 ^ 64) }
     {
         self.know();
@@ -103,7 +103,8 @@ impl<'a> StateRef<'a> {
     /// A node at its place, where it has one.
     pub(crate) fn spot(self, member: Member<'a>) -> Option<Spot<'a>>
         requires { IsMember (world_of self) member }
-        ensures place { option_map place_at result ≡ place_of (world_of self.entry) member.entry.id }
+        ensures place { let w = world_of self.entry in
+            option_map place_at result ≡ place_of w member.entry.id }
         ensures there { let w = world_of self.entry in
             IfSome result (λ s. IsSpot w s × (s.member.id ≡ member.entry.id)) }
         ensures fits { IfSome result (λ s. s.index + 1 < 2 ^ 64) }
@@ -142,7 +143,8 @@ impl<'a> Spot<'a> {
 
 /// The child that a node lists with this index, where it lists so many.
 fn listed_child(parent: Member<'_>, index: usize) -> Option<FullNodeId>
-    ensures is { result ≡ slice_get (map (in_tree parent.entry.id.tree) parent.entry.node.now.children) index }
+    ensures is { let ids = map (in_tree parent.entry.id.tree) parent.entry.node.now.children in
+        result ≡ slice_get ids index }
     ensures fits { IfSome result (λ _. index + 1 < 2 ^ 64) }
 {
     match parent.node.children().get(index) {

@@ -36,8 +36,9 @@ pub(crate) fn next_shown<'a, F: Filter>(
         IfSome result (λ r. work_after w top (above w r.member.id) < left) }
     ensures exact { let w = world_of state.entry in
         (f : FullNodeId → FilterResult) → Follows (F.answers filter.now) w f →
-        MatchOption result (left_at f w (is_same_id top) (start.entry.id, start_index) ≡ [])
-        (λ r. left_at f w (is_same_id top) (start.entry.id, start_index) ≡ r.member.id ∷ after_in f w top r.member.id) }
+        let shown = left_at f w (is_same_id top) (start.entry.id, start_index) in
+        MatchOption result (shown ≡ [])
+        (λ r. shown ≡ r.member.id ∷ after_in f w top r.member.id) }
 {
     state.know();
     let mut parent = start;
@@ -85,8 +86,9 @@ pub(crate) fn previous_shown<'a, F: Filter>(
         IfSome result (λ r. work_before w top (above w r.member.id) < left) }
     ensures exact { let w = world_of state.entry in
         (f : FullNodeId → FilterResult) → Follows (F.answers filter.now) w f →
-        MatchOption result (prior_at f w (is_same_id top) (start.entry.id, start_index) ≡ [])
-        (λ r. prior_at f w (is_same_id top) (start.entry.id, start_index) ≡ before_in f w top r.member.id ++ r.member.id ∷ []) }
+        let shown = prior_at f w (is_same_id top) (start.entry.id, start_index) in
+        MatchOption result (shown ≡ [])
+        (λ r. shown ≡ before_in f w top r.member.id ++ r.member.id ∷ []) }
 {
     state.know();
     let mut parent = start;
