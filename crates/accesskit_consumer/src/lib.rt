@@ -6,9 +6,7 @@ pub mod text;
 
 /// The filters that all callers share.
 pub mod filters {
-    pub use tree_views::filters::{
-        FilterResult, common_filter, common_filter_with_root_exception,
-    };
+    pub use tree_views::filters::{FilterResult, common_filter, common_filter_with_root_exception};
 }
 
 /// Nodes of a state, as they are read.

@@ -11,14 +11,14 @@ ghost use Rattle.accesskit_consumer.specs.Pieces.{piece_data};
 ghost use Rattle.accesskit_consumer.specs.Measures.{measures, shown_in, IsAlong};
 ghost use Rattle.accesskit_consumer.specs.Boxes.{box_of, cut_of, IsOnRun};
 
-use tree_views::node::geometry::ordered;
 use crate::text::metrics::{Metrics, metrics_of};
 use crate::text::pieces::Piece;
 use crate::text::points::direction_of;
 use crate::text::range::TextRange;
-use tree_views::runs::Run;
 use schema::{Rect, TextDirection, WideRect, WideTranslation};
 use std::alloc::{AllocError, Global};
+use tree_views::node::geometry::ordered;
+use tree_views::runs::Run;
 
 /// A number so far past an edge.
 fn past(edge: i32, reach: i128) -> i128

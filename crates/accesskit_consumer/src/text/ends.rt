@@ -5,8 +5,8 @@ ghost use Rattle.model.specs.FlatText.{document_start, document_end, biased_to_s
 ghost use Rattle.tree_views.specs.Nodes.{world_at, id_at};
 ghost use Rattle.accesskit_consumer.specs.Positions.{IsMoved, IsAt, text_of};
 
-use tree_views::node::NodeRef;
 use crate::text::position::TextPosition;
+use tree_views::node::NodeRef;
 use tree_views::runs::Run;
 
 /// The start of the node's text, which has text ranges.

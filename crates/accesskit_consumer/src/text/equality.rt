@@ -3,10 +3,10 @@ ghost use Rattle.std.specs.Prelude.{◌≡◌, ◌↔◌, IsTrue};
 ghost use Rattle.accesskit_consumer.specs.SamePositions.{end_of, key_of, same_text_position, same_text_position_laws, same_text_position_equivalence};
 ghost use Rattle.accesskit_consumer.specs.SameRanges.{ends_of, same_text_range, same_text_range_laws, same_text_range_equivalence};
 
-use tree_views::node::same::is_same;
 use crate::text::edges::Edge;
 use crate::text::position::TextPosition;
 use crate::text::range::TextRange;
+use tree_views::node::same::is_same;
 
 impl Edge<'_> {
     /// Whether both are at one index of one run.

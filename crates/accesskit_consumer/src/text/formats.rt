@@ -9,9 +9,9 @@ ghost use Rattle.tree_views.specs.Runs.{IsAfter};
 ghost use Rattle.accesskit_consumer.specs.RunNumbers.{number_in, text_around};
 ghost use Rattle.accesskit_consumer.specs.Positions.{IsMoved, text_at, position_at};
 
-use tree_views::node::NodeRef;
 use crate::text::looks::{Look, are_same};
 use crate::text::position::TextPosition;
+use tree_views::node::NodeRef;
 use tree_views::runs::Run;
 
 /// What makes up a format.

@@ -8,10 +8,10 @@ ghost use Rattle.tree_views.specs.Runs.{sent_of};
 ghost use Rattle.accesskit_consumer.specs.Positions.{root_at, text_of, text_at, position_at};
 ghost use Rattle.accesskit_consumer.specs.GlobalIndexes.{IsCut, unit_len, length_to, length_of};
 
+use crate::text::position::TextPosition;
 use tree_views::node::NodeRef;
 use tree_views::node::masking::scalar_count;
 use tree_views::node::run_texts::needs_masking;
-use crate::text::position::TextPosition;
 use tree_views::runs::Run;
 
 /// What an index counts.
@@ -145,7 +145,11 @@ impl TextPosition<'_> {
 }
 
 /// The position before the character in which an index of the whole text lies, or the end of the text.
-pub(super) fn position_from<'a>(root: NodeRef<'a>, units: Units, index: usize) -> Option<TextPosition<'a>>
+pub(super) fn position_from<'a>(
+    root: NodeRef<'a>,
+    units: Units,
+    index: usize,
+) -> Option<TextPosition<'a>>
     requires { supports_text_ranges (world_at root) (id_at root) ≡ true }
     ensures at { option_map position_at result ≡
         position_of (unit_len units) (text_of root.entry) index }

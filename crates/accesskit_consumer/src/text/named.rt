@@ -8,8 +8,8 @@ ghost use Rattle.accesskit_consumer.specs.RunNumbers.{number_in};
 ghost use Rattle.accesskit_consumer.specs.Positions.{text_of};
 ghost use Rattle.accesskit_consumer.specs.FoundRanges.{IsAtFound};
 
-use tree_views::node::NodeRef;
 use crate::text::position::TextPosition;
+use tree_views::node::NodeRef;
 use tree_views::runs::Run;
 
 /// Whether the run has this id in its tree.
@@ -40,7 +40,10 @@ fn run_named<'a>(root: NodeRef<'a>, raw: schema::TextPosition) -> Option<Run<'a>
 }
 
 /// The position of the node's text, which has text ranges, that is named: none past the end of its run.
-pub(super) fn position_named<'a>(root: NodeRef<'a>, raw: schema::TextPosition) -> Option<TextPosition<'a>>
+pub(super) fn position_named<'a>(
+    root: NodeRef<'a>,
+    raw: schema::TextPosition,
+) -> Option<TextPosition<'a>>
     requires { supports_text_ranges (world_at root) (id_at root) ≡ true }
     ensures { IsAtFound root.entry (position_named (text_of root.entry) raw) result }
 {
@@ -57,7 +60,10 @@ pub(super) fn position_named<'a>(root: NodeRef<'a>, raw: schema::TextPosition) -
 }
 
 /// The same, but past the end of its run that end.
-pub(super) fn nearest_named<'a>(root: NodeRef<'a>, raw: schema::TextPosition) -> Option<TextPosition<'a>>
+pub(super) fn nearest_named<'a>(
+    root: NodeRef<'a>,
+    raw: schema::TextPosition,
+) -> Option<TextPosition<'a>>
     requires { supports_text_ranges (world_at root) (id_at root) ≡ true }
     ensures { IsAtFound root.entry (nearest_named (text_of root.entry) raw) result }
 {

@@ -5,9 +5,9 @@ ghost use Rattle.model.specs.FlatText.{offset, position_cmp};
 ghost use Rattle.tree_views.specs.Nodes.{id_at};
 ghost use Rattle.accesskit_consumer.specs.Positions.{root_at, text_at, position_at};
 
-use tree_views::node::same::is_same;
 use crate::text::position::TextPosition;
 use std::cmp::Ordering;
+use tree_views::node::same::is_same;
 
 impl TextPosition<'_> {
     /// How many characters of the text are before the position.

@@ -6,8 +6,8 @@ ghost use Rattle.accesskit_consumer.specs.RunNumbers.{number_in};
 ghost use Rattle.accesskit_consumer.specs.TextRanges.{text_in, range_at};
 ghost use Rattle.accesskit_consumer.specs.Pieces.{IsNextPiece, IsUpTo, piece_data, pieces_past};
 
-use tree_views::node::same::is_same;
 use crate::text::range::TextRange;
+use tree_views::node::same::is_same;
 use tree_views::runs::Run;
 
 /// A part of one run: its characters from one index up to another.

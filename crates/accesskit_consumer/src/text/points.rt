@@ -14,14 +14,14 @@ ghost use Rattle.accesskit_consumer.specs.Measures.{shown_in};
 ghost use Rattle.accesskit_consumer.specs.declared.text.points.PointTest.TheVariants.{Inside};
 ghost use Rattle.accesskit_consumer.specs.PointTests.{passes, last_passing, IsSeen};
 
-use tree_views::node::NodeRef;
-use tree_views::node::geometry::{moved_rect, ordered};
 use crate::text::ends::document_end;
 use crate::text::metrics::{is_between, metrics_of};
 use crate::text::position::TextPosition;
+use schema::{Point, Rect, TextDirection, WideRect, WideTranslation};
+use tree_views::node::NodeRef;
+use tree_views::node::geometry::{moved_rect, ordered};
 use tree_views::runs::Run;
 use tree_views::walks::hits::{Seen, contains};
-use schema::{Point, Rect, TextDirection, WideRect, WideTranslation};
 
 /// What a point is to a run: in its own rectangle, or beside its box, on the side where its text ends.
 #[derive(Clone, Copy)]

@@ -5,11 +5,11 @@ ghost use Rattle.model.specs.Ranges.{IsRaw};
 ghost use Rattle.tree_views.specs.Nodes.{world_at, id_at};
 ghost use Rattle.accesskit_consumer.specs.Positions.{root_at, text_at, position_at};
 
-use tree_views::node::NodeRef;
 use crate::text::boundaries::{
     begins_line, begins_paragraph, ends_line, ends_paragraph, is_first, is_last,
 };
 use crate::text::position::TextPosition;
+use tree_views::node::NodeRef;
 
 impl<'a> TextPosition<'a> {
     /// The run that the position names.

@@ -6,8 +6,8 @@ ghost use Rattle.accesskit_consumer.specs.TextRoots.{HasText, HasText-prop};
 ghost use Rattle.tree_views.specs.RunPlaces.{IsRunPlace, IsRunPlace-prop};
 ghost use Rattle.accesskit_consumer.specs.Edges.{edge_run, edge_offset};
 
-use tree_views::node::NodeRef;
 use crate::text::edges::Edge;
+use tree_views::node::NodeRef;
 
 /// A range of a text: from one position up to another.
 #[derive(Clone, Copy)]

@@ -7,10 +7,10 @@ ghost use Rattle.tree_views.specs.Nodes.{world_at, id_at};
 ghost use Rattle.accesskit_consumer.specs.Positions.{IsAt, root_at, text_of, text_at, position_at};
 ghost use Rattle.accesskit_consumer.specs.TextRanges.{IsRangeOf, world_in, root_in, text_in, range_at};
 
-use tree_views::node::NodeRef;
-use tree_views::node::same::is_same;
 use crate::text::position::TextPosition;
 use crate::text::range::TextRange;
+use tree_views::node::NodeRef;
+use tree_views::node::same::is_same;
 use tree_views::runs::Run;
 
 impl<'a> TextRange<'a> {
@@ -142,7 +142,6 @@ impl<'a> TextRange<'a> {
         }
     }
 }
-
 
 impl<'a> TextPosition<'a> {
     /// The range from the position to itself.

@@ -2,10 +2,10 @@
 ghost use Rattle.std.specs.Prelude.{◌≡◌, MatchOption, option_copied};
 ghost use Rattle.accesskit_consumer.specs.RangeProperties.{SomeDiffer, IsSample, IsInherited, IsItalic, TakesValue, MapsValue};
 
-use tree_views::node::NodeRef;
 use crate::text::looks::{Look, are_same};
 use crate::text::range::TextRange;
 use schema::{Color, TextAlign, TextDecoration, TextDirection, VerticalOffset};
+use tree_views::node::NodeRef;
 
 /// What a range says of its runs: one value that all of them have, or that they have several.
 #[derive(PartialEq, Drop)]

@@ -10,13 +10,13 @@ ghost use Rattle.accesskit_consumer.specs.Passes.{longest, IsEnough, IsPassed};
 ghost use Rattle.accesskit_consumer.specs.PieceTexts.{are_cut_off, left_by, IsPart, sent_part, shown_part};
 ghost use Rattle.tree_views.specs.Writes.{IsWritten, IsCutShort};
 
-use tree_views::node::NodeRef;
-use tree_views::node::masking::write_bullets;
-use tree_views::node::run_texts::needs_masking;
 use crate::text::pieces::Piece;
 use crate::text::range::TextRange;
 use schema::{TextBuffer, TextFault, TextWrite};
 use std::alloc::{AllocError, Global};
+use tree_views::node::NodeRef;
+use tree_views::node::masking::write_bullets;
+use tree_views::node::run_texts::needs_masking;
 
 /// What is left of a text past the characters that the lengths cut off its beginning.
 fn past<'a>(text: &'a str, lengths: &[u16]) -> &'a str

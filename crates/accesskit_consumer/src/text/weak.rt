@@ -9,14 +9,15 @@ ghost use Rattle.accesskit_consumer.specs.TextRanges.{world_in, root_in, range_a
 ghost use Rattle.accesskit_consumer.specs.FoundRanges.{IsRangeFound};
 ghost use Rattle.accesskit_consumer.specs.WeakRanges.{kept_of, same_weak, same_weak_laws, same_weak_equivalence};
 
-use tree_views::node::NodeRef;
-use tree_views::node::same::is_same;
+use crate::text::named::position_named;
 use crate::text::position::TextPosition;
 use crate::text::range::TextRange;
-use tree_views::tree::StateRef;
 use model::FullNodeId;
 use std::alloc::{AllocError, Global};
 use std::marker::Model;
+use tree_views::node::NodeRef;
+use tree_views::node::same::is_same;
+use tree_views::tree::StateRef;
 
 /// A range of a text without the state: it can be kept, compared, and looked for in a later state.
 #[derive(Drop)]
