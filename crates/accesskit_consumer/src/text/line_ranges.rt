@@ -19,8 +19,9 @@ pub(super) fn range_to<'a>(first: Run<'a>, last: Run<'a>) -> TextRange<'a>
     requires text { supports_text_ranges (run_world first) (root_id first) ≡ true }
     requires same { root_of last ≡ root_of first }
     requires order { number_in first ≤ number_in last }
-    ensures { IsRangeOf (run_world first.entry) (root_id first.entry)
-        (record { start = start_at (number_in first.entry); end = end_at (text_around first.entry) (number_in last.entry) }) result }
+    ensures { let start = start_at (number_in first.entry) in
+        let end = end_at (text_around first.entry) (number_in last.entry) in
+        IsRangeOf (run_world first.entry) (root_id first.entry) (record { start = start; end = end }) result }
 {
     let start = TextPosition {
         run: first,

@@ -172,7 +172,8 @@ impl<'a> TextRoot<'a> for NodeRef<'a> {
     }
 
     fn text_selection_anchor(&self) -> Option<TextPosition<'a>>
-        ensures { IsAtFound self.now (selection_anchor (world_at self.now) (id_at self.now)) result }
+        ensures { let anchor = selection_anchor (world_at self.now) (id_at self.now) in
+            IsAtFound self.now anchor result }
     {
         let node = *self;
         let Some(selection) = selection_sent(node) else {
@@ -182,7 +183,8 @@ impl<'a> TextRoot<'a> for NodeRef<'a> {
     }
 
     fn text_selection_focus(&self) -> Option<TextPosition<'a>>
-        ensures { IsAtFound self.now (selection_focus (world_at self.now) (id_at self.now)) result }
+        ensures { let focus = selection_focus (world_at self.now) (id_at self.now) in
+            IsAtFound self.now focus result }
     {
         let node = *self;
         let Some(selection) = selection_sent(node) else {

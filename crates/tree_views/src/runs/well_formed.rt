@@ -7,8 +7,8 @@ ghost use Rattle.tree_views.specs.Runs.{sent_of, sents_after};
 ghost use Rattle.tree_views.specs.WellFormed.{is_fit as is_fit_run, are_fit_from};
 
 use crate::node::NodeRef;
-use crate::runs::parts::{is_cut_by, rise_below};
 use crate::runs::Run;
+use crate::runs::parts::{is_cut_by, rise_below};
 use schema::NodeId;
 
 /// Whether so many numbers are enough for the characters: one for each, or of a password one at least.
