@@ -1,6 +1,5 @@
-use Rattle.std.proofs.Common.{◌∙◌, sym, subst}
+use Rattle.std.proofs.Common.{◌∙◌, sym}
 use Rattle.accesskit_consumer.specs.Nodes.{world_at, id_at}
-use Rattle.accesskit_consumer.specs.FocusedOne.{IsFocusedOne, is_passed}
 use Rattle.accesskit_consumer.proofs.Filtering.{passed_as, base_finds, base_goes_on, parent_is_seen}
 use Rattle.accesskit_consumer.proofs.filters.shown_parent.Goals as goal
 

@@ -1,7 +1,5 @@
-use Rattle.std.proofs.Common.{◌≡◌, length}
-use Rattle.std.specs.Prelude.{IfSome}
+use Rattle.std.proofs.Common.{length}
 use Rattle.accesskit_consumer.specs.Nodes.{world_at, id_at}
-use Rattle.accesskit_consumer.specs.Runs.{root_of}
 use Rattle.accesskit_consumer.specs.RunTexts.{shown_text, shown_of_all, sents_from}
 use Rattle.accesskit_consumer.specs.Writes.{IsUnderWay}
 use Rattle.accesskit_consumer.proofs.node.run_texts.write_runs.Given as goal

@@ -1,10 +1,10 @@
-use Rattle.std.proofs.Common.{◌≡◌, sym, ◌∙◌, ap, subst, true, false, ◌||◌, Bool, refl}
+use Rattle.std.proofs.Common.{◌≡◌, ◌∙◌, ap, subst, true, false, ◌||◌, Bool, refl}
 use Rattle.model.specs.World.{StandsAt}
 use Rattle.model.specs.Forest.{is_same as is_same_id}
 use Rattle.model.specs.Covers.{cover as cover_of}
 use Rattle.model.specs.Beside.{cover_through, is_below}
 use Rattle.model.proofs.Walks.Between.{above_is_below}
-use Rattle.model.proofs.Walks.Siblings.{cover_is_of_parent, cover_of_root}
+use Rattle.model.proofs.Walks.Siblings.{cover_is_of_parent}
 use Rattle.accesskit_consumer.specs.Views.{world_of}
 use Rattle.accesskit_consumer.specs.Spots.{place_at}
 use Rattle.accesskit_consumer.proofs.Following.{says_of}
