@@ -16,7 +16,6 @@ use Rattle.tree_views.specs.Nodes.{world_at, id_at}
 use Rattle.tree_views.specs.Runs.{run_world, root_of, run_id, run_of, sent_of, ids_after, ids_before, IsAfter, IsBefore}
 use Rattle.accesskit_consumer.specs.RunNumbers.{number_in, text_around}
 use Rattle.accesskit_consumer.specs.Positions.{text_of}
-use Rattle.accesskit_consumer.specs.declared.text.looks.Look.{Look}
 use Rattle.accesskit_consumer.specs.declared.text.looks.Look.TheVariants.{Direction}
 use Rattle.accesskit_consumer.specs.declared.text.formats.TheConstants.{FORMAT}
 use Rattle.accesskit_consumer.specs.Looks.{AreSame}

@@ -1,5 +1,5 @@
 -- What the runs of a range have in common, piece by piece.
-use Rattle.std.proofs.Common.{◌≡◌, ℕ, zero, suc, ◌<◌, Bool, true, false, List, [], ◌∷◌, length, Some, refl, sym, ap, subst, ◌∙◌, arith}
+use Rattle.std.proofs.Common.{◌≡◌, suc, Bool, true, false, List, [], ◌∷◌, Some, refl, sym, ap, subst, ◌∙◌, arith}
 use Rattle.std.specs.Prelude.{◌↔◌, All, Contains, option_map, filter_map, slice_get}
 use Rattle.std.specs.List.{cons_option}
 use Rattle.std.proofs.lemmas.List.Elements.{All-cons}
@@ -8,7 +8,6 @@ use Rattle.model.specs.TextRuns.{SentRun}
 use Rattle.model.specs.FlatText.{FlatText, ShownRun}
 use Rattle.model.specs.Ranges.{Piece as PieceData, pieces, passed_runs}
 use Rattle.tree_views.specs.declared.node.node_ref.NodeRef.{NodeRef}
-use Rattle.tree_views.specs.declared.runs.Run.{Run}
 use Rattle.accesskit_consumer.specs.declared.text.range.TextRange.{TextRange}
 use Rattle.accesskit_consumer.specs.declared.text.pieces.Piece.{Piece}
 use Rattle.accesskit_consumer.specs.declared.text.looks.Look.{Look}
@@ -17,7 +16,7 @@ use Rattle.tree_views.specs.Runs.{root_of, run_id, run_of, sent_of}
 use Rattle.accesskit_consumer.specs.Positions.{text_of as text_under}
 use Rattle.accesskit_consumer.specs.RunNumbers.{number_in}
 use Rattle.accesskit_consumer.specs.TextRanges.{world_in, text_in, range_at}
-use Rattle.accesskit_consumer.specs.Pieces.{piece_data, pieces_past, IsNextPiece}
+use Rattle.accesskit_consumer.specs.Pieces.{pieces_past, IsNextPiece}
 use Rattle.accesskit_consumer.specs.Looks.{AreSame}
 use Rattle.accesskit_consumer.specs.RangeProperties.{SomeDiffer}
 use Rattle.tree_views.proofs.Focusing.{is_not}

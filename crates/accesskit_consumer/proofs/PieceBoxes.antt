@@ -1,15 +1,13 @@
 -- The boxes of pieces, one after another.
-use Rattle.std.proofs.Common.{◌≡◌, ℕ, List, [], ◌∷◌, ◌++◌, map, length, refl, sym, ap, ◌∙◌, append_assoc, append-nil}
+use Rattle.std.proofs.Common.{◌≡◌, ℕ, List, [], ◌∷◌, ◌++◌, map, refl, sym, ap, ◌∙◌, append_assoc, append-nil}
 use Rattle.std.specs.Prelude.{ℤ, Option, Some, None, option_map, option_and_then, unwrap_or}
 use Rattle.schema.specs.declared.geometry.Rect.{Rect}
 use Rattle.schema.specs.declared.geometry.WideRect.{WideRect}
 use Rattle.schema.specs.declared.values.TextDirection.{TextDirection}
 use Rattle.model.specs.Geometry.{moved_rect, ordered_rect}
 use Rattle.model.specs.TextRuns.{said_count}
-use Rattle.model.specs.FlatText.{FlatText, ShownRun, Metrics, count}
-use Rattle.model.specs.Ranges.{Range, Piece as PieceData, pieces, piece_rect, piece_box, all_given, bounding_boxes}
-use Rattle.tree_views.specs.declared.node.node_ref.NodeRef.{NodeRef}
-use Rattle.tree_views.specs.declared.runs.Run.{Run}
+use Rattle.model.specs.FlatText.{ShownRun, Metrics, count}
+use Rattle.model.specs.Ranges.{Piece as PieceData, pieces, piece_rect, piece_box, all_given, bounding_boxes}
 use Rattle.accesskit_consumer.specs.declared.text.range.TextRange.{TextRange}
 use Rattle.accesskit_consumer.specs.declared.text.pieces.Piece.{Piece}
 use Rattle.tree_views.specs.Runs.{root_of, sent_of}

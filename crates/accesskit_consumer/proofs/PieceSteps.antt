@@ -3,15 +3,14 @@ use Rattle.std.proofs.Common.{◌≡◌, ℕ, zero, suc, Bool, true, List, [], �
 use Rattle.std.specs.Prelude.{slice_get}
 use Rattle.std.specs.List.{flat_map}
 use Rattle.std.proofs.lemmas.Option.{none-some, same_Some}
-use Rattle.model.specs.TextRuns.{SentRun, sent_run, sent_runs, run_ids, run_value, is_cut_by, are_cut}
+use Rattle.model.specs.TextRuns.{SentRun, sent_runs, run_value, is_cut_by, are_cut}
 use Rattle.model.specs.FlatText.{needs_masking}
-use Rattle.model.specs.Ranges.{Piece as PieceData, piece_text, pieces, text_of}
+use Rattle.model.specs.Ranges.{Piece as PieceData, piece_text}
 use Rattle.model.proofs.Text.TextFacts.{both, is_text}
-use Rattle.tree_views.specs.declared.runs.Run.{Run}
 use Rattle.accesskit_consumer.specs.declared.text.range.TextRange.{TextRange}
 use Rattle.accesskit_consumer.specs.declared.text.pieces.Piece.{Piece}
 use Rattle.tree_views.specs.Nodes.{world_at, id_at}
-use Rattle.tree_views.specs.Runs.{root_of, run_world, root_id, sent_of, ids_before, ids_after}
+use Rattle.tree_views.specs.Runs.{run_world, root_id, sent_of}
 use Rattle.accesskit_consumer.specs.Positions.{text_of as text_under}
 use Rattle.accesskit_consumer.specs.RunNumbers.{number_in}
 use Rattle.accesskit_consumer.specs.TextRanges.{text_in, range_at}

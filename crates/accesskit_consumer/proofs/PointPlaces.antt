@@ -1,12 +1,12 @@
 -- The position of a text at a point, case by case, and the runs that are looked at.
-use Rattle.std.proofs.Common.{◌≡◌, ℕ, zero, suc, ◌+◌, ◌<◌, ◌≤◌, Bool, true, false, cond, List, [], ◌∷◌, length, map, Option, Some, None, refl, sym, ap, subst, ◌∙◌, arith}
-use Rattle.std.specs.Prelude.{ℤ, ◌&&◌, slice_get, option_map, option_and_then, unwrap_or, if◌then◌else◌}
+use Rattle.std.proofs.Common.{◌≡◌, ℕ, zero, suc, ◌+◌, ◌<◌, ◌≤◌, Bool, true, false, cond, List, [], ◌∷◌, length, map, Option, Some, None, sym, ap, ◌∙◌, arith}
+use Rattle.std.specs.Prelude.{ℤ, slice_get, option_map, option_and_then, unwrap_or, if◌then◌else◌}
 use Rattle.std.specs.Option.{option_map_or, option_or}
 use Rattle.std.specs.List.{list_all}
 use Rattle.std.proofs.lemmas.Bool.{leb-true}
 use Rattle.std.proofs.lemmas.Option.{slice_get_within, same_Some}
 use Rattle.schema.specs.declared.geometry.Point.{Point}
-use Rattle.model.specs.TextRuns.{SentRun, sent_run, sent_runs, run_ids, said_count, is_password, is_measured, is_enough, are_measured, supports_text_ranges}
+use Rattle.model.specs.TextRuns.{SentRun, sent_run, sent_runs, run_ids, said_count, is_password, is_measured, is_enough, supports_text_ranges}
 use Rattle.model.specs.FlatText.{FlatText, ShownRun, Metrics, shown_character, needs_masking, shown_run, flat_text, count, Position, end_at, document_start, document_end, last_run, run_has}
 use Rattle.model.specs.Points.{is_in_run, is_ahead_of, is_past, index_at, position_at_point}
 use Rattle.model.proofs.Text.TextFacts.{both, is_text}
@@ -17,7 +17,7 @@ use Rattle.accesskit_consumer.specs.declared.text.points.PointTest.{PointTest}
 use Rattle.accesskit_consumer.specs.declared.text.points.PointTest.TheVariants.{Inside, Past}
 use Rattle.tree_views.specs.Nodes.{world_at, id_at}
 use Rattle.tree_views.specs.Runs.{root_of, run_world, root_id, sent_of, ids_after, ids_before, IsFirstOf, IsBefore}
-use Rattle.accesskit_consumer.specs.RunNumbers.{number_in, text_around}
+use Rattle.accesskit_consumer.specs.RunNumbers.{number_in}
 use Rattle.accesskit_consumer.specs.Positions.{text_of}
 use Rattle.accesskit_consumer.specs.Measures.{shown_in}
 use Rattle.accesskit_consumer.specs.PointTests.{passes, last_passing}

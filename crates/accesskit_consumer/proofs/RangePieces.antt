@@ -1,14 +1,13 @@
 -- The pieces of a range, one after another, and when it has nothing in it.
-use Rattle.std.proofs.Common.{◌≡◌, ℕ, suc, ◌+◌, ◌-◌, ◌<◌, ◌≤◌, Bool, true, false, [], ◌∷◌, length, map, Some, refl, sym, ap, ◌∙◌, arith, eq-eqb}
-use Rattle.std.specs.Prelude.{◌==◌, nat_lt, if◌then◌else◌, slice_get}
+use Rattle.std.proofs.Common.{◌≡◌, ℕ, suc, ◌+◌, ◌-◌, ◌<◌, ◌≤◌, Bool, true, false, [], ◌∷◌, map, refl, sym, ap, ◌∙◌, arith}
+use Rattle.std.specs.Prelude.{◌==◌, nat_lt, if◌then◌else◌}
 use Rattle.std.specs.List.{range_with_len}
 use Rattle.std.proofs.lemmas.Bool.{eqb-true, eqb-false, ltb-true, ltb-false}
-use Rattle.model.specs.TextRuns.{said_count}
 use Rattle.model.specs.FlatText.{FlatText, count_in, start_of, Position, IsPosition, offset, biased_to_start, biased_to_end, start_side}
 use Rattle.model.specs.Ranges.{Range, is_degenerate, piece_in, caret_piece, visited_runs, pieces}
 use Rattle.model.specs.TextLaws.{IsWhole}
 use Rattle.model.proofs.Text.TextFacts.{start_next, start_bias, end_bias}
-use Rattle.model.proofs.Text.Sides.{start_rises, start_bias_side, end_bias_side, start_side_of_bias}
+use Rattle.model.proofs.Text.Sides.{start_rises, end_bias_side, start_side_of_bias}
 use Rattle.accesskit_consumer.specs.Pieces.{pieces_past}
 
 -- ---- whether there is something in a range

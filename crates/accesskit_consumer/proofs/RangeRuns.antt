@@ -1,11 +1,11 @@
 -- The ends of a range as positions, and the runs that they name.
-use Rattle.std.proofs.Common.{◌≡◌, ◌≢◌, ℕ, ◌+◌, ◌<◌, ◌≤◌, Bool, true, false, List, [], ◌∷◌, length, Some, refl, sym, ap, subst, ◌∙◌, arith, eq-eqb}
-use Rattle.std.specs.Prelude.{◌==◌, ◌↔◌, IsTrue, slice_get}
+use Rattle.std.proofs.Common.{◌≡◌, ◌≢◌, ℕ, ◌+◌, ◌<◌, Bool, true, false, List, [], ◌∷◌, length, refl, sym, ap, subst, ◌∙◌, arith, eq-eqb}
+use Rattle.std.specs.Prelude.{◌==◌, ◌↔◌, slice_get}
 use Rattle.std.proofs.lemmas.Bool.{eqb-true}
 use Rattle.std.proofs.lemmas.Option.{same_Some}
 use Rattle.model.specs.declared.FullNodeId.{FullNodeId}
 use Rattle.model.specs.TextRuns.{run_ids, said_count}
-use Rattle.model.specs.FlatText.{FlatText, Position, IsPosition, count_in, offset, biased_to_start, biased_to_end}
+use Rattle.model.specs.FlatText.{Position, IsPosition, count_in, biased_to_start, biased_to_end}
 use Rattle.model.specs.Ranges.{Piece as PieceData, is_degenerate, piece_in, pieces}
 use Rattle.model.specs.TextLaws.{IsWhole}
 use Rattle.tree_views.specs.declared.runs.Run.{Run}

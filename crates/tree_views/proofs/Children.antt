@@ -1,13 +1,13 @@
 -- What the children of a node are, by its data.
 use Rattle.std.proofs.Common.{◌≡◌, ◌<◌, ◌≤◌, ◌⊎◌, length, get_or, inl, inr, refl, sym, ◌∙◌, ap}
-use Rattle.std.specs.Prelude.{List, [], Option, Some, None, map, slice_get, option_and_then}
+use Rattle.std.specs.Prelude.{List, [], Option, Some, None, map, option_and_then}
 use Rattle.std.specs.Option.{option_map_or}
 use Rattle.std.proofs.lemmas.List.{length-map}
 use Rattle.std.proofs.lemmas.Option.{none-some, slice_get_cases}
 use Rattle.schema.specs.NodeData.{NodeData}
 use Rattle.schema.specs.declared.TreeId.{TreeId}
 use Rattle.model.specs.declared.FullNodeId.{FullNodeId}
-use Rattle.model.specs.World.{World, Place, HasData, children, child_at, data_of, in_tree, at_most_one, root_named}
+use Rattle.model.specs.World.{World, Place, HasData, children, child_at, in_tree, at_most_one, root_named}
 
 -- what a node of this data has as children
 abbrev children_by : World → FullNodeId → NodeData → Option TreeId → List FullNodeId

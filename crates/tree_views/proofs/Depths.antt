@@ -1,14 +1,12 @@
 -- How deep a node lies, and the way down to the deepest.
-use Rattle.std.proofs.Common.{◌≡◌, ℕ, ◌+◌, ◌-◌, ◌<◌, ◌≤◌, true, List, [], ◌∷◌, ◌++◌, length, suc, zero, refl, sym, ◌∙◌, ap, arith, length-append, inl, inr}
+use Rattle.std.proofs.Common.{◌≡◌, ℕ, ◌-◌, ◌<◌, ◌≤◌, true, List, [], ◌∷◌, ◌++◌, length, suc, zero, refl, sym, ◌∙◌, ap, arith, length-append, inl, inr}
 use Rattle.std.specs.Prelude.{Option, Some, None, IfSome, MatchOption, slice_get, unwrap_or, option_map}
 use Rattle.std.specs.FinMap.{len}
 use Rattle.model.specs.declared.FullNodeId.{FullNodeId}
 use Rattle.model.specs.declared.filters.FilterResult.{FilterResult}
 use Rattle.model.specs.World.{World, Place, StandsAt}
 use Rattle.model.specs.Forest.{place_of, above, places_up, chain, IsFormed, is_same}
-use Rattle.model.specs.Lists.{IsWithin}
 use Rattle.model.specs.Paths.{depth}
-use Rattle.model.specs.Upward.{is_within}
 use Rattle.model.specs.Beside.{is_below}
 use Rattle.model.proofs.Forest.Grown.{depth_child}
 use Rattle.model.proofs.Forest.Climbs.{within_deeper}

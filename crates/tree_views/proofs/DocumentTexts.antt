@@ -1,6 +1,6 @@
 -- The text of a document is what is shown of its runs.
-use Rattle.std.proofs.Common.{◌≡◌, ℕ, zero, suc, ◌+◌, ◌-◌, ◌<◌, ◌≤◌, Bool, true, false, List, [], ◌∷◌, ◌++◌, length, take, drop, map, refl, sym, ap, ◌∙◌, arith}
-use Rattle.std.specs.Prelude.{nat_lt, nat_le, not, bytes_eq, ◌&&◌, if◌then◌else◌, sum_by, slice_range}
+use Rattle.std.proofs.Common.{◌≡◌, ℕ, ◌+◌, ◌-◌, ◌<◌, Bool, true, false, List, [], ◌∷◌, ◌++◌, length, take, drop, map, refl, sym, ap, ◌∙◌, arith}
+use Rattle.std.specs.Prelude.{nat_lt, nat_le, not, bytes_eq, ◌&&◌, slice_range}
 use Rattle.std.specs.Option.{option_map_or}
 use Rattle.std.specs.List.{flat_map, concat}
 use Rattle.std.specs.Str.{is_utf8}
@@ -11,8 +11,8 @@ use Rattle.schema.specs.NodeData.{NodeData}
 use Rattle.model.specs.declared.FullNodeId.{FullNodeId}
 use Rattle.model.specs.World.{World}
 use Rattle.model.specs.RoleClasses.{is_password_input}
-use Rattle.model.specs.TextRuns.{SentRun, sent_characters, IsText, sent_runs, is_password, run_value, is_cut_by, cut_by, are_cut, supports_text_ranges}
-use Rattle.model.specs.FlatText.{FlatText, are_alike, shown_character, needs_masking, shown_run, flat_text, characters, start_of, offset, document_start, document_end}
+use Rattle.model.specs.TextRuns.{SentRun, sent_characters, sent_runs, is_password, run_value, is_cut_by, cut_by, are_cut, supports_text_ranges}
+use Rattle.model.specs.FlatText.{FlatText, are_alike, shown_character, needs_masking, shown_run, flat_text, characters, start_of, offset, document_end}
 use Rattle.model.specs.Ranges.{document_range, text_of}
 use Rattle.model.specs.Values.{bullets, document_text}
 use Rattle.model.specs.TextLaws.{IsWhole}

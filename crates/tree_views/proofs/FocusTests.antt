@@ -1,5 +1,5 @@
 -- What the tests of code say of the focus.
-use Rattle.std.proofs.Common.{◌≡◌, Bool, true, false, cond, ◌&&◌, Option, Some, None, refl, sym, ap, subst, ◌∙◌}
+use Rattle.std.proofs.Common.{◌≡◌, Bool, true, false, cond, ◌&&◌, Option, Some, None, refl, sym, ap, ◌∙◌}
 use Rattle.std.specs.Prelude.{is_none, IsTrue, ◌↔◌, ◌≢◌}
 use Rattle.std.specs.Option.{option_map, option_map_or}
 use Rattle.model.specs.declared.FullNodeId.{FullNodeId}

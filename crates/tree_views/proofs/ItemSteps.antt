@@ -1,5 +1,5 @@
 -- Walks over items are walks by the filter of items.
-use Rattle.std.proofs.Common.{◌≡◌, Bool, false, not, cond, ◌&&◌, List, [], ◌∷◌, ◌++◌, sym, ◌∙◌, ap, subst}
+use Rattle.std.proofs.Common.{◌≡◌, false, not, cond, ◌&&◌, List, [], ◌∷◌, ◌++◌, sym, ◌∙◌, ap, subst}
 use Rattle.std.specs.Prelude.{Option, Some, MatchOption}
 use Rattle.std.specs.Option.{option_map_or}
 use Rattle.model.specs.declared.FullNodeId.{FullNodeId}
@@ -11,7 +11,7 @@ use Rattle.model.specs.Covers.{is_included}
 use Rattle.model.specs.Views.{item_filter}
 use Rattle.tree_views.specs.declared.node.node_ref.NodeRef.{NodeRef}
 use Rattle.tree_views.specs.declared.walks.course.Course.{Course}
-use Rattle.tree_views.specs.Nodes.{world_at, id_at, data_at}
+use Rattle.tree_views.specs.Nodes.{id_at, data_at}
 use Rattle.tree_views.specs.Follows.{Follows}
 use Rattle.tree_views.specs.ItemAnswers.{item_answer, AnswersItems}
 use Rattle.tree_views.specs.Walks.{walked_world, IsOnCourse, ids_left, TakesFront, TakesBack}

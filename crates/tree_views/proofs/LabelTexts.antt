@@ -1,6 +1,6 @@
 -- A label is written part by part.
 use Rattle.std.proofs.Common.{◌≡◌, ℕ, Bool, true, false, cond, List, [], ◌∷◌, ◌++◌, map, refl, sym, ap, ◌∙◌, append-nil}
-use Rattle.std.specs.Prelude.{Option, Some, None, is_some, unwrap_or, option_map, filter_map, ◌||◌}
+use Rattle.std.specs.Prelude.{Option, Some, None, is_some, unwrap_or, filter_map, ◌||◌}
 use Rattle.std.specs.Option.{option_or, option_map_or, option_and_then}
 use Rattle.std.specs.List.{flat_map, join_with_byte, cons_option}
 use Rattle.schema.specs.NodeData.{NodeData}

@@ -1,7 +1,7 @@
 -- What a mirror keeps follows what its maps have.
 use Rattle.std.proofs.Common.{◌≡◌, List, [], ◌∷◌, Bool, true, false, cond, Option, Some, None, refl, sym, ap, subst, ◌∙◌}
 use Rattle.std.specs.Option.{option_map}
-use Rattle.std.specs.FinMap.{FinMap, get, insert, remove, get-empty, get-insert, get-remove, same_map}
+use Rattle.std.specs.FinMap.{get, insert, remove, get-empty, get-insert, get-remove, same_map}
 use Rattle.std.specs.Cmp.{eq_by_cmp_equiv}
 use Rattle.std.specs.BTreeMap.{BTreeMap, is_at}
 use Rattle.model.specs.declared.FullNodeId.{FullNodeId}
@@ -9,7 +9,7 @@ use Rattle.model.specs.FullIds.{full_cmp, full_total, exact_full}
 use Rattle.model.specs.Forest.{is_same}
 use Rattle.model.specs.World.{World}
 use Rattle.model.specs.Focus.{IsFocus}
-use Rattle.model.specs.Mirror.{Mirrored, IsRecordOf, AreRecordsOf}
+use Rattle.model.specs.Mirror.{IsRecordOf, AreRecordsOf}
 use Rattle.tree_store.specs.declared.copies.MirrorRecord.{MirrorRecord}
 use Rattle.tree_store.specs.Copied.{copy_at, IsCopyOf}
 use Rattle.tree_views.proofs.Showing.{place_known}

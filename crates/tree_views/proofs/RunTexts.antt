@@ -1,15 +1,14 @@
 -- The text of runs, one after another.
-use Rattle.std.proofs.Common.{◌≡◌, ℕ, Bool, true, false, List, [], ◌∷◌, ◌++◌, map, refl, sym, ap, ◌∙◌, eq-eqb}
-use Rattle.std.specs.Prelude.{Option, Some, None, IfSome, MatchOption, ◌&&◌, slice_get, unwrap_or, bytes_eq}
+use Rattle.std.proofs.Common.{◌≡◌, ℕ, true, false, List, [], ◌∷◌, ◌++◌, map, refl, sym, ap, ◌∙◌, eq-eqb}
+use Rattle.std.specs.Prelude.{Option, Some, None, IfSome, MatchOption, ◌&&◌, slice_get, bytes_eq}
 use Rattle.std.specs.Option.{option_or}
-use Rattle.std.specs.List.{flat_map, list_all}
+use Rattle.std.specs.List.{list_all}
 use Rattle.std.proofs.lemmas.List.Folds.{list_all-append}
-use Rattle.model.specs.declared.FullNodeId.{FullNodeId}
-use Rattle.model.specs.TextRuns.{SentRun, sent_run, sent_runs, run_ids}
+use Rattle.model.specs.TextRuns.{sent_run, sent_runs, run_ids}
 use Rattle.tree_views.specs.declared.node.node_ref.NodeRef.{NodeRef}
 use Rattle.tree_views.specs.declared.runs.Run.{Run}
 use Rattle.tree_views.specs.Nodes.{world_at, id_at}
-use Rattle.tree_views.specs.Runs.{root_of, run_world, root_id, run_id, sent_of, ids_after, ids_before, sents_after, IsFirstOf, IsAfter}
+use Rattle.tree_views.specs.Runs.{root_of, run_world, ids_after, sents_after, IsFirstOf, IsAfter}
 use Rattle.tree_views.proofs.FitRuns.{first_sents, sents_next}
 use Rattle.tree_views.specs.RunTexts.{sents_from, are_like, are_all}
 

@@ -1,12 +1,12 @@
 -- A point doesn't go far on a search.
-use Rattle.std.proofs.Common.{◌≡◌, ℕ, ◌+◌, ◌*◌, ◌-◌, ◌^◌, ◌<◌, ◌≤◌, true, cond, List, [], ◌∷◌, length, take, refl, sym, ◌∙◌, ap, arith}
-use Rattle.std.specs.Prelude.{ℤ, pos, neg_ℤ, ◌≤ℤ◌, Some}
+use Rattle.std.proofs.Common.{◌≡◌, ℕ, ◌+◌, ◌*◌, ◌≤◌, cond, List, [], ◌∷◌, length, take, refl, sym, ◌∙◌, ap, arith}
+use Rattle.std.specs.Prelude.{ℤ, Some}
 use Rattle.std.specs.FinMap.{len}
 use Rattle.std.proofs.lemmas.Int.{ints}
 use Rattle.model.specs.declared.FullNodeId.{FullNodeId}
 use Rattle.model.specs.World.{World, IsNode, children, root_of}
 use Rattle.model.specs.State.{IsState}
-use Rattle.model.specs.Forest.{plant, below, above, is_same, IsFormed}
+use Rattle.model.specs.Forest.{plant, below, above, is_same}
 use Rattle.model.specs.Beside.{weight, work_until, work_before}
 use Rattle.model.proofs.Forest.PlaceOf.{test_self}
 use Rattle.model.proofs.Forest.Grown.{below_is}

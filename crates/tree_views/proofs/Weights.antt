@@ -8,7 +8,7 @@ use Rattle.model.specs.declared.filters.FilterResult.{FilterResult}
 use Rattle.model.specs.declared.filters.FilterResult.TheVariants.{Include, ExcludeNode, ExcludeSubtree}
 use Rattle.model.specs.World.{World, Place, StandsAt, IsNode, children, root_of}
 use Rattle.model.specs.State.{IsState}
-use Rattle.model.specs.Forest.{Forest, empty, tree, plant, place_of, below, above, IsFormed}
+use Rattle.model.specs.Forest.{Forest, empty, tree, plant, place_of, below, IsFormed}
 use Rattle.model.specs.Lists.{nodes_of, ancestors, IsWithin}
 use Rattle.model.specs.Paths.{depth}
 use Rattle.model.specs.Frontier.{frontier, shown_part, filtered_children}

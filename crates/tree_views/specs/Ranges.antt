@@ -1,6 +1,5 @@
 -- What the plain walks have left.
-use Rattle.std.specs.Prelude.{◌≡◌, ℕ, List, map, reverse, slice_range}
-use Rattle.std.specs.Coded.{Coded-set, coded_option}
+use Rattle.std.specs.Prelude.{List, map, reverse, slice_range}
 use Rattle.model.specs.declared.FullNodeId.{FullNodeId}
 use Rattle.model.specs.World.{World, children}
 use Rattle.tree_views.specs.declared.node.node_ref.NodeRef.{NodeRef}

@@ -1,6 +1,6 @@
 -- What a view needs to read a world: where an update's changes are laid over it, that they are those of a decision on the update,
 -- and that there are slots for them.
-use Rattle.std.specs.Prelude.{Option, Some, None, refl, ◌≡◌, ◌||◌, is_some}
+use Rattle.std.specs.Prelude.{Option, Some, None, refl, ◌||◌, is_some}
 use Rattle.std.specs.Coded.{coded_bool, Coded-set, Π_prop}
 use Rattle.std.specs.FinSet.{contains}
 use Rattle.model.specs.World.{World, data_of}

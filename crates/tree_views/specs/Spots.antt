@@ -1,5 +1,5 @@
 -- Nodes of a world at their places, as a walk keeps them.
-use Rattle.std.specs.Prelude.{◌≡◌, Option, Some}
+use Rattle.std.specs.Prelude.{Some}
 use Rattle.std.specs.Coded.{Coded-set, coded_option}
 use Rattle.schema.specs.contracts.Node.{the_row as node_row}
 use Rattle.model.specs.declared.FullNodeId.{FullNodeId}

@@ -1,5 +1,5 @@
 -- What a walk over what a filter shows has left, and how an item is taken from it.
-use Rattle.std.specs.Prelude.{◌≡◌, ℕ, List, map, Option, None, IfSome, IfNone}
+use Rattle.std.specs.Prelude.{◌≡◌, ℕ, List, Option, None, IfSome, IfNone}
 use Rattle.std.specs.Iterator.{YieldsFirstBy, YieldsLastBy}
 use Rattle.model.specs.declared.FullNodeId.{FullNodeId}
 use Rattle.model.specs.declared.filters.FilterResult.{FilterResult}

@@ -1,9 +1,7 @@
 use Rattle.std.proofs.Common.{◌≡◌, ◌∙◌, sym, subst, ap, false, Some, None}
-use Rattle.std.specs.Option.{option_map}
 use Rattle.model.specs.Covers.{filtered_parent}
 use Rattle.model.specs.Filters.{is_hidden, base_filter, is_clipped_by}
 use Rattle.tree_views.specs.Nodes.{world_at, id_at}
-use Rattle.tree_views.specs.FocusedOne.{IsFocusedOne}
 use Rattle.tree_views.proofs.Filtering.{passed_as, unsettled_is_seen, parent_is_seen, way_passed, way_clipped, way_on, way_focused, parent_unsettled}
 use Rattle.tree_views.proofs.filters.is_clipped_on_the_way.Goals as goal
 

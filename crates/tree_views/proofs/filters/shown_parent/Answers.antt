@@ -1,6 +1,5 @@
-use Rattle.std.proofs.Common.{◌∙◌, sym, subst}
+use Rattle.std.proofs.Common.{◌∙◌, sym}
 use Rattle.tree_views.specs.Nodes.{world_at, id_at}
-use Rattle.tree_views.specs.FocusedOne.{IsFocusedOne, is_passed}
 use Rattle.tree_views.proofs.Filtering.{passed_as, base_finds, base_goes_on, parent_is_seen}
 use Rattle.tree_views.proofs.filters.shown_parent.Goals as goal
 

@@ -1,5 +1,5 @@
-use Rattle.std.proofs.Common.{arith, sym, refl}
-use Rattle.accesskit_consumer.proofs.CutPieces.{cut_at, cut_next, left_next}
+use Rattle.std.proofs.Common.{arith, sym}
+use Rattle.accesskit_consumer.proofs.CutPieces.{cut_at}
 use Rattle.accesskit_consumer.proofs.text.traversals.past.Goals as goal
 
 pub split_at-requires : goal.split_at-requires

@@ -1,7 +1,5 @@
-use Rattle.std.proofs.Common.{◌≡◌, length}
-use Rattle.std.specs.Prelude.{IfSome}
+use Rattle.std.proofs.Common.{length}
 use Rattle.tree_views.specs.Nodes.{world_at, id_at}
-use Rattle.tree_views.specs.Runs.{root_of}
 use Rattle.tree_views.specs.RunTexts.{shown_text, shown_of_all, sents_from}
 use Rattle.tree_views.specs.Writes.{IsUnderWay}
 use Rattle.tree_views.proofs.node.run_texts.write_runs.Given as goal

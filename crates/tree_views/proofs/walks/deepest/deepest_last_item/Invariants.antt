@@ -1,4 +1,4 @@
-use Rattle.std.proofs.Common.{◌≡◌, ◌-◌}
+use Rattle.std.proofs.Common.{◌-◌}
 use Rattle.std.specs.Prelude.{Some}
 use Rattle.std.specs.FinMap.{len}
 use Rattle.model.specs.declared.FullNodeId.{FullNodeId}

@@ -1,10 +1,10 @@
-use Rattle.std.proofs.Common.{◌≡◌, sym, ◌∙◌, ap, subst, true, false, ◌||◌, Bool, refl}
+use Rattle.std.proofs.Common.{◌≡◌, ◌∙◌, ap, subst, true, false, ◌||◌, Bool, refl}
 use Rattle.model.specs.World.{StandsAt}
 use Rattle.model.specs.Forest.{is_same as is_same_id}
 use Rattle.model.specs.Covers.{cover as cover_of}
 use Rattle.model.specs.Beside.{cover_through, is_below}
 use Rattle.model.proofs.Walks.Between.{above_is_below}
-use Rattle.model.proofs.Walks.Siblings.{cover_is_of_parent, cover_of_root}
+use Rattle.model.proofs.Walks.Siblings.{cover_is_of_parent}
 use Rattle.tree_views.specs.Views.{world_of}
 use Rattle.tree_views.specs.Spots.{place_at}
 use Rattle.tree_views.proofs.Following.{says_of}

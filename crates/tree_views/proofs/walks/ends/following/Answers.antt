@@ -1,8 +1,7 @@
-use Rattle.std.proofs.Common.{◌≡◌, [], ◌∷◌, ◌<◌, sym, ◌∙◌, subst, true}
+use Rattle.std.proofs.Common.{◌≡◌, [], ◌∷◌, ◌<◌, sym, ◌∙◌, subst}
 use Rattle.std.specs.Prelude.{IfSome, MatchOption}
 use Rattle.model.specs.Forest.{above, is_same as is_same_id}
-use Rattle.model.specs.Upward.{is_within}
-use Rattle.model.specs.Beside.{after_in, work_after, next_place}
+use Rattle.model.specs.Beside.{after_in, work_after}
 use Rattle.model.proofs.Walks.Beside.{after_child, work_after_child}
 use Rattle.model.proofs.Walks.Between.{below_is_within}
 use Rattle.tree_views.specs.Views.{world_of}

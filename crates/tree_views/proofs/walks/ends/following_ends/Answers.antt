@@ -1,4 +1,4 @@
-use Rattle.std.proofs.Common.{◌≡◌, [], ◌∷◌, sym, ◌∙◌, subst}
+use Rattle.std.proofs.Common.{◌≡◌, [], ◌∷◌, subst}
 use Rattle.model.specs.Beside.{after_in}
 use Rattle.tree_views.specs.Views.{world_of}
 use Rattle.tree_views.proofs.Walked.{unplaced, uncovered, none_follow, none_at_all, follow_there}

@@ -1,4 +1,4 @@
-use Rattle.std.proofs.Common.{◌≡◌, [], ◌∷◌, ◌++◌, ◌<◌, sym, ◌∙◌, subst, true}
+use Rattle.std.proofs.Common.{◌≡◌, [], ◌∷◌, ◌++◌, ◌<◌, sym, ◌∙◌, subst}
 use Rattle.std.specs.Prelude.{IfSome, MatchOption}
 use Rattle.model.specs.Forest.{above, is_same as is_same_id}
 use Rattle.model.specs.Beside.{before_in, work_before}

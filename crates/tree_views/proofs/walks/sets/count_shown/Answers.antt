@@ -1,4 +1,4 @@
-use Rattle.std.proofs.Common.{◌≡◌, ◌+◌, ◌<◌, ◌^◌, true, length, arith, sym, ◌∙◌, ap, subst}
+use Rattle.std.proofs.Common.{true, arith, sym, ◌∙◌, ap, subst}
 use Rattle.std.specs.Prelude.{is_some}
 use Rattle.schema.specs.Roles.{same_role}
 use Rattle.model.specs.World.{IsNode}
@@ -6,8 +6,7 @@ use Rattle.model.specs.Upward.{says}
 use Rattle.model.specs.Frontier.{filtered_children}
 use Rattle.tree_views.specs.Nodes.{world_at, id_at}
 use Rattle.tree_views.specs.Follows.{Follows}
-use Rattle.tree_views.specs.Walks.{walked_world, ids_left}
-use Rattle.tree_views.specs.RoleSets.{of_role}
+use Rattle.tree_views.specs.Walks.{ids_left}
 use Rattle.tree_views.proofs.Counting.{role_seen, one_counted}
 use Rattle.tree_views.proofs.Weights.{shown_fit, filter_fits}
 use Rattle.tree_views.proofs.walks.sets.count_shown.Goals as goal

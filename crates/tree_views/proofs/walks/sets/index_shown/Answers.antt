@@ -1,16 +1,15 @@
-use Rattle.std.proofs.Common.{◌≡◌, ◌+◌, ◌<◌, true, List, length, drop, suc, arith, sym, ◌∙◌, ap, subst, inl, inr}
+use Rattle.std.proofs.Common.{◌≡◌, true, List, drop, suc, arith, sym, ◌∙◌, ap, subst, inl, inr}
 use Rattle.std.specs.Prelude.{is_some, Some, Contains}
 use Rattle.std.proofs.lemmas.Option.{slice_get_within}
 use Rattle.schema.specs.Roles.{same_role}
 use Rattle.model.specs.declared.FullNodeId.{FullNodeId}
-use Rattle.model.specs.declared.filters.FilterResult.{FilterResult}
 use Rattle.model.specs.World.{IsNode}
 use Rattle.model.specs.Upward.{says}
 use Rattle.model.specs.Frontier.{filtered_children}
 use Rattle.model.proofs.Members.{contains_cases}
 use Rattle.tree_views.specs.Nodes.{world_at, id_at}
 use Rattle.tree_views.specs.Follows.{Follows}
-use Rattle.tree_views.specs.Walks.{walked_world, ids_left}
+use Rattle.tree_views.specs.Walks.{ids_left}
 use Rattle.tree_views.specs.RoleSets.{of_role}
 use Rattle.tree_views.proofs.Counting.{role_seen, role_taken, drop_head}
 use Rattle.tree_views.proofs.Walked.{apart}

@@ -8,7 +8,6 @@ use Rattle.model.proofs.Walks.Beside.{tested_same, prior_include, prior_skip, pr
 use Rattle.model.proofs.Walks.Between.{below_is_within, child_within, child_is_other, parent_within}
 use Rattle.tree_views.specs.Views.{world_of}
 use Rattle.tree_views.specs.Spots.{place_at}
-use Rattle.tree_views.proofs.Children.{past_last}
 use Rattle.tree_views.proofs.Following.{says_of}
 use Rattle.tree_views.proofs.walks.steps.previous_shown.Goals as goal
 

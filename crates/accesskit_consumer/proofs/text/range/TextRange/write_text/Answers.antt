@@ -1,4 +1,4 @@
-use Rattle.std.proofs.Common.{◌≡◌, ◌++◌, ap, sym, ◌∙◌}
+use Rattle.std.proofs.Common.{ap}
 use Rattle.std.specs.List.{flat_map}
 use Rattle.model.specs.Ranges.{piece_text, pieces, text_of}
 use Rattle.accesskit_consumer.specs.RunNumbers.{number_in}

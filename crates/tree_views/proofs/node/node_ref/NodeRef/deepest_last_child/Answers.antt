@@ -1,4 +1,4 @@
-use Rattle.std.proofs.Common.{refl, sym, ◌∙◌, ap}
+use Rattle.std.proofs.Common.{sym, ◌∙◌, ap}
 use Rattle.std.specs.Prelude.{Some}
 use Rattle.model.specs.Lists.{last_child, deepest_last_child as deepest_of}
 use Rattle.model.proofs.Lists.ListFacts.{deepest_last_is}

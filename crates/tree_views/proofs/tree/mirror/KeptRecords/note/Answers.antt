@@ -1,4 +1,4 @@
-use Rattle.std.proofs.Common.{◌≡◌, Some, ap, refl, sym, ◌∙◌}
+use Rattle.std.proofs.Common.{Some, ap, sym, ◌∙◌}
 use Rattle.model.specs.Mirror.{Records}
 use Rattle.tree_store.specs.declared.copies.MirrorRecord.{MirrorRecord}
 use Rattle.tree_views.specs.Mirrored.{record_shown}

@@ -1,4 +1,4 @@
-use Rattle.std.proofs.Common.{ap, sym, subst, ◌∙◌}
+use Rattle.std.proofs.Common.{sym, subst, ◌∙◌}
 use Rattle.model.specs.Focus.{IsFocus}
 use Rattle.model.specs.declared.FullNodeId.{FullNodeId}
 use Rattle.std.specs.Option.{option_map}

@@ -1,4 +1,4 @@
-use Rattle.std.proofs.Common.{◌∙◌, sym, ap, subst}
+use Rattle.std.proofs.Common.{◌∙◌, ap, subst}
 use Rattle.schema.specs.UpdateData.{update_data}
 use Rattle.tree_views.specs.Counts.{IsRaisedBy}
 use Rattle.tree_views.proofs.Deciding.{work_counted}
