@@ -92,9 +92,9 @@ pub fn named(position: TextPosition) -> Spot {
 }
 
 /// The position at an index in scalars, which is there.
-fn at<'a>(root: NodeRef<'a>, index: usize) -> Result<TextPosition<'a>, Fail>
-    ensures world { IfOk result (λ p. world_at (root_at p) ≡ world_at root.entry) }
-    ensures root { IfOk result (λ p. id_at (root_at p) ≡ id_at root.entry) }
+fn at<'a>(root: &NodeRef<'a>, index: usize) -> Result<TextPosition<'a>, Fail>
+    ensures world { IfOk result (λ p. world_at (root_at p) ≡ world_at root.now) }
+    ensures root { IfOk result (λ p. id_at (root_at p) ≡ id_at root.now) }
 {
     if !root.supports_text_ranges() {
         return Err("no text".into());
@@ -106,9 +106,9 @@ fn at<'a>(root: NodeRef<'a>, index: usize) -> Result<TextPosition<'a>, Fail>
 }
 
 /// The start or the end of the text, which is there.
-fn document_side<'a>(root: NodeRef<'a>, is_end: bool) -> Result<TextPosition<'a>, Fail>
-    ensures world { IfOk result (λ p. world_at (root_at p) ≡ world_at root.entry) }
-    ensures root { IfOk result (λ p. id_at (root_at p) ≡ id_at root.entry) }
+fn document_side<'a>(root: &NodeRef<'a>, is_end: bool) -> Result<TextPosition<'a>, Fail>
+    ensures world { IfOk result (λ p. world_at (root_at p) ≡ world_at root.now) }
+    ensures root { IfOk result (λ p. id_at (root_at p) ≡ id_at root.now) }
 {
     if !root.supports_text_ranges() {
         return Err("no text".into());
@@ -120,9 +120,9 @@ fn document_side<'a>(root: NodeRef<'a>, is_end: bool) -> Result<TextPosition<'a>
 }
 
 /// The position, which is there.
-pub fn placed<'a>(root: NodeRef<'a>, place: Place) -> Result<TextPosition<'a>, Fail>
-    ensures world { IfOk result (λ p. world_at (root_at p) ≡ world_at root.entry) }
-    ensures root { IfOk result (λ p. id_at (root_at p) ≡ id_at root.entry) }
+pub fn placed<'a>(root: &NodeRef<'a>, place: Place) -> Result<TextPosition<'a>, Fail>
+    ensures world { IfOk result (λ p. world_at (root_at p) ≡ world_at root.now) }
+    ensures root { IfOk result (λ p. id_at (root_at p) ≡ id_at root.now) }
 {
     match place {
         Place::At(index) => at(root, index),
@@ -133,7 +133,7 @@ pub fn placed<'a>(root: NodeRef<'a>, place: Place) -> Result<TextPosition<'a>, F
 }
 
 /// The position that a mark leads to, if there is one. There is a text.
-pub fn found(root: NodeRef, mark: Mark) -> Result<Option<Spot>, Fail> {
+pub fn found(root: &NodeRef, mark: Mark) -> Result<Option<Spot>, Fail> {
     if !root.supports_text_ranges() {
         return Err("no text".into());
     }
@@ -151,7 +151,7 @@ pub fn found(root: NodeRef, mark: Mark) -> Result<Option<Spot>, Fail> {
 }
 
 /// Whether the position is of a kind.
-pub fn is(position: TextPosition, kind: Kind) -> bool {
+pub fn is(position: &TextPosition, kind: Kind) -> bool {
     match kind {
         Kind::FormatStart => position.is_format_start(),
         Kind::WordStart => position.is_word_start(),
@@ -167,7 +167,7 @@ pub fn is(position: TextPosition, kind: Kind) -> bool {
 }
 
 /// Where a move leads.
-pub fn moved(position: TextPosition, to: Move) -> Spot {
+pub fn moved(position: &TextPosition, to: Move) -> Spot {
     let other = match to {
         Move::ToFormatStart => position.forward_to_format_start(),
         Move::ToFormatEnd => position.forward_to_format_end(),
@@ -191,7 +191,7 @@ pub fn moved(position: TextPosition, to: Move) -> Spot {
 }
 
 /// The position's index in scalars, its index in units of UTF-16, and the number of its line.
-pub fn numbers(position: TextPosition) -> (usize, usize, usize) {
+pub fn numbers(position: &TextPosition) -> (usize, usize, usize) {
     (
         position.to_global_usv_index(),
         position.to_global_utf16_index(),
@@ -200,9 +200,9 @@ pub fn numbers(position: TextPosition) -> (usize, usize, usize) {
 }
 
 /// The range from a position, with its end set to another one.
-fn between<'a>(root: NodeRef<'a>, from: Place, to: Place) -> Result<TextRange<'a>, Fail>
-    ensures world { IfOk result (λ r. world_in r ≡ world_at root.entry) }
-    ensures root { IfOk result (λ r. root_in r ≡ id_at root.entry) }
+fn between<'a>(root: &NodeRef<'a>, from: Place, to: Place) -> Result<TextRange<'a>, Fail>
+    ensures world { IfOk result (λ r. world_in r ≡ world_at root.now) }
+    ensures root { IfOk result (λ r. root_in r ≡ id_at root.now) }
 {
     let mut range = placed(root, from)?.to_degenerate_range();
     range.set_end(placed(root, to)?);
@@ -210,7 +210,7 @@ fn between<'a>(root: NodeRef<'a>, from: Place, to: Place) -> Result<TextRange<'a
 }
 
 /// The range up to a position, with its start set to another one.
-fn up_to<'a>(root: NodeRef<'a>, from: Place, to: Place) -> Result<TextRange<'a>, Fail> {
+fn up_to<'a>(root: &NodeRef<'a>, from: Place, to: Place) -> Result<TextRange<'a>, Fail> {
     let mut range = placed(root, to)?.to_degenerate_range();
     range.set_start(placed(root, from)?);
     Ok(range)
@@ -218,7 +218,7 @@ fn up_to<'a>(root: NodeRef<'a>, from: Place, to: Place) -> Result<TextRange<'a>,
 
 /// The range between two positions, with its start set to another one.
 fn with_start<'a>(
-    root: NodeRef<'a>,
+    root: &NodeRef<'a>,
     ends: (Place, Place),
     start: Place,
 ) -> Result<TextRange<'a>, Fail> {
@@ -229,7 +229,7 @@ fn with_start<'a>(
 
 /// The range between two positions, with its end set to another one.
 fn with_end<'a>(
-    root: NodeRef<'a>,
+    root: &NodeRef<'a>,
     ends: (Place, Place),
     end: Place,
 ) -> Result<TextRange<'a>, Fail> {
@@ -239,7 +239,7 @@ fn with_end<'a>(
 }
 
 /// The range of a line, if there is one. There is a text.
-fn line<'a>(root: NodeRef<'a>, index: usize) -> Result<Option<TextRange<'a>>, Fail> {
+fn line<'a>(root: &NodeRef<'a>, index: usize) -> Result<Option<TextRange<'a>>, Fail> {
     if !root.supports_text_ranges() {
         return Err("no text".into());
     }
@@ -247,7 +247,7 @@ fn line<'a>(root: NodeRef<'a>, index: usize) -> Result<Option<TextRange<'a>>, Fa
 }
 
 /// The range, if there is one. There is a text.
-pub fn ranged<'a>(root: NodeRef<'a>, span: Span) -> Result<Option<TextRange<'a>>, Fail> {
+pub fn ranged<'a>(root: &NodeRef<'a>, span: Span) -> Result<Option<TextRange<'a>>, Fail> {
     match span {
         Span::Between(from, to) => Ok(Some(between(root, from, to)?)),
         Span::UpTo(from, to) => Ok(Some(up_to(root, from, to)?)),
@@ -259,12 +259,12 @@ pub fn ranged<'a>(root: NodeRef<'a>, span: Span) -> Result<Option<TextRange<'a>>
 }
 
 /// The range, which is there.
-pub fn range<'a>(root: NodeRef<'a>, span: Span) -> Result<TextRange<'a>, Fail> {
+pub fn range<'a>(root: &NodeRef<'a>, span: Span) -> Result<TextRange<'a>, Fail> {
     Ok(ranged(root, span)?.ok_or("no range")?)
 }
 
 /// The ends of the range, if it is there.
-pub fn ends(root: NodeRef, span: Span) -> Result<Option<(Spot, Spot)>, Fail> {
+pub fn ends(root: &NodeRef, span: Span) -> Result<Option<(Spot, Spot)>, Fail> {
     match ranged(root, span)? {
         Some(range) => Ok(Some((named(range.start()), named(range.end())))),
         None => Ok(None),

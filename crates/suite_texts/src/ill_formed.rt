@@ -124,13 +124,13 @@ static ILL_FORMED: [(&str, &[Sketch]); 10] = [
 ];
 
 /// Asserts that a root has no value.
-fn assert_no_value(rt: &impl Abort, alloc: Global, root: NodeRef, name: &str) -> Result<(), Fail> {
+fn assert_no_value(rt: &impl Abort, alloc: Global, root: &NodeRef, name: &str) -> Result<(), Fail> {
     assert!(rt; root.value(alloc)?.is_none() && !root.has_value(), "{name}");
     Ok(())
 }
 
 /// Asserts that a root has no text, and nothing of one.
-fn assert_no_text(rt: &impl Abort, root: NodeRef, name: &str) {
+fn assert_no_text(rt: &impl Abort, root: &NodeRef, name: &str) {
     assert!(rt; !root.supports_text_ranges(), "{name}");
     assert!(rt; root.text_selection().is_none(), "{name}");
     assert!(rt; root.text_selection_anchor().is_none(), "{name}");
@@ -141,8 +141,8 @@ fn assert_no_text(rt: &impl Abort, root: NodeRef, name: &str) {
 fn ill_formed_texts_have_no_ranges(rt: HostRuntime) -> Result<(), Fail> {
     for (name, sketches) in &ILL_FORMED {
         let tree = planted(rt.alloc(), sketches)?;
-        assert_no_text(&rt, root_of(&tree), name);
-        assert_no_value(&rt, rt.alloc(), root_of(&tree), name)?;
+        assert_no_text(&rt, &root_of(&tree), name);
+        assert_no_value(&rt, rt.alloc(), &root_of(&tree), name)?;
     }
     Ok(())
 }
@@ -183,6 +183,6 @@ fn run_of_another_tree_is_none_of_a_text(rt: HostRuntime) -> Result<(), Fail> {
     let mut tree = planted(rt.alloc(), GRAFTING)?;
     assert!(rt; root_of(&tree).supports_text_ranges());
     assert!(rt; graft(rt.alloc(), &mut tree)?);
-    assert_no_text(&rt, root_of(&tree), name);
-    assert_no_value(&rt, rt.alloc(), root_of(&tree), name)
+    assert_no_text(&rt, &root_of(&tree), name);
+    assert_no_value(&rt, rt.alloc(), &root_of(&tree), name)
 }

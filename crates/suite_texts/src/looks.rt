@@ -60,7 +60,7 @@ const DOCUMENT: &[Sketch] = &[
 ];
 
 /// Whether the run of the position looks so.
-fn looks(position: TextPosition, has: Has) -> bool {
+fn looks(position: &TextPosition, has: Has) -> bool {
     match has {
         Direction(direction) => position.text_direction() == Some(direction),
         FontFamily(family) => position.font_family() == Some(family),
@@ -80,7 +80,7 @@ fn looks(position: TextPosition, has: Has) -> bool {
 }
 
 /// Whether all runs of the range look so.
-fn all_look(range: TextRange, has: Has) -> bool {
+fn all_look(range: &TextRange, has: Has) -> bool {
     match has {
         Direction(direction) => range.text_direction() == Single(Some(direction)),
         FontFamily(family) => range.font_family() == Single(Some(family)),
@@ -100,11 +100,11 @@ fn all_look(range: TextRange, has: Has) -> bool {
 }
 
 /// Whether the first run, and whether the second, looks so at a position.
-fn looks_at(root: NodeRef, places: [Place; 2], has: Has) -> Result<[bool; 2], Fail> {
+fn looks_at(root: &NodeRef, places: [Place; 2], has: Has) -> Result<[bool; 2], Fail> {
     let [first, second] = places;
     Ok([
-        looks(placed(root, first)?, has),
-        looks(placed(root, second)?, has),
+        looks(&placed(root, first)?, has),
+        looks(&placed(root, second)?, has),
     ])
 }
 
@@ -113,19 +113,19 @@ fn positions_look_like_their_runs(rt: HostRuntime) -> Result<(), Fail> {
     let tree = planted(rt.alloc(), DOCUMENT)?;
     let root = root_of(&tree);
     for (number, look) in TOLD.iter().skip(3).enumerate() {
-        let given = looks_at(root, [At(0), At(3)], *look)?;
+        let given = looks_at(&root, [At(0), At(3)], *look)?;
         assert!(rt; given == [false, true], "look {number}");
     }
-    assert!(rt; looks(placed(root, At(0))?, FontWeight(400)));
+    assert!(rt; looks(&placed(&root, At(0))?, FontWeight(400)));
     Ok(())
 }
 
 /// Whether all runs of the first range, and whether those of the second, look so.
-fn all_look_in(root: NodeRef, spans: [Span; 2], has: Has) -> Result<[bool; 2], Fail> {
+fn all_look_in(root: &NodeRef, spans: [Span; 2], has: Has) -> Result<[bool; 2], Fail> {
     let [first, second] = spans;
     Ok([
-        all_look(range(root, first)?, has),
-        all_look(range(root, second)?, has),
+        all_look(&range(root, first)?, has),
+        all_look(&range(root, second)?, has),
     ])
 }
 
@@ -137,7 +137,7 @@ fn ranges_look_like_all_their_runs(rt: HostRuntime) -> Result<(), Fail> {
     let tree = planted(rt.alloc(), DOCUMENT)?;
     let root = root_of(&tree);
     for (number, look) in TOLD.iter().skip(3).enumerate() {
-        let given = all_look_in(root, SPANS, *look)?;
+        let given = all_look_in(&root, SPANS, *look)?;
         assert!(rt; given == [false, true], "look {number}");
     }
     Ok(())
@@ -147,8 +147,8 @@ fn ranges_look_like_all_their_runs(rt: HostRuntime) -> Result<(), Fail> {
 fn looks_of_several_runs_are_mixed(rt: HostRuntime) -> Result<(), Fail> {
     let tree = planted(rt.alloc(), DOCUMENT)?;
     let [both, second] = SPANS;
-    let both = range(root_of(&tree), both)?.font_weight();
-    let second = range(root_of(&tree), second)?.font_weight();
+    let both = range(&root_of(&tree), both)?.font_weight();
+    let second = range(&root_of(&tree), second)?.font_weight();
     assert!(rt; both == Mixed);
     assert!(rt; both.map(|weight| weight > 500) == Mixed);
     assert!(rt; second.map(|weight| weight > 500) == Single(Some(true)));
@@ -158,7 +158,7 @@ fn looks_of_several_runs_are_mixed(rt: HostRuntime) -> Result<(), Fail> {
 #[test]
 fn range_of_a_plain_run_has_no_look(rt: HostRuntime) -> Result<(), Fail> {
     let tree = planted(rt.alloc(), DOCUMENT)?;
-    let first = range(root_of(&tree), Between(At(0), At(2)))?;
+    let first = range(&root_of(&tree), Between(At(0), At(2)))?;
     assert!(rt; first.font_size() == Single(None));
     assert!(rt; first.node().id() == root_of(&tree).id());
     Ok(())

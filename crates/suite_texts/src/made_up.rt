@@ -66,8 +66,8 @@ fn plain(spot: Spot) -> plain::Spot {
 }
 
 /// Asserts what a position is and where it moves.
-fn assert_position(rt: &impl Abort, text: &PlainText, position: TextPosition) {
-    let at = plain(named(position));
+fn assert_position(rt: &impl Abort, text: &PlainText, position: &TextPosition) {
+    let at = plain(named(*position));
     for (kind, wanted) in KINDS.iter().zip(text.tests(at)) {
         assert!(rt; is(position, *kind) == wanted, "{at:?}");
     }
@@ -114,7 +114,7 @@ fn holder(text: &PlainText, lengths: &[(usize, usize)], mark: Mark) -> Option<pl
 }
 
 /// Each position of a text, once.
-fn places(alloc: Global, root: NodeRef, lengths: &[(usize, usize)]) -> Result<Vec<Place>, Fail> {
+fn places(alloc: Global, root: &NodeRef, lengths: &[(usize, usize)]) -> Result<Vec<Place>, Fail> {
     let mut places = Vec::new(alloc);
     let mut index = 0usize;
     for number in 0..=lengths.len() {
@@ -131,7 +131,7 @@ fn places(alloc: Global, root: NodeRef, lengths: &[(usize, usize)]) -> Result<Ve
 /// Asserts where a marked index is.
 fn assert_mark(
     rt: &impl Abort,
-    root: NodeRef,
+    root: &NodeRef,
     mark: Mark,
     wanted: Option<plain::Spot>,
 ) -> Result<(), Fail> {
@@ -144,7 +144,7 @@ fn assert_mark(
 }
 
 /// Asserts the ends of a line.
-fn assert_line(rt: &impl Abort, root: NodeRef, text: &PlainText, line: usize) -> Result<(), Fail> {
+fn assert_line(rt: &impl Abort, root: &NodeRef, text: &PlainText, line: usize) -> Result<(), Fail> {
     let given = match ends(root, Line(line))? {
         Some((start, end)) => Some((plain(start), plain(end))),
         None => None,
@@ -156,7 +156,7 @@ fn assert_line(rt: &impl Abort, root: NodeRef, text: &PlainText, line: usize) ->
 /// Asserts the positions of all indexes and the ranges of all lines, and of some more of each.
 fn assert_numbered(
     rt: &impl Abort,
-    root: NodeRef,
+    root: &NodeRef,
     text: &PlainText,
     lengths: &[(usize, usize)],
 ) -> Result<(), Fail> {
@@ -173,7 +173,7 @@ fn assert_numbered(
 
 /// The ends of the range from one position to another: with its end set last, and with its start set last.
 fn both_ends(
-    root: NodeRef,
+    root: &NodeRef,
     from: Place,
     to: Place,
 ) -> Result<[(plain::Spot, plain::Spot); 2], Fail> {
@@ -187,7 +187,7 @@ fn assert_range(
     rt: &impl Abort,
     alloc: Global,
     text: &PlainText,
-    root: NodeRef,
+    root: &NodeRef,
     from: Place,
     to: Place,
 ) -> Result<(), Fail> {
@@ -212,16 +212,16 @@ fn assert_place(
     alloc: Global,
     dice: &mut Dice,
     text: &PlainText,
-    root: NodeRef,
+    root: &NodeRef,
     places: &[Place],
     place: Place,
 ) -> Result<(), Fail> {
     let position = placed(root, place)?;
-    assert_position(rt, text, position);
+    assert_position(rt, text, &position);
     let lengths = text.lengths(alloc)?;
     let at = plain(named(position));
     assert!(rt;
-        numbers(position) == wanted_numbers(text, &lengths, at),
+        numbers(&position) == wanted_numbers(text, &lengths, at),
         "{at:?}"
     );
     for _ in 0..3u32 {
@@ -237,7 +237,7 @@ fn assert_text(
     alloc: Global,
     dice: &mut Dice,
     text: &PlainText,
-    root: NodeRef,
+    root: &NodeRef,
 ) -> Result<(), Fail> {
     assert!(rt; root.supports_text_ranges());
     let lengths = text.lengths(alloc)?;
@@ -257,7 +257,7 @@ fn made_up_texts_are_one_flat_list(rt: HostRuntime) -> Result<(), Fail> {
         let role = dice.of(&ROLES).unwrap_or(Role::TextInput);
         let text = PlainText::made_up(rt.alloc(), &mut dice, role == Role::PasswordInput)?;
         let tree = planted(rt.alloc(), role, &text)?;
-        assert_text(&rt, rt.alloc(), &mut dice, &text, root_of(&tree))?;
+        assert_text(&rt, rt.alloc(), &mut dice, &text, &root_of(&tree))?;
     }
     Ok(())
 }

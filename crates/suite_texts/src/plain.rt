@@ -46,8 +46,54 @@ pub struct PlainText {
     pub is_password: bool,
 }
 
+impl PlainRun {
+    /// Up to four characters, or one less.
+    fn made_up_characters(
+        alloc: Global,
+        dice: &mut Dice,
+        may_be_empty: bool,
+    ) -> Result<Vec<usize>, AllocError> {
+        let mut characters = Vec::new(alloc);
+        let least = if may_be_empty { 0 } else { 1 };
+        for _ in 0..dice.index(3).saturating_add(least) {
+            let number = dice.index(NEWLINE.saturating_sub(1));
+            characters.push(number)?;
+        }
+        if dice.is_one_in(3) && characters.pop().is_some() {
+            characters.push(NEWLINE)?;
+        }
+        Ok(characters)
+    }
+
+    /// Words that start with some of so many characters.
+    fn made_up_words(alloc: Global, dice: &mut Dice, count: usize) -> Result<Vec<u16>, AllocError> {
+        let mut words = Vec::new(alloc);
+        for index in 0..count {
+            if dice.is_one_in(3) {
+                words.push(u16::try_from(index).unwrap_or(0))?;
+            }
+        }
+        Ok(words)
+    }
+
+    /// A run of up to four characters. The last run may be empty.
+    fn made_up(alloc: Global, dice: &mut Dice, is_last: bool) -> Result<PlainRun, AllocError> {
+        let may_be_empty = is_last && dice.is_one_in(3);
+        let characters = PlainRun::made_up_characters(alloc, dice, may_be_empty)?;
+        let words = PlainRun::made_up_words(alloc, dice, characters.len())?;
+        let goes_on = !is_last && dice.is_one_in(2);
+        let font_size = if dice.is_one_in(2) { 1200 } else { 1600 };
+        Ok(PlainRun {
+            characters,
+            words,
+            goes_on,
+            font_size,
+        })
+    }
+}
+
 impl PlainText {
-    /// A text of up to four runs of up to four characters each.
+    /// A text of up to four runs.
     pub fn made_up(
         alloc: Global,
         dice: &mut Dice,
@@ -56,28 +102,7 @@ impl PlainText {
         let mut runs = Vec::new(alloc);
         let count = dice.index(3).saturating_add(1);
         for number in 1..=count {
-            let is_last = number == count;
-            let least = if is_last && dice.is_one_in(3) { 0 } else { 1 };
-            let mut characters = Vec::new(alloc);
-            for _ in 0..dice.index(3).saturating_add(least) {
-                let number = dice.index(NEWLINE.saturating_sub(1));
-                characters.push(number)?;
-            }
-            if dice.is_one_in(3) && characters.pop().is_some() {
-                characters.push(NEWLINE)?;
-            }
-            let mut words = Vec::new(alloc);
-            for index in 0..characters.len() {
-                if dice.is_one_in(3) {
-                    words.push(u16::try_from(index).unwrap_or(0))?;
-                }
-            }
-            runs.push(PlainRun {
-                characters,
-                words,
-                goes_on: !is_last && dice.is_one_in(2),
-                font_size: if dice.is_one_in(2) { 1200 } else { 1600 },
-            })?;
+            runs.push(PlainRun::made_up(alloc, dice, number == count)?)?;
         }
         Ok(PlainText { runs, is_password })
     }
@@ -347,18 +372,22 @@ impl PlainText {
     }
 
     /// Whether it is a password of which two characters differ.
-    pub fn is_masked(&self, alloc: Global) -> Result<bool, AllocError> {
-        let characters = self.characters(alloc)?;
-        let first = characters.first().copied();
-        Ok(self.is_password && characters.iter().any(|one| Some(*one) != first))
+    fn is_masked(&self, characters: &[usize]) -> bool {
+        for pair in characters.windows(2) {
+            if pair.first() != pair.last() {
+                return self.is_password;
+            }
+        }
+        false
     }
 
     /// The lengths of each character as it is shown: in scalars, and in units of UTF-16.
     pub fn lengths(&self, alloc: Global) -> Result<Vec<(usize, usize)>, AllocError> {
-        let is_masked = self.is_masked(alloc)?;
+        let characters = self.characters(alloc)?;
+        let is_masked = self.is_masked(&characters);
         let mut lengths = Vec::new(alloc);
-        for character in self.characters(alloc)? {
-            let (_, scalars, units) = CHARACTERS.get(character).copied().unwrap_or(("", 0, 0));
+        for character in &characters {
+            let (_, scalars, units) = CHARACTERS.get(*character).copied().unwrap_or(("", 0, 0));
             lengths.push(if is_masked { (1, 1) } else { (scalars, units) })?;
         }
         Ok(lengths)
@@ -366,12 +395,13 @@ impl PlainText {
 
     /// What stands from one offset up to another, as it is shown.
     pub fn text(&self, alloc: Global, from: usize, to: usize) -> Result<String, AllocError> {
-        let is_masked = self.is_masked(alloc)?;
+        let characters = self.characters(alloc)?;
+        let is_masked = self.is_masked(&characters);
         let mut text = String::new(alloc);
         let mut offset = 0usize;
-        for character in self.characters(alloc)? {
+        for character in &characters {
             if from <= offset && offset < to {
-                let (written, _, _) = CHARACTERS.get(character).copied().unwrap_or(("", 0, 0));
+                let (written, _, _) = CHARACTERS.get(*character).copied().unwrap_or(("", 0, 0));
                 text.push_str(if is_masked { "\u{2022}" } else { written })?;
             }
             offset = offset.saturating_add(1);

@@ -38,7 +38,7 @@ static PLACES: [(Text, Place, Spot); 9] = [
 fn places_are_positions(rt: HostRuntime) -> Result<(), Fail> {
     for (number, row) in PLACES.iter().enumerate() {
         let tree = planted(rt.alloc(), row.0)?;
-        let given = named(placed(root_of(&tree), row.1)?);
+        let given = named(placed(&root_of(&tree), row.1)?);
         assert!(rt; given == row.2, "row {number}");
     }
     Ok(())
@@ -70,7 +70,7 @@ static MARKS: [(Text, Mark, Option<Spot>); 18] = [
 fn marks_lead_to_positions(rt: HostRuntime) -> Result<(), Fail> {
     for (number, row) in MARKS.iter().enumerate() {
         let tree = planted(rt.alloc(), row.0)?;
-        let given = found(root_of(&tree), row.1)?;
+        let given = found(&root_of(&tree), row.1)?;
         assert!(rt; given == row.2, "row {number}");
     }
     Ok(())
@@ -90,7 +90,7 @@ static KINDS: [(Text, Place, Kind, bool); 6] = [
 fn positions_are_of_kinds(rt: HostRuntime) -> Result<(), Fail> {
     for (number, row) in KINDS.iter().enumerate() {
         let tree = planted(rt.alloc(), row.0)?;
-        let given = is(placed(root_of(&tree), row.1)?, row.2);
+        let given = is(&placed(&root_of(&tree), row.1)?, row.2);
         assert!(rt; given == row.3, "row {number}");
     }
     Ok(())
@@ -116,7 +116,7 @@ static MOVES: [(Text, Place, Move, Spot); 12] = [
 fn moves_lead_to_positions(rt: HostRuntime) -> Result<(), Fail> {
     for (number, row) in MOVES.iter().enumerate() {
         let tree = planted(rt.alloc(), row.0)?;
-        let given = moved(placed(root_of(&tree), row.1)?, row.2);
+        let given = moved(&placed(&root_of(&tree), row.1)?, row.2);
         assert!(rt; given == row.3, "row {number}");
     }
     Ok(())
@@ -138,7 +138,7 @@ static NUMBERS: [(Text, Place, (usize, usize, usize)); 8] = [
 fn positions_have_numbers(rt: HostRuntime) -> Result<(), Fail> {
     for (number, row) in NUMBERS.iter().enumerate() {
         let tree = planted(rt.alloc(), row.0)?;
-        let given = numbers(placed(root_of(&tree), row.1)?);
+        let given = numbers(&placed(&root_of(&tree), row.1)?);
         assert!(rt; given == row.2, "row {number}");
     }
     Ok(())
@@ -174,7 +174,7 @@ static ENDS: [(Text, Span, Option<(Spot, Spot)>); 14] = [
 fn ranges_have_ends(rt: HostRuntime) -> Result<(), Fail> {
     for (number, row) in ENDS.iter().enumerate() {
         let tree = planted(rt.alloc(), row.0)?;
-        let given = ends(root_of(&tree), row.1)?;
+        let given = ends(&root_of(&tree), row.1)?;
         assert!(rt; given == row.2, "row {number}");
     }
     Ok(())
@@ -192,7 +192,7 @@ static TEXTS: [(Text, Span, &str); 4] = [
 fn ranges_have_texts(rt: HostRuntime) -> Result<(), Fail> {
     for (number, row) in TEXTS.iter().enumerate() {
         let tree = planted(rt.alloc(), row.0)?;
-        let given = range(root_of(&tree), row.1)?.text(rt.alloc())?;
+        let given = range(&root_of(&tree), row.1)?.text(rt.alloc())?;
         assert!(rt; given.as_str() == row.2, "row {number}");
     }
     Ok(())
@@ -228,7 +228,7 @@ static BOXES: [(Text, usize, usize, [i128; 4]); 3] = [
 ];
 
 /// The only box of a range.
-fn only_box(alloc: Global, root: NodeRef, span: Span) -> Result<WideRect, Fail> {
+fn only_box(alloc: Global, root: &NodeRef, span: Span) -> Result<WideRect, Fail> {
     let boxes = range(root, span)?.bounding_boxes(alloc)?;
     if boxes.len() > 1 {
         return Err("more than one box".into());
@@ -240,7 +240,7 @@ fn only_box(alloc: Global, root: NodeRef, span: Span) -> Result<WideRect, Fail> 
 fn boxes_follow_the_direction(rt: HostRuntime) -> Result<(), Fail> {
     for (number, row) in BOXES.iter().enumerate() {
         let tree = planted(rt.alloc(), row.0)?;
-        let given = only_box(rt.alloc(), root_of(&tree), Between(At(row.1), At(row.2)))?;
+        let given = only_box(rt.alloc(), &root_of(&tree), Between(At(row.1), At(row.2)))?;
         let [x0, y0, x1, y1] = row.3;
         assert!(rt; given == WideRect { x0, y0, x1, y1 }, "row {number}");
     }

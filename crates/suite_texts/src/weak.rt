@@ -39,7 +39,7 @@ fn sent_again(alloc: Global, sketches: &[Sketch]) -> Result<TreeUpdate, AllocErr
 }
 
 /// The first two letters.
-fn first_two(alloc: Global, root: NodeRef) -> Result<WeakTextRange, Fail> {
+fn first_two(alloc: Global, root: &NodeRef) -> Result<WeakTextRange, Fail> {
     Ok(range(root, Between(At(0), At(2)))?.downgrade(alloc)?)
 }
 
@@ -65,7 +65,7 @@ fn shorten(alloc: Global, tree: &mut Tree) -> Result<bool, AllocError> {
 fn weak_range_past_its_run_is_gone(rt: HostRuntime) -> Result<(), Fail> {
     let alloc = rt.alloc();
     let mut tree = planted(alloc, LONG)?;
-    let weak = first_two(alloc, root_of(&tree))?;
+    let weak = first_two(alloc, &root_of(&tree))?;
     assert!(rt; upgraded(&weak, tree.state().view()) == Some(((1, 0), (1, 2))));
     assert!(rt; weak.node_id() == root_of(&tree).id());
     assert!(rt; shorten(alloc, &mut tree)?);
@@ -77,7 +77,7 @@ fn weak_range_past_its_run_is_gone(rt: HostRuntime) -> Result<(), Fail> {
 #[test]
 fn copies_of_weak_ranges_are_equal(rt: HostRuntime) -> Result<(), Fail> {
     let tree = planted(rt.alloc(), LONG)?;
-    let weak = first_two(rt.alloc(), root_of(&tree))?;
+    let weak = first_two(rt.alloc(), &root_of(&tree))?;
     assert!(rt; weak.clone(rt.alloc())? == weak);
     Ok(())
 }
@@ -85,7 +85,7 @@ fn copies_of_weak_ranges_are_equal(rt: HostRuntime) -> Result<(), Fail> {
 #[test]
 fn weak_ranges_have_paths(rt: HostRuntime) -> Result<(), Fail> {
     let tree = planted(rt.alloc(), THIRD)?;
-    let weak = range(root_of(&tree), Selection)?.downgrade(rt.alloc())?;
+    let weak = range(&root_of(&tree), Selection)?.downgrade(rt.alloc())?;
     let (path, index) = weak.start_comparable();
     assert!(rt; (path.as_slice(), *index) == ([1usize].as_slice(), 0));
     let (path, index) = weak.end_comparable();
@@ -96,7 +96,7 @@ fn weak_ranges_have_paths(rt: HostRuntime) -> Result<(), Fail> {
 #[test]
 fn selections_are_sent_as_they_came(rt: HostRuntime) -> Result<(), Fail> {
     let tree = planted(rt.alloc(), THIRD)?;
-    let range = range(root_of(&tree), Selection)?;
+    let range = range(&root_of(&tree), Selection)?;
     assert!(rt; range.to_text_selection() == selected((1, 2), (2, 1)));
     Ok(())
 }
@@ -104,8 +104,8 @@ fn selections_are_sent_as_they_came(rt: HostRuntime) -> Result<(), Fail> {
 #[test]
 fn two_positions_are_at_one_place(rt: HostRuntime) -> Result<(), Fail> {
     let tree = planted(rt.alloc(), EMPTY_LAST)?;
-    let before = placed(root_of(&tree), EndSideOf(3))?;
-    let last = placed(root_of(&tree), At(3))?;
+    let before = placed(&root_of(&tree), EndSideOf(3))?;
+    let last = placed(&root_of(&tree), At(3))?;
     assert!(rt; before.compare(&last) == Some(Ordering::Equal));
     assert!(rt; before != last);
     Ok(())

@@ -77,7 +77,7 @@ const ALL: Span = Between(At(0), At(4));
 const BULLET: usize = 3;
 
 /// Writes the text of a range to a writer that fails at this call: what it has then, and whether there was no fault.
-fn written(alloc: Global, root: NodeRef, fails_at: u32) -> Result<(Failing, bool), Fail> {
+fn written(alloc: Global, root: &NodeRef, fails_at: u32) -> Result<(Failing, bool), Fail> {
     let range = range(root, ALL)?;
     let mut writer = Failing::new(alloc, fails_at);
     let is_ok = range.write_text(&mut writer).is_ok();
@@ -89,7 +89,7 @@ fn masked_text_is_cut_between_bullets(rt: HostRuntime) -> Result<(), Fail> {
     let tree = planted(rt.alloc(), SECRET)?;
     for bullets in 0..4usize {
         let fails_at = u32::try_from(bullets).unwrap_or(0).saturating_add(1);
-        let (writer, is_ok) = written(rt.alloc(), root_of(&tree), fails_at)?;
+        let (writer, is_ok) = written(rt.alloc(), &root_of(&tree), fails_at)?;
         assert!(rt; !is_ok, "{bullets}");
         assert!(rt;
             writer.text.len() == bullets.saturating_mul(BULLET),
@@ -106,7 +106,7 @@ fn masked_text_is_cut_between_bullets(rt: HostRuntime) -> Result<(), Fail> {
 #[test]
 fn masked_text_is_written_in_bullets(rt: HostRuntime) -> Result<(), Fail> {
     let tree = planted(rt.alloc(), SECRET)?;
-    let (writer, is_ok) = written(rt.alloc(), root_of(&tree), 5)?;
+    let (writer, is_ok) = written(rt.alloc(), &root_of(&tree), 5)?;
     assert!(rt; is_ok);
     assert!(rt; writer.text.as_str() == "\u{2022}\u{2022}\u{2022}\u{2022}");
     Ok(())
@@ -115,7 +115,7 @@ fn masked_text_is_written_in_bullets(rt: HostRuntime) -> Result<(), Fail> {
 const LABEL: &str = "Check email every minutes";
 
 /// Writes the label to a writer that fails at this call: what it has then, and the answer.
-fn labelled(alloc: Global, root: NodeRef, fails_at: u32) -> (Failing, Result<bool, TextFault>) {
+fn labelled(alloc: Global, root: &NodeRef, fails_at: u32) -> (Failing, Result<bool, TextFault>) {
     let mut writer = Failing::new(alloc, fails_at);
     let answer = root.write_label(&mut writer);
     (writer, answer)
@@ -126,7 +126,7 @@ fn label_is_cut_at_a_fault(rt: HostRuntime) -> Result<(), Fail> {
     let tree = planted(rt.alloc(), LABELLED)?;
     let mut has_ended = false;
     for fails_at in 1..9u32 {
-        let (writer, answer) = labelled(rt.alloc(), root_of(&tree), fails_at);
+        let (writer, answer) = labelled(rt.alloc(), &root_of(&tree), fails_at);
         let text = writer.text.as_str();
         match answer {
             Ok(there) => {
@@ -149,7 +149,7 @@ fn label_is_cut_at_a_fault(rt: HostRuntime) -> Result<(), Fail> {
 #[test]
 fn buffers_take_the_whole_text(rt: HostRuntime) -> Result<(), Fail> {
     let tree = planted(rt.alloc(), SECRET)?;
-    let range = range(root_of(&tree), Between(At(1), At(3)))?;
+    let range = range(&root_of(&tree), Between(At(1), At(3)))?;
     let mut buffer = TextBuffer::new(rt.alloc());
     assert!(rt; range.write_text(&mut buffer).is_ok());
     assert!(rt; buffer.as_str() == "\u{2022}\u{2022}");
@@ -157,7 +157,7 @@ fn buffers_take_the_whole_text(rt: HostRuntime) -> Result<(), Fail> {
 }
 
 /// How many bytes the second piece of the range has.
-fn second_piece(alloc: Global, root: NodeRef) -> Result<Option<usize>, Fail> {
+fn second_piece(alloc: Global, root: &NodeRef) -> Result<Option<usize>, Fail> {
     let mut has_passed = false;
     let found = range(root, ALL)?.traverse_text(alloc, |_: &NodeRef<'_>, piece: &str| {
         if has_passed {
@@ -172,6 +172,6 @@ fn second_piece(alloc: Global, root: NodeRef) -> Result<Option<usize>, Fail> {
 #[test]
 fn traversal_passes_masked_pieces(rt: HostRuntime) -> Result<(), Fail> {
     let tree = planted(rt.alloc(), SECRET)?;
-    assert!(rt; second_piece(rt.alloc(), root_of(&tree))? == Some(6));
+    assert!(rt; second_piece(rt.alloc(), &root_of(&tree))? == Some(6));
     Ok(())
 }
