@@ -71,7 +71,7 @@ fn tree(alloc: Global, runs: u64, characters: usize, is_label: bool) -> anyhow::
 }
 
 /// How many word starts there are past the first.
-fn words(root: NodeRef) -> u64 {
+fn words(root: &NodeRef) -> u64 {
     if !root.supports_text_ranges() {
         return 0;
     }
@@ -89,7 +89,7 @@ fn words(root: NodeRef) -> u64 {
 }
 
 /// How many bytes the text of the document has.
-fn text(alloc: Global, root: NodeRef) -> Result<u64, AllocError> {
+fn text(alloc: Global, root: &NodeRef) -> Result<u64, AllocError> {
     if !root.supports_text_ranges() {
         return Ok(0);
     }
@@ -98,7 +98,7 @@ fn text(alloc: Global, root: NodeRef) -> Result<u64, AllocError> {
 }
 
 /// How many lines there are, by their ends.
-fn lines(root: NodeRef) -> u64 {
+fn lines(root: &NodeRef) -> u64 {
     if !root.supports_text_ranges() {
         return 0;
     }
@@ -122,7 +122,7 @@ fn lines(root: NodeRef) -> u64 {
 }
 
 /// How many lines there are, by their numbers.
-fn lines_by_index(root: NodeRef) -> u64 {
+fn lines_by_index(root: &NodeRef) -> u64 {
     if !root.supports_text_ranges() {
         return 0;
     }
@@ -137,7 +137,7 @@ fn lines_by_index(root: NodeRef) -> u64 {
 }
 
 /// The sum of the indexes, in their runs, of a hundred positions.
-fn units(root: NodeRef, total: usize) -> u64 {
+fn units(root: &NodeRef, total: usize) -> u64 {
     if !root.supports_text_ranges() {
         return 0;
     }
@@ -152,7 +152,7 @@ fn units(root: NodeRef, total: usize) -> u64 {
 }
 
 /// How many bytes the label has.
-fn label(alloc: Global, root: NodeRef) -> u64 {
+fn label(alloc: Global, root: &NodeRef) -> u64 {
     let mut buffer = TextBuffer::new(alloc);
     match root.write_label(&mut buffer) {
         Ok(true) => buffer.as_str().len() as u64,
@@ -179,12 +179,12 @@ fn main(rt: HostRuntime) -> anyhow::Result<()> {
     let mut sum: u64 = 0;
     for _ in 0..count {
         let met = match work.as_str() {
-            "words" => words(root),
-            "text" => text(alloc, root)?,
-            "lines" => lines(root),
-            "lines-by-index" => lines_by_index(root),
-            "units" => units(root, total),
-            "label" => label(alloc, root),
+            "words" => words(&root),
+            "text" => text(alloc, &root)?,
+            "lines" => lines(&root),
+            "lines-by-index" => lines_by_index(&root),
+            "units" => units(&root, total),
+            "label" => label(alloc, &root),
             _ => anyhow::bail!("the work is words, text, lines, lines-by-index, units or label"),
         };
         sum = sum.saturating_add(met);

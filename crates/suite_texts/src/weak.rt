@@ -1,0 +1,121 @@
+//! Ranges that are kept over an update, selections as they are sent, and what is equal to what.
+
+use crate::asking::Place::{At, EndSideOf};
+use crate::asking::Span::{Between, Selection};
+use crate::asking::{named, placed, range};
+use crate::sketches::Has::{Children, Lengths, Value, Words};
+use crate::sketches::{Sketch, Spot, nodes_of, planted, root_of, selected};
+use crate::texts::{EMPTY_LAST, LETTERS, LETTERS_IN_BYTES, THIRD};
+use accesskit_consumer::node::NodeRef;
+use accesskit_consumer::text::WeakTextRange;
+use accesskit_consumer::tree::{StateRef, Tree};
+use plain_worlds::recorder::Recorder;
+use schema::{NodeId, Role, TreeId, TreeUpdate};
+use std::alloc::{AllocError, Global};
+use std::cmp::Ordering;
+use std::test::Fail;
+
+/// Three letters.
+const LONG: &[Sketch] = &[
+    Sketch(0, Role::TextInput, &[Children(&[1])]),
+    Sketch(
+        1,
+        Role::TextRun,
+        &[Value("abc"), Lengths(&[1, 1, 1]), Words(&[])],
+    ),
+];
+
+/// One letter is left.
+const SHORT: &[Sketch] = &[Sketch(1, Role::TextRun, &[Value("a"), Lengths(&[1]), Words(&[])])];
+
+/// The update of the root tree that sends these nodes again.
+fn sent_again(alloc: Global, sketches: &[Sketch]) -> Result<TreeUpdate, AllocError> {
+    Ok(TreeUpdate {
+        nodes: nodes_of(alloc, sketches)?,
+        tree: None,
+        tree_id: TreeId::root(),
+        focus: NodeId(0),
+    })
+}
+
+/// The first two letters.
+fn first_two(alloc: Global, root: &NodeRef) -> Result<WeakTextRange, Fail> {
+    Ok(range(root, Between(At(0), At(2)))?.downgrade(alloc)?)
+}
+
+/// The ends of the range in a state, if it is there.
+fn upgraded(weak: &WeakTextRange, state: StateRef) -> Option<(Spot, Spot)> {
+    match weak.upgrade(state) {
+        Some(range) => Some((named(range.start()), named(range.end()))),
+        None => None,
+    }
+}
+
+/// Sends the short text, and says whether it was accepted.
+fn shorten(alloc: Global, tree: &mut Tree) -> Result<bool, AllocError> {
+    let mut recorder = Recorder::new(alloc);
+    let update = sent_again(alloc, SHORT)?;
+    Ok(
+        tree.update_and_process_changes(update, &mut recorder)
+            .is_ok(),
+    )
+}
+
+#[test]
+fn weak_range_past_its_run_is_gone(rt: HostRuntime) -> Result<(), Fail> {
+    let alloc = rt.alloc();
+    let mut tree = planted(alloc, LONG)?;
+    let weak = first_two(alloc, &root_of(&tree))?;
+    assert!(rt; upgraded(&weak, tree.state().view()) == Some(((1, 0), (1, 2))));
+    assert!(rt; weak.node_id() == root_of(&tree).id());
+    assert!(rt; shorten(alloc, &mut tree)?);
+    assert!(rt; upgraded(&weak, tree.state().view()).is_none());
+    assert!(rt; weak.upgrade_node(tree.state().view()).is_some());
+    Ok(())
+}
+
+#[test]
+fn copies_of_weak_ranges_are_equal(rt: HostRuntime) -> Result<(), Fail> {
+    let tree = planted(rt.alloc(), LONG)?;
+    let weak = first_two(rt.alloc(), &root_of(&tree))?;
+    assert!(rt; weak.clone(rt.alloc())? == weak);
+    Ok(())
+}
+
+#[test]
+fn weak_ranges_have_paths(rt: HostRuntime) -> Result<(), Fail> {
+    let tree = planted(rt.alloc(), THIRD)?;
+    let weak = range(&root_of(&tree), Selection)?.downgrade(rt.alloc())?;
+    let (path, index) = weak.start_comparable();
+    assert!(rt; (path.as_slice(), *index) == ([1usize].as_slice(), 0));
+    let (path, index) = weak.end_comparable();
+    assert!(rt; (path.as_slice(), *index) == ([1usize].as_slice(), 1));
+    Ok(())
+}
+
+#[test]
+fn selections_are_sent_as_they_came(rt: HostRuntime) -> Result<(), Fail> {
+    let tree = planted(rt.alloc(), THIRD)?;
+    let range = range(&root_of(&tree), Selection)?;
+    assert!(rt; range.to_text_selection() == selected((1, 2), (2, 1)));
+    Ok(())
+}
+
+#[test]
+fn two_positions_are_at_one_place(rt: HostRuntime) -> Result<(), Fail> {
+    let tree = planted(rt.alloc(), EMPTY_LAST)?;
+    let before = placed(&root_of(&tree), EndSideOf(3))?;
+    let last = placed(&root_of(&tree), At(3))?;
+    assert!(rt; before.compare(&last) == Some(Ordering::Equal));
+    assert!(rt; before != last);
+    Ok(())
+}
+
+#[test]
+fn bytes_set_what_wide_numbers_set(rt: HostRuntime) -> Result<(), Fail> {
+    let bytes = nodes_of(rt.alloc(), LETTERS_IN_BYTES)?;
+    let wide = nodes_of(rt.alloc(), LETTERS)?;
+    let ((_, bytes), (_, wide)) = (bytes.get(1).ok_or("no run")?, wide.get(1).ok_or("no run")?);
+    assert!(rt; bytes == wide);
+    Ok(())
+}
