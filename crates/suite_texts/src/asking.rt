@@ -1,11 +1,12 @@
 //! Questions of a text, and what is answered as plain values.
 
 ghost use Rattle.std.specs.Prelude.{◌≡◌, IfOk};
-ghost use Rattle.accesskit_consumer.specs.Nodes.{world_at, id_at};
+ghost use Rattle.tree_views.specs.Nodes.{world_at, id_at};
 ghost use Rattle.accesskit_consumer.specs.Positions.{root_at};
 ghost use Rattle.accesskit_consumer.specs.TextRanges.{world_in, root_in};
 
 use crate::sketches::Spot;
+use accesskit_consumer::TextRoot;
 use accesskit_consumer::node::NodeRef;
 use accesskit_consumer::text::{TextPosition, TextRange};
 use schema::Point;
