@@ -226,9 +226,9 @@ fn run_command<O: Write>(
     let Ok(replies) = ran else {
         return Err(Stop::Memory);
     };
-    for reply in replies {
+    for reply in &replies {
         match reply {
-            Reply::Refused(refusal) => write_refusal(refusal, output)?,
+            Reply::Refused(refusal) => write_refusal(*refusal, output)?,
             _ => output.write_all(b"ok\n")?,
         }
     }
