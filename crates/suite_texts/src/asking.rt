@@ -264,10 +264,22 @@ pub fn range<'a>(root: &NodeRef<'a>, span: Span) -> Result<TextRange<'a>, Fail> 
     Ok(ranged(root, span)?.ok_or("no range")?)
 }
 
+/// The ends of the range as plain values.
+pub fn both_ends(range: &TextRange) -> (Spot, Spot) {
+    (named(range.start()), named(range.end()))
+}
+
 /// The ends of the range, if it is there.
 pub fn ends(root: &NodeRef, span: Span) -> Result<Option<(Spot, Spot)>, Fail> {
     match ranged(root, span)? {
-        Some(range) => Ok(Some((named(range.start()), named(range.end())))),
+        Some(range) => Ok(Some(both_ends(&range))),
         None => Ok(None),
     }
+}
+
+/// Whether there are two positions at an index in scalars, and not one.
+pub fn has_two_sides(root: &NodeRef, index: usize) -> Result<bool, Fail> {
+    let start = placed(root, Place::At(index))?;
+    let end = placed(root, Place::EndSideOf(index))?;
+    Ok(end != start)
 }

@@ -9,7 +9,7 @@ use crate::sketches::Has::{
 };
 use crate::sketches::{Sketch, planted, root_of};
 use accesskit_consumer::node::NodeRef;
-use accesskit_consumer::text::TextRangePropertyValue::{Mixed, Single};
+use accesskit_consumer::text::TextRangePropertyValue::{self, Mixed, Single};
 use accesskit_consumer::text::{TextPosition, TextRange};
 use schema::{
     Color, Role, TextAlign, TextDecoration, TextDecorationStyle, TextDirection, VerticalOffset,
@@ -79,33 +79,34 @@ fn looks(position: &TextPosition, has: Has) -> bool {
     }
 }
 
+/// Whether the runs of a range have this in common.
+fn is_single<T: PartialEq + Copy>(given: TextRangePropertyValue<Option<T>>, wanted: T) -> bool {
+    given == Single(Some(wanted))
+}
+
 /// Whether all runs of the range look so.
 fn all_look(range: &TextRange, has: Has) -> bool {
     match has {
-        Direction(direction) => range.text_direction() == Single(Some(direction)),
-        FontFamily(family) => range.font_family() == Single(Some(family)),
-        Language(language) => range.language() == Single(Some(language)),
-        FontSize(size) => range.font_size() == Single(Some(size)),
-        FontWeight(weight) => range.font_weight() == Single(Some(weight)),
-        Background(color) => range.background_color() == Single(Some(color)),
-        Foreground(color) => range.foreground_color() == Single(Some(color)),
-        Overline(line) => range.overline() == Single(Some(line)),
-        Strikethrough(line) => range.strikethrough() == Single(Some(line)),
-        Underline(line) => range.underline() == Single(Some(line)),
-        Align(align) => range.text_align() == Single(Some(align)),
-        Offset(offset) => range.vertical_offset() == Single(Some(offset)),
+        Direction(direction) => is_single(range.text_direction(), direction),
+        FontFamily(family) => is_single(range.font_family(), family),
+        Language(language) => is_single(range.language(), language),
+        FontSize(size) => is_single(range.font_size(), size),
+        FontWeight(weight) => is_single(range.font_weight(), weight),
+        Background(color) => is_single(range.background_color(), color),
+        Foreground(color) => is_single(range.foreground_color(), color),
+        Overline(line) => is_single(range.overline(), line),
+        Strikethrough(line) => is_single(range.strikethrough(), line),
+        Underline(line) => is_single(range.underline(), line),
+        Align(align) => is_single(range.text_align(), align),
+        Offset(offset) => is_single(range.vertical_offset(), offset),
         Italic => range.is_italic() == Single(true),
         _ => false,
     }
 }
 
-/// Whether the first run, and whether the second, looks so at a position.
-fn looks_at(root: &NodeRef, places: [Place; 2], has: Has) -> Result<[bool; 2], Fail> {
-    let [first, second] = places;
-    Ok([
-        looks(&placed(root, first)?, has),
-        looks(&placed(root, second)?, has),
-    ])
+/// Whether the run at a place looks so.
+fn looks_at(root: &NodeRef, place: Place, has: Has) -> Result<bool, Fail> {
+    Ok(looks(&placed(root, place)?, has))
 }
 
 #[test]
@@ -113,32 +114,31 @@ fn positions_look_like_their_runs(rt: HostRuntime) -> Result<(), Fail> {
     let tree = planted(rt.alloc(), DOCUMENT)?;
     let root = root_of(&tree);
     for (number, look) in TOLD.iter().skip(3).enumerate() {
-        let given = looks_at(&root, [At(0), At(3)], *look)?;
-        assert!(rt; given == [false, true], "look {number}");
+        assert!(rt; !looks_at(&root, At(0), *look)?, "look {number}");
+        assert!(rt; looks_at(&root, At(3), *look)?, "look {number}");
     }
-    assert!(rt; looks(&placed(&root, At(0))?, FontWeight(400)));
+    assert!(rt; looks_at(&root, At(0), FontWeight(400))?);
     Ok(())
 }
 
-/// Whether all runs of the first range, and whether those of the second, look so.
-fn all_look_in(root: &NodeRef, spans: [Span; 2], has: Has) -> Result<[bool; 2], Fail> {
-    let [first, second] = spans;
-    Ok([
-        all_look(&range(root, first)?, has),
-        all_look(&range(root, second)?, has),
-    ])
+/// Whether all runs of a range look so.
+fn all_look_in(root: &NodeRef, span: Span, has: Has) -> Result<bool, Fail> {
+    Ok(all_look(&range(root, span)?, has))
 }
 
-/// Both runs, and the second one.
-const SPANS: [Span; 2] = [Between(At(1), At(3)), Between(At(2), At(4))];
+/// Of both runs.
+const BOTH: Span = Between(At(1), At(3));
+
+/// Of the second run alone.
+const SECOND: Span = Between(At(2), At(4));
 
 #[test]
 fn ranges_look_like_all_their_runs(rt: HostRuntime) -> Result<(), Fail> {
     let tree = planted(rt.alloc(), DOCUMENT)?;
     let root = root_of(&tree);
     for (number, look) in TOLD.iter().skip(3).enumerate() {
-        let given = all_look_in(&root, SPANS, *look)?;
-        assert!(rt; given == [false, true], "look {number}");
+        assert!(rt; !all_look_in(&root, BOTH, *look)?, "look {number}");
+        assert!(rt; all_look_in(&root, SECOND, *look)?, "look {number}");
     }
     Ok(())
 }
@@ -146,9 +146,8 @@ fn ranges_look_like_all_their_runs(rt: HostRuntime) -> Result<(), Fail> {
 #[test]
 fn looks_of_several_runs_are_mixed(rt: HostRuntime) -> Result<(), Fail> {
     let tree = planted(rt.alloc(), DOCUMENT)?;
-    let [both, second] = SPANS;
-    let both = range(&root_of(&tree), both)?.font_weight();
-    let second = range(&root_of(&tree), second)?.font_weight();
+    let both = range(&root_of(&tree), BOTH)?.font_weight();
+    let second = range(&root_of(&tree), SECOND)?.font_weight();
     assert!(rt; both == Mixed);
     assert!(rt; both.map(|weight| weight > 500) == Mixed);
     assert!(rt; second.map(|weight| weight > 500) == Single(Some(true)));

@@ -3,7 +3,9 @@
 use crate::asking::Mark::{Scalar, Unit};
 use crate::asking::Place::{self, At, EndSideOf};
 use crate::asking::Span::{Between, Line, UpTo};
-use crate::asking::{Kind, Mark, Move, ends, found, is, moved, named, numbers, placed, range};
+use crate::asking::{
+    Kind, Mark, Move, ends, found, has_two_sides, is, moved, named, numbers, placed, range,
+};
 use crate::plain::{self, PlainText};
 use crate::planting::planted;
 use crate::sketches::{Spot, root_of};
@@ -65,12 +67,15 @@ fn plain(spot: Spot) -> plain::Spot {
     (run, spot.1)
 }
 
-/// Asserts what a position is and where it moves.
-fn assert_position(rt: &impl Abort, text: &PlainText, position: &TextPosition) {
-    let at = plain(named(*position));
+/// Asserts of which kinds a position is.
+fn assert_kinds(rt: &impl Abort, text: &PlainText, position: &TextPosition, at: plain::Spot) {
     for (kind, wanted) in KINDS.iter().zip(text.tests(at)) {
         assert!(rt; is(position, *kind) == wanted, "{at:?}");
     }
+}
+
+/// Asserts where the moves from a position lead.
+fn assert_moves(rt: &impl Abort, text: &PlainText, position: &TextPosition, at: plain::Spot) {
     for (to, wanted) in MOVES.iter().zip(text.moves(at)) {
         assert!(rt; plain(moved(position, *to)) == wanted, "{at:?}");
     }
@@ -118,7 +123,7 @@ fn places(alloc: Global, root: &NodeRef, lengths: &[(usize, usize)]) -> Result<V
     let mut places = Vec::new(alloc);
     let mut index = 0usize;
     for number in 0..=lengths.len() {
-        if placed(root, EndSideOf(index))? != placed(root, At(index))? {
+        if has_two_sides(root, index)? {
             places.push(EndSideOf(index))?;
         }
         places.push(At(index))?;
@@ -172,7 +177,7 @@ fn assert_numbered(
 }
 
 /// The ends of the range from one position to another: with its end set last, and with its start set last.
-fn both_ends(
+fn ends_twice(
     root: &NodeRef,
     from: Place,
     to: Place,
@@ -194,7 +199,7 @@ fn assert_range(
     let start = plain(named(placed(root, from)?));
     let end = plain(named(placed(root, to)?));
     let wanted = text.ranges(start, end);
-    assert!(rt; both_ends(root, from, to)? == wanted, "{start:?} {end:?}");
+    assert!(rt; ends_twice(root, from, to)? == wanted, "{start:?} {end:?}");
     let range = range(root, Between(from, to))?;
     let is_empty = text.offset(start) >= text.offset(end);
     assert!(rt; range.is_degenerate() == is_empty, "{start:?} {end:?}");
@@ -206,29 +211,18 @@ fn assert_range(
     Ok(())
 }
 
-/// Asserts what a position is, its numbers, and the ranges from it to three others.
+/// Asserts what a position is, where it moves, and its numbers.
 fn assert_place(
     rt: &impl Abort,
-    alloc: Global,
-    dice: &mut Dice,
     text: &PlainText,
-    root: &NodeRef,
-    places: &[Place],
-    place: Place,
-) -> Result<(), Fail> {
-    let position = placed(root, place)?;
-    assert_position(rt, text, &position);
-    let lengths = text.lengths(alloc)?;
-    let at = plain(named(position));
-    assert!(rt;
-        numbers(&position) == wanted_numbers(text, &lengths, at),
-        "{at:?}"
-    );
-    for _ in 0..3u32 {
-        let other = dice.of(places).ok_or("no position")?;
-        assert_range(rt, alloc, text, root, place, other)?;
-    }
-    Ok(())
+    lengths: &[(usize, usize)],
+    position: &TextPosition,
+) {
+    let at = plain(named(*position));
+    assert_kinds(rt, text, position, at);
+    assert_moves(rt, text, position, at);
+    let wanted = wanted_numbers(text, lengths, at);
+    assert!(rt; numbers(position) == wanted, "{at:?}");
 }
 
 /// Asserts all of a text.
@@ -245,7 +239,11 @@ fn assert_text(
     let places = places(alloc, root, &lengths)?;
     assert!(rt; places.len() == text.spots(alloc)?.len());
     for place in &places {
-        assert_place(rt, alloc, dice, text, root, &places, *place)?;
+        assert_place(rt, text, &lengths, &placed(root, *place)?);
+        for _ in 0..3u32 {
+            let other = dice.of(&places).ok_or("no position")?;
+            assert_range(rt, alloc, text, root, *place, other)?;
+        }
     }
     Ok(())
 }

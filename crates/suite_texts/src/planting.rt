@@ -59,6 +59,15 @@ fn push_run(
     Ok(())
 }
 
+/// Gives the root so many runs.
+fn give_children(alloc: Global, root: &mut Node, count: usize) -> Result<(), AllocError> {
+    let mut ids = Vec::new(alloc);
+    for number in 0..count {
+        ids.push(run_id(number))?;
+    }
+    root.set_children(&ids)
+}
+
 /// Adds the root of so many runs.
 fn push_root(
     alloc: Global,
@@ -66,9 +75,8 @@ fn push_root(
     role: Role,
     count: usize,
 ) -> Result<(), AllocError> {
-    let ids: Vec<NodeId> = (0..count).map(run_id).collect(alloc)?;
     let mut root = Node::new(alloc, role);
-    root.set_children(&ids)?;
+    give_children(alloc, &mut root, count)?;
     nodes.push((NodeId(0), root))?;
     Ok(())
 }

@@ -180,6 +180,23 @@ fn ranges_have_ends(rt: HostRuntime) -> Result<(), Fail> {
     Ok(())
 }
 
+/// Whether a range has no character.
+static DEGENERATE: [(Text, Span, bool); 3] = [
+    (RIGHTWARD, WithStart(At(1), At(2), At(3)), true),
+    (RIGHTWARD, WithEnd(At(1), At(2), At(0)), true),
+    (RIGHTWARD, Between(At(1), At(2)), false),
+];
+
+#[test]
+fn ranges_may_have_no_character(rt: HostRuntime) -> Result<(), Fail> {
+    for (number, row) in DEGENERATE.iter().enumerate() {
+        let tree = planted(rt.alloc(), row.0)?;
+        let given = range(&root_of(&tree), row.1)?.is_degenerate();
+        assert!(rt; given == row.2, "row {number}");
+    }
+    Ok(())
+}
+
 /// The text of a range.
 static TEXTS: [(Text, Span, &str); 4] = [
     (MEETING, Selection, ""),

@@ -2,7 +2,7 @@
 
 use crate::asking::Place::{At, EndSideOf};
 use crate::asking::Span::{Between, Selection};
-use crate::asking::{named, placed, range};
+use crate::asking::{both_ends, placed, range};
 use crate::sketches::Has::{Children, Lengths, Value, Words};
 use crate::sketches::{Sketch, Spot, nodes_of, planted, root_of, selected};
 use crate::texts::{EMPTY_LAST, LETTERS, LETTERS_IN_BYTES, THIRD};
@@ -46,7 +46,7 @@ fn first_two(alloc: Global, root: &NodeRef) -> Result<WeakTextRange, Fail> {
 /// The ends of the range in a state, if it is there.
 fn upgraded(weak: &WeakTextRange, state: StateRef) -> Option<(Spot, Spot)> {
     match weak.upgrade(state) {
-        Some(range) => Some((named(range.start()), named(range.end()))),
+        Some(range) => Some(both_ends(&range)),
         None => None,
     }
 }
