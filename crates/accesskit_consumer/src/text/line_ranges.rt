@@ -2,10 +2,8 @@
 ghost use Rattle.std.specs.Prelude.{◌≡◌, ◌≤◌, ◌<◌, ◌+◌, ◌-◌, true, nat_lt, Some, None, length, slice_get, if◌then◌else◌};
 ghost use Rattle.model.specs.TextRuns.{supports_text_ranges};
 ghost use Rattle.model.specs.FlatText.{total, start_of, start_at, end_at, document_end, lines};
-ghost use Rattle.tree_views.specs.Nodes.{world_at, id_at};
 ghost use Rattle.tree_views.specs.Runs.{root_of, run_world, root_id};
 ghost use Rattle.accesskit_consumer.specs.RunNumbers.{number_in, text_around};
-ghost use Rattle.accesskit_consumer.specs.Positions.{text_of};
 ghost use Rattle.accesskit_consumer.specs.TextRanges.{IsRangeOf};
 ghost use Rattle.accesskit_consumer.specs.FoundRanges.{IsRangeFound, range_of_line};
 
