@@ -32,5 +32,5 @@ pub mod walks {
 }
 
 pub use node::{FullNodeId, NodeRef};
-pub use text::TextRoot;
+pub use text::{TextIndexes, TextPlaces, TextRoot, TextSelections};
 pub use tree::{StateRef, Tree, TreeChangeHandler, TreeState, UpdateError};

@@ -31,5 +31,5 @@ mod words;
 pub use position::TextPosition;
 pub use range::TextRange;
 pub use range_properties::TextRangePropertyValue;
-pub use text_root::TextRoot;
+pub use text_root::{TextIndexes, TextPlaces, TextRoot, TextSelections};
 pub use weak::WeakTextRange;

@@ -8,7 +8,7 @@ ghost use Rattle.tree_views.specs.Runs.{sent_of};
 ghost use Rattle.accesskit_consumer.specs.RunNumbers.{text_around};
 ghost use Rattle.accesskit_consumer.specs.TextRanges.{text_in, range_at};
 ghost use Rattle.accesskit_consumer.specs.Pieces.{piece_data};
-ghost use Rattle.accesskit_consumer.specs.Measures.{measures, shown_in, IsAlong};
+ghost use Rattle.accesskit_consumer.specs.Measures.{measures, IsAlong};
 ghost use Rattle.accesskit_consumer.specs.Boxes.{box_of, cut_of, IsOnRun};
 
 use crate::text::metrics::{Metrics, metrics_of};
@@ -18,7 +18,6 @@ use crate::text::range::TextRange;
 use schema::{Rect, TextDirection, WideRect, WideTranslation};
 use std::alloc::{AllocError, Global};
 use tree_views::node::geometry::ordered;
-use tree_views::runs::Run;
 
 /// A number so far past an edge.
 fn past(edge: i32, reach: i128) -> i128

@@ -2,7 +2,7 @@
 ghost use Rattle.std.specs.Prelude.{◌≡◌, ◌<◌, ◌≤◌, ◌+◌, true, take, IfSome, option_map};
 ghost use Rattle.std.specs.List.{concat};
 ghost use Rattle.model.specs.TextRuns.{said_count, sent_characters, supports_text_ranges};
-ghost use Rattle.model.specs.Moves.{utf16_len, global_index, position_of, to_global_usv_index, to_global_utf16_index, position_from_usv, position_from_utf16};
+ghost use Rattle.model.specs.Moves.{utf16_len, global_index, position_of, to_global_usv_index, to_global_utf16_index};
 ghost use Rattle.tree_views.specs.Nodes.{world_at, id_at};
 ghost use Rattle.tree_views.specs.Runs.{sent_of};
 ghost use Rattle.accesskit_consumer.specs.Positions.{root_at, text_of, text_at, position_at};

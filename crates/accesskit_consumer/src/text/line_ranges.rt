@@ -3,19 +3,21 @@ ghost use Rattle.std.specs.Prelude.{◌≡◌, ◌≤◌, ◌<◌, ◌+◌, ◌-
 ghost use Rattle.model.specs.TextRuns.{supports_text_ranges};
 ghost use Rattle.model.specs.FlatText.{total, start_of, start_at, end_at, document_end, lines};
 ghost use Rattle.tree_views.specs.Nodes.{world_at, id_at};
+ghost use Rattle.accesskit_consumer.specs.Positions.{text_of};
 ghost use Rattle.tree_views.specs.Runs.{root_of, run_world, root_id};
 ghost use Rattle.accesskit_consumer.specs.RunNumbers.{number_in, text_around};
-ghost use Rattle.accesskit_consumer.specs.Positions.{text_of};
 ghost use Rattle.accesskit_consumer.specs.TextRanges.{IsRangeOf};
 ghost use Rattle.accesskit_consumer.specs.FoundRanges.{IsRangeFound, range_of_line};
 
+use crate::text::boundaries::{Mark, last_of};
 use crate::text::ends::document_end;
 use crate::text::position::TextPosition;
 use crate::text::range::TextRange;
+use tree_views::node::NodeRef;
 use tree_views::runs::Run;
 
 /// From the start of the run to the end of another one, which isn't before it.
-pub(super) fn range_to<'a>(first: Run<'a>, last: Run<'a>) -> TextRange<'a>
+fn range_to<'a>(first: Run<'a>, last: Run<'a>) -> TextRange<'a>
     requires text { supports_text_ranges (run_world first) (root_id first) ≡ true }
     requires same { root_of last ≡ root_of first }
     requires order { number_in first ≤ number_in last }
@@ -49,7 +51,7 @@ fn caret_past<'a>(run: Run<'a>) -> Option<TextRange<'a>>
 }
 
 /// What stands past the last line, which begins with the run: its number, and a number above it.
-pub(super) fn range_past<'a>(run: Run<'a>, line: usize, index: usize) -> Option<TextRange<'a>>
+fn range_past<'a>(run: Run<'a>, line: usize, index: usize) -> Option<TextRange<'a>>
     requires text { supports_text_ranges (run_world run) (root_id run) ≡ true }
     requires size { length (lines (text_around run)) ≡ line + 1 }
     requires last { let t = text_around run in
@@ -65,4 +67,25 @@ pub(super) fn range_past<'a>(run: Run<'a>, line: usize, index: usize) -> Option<
         return None;
     }
     caret_past(run)
+}
+
+/// The range of a line of the text of a node, which has text ranges, by its number from 0.
+pub(super) fn line_range_of<'a>(root: NodeRef<'a>, index: usize) -> Option<TextRange<'a>>
+    requires { supports_text_ranges (world_at root) (id_at root) ≡ true }
+    ensures { let range = range_of_line (text_of root.entry) index in
+        IsRangeFound (world_at root.entry) (id_at root.entry) range result }
+{
+    let mut first = Run::first(root).unwrap();
+    let mut line = 0usize;
+    loop {
+        let last = last_of(first, Mark::Line);
+        if line >= index {
+            return Some(range_to(first, last));
+        }
+        let Some(next) = last.next() else {
+            return range_past(first, line, index);
+        };
+        line += 1;
+        first = next;
+    }
 }

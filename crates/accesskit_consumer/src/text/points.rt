@@ -25,7 +25,7 @@ use tree_views::walks::hits::{Seen, contains};
 
 /// What a point is to a run: in its own rectangle, or beside its box, on the side where its text ends.
 #[derive(Clone, Copy)]
-pub(super) enum PointTest {
+enum PointTest {
     Inside,
     Past,
 }
@@ -174,7 +174,7 @@ fn passes(run: Run<'_>, test: PointTest, point: Point) -> bool
 }
 
 /// The last run of a root where the point is there.
-pub(super) fn last_at<'a>(root: NodeRef<'a>, test: PointTest, point: Point) -> Option<Run<'a>>
+fn last_at<'a>(root: NodeRef<'a>, test: PointTest, point: Point) -> Option<Run<'a>>
     ensures same { IfSome result (λ r. root_of r ≡ root.entry) }
     ensures found { option_map number_in result ≡ last_passing root.entry test point }
 {
@@ -192,7 +192,7 @@ pub(super) fn last_at<'a>(root: NodeRef<'a>, test: PointTest, point: Point) -> O
 
 /// The index at a point in a run of a text: 0 where nothing is told of its characters, and the end where none of
 /// them lies there.
-pub(super) fn index_at(run: Run<'_>, point: Point) -> usize
+fn index_at(run: Run<'_>, point: Point) -> usize
     requires { supports_text_ranges (run_world run) (root_id run) ≡ true }
     ensures exact { result ≡ index_at point (shown_in run.entry) }
     ensures within { result ≤ said_count (sent_of run.entry) }
@@ -230,7 +230,7 @@ fn position_past<'a>(root: NodeRef<'a>, point: Point) -> TextPosition<'a>
 }
 
 /// The position at a point that is in no run.
-pub(super) fn position_beside<'a>(root: NodeRef<'a>, point: Point) -> TextPosition<'a>
+fn position_beside<'a>(root: NodeRef<'a>, point: Point) -> TextPosition<'a>
     requires text { supports_text_ranges (world_at root) (id_at root) ≡ true }
     requires outside { last_passing root Inside point ≡ None }
     ensures { IsAt root.entry (position_at_point (text_of root.entry) point) result }
@@ -243,4 +243,18 @@ pub(super) fn position_beside<'a>(root: NodeRef<'a>, point: Point) -> TextPositi
         };
     }
     position_past(root, point)
+}
+
+/// The position at a point of the text of a node, which has text ranges.
+pub(super) fn position_at<'a>(root: NodeRef<'a>, point: Point) -> TextPosition<'a>
+    requires { supports_text_ranges (world_at root) (id_at root) ≡ true }
+    ensures { IsAt root.entry (position_at_point (text_of root.entry) point) result }
+{
+    let Some(run) = last_at(root, PointTest::Inside, point) else {
+        return position_beside(root, point);
+    };
+    TextPosition {
+        run,
+        index: index_at(run, point),
+    }
 }

@@ -1,8 +1,7 @@
 //! The ends of ranges, and ranges made of positions.
-ghost use Rattle.std.specs.Prelude.{◌≡◌, ◌≤◌, true};
-ghost use Rattle.model.specs.TextRuns.{supports_text_ranges};
+ghost use Rattle.std.specs.Prelude.{◌≡◌, ◌≤◌};
 ghost use Rattle.model.specs.FlatText.{offset};
-ghost use Rattle.model.specs.Ranges.{range_between, is_degenerate, document_range, with_start, with_end, IsRaw};
+ghost use Rattle.model.specs.Ranges.{range_between, is_degenerate, with_start, with_end, IsRaw};
 ghost use Rattle.tree_views.specs.Nodes.{world_at, id_at};
 ghost use Rattle.accesskit_consumer.specs.Positions.{IsAt, root_at, text_of, text_at, position_at};
 ghost use Rattle.accesskit_consumer.specs.TextRanges.{IsRangeOf, world_in, root_in, text_in, range_at};

@@ -1,5 +1,5 @@
 //! What the runs of a range have in common.
-ghost use Rattle.std.specs.Prelude.{◌≡◌, MatchOption, option_copied};
+ghost use Rattle.std.specs.Prelude.{MatchOption, option_copied};
 ghost use Rattle.accesskit_consumer.specs.RangeProperties.{SomeDiffer, IsSample, IsInherited, IsItalic, TakesValue, MapsValue};
 
 use crate::text::looks::{Look, are_same};

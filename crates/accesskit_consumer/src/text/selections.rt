@@ -1,9 +1,8 @@
 //! What is selected in a text.
 ghost use Rattle.std.specs.Prelude.{◌≡◌, true, IfSome};
 ghost use Rattle.model.specs.TextRuns.{supports_text_ranges};
-ghost use Rattle.model.specs.Ranges.{selection_of, selection, selection_anchor, selection_focus};
+ghost use Rattle.model.specs.Ranges.{selection_of};
 ghost use Rattle.tree_views.specs.Nodes.{world_at, id_at};
-ghost use Rattle.accesskit_consumer.specs.FoundRanges.{IsAtFound, IsRangeFound};
 
 use tree_views::node::NodeRef;
 

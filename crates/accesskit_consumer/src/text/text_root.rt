@@ -11,18 +11,16 @@ ghost use Rattle.accesskit_consumer.specs.Positions.{IsAt, root_at, text_of, pos
 ghost use Rattle.accesskit_consumer.specs.TextRanges.{IsRangeOf};
 ghost use Rattle.accesskit_consumer.specs.FoundRanges.{IsAtFound, IsRangeFound, range_of_line};
 
-use crate::text::boundaries::{Mark, last_of};
 use crate::text::ends::{document_end, document_start};
 use crate::text::indexes::{Units, position_from};
-use crate::text::line_ranges::{range_past, range_to};
+use crate::text::line_ranges::line_range_of;
 use crate::text::named::nearest_named;
-use crate::text::points::{PointTest, index_at, last_at, position_beside};
+use crate::text::points::position_at;
 use crate::text::position::TextPosition;
 use crate::text::range::TextRange;
 use crate::text::selections::selection_sent;
 use schema::Point;
 use tree_views::node::NodeRef;
-use tree_views::runs::Run;
 
 /// A node that may be the root of a text. `NodeRef` is the one that is.
 pub trait TextRoot<'a> {
@@ -39,6 +37,11 @@ pub trait TextRoot<'a> {
     /// The range of the node's whole text, which has text ranges.
     fn document_range(&self) -> TextRange<'a>
         requires { may_ask self.now };
+}
+
+/// A node that may be asked for positions by an index of its whole text.
+pub trait TextIndexes<'a> {
+    ghost may_ask: { Self → Type 0 };
 
     /// The position of an index that counts the scalars of the whole text: before the character in which it lies, at
     /// the start of a run where two runs meet. At the length of the text it is its end, and past that there is none. The
@@ -51,6 +54,11 @@ pub trait TextRoot<'a> {
     /// none. The node has text ranges.
     fn text_position_from_global_utf16_index(&self, index: usize) -> Option<TextPosition<'a>>
         requires { may_ask self.now };
+}
+
+/// A node that may be asked where a line or a point of its text is.
+pub trait TextPlaces<'a> {
+    ghost may_ask: { Self → Type 0 };
 
     /// The range of a line of the node's text, which has text ranges, by its number from 0.
     ///
@@ -65,7 +73,10 @@ pub trait TextRoot<'a> {
     /// the last run that the point is past along its line, and else the end of the text.
     fn text_position_at_point(&self, point: Point) -> TextPosition<'a>
         requires { may_ask self.now };
+}
 
+/// A node that may be asked what is selected in its text.
+pub trait TextSelections<'a> {
     /// The range that is selected: none without a selection, without text ranges, or where an end names none of the
     /// node's own runs. An index past the end of its run is cut to it.
     fn text_selection(&self) -> Option<TextRange<'a>>;
@@ -103,6 +114,10 @@ impl<'a> TextRoot<'a> for NodeRef<'a> {
     {
         TextRange::over(document_start(*self), document_end(*self))
     }
+}
+
+impl<'a> TextIndexes<'a> for NodeRef<'a> {
+    ghost may_ask = { HasText };
 
     fn text_position_from_global_usv_index(&self, index: usize) -> Option<TextPosition<'a>>
         requires { supports_text_ranges (world_at self.now) (id_at self.now) ≡ true }
@@ -119,41 +134,28 @@ impl<'a> TextRoot<'a> for NodeRef<'a> {
     {
         position_from(*self, Units::Utf16, index)
     }
+}
+
+impl<'a> TextPlaces<'a> for NodeRef<'a> {
+    ghost may_ask = { HasText };
 
     fn line_range_from_index(&self, index: usize) -> Option<TextRange<'a>>
         requires { supports_text_ranges (world_at self.now) (id_at self.now) ≡ true }
         ensures { let range = range_of_line (text_of self.now) index in
             IsRangeFound (world_at self.now) (id_at self.now) range result }
     {
-        let mut first = Run::first(*self).unwrap();
-        let mut line = 0usize;
-        loop {
-            let last = last_of(first, Mark::Line);
-            if line >= index {
-                return Some(range_to(first, last));
-            }
-            let Some(next) = last.next() else {
-                return range_past(first, line, index);
-            };
-            line += 1;
-            first = next;
-        }
+        line_range_of(*self, index)
     }
 
     fn text_position_at_point(&self, point: Point) -> TextPosition<'a>
         requires { supports_text_ranges (world_at self.now) (id_at self.now) ≡ true }
         ensures { IsAt self.now (position_at_point (text_of self.now) point) result }
     {
-        let root = *self;
-        let Some(run) = last_at(root, PointTest::Inside, point) else {
-            return position_beside(root, point);
-        };
-        TextPosition {
-            run,
-            index: index_at(run, point),
-        }
+        position_at(*self, point)
     }
+}
 
+impl<'a> TextSelections<'a> for NodeRef<'a> {
     fn text_selection(&self) -> Option<TextRange<'a>>
         ensures { let w = world_at self.now in
             IsRangeFound w (id_at self.now) (selection w (id_at self.now)) result }

@@ -1,7 +1,8 @@
-use Rattle.std.proofs.Common.{sym, ap, ◌∙◌}
+use Rattle.std.proofs.Common.{sym, ap, subst, ◌∙◌}
 use Rattle.std.specs.Prelude.{option_map}
 use Rattle.std.proofs.lemmas.Option.{same_Some}
-use Rattle.tree_views.specs.Nodes.{id_at}
+use Rattle.model.specs.Lists.{IsWithin}
+use Rattle.tree_views.specs.Nodes.{world_at, id_at}
 use Rattle.tree_views.specs.Runs.{run_id}
 use Rattle.accesskit_consumer.proofs.FlatRuns.{shown_at_number}
 use Rattle.accesskit_consumer.proofs.WeakSteps.{view_within}
@@ -12,4 +13,5 @@ relative_index_path-requires c =
     let run = c.biased_to_start-side.result.run in
     let node = c.inner_node-node.result in
     let is = same_Some (id_at node) (run_id run) (sym c.inner_node-node.ensures.run ∙ ap (option_map (λ s. s.id)) (shown_at_number run)) in
-    view_within run node c.root.result c.inner_node-node.ensures.world is c.root.ensures
+    let within = view_within run node c.root.result c.inner_node-node.ensures.world is c.root.ensures in
+    subst (λ top. IsWithin (world_at node) top (id_at node)) (sym c.id.ensures) within

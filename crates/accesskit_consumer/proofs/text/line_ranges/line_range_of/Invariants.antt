@@ -1,11 +1,11 @@
 use Rattle.std.proofs.Common.{◌≤◌, length}
 use Rattle.tree_views.specs.Runs.{ids_after}
 use Rattle.accesskit_consumer.proofs.LineSteps.{IsAtLine}
-use Rattle.accesskit_consumer.proofs.text.text_root.NodeRefTextRoot.line_range_from_index.Given as goal
+use Rattle.accesskit_consumer.proofs.text.line_ranges.line_range_of.Given as goal
 
 abbrev pub invariant-loop-line : goal.invariant-loop-line
 invariant-loop-line l = record {
-  at : IsAtLine l.fn.self l.line l.first;
+  at : IsAtLine l.fn.root l.line l.first;
   upto : l.line ≤ l.index;
 }
 

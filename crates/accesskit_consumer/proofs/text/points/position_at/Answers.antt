@@ -1,6 +1,6 @@
 use Rattle.std.proofs.Common.{sym}
 use Rattle.accesskit_consumer.proofs.PointPlaces.{at_inside}
-use Rattle.accesskit_consumer.proofs.text.text_root.NodeRefTextRoot.text_position_at_point.Goals as goal
+use Rattle.accesskit_consumer.proofs.text.points.position_at.Goals as goal
 
 pub position_beside-requires-clause-outside : goal.position_beside-requires-clause-outside
 position_beside-requires-clause-outside c = sym c.in_default.ensures.found
@@ -8,5 +8,5 @@ position_beside-requires-clause-outside c = sym c.in_default.ensures.found
 pub returns : goal.returns
 returns c = record {
   same = c.in-Some.ensures.same;
-  at = at_inside c.args.self.now c.args.point c.in-Some.run' c.index_at.result c.in-Some.ensures.same c.in-Some.ensures.found c.index_at.ensures.exact;
+  at = at_inside c.args.root c.args.point c.in-Some.run' c.index_at.result c.in-Some.ensures.same c.in-Some.ensures.found c.index_at.ensures.exact;
 }

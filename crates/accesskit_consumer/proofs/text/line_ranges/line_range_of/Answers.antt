@@ -10,24 +10,24 @@ use Rattle.accesskit_consumer.specs.Positions.{text_of}
 use Rattle.accesskit_consumer.proofs.TextEnds.{some_run}
 use Rattle.accesskit_consumer.proofs.LineRanges.{line_is_there}
 use Rattle.accesskit_consumer.proofs.LineSteps.{at_first_line, line_rises, line_there, no_more_lines, last_line, next_at_line, fewer_left}
-use Rattle.accesskit_consumer.proofs.text.text_root.NodeRefTextRoot.line_range_from_index.Goals as goal
+use Rattle.accesskit_consumer.proofs.text.line_ranges.line_range_of.Goals as goal
 
 pub unwrap-first-requires : goal.unwrap-first-requires
-unwrap-first-requires c = some_run (IsFirstOf c.args.self.now) c.args.self.now c.first.result c.requires c.first.ensures
+unwrap-first-requires c = some_run (IsFirstOf c.args.root) c.args.root c.first.result c.requires c.first.ensures
 
 pub loop-line-init : goal.loop-line-init
 loop-line-init c =
-    let n = c.args.self.now in
+    let n = c.args.root in
     let first : IsFirstOf n c.unwrap-first.result = subst (λ o. MatchOption o (run_ids (world_at n) (id_at n) ≡ []) (IsFirstOf n)) c.unwrap-first.ensures c.first.ensures in
     record { at = at_first_line n c.requires c.unwrap-first.result first; upto = omega arith }
 
 pub range_to-requires-clause-order : goal.range_to-requires-clause-order
 range_to-requires-clause-order c =
-    line_rises c.args.self.now c.requires c.loop-line.line c.loop-line.first c.last_of-last.result c.loop-line.invariant.at c.last_of-last.ensures.same c.last_of-last.ensures.found
+    line_rises c.args.root c.requires c.loop-line.line c.loop-line.first c.last_of-last.result c.loop-line.invariant.at c.last_of-last.ensures.same c.last_of-last.ensures.found
 
 pub returns-then-line-index : goal.returns-then-line-index
 returns-then-line-index c =
-    let n = c.args.self.now in
+    let n = c.args.root in
     let at = c.loop-line.invariant.at in
     let upto = c.loop-line.invariant.upto in
     let past = c.if-line-index.true in
@@ -42,20 +42,20 @@ returns-then-line-index c =
 
 pub range_past-requires-clause-size : goal.range_past-requires-clause-size
 range_past-requires-clause-size c =
-    no_more_lines c.args.self.now c.requires c.loop-line.line c.loop-line.first c.last_of-last.result c.loop-line.invariant.at c.last_of-last.ensures.same c.last_of-last.ensures.found c.in_default.ensures
+    no_more_lines c.args.root c.requires c.loop-line.line c.loop-line.first c.last_of-last.result c.loop-line.invariant.at c.last_of-last.ensures.same c.last_of-last.ensures.found c.in_default.ensures
 
 pub range_past-requires-clause-last : goal.range_past-requires-clause-last
 range_past-requires-clause-last c =
-    last_line c.args.self.now c.requires c.loop-line.line c.loop-line.first c.last_of-last.result c.loop-line.invariant.at c.last_of-last.ensures.same c.last_of-last.ensures.found c.in_default.ensures
+    last_line c.args.root c.requires c.loop-line.line c.loop-line.first c.last_of-last.result c.loop-line.invariant.at c.last_of-last.ensures.same c.last_of-last.ensures.found c.in_default.ensures
 
 pub loop-line-smaller : goal.loop-line-smaller
 loop-line-smaller c =
-    fewer_left c.args.self.now c.requires c.loop-line.line c.loop-line.first c.last_of-last.result c.loop-line.invariant.at c.last_of-last.ensures.same c.last_of-last.ensures.found c.in-Some.next c.in-Some.ensures
+    fewer_left c.args.root c.requires c.loop-line.line c.loop-line.first c.last_of-last.result c.loop-line.invariant.at c.last_of-last.ensures.same c.last_of-last.ensures.found c.in-Some.next c.in-Some.ensures
 
 pub loop-line-preserved : goal.loop-line-preserved
 loop-line-preserved c =
     let below = c.if-line-index.false in
     record {
-      at = next_at_line c.args.self.now c.requires c.loop-line.line c.loop-line.first c.last_of-last.result c.loop-line.invariant.at c.last_of-last.ensures.same c.last_of-last.ensures.found c.in-Some.next c.in-Some.ensures;
+      at = next_at_line c.args.root c.requires c.loop-line.line c.loop-line.first c.last_of-last.result c.loop-line.invariant.at c.last_of-last.ensures.same c.last_of-last.ensures.found c.in-Some.next c.in-Some.ensures;
       upto = omega (arith, below);
     }
