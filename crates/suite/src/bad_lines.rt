@@ -1,6 +1,6 @@
 //! Lines that no script has.
 
-use crate::scripts::run;
+use crate::scripts::{assert_ends, run};
 use std::test::Fail;
 
 /// Each of these lines is bad where no update is open.
@@ -195,5 +195,47 @@ fn other_ends_are_numbered(rt: HostRuntime) {
         let (status, _, errors) = run(rt.alloc(), script);
         assert_eq!(rt; status, 2);
         assert_eq!(rt; errors.as_slice(), told);
+    }
+}
+
+/// A script that ends at a bad line, with what it prints and what is told of the line.
+#[derive(Clone, Copy)]
+struct Ended {
+    input: &'static str,
+    output: &'static str,
+    errors: &'static str,
+}
+
+static ENDED: [Ended; 3] = [
+    Ended {
+        input: "update root focus=0 root=0\nnode 0 Window children=1\nnode 1 Button label=\"OK\"\nend\nhost on\nupdate root focus=1\nend\nupdate root focus=1\nnode 0 Window\nend\nprint\nlabel 1 root\nbogus\n",
+        output: "ok\nupdated 0:0\nfocus - 0:0\nok\nupdated 0:0\nupdated 0:1\nfocus 0:0 0:1\nok\nrefused FocusMissing 1\n0:0 Window\n  0:1 Button *\n\"OK\"\n",
+        errors: "line 13: bad line\n",
+    },
+    Ended {
+        input: "update root focus=0 root=0\nnode 0 Window children=1\n",
+        output: "",
+        errors: "line 2: bad line\n",
+    },
+    Ended {
+        input: "update root focus=0 root=0\nnode 0 Window children=1\nnode 1 Button label=\"OK\"\n",
+        output: "",
+        errors: "line 3: bad line\n",
+    },
+];
+
+/// What stands before a bad line is run and printed, but for an update that isn't at its end. Each script is cut after
+/// every byte, too.
+#[test]
+fn scripts_end_at_a_bad_line(rt: HostRuntime) {
+    for ended in &ENDED {
+        let bytes = ended.input.as_bytes();
+        let (status, output, errors) = run(rt.alloc(), bytes);
+        assert_eq!(rt; status, 2, "{}", ended.errors);
+        assert_eq!(rt; output.as_slice(), ended.output.as_bytes());
+        assert_eq!(rt; errors.as_slice(), ended.errors.as_bytes());
+        for cut in 0..bytes.len() {
+            assert_ends(&rt, rt.alloc(), &bytes[..cut], ended.errors);
+        }
     }
 }

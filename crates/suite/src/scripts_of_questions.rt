@@ -1,8 +1,9 @@
 //! Scripts that ask about a tree.
 
-use crate::scripts::{Script, assert_ends, assert_prints};
+use crate::scripts::{Script, assert_ends, assert_prints, run};
+use std::test::Fail;
 
-pub static SCRIPTS: [Script; 10] = [
+pub static SCRIPTS: [Script; 11] = [
     Script {
         name: "questions before there is a tree",
         input: "children 0 root\nfiltered 0 root\nset 0 root\nhit 0 root 1 2\nfocus\n",
@@ -61,6 +62,11 @@ pub static SCRIPTS: [Script; 10] = [
             "ok\n0:2\nupdated 0:1\nupdated 0:2\nfocus 0:2 0:1\nok\n0:1\nupdated 0:1\nfocus 0:1 -\nok\nnone\n",
         ],
     },
+    Script {
+        name: "the greatest length and word start that a run can have",
+        input: "update root focus=0 root=0\nnode 0 TextInput children=1\nnode 1 TextRun value=\"a\" chars=65535 words=65535\nend\ntext 0 root\n",
+        outputs: &["ok\nnone\n"],
+    },
 ];
 
 #[test]
@@ -76,4 +82,22 @@ fn scripts_of_questions_cut_anywhere_end_well(rt: HostRuntime) {
             assert_ends(&rt, rt.alloc(), &bytes[..cut], script.name);
         }
     }
+}
+
+/// One character of 301 bytes: a letter and 150 accents.
+#[test]
+fn long_character_is_printed(rt: HostRuntime) -> Result<(), Fail> {
+    let mut value = String::from_str(rt.alloc(), "a")?;
+    for _ in 0..150u32 {
+        value.push('\u{301}')?;
+    }
+    let script = format!(in rt.alloc();
+        "update root focus=0 root=0\nnode 0 TextInput children=1\nnode 1 TextRun value=\"{value}\" chars=301 words=0\nend\ntext 0 root\n"
+    )?;
+    let wanted = format!(in rt.alloc(); "ok\n\"{value}\"\n")?;
+    let (status, output, errors) = run(rt.alloc(), script.as_bytes());
+    assert_eq!(rt; status, 0);
+    assert_eq!(rt; output.as_slice(), wanted.as_bytes());
+    assert!(rt; errors.is_empty());
+    Ok(())
 }
