@@ -12,7 +12,7 @@ ghost use Rattle.session.specs.Texts.{offset_at, place_in};
 
 use crate::commands::Reply;
 use accesskit_consumer::text::TextPosition;
-use accesskit_consumer::{NodeRef, TextRoot};
+use accesskit_consumer::{NodeRef, TextIndexes};
 use model::{At, Move, Side};
 use std::alloc::{AllocError, Global};
 use std::cmp::Ordering;

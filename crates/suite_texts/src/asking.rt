@@ -6,9 +6,9 @@ ghost use Rattle.accesskit_consumer.specs.Positions.{root_at};
 ghost use Rattle.accesskit_consumer.specs.TextRanges.{world_in, root_in};
 
 use crate::sketches::Spot;
-use accesskit_consumer::TextRoot;
 use accesskit_consumer::node::NodeRef;
 use accesskit_consumer::text::{TextPosition, TextRange};
+use accesskit_consumer::{TextIndexes, TextPlaces, TextRoot, TextSelections};
 use schema::Point;
 use std::test::Fail;
 

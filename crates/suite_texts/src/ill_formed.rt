@@ -4,9 +4,9 @@ use crate::sketches::Has::{
     Children, Graft, Lengths, Next, Positions, Previous, Selection, Value, Widths, Words,
 };
 use crate::sketches::{Sketch, nodes_of, planted, root_of};
-use accesskit_consumer::TextRoot;
 use accesskit_consumer::node::NodeRef;
 use accesskit_consumer::tree::Tree;
+use accesskit_consumer::{TextRoot, TextSelections};
 use plain_worlds::ids::tree_id;
 use plain_worlds::recorder::Recorder;
 use schema::Role::{GenericContainer, TextInput, TextRun};

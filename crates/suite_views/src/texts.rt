@@ -4,6 +4,7 @@ use crate::planting::{planted, shown};
 use accesskit_consumer::node::NodeRef;
 use accesskit_consumer::text::TextRange;
 use accesskit_consumer::tree::Tree;
+use accesskit_consumer::{TextRoot, TextSelections};
 use plain_worlds::ids::node_ids;
 use schema::{Node, NodeId, Role, TextBuffer, TextPosition, TextSelection};
 use std::alloc::{AllocError, Global};
