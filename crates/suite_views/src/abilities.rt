@@ -1,6 +1,6 @@
 //! What can be done with a node.
 
-use crate::planting::{shown, window_with};
+use crate::planting::{row_of, shown};
 use accesskit_consumer::filters::common_filter;
 use accesskit_consumer::node::NodeRef;
 use schema::{Action, HasPopup, Node, Role, Toggled};
@@ -19,7 +19,7 @@ enum Has {
     Can(Action),
 }
 
-#[derive(Clone, Copy, Debug)]
+#[derive(Clone, Copy)]
 enum Ability {
     Select,
     Toggle,
@@ -114,15 +114,23 @@ static ABLE: [Able; 21] = [
     ),
 ];
 
+/// The number of a child of the window that isn't able as it should be.
+fn wrong_ability(window: &NodeRef) -> Option<usize> {
+    for (number, (node, able)) in window.children().zip(&ABLE).enumerate() {
+        if is_able(&node, able.0) != able.3 {
+            return Some(number);
+        }
+    }
+    None
+}
+
 #[test]
 fn nodes_are_able(rt: HostRuntime) -> Result<(), Fail> {
-    for (number, (ability, role, having, answer)) in ABLE.iter().enumerate() {
-        let tree = window_with(rt.alloc(), given(rt.alloc(), *role, having)?)?;
-        let node = shown(&tree, 0, 1)?;
-        assert!(rt;
-            is_able(&node, *ability) == *answer,
-            "{number}: {ability:?} {role:?}"
-        );
+    let mut nodes = Vec::new(rt.alloc());
+    for (_, role, having, _) in &ABLE {
+        nodes.push(given(rt.alloc(), *role, having)?)?;
     }
+    let tree = row_of(rt.alloc(), nodes)?;
+    assert_eq!(rt; wrong_ability(&shown(&tree, 0, 0)?), None);
     Ok(())
 }

@@ -1,11 +1,10 @@
 //! Flags that a node has where they were set.
 
-use crate::planting::{shown, window_with};
 use accesskit_consumer::node::NodeRef;
 use schema::{Node, Role};
-use std::test::Fail;
+use std::alloc::{AllocError, Global};
 
-#[derive(Clone, Copy, Debug, PartialEq, Eq)]
+#[derive(Clone, Copy)]
 enum Flag {
     Busy,
     Disabled,
@@ -54,20 +53,21 @@ fn has(node: &NodeRef, flag: Flag) -> bool {
     }
 }
 
-/// Of all flags a node has the one that was set, and the window around it has none.
-#[test]
-fn set_flag_is_the_only_one(rt: HostRuntime) -> Result<(), Fail> {
+/// A node for each flag, which has it alone.
+pub fn with_flags(alloc: Global) -> Result<Vec<Node>, AllocError> {
+    let mut nodes = Vec::new(alloc);
     for flag in FLAGS {
-        let mut node = Node::new(rt.alloc(), Role::Button);
+        let mut node = Node::new(alloc, Role::Button);
         set(&mut node, flag);
-        let tree = window_with(rt.alloc(), node)?;
-        for other in FLAGS {
-            assert!(rt;
-                has(&shown(&tree, 0, 1)?, other) == (other == flag),
-                "{other:?}"
-            );
-            assert!(rt; !has(&shown(&tree, 0, 0)?, other), "{other:?}");
-        }
+        nodes.push(node)?;
     }
-    Ok(())
+    Ok(nodes)
+}
+
+/// Whether of all flags the node has the one of this number alone.
+pub fn has_flag(node: &NodeRef, number: usize) -> bool {
+    FLAGS
+        .iter()
+        .enumerate()
+        .all(|(other, flag)| has(node, *flag) == (other == number))
 }

@@ -4,6 +4,8 @@
 #[cfg(test)]
 mod abilities;
 #[cfg(test)]
+mod fields;
+#[cfg(test)]
 mod flags;
 #[cfg(test)]
 mod looks;

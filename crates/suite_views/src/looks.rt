@@ -11,7 +11,7 @@ use schema::{
 use std::alloc::{AllocError, Global};
 use std::test::Fail;
 
-#[derive(Clone, Copy, Debug)]
+#[derive(Clone, Copy)]
 enum Look {
     Direction(TextDirection),
     FontFamily(&'static str),
@@ -142,54 +142,67 @@ fn is_plain(node: &NodeRef, look: Look) -> bool {
     }
 }
 
-/// A window, 0, has a group, 1, which looks in some ways and grafts a tree: a document, 0, with two labels, of which the
-/// second, 2, looks in other ways.
-fn grafted(alloc: Global) -> Result<Tree, Fail> {
-    let mut group = Node::new(alloc, Role::GenericContainer);
+/// A node that looks so.
+fn looking(alloc: Global, role: Role, looks: &[Look]) -> Result<Node, AllocError> {
+    let mut node = Node::new(alloc, role);
+    for look in looks {
+        give(&mut node, *look)?;
+    }
+    Ok(node)
+}
+
+/// A window, 0, has a group, 1, which looks in some ways and grafts the document.
+fn window(alloc: Global) -> Result<Vec<(NodeId, Node)>, AllocError> {
+    let mut group = looking(alloc, Role::GenericContainer, &ABOVE)?;
     group.set_tree_id(tree_id(1));
     group.set_italic();
-    for look in ABOVE {
-        give(&mut group, look)?;
-    }
-    let nodes = vec![in alloc;
+    Ok(vec![in alloc;
         (NodeId(0), node(alloc, Role::Window, &[1])?),
         (NodeId(1), group),
-    ]?;
-    let mut tree = planted(alloc, nodes)?;
-    let mut label = Node::new(alloc, Role::Label);
-    for look in BELOW {
-        give(&mut label, look)?;
-    }
-    let nodes = vec![in alloc;
+    ]?)
+}
+
+/// A document, 0, has two labels, of which the second, 2, looks in other ways.
+fn document(alloc: Global) -> Result<Vec<(NodeId, Node)>, AllocError> {
+    Ok(vec![in alloc;
         (NodeId(0), node(alloc, Role::Document, &[1, 2])?),
         (NodeId(1), Node::new(alloc, Role::Label)),
-        (NodeId(2), label),
-    ]?;
-    graft(alloc, &mut tree, 1, nodes)?;
+        (NodeId(2), looking(alloc, Role::Label, &BELOW)?),
+    ]?)
+}
+
+/// The window with the document in it.
+fn grafted(alloc: Global) -> Result<Tree, Fail> {
+    let mut tree = planted(alloc, window(alloc)?)?;
+    graft(alloc, &mut tree, 1, document(alloc)?)?;
     Ok(tree)
+}
+
+/// The number of a look that the window has, or that the group, the first label or the second hasn't.
+fn wrong_look(nodes: [NodeRef; 4]) -> Option<usize> {
+    let [window, group, first, second] = nodes;
+    for (number, (above, below)) in ABOVE.iter().zip(&BELOW).enumerate() {
+        if !is_plain(&window, *above) || !looks(&group, *above) {
+            return Some(number);
+        }
+        if !looks(&first, *above) || !looks(&second, *below) {
+            return Some(number);
+        }
+    }
+    None
 }
 
 /// A node looks as the nearest node above it, or itself, that tells anything.
 #[test]
 fn looks_are_inherited_across_grafts(rt: HostRuntime) -> Result<(), Fail> {
     let tree = grafted(rt.alloc())?;
-    for (above, below) in ABOVE.iter().zip(&BELOW) {
-        assert!(rt; is_plain(&shown(&tree, 0, 0)?, *above), "{above:?}");
-        assert!(rt; looks(&shown(&tree, 0, 1)?, *above), "{above:?}");
-        assert!(rt; looks(&shown(&tree, 1, 1)?, *above), "{above:?}");
-        assert!(rt; looks(&shown(&tree, 1, 2)?, *below), "{below:?}");
-    }
-    Ok(())
-}
-
-#[test]
-fn italics_are_inherited_across_grafts(rt: HostRuntime) -> Result<(), Fail> {
-    let tree = grafted(rt.alloc())?;
-    for (index, node, is_italic) in [(0, 0, false), (0, 1, true), (1, 0, true), (1, 2, true)] {
-        assert!(rt;
-            shown(&tree, index, node)?.is_italic() == is_italic,
-            "{index}:{node}"
-        );
-    }
+    let nodes = [
+        shown(&tree, 0, 0)?,
+        shown(&tree, 0, 1)?,
+        shown(&tree, 1, 1)?,
+        shown(&tree, 1, 2)?,
+    ];
+    assert_eq!(rt; wrong_look(nodes), None);
+    assert!(rt; nodes.map(|node| node.is_italic()) == [false, true, true, true]);
     Ok(())
 }

@@ -1,12 +1,11 @@
 //! Numbers that a node gives as they were set.
 
-use crate::planting::{shown, window_with};
 use accesskit_consumer::node::NodeRef;
 use schema::{Node, Role};
-use std::test::Fail;
+use std::alloc::Global;
 
 /// A field with a number of nodes or of levels.
-#[derive(Clone, Copy, Debug)]
+#[derive(Clone, Copy)]
 enum Count {
     Level,
     SizeOfSet,
@@ -35,28 +34,8 @@ fn count_of(node: &NodeRef, field: Count) -> Option<usize> {
     }
 }
 
-#[test]
-fn counts_are_given_as_they_were_set(rt: HostRuntime) -> Result<(), Fail> {
-    let mut node = Node::new(rt.alloc(), Role::ListItem);
-    for (field, count) in &COUNTS {
-        set_count(&mut node, *field, *count);
-    }
-    let tree = window_with(rt.alloc(), node)?;
-    for (field, count) in &COUNTS {
-        assert!(rt;
-            count_of(&shown(&tree, 0, 1)?, *field) == Some(*count),
-            "{field:?}"
-        );
-        assert!(rt;
-            count_of(&shown(&tree, 0, 0)?, *field).is_none(),
-            "{field:?}"
-        );
-    }
-    Ok(())
-}
-
 /// A field with a number: a value in thousandths, or how far is scrolled in units.
-#[derive(Clone, Copy, Debug)]
+#[derive(Clone, Copy)]
 enum Number {
     Value,
     MinValue,
@@ -117,22 +96,34 @@ fn number_of(node: &NodeRef, field: Number) -> Option<i64> {
     }
 }
 
-#[test]
-fn numbers_are_given_as_they_were_set(rt: HostRuntime) -> Result<(), Fail> {
-    let mut node = Node::new(rt.alloc(), Role::Slider);
+/// A node with all these numbers.
+pub fn with_numbers(alloc: Global) -> Node {
+    let mut node = Node::new(alloc, Role::Slider);
+    for (field, count) in &COUNTS {
+        set_count(&mut node, *field, *count);
+    }
     for (field, number) in &NUMBERS {
         set_number(&mut node, *field, *number);
     }
-    let tree = window_with(rt.alloc(), node)?;
-    for (field, number) in &NUMBERS {
-        assert!(rt;
-            number_of(&shown(&tree, 0, 1)?, *field) == Some(*number),
-            "{field:?}"
-        );
-        assert!(rt;
-            number_of(&shown(&tree, 0, 0)?, *field).is_none(),
-            "{field:?}"
-        );
+    node
+}
+
+/// The place in the table of a count that the one node doesn't give, or the other does.
+pub fn wrong_count(given: &NodeRef, bare: &NodeRef) -> Option<usize> {
+    for (place, (field, count)) in COUNTS.iter().enumerate() {
+        if count_of(given, *field) != Some(*count) || count_of(bare, *field).is_some() {
+            return Some(place);
+        }
     }
-    Ok(())
+    None
+}
+
+/// The same of the other numbers.
+pub fn wrong_number(given: &NodeRef, bare: &NodeRef) -> Option<usize> {
+    for (place, (field, number)) in NUMBERS.iter().enumerate() {
+        if number_of(given, *field) != Some(*number) || number_of(bare, *field).is_some() {
+            return Some(place);
+        }
+    }
+    None
 }

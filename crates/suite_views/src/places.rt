@@ -1,6 +1,6 @@
 //! Where a node says that it is, and the way to it.
 
-use crate::planting::{graft, node, planted, shown, window_with};
+use crate::planting::{graft, node, planted, row_of, shown};
 use accesskit_consumer::tree::Tree;
 use plain_worlds::ids::tree_id;
 use schema::{Node, NodeId, Rect, Role, Translation};
@@ -13,7 +13,7 @@ fn bounds_and_moves_are_given_as_they_were_set(rt: HostRuntime) -> Result<(), Fa
     let mut node = Node::new(rt.alloc(), Role::Button);
     node.set_bounds(bounds);
     node.set_transform(Translation::new(10, -40));
-    let tree = window_with(rt.alloc(), node)?;
+    let tree = row_of(rt.alloc(), vec![in rt.alloc(); node]?)?;
     let (bare, placed) = (shown(&tree, 0, 0)?, shown(&tree, 0, 1)?);
     assert!(rt; placed.raw_bounds() == Some(bounds));
     assert!(rt; placed.has_bounds());
@@ -27,7 +27,7 @@ fn bounds_and_moves_are_given_as_they_were_set(rt: HostRuntime) -> Result<(), Fa
 #[test]
 fn button_of_a_window_has_a_path_and_no_label(rt: HostRuntime) -> Result<(), Fail> {
     let alloc = rt.alloc();
-    let tree = window_with(alloc, Node::new(alloc, Role::Button))?;
+    let tree = row_of(alloc, vec![in alloc; Node::new(alloc, Role::Button)]?)?;
     let (window, button) = (shown(&tree, 0, 0)?, shown(&tree, 0, 1)?);
     assert!(rt; button.label(alloc)?.is_none());
     assert!(rt; button.index_path(alloc)?.as_slice() == [0usize].as_slice());

@@ -42,12 +42,15 @@ pub fn graft(
     Ok(())
 }
 
-/// A window, and in it this node as node 1.
-pub fn window_with(alloc: Global, child: Node) -> Result<Tree, Fail> {
-    let nodes = vec![in alloc;
-        (NodeId(0), node(alloc, Role::Window, &[1])?),
-        (NodeId(1), child),
-    ]?;
+/// A window with these nodes as its children, whose ids count from 1.
+pub fn row_of(alloc: Global, children: Vec<Node>) -> Result<Tree, Fail> {
+    let mut window = Node::new(alloc, Role::Window);
+    let mut nodes = Vec::new(alloc);
+    for (id, child) in (1u64..).zip(children) {
+        window.push_child(NodeId(id))?;
+        nodes.push((NodeId(id), child))?;
+    }
+    nodes.push((NodeId(0), window))?;
     planted(alloc, nodes)
 }
 

@@ -1,14 +1,13 @@
 //! What a node says by its role.
 
-use crate::planting::{planted, shown, window_with};
+use crate::planting::{row_of, shown};
 use accesskit_consumer::node::NodeRef;
-use accesskit_consumer::tree::Tree;
-use schema::{Node, NodeId, Orientation, Role, named_roles};
-use std::alloc::Global;
+use schema::{Node, Orientation, Role, named_roles};
+use std::alloc::{AllocError, Global};
 use std::test::Fail;
 
 /// A class of roles.
-#[derive(Clone, Copy, Debug)]
+#[derive(Clone, Copy)]
 enum Class {
     TextInput,
     Multiline,
@@ -151,36 +150,37 @@ fn is_of(node: &NodeRef, class: Class) -> bool {
     }
 }
 
-/// A window with a child of each role that has a name, and one of another role.
-fn all_roles(alloc: Global) -> Result<Tree, Fail> {
-    let mut window = Node::new(alloc, Role::Window);
-    let mut nodes = Vec::new(alloc);
-    let roles = named_roles().iter().map(|(_, role)| *role);
-    for (id, role) in (1u64..).zip(roles.chain([Role::Other(7)])) {
-        window.push_child(NodeId(id))?;
-        nodes.push((NodeId(id), Node::new(alloc, role)))?;
+/// A node of each role that has a name, and one of another role.
+fn all_roles(alloc: Global) -> Result<Vec<Node>, AllocError> {
+    let mut nodes = vec![in alloc; Node::new(alloc, Role::Other(7))]?;
+    for (_, role) in named_roles() {
+        nodes.push(Node::new(alloc, *role))?;
     }
-    nodes.push((NodeId(0), window))?;
-    planted(alloc, nodes)
+    Ok(nodes)
+}
+
+/// The role of a child of the window that isn't in the class as it should be.
+fn wrong_role(window: &NodeRef, class: Class, members: &[Role]) -> Option<Role> {
+    for node in window.children() {
+        if is_of(&node, class) != members.contains(&node.role()) {
+            return Some(node.role());
+        }
+    }
+    None
 }
 
 #[test]
 fn classes_have_their_roles(rt: HostRuntime) -> Result<(), Fail> {
-    let tree = all_roles(rt.alloc())?;
+    let tree = row_of(rt.alloc(), all_roles(rt.alloc())?)?;
+    let window = shown(&tree, 0, 0)?;
     for (class, members) in &CLASSES {
-        for node in shown(&tree, 0, 0)?.children() {
-            let role = node.role();
-            assert!(rt;
-                is_of(&node, *class) == members.contains(&role),
-                "{class:?} {role:?}"
-            );
-        }
+        assert_eq!(rt; wrong_role(&window, *class, members), None);
     }
     Ok(())
 }
 
 /// What a node has beside its role.
-#[derive(Clone, Copy, Debug)]
+#[derive(Clone, Copy)]
 enum Has {
     Nothing,
     ReadOnly,
@@ -189,7 +189,7 @@ enum Has {
 }
 
 /// A node of this role that has this.
-fn tree_of(alloc: Global, role: Role, has: Has) -> Result<Tree, Fail> {
+fn node_of(alloc: Global, role: Role, has: Has) -> Node {
     let mut node = Node::new(alloc, role);
     match has {
         Has::Nothing => {}
@@ -197,7 +197,7 @@ fn tree_of(alloc: Global, role: Role, has: Has) -> Result<Tree, Fail> {
         Has::Disabled => node.set_disabled(),
         Has::Along(orientation) => node.set_orientation(orientation),
     }
-    window_with(alloc, node)
+    node
 }
 
 /// A node, whether it is read-only, and whether it is read-only or disabled.
@@ -211,20 +211,6 @@ static READ_ONLY: [(Role, Has, bool, bool); 8] = [
     (Role::Document, Has::Nothing, true, true),
     (Role::Other(7), Has::Nothing, true, true),
 ];
-
-#[test]
-fn nodes_are_read_only(rt: HostRuntime) -> Result<(), Fail> {
-    for (role, has, is_read_only, is_either) in READ_ONLY {
-        let tree = tree_of(rt.alloc(), role, has)?;
-        let node = shown(&tree, 0, 1)?;
-        assert!(rt; node.is_read_only() == is_read_only, "{role:?} {has:?}");
-        assert!(rt;
-            node.is_read_only_or_disabled() == is_either,
-            "{role:?} {has:?}"
-        );
-    }
-    Ok(())
-}
 
 static ALONG: [(Role, Has, Option<Orientation>); 5] = [
     (Role::ListBox, Has::Nothing, Some(Orientation::Vertical)),
@@ -242,14 +228,44 @@ static ALONG: [(Role, Has, Option<Orientation>); 5] = [
     (Role::Toolbar, Has::Nothing, None),
 ];
 
-#[test]
-fn roles_have_an_orientation(rt: HostRuntime) -> Result<(), Fail> {
-    for (role, has, orientation) in ALONG {
-        let tree = tree_of(rt.alloc(), role, has)?;
-        assert!(rt;
-            shown(&tree, 0, 1)?.orientation() == orientation,
-            "{role:?} {has:?}"
-        );
+/// The nodes of both tables.
+fn of_tables(alloc: Global) -> Result<Vec<Node>, AllocError> {
+    let mut nodes = Vec::new(alloc);
+    for (role, has, _, _) in READ_ONLY {
+        nodes.push(node_of(alloc, role, has))?;
     }
+    for (role, has, _) in ALONG {
+        nodes.push(node_of(alloc, role, has))?;
+    }
+    Ok(nodes)
+}
+
+/// The number of a child of the window that isn't read-only as it should be.
+fn wrong_read_only(window: &NodeRef) -> Option<usize> {
+    for (number, (node, row)) in window.children().zip(READ_ONLY).enumerate() {
+        if node.is_read_only() != row.2 || node.is_read_only_or_disabled() != row.3 {
+            return Some(number);
+        }
+    }
+    None
+}
+
+/// The number of a later child that hasn't the orientation that it should have.
+fn wrong_orientation(window: &NodeRef) -> Option<usize> {
+    let nodes = window.children().skip(READ_ONLY.len());
+    for (number, (node, row)) in nodes.zip(ALONG).enumerate() {
+        if node.orientation() != row.2 {
+            return Some(number);
+        }
+    }
+    None
+}
+
+#[test]
+fn roles_are_read_only_and_have_an_orientation(rt: HostRuntime) -> Result<(), Fail> {
+    let tree = row_of(rt.alloc(), of_tables(rt.alloc())?)?;
+    let window = shown(&tree, 0, 0)?;
+    assert_eq!(rt; wrong_read_only(&window), None);
+    assert_eq!(rt; wrong_orientation(&window), None);
     Ok(())
 }

@@ -1,11 +1,10 @@
 //! Settings that a node gives as they were set.
 
-use crate::planting::{shown, window_with};
 use accesskit_consumer::node::NodeRef;
 use schema::{AriaCurrent, HasPopup, Node, Orientation, Role, SortDirection, Toggled};
-use std::test::Fail;
+use std::alloc::{AllocError, Global};
 
-#[derive(Clone, Copy, Debug)]
+#[derive(Clone, Copy)]
 enum Setting {
     Selected(bool),
     Current(AriaCurrent),
@@ -65,14 +64,23 @@ fn gives_none(node: &NodeRef, setting: Setting) -> bool {
     }
 }
 
-#[test]
-fn settings_are_given_as_they_were_set(rt: HostRuntime) -> Result<(), Fail> {
+/// A node for each setting.
+pub fn with_settings(alloc: Global) -> Result<Vec<Node>, AllocError> {
+    let mut nodes = Vec::new(alloc);
     for setting in SETTINGS {
-        let mut node = Node::new(rt.alloc(), Role::Button);
+        let mut node = Node::new(alloc, Role::Button);
         set(&mut node, setting);
-        let tree = window_with(rt.alloc(), node)?;
-        assert!(rt; gives(&shown(&tree, 0, 1)?, setting), "{setting:?}");
-        assert!(rt; gives_none(&shown(&tree, 0, 0)?, setting), "{setting:?}");
+        nodes.push(node)?;
     }
-    Ok(())
+    Ok(nodes)
+}
+
+/// The number of a setting that its child of the window doesn't give, or the window does.
+pub fn wrong_setting(window: &NodeRef) -> Option<usize> {
+    for (number, (node, setting)) in window.children().zip(SETTINGS).enumerate() {
+        if !gives(&node, setting) || !gives_none(window, setting) {
+            return Some(number);
+        }
+    }
+    None
 }

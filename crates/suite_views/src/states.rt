@@ -1,13 +1,16 @@
 //! What a view of a state says of its nodes.
 
-use crate::planting::{id, node, planted, window_with};
+use crate::planting::{id, node, planted, row_of};
 use plain_worlds::recorder::{Recorder, id_of};
 use schema::{Node, NodeId, Role, TreeId};
 use std::test::Fail;
 
 #[test]
 fn nodes_are_located(rt: HostRuntime) -> Result<(), Fail> {
-    let tree = window_with(rt.alloc(), Node::new(rt.alloc(), Role::Button))?;
+    let tree = row_of(
+        rt.alloc(),
+        vec![in rt.alloc(); Node::new(rt.alloc(), Role::Button)]?,
+    )?;
     let state = tree.state().view();
     assert!(rt; state.locate_node(id(0, 1)) == Some((NodeId(1), TreeId::root())));
     assert!(rt; state.locate_node(id(0, 2)).is_none());

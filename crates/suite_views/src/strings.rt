@@ -1,13 +1,11 @@
 //! Texts that a node gives as they were set.
 
-use crate::planting::{shown, window_with};
 use accesskit_consumer::node::NodeRef;
 use schema::{Node, Role};
-use std::alloc::AllocError;
-use std::test::Fail;
+use std::alloc::{AllocError, Global};
 
 /// A field with a text.
-#[derive(Clone, Copy, Debug)]
+#[derive(Clone, Copy)]
 enum Field {
     Description,
     RoleDescription,
@@ -69,28 +67,28 @@ static TEXTS: [(Field, &str); 9] = [
     (RowIndexText, "row 3"),
 ];
 
-#[test]
-fn texts_are_given_as_they_were_set(rt: HostRuntime) -> Result<(), Fail> {
-    let mut node = Node::new(rt.alloc(), Role::Button);
+/// A node with all these texts.
+pub fn with_texts(alloc: Global) -> Result<Node, AllocError> {
+    let mut node = Node::new(alloc, Role::Button);
+    node.set_description("describes")?;
     for (field, text) in &TEXTS {
         set(&mut node, *field, text)?;
     }
-    let tree = window_with(rt.alloc(), node)?;
-    for (field, text) in &TEXTS {
-        assert!(rt;
-            text_of(&shown(&tree, 0, 1)?, *field) == Some(*text),
-            "{field:?}"
-        );
-        assert!(rt;
-            text_of(&shown(&tree, 0, 0)?, *field).is_none(),
-            "{field:?}"
-        );
+    Ok(node)
+}
+
+/// The number of a text that the one node doesn't give, or the other does.
+pub fn wrong_text(given: &NodeRef, bare: &NodeRef) -> Option<usize> {
+    for (number, (field, text)) in TEXTS.iter().enumerate() {
+        if text_of(given, *field) != Some(*text) || text_of(bare, *field).is_some() {
+            return Some(number);
+        }
     }
-    Ok(())
+    None
 }
 
 /// Whether a description, one of the role, a label and one of the role in Braille, and an id in HTML are given.
-fn are_given(node: &NodeRef) -> [bool; 5] {
+pub fn are_given(node: &NodeRef) -> [bool; 5] {
     [
         node.has_description(),
         node.has_role_description(),
@@ -98,25 +96,4 @@ fn are_given(node: &NodeRef) -> [bool; 5] {
         node.has_braille_role_description(),
         node.has_html_id(),
     ]
-}
-
-static GIVEN: [(Field, [bool; 5]); 6] = [
-    (Description, [true, false, false, false, false]),
-    (RoleDescription, [false, true, false, false, false]),
-    (BrailleLabel, [false, false, true, false, false]),
-    (BrailleRoleDescription, [false, false, false, true, false]),
-    (HtmlId, [false, false, false, false, true]),
-    (ClassName, [false; 5]),
-];
-
-/// A text is given where it is set, though it is empty.
-#[test]
-fn set_texts_are_given(rt: HostRuntime) -> Result<(), Fail> {
-    for (field, given) in &GIVEN {
-        let mut node = Node::new(rt.alloc(), Role::Button);
-        set(&mut node, *field, "")?;
-        let tree = window_with(rt.alloc(), node)?;
-        assert!(rt; are_given(&shown(&tree, 0, 1)?) == *given, "{field:?}");
-    }
-    Ok(())
 }

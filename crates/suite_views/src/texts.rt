@@ -1,6 +1,6 @@
 //! What a node says of the text of its runs.
 
-use crate::planting::{planted, shown};
+use crate::planting::{id, planted, shown};
 use accesskit_consumer::node::NodeRef;
 use accesskit_consumer::text::TextRange;
 use accesskit_consumer::tree::Tree;
@@ -97,11 +97,10 @@ fn equal_ranges_have_the_same_ends(rt: HostRuntime) -> Result<(), Fail> {
 }
 
 #[test]
-fn positions_have_a_run_and_neighbours(rt: HostRuntime) -> Result<(), Fail> {
+fn positions_have_a_run(rt: HostRuntime) -> Result<(), Fail> {
     let tree = document(rt.alloc())?;
-    let root = shown(&tree, 0, 0)?;
-    let range = whole(&root)?;
-    assert!(rt; range.start().inner_node().id() == shown(&tree, 0, 1)?.id());
-    assert!(rt; range.end().inner_node().id() == shown(&tree, 0, 2)?.id());
+    let range = whole(&shown(&tree, 0, 0)?)?;
+    assert!(rt; range.start().inner_node().id() == id(0, 1));
+    assert!(rt; range.end().inner_node().id() == id(0, 2));
     Ok(())
 }
