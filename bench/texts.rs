@@ -9,7 +9,7 @@
 //! indexes in UTF-16; `label` writes a label of ten parts into a buffer. It prints a sum of what it met.
 #![tactic(auto)]
 
-use accesskit_consumer::{NodeRef, Tree};
+use accesskit_consumer::{NodeRef, TextIndexes, TextPlaces, TextRoot, Tree};
 use anyhow::Context;
 use schema::{Node, NodeId, Role, TextBuffer, TreeId, TreeInfo, TreeUpdate};
 use std::alloc::{AllocError, Global};
