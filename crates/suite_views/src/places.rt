@@ -65,6 +65,7 @@ static PATHS: [(u32, u64, &[usize]); 4] = [
 ];
 
 /// The path to the node from the other one, which has to be the node or above it.
+#[tactic(auto, using(model::proofs::Forest::WaysUp::within_is_tested))]
 fn path_from(alloc: Global, node: &NodeRef, ancestor: &NodeRef) -> Result<Vec<usize>, Fail> {
     if !node.is_descendant_of(ancestor) {
         return Err("no ancestor".into());
