@@ -1,6 +1,7 @@
 //! Where a node says that it is, and the way to it.
 
 use crate::planting::{graft, node, planted, row_of, shown};
+use accesskit_consumer::node::NodeRef;
 use accesskit_consumer::tree::Tree;
 use plain_worlds::ids::tree_id;
 use schema::{Node, NodeId, Rect, Role, Translation};
@@ -63,13 +64,24 @@ static PATHS: [(u32, u64, &[usize]); 4] = [
     (0, 0, &[1, 0, 0]),
 ];
 
+/// The path to the node from the other one, which has to be the node or above it.
+#[tactic(auto, using(model::proofs::Forest::WaysUp::within_is_tested))]
+fn path_from(alloc: Global, node: &NodeRef, ancestor: &NodeRef) -> Result<Vec<usize>, Fail> {
+    if !node.is_descendant_of(ancestor) {
+        return Err("no ancestor".into());
+    }
+    Ok(node.relative_index_path(alloc, ancestor.id())?)
+}
+
 #[test]
 fn paths_start_at_an_ancestor(rt: HostRuntime) -> Result<(), Fail> {
     let tree = grafted(rt.alloc())?;
-    let button = shown(&tree, 1, 1)?;
     for (index, node, path) in &PATHS {
-        let ancestor = shown(&tree, *index, *node)?.id();
-        let found = button.relative_index_path(rt.alloc(), ancestor)?;
+        let found = path_from(
+            rt.alloc(),
+            &shown(&tree, 1, 1)?,
+            &shown(&tree, *index, *node)?,
+        )?;
         assert!(rt; found.as_slice() == *path, "{index}:{node}");
     }
     Ok(())
