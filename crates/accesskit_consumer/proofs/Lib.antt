@@ -16,6 +16,7 @@ pub mod LineCounts
 pub mod RangePieces
 pub mod RangeRuns
 pub mod RangeSteps
+pub mod RunOrder
 pub mod UnitCounts
 pub mod GlobalIndexes
 pub mod CutPieces

@@ -1,13 +1,45 @@
 //! The offset of a position, and the order of positions.
-ghost use Rattle.std.specs.Prelude.{◌≡◌, Some, None, MatchBool};
+ghost use Rattle.std.specs.Prelude.{◌≡◌, ◌≢◌, Some, None, MatchBool, nat_lt};
 ghost use Rattle.model.specs.Forest.{is_same as is_same_id};
 ghost use Rattle.model.specs.FlatText.{offset, position_cmp};
-ghost use Rattle.tree_views.specs.Nodes.{id_at};
+ghost use Rattle.tree_views.specs.Nodes.{world_at, id_at};
+ghost use Rattle.tree_views.specs.Runs.{run_world, root_id, run_id};
+ghost use Rattle.accesskit_consumer.specs.RunNumbers.{number_in};
 ghost use Rattle.accesskit_consumer.specs.Positions.{root_at, text_at, position_at};
 
 use crate::text::position::TextPosition;
 use std::cmp::Ordering;
 use tree_views::node::same::is_same;
+use tree_views::runs::Run;
+
+/// Whether a run stands before another one of its root, in the same state.
+///
+/// It looks from the run to both sides in turn, so that its cost goes with how far apart they are.
+fn is_before(run: Run<'_>, other: Run<'_>) -> bool
+    requires world { run_world other ≡ run_world run }
+    requires root { root_id other ≡ root_id run }
+    requires apart { run_id other ≢ run_id run }
+    ensures { result ≡ nat_lt (number_in run.entry) (number_in other.entry) }
+{
+    let mut ahead = run.next();
+    let mut behind = run.previous();
+    loop {
+        let Some(next) = ahead else {
+            return false;
+        };
+        let Some(previous) = behind else {
+            return true;
+        };
+        if is_same(next.id(), other.id()) {
+            return true;
+        }
+        if is_same(previous.id(), other.id()) {
+            return false;
+        }
+        ahead = next.next();
+        behind = previous.previous();
+    }
+}
 
 impl TextPosition<'_> {
     /// How many characters of the text are before the position.
@@ -23,7 +55,30 @@ impl TextPosition<'_> {
         before
     }
 
+    /// The order of two positions of one root in one state, by how many characters are before each.
+    ///
+    /// It looks only at what is between them, and as far to the other side.
+    pub(super) fn order(self, other: TextPosition<'_>) -> Ordering
+        requires world { world_at (root_at other) ≡ world_at (root_at self) }
+        requires root { id_at (root_at other) ≡ id_at (root_at self) }
+        ensures { let p = self.entry in
+            let q = other.entry in
+            result ≡ position_cmp (text_at p) (position_at p) (text_at q) (position_at q) }
+    {
+        let first = self.biased_to_start();
+        let second = other.biased_to_start();
+        if is_same(first.run.id(), second.run.id()) {
+            return first.index.cmp(&second.index);
+        }
+        if is_before(first.run, second.run) {
+            return Ordering::Less;
+        }
+        Ordering::Greater
+    }
+
     /// The order of two positions of one root, by how many characters are before each. There is none of two roots.
+    ///
+    /// The positions may be of two states, so it counts all characters before each.
     pub fn compare(&self, other: &TextPosition<'_>) -> Option<Ordering>
         ensures { let p = self.now in
             let q = other.now in

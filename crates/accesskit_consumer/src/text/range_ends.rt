@@ -39,7 +39,7 @@ impl<'a> TextRange<'a> {
             let q = position_at second.entry in
             IsRangeOf (world_at root) (id_at root) (range_between (text_of root) p q) result }
     {
-        if second.offset() < first.offset() {
+        if second.order(first).is_lt() {
             return TextRange::over(second, first);
         }
         TextRange::over(first, second)
@@ -105,7 +105,7 @@ impl<'a> TextRange<'a> {
             (with_start (text_in self.old) (range_at self.old) start) self.new }
     {
         let end = self.end();
-        if position.offset() < end.offset() {
+        if position.order(end).is_lt() {
             *self = TextRange::over(position.biased_to_start(), end);
             return;
         }
@@ -123,7 +123,7 @@ impl<'a> TextRange<'a> {
             (with_end (text_in self.old) (range_at self.old) end) self.new }
     {
         let start = self.start();
-        if start.offset() < position.offset() {
+        if start.order(position).is_lt() {
             *self = TextRange::over(start.biased_to_start(), position);
             return;
         }
