@@ -1,10 +1,9 @@
 -- The ends of a range as positions, and the runs that they name.
-use Rattle.std.proofs.Common.{◌≡◌, ◌≢◌, ℕ, ◌+◌, ◌<◌, Bool, true, false, List, [], ◌∷◌, length, refl, sym, ap, subst, ◌∙◌, arith, eq-eqb}
-use Rattle.std.specs.Prelude.{◌==◌, ◌↔◌, slice_get}
+use Rattle.std.proofs.Common.{◌≡◌, ◌≢◌, ℕ, ◌+◌, ◌<◌, Bool, true, false, List, [], ◌∷◌, refl, sym, ap, subst, ◌∙◌, arith, eq-eqb}
+use Rattle.std.specs.Prelude.{◌==◌, ◌↔◌}
 use Rattle.std.proofs.lemmas.Bool.{eqb-true}
-use Rattle.std.proofs.lemmas.Option.{same_Some}
 use Rattle.model.specs.declared.FullNodeId.{FullNodeId}
-use Rattle.model.specs.TextRuns.{run_ids, said_count}
+use Rattle.model.specs.TextRuns.{said_count}
 use Rattle.model.specs.FlatText.{Position, IsPosition, count_in, biased_to_start, biased_to_end}
 use Rattle.model.specs.Ranges.{Piece as PieceData, is_degenerate, piece_in, pieces}
 use Rattle.model.specs.TextLaws.{IsWhole}
@@ -13,26 +12,24 @@ use Rattle.accesskit_consumer.specs.declared.text.position.TextPosition.{TextPos
 use Rattle.accesskit_consumer.specs.declared.text.range.TextRange.{TextRange}
 use Rattle.accesskit_consumer.specs.declared.text.pieces.Piece.{Piece}
 use Rattle.tree_views.specs.Nodes.{world_at, id_at}
-use Rattle.tree_views.specs.Runs.{root_of, run_world, root_id, run_id, sent_of, IsAfter}
-use Rattle.tree_views.specs.RunPlaces.{runs_before}
+use Rattle.tree_views.specs.Runs.{root_of, run_id, sent_of, IsAfter}
 use Rattle.accesskit_consumer.specs.RunNumbers.{number_in}
 use Rattle.accesskit_consumer.specs.Positions.{IsAt, root_at, text_of, text_at, position_at}
 use Rattle.accesskit_consumer.specs.TextRanges.{text_in, range_at}
 use Rattle.accesskit_consumer.specs.Pieces.{piece_data, pieces_past, IsUpTo, IsNextPiece}
 use Rattle.tree_views.proofs.Focusing.{is_not}
-use Rattle.accesskit_consumer.proofs.FlatRuns.{id_at_number, count_at_number, number_next, text_is_whole, is_position}
+use Rattle.accesskit_consumer.proofs.FlatRuns.{count_at_number, number_next, text_is_whole, is_position}
 use Rattle.accesskit_consumer.proofs.TextEnds.{then_at}
+use Rattle.accesskit_consumer.proofs.RunOrder.{number_of_one, one_of_number}
 use Rattle.accesskit_consumer.proofs.RangePieces.{apart_by_run, one_run_one_place, runs_in_order, caret_alone, first_in_range, next_in_range, none_past_end, piece_order, piece_within}
 
 -- two runs of one root are one run exactly if they have one number
 module _ (p q : Run) (same : root_of p ≡ root_of q) where
   pub one_number : run_id p ≡ run_id q → number_in p ≡ number_in q
-  one_number e = ap (λ m. length (runs_before (world_at m) (id_at m) (run_id p))) same ∙ ap (λ id. length (runs_before (run_world q) (root_id q) id)) e
+  one_number e = number_of_one p q (ap world_at same) (ap id_at same) e
 
   pub one_id : number_in p ≡ number_in q → run_id p ≡ run_id q
-  one_id e =
-      same_Some (run_id p) (run_id q) (sym (id_at_number p)
-      ∙ ap (λ m. slice_get (run_ids (world_at m) (id_at m)) (number_in p)) same ∙ ap (slice_get (run_ids (run_world q) (root_id q))) e ∙ id_at_number q)
+  one_id e = one_of_number p q (ap world_at same) (ap id_at same) e
 
 module _ (r : TextRange) where
   abbrev pub start_position : TextPosition
