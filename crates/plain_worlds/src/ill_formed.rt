@@ -3,10 +3,8 @@
 use crate::sketches::Has::{
     Children, Graft, Lengths, Next, Positions, Previous, Selection, Value, Widths, Words,
 };
-use crate::sketches::{Sketch, first_update, nodes_of};
+use crate::sketches::Sketch;
 use schema::Role::{GenericContainer, TextInput, TextRun};
-use schema::TreeUpdate;
-use std::alloc::{AllocError, Global};
 
 /// A root of so many runs, of which the first one's first character is selected.
 const OF_ONE: Sketch = Sketch(0, TextInput, &[Children(&[1]), Selection((1, 0), (1, 1))]);
@@ -125,10 +123,5 @@ pub const GRAFTING: &[Sketch] = &[
     Sketch(2, TextRun, &[Value("ab"), Lengths(&[1, 1]), Words(&[])]),
 ];
 
-/// A run alone.
-const GRAFTED: &[Sketch] = &[Sketch(0, TextRun, &[Value("ab"), Lengths(&[1, 1]), Words(&[])])];
-
-/// The update of the tree that is grafted, whose only node is a run.
-pub fn grafted(alloc: Global) -> Result<TreeUpdate, AllocError> {
-    Ok(first_update(1, nodes_of(alloc, GRAFTED)?))
-}
+/// That run alone.
+pub const GRAFTED: &[Sketch] = &[Sketch(0, TextRun, &[Value("ab"), Lengths(&[1, 1]), Words(&[])])];

@@ -1,6 +1,6 @@
 //! A plain program beside the tree, for tests to compare with: worlds that are rebuilt by child lists after each update,
-//! made-up updates, what is told of two worlds, and a handler that keeps what it is told. Beside it small trees as plain
-//! data, and texts that are none.
+//! made-up updates, what is told of two worlds, and a handler that keeps what it is told. Beside it small trees and
+//! texts as plain data, and texts that are none.
 #![tactic(auto)]
 
 pub mod differing;
@@ -11,3 +11,4 @@ pub mod ill_formed;
 pub mod rebuild;
 pub mod recorder;
 pub mod sketches;
+pub mod texts;

@@ -18,6 +18,7 @@ pub type Spot = (u64, usize);
 pub enum Has {
     Children(&'static [u64]),
     Graft(u128),
+    Active(u64),
     Hidden,
     Label(&'static str),
     LabelledBy(&'static [u64]),
@@ -131,6 +132,7 @@ pub fn give(alloc: Global, node: &mut Node, has: Has) -> Result<(), AllocError> 
     match has {
         Has::Children(ids) => return node.set_children(&node_ids(alloc, ids)?),
         Has::Graft(name) => node.set_tree_id(tree_id(name)),
+        Has::Active(id) => node.set_active_descendant(NodeId(id)),
         Has::Hidden => node.set_hidden(),
         Has::Label(label) => return node.set_label(label),
         Has::LabelledBy(ids) => return node.set_labelled_by(&node_ids(alloc, ids)?),

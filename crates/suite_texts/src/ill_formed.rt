@@ -1,10 +1,10 @@
 //! Texts that are no texts: their roots have no text ranges, and no value comes from their runs.
 
-use crate::sketches::{planted, root_of};
+use crate::sketches::{first_update, nodes_of, planted, root_of};
 use accesskit_consumer::node::NodeRef;
 use accesskit_consumer::tree::Tree;
 use accesskit_consumer::{TextRoot, TextSelections};
-use plain_worlds::ill_formed::{GRAFTING, ILL_FORMED, grafted};
+use plain_worlds::ill_formed::{GRAFTED, GRAFTING, ILL_FORMED};
 use plain_worlds::recorder::Recorder;
 use std::alloc::{AllocError, Global};
 use std::process::Abort;
@@ -37,7 +37,7 @@ fn ill_formed_texts_have_no_ranges(rt: HostRuntime) -> Result<(), Fail> {
 /// Grafts the run, and says whether that was accepted.
 fn graft(alloc: Global, tree: &mut Tree) -> Result<bool, AllocError> {
     let mut recorder = Recorder::new(alloc);
-    let update = grafted(alloc)?;
+    let update = first_update(1, nodes_of(alloc, GRAFTED)?);
     Ok(
         tree.update_and_process_changes(update, &mut recorder)
             .is_ok(),
