@@ -115,6 +115,7 @@ fn mirrored(mirror: &Mirror, state: StateRef) -> &'static str {
         None => None,
     };
     match mirror.focus() {
+        None if mirror.records().is_some() => "records without a focus",
         None => "nothing, for want of memory",
         Some(seen) if seen != focus => "another focus",
         Some(_) => {

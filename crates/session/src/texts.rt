@@ -8,7 +8,7 @@ ghost use Rattle.model.specs.Queries.{position_at as place_at, moved as place_af
 ghost use Rattle.tree_views.specs.Nodes.{world_at, id_at};
 ghost use Rattle.accesskit_consumer.specs.Positions.{root_at, text_of, text_at, position_at};
 ghost use Rattle.session.specs.Replied.{IsAnswerAt};
-ghost use Rattle.session.specs.Texts.{offset_at, place_in};
+ghost use Rattle.session.specs.Texts.{offset_at, place_in, IsByCharacter, IsByWord, IsByLine};
 
 use crate::commands::Reply;
 use accesskit_consumer::text::TextPosition;
@@ -68,36 +68,84 @@ fn has_previous(position: TextPosition<'_>) -> bool
     order(position.backward_to_page_start(), position).is_lt()
 }
 
-/// Where a move leads. There is no such place for a move by a character past an end of the text.
-fn moved<'a>(position: TextPosition<'a>, by: Move) -> Option<TextPosition<'a>>
+/// Where a move by a character leads. There is no such place without a character there.
+fn moved_by_character<'a>(position: TextPosition<'a>, by: Move) -> Option<TextPosition<'a>>
+    requires { IsByCharacter by }
     ensures at { let p = position.entry in
         option_map position_at result ≡ place_after (text_at p) (position_at p) by }
     ensures same { IfSome result (λ p. root_at p ≡ root_at position.entry) }
 {
-    let to = match by {
-        Move::ForwardToCharacterStart if !has_next(position) => return None,
-        Move::ForwardToCharacterStart => position.forward_to_character_start(),
-        Move::ForwardToCharacterEnd if !has_next(position) => return None,
-        Move::ForwardToCharacterEnd => position.forward_to_character_end(),
-        Move::BackwardToCharacterStart if !has_previous(position) => return None,
-        Move::BackwardToCharacterStart => position.backward_to_character_start(),
+    match by {
+        Move::ForwardToCharacterStart if has_next(position) => {
+            Some(position.forward_to_character_start())
+        }
+        Move::ForwardToCharacterEnd if has_next(position) => {
+            Some(position.forward_to_character_end())
+        }
+        Move::BackwardToCharacterStart if has_previous(position) => {
+            Some(position.backward_to_character_start())
+        }
+        _ => None,
+    }
+}
+
+/// Where a move by a word, or by what looks alike, leads.
+fn moved_by_word<'a>(position: TextPosition<'a>, by: Move) -> TextPosition<'a>
+    requires { IsByWord by }
+    ensures at { let p = position.entry in
+        place_after (text_at p) (position_at p) by ≡ Some (position_at result) }
+    ensures same { root_at result ≡ root_at position.entry }
+{
+    match by {
         Move::ForwardToFormatStart => position.forward_to_format_start(),
         Move::ForwardToFormatEnd => position.forward_to_format_end(),
         Move::BackwardToFormatStart => position.backward_to_format_start(),
         Move::ForwardToWordStart => position.forward_to_word_start(),
         Move::ForwardToWordEnd => position.forward_to_word_end(),
         Move::BackwardToWordStart => position.backward_to_word_start(),
+        _ => unreachable!(),
+    }
+}
+
+/// Where a move by a line or a paragraph leads.
+fn moved_by_line<'a>(position: TextPosition<'a>, by: Move) -> TextPosition<'a>
+    requires { IsByLine by }
+    ensures at { let p = position.entry in
+        place_after (text_at p) (position_at p) by ≡ Some (position_at result) }
+    ensures same { root_at result ≡ root_at position.entry }
+{
+    match by {
         Move::ForwardToLineStart => position.forward_to_line_start(),
         Move::ForwardToLineEnd => position.forward_to_line_end(),
         Move::BackwardToLineStart => position.backward_to_line_start(),
         Move::ForwardToParagraphStart => position.forward_to_paragraph_start(),
         Move::ForwardToParagraphEnd => position.forward_to_paragraph_end(),
         Move::BackwardToParagraphStart => position.backward_to_paragraph_start(),
-        Move::ForwardToPageStart => position.forward_to_page_start(),
-        Move::ForwardToPageEnd | Move::DocumentEnd => position.forward_to_page_end(),
-        Move::BackwardToPageStart | Move::DocumentStart => position.backward_to_page_start(),
-    };
-    Some(to)
+        _ => unreachable!(),
+    }
+}
+
+/// Where a move leads. There is no such place for a move by a character past an end of the text.
+fn moved<'a>(position: TextPosition<'a>, by: Move) -> Option<TextPosition<'a>>
+    ensures at { let p = position.entry in
+        option_map position_at result ≡ place_after (text_at p) (position_at p) by }
+    ensures same { IfSome result (λ p. root_at p ≡ root_at position.entry) }
+{
+    match by {
+        Move::ForwardToCharacterStart
+        | Move::ForwardToCharacterEnd
+        | Move::BackwardToCharacterStart => moved_by_character(position, by),
+        Move::ForwardToFormatStart
+        | Move::ForwardToFormatEnd
+        | Move::BackwardToFormatStart
+        | Move::ForwardToWordStart
+        | Move::ForwardToWordEnd
+        | Move::BackwardToWordStart => Some(moved_by_word(position, by)),
+        Move::ForwardToPageStart => Some(position.forward_to_page_start()),
+        Move::ForwardToPageEnd | Move::DocumentEnd => Some(position.forward_to_page_end()),
+        Move::BackwardToPageStart | Move::DocumentStart => Some(position.backward_to_page_start()),
+        _ => Some(moved_by_line(position, by)),
+    }
 }
 
 /// The name of a position.

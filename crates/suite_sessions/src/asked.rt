@@ -1,195 +1,342 @@
 //! Questions about small interfaces, and what is replied to them.
 
-use crate::made::Has::{Bounds, Hidden, Label, LabelledBy, Move, Value};
-use crate::made::{Made, first, id, name};
-use accesskit_consumer::node::FullNodeId;
-use plain_worlds::recorder::Recorder;
-use schema::{Point, Role};
-use session::{Command, NamedFilter, Query, Reply, Session};
-use std::alloc::{AllocError, Global};
-use std::process::Abort;
+use crate::asking::Asked::{
+    Children, FilteredChildren, Focus, FollowingFiltered, FollowingSiblings, Hit, Label,
+    PrecedingFiltered, PrecedingSiblings,
+};
+use crate::asking::Wanted::{Ids, NoNode, NoNodeThere, NoText, Node, Text};
+use crate::asking::{Case, Row, assert_replies};
+use crate::interfaces::{DOCUMENT, FOCUSED, GRAFTING, HOISTED, LABELLED, PLAIN};
+use crate::made::{FIRST, Sent};
+use plain_worlds::sketches::Has::{self, Active, Bounds, Hidden, LabelledBy, Move, Value};
+use plain_worlds::sketches::Sketch;
+use schema::Role;
+use session::NamedFilter::{All, Common, CommonWithRoot};
 use std::test::Fail;
 
-/// The ids of these nodes of the root tree.
-pub fn ids(alloc: Global, nodes: &[u64]) -> Result<Reply, AllocError> {
-    let ids: Vec<FullNodeId> = nodes.iter().map(|node| id(*node)).collect(alloc)?;
-    Ok(Reply::Ids(ids))
-}
+/// A window whose second child is left out for its content, and whose last child is hidden with its content.
+const KIN: Sent = Sent {
+    nodes: &[
+        Sketch(0, Role::Window, &[Has::Children(&[1, 2, 5, 6])]),
+        Sketch(1, Role::Button, &[]),
+        Sketch(2, Role::GenericContainer, &[Has::Children(&[3, 4])]),
+        Sketch(3, Role::Button, &[]),
+        Sketch(4, Role::Button, &[]),
+        Sketch(5, Role::Button, &[]),
+        Sketch(6, Role::Button, &[Has::Children(&[7, 8]), Hidden]),
+        Sketch(7, Role::Button, &[]),
+        Sketch(8, Role::Button, &[]),
+    ],
+    ..FIRST
+};
 
-/// The text.
-pub fn text(alloc: Global, text: &str) -> Result<Reply, AllocError> {
-    Ok(Reply::Text(Some(String::from_str(alloc, text)?)))
-}
+/// An empty container stands before what is hidden.
+const GAP: Sent = Sent {
+    nodes: &[
+        Sketch(0, Role::Window, &[Has::Children(&[1, 2, 3, 5])]),
+        Sketch(1, Role::Button, &[]),
+        Sketch(2, Role::GenericContainer, &[]),
+        Sketch(3, Role::Button, &[Has::Children(&[4]), Hidden]),
+        Sketch(4, Role::Button, &[]),
+        Sketch(5, Role::Button, &[]),
+    ],
+    ..FIRST
+};
 
-/// Asks in one run, and asserts that each question has the reply that stands beside it.
-pub fn assert_replies(
-    rt: &impl Abort,
-    alloc: Global,
-    nodes: &[Made],
-    asked: Vec<(Query, Reply)>,
-) -> Result<(), Fail> {
-    let mut session = Session::new(alloc, first(alloc, nodes)?, false)?;
-    let mut commands = Vec::new(alloc);
-    let mut wanted = Vec::new(alloc);
-    for (query, reply) in asked {
-        commands.push(Command::Query(query))?;
-        wanted.push(reply)?;
-    }
-    let mut recorder = Recorder::new(alloc);
-    let Ok(replies) = session.run(commands, &mut recorder) else {
-        return Err("the run stopped".into());
-    };
-    assert_eq!(rt; replies.as_slice(), wanted.as_slice());
-    assert!(rt; recorder.told.is_empty());
-    Ok(())
-}
+/// The plain window, whose button is hidden and has the focus.
+const HIDDEN: Sent = Sent {
+    focus: 1,
+    nodes: &[
+        Sketch(0, Role::Window, &[Has::Children(&[1])]),
+        Sketch(1, Role::Button, &[Hidden]),
+    ],
+    ..FIRST
+};
 
-/// A window whose first container is left out for its content, and whose last child is hidden with its content.
-const KIN: [Made; 9] = [
-    Made(0, Role::Window, &[1, 2, 5, 6], &[]),
-    Made(1, Role::Button, &[], &[]),
-    Made(2, Role::GenericContainer, &[3, 4], &[]),
-    Made(3, Role::Button, &[], &[]),
-    Made(4, Role::Button, &[], &[]),
-    Made(5, Role::Button, &[], &[]),
-    Made(6, Role::Button, &[7, 8], &[Hidden]),
-    Made(7, Role::Button, &[], &[]),
-    Made(8, Role::Button, &[], &[]),
+const MOVED_CONTAINER: Sent = Sent {
+    nodes: &[
+        Sketch(
+            0,
+            Role::Window,
+            &[Has::Children(&[1]), Bounds(0, 0, 100, 100)],
+        ),
+        Sketch(
+            1,
+            Role::GenericContainer,
+            &[Has::Children(&[2]), Move(10, 40)],
+        ),
+        Sketch(2, Role::Label, &[Bounds(10, 10, 90, 30)]),
+    ],
+    ..FIRST
+};
+
+/// Nodes that are labelled by others; the last one by a label of no letters, one without a value, and one of some.
+const NAMED: Sent = Sent {
+    nodes: &[
+        Sketch(0, Role::Window, &[Has::Children(&[1, 2, 3, 4, 5, 6, 7, 8])]),
+        Sketch(1, Role::CheckBox, &[LabelledBy(&[2, 4])]),
+        Sketch(2, Role::Label, &[Value("Check email every")]),
+        Sketch(3, Role::TextInput, &[LabelledBy(&[4])]),
+        Sketch(4, Role::Label, &[Value("minutes")]),
+        Sketch(5, Role::CheckBox, &[LabelledBy(&[6, 7, 8])]),
+        Sketch(6, Role::Label, &[Value("")]),
+        Sketch(7, Role::Label, &[]),
+        Sketch(8, Role::Label, &[Value("x")]),
+    ],
+    ..FIRST
+};
+
+/// What is labelled by a label in it.
+const LABELLED_WITHIN: Sent = Sent {
+    nodes: &[
+        Sketch(0, Role::Window, &[Has::Children(&[1, 2, 3, 4, 5, 6])]),
+        Sketch(1, Role::Button, &[Has::Children(&[11])]),
+        Sketch(2, Role::CheckBox, &[Has::Children(&[12])]),
+        Sketch(3, Role::RadioButton, &[Has::Children(&[13])]),
+        Sketch(4, Role::MenuItem, &[Has::Children(&[14])]),
+        Sketch(5, Role::MenuItemCheckBox, &[Has::Children(&[15])]),
+        Sketch(6, Role::MenuItemRadio, &[Has::Children(&[16])]),
+        Sketch(11, Role::Label, &[Value("x")]),
+        Sketch(12, Role::Label, &[Value("x")]),
+        Sketch(13, Role::Label, &[Value("x")]),
+        Sketch(14, Role::Label, &[Value("x")]),
+        Sketch(15, Role::Label, &[Value("x")]),
+        Sketch(16, Role::Label, &[Value("x")]),
+    ],
+    ..FIRST
+};
+
+/// A button with a picture, and a link with a label in a container.
+const PICTURED: Sent = Sent {
+    nodes: &[
+        Sketch(0, Role::Window, &[Has::Children(&[1, 3])]),
+        Sketch(1, Role::DefaultButton, &[Has::Children(&[2])]),
+        Sketch(2, Role::Image, &[Has::Label("Play")]),
+        Sketch(3, Role::Link, &[Has::Children(&[4])]),
+        Sketch(4, Role::GenericContainer, &[Has::Children(&[5])]),
+        Sketch(5, Role::Label, &[Value("Watch in browser")]),
+    ],
+    ..FIRST
+};
+
+/// A list has the focus, and its option is active,
+const ACTIVE_OPTION: Sent = Sent {
+    focus: 1,
+    nodes: &[
+        Sketch(0, Role::Window, &[Has::Children(&[1])]),
+        Sketch(1, Role::ListBox, &[Has::Children(&[2]), Active(2)]),
+        Sketch(2, Role::ListBoxOption, &[]),
+    ],
+    ..FIRST
+};
+
+/// or the list itself.
+const ACTIVE_LIST: Sent = Sent {
+    focus: 1,
+    nodes: &[Sketch(1, Role::ListBox, &[Has::Children(&[2]), Active(1)])],
+    ..FIRST
+};
+
+static WALKS: [Case; 5] = [
+    Case {
+        name: "siblings",
+        is_host_focused: false,
+        sent: &[KIN],
+        rows: &[
+            Row(0, 0, Children, Ids(0, &[1, 2, 5, 6])),
+            Row(0, 1, FollowingSiblings, Ids(0, &[2, 5, 6])),
+            Row(0, 6, PrecedingSiblings, Ids(0, &[5, 2, 1])),
+            Row(0, 9, Children, NoNode),
+            Row(1, 0, Children, NoNode),
+        ],
+    },
+    Case {
+        name: "containers give way to their content",
+        is_host_focused: false,
+        sent: &[KIN],
+        rows: &[
+            Row(0, 0, FilteredChildren(Common), Ids(0, &[1, 3, 4, 5])),
+            Row(0, 2, FilteredChildren(Common), Ids(0, &[3, 4])),
+            Row(0, 6, FilteredChildren(Common), Ids(0, &[])),
+            Row(
+                0,
+                0,
+                FilteredChildren(CommonWithRoot),
+                Ids(0, &[1, 3, 4, 5]),
+            ),
+            Row(0, 0, FilteredChildren(All), Ids(0, &[1, 2, 5, 6])),
+            Row(0, 1, FollowingFiltered(Common), Ids(0, &[3, 4, 5])),
+            Row(0, 3, FollowingFiltered(Common), Ids(0, &[4, 5])),
+            Row(0, 2, FollowingFiltered(Common), Ids(0, &[5])),
+            Row(0, 7, FollowingFiltered(Common), Ids(0, &[])),
+            Row(0, 8, FollowingFiltered(Common), Ids(0, &[])),
+            Row(0, 7, FollowingFiltered(All), Ids(0, &[8])),
+            Row(0, 5, PrecedingFiltered(Common), Ids(0, &[4, 3, 1])),
+            Row(0, 2, PrecedingFiltered(Common), Ids(0, &[1])),
+            Row(0, 7, PrecedingFiltered(Common), Ids(0, &[])),
+            Row(0, 8, PrecedingFiltered(Common), Ids(0, &[])),
+        ],
+    },
+    Case {
+        name: "an empty container before what is hidden",
+        is_host_focused: false,
+        sent: &[GAP],
+        rows: &[Row(0, 0, FilteredChildren(Common), Ids(0, &[1, 5]))],
+    },
+    Case {
+        name: "what is hidden is left out",
+        is_host_focused: false,
+        sent: &[HIDDEN],
+        rows: &[Row(0, 0, FilteredChildren(Common), Ids(0, &[]))],
+    },
+    Case {
+        name: "what has the focus is not left out, though it is hidden",
+        is_host_focused: true,
+        sent: &[HIDDEN],
+        rows: &[Row(0, 0, FilteredChildren(Common), Ids(0, &[1]))],
+    },
+];
+
+static GRAFTS: [Case; 3] = [
+    Case {
+        name: "nothing is under a graft yet",
+        is_host_focused: false,
+        sent: &[GRAFTING],
+        rows: &[
+            Row(0, 1, Children, Ids(0, &[])),
+            Row(0, 1, FilteredChildren(Common), Ids(0, &[])),
+            Row(1, 0, Children, NoNode),
+        ],
+    },
+    Case {
+        name: "a document under a graft",
+        is_host_focused: false,
+        sent: &[GRAFTING, DOCUMENT, LABELLED],
+        rows: &[
+            Row(0, 1, Children, Ids(1, &[0])),
+            Row(0, 0, FilteredChildren(Common), Ids(1, &[0])),
+            Row(1, 0, FilteredChildren(Common), Ids(1, &[1])),
+            Row(1, 0, Label, Text("label")),
+        ],
+    },
+    Case {
+        name: "a tree that moved up, and one that came again",
+        is_host_focused: false,
+        sent: &HOISTED,
+        rows: &[
+            Row(0, 0, Children, Ids(0, &[2, 3])),
+            Row(0, 1, Children, NoNode),
+            Row(0, 2, Children, Ids(2, &[0])),
+            Row(2, 0, Children, Ids(2, &[1])),
+            Row(0, 3, Children, Ids(1, &[0])),
+            Row(1, 0, Children, Ids(1, &[1])),
+        ],
+    },
+];
+
+static FOCUSES: [Case; 7] = [
+    Case {
+        name: "nothing has the focus without the host",
+        is_host_focused: false,
+        sent: &[PLAIN],
+        rows: &[Row(0, 0, Focus, NoNodeThere)],
+    },
+    Case {
+        name: "the root has it",
+        is_host_focused: true,
+        sent: &[PLAIN],
+        rows: &[Row(0, 0, Focus, Node(0, 0))],
+    },
+    Case {
+        name: "the button has it",
+        is_host_focused: true,
+        sent: &[PLAIN, FOCUSED],
+        rows: &[Row(0, 0, Focus, Node(0, 1))],
+    },
+    Case {
+        name: "an active descendant has it",
+        is_host_focused: true,
+        sent: &[ACTIVE_OPTION],
+        rows: &[Row(0, 0, Focus, Node(0, 2))],
+    },
+    Case {
+        name: "a node that is its own active descendant has it",
+        is_host_focused: true,
+        sent: &[ACTIVE_OPTION, ACTIVE_LIST],
+        rows: &[Row(0, 0, Focus, Node(0, 1))],
+    },
+    Case {
+        name: "it goes through a graft",
+        is_host_focused: true,
+        sent: &[GRAFTING, DOCUMENT, FOCUSED],
+        rows: &[Row(0, 0, Focus, Node(1, 0))],
+    },
+    Case {
+        name: "it moves within the tree there",
+        is_host_focused: true,
+        sent: &[GRAFTING, DOCUMENT, FOCUSED, Sent { tree: 1, ..FOCUSED }],
+        rows: &[Row(0, 0, Focus, Node(1, 1))],
+    },
+];
+
+static HITS: [Case; 1] = [Case {
+    name: "a container that is moved",
+    is_host_focused: false,
+    sent: &[MOVED_CONTAINER],
+    rows: &[
+        Row(0, 0, Hit(20, 50), Node(0, 2)),
+        Row(0, 0, Hit(50, 20), Node(0, 0)),
+        Row(0, 0, Hit(100, 70), NoNodeThere),
+    ],
+}];
+
+static LABELS: [Case; 4] = [
+    Case {
+        name: "nodes without a label",
+        is_host_focused: false,
+        sent: &[PLAIN],
+        rows: &[Row(0, 1, Label, NoText), Row(0, 2, Label, NoNode)],
+    },
+    Case {
+        name: "labels are joined",
+        is_host_focused: false,
+        sent: &[NAMED],
+        rows: &[
+            Row(0, 1, Label, Text("Check email every minutes")),
+            Row(0, 3, Label, Text("minutes")),
+            Row(0, 5, Label, Text(" x")),
+        ],
+    },
+    Case {
+        name: "labels come from within",
+        is_host_focused: false,
+        sent: &[LABELLED_WITHIN],
+        rows: &[
+            Row(0, 1, Label, Text("x")),
+            Row(0, 2, Label, Text("x")),
+            Row(0, 3, Label, Text("x")),
+            Row(0, 4, Label, Text("x")),
+            Row(0, 5, Label, Text("x")),
+            Row(0, 6, Label, Text("x")),
+        ],
+    },
+    Case {
+        name: "labels come from pictures, and out of containers",
+        is_host_focused: false,
+        sent: &[PICTURED],
+        rows: &[
+            Row(0, 1, Label, Text("Play")),
+            Row(0, 3, Label, Text("Watch in browser")),
+        ],
+    },
 ];
 
 #[test]
-fn kin_is_as_listed(rt: HostRuntime) -> Result<(), Fail> {
-    let alloc = rt.alloc();
-    let mut asked = Vec::new(alloc);
-    asked.push((Query::Children(name(0)), ids(alloc, &[1, 2, 5, 6])?))?;
-    asked.push((Query::FollowingSiblings(name(1)), ids(alloc, &[2, 5, 6])?))?;
-    asked.push((Query::PrecedingSiblings(name(6)), ids(alloc, &[5, 2, 1])?))?;
-    asked.push((Query::Children(name(9)), Reply::NoNode))?;
-    assert_replies(&rt, alloc, &KIN, asked)
-}
-
-#[test]
-fn containers_give_way_to_their_content(rt: HostRuntime) -> Result<(), Fail> {
-    let alloc = rt.alloc();
-    let common = NamedFilter::Common;
-    let mut asked = Vec::new(alloc);
-    for (of, shown) in [(0, [1, 3, 4, 5].as_slice()), (2, &[3, 4]), (6, &[])] {
-        asked.push((
-            Query::FilteredChildren(name(of), common),
-            ids(alloc, shown)?,
-        ))?;
-    }
-    for (of, shown) in [(1, [3, 4, 5].as_slice()), (3, &[4, 5]), (2, &[5]), (7, &[])] {
-        asked.push((
-            Query::FollowingFiltered(name(of), common),
-            ids(alloc, shown)?,
-        ))?;
-    }
-    for (of, shown) in [(5, [4, 3, 1].as_slice()), (2, &[1]), (8, &[])] {
-        asked.push((
-            Query::PrecedingFiltered(name(of), common),
-            ids(alloc, shown)?,
-        ))?;
-    }
-    assert_replies(&rt, alloc, &KIN, asked)
-}
-
-#[test]
-fn filters_differ_by_their_names(rt: HostRuntime) -> Result<(), Fail> {
-    let alloc = rt.alloc();
-    let mut asked = Vec::new(alloc);
-    for filter in [NamedFilter::Common, NamedFilter::CommonWithRoot] {
-        let shown = Query::FilteredChildren(name(0), filter);
-        asked.push((shown, ids(alloc, &[1, 3, 4, 5])?))?;
-    }
-    let all = NamedFilter::All;
-    asked.push((
-        Query::FilteredChildren(name(0), all),
-        ids(alloc, &[1, 2, 5, 6])?,
-    ))?;
-    asked.push((Query::FollowingFiltered(name(7), all), ids(alloc, &[8])?))?;
-    assert_replies(&rt, alloc, &KIN, asked)
-}
-
-#[test]
-fn hits_are_moved_with_their_container(rt: HostRuntime) -> Result<(), Fail> {
-    let alloc = rt.alloc();
-    let nodes = [
-        Made(0, Role::Window, &[1], &[Bounds(0, 0, 100, 100)]),
-        Made(1, Role::GenericContainer, &[2], &[Move(10, 40)]),
-        Made(2, Role::Label, &[], &[Bounds(10, 10, 90, 30)]),
-    ];
-    let mut asked = Vec::new(alloc);
-    for (x, y, hit) in [
-        (20, 50, Some(id(2))),
-        (50, 20, Some(id(0))),
-        (100, 70, None),
-    ] {
-        let query = Query::Hit(name(0), Point::new(x, y), NamedFilter::Common);
-        asked.push((query, Reply::Node(hit)))?;
-    }
-    asked.push((Query::Focus, Reply::Node(None)))?;
-    assert_replies(&rt, alloc, &nodes, asked)
-}
-
-#[test]
-fn labels_are_joined(rt: HostRuntime) -> Result<(), Fail> {
-    let alloc = rt.alloc();
-    let nodes = [
-        Made(0, Role::Window, &[1, 2, 3, 4, 5, 6, 7], &[]),
-        Made(1, Role::CheckBox, &[], &[LabelledBy(&[2, 4])]),
-        Made(2, Role::Label, &[], &[Value("Check email every")]),
-        Made(3, Role::TextInput, &[], &[LabelledBy(&[4])]),
-        Made(4, Role::Label, &[], &[Value("minutes")]),
-        Made(5, Role::CheckBox, &[], &[LabelledBy(&[6, 7, 4])]),
-        Made(6, Role::Label, &[], &[Value("")]),
-        Made(7, Role::Label, &[], &[]),
-    ];
-    let joined = text(alloc, "Check email every minutes")?;
-    let mut asked = Vec::new(alloc);
-    asked.push((Query::Label(name(1)), joined))?;
-    asked.push((Query::Label(name(3)), text(alloc, "minutes")?))?;
-    asked.push((Query::Label(name(5)), text(alloc, " minutes")?))?;
-    asked.push((Query::Label(name(0)), Reply::Text(None)))?;
-    asked.push((Query::Label(name(8)), Reply::NoNode))?;
-    assert_replies(&rt, alloc, &nodes, asked)
-}
-
-#[test]
-fn labels_come_from_within_buttons(rt: HostRuntime) -> Result<(), Fail> {
-    let alloc = rt.alloc();
-    for role in [
-        Role::Button,
-        Role::CheckBox,
-        Role::RadioButton,
-        Role::MenuItem,
-        Role::MenuItemCheckBox,
-        Role::MenuItemRadio,
-    ] {
-        let nodes = [
-            Made(0, role, &[1], &[]),
-            Made(1, Role::Label, &[], &[Value("x")]),
-        ];
-        let mut asked = Vec::new(alloc);
-        asked.push((Query::Label(name(0)), text(alloc, "x")?))?;
-        assert_replies(&rt, alloc, &nodes, asked)?;
+fn questions_about_interfaces_are_replied_to(rt: HostRuntime) -> Result<(), Fail> {
+    for cases in [WALKS.as_slice(), &GRAFTS, &FOCUSES, &HITS, &LABELS] {
+        for case in cases {
+            assert_replies(&rt, rt.alloc(), case)?;
+        }
     }
     Ok(())
-}
-
-#[test]
-fn labels_come_from_pictures_and_links(rt: HostRuntime) -> Result<(), Fail> {
-    let alloc = rt.alloc();
-    let nodes = [
-        Made(0, Role::Window, &[1, 3], &[]),
-        Made(1, Role::DefaultButton, &[2], &[]),
-        Made(2, Role::Image, &[], &[Label("Play")]),
-        Made(3, Role::Link, &[4], &[]),
-        Made(4, Role::GenericContainer, &[5], &[]),
-        Made(5, Role::Label, &[], &[Value("Watch in browser")]),
-    ];
-    let mut asked = Vec::new(alloc);
-    asked.push((Query::Label(name(1)), text(alloc, "Play")?))?;
-    asked.push((Query::Label(name(3)), text(alloc, "Watch in browser")?))?;
-    assert_replies(&rt, alloc, &nodes, asked)
 }

@@ -1,8 +1,9 @@
 //! Made-up runs, their replays, and a mirror beside them.
 
-use crate::mirrored::{mirrors, place_of, possible_ids};
+use crate::dressed::{TEXT_ROLES, dress, dressed_fields};
+use crate::mirrored::mirrors;
 use accesskit_consumer::node::FullNodeId;
-use accesskit_consumer::tree::{Mirror, StateRef};
+use accesskit_consumer::tree::Mirror;
 use model::NodeName;
 use plain_worlds::differing::difference;
 use plain_worlds::drafts::{Dice, NODES, TREES, draft_update};
@@ -15,8 +16,8 @@ use std::alloc::{AllocError, Global};
 use std::process::Abort;
 use std::test::Fail;
 
-/// How many runs are made up,
-const RUNS: u64 = 300;
+/// How many runs are made up of one seed,
+const RUNS: u64 = 1000;
 
 /// and how many commands each of them has.
 const COMMANDS: u32 = 10;
@@ -53,14 +54,35 @@ impl Course {
     }
 }
 
-/// The name of a node, most often of the root tree, and seldom of one that was never there.
-fn any_name(dice: &mut Dice) -> NodeName {
-    let tree = if dice.is_one_in(2) {
-        0
-    } else {
-        dice.below(TREES)
-    };
-    (NodeId(dice.below(NODES)), tree_id(u128::from(tree)))
+/// The name of one of these nodes, or seldom of one that may not be there.
+fn any_of(world: &World, ids: &[FullNodeId], dice: &mut Dice) -> NodeName {
+    let any = NodeId(dice.below(NODES));
+    let seldom = (any, tree_id(u128::from(dice.below(TREES))));
+    match dice.of(ids) {
+        Some(id) if !dice.is_one_in(8) => {
+            let index = usize::try_from(id.tree).unwrap_or(usize::MAX);
+            let tree = world.known.get(index).copied();
+            (id.node, tree.unwrap_or(tree_id(0)))
+        }
+        _ => seldom,
+    }
+}
+
+/// The name of a node, most often of one that is there,
+fn any_name(world: &World, dice: &mut Dice) -> Result<NodeName, AllocError> {
+    let there: Vec<FullNodeId> = world.nodes.keys().copied().collect(world.alloc)?;
+    Ok(any_of(world, &there, dice))
+}
+
+/// and most often of one that may have a text.
+fn any_text(world: &World, dice: &mut Dice) -> Result<NodeName, AllocError> {
+    let mut texts = Vec::new(world.alloc);
+    for (id, node) in &world.nodes {
+        if TEXT_ROLES.contains(&node.role()) {
+            texts.push(*id)?;
+        }
+    }
+    Ok(any_of(world, &texts, dice))
 }
 
 fn any_filter(dice: &mut Dice) -> NamedFilter {
@@ -78,14 +100,48 @@ fn any_place(dice: &mut Dice) -> At {
         Side::End
     };
     At {
-        index: dice.index(3),
+        index: if dice.is_one_in(3) { 0 } else { dice.index(5) },
         side,
     }
 }
 
-fn any_query(dice: &mut Dice) -> Query {
-    let name = any_name(dice);
-    match dice.below(13) {
+static MOVES: [Move; 20] = [
+    Move::ForwardToCharacterStart,
+    Move::ForwardToCharacterEnd,
+    Move::BackwardToCharacterStart,
+    Move::ForwardToFormatStart,
+    Move::ForwardToFormatEnd,
+    Move::BackwardToFormatStart,
+    Move::ForwardToWordStart,
+    Move::ForwardToWordEnd,
+    Move::BackwardToWordStart,
+    Move::ForwardToLineStart,
+    Move::ForwardToLineEnd,
+    Move::BackwardToLineStart,
+    Move::ForwardToParagraphStart,
+    Move::ForwardToParagraphEnd,
+    Move::BackwardToParagraphStart,
+    Move::ForwardToPageStart,
+    Move::ForwardToPageEnd,
+    Move::DocumentEnd,
+    Move::BackwardToPageStart,
+    Move::DocumentStart,
+];
+
+fn any_move(dice: &mut Dice) -> Move {
+    dice.of(&MOVES).unwrap_or(Move::DocumentStart)
+}
+
+fn any_point(dice: &mut Dice) -> Point {
+    Point {
+        x: i64::try_from(dice.below(30)).unwrap_or(0),
+        y: i64::try_from(dice.below(30)).unwrap_or(0),
+    }
+}
+
+/// A question about this node.
+fn any_query(name: NodeName, dice: &mut Dice) -> Query {
+    match dice.below(10) {
         0 => Query::Children(name),
         1 => Query::FollowingSiblings(name),
         2 => Query::PrecedingSiblings(name),
@@ -94,29 +150,55 @@ fn any_query(dice: &mut Dice) -> Query {
         5 => Query::PrecedingFiltered(name, any_filter(dice)),
         6 => Query::Label(name),
         7 => Query::Value(name),
-        8 => Query::Hit(name, Point::new(1, 1), any_filter(dice)),
-        9 => Query::Focus,
-        10 => Query::Move(name, any_place(dice), Move::ForwardToWordStart),
-        11 => Query::Indexes(name, any_place(dice)),
+        8 => Query::Hit(name, any_point(dice), any_filter(dice)),
+        _ => Query::Focus,
+    }
+}
+
+/// A question about this node's text.
+fn any_text_query(name: NodeName, dice: &mut Dice) -> Query {
+    match dice.below(4) {
+        0 | 1 => Query::Move(name, any_place(dice), any_move(dice)),
+        2 => Query::Indexes(name, any_place(dice)),
         _ => Query::RangeText(name, any_place(dice), any_place(dice)),
     }
+}
+
+/// An update. A first one may bring in two fields.
+fn any_update(world: &World, dice: &mut Dice) -> Result<TreeUpdate, AllocError> {
+    if world.nodes.is_empty() && !dice.is_one_in(4) {
+        return dressed_fields(world.alloc, dice);
+    }
+    let mut update = draft_update(world, dice)?;
+    dress(&mut update.nodes, dice)?;
+    Ok(update)
+}
+
+/// An update, which the plain program carries out in its world.
+fn carried_out(world: &mut World, dice: &mut Dice) -> Result<TreeUpdate, AllocError> {
+    let update = any_update(world, dice)?;
+    if let Outcome::Accepted(after) = world.rebuilt(&update)? {
+        *world = after;
+    }
+    Ok(update)
 }
 
 /// A command, which the plain program carries out in its world.
 fn any_command(world: &mut World, dice: &mut Dice) -> Result<Command, AllocError> {
     match dice.below(8) {
-        0..=3 => {
-            let update = draft_update(world, dice)?;
-            if let Outcome::Accepted(after) = world.rebuilt(&update)? {
-                *world = after;
-            }
-            Ok(Command::Update(update))
-        }
-        4 => {
+        0 | 1 => Ok(Command::Update(carried_out(world, dice)?)),
+        2 => {
             world.is_host_focused = dice.is_one_in(2);
             Ok(Command::HostFocus(world.is_host_focused))
         }
-        _ => Ok(Command::Query(any_query(dice))),
+        3..=5 => {
+            let name = any_name(world, dice)?;
+            Ok(Command::Query(any_query(name, dice)))
+        }
+        _ => {
+            let name = any_text(world, dice)?;
+            Ok(Command::Query(any_text_query(name, dice)))
+        }
     }
 }
 
@@ -125,11 +207,10 @@ fn make_course(alloc: Global, dice: &mut Dice) -> Result<(Course, World), Fail> 
     let is_host_focused = dice.is_one_in(2);
     let mut world = World::new(alloc, is_host_focused);
     for _ in 0..100u32 {
-        let first = draft_update(&world, dice)?;
-        let Outcome::Accepted(after) = world.rebuilt(&first)? else {
+        let first = carried_out(&mut world, dice)?;
+        if world.nodes.is_empty() {
             continue;
-        };
-        world = after;
+        }
         let mut course = Course::new(first, is_host_focused, alloc);
         for _ in 0..COMMANDS {
             let command = any_command(&mut world, dice)?;
@@ -140,34 +221,8 @@ fn make_course(alloc: Global, dice: &mut Dice) -> Result<(Course, World), Fail> 
     Err("no first update is accepted".into())
 }
 
-/// Whether two states have the same of a node.
-fn is_same(state: StateRef, other: StateRef, id: FullNodeId) -> bool {
-    match (state.node_by_id(id), other.node_by_id(id)) {
-        (Some(node), Some(there)) => {
-            node.data() == there.data() && place_of(state, id) == place_of(other, id)
-        }
-        (None, None) => true,
-        _ => false,
-    }
-}
-
-/// Whether two states are the same.
-fn are_same(alloc: Global, state: StateRef, other: StateRef) -> Result<bool, AllocError> {
-    for id in possible_ids(alloc)? {
-        if !is_same(state, other, id) {
-            return Ok(false);
-        }
-    }
-    Ok(
-        state.root_id() == other.root_id()
-            && state.focus_id() == other.focus_id()
-            && state.is_host_focused() == other.is_host_focused(),
-    )
-}
-
-/// Runs a command alone, and asserts that the mirror then has what the session's tree has.
-fn assert_mirrored(
-    rt: &impl Abort,
+/// Runs a command alone, with a mirror beside it.
+fn run_alone(
     alloc: Global,
     session: &mut Session,
     mirror: &mut Mirror,
@@ -175,21 +230,23 @@ fn assert_mirrored(
 ) -> Result<Reply, Fail> {
     let mut commands = Vec::new(alloc);
     commands.push(command)?;
-    let Ok(mut replies) = session.run_mirrored(commands, mirror) else {
-        return Err("the run stopped".into());
-    };
-    assert!(rt; mirrors(alloc, mirror, session.tree().state().view())?);
-    Ok(replies.pop().ok_or("no reply")?)
+    match session.run_mirrored(commands, mirror) {
+        Ok(mut replies) => Ok(replies.pop().ok_or("no reply")?),
+        Err(_) => Err("the run stopped".into()),
+    }
 }
 
-/// Runs a run's commands one at a time, with a mirror beside them.
+/// Runs a run's commands one at a time, with a mirror beside them. Asserts after each but a question that the mirror has
+/// what the session's tree has.
 fn replay(rt: &impl Abort, alloc: Global, course: Course) -> Result<(Session, Vec<Reply>), Fail> {
     let mut session = Session::new(alloc, course.first, course.is_host_focused)?;
     let mut mirror = Mirror::new(alloc, session.tree())?;
     let mut replies = Vec::new(alloc);
     for command in course.commands {
-        let reply = assert_mirrored(rt, alloc, &mut session, &mut mirror, command)?;
-        replies.push(reply)?;
+        let is_question = matches!(&command, Command::Query(_));
+        replies.push(run_alone(alloc, &mut session, &mut mirror, command)?)?;
+        let state = session.tree().state().view();
+        assert!(rt; is_question || mirrors(&mirror, state));
     }
     Ok((session, replies))
 }
@@ -204,24 +261,86 @@ fn run(alloc: Global, course: Course) -> Result<(Session, Vec<Reply>), Fail> {
     Ok((session, replies))
 }
 
-/// A run and its replay end alike, with the same replies, and where the plain program ends.
-#[test]
-fn replays_are_alike(rt: HostRuntime) -> Result<(), Fail> {
-    let alloc = rt.alloc();
+/// How many kinds of replies there are,
+const KINDS: usize = 13;
+
+/// and how many there have to be of each.
+const LEAST: u32 = 10;
+
+/// The kind of a reply: a number below [`KINDS`].
+fn kind_of(reply: &Reply) -> usize {
+    match reply {
+        Reply::Accepted => 0,
+        Reply::Refused(_) => 1,
+        Reply::Ids(ids) if ids.is_empty() => 2,
+        Reply::Ids(_) => 3,
+        Reply::Text(None) => 4,
+        Reply::Text(Some(_)) => 5,
+        Reply::Node(None) => 6,
+        Reply::Node(Some(_)) => 7,
+        Reply::Position(None) => 8,
+        Reply::Position(Some(_)) => 9,
+        Reply::Indexes { .. } => 10,
+        Reply::NoNode => 11,
+        Reply::NotText => 12,
+    }
+}
+
+/// Counts the replies of each kind.
+fn count(counts: &mut [u32; KINDS], replies: &[Reply]) {
+    for reply in replies {
+        if let Some(count) = counts.get_mut(kind_of(reply)) {
+            *count = count.saturating_add(1);
+        }
+    }
+}
+
+/// Asserts that a state is as the plain program's world.
+fn assert_same(rt: &impl Abort, world: &World, session: &Session, number: u64) -> Result<(), Fail> {
     let trees = u32::try_from(TREES).unwrap_or(0);
-    let mut dice = Dice::new(11);
+    let state = session.tree().state().view();
+    let difference = difference(world, state, trees, NODES)?;
+    assert!(rt; difference.is_none(), "run {number}: {difference:?}");
+    Ok(())
+}
+
+/// Asserts that a run and its replay have the same replies, and end where the plain program ends. Gives the replies.
+fn assert_alike(
+    rt: &impl Abort,
+    alloc: Global,
+    course: Course,
+    world: &World,
+    number: u64,
+) -> Result<Vec<Reply>, Fail> {
+    let (session, replies) = run(alloc, course.copy(alloc)?)?;
+    assert_same(rt, world, &session, number)?;
+    let (again, replayed) = replay(rt, alloc, course)?;
+    assert_same(rt, world, &again, number)?;
+    assert_eq!(rt; replies.as_slice(), replayed.as_slice(), "run {number}");
+    Ok(replies)
+}
+
+/// Asserts that runs and their replays are alike, and that there are enough replies of each kind.
+fn assert_all_alike(rt: &impl Abort, alloc: Global, seed: u64) -> Result<(), Fail> {
+    let mut dice = Dice::new(seed);
+    let mut counts = [0u32; KINDS];
     for number in 0..RUNS {
         let (course, world) = make_course(alloc, &mut dice)?;
-        let (session, replies) = run(alloc, course.copy(alloc)?)?;
-        let (again, replayed) = replay(&rt, alloc, course)?;
-        assert_eq!(rt; replies.as_slice(), replayed.as_slice(), "run {number}");
-        let state = session.tree().state().view();
-        assert!(rt;
-            are_same(alloc, state, again.tree().state().view())?,
-            "run {number}"
-        );
-        let difference = difference(&world, state, trees, NODES)?;
-        assert!(rt; difference.is_none(), "run {number}: {difference:?}");
+        let replies = assert_alike(rt, alloc, course, &world, number)?;
+        count(&mut counts, &replies);
+    }
+    for (kind, count) in counts.iter().enumerate() {
+        assert!(rt; *count >= LEAST, "kind {kind}: {counts:?}");
     }
     Ok(())
+}
+
+#[test]
+fn replays_are_alike(rt: HostRuntime) -> Result<(), Fail> {
+    assert_all_alike(&rt, rt.alloc(), 11)
+}
+
+#[test]
+fn more_replays_are_alike(rt: HostRuntime) -> Result<(), Fail> {
+    assert_all_alike(&rt, rt.alloc(), 12)
 }

@@ -16,10 +16,9 @@ mod planting;
 #[cfg(test)]
 mod rows;
 #[cfg(test)]
-mod sketches;
-#[cfg(test)]
-mod texts;
-#[cfg(test)]
 mod weak;
 #[cfg(test)]
 mod writers;
+
+#[cfg(test)]
+use plain_worlds::{sketches, texts};

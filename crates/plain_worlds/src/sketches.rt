@@ -1,11 +1,11 @@
 //! Small trees as plain data.
 
+use crate::ids::{node_ids, tree_id};
 use accesskit_consumer::node::NodeRef;
 use accesskit_consumer::tree::Tree;
-use plain_worlds::ids::{node_ids, tree_id};
 use schema::{
     Color, Node, NodeId, Rect, Role, TextAlign, TextDecoration, TextDirection, TextPosition,
-    TextSelection, Translation, TreeId, TreeInfo, TreeUpdate, VerticalOffset,
+    TextSelection, Translation, TreeInfo, TreeUpdate, VerticalOffset,
 };
 use std::alloc::{AllocError, Global};
 use std::test::Fail;
@@ -18,6 +18,9 @@ pub type Spot = (u64, usize);
 pub enum Has {
     Children(&'static [u64]),
     Graft(u128),
+    Active(u64),
+    Hidden,
+    Label(&'static str),
     LabelledBy(&'static [u64]),
     Value(&'static str),
     /// A value of `a` and so many accents.
@@ -125,10 +128,13 @@ fn give_look(node: &mut Node, has: Has) -> Result<(), AllocError> {
 }
 
 /// Gives the node what it is to have.
-fn give(alloc: Global, node: &mut Node, has: Has) -> Result<(), AllocError> {
+pub fn give(alloc: Global, node: &mut Node, has: Has) -> Result<(), AllocError> {
     match has {
         Has::Children(ids) => return node.set_children(&node_ids(alloc, ids)?),
         Has::Graft(name) => node.set_tree_id(tree_id(name)),
+        Has::Active(id) => node.set_active_descendant(NodeId(id)),
+        Has::Hidden => node.set_hidden(),
+        Has::Label(label) => return node.set_label(label),
         Has::LabelledBy(ids) => return node.set_labelled_by(&node_ids(alloc, ids)?),
         Has::Value(value) => return node.set_value(value),
         Has::Accents(count) => return give_repeated(alloc, node, 'a', '\u{301}', count),
@@ -173,15 +179,19 @@ fn push_node(
     Ok(())
 }
 
-/// The root tree of these nodes, whose root is 0.
-pub fn grown(alloc: Global, nodes: Vec<(NodeId, Node)>) -> Result<Tree, Fail> {
-    let update = TreeUpdate {
+/// The update that brings in the tree of this number with these nodes, whose root is 0 and has the focus.
+pub fn first_update(tree: u128, nodes: Vec<(NodeId, Node)>) -> TreeUpdate {
+    TreeUpdate {
         nodes,
         tree: Some(TreeInfo::new(NodeId(0))),
-        tree_id: TreeId::root(),
+        tree_id: tree_id(tree),
         focus: NodeId(0),
-    };
-    Ok(Tree::new(alloc, update, false)?)
+    }
+}
+
+/// The root tree of these nodes, whose root is 0.
+pub fn grown(alloc: Global, nodes: Vec<(NodeId, Node)>) -> Result<Tree, Fail> {
+    Ok(Tree::new(alloc, first_update(0, nodes), false)?)
 }
 
 /// The root tree of these nodes.

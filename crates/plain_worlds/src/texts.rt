@@ -168,34 +168,52 @@ pub const LEFTWARD: Text = &[
     ),
 ];
 
-/// A password of four characters, of which one has two bytes.
-pub const SECRET: Text = &[
-    PASSWORD,
+const P_AND_UMLAUT: Sketch = Sketch(
+    1,
+    Role::TextRun,
+    &[Value("p\u{e4}"), Lengths(&[1, 2]), Words(&[])],
+);
+
+const SS: Sketch = Sketch(
+    2,
+    Role::TextRun,
+    &[Value("ss"), Lengths(&[1, 1]), Words(&[])],
+);
+
+const XY: Sketch = Sketch(
+    1,
+    Role::TextRun,
+    &[Value("xy"), Lengths(&[1, 1]), Words(&[])],
+);
+
+const ZW: Sketch = Sketch(
+    2,
+    Role::TextRun,
+    &[Value("zw"), Lengths(&[1, 1]), Words(&[])],
+);
+
+/// A password of four characters, of which one has two bytes,
+pub const SECRET: Text = &[PASSWORD, P_AND_UMLAUT, SS];
+
+/// and another one of its shape.
+pub const OTHER_RUNS: Text = &[PASSWORD, XY, ZW];
+
+/// The first one has a value of its own,
+pub const OWN_SECRET: Text = &[
     Sketch(
-        1,
-        Role::TextRun,
-        &[Value("p\u{e4}"), Lengths(&[1, 2]), Words(&[])],
+        0,
+        Role::PasswordInput,
+        &[Children(&[1, 2]), Value("secret")],
     ),
-    Sketch(
-        2,
-        Role::TextRun,
-        &[Value("ss"), Lengths(&[1, 1]), Words(&[])],
-    ),
+    P_AND_UMLAUT,
+    SS,
 ];
 
-/// Another one of its shape, which has a value of its own.
+/// and so has the other one.
 pub const OTHER_SECRET: Text = &[
     Sketch(0, Role::PasswordInput, &[Children(&[1, 2]), Value("x")]),
-    Sketch(
-        1,
-        Role::TextRun,
-        &[Value("xy"), Lengths(&[1, 1]), Words(&[])],
-    ),
-    Sketch(
-        2,
-        Role::TextRun,
-        &[Value("zw"), Lengths(&[1, 1]), Words(&[])],
-    ),
+    XY,
+    ZW,
 ];
 
 /// A password of two paragraphs.
@@ -228,11 +246,7 @@ pub const SECRET_WORDS: Text = &[
         Role::TextRun,
         &[Value("p\u{e4}"), Lengths(&[1, 2]), Words(&[0, 1])],
     ),
-    Sketch(
-        2,
-        Role::TextRun,
-        &[Value("ss"), Lengths(&[1, 1]), Words(&[])],
-    ),
+    SS,
 ];
 
 /// Another one of its shape.
@@ -243,11 +257,7 @@ pub const OTHER_SECRET_WORDS: Text = &[
         Role::TextRun,
         &[Value("xy"), Lengths(&[1, 1]), Words(&[0, 1])],
     ),
-    Sketch(
-        2,
-        Role::TextRun,
-        &[Value("zw"), Lengths(&[1, 1]), Words(&[])],
-    ),
+    ZW,
 ];
 
 /// A password of one character again and again.
