@@ -1,18 +1,17 @@
 //! Walks, filters, geometry and sets beside lists that are picked out of the pre-order.
 
-use crate::common::{SharedAnswers, is_hidden, shared_answers};
+use crate::common::{is_hidden, shared_answers};
 use crate::groves::grove;
-use crate::lists::{Answers, Lists, answer};
+use crate::lists::{Answers, Lists, Shown, answer};
 use accesskit_consumer::filters::{common_filter, common_filter_with_root_exception};
 use accesskit_consumer::node::{FullNodeId, NodeRef};
 use accesskit_consumer::tree::Tree;
 use accesskit_consumer::walks::FilterResult;
 use plain_worlds::drafts::Dice;
-use plain_worlds::rebuild::{Outcome, World, in_tree};
+use plain_worlds::rebuild::{Present, World, in_tree};
 use plain_worlds::recorder::Recorder;
-use schema::{Action, Point};
+use schema::{Action, NodeId, Point, TreeUpdate};
 use std::alloc::{AllocError, Global};
-use std::collections::BTreeMap;
 use std::process::Abort;
 use std::test::Fail;
 
@@ -27,8 +26,9 @@ fn id_of(node: Option<NodeRef>) -> Option<FullNodeId> {
 /// Asserts that the walk gives what the list does and then nothing more, from both ends in any mixture.
 fn assert_walk<'a, I: DoubleEndedIterator<Item = NodeRef<'a>> + Drop>(
     rt: &impl Abort,
+    lists: &Lists,
     mut walk: I,
-    wanted: &[FullNodeId],
+    wanted: &[usize],
     dice: &mut Dice,
     name: &str,
 )
@@ -49,9 +49,9 @@ fn assert_walk<'a, I: DoubleEndedIterator<Item = NodeRef<'a>> + Drop>(
             left.split_first()
         };
         let next = match next {
-            Some((item, rest)) => {
+            Some((number, rest)) => {
                 left = rest;
-                Some(*item)
+                lists.id(*number)
             }
             None => None,
         };
@@ -64,24 +64,26 @@ fn assert_plain(
     rt: &impl Abort,
     lists: &Lists,
     node: NodeRef,
+    number: usize,
     dice: &mut Dice,
 ) -> Result<(), Fail> {
     let alloc = lists.world.alloc;
-    let children = lists.world.children(node.id())?;
-    let after = lists.siblings(node.id(), true)?;
-    let before = lists.siblings(node.id(), false)?;
-    assert_eq!(rt; node.child_ids().len(), children.len());
+    let spot = lists.spots.get(number).ok_or("no node")?;
+    let after = lists.siblings(number, true)?;
+    let before = lists.siblings(number, false)?;
+    assert_eq!(rt; node.child_ids().len(), spot.children.len());
     assert_eq!(rt; node.following_siblings().len(), after.len());
     assert_eq!(rt; node.preceding_siblings().len(), before.len());
     let ids: Vec<FullNodeId> = node.child_ids().collect(alloc)?;
-    assert!(rt; ids.as_slice() == children.as_slice());
+    assert!(rt; lists.are_named(&spot.children, &ids));
     let ids: Vec<FullNodeId> = node.following_sibling_ids().collect(alloc)?;
-    assert!(rt; ids.as_slice() == after.as_slice());
+    assert!(rt; lists.are_named(&after, &ids));
     let ids: Vec<FullNodeId> = node.preceding_sibling_ids().collect(alloc)?;
-    assert!(rt; ids.as_slice() == before.as_slice());
-    assert_walk(rt, node.children(), &children, dice, "children");
+    assert!(rt; lists.are_named(&before, &ids));
+    assert_walk(rt, lists, node.children(), &spot.children, dice, "children");
     assert_walk(
         rt,
+        lists,
         node.following_siblings(),
         &after,
         dice,
@@ -89,14 +91,15 @@ fn assert_plain(
     );
     assert_walk(
         rt,
+        lists,
         node.preceding_siblings(),
         &before,
         dice,
         "earlier siblings",
     );
-    assert!(rt; node.parent_id() == lists.parent(node.id()));
+    assert!(rt; node.parent_id() == lists.id(spot.parent().unwrap_or(usize::MAX)));
     let path = node.index_path(alloc)?;
-    assert_eq!(rt; path.as_slice(), lists.index_path(node.id())?.as_slice());
+    assert_eq!(rt; path.as_slice(), spot.path.as_slice());
     Ok(())
 }
 
@@ -105,68 +108,73 @@ fn assert_filtered(
     rt: &impl Abort,
     lists: &Lists,
     node: NodeRef,
-    answers: &Answers,
+    number: usize,
+    shown: &Shown,
     dice: &mut Dice,
 ) -> Result<(), Fail> {
-    let id = node.id();
-    let filter = |other: &NodeRef<'_>| answer(answers, other.id());
-    let below = lists.frontier(id, answers)?;
+    let spot = lists.spots.get(number).ok_or("no node")?;
+    let filter = |other: &NodeRef<'_>| lists.answer(&shown.answers, other.id());
+    let below = node.filtered_children(filter);
     assert_walk(
         rt,
-        node.filtered_children(filter),
-        &below,
+        lists,
+        below,
+        shown.below(number),
         dice,
         "filtered children",
     );
-    let after = lists.kin(id, true, answers)?;
+    let after = node.following_filtered_siblings(filter);
     assert_walk(
         rt,
-        node.following_filtered_siblings(filter),
-        &after,
+        lists,
+        after,
+        &shown.kin(lists, number, true)?,
         dice,
         "later kin",
     );
-    let before = lists.kin(id, false, answers)?;
+    let before = node.preceding_filtered_siblings(filter);
     assert_walk(
         rt,
-        node.preceding_filtered_siblings(filter),
-        &before,
+        lists,
+        before,
+        &shown.kin(lists, number, false)?,
         dice,
         "earlier kin",
     );
-    let items = lists.frontier(id, &lists.item_answers(answers)?)?;
-    assert_walk(rt, node.items(filter), &items, dice, "items");
-    let above = lists.included_ancestors(id, answers)?;
-    assert!(rt; id_of(node.filtered_parent(&filter)) == above.first().copied());
-    let set = lists.set(id, answers)?;
-    assert_eq!(rt; node.computed_size_of_set(&filter), lists.size_of(id, &set));
+    assert_walk(
+        rt,
+        lists,
+        node.items(filter),
+        shown.items(number),
+        dice,
+        "items",
+    );
+    let parent = shown.parent(spot).unwrap_or(usize::MAX);
+    assert!(rt; id_of(node.filtered_parent(&filter)) == lists.id(parent));
+    let set = shown.set(lists, number)?;
+    assert_eq!(rt; node.computed_size_of_set(&filter), spot.size_of(&set));
     assert_eq!(rt;
         node.computed_position_in_set(&filter),
-        lists.position_of(id, &set)
+        spot.position_of(number, &set)
     );
-    let is_clickable = match above.first() {
-        Some(parent) => lists.clicks_children(*parent),
-        None => false,
-    };
+    let is_clickable = shown.is_clickable(lists, spot);
     assert_eq!(rt; node.supports_action(Action::Click, &filter), is_clickable);
     Ok(())
 }
 
-/// What is hit at some points, as the node sees them.
-fn assert_hits(
+/// What is hit at a point, as the node sees it.
+fn assert_hit(
     rt: &impl Abort,
     lists: &Lists,
     node: NodeRef,
+    number: usize,
     answers: &Answers,
     dice: &mut Dice,
-) -> Result<(), Fail> {
-    let filter = |other: &NodeRef<'_>| answer(answers, other.id());
-    for _ in 0..4u32 {
-        let point = Point::new(coordinate(dice), coordinate(dice));
-        let hit = lists.hit(node.id(), point, answers);
-        assert!(rt; id_of(node.node_at_point(point, &filter)) == hit);
-    }
-    Ok(())
+) {
+    let filter = |other: &NodeRef<'_>| lists.answer(answers, other.id());
+    let point = Point::new(coordinate(dice), coordinate(dice));
+    let hit = lists.hit(number, point, answers);
+    assert!(rt; id_of(node.node_at_point(point, &filter)) == hit);
 }
 
 /// Somewhere near the nodes of a grove.
@@ -179,18 +187,22 @@ fn assert_views(
     rt: &impl Abort,
     lists: &Lists,
     node: NodeRef,
-    wanted: &SharedAnswers,
+    number: usize,
+    filters: &Filters,
 ) -> Result<(), Fail> {
-    let id = node.id();
-    assert_eq!(rt; common_filter(&node), answer(&wanted.common, id));
+    let spot = lists.spots.get(number).ok_or("no node")?;
+    assert_eq!(rt;
+        common_filter(&node),
+        answer(&filters.common.answers, number)
+    );
     assert_eq!(rt;
         common_filter_with_root_exception(&node),
-        answer(&wanted.with_root, id)
+        answer(&filters.with_root, number)
     );
-    assert_eq!(rt; node.is_hidden(), is_hidden(lists, id));
-    assert_eq!(rt; node.bounding_box(), lists.frame(id));
-    assert_eq!(rt; node.transform(), lists.transform(id));
-    let controlled = lists.controls(id)?;
+    assert_eq!(rt; node.is_hidden(), is_hidden(lists, spot));
+    assert_eq!(rt; node.bounding_box(), spot.frame(lists));
+    assert_eq!(rt; node.transform(), spot.transform(lists));
+    let controlled = lists.controls(spot)?;
     let controls: Vec<FullNodeId> = node
         .controls()
         .map(|node| node.id())
@@ -201,44 +213,97 @@ fn assert_views(
 
 /// A filter without rules.
 fn any_answers(lists: &Lists, dice: &mut Dice) -> Result<Answers, AllocError> {
-    let mut answers = BTreeMap::new(lists.world.alloc);
-    for id in &lists.order {
-        let answer = match dice.below(5) {
+    let mut answers = Vec::new(lists.world.alloc);
+    for _ in &lists.spots {
+        answers.push(match dice.below(5) {
             0 | 1 => FilterResult::Include,
             2 | 3 => FilterResult::ExcludeNode,
             _ => FilterResult::ExcludeSubtree,
-        };
-        answers.insert(*id, answer)?;
+        })?;
     }
     Ok(answers)
 }
 
-/// The interface of these updates, as the library has it and as the other program does.
+/// The filters by which the nodes of a grove are asked for.
+#[derive(Drop)]
+struct Filters {
+    any: Shown,
+    common: Shown,
+    with_root: Answers,
+}
+
+/// Asks a node one of the questions.
+fn assert_node(
+    rt: &impl Abort,
+    lists: &Lists,
+    node: NodeRef,
+    number: usize,
+    filters: &Filters,
+    dice: &mut Dice,
+) -> Result<(), Fail> {
+    match dice.below(5) {
+        0 => assert_plain(rt, lists, node, number, dice),
+        1 => assert_filtered(rt, lists, node, number, &filters.any, dice),
+        2 => assert_filtered(rt, lists, node, number, &filters.common, dice),
+        3 => assert_views(rt, lists, node, number, filters),
+        _ => {
+            assert_hit(rt, lists, node, number, &filters.any.answers, dice);
+            Ok(())
+        }
+    }
+}
+
+/// Adds the tree of an update to the world as it is sent.
+fn plant(world: &mut World, update: &TreeUpdate) -> Result<(), Fail> {
+    let tree = u32::try_from(world.known.len()).unwrap_or(u32::MAX);
+    let root = update.tree.as_ref().ok_or("no tree info")?.root;
+    let focus = update.focus;
+    world.known.push(update.tree_id)?;
+    world.trees.insert(tree, Present { root, focus })?;
+    for (id, node) in &update.nodes {
+        world.nodes.insert(in_tree(tree, *id), node.clone()?)?;
+    }
+    Ok(())
+}
+
+/// Moves the focus of the root tree in the world, if the effective focus is a node then.
+fn refocus(world: &mut World, focus: NodeId) -> Result<bool, Fail> {
+    let present = *world.trees.get(&0).ok_or("no root tree")?;
+    world.trees.insert(0, Present { focus, ..present })?;
+    let is_node = match world.nodes.get(&world.effective_focus().ok_or("no focus")?) {
+        Some(node) => node.tree_id().is_none(),
+        None => false,
+    };
+    if !is_node {
+        world.trees.insert(0, present)?;
+    }
+    Ok(is_node)
+}
+
+/// An interface, as the library has it and as plain data. Each of its trees is grafted by an earlier one, so all of them are
+/// accepted. The last update moves the focus, maybe to where no node is.
 fn grown(rt: &impl Abort, alloc: Global, dice: &mut Dice) -> Result<(Tree, World), Fail> {
     let is_host_focused = !dice.is_one_in(3);
     let mut updates = grove(alloc, dice)?.into_iter();
     let first = updates.next().ok_or("no update")?;
     let mut world = World::new(alloc, is_host_focused);
-    if let Outcome::Accepted(after) = world.rebuilt(&first)? {
-        world = after;
-    }
+    plant(&mut world, &first)?;
     let mut tree = Tree::new(alloc, first, is_host_focused)?;
     for update in updates {
         let mut recorder = Recorder::new(alloc);
-        let after = world.rebuilt(&update)?;
+        let is_accepted = if update.tree.is_some() {
+            plant(&mut world, &update)?;
+            true
+        } else {
+            refocus(&mut world, update.focus)?
+        };
         let sent = tree.update_and_process_changes(update, &mut recorder);
-        match after {
-            Outcome::Accepted(after) => {
-                assert!(rt; sent.is_ok());
-                world = after;
-            }
-            Outcome::Refused(_) => assert!(rt; sent.is_err()),
-        }
+        assert_eq!(rt; sent.is_ok(), is_accepted);
     }
     Ok((tree, world))
 }
 
-/// Thousands of interfaces of up to four trees.
+/// Thousands of interfaces of up to four trees. Each node is asked one of the questions.
 #[test]
 fn made_up_groves_are_walked_as_lists(rt: HostRuntime) -> Result<(), Fail> {
     let mut dice = Dice::new(7);
@@ -247,17 +312,17 @@ fn made_up_groves_are_walked_as_lists(rt: HostRuntime) -> Result<(), Fail> {
     for _ in 0..GROVES {
         let (tree, world) = grown(&rt, rt.alloc(), &mut dice)?;
         let lists = Lists::new(&world)?;
-        let wanted = shared_answers(&lists)?;
-        let answers = any_answers(&lists, &mut dice)?;
-        for id in &lists.order {
-            let node = tree.state().view().node_by_id(*id).ok_or("no node")?;
-            assert_plain(&rt, &lists, node, &mut dice)?;
-            assert_filtered(&rt, &lists, node, &answers, &mut dice)?;
-            assert_filtered(&rt, &lists, node, &wanted.common, &mut dice)?;
-            assert_hits(&rt, &lists, node, &answers, &mut dice)?;
-            assert_views(&rt, &lists, node, &wanted)?;
+        let (common, with_root) = shared_answers(&lists)?;
+        let filters = Filters {
+            any: Shown::new(&lists, any_answers(&lists, &mut dice)?)?,
+            common: Shown::new(&lists, common)?,
+            with_root,
+        };
+        for (number, spot) in lists.spots.iter().enumerate() {
+            let node = tree.state().view().node_by_id(spot.id).ok_or("no node")?;
+            assert_node(&rt, &lists, node, number, &filters, &mut dice)?;
         }
-        nodes = nodes.saturating_add(lists.order.len());
+        nodes = nodes.saturating_add(lists.spots.len());
         graftings = graftings.saturating_add(world.trees.len().saturating_sub(1));
     }
     assert!(rt;
@@ -268,4 +333,4 @@ fn made_up_groves_are_walked_as_lists(rt: HostRuntime) -> Result<(), Fail> {
 }
 
 /// How many interfaces are made up.
-const GROVES: usize = 1_000;
+const GROVES: usize = 3_000;
