@@ -1,14 +1,17 @@
 //! Questions about small interfaces, and what is replied to them.
 
 use crate::asking::Asked::{
-    Children, FilteredChildren, Focus, FollowingFiltered, FollowingSiblings, Hit, Label,
-    PrecedingFiltered, PrecedingSiblings,
+    self, Children, FilteredChildren, Focus, FollowingFiltered, FollowingSiblings, Hit, Label,
+    PrecedingFiltered, PrecedingSiblings, TextBetween,
 };
-use crate::asking::Wanted::{Ids, NoNode, NoNodeThere, NoText, Node, Text};
+use crate::asking::Place::{End, Start};
+use crate::asking::Wanted::{Ids, NoNode, NoNodeThere, NoText, Node, NotText, Text};
 use crate::asking::{Case, Row, assert_replies};
 use crate::interfaces::{DOCUMENT, FOCUSED, GRAFTING, HOISTED, LABELLED, PLAIN};
 use crate::made::{FIRST, Sent};
-use plain_worlds::sketches::Has::{self, Active, Bounds, Hidden, LabelledBy, Move, Value};
+use plain_worlds::sketches::Has::{
+    self, Active, Bounds, Hidden, LabelledBy, Lengths, Move, Value, Words,
+};
 use plain_worlds::sketches::Sketch;
 use schema::Role;
 use session::NamedFilter::{All, Common, CommonWithRoot};
@@ -49,6 +52,40 @@ const HIDDEN: Sent = Sent {
     nodes: &[
         Sketch(0, Role::Window, &[Has::Children(&[1])]),
         Sketch(1, Role::Button, &[Hidden]),
+    ],
+    ..FIRST
+};
+
+/// A hidden container, whose button has the focus.
+const HIDDEN_CONTAINER: Sent = Sent {
+    focus: 1,
+    nodes: &[
+        Sketch(0, Role::GenericContainer, &[Has::Children(&[1]), Hidden]),
+        Sketch(1, Role::Button, &[]),
+    ],
+    ..FIRST
+};
+
+/// A window with a label in a container that is moved, and a field with a text.
+const FORM: Sent = Sent {
+    nodes: &[
+        Sketch(
+            0,
+            Role::Window,
+            &[Has::Children(&[1, 2]), Bounds(0, 0, 100, 100)],
+        ),
+        Sketch(
+            1,
+            Role::GenericContainer,
+            &[Has::Children(&[3]), Move(10, 40)],
+        ),
+        Sketch(2, Role::TextInput, &[Has::Children(&[4])]),
+        Sketch(3, Role::Label, &[Value("a\"b"), Bounds(10, 10, 90, 30)]),
+        Sketch(
+            4,
+            Role::TextRun,
+            &[Value("hi"), Lengths(&[1, 1]), Words(&[0])],
+        ),
     ],
     ..FIRST
 };
@@ -137,7 +174,7 @@ const ACTIVE_LIST: Sent = Sent {
     ..FIRST
 };
 
-static WALKS: [Case; 5] = [
+static WALKS: [Case; 8] = [
     Case {
         name: "siblings",
         is_host_focused: false,
@@ -194,6 +231,27 @@ static WALKS: [Case; 5] = [
         is_host_focused: true,
         sent: &[HIDDEN],
         rows: &[Row(0, 0, FilteredChildren(Common), Ids(0, &[1]))],
+    },
+    Case {
+        name: "a hidden container hides its button",
+        is_host_focused: false,
+        sent: &[HIDDEN_CONTAINER],
+        rows: &[Row(0, 0, FilteredChildren(Common), Ids(0, &[]))],
+    },
+    Case {
+        name: "but not one that has the focus",
+        is_host_focused: true,
+        sent: &[HIDDEN_CONTAINER],
+        rows: &[Row(0, 0, FilteredChildren(Common), Ids(0, &[1]))],
+    },
+    Case {
+        name: "runs of a text are left out",
+        is_host_focused: false,
+        sent: &[FORM],
+        rows: &[
+            Row(0, 2, Children, Ids(0, &[4])),
+            Row(0, 2, FilteredChildren(Common), Ids(0, &[])),
+        ],
     },
 ];
 
@@ -331,9 +389,27 @@ static LABELS: [Case; 4] = [
     },
 ];
 
+static FORMS: [Case; 1] = [Case {
+    name: "a form with a label and a field",
+    is_host_focused: false,
+    sent: &[FORM],
+    rows: &[
+        Row(0, 0, Children, Ids(0, &[1, 2])),
+        Row(0, 0, FilteredChildren(Common), Ids(0, &[3, 2])),
+        Row(0, 3, Label, NoText),
+        Row(0, 3, Asked::Value, Text("a\"b")),
+        Row(0, 2, Asked::Value, Text("hi")),
+        Row(0, 3, TextBetween(Start(0), Start(0)), NotText),
+        Row(0, 2, TextBetween(Start(0), End(2)), Text("hi")),
+        Row(0, 0, Hit(20, 50), Node(0, 3)),
+        Row(0, 0, Focus, NoNodeThere),
+        Row(0, 9, Children, NoNode),
+    ],
+}];
+
 #[test]
 fn questions_about_interfaces_are_replied_to(rt: HostRuntime) -> Result<(), Fail> {
-    for cases in [WALKS.as_slice(), &GRAFTS, &FOCUSES, &HITS, &LABELS] {
+    for cases in [WALKS.as_slice(), &GRAFTS, &FOCUSES, &HITS, &LABELS, &FORMS] {
         for case in cases {
             assert_replies(&rt, rt.alloc(), case)?;
         }

@@ -16,8 +16,8 @@ use std::alloc::{AllocError, Global};
 use std::process::Abort;
 use std::test::Fail;
 
-/// How many runs are made up of one seed,
-const RUNS: u64 = 1000;
+/// How many runs are made up for each of four tests,
+const RUNS: u64 = 500;
 
 /// and how many commands each of them has.
 const COMMANDS: u32 = 10;
@@ -237,8 +237,8 @@ fn run_alone(
 }
 
 /// Runs a run's commands one at a time, with a mirror beside them. Asserts after each but a question that the mirror has
-/// what the session's tree has.
-fn replay(rt: &impl Abort, alloc: Global, course: Course) -> Result<(Session, Vec<Reply>), Fail> {
+/// what the session's tree has. Gives the mirror and the replies.
+fn replay(rt: &impl Abort, alloc: Global, course: Course) -> Result<(Mirror, Vec<Reply>), Fail> {
     let mut session = Session::new(alloc, course.first, course.is_host_focused)?;
     let mut mirror = Mirror::new(alloc, session.tree())?;
     let mut replies = Vec::new(alloc);
@@ -248,7 +248,7 @@ fn replay(rt: &impl Abort, alloc: Global, course: Course) -> Result<(Session, Ve
         let state = session.tree().state().view();
         assert!(rt; is_question || mirrors(&mirror, state));
     }
-    Ok((session, replies))
+    Ok((mirror, replies))
 }
 
 /// Runs a run's commands in one.
@@ -265,7 +265,7 @@ fn run(alloc: Global, course: Course) -> Result<(Session, Vec<Reply>), Fail> {
 const KINDS: usize = 13;
 
 /// and how many there have to be of each.
-const LEAST: u32 = 10;
+const LEAST: u32 = 5;
 
 /// The kind of a reply: a number below [`KINDS`].
 fn kind_of(reply: &Reply) -> usize {
@@ -295,16 +295,8 @@ fn count(counts: &mut [u32; KINDS], replies: &[Reply]) {
     }
 }
 
-/// Asserts that a state is as the plain program's world.
-fn assert_same(rt: &impl Abort, world: &World, session: &Session, number: u64) -> Result<(), Fail> {
-    let trees = u32::try_from(TREES).unwrap_or(0);
-    let state = session.tree().state().view();
-    let difference = difference(world, state, trees, NODES)?;
-    assert!(rt; difference.is_none(), "run {number}: {difference:?}");
-    Ok(())
-}
-
-/// Asserts that a run and its replay have the same replies, and end where the plain program ends. Gives the replies.
+/// Asserts that a run and its replay have the same replies, that the run ends where the plain program ends, and that the
+/// replay's mirror has what the run's tree has. Gives the replies.
 fn assert_alike(
     rt: &impl Abort,
     alloc: Global,
@@ -313,9 +305,12 @@ fn assert_alike(
     number: u64,
 ) -> Result<Vec<Reply>, Fail> {
     let (session, replies) = run(alloc, course.copy(alloc)?)?;
-    assert_same(rt, world, &session, number)?;
-    let (again, replayed) = replay(rt, alloc, course)?;
-    assert_same(rt, world, &again, number)?;
+    let state = session.tree().state().view();
+    let trees = u32::try_from(TREES).unwrap_or(0);
+    let difference = difference(world, state, trees, NODES)?;
+    assert!(rt; difference.is_none(), "run {number}: {difference:?}");
+    let (mirror, replayed) = replay(rt, alloc, course)?;
+    assert!(rt; mirrors(&mirror, state), "run {number}");
     assert_eq!(rt; replies.as_slice(), replayed.as_slice(), "run {number}");
     Ok(replies)
 }
@@ -336,11 +331,21 @@ fn assert_all_alike(rt: &impl Abort, alloc: Global, seed: u64) -> Result<(), Fai
 }
 
 #[test]
-fn replays_are_alike(rt: HostRuntime) -> Result<(), Fail> {
+fn first_replays_are_alike(rt: HostRuntime) -> Result<(), Fail> {
     assert_all_alike(&rt, rt.alloc(), 11)
 }
 
 #[test]
-fn more_replays_are_alike(rt: HostRuntime) -> Result<(), Fail> {
+fn further_replays_are_alike(rt: HostRuntime) -> Result<(), Fail> {
     assert_all_alike(&rt, rt.alloc(), 12)
+}
+
+#[test]
+fn more_replays_are_alike(rt: HostRuntime) -> Result<(), Fail> {
+    assert_all_alike(&rt, rt.alloc(), 13)
+}
+
+#[test]
+fn last_replays_are_alike(rt: HostRuntime) -> Result<(), Fail> {
+    assert_all_alike(&rt, rt.alloc(), 14)
 }
