@@ -7,6 +7,9 @@ use crate::sketches::Has::{
 use crate::sketches::Sketch;
 use schema::{Role, TextDirection};
 
+/// What is shown of four characters of a password.
+pub const BULLETS: &str = "\u{2022}\u{2022}\u{2022}\u{2022}";
+
 /// A root with its runs.
 pub type Text = &'static [Sketch];
 
@@ -128,45 +131,60 @@ pub const ELSEWHERE: Text = &[
     CD,
 ];
 
-const MOVED: Sketch = Sketch(0, Role::TextInput, &[Children(&[1]), Move(5, 0)]);
+/// A run that is measured, and moved.
+const MEASURED: Sketch = Sketch(
+    1,
+    Role::TextRun,
+    &[
+        Value("abc"),
+        Lengths(&[1, 1, 1]),
+        Words(&[]),
+        Move(100, 200),
+        Bounds(0, 0, 30, 10),
+        Positions(&[0, 10, 20]),
+        Widths(&[10, 10, 10]),
+    ],
+);
 
-/// A run that is measured. It is moved, and so is its root.
+/// Its root is moved, too, and says the direction of its text.
 pub const RIGHTWARD: Text = &[
-    MOVED,
     Sketch(
-        1,
-        Role::TextRun,
+        0,
+        Role::TextInput,
         &[
-            Value("abc"),
-            Lengths(&[1, 1, 1]),
-            Words(&[]),
-            Move(100, 200),
-            Bounds(0, 0, 30, 10),
-            Positions(&[0, 10, 20]),
-            Widths(&[10, 10, 10]),
+            Children(&[1]),
+            Move(5, 0),
             Direction(TextDirection::LeftToRight),
         ],
     ),
+    MEASURED,
 ];
 
 /// The same, from right to left.
 pub const LEFTWARD: Text = &[
-    MOVED,
     Sketch(
-        1,
-        Role::TextRun,
+        0,
+        Role::TextInput,
         &[
-            Value("abc"),
-            Lengths(&[1, 1, 1]),
-            Words(&[]),
-            Move(100, 200),
-            Bounds(0, 0, 30, 10),
-            Positions(&[0, 10, 20]),
-            Widths(&[10, 10, 10]),
+            Children(&[1]),
+            Move(5, 0),
             Direction(TextDirection::RightToLeft),
         ],
     ),
+    MEASURED,
 ];
+
+const SS: Sketch = Sketch(
+    2,
+    Role::TextRun,
+    &[Value("ss"), Lengths(&[1, 1]), Words(&[])],
+);
+
+const ZW: Sketch = Sketch(
+    2,
+    Role::TextRun,
+    &[Value("zw"), Lengths(&[1, 1]), Words(&[])],
+);
 
 /// A password of four characters, of which one has two bytes.
 pub const SECRET: Text = &[
@@ -176,11 +194,7 @@ pub const SECRET: Text = &[
         Role::TextRun,
         &[Value("p\u{e4}"), Lengths(&[1, 2]), Words(&[])],
     ),
-    Sketch(
-        2,
-        Role::TextRun,
-        &[Value("ss"), Lengths(&[1, 1]), Words(&[])],
-    ),
+    SS,
 ];
 
 /// Another one of its shape, which has a value of its own.
@@ -191,11 +205,7 @@ pub const OTHER_SECRET: Text = &[
         Role::TextRun,
         &[Value("xy"), Lengths(&[1, 1]), Words(&[])],
     ),
-    Sketch(
-        2,
-        Role::TextRun,
-        &[Value("zw"), Lengths(&[1, 1]), Words(&[])],
-    ),
+    ZW,
 ];
 
 /// A password of two paragraphs.
@@ -228,11 +238,7 @@ pub const SECRET_WORDS: Text = &[
         Role::TextRun,
         &[Value("p\u{e4}"), Lengths(&[1, 2]), Words(&[0, 1])],
     ),
-    Sketch(
-        2,
-        Role::TextRun,
-        &[Value("ss"), Lengths(&[1, 1]), Words(&[])],
-    ),
+    SS,
 ];
 
 /// Another one of its shape.
@@ -243,11 +249,7 @@ pub const OTHER_SECRET_WORDS: Text = &[
         Role::TextRun,
         &[Value("xy"), Lengths(&[1, 1]), Words(&[0, 1])],
     ),
-    Sketch(
-        2,
-        Role::TextRun,
-        &[Value("zw"), Lengths(&[1, 1]), Words(&[])],
-    ),
+    ZW,
 ];
 
 /// A password of one character again and again.
@@ -259,6 +261,12 @@ pub const ALIKE: Text = &[
         &[Value("aaaa"), Lengths(&[1, 1, 1, 1]), Words(&[])],
     ),
 ];
+
+/// A value of its own, and no run.
+pub const OWN_VALUE: Text = &[Sketch(0, Role::MultilineTextInput, &[Value("x")])];
+
+/// The same of a password.
+pub const OWN_SECRET: Text = &[Sketch(0, Role::PasswordInput, &[Value("ab")])];
 
 /// A check box that two labels name.
 pub const LABELLED: Text = &[
