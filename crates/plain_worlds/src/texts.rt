@@ -7,6 +7,9 @@ use crate::sketches::Has::{
 use crate::sketches::Sketch;
 use schema::{Role, TextDirection};
 
+/// What is shown of four characters of a password.
+pub const BULLETS: &str = "\u{2022}\u{2022}\u{2022}\u{2022}";
+
 /// A root with its runs.
 pub type Text = &'static [Sketch];
 
@@ -128,44 +131,47 @@ pub const ELSEWHERE: Text = &[
     CD,
 ];
 
-const MOVED: Sketch = Sketch(0, Role::TextInput, &[Children(&[1]), Move(5, 0)]);
+/// A run that is measured, and moved.
+const MEASURED: Sketch = Sketch(
+    1,
+    Role::TextRun,
+    &[
+        Value("abc"),
+        Lengths(&[1, 1, 1]),
+        Words(&[]),
+        Move(100, 200),
+        Bounds(0, 0, 30, 10),
+        Positions(&[0, 10, 20]),
+        Widths(&[10, 10, 10]),
+    ],
+);
 
-/// A run that is measured. It is moved, and so is its root.
+/// Its root is moved, too, and says the direction of its text.
 pub const RIGHTWARD: Text = &[
-    MOVED,
     Sketch(
-        1,
-        Role::TextRun,
+        0,
+        Role::TextInput,
         &[
-            Value("abc"),
-            Lengths(&[1, 1, 1]),
-            Words(&[]),
-            Move(100, 200),
-            Bounds(0, 0, 30, 10),
-            Positions(&[0, 10, 20]),
-            Widths(&[10, 10, 10]),
+            Children(&[1]),
+            Move(5, 0),
             Direction(TextDirection::LeftToRight),
         ],
     ),
+    MEASURED,
 ];
 
 /// The same, from right to left.
 pub const LEFTWARD: Text = &[
-    MOVED,
     Sketch(
-        1,
-        Role::TextRun,
+        0,
+        Role::TextInput,
         &[
-            Value("abc"),
-            Lengths(&[1, 1, 1]),
-            Words(&[]),
-            Move(100, 200),
-            Bounds(0, 0, 30, 10),
-            Positions(&[0, 10, 20]),
-            Widths(&[10, 10, 10]),
+            Children(&[1]),
+            Move(5, 0),
             Direction(TextDirection::RightToLeft),
         ],
     ),
+    MEASURED,
 ];
 
 const P_AND_UMLAUT: Sketch = Sketch(
@@ -269,6 +275,12 @@ pub const ALIKE: Text = &[
         &[Value("aaaa"), Lengths(&[1, 1, 1, 1]), Words(&[])],
     ),
 ];
+
+/// A value of its own, and no run.
+pub const OWN_VALUE: Text = &[Sketch(0, Role::MultilineTextInput, &[Value("x")])];
+
+/// The same of a password.
+pub const SECRET_WITHOUT_RUNS: Text = &[Sketch(0, Role::PasswordInput, &[Value("ab")])];
 
 /// A check box that two labels name.
 pub const LABELLED: Text = &[

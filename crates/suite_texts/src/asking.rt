@@ -1,8 +1,9 @@
 //! Questions of a text, and what is answered as plain values.
 
-ghost use Rattle.std.specs.Prelude.{◌≡◌, IfOk};
+ghost use Rattle.std.specs.Prelude.{◌≡◌, ◌<◌, nat_lt, true, IfOk};
+ghost use Rattle.model.specs.FlatText.{offset, total};
 ghost use Rattle.tree_views.specs.Nodes.{world_at, id_at};
-ghost use Rattle.accesskit_consumer.specs.Positions.{root_at};
+ghost use Rattle.accesskit_consumer.specs.Positions.{root_at, text_at, position_at};
 ghost use Rattle.accesskit_consumer.specs.TextRanges.{world_in, root_in};
 
 use crate::sketches::Spot;
@@ -10,6 +11,7 @@ use accesskit_consumer::node::NodeRef;
 use accesskit_consumer::text::{TextPosition, TextRange};
 use accesskit_consumer::{TextIndexes, TextPlaces, TextRoot, TextSelections};
 use schema::Point;
+use std::cmp::Ordering;
 use std::test::Fail;
 
 /// A position.
@@ -84,6 +86,8 @@ pub enum Span {
     WithEnd(Place, Place, Place),
     Line(usize),
     Selection,
+    /// The whole text.
+    Document,
 }
 
 /// The position as a plain value.
@@ -191,6 +195,47 @@ pub fn moved(position: &TextPosition, to: Move) -> Spot {
     named(other)
 }
 
+/// Whether the position is before another one of its root.
+fn is_before(position: &TextPosition, other: &TextPosition) -> bool
+    requires { root_at other.now ≡ root_at position.now }
+    ensures { result ≡ nat_lt (offset (text_at position.now) (position_at position.now)) (offset (text_at position.now) (position_at other.now)) }
+{
+    position.compare(other) == Some(Ordering::Less)
+}
+
+/// Whether there is a character after the position.
+fn has_next(position: &TextPosition) -> bool
+    ensures { result ≡ true → offset (text_at position.now) (position_at position.now) < total (text_at position.now) }
+{
+    is_before(position, &position.forward_to_page_end())
+}
+
+/// Whether there is a character before the position.
+fn has_previous(position: &TextPosition) -> bool
+    ensures { result ≡ true → 0 < offset (text_at position.now) (position_at position.now) }
+{
+    is_before(&position.backward_to_page_start(), position)
+}
+
+/// Where the moves by character lead: forwards to the start side and to the end side, and back. None leads past an end of the
+/// text.
+pub fn steps(position: &TextPosition) -> [Option<Spot>; 3] {
+    let (start, end) = if has_next(position) {
+        (
+            Some(named(position.forward_to_character_start())),
+            Some(named(position.forward_to_character_end())),
+        )
+    } else {
+        (None, None)
+    };
+    let back = if has_previous(position) {
+        Some(named(position.backward_to_character_start()))
+    } else {
+        None
+    };
+    [start, end, back]
+}
+
 /// The position's index in scalars, its index in units of UTF-16, and the number of its line.
 pub fn numbers(position: &TextPosition) -> (usize, usize, usize) {
     (
@@ -247,6 +292,14 @@ fn line<'a>(root: &NodeRef<'a>, index: usize) -> Result<Option<TextRange<'a>>, F
     Ok(root.line_range_from_index(index))
 }
 
+/// The range of the whole text, which is there.
+fn document<'a>(root: &NodeRef<'a>) -> Result<TextRange<'a>, Fail> {
+    if !root.supports_text_ranges() {
+        return Err("no text".into());
+    }
+    Ok(root.document_range())
+}
+
 /// The range, if there is one. There is a text.
 pub fn ranged<'a>(root: &NodeRef<'a>, span: Span) -> Result<Option<TextRange<'a>>, Fail> {
     match span {
@@ -256,6 +309,7 @@ pub fn ranged<'a>(root: &NodeRef<'a>, span: Span) -> Result<Option<TextRange<'a>
         Span::WithEnd(from, to, end) => Ok(Some(with_end(root, (from, to), end)?)),
         Span::Line(index) => line(root, index),
         Span::Selection => Ok(root.text_selection()),
+        Span::Document => Ok(Some(document(root)?)),
     }
 }
 

@@ -44,6 +44,8 @@ pub struct PlainRun {
 pub struct PlainText {
     pub runs: Vec<PlainRun>,
     pub is_password: bool,
+    /// What is sent of its selection. A spot may be in no run, and past the end of one.
+    pub selection: (Spot, Spot),
 }
 
 impl PlainRun {
@@ -104,7 +106,13 @@ impl PlainText {
         for number in 1..=count {
             runs.push(PlainRun::made_up(alloc, dice, number == count)?)?;
         }
-        Ok(PlainText { runs, is_password })
+        let anchor = (dice.index(count), dice.index(5));
+        let focus = (dice.index(count), dice.index(5));
+        Ok(PlainText {
+            runs,
+            is_password,
+            selection: (anchor, focus),
+        })
     }
 
     /// How many characters a run has.
@@ -215,7 +223,7 @@ impl PlainText {
         run == self.last() || self.closes_paragraph(run)
     }
 
-    fn font_size(&self, run: usize) -> u32 {
+    pub fn font_size(&self, run: usize) -> u32 {
         match self.runs.get(run) {
             Some(run) => run.font_size,
             None => 0,
@@ -360,6 +368,23 @@ impl PlainText {
         ]
     }
 
+    /// Where the moves by character lead: forwards to the start side and to the end side, and back. None leads past an end of
+    /// the text.
+    pub fn steps(&self, spot: Spot) -> [Option<Spot>; 3] {
+        let offset = self.offset(spot);
+        let next = if offset < self.total() {
+            Some(self.next(spot))
+        } else {
+            None
+        };
+        let back = offset.checked_sub(1);
+        [
+            next,
+            next.map(|next| self.to_end(next)),
+            back.map(|before| self.start_side(before)),
+        ]
+    }
+
     /// The characters, in order, by their numbers.
     pub fn characters(&self, alloc: Global) -> Result<Vec<usize>, AllocError> {
         let mut characters = Vec::new(alloc);
@@ -409,13 +434,68 @@ impl PlainText {
         Ok(text)
     }
 
-    /// The ends of the range from a spot to another: where no character is between them, the end twice, or the start twice.
-    pub fn ranges(&self, start: Spot, end: Spot) -> [(Spot, Spot); 2] {
-        if self.offset(start) >= self.offset(end) {
-            return [(end, end), (start, start)];
+    /// The range with its start set to a spot, and its end too where that wouldn't be past it.
+    pub fn with_start(&self, range: (Spot, Spot), start: Spot) -> (Spot, Spot) {
+        if self.offset(start) < self.offset(range.1) {
+            (self.to_start(start), range.1)
+        } else {
+            (start, start)
         }
-        let ends = (self.to_start(start), end);
-        [ends, ends]
+    }
+
+    /// The range with its end set to a spot, and its start too where that wouldn't be before it.
+    pub fn with_end(&self, range: (Spot, Spot), end: Spot) -> (Spot, Spot) {
+        if self.offset(range.0) < self.offset(end) {
+            (self.to_start(range.0), end)
+        } else {
+            (end, end)
+        }
+    }
+
+    /// The spot as it is selected: in a run of the text, and not past its end.
+    pub fn selected(&self, spot: Spot) -> Option<Spot> {
+        if spot.0 < self.runs.len() {
+            Some((spot.0, spot.1.min(self.count(spot.0))))
+        } else {
+            None
+        }
+    }
+
+    /// The two spots in order.
+    pub fn sorted(&self, (one, other): (Spot, Spot)) -> (Spot, Spot) {
+        if self.offset(other) < self.offset(one) {
+            (other, one)
+        } else {
+            (one, other)
+        }
+    }
+
+    /// The runs that a range visits, each with what the range has of it.
+    pub fn pieces(
+        &self,
+        alloc: Global,
+        (start, end): (Spot, Spot),
+    ) -> Result<Vec<(usize, String)>, AllocError> {
+        let mut pieces = Vec::new(alloc);
+        if self.offset(start) == self.offset(end) {
+            pieces.push((start.0, String::new(alloc)))?;
+            return Ok(pieces);
+        }
+        for run in self.to_start(start).0..=self.to_end(end).0 {
+            let from = if run == start.0 { start.1 } else { 0 };
+            let to = if run == end.0 { end.1 } else { self.count(run) };
+            let text = self.text(alloc, self.offset((run, from)), self.offset((run, to)))?;
+            pieces.push((run, text))?;
+        }
+        Ok(pieces)
+    }
+
+    /// The size that all runs have which a range visits, if they have one size.
+    pub fn size_in(&self, pieces: &[(usize, String)]) -> Option<u32> {
+        let (first, _) = pieces.first()?;
+        let size = self.font_size(*first);
+        let is_single = pieces.iter().all(|(run, _)| self.font_size(*run) == size);
+        if is_single { Some(size) } else { None }
     }
 
     /// How many lines end before a run.

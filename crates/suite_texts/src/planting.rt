@@ -1,14 +1,14 @@
 //! Trees of made-up texts.
 
-use crate::plain::{CHARACTERS, PlainRun, PlainText};
-use crate::sketches::grown;
+use crate::plain::{self, CHARACTERS, PlainRun, PlainText};
+use crate::sketches::{Spot, grown, selected};
 use accesskit_consumer::tree::Tree;
 use schema::{Node, NodeId, Role};
 use std::alloc::{AllocError, Global};
 use std::test::Fail;
 
 /// The id of the node of a run: they go by their numbers from 1 on, below the root 0.
-fn run_id(run: usize) -> NodeId {
+pub fn run_id(run: usize) -> NodeId {
     NodeId(u64::try_from(run).unwrap_or(0).saturating_add(1))
 }
 
@@ -68,15 +68,22 @@ fn give_children(alloc: Global, root: &mut Node, count: usize) -> Result<(), All
     root.set_children(&ids)
 }
 
-/// Adds the root of so many runs.
+/// The spot with the id of its run in place of the number.
+fn by_id(spot: plain::Spot) -> Spot {
+    (run_id(spot.0).0, spot.1)
+}
+
+/// Adds the root of a text.
 fn push_root(
     alloc: Global,
     nodes: &mut Vec<(NodeId, Node)>,
     role: Role,
-    count: usize,
+    text: &PlainText,
 ) -> Result<(), AllocError> {
     let mut root = Node::new(alloc, role);
-    give_children(alloc, &mut root, count)?;
+    let (anchor, focus) = text.selection;
+    root.set_text_selection(selected(by_id(anchor), by_id(focus)));
+    give_children(alloc, &mut root, text.runs.len())?;
     nodes.push((NodeId(0), root))?;
     Ok(())
 }
@@ -91,7 +98,7 @@ fn nodes_of(
     for number in 0..text.runs.len() {
         push_run(alloc, &mut nodes, text, number)?;
     }
-    push_root(alloc, &mut nodes, role, text.runs.len())?;
+    push_root(alloc, &mut nodes, role, text)?;
     Ok(nodes)
 }
 

@@ -10,16 +10,14 @@ use crate::asking::{
 };
 use crate::sketches::{Spot, planted, root_of};
 use crate::texts::{
-    ACCENTS, ALIKE, ELSEWHERE, EMPTY_LAST, LEFTWARD, LETTERS, MEETING, MORE_LETTERS, NOTHING,
-    OTHER_SECRET, OTHER_SECRET_LINES, OTHER_SECRET_WORDS, PARAGRAPHS, RIGHTWARD, SECRET,
+    ACCENTS, ALIKE, BULLETS, ELSEWHERE, EMPTY_LAST, LEFTWARD, LETTERS, MEETING, MORE_LETTERS,
+    NOTHING, OTHER_SECRET, OTHER_SECRET_LINES, OTHER_SECRET_WORDS, PARAGRAPHS, RIGHTWARD, SECRET,
     SECRET_LINES, SECRET_WORDS, THIRD, Text, WIDE,
 };
 use accesskit_consumer::node::NodeRef;
 use schema::WideRect;
 use std::alloc::Global;
 use std::test::Fail;
-
-const BULLETS: &str = "\u{2022}\u{2022}\u{2022}\u{2022}";
 
 /// Which position a place is.
 static PLACES: [(Text, Place, Spot); 9] = [

@@ -1,16 +1,20 @@
 //! Writers that fail: they have a beginning of the text then, and hear no more.
 
-ghost use Rattle.std.specs.Prelude.{◌≡◌};
+ghost use Rattle.std.specs.Prelude.{◌≡◌, ◌+◌, ◌^◌, ◌<◌};
 ghost use Rattle.std.specs.String.{string_bytes};
 
 use crate::asking::Place::At;
 use crate::asking::Span::{self, Between};
 use crate::asking::range;
 use crate::sketches::{planted, root_of};
-use crate::texts::{LABELLED, SECRET};
+use crate::texts::{
+    ALIKE, BULLETS, LABELLED, MEETING, OWN_VALUE, SECRET, SECRET_WITHOUT_RUNS, Text,
+};
+use Writing::{Label, Value};
 use accesskit_consumer::node::NodeRef;
 use schema::{TextBuffer, TextFault, TextWrite};
 use std::alloc::Global;
+use std::process::Abort;
 use std::test::Fail;
 
 /// A writer whose calls fail once so many were made.
@@ -73,86 +77,109 @@ impl TextWrite for Failing {
 
 const ALL: Span = Between(At(0), At(4));
 
-/// How many bytes a bullet has.
-const BULLET: usize = 3;
-
-/// Writes the text of a range to a writer that fails at this call: what it has then, and whether there was no fault.
-fn written(alloc: Global, root: &NodeRef, fails_at: u32) -> Result<(Failing, bool), Fail> {
-    let range = range(root, ALL)?;
-    let mut writer = Failing::new(alloc, fails_at);
-    let is_ok = range.write_text(&mut writer).is_ok();
-    Ok((writer, is_ok))
+/// What is written of a root.
+#[derive(Clone, Copy)]
+enum Writing {
+    Label,
+    Value,
+    Text(Span),
 }
 
-#[test]
-fn masked_text_is_cut_between_bullets(rt: HostRuntime) -> Result<(), Fail> {
-    let tree = planted(rt.alloc(), SECRET)?;
-    for bullets in 0..4usize {
-        let fails_at = u32::try_from(bullets).unwrap_or(0).saturating_add(1);
-        let (writer, is_ok) = written(rt.alloc(), &root_of(&tree), fails_at)?;
-        assert!(rt; !is_ok, "{bullets}");
-        assert!(rt;
-            writer.text.len() == bullets.saturating_mul(BULLET),
-            "{bullets}"
-        );
-        assert!(rt;
-            (writer.calls, writer.failures) == (fails_at, 1),
-            "{bullets}"
-        );
+/// What is written of which root, and how many bytes each call adds, where that is told: a bullet, or all of a run.
+static WRITINGS: [(Text, Writing, &str, Option<usize>); 9] = [
+    (LABELLED, Label, "Check email every minutes", None),
+    (OWN_VALUE, Value, "x", None),
+    (SECRET_WITHOUT_RUNS, Value, "\u{2022}\u{2022}", None),
+    (MEETING, Value, "abcd", None),
+    (ALIKE, Value, "aaaa", None),
+    (SECRET, Value, BULLETS, None),
+    (SECRET, Writing::Text(ALL), BULLETS, Some(3)),
+    (
+        SECRET,
+        Writing::Text(Between(At(1), At(3))),
+        "\u{2022}\u{2022}",
+        Some(3),
+    ),
+    (MEETING, Writing::Text(ALL), "abcd", Some(2)),
+];
+
+/// Writes it. The answer says whether it is there.
+fn write<W: TextWrite>(
+    root: &NodeRef,
+    writing: Writing,
+    writer: &mut W,
+) -> Result<Result<bool, TextFault>, Fail>
+    requires { W.faults writer.old + 1 < 2 ^ 128 }
+{
+    match writing {
+        Label => Ok(root.write_label(writer)),
+        Value => Ok(root.write_value(writer)),
+        Writing::Text(span) => match range(root, span)?.write_text(writer) {
+            Ok(()) => Ok(Ok(true)),
+            Err(fault) => Ok(Err(fault)),
+        },
     }
-    Ok(())
 }
 
-#[test]
-fn masked_text_is_written_in_bullets(rt: HostRuntime) -> Result<(), Fail> {
-    let tree = planted(rt.alloc(), SECRET)?;
-    let (writer, is_ok) = written(rt.alloc(), &root_of(&tree), 5)?;
-    assert!(rt; is_ok);
-    assert!(rt; writer.text.as_str() == "\u{2022}\u{2022}\u{2022}\u{2022}");
-    Ok(())
-}
-
-const LABEL: &str = "Check email every minutes";
-
-/// Writes the label to a writer that fails at this call: what it has then, and the answer.
-fn labelled(alloc: Global, root: &NodeRef, fails_at: u32) -> (Failing, Result<bool, TextFault>) {
+/// Writes it to a writer that fails at this call: what it has then, and the answer.
+fn written(
+    alloc: Global,
+    root: &NodeRef,
+    writing: Writing,
+    fails_at: u32,
+) -> Result<(Failing, Result<bool, TextFault>), Fail> {
     let mut writer = Failing::new(alloc, fails_at);
-    let answer = root.write_label(&mut writer);
-    (writer, answer)
+    let answer = write(root, writing, &mut writer)?;
+    Ok((writer, answer))
+}
+
+/// Asserts that the writer has a beginning of the text, and that the call that failed was the last one.
+fn assert_cut(rt: &impl Abort, writer: &Failing, text: &str, length: Option<usize>) {
+    let written = writer.text.as_str();
+    assert!(rt; text.starts_with(written), "{written}");
+    assert!(rt;
+        (writer.calls, writer.failures) == (writer.fails_at, 1),
+        "{written}"
+    );
+    if let Some(length) = length {
+        let before = usize::try_from(writer.fails_at)
+            .unwrap_or(0)
+            .saturating_sub(1);
+        assert!(rt; written.len() == before.saturating_mul(length), "{written}");
+    }
 }
 
 #[test]
-fn label_is_cut_at_a_fault(rt: HostRuntime) -> Result<(), Fail> {
-    let tree = planted(rt.alloc(), LABELLED)?;
-    let mut has_ended = false;
-    for fails_at in 1..9u32 {
-        let (writer, answer) = labelled(rt.alloc(), &root_of(&tree), fails_at);
-        let text = writer.text.as_str();
-        match answer {
-            Ok(there) => {
-                has_ended = true;
-                assert!(rt; there && text == LABEL);
+fn writers_that_fail_have_a_beginning(rt: HostRuntime) -> Result<(), Fail> {
+    for (root, writing, text, length) in &WRITINGS {
+        let tree = planted(rt.alloc(), root)?;
+        let mut has_ended = false;
+        for fails_at in 1..9u32 {
+            let (writer, answer) = written(rt.alloc(), &root_of(&tree), *writing, fails_at)?;
+            if answer.is_err() {
+                assert!(rt; !has_ended, "{text}");
+                assert_cut(&rt, &writer, text, *length);
+                continue;
             }
-            Err(TextFault) => {
-                assert!(rt; !has_ended && LABEL.starts_with(text));
-                assert!(rt;
-                    (writer.calls, writer.failures) == (fails_at, 1),
-                    "{fails_at}"
-                );
-            }
+            has_ended = true;
+            assert!(rt;
+                answer == Ok(true) && writer.text.as_str() == *text,
+                "{text}"
+            );
         }
+        assert!(rt; has_ended, "{text}");
     }
-    assert!(rt; has_ended);
     Ok(())
 }
 
 #[test]
 fn buffers_take_the_whole_text(rt: HostRuntime) -> Result<(), Fail> {
-    let tree = planted(rt.alloc(), SECRET)?;
-    let range = range(&root_of(&tree), Between(At(1), At(3)))?;
-    let mut buffer = TextBuffer::new(rt.alloc());
-    assert!(rt; range.write_text(&mut buffer).is_ok());
-    assert!(rt; buffer.as_str() == "\u{2022}\u{2022}");
+    for (root, writing, text, _) in &WRITINGS {
+        let tree = planted(rt.alloc(), root)?;
+        let mut buffer = TextBuffer::new(rt.alloc());
+        let answer = write(&root_of(&tree), *writing, &mut buffer)?;
+        assert!(rt; answer == Ok(true) && buffer.as_str() == *text, "{text}");
+    }
     Ok(())
 }
 
