@@ -205,7 +205,7 @@ pub const SECRET: Text = &[PASSWORD, P_AND_UMLAUT, SS];
 pub const OTHER_RUNS: Text = &[PASSWORD, XY, ZW];
 
 /// The first one has a value of its own,
-pub const OWN_SECRET: Text = &[
+pub const SECRET_WITH_VALUE: Text = &[
     Sketch(
         0,
         Role::PasswordInput,

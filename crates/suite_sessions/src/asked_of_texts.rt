@@ -3,14 +3,14 @@
 use crate::asking::Asked::{IndexesOf, Moved, TextBetween, Value};
 use crate::asking::Place::{End, Start};
 use crate::asking::Wanted::{Indexes, NoNode, NoPosition, NoText, NotText, Position, Text};
-use crate::asking::{Case, Row, assert_replies};
+use crate::asking::{BULLETS, Case, Row, assert_replies};
 use crate::made::{FIRST, Sent};
 use plain_worlds::ill_formed::{GRAFTED, GRAFTING, ILL_FORMED};
 use plain_worlds::sketches::Has::{self, Children, FontSize, Lengths};
 use plain_worlds::sketches::Sketch;
 use plain_worlds::texts::{
     ACCENTS, ALIKE, EMPTY_LAST, LETTERS, MEETING, MORE_LETTERS, NOTHING, OTHER_RUNS, OTHER_SECRET,
-    OTHER_SECRET_LINES, OTHER_SECRET_WORDS, OWN_SECRET, PARAGRAPHS, SECRET, SECRET_LINES,
+    OTHER_SECRET_LINES, OTHER_SECRET_WORDS, PARAGRAPHS, SECRET, SECRET_LINES, SECRET_WITH_VALUE,
     SECRET_WORDS, WIDE,
 };
 use schema::Role;
@@ -22,9 +22,6 @@ use session::Move::{
     ForwardToParagraphEnd, ForwardToParagraphStart, ForwardToWordEnd, ForwardToWordStart,
 };
 use std::test::Fail;
-
-/// What four bullets are.
-const BULLETS: &str = "\u{2022}\u{2022}\u{2022}\u{2022}";
 
 /// Two runs that look alike, and one of letters of another size.
 const SIZES: &[Sketch] = &[
@@ -439,7 +436,7 @@ static PASSWORDS: [Case; 8] = [
         name: "a password with a value of its own",
         is_host_focused: false,
         sent: &[Sent {
-            nodes: OWN_SECRET,
+            nodes: SECRET_WITH_VALUE,
             ..FIRST
         }],
         rows: OF_FOUR,

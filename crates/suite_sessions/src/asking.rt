@@ -12,6 +12,9 @@ use std::alloc::{AllocError, Global};
 use std::process::Abort;
 use std::test::Fail;
 
+/// What is shown of a password of four characters.
+pub const BULLETS: &str = "\u{2022}\u{2022}\u{2022}\u{2022}";
+
 /// A place in a text by its index in scalars: at the start of a run where two meet, or at the end.
 #[derive(Clone, Copy)]
 pub enum Place {

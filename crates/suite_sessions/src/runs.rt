@@ -7,7 +7,7 @@ use crate::asking::Wanted::{
     Accepted, FocusMissing, Ids, Indexes, ListedTwice, MissingData, NamedTwice, NoNode, Node,
     NotText, Position, Text,
 };
-use crate::asking::{Row, Step, assert_written, commands, session};
+use crate::asking::{BULLETS, Row, Step, assert_written, commands, session};
 use crate::interfaces::{DROPPED, PLAIN, SHELVES};
 use crate::made::{FIRST, NEXT, Sent, id};
 use accesskit_consumer::tree::Mirror;
@@ -83,8 +83,6 @@ const REFUSALS: Run = Run {
     ],
     told: &[],
 };
-
-const BULLETS: &str = "\u{2022}\u{2022}\u{2022}\u{2022}";
 
 const FORM: Sketch = Sketch(0, Role::Window, &[Has::Children(&[1])]);
 
