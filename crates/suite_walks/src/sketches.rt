@@ -106,7 +106,12 @@ pub fn id(tree: u32, node: u64) -> FullNodeId {
     }
 }
 
+/// The node of the tree with this index, which is there.
+pub fn found<'a>(state: StateRef<'a>, tree: u32, node: u64) -> Result<NodeRef<'a>, Fail> {
+    Ok(state.node_by_id(id(tree, node)).ok_or("no such node")?)
+}
+
 /// A node of the root tree, which is there.
 pub fn shown<'a>(state: StateRef<'a>, node: u64) -> Result<NodeRef<'a>, Fail> {
-    Ok(state.node_by_id(id(0, node)).ok_or("no such node")?)
+    found(state, 0, node)
 }

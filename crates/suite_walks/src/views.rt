@@ -3,11 +3,12 @@
 use crate::sketches::Has::{
     Action, Bounds, ChildAction, Description, Graft, Hidden, Live, Move, SizeOfSet,
 };
-use crate::sketches::{Sketch, SketchedTree, id, planted, shown};
+use crate::sketches::{Sketch, SketchedTree, found, id, planted, shown};
 use accesskit_consumer::filters::common_filter;
 use accesskit_consumer::node::{FullNodeId, NodeRef};
 use accesskit_consumer::walks::FilterResult;
 use schema::{Action as Can, Live as Says, Point, Role, WideRect};
+use std::alloc::Global;
 use std::test::Fail;
 
 /// The root tree of these nodes, with the focus on node 0.
@@ -51,57 +52,62 @@ const GRAFTED: [SketchedTree; 2] = [
     },
 ];
 
+/// What the common filter shows below a node.
+fn shown_below(alloc: Global, node: &NodeRef) -> Result<Vec<FullNodeId>, Fail> {
+    let children = node.filtered_children(common_filter);
+    Ok(children.map(|node| node.id()).collect(alloc)?)
+}
+
 /// What is shown below a graft is the tree that hangs there, once it is there.
 #[test]
 fn grafted_tree_is_shown_in_place_of_its_graft(rt: HostRuntime) -> Result<(), Fail> {
-    let alloc = rt.alloc();
-    let before = planted(&rt, alloc, &[GRAFTED[0]], false)?;
+    let before = planted(&rt, rt.alloc(), &[GRAFTED[0]], false)?;
     let graft = shown(before.state().view(), 1)?;
-    assert!(rt; graft.filtered_children(common_filter).next().is_none());
-    let after = planted(&rt, alloc, &GRAFTED, false)?;
-    let state = after.state().view();
-    let ids: Vec<FullNodeId> = state
-        .root()
-        .filtered_children(common_filter)
-        .map(|node| node.id())
-        .collect(alloc)?;
-    assert!(rt; ids.as_slice() == [id(1, 0)].as_slice());
-    let document = state.node_by_id(id(1, 0)).ok_or("no document")?;
-    let ids: Vec<FullNodeId> = document
-        .filtered_children(common_filter)
-        .map(|node| node.id())
-        .collect(alloc)?;
-    assert!(rt; ids.as_slice() == [id(1, 1)].as_slice());
+    assert!(rt; shown_below(rt.alloc(), &graft)?.is_empty());
+    let after = planted(&rt, rt.alloc(), &GRAFTED, false)?;
+    let root = shown(after.state().view(), 0)?;
+    assert!(rt; shown_below(rt.alloc(), &root)?.as_slice() == [id(1, 0)].as_slice());
+    let document = found(after.state().view(), 1, 0)?;
+    assert!(rt; shown_below(rt.alloc(), &document)?.as_slice() == [id(1, 1)].as_slice());
     Ok(())
 }
 
-/// Paths and the ends of what is below a node go through grafts.
+/// A node by its tree's index and its id, and the path to it.
+static PATHS: [(u32, u64, &[usize]); 3] = [(0, 0, &[]), (0, 1, &[0]), (1, 1, &[0, 0, 0])];
+
 #[test]
 fn paths_go_through_grafts(rt: HostRuntime) -> Result<(), Fail> {
-    let alloc = rt.alloc();
-    let tree = planted(&rt, alloc, &GRAFTED, false)?;
-    let state = tree.state().view();
-    let root = state.root();
-    let button = state.node_by_id(id(1, 1)).ok_or("no button")?;
-    let document = state.node_by_id(id(1, 0)).ok_or("no document")?;
-    assert_eq!(rt; button.index_path(alloc)?.as_slice(), [0, 0, 0].as_slice());
-    assert_eq!(rt;
-        shown(state, 1)?.index_path(alloc)?.as_slice(),
-        [0].as_slice()
-    );
-    assert!(rt; root.index_path(alloc)?.is_empty());
-    let parent = button.parent().ok_or("no parent")?;
-    assert!(rt; parent.id() == document.id());
-    assert!(rt; button.relative_index_path(alloc, button.id())?.is_empty());
+    let tree = planted(&rt, rt.alloc(), &GRAFTED, false)?;
+    for (index, node, path) in &PATHS {
+        let node = found(tree.state().view(), *index, *node)?;
+        assert_eq!(rt; node.index_path(rt.alloc())?.as_slice(), *path);
+        assert!(rt; node.relative_index_path(rt.alloc(), node.id())?.is_empty());
+    }
+    Ok(())
+}
+
+/// The parent of a node, and the deepest first and last nodes below it: of all, and of what is shown.
+fn ends(node: &NodeRef) -> [Option<FullNodeId>; 5] {
+    [
+        id_of(node.parent()),
+        id_of(node.deepest_first_child()),
+        id_of(node.deepest_last_child()),
+        id_of(node.deepest_first_filtered_child(&common_filter)),
+        id_of(node.deepest_last_filtered_child(&common_filter)),
+    ]
+}
+
+/// What is above a node and below it goes through grafts, too.
+#[test]
+fn ends_are_found_through_grafts(rt: HostRuntime) -> Result<(), Fail> {
+    let tree = planted(&rt, rt.alloc(), &GRAFTED, false)?;
+    let root = shown(tree.state().view(), 0)?;
+    let button = found(tree.state().view(), 1, 1)?;
+    let deepest = Some(id(1, 1));
+    assert!(rt; ends(&root) == [None, deepest, deepest, deepest, deepest]);
+    assert!(rt; ends(&button) == [Some(id(1, 0)), None, None, None, None]);
     assert!(rt; button.is_descendant_of(&root));
     assert!(rt; !root.is_descendant_of(&button));
-    assert!(rt; id_of(root.deepest_last_child()) == Some(button.id()));
-    assert!(rt; id_of(root.deepest_first_child()) == Some(button.id()));
-    assert!(rt; button.deepest_first_child().is_none());
-    let deepest = root.deepest_first_filtered_child(&common_filter);
-    assert!(rt; id_of(deepest) == Some(button.id()));
-    let deepest = root.deepest_last_filtered_child(&common_filter);
-    assert!(rt; id_of(deepest) == Some(button.id()));
     Ok(())
 }
 
@@ -139,28 +145,36 @@ fn filtered_parent_lends_its_click(rt: HostRuntime) -> Result<(), Fail> {
     Ok(())
 }
 
+/// A window with a slider.
+const SLIDER: [Sketch; 2] = [
+    Sketch(0, Role::Window, &[1], &[]),
+    Sketch(
+        1,
+        Role::Slider,
+        &[],
+        &[Action(Can::Focus), Action(Can::Increment), Description("d")],
+    ),
+];
+
+/// Whether a node can be increased, also by the name of the action, can be decreased, and can have the focus.
+fn abilities(node: &NodeRef) -> [bool; 4] {
+    [
+        node.supports_increment(&common_filter),
+        node.supports_action(Can::Increment, &common_filter),
+        node.supports_decrement(&common_filter),
+        node.is_focusable(&common_filter),
+    ]
+}
+
 #[test]
 fn actions_are_the_nodes_own(rt: HostRuntime) -> Result<(), Fail> {
-    let nodes = [tree(&[
-        Sketch(0, Role::Window, &[1], &[]),
-        Sketch(
-            1,
-            Role::Slider,
-            &[],
-            &[Action(Can::Focus), Action(Can::Increment), Description("d")],
-        ),
-    ])];
-    let alloc = rt.alloc();
-    let tree = planted(&rt, alloc, &nodes, false)?;
+    let tree = planted(&rt, rt.alloc(), &[tree(&SLIDER)], false)?;
     let window = shown(tree.state().view(), 0)?;
     let slider = shown(tree.state().view(), 1)?;
-    assert!(rt; slider.supports_action(Can::Increment, &common_filter));
-    assert!(rt; slider.supports_increment(&common_filter));
-    assert!(rt; !slider.supports_decrement(&common_filter));
-    assert!(rt; slider.is_focusable(&common_filter));
-    assert!(rt; window.is_focusable(&common_filter));
-    assert_eq!(rt; slider.description(alloc)?.as_deref(), Some("d"));
-    assert!(rt; window.description(alloc)?.is_none());
+    assert!(rt; abilities(&slider) == [true, true, false, true]);
+    assert!(rt; abilities(&window) == [false, false, false, true]);
+    assert_eq!(rt; slider.description(rt.alloc())?.as_deref(), Some("d"));
+    assert!(rt; window.description(rt.alloc())?.is_none());
     Ok(())
 }
 

@@ -1,4 +1,4 @@
-use Rattle.std.proofs.Common.{◌≡◌, ◌<◌, ◌≤◌, ap, subst, sym, ◌∙◌, arith, ltb-true}
+use Rattle.std.proofs.Common.{◌≡◌, ◌≤◌, ap, subst, sym, ◌∙◌, arith, ltb-true}
 use Rattle.model.specs.FlatText.{offset, total}
 use Rattle.model.proofs.Text.Indexes.{offset_within}
 use Rattle.accesskit_consumer.specs.Positions.{text_of, text_at, position_at}
