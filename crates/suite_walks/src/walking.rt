@@ -103,7 +103,7 @@ fn assert_plain(
     Ok(())
 }
 
-/// The walks that a filter shapes, and what is asked of its kin.
+/// The walks that a filter shapes.
 fn assert_filtered(
     rt: &impl Abort,
     lists: &Lists,
@@ -112,7 +112,6 @@ fn assert_filtered(
     shown: &Shown,
     dice: &mut Dice,
 ) -> Result<(), Fail> {
-    let spot = lists.spots.get(number).ok_or("no node")?;
     let filter = |other: &NodeRef<'_>| lists.answer(&shown.answers, other.id());
     let below = node.filtered_children(filter);
     assert_walk(
@@ -149,6 +148,19 @@ fn assert_filtered(
         dice,
         "items",
     );
+    assert_set(rt, lists, node, number, shown)
+}
+
+/// What a filter makes of the nearest ancestor and of the set.
+fn assert_set(
+    rt: &impl Abort,
+    lists: &Lists,
+    node: NodeRef,
+    number: usize,
+    shown: &Shown,
+) -> Result<(), Fail> {
+    let spot = lists.spots.get(number).ok_or("no node")?;
+    let filter = |other: &NodeRef<'_>| lists.answer(&shown.answers, other.id());
     let parent = shown.parent(spot).unwrap_or(usize::MAX);
     assert!(rt; id_of(node.filtered_parent(&filter)) == lists.id(parent));
     let set = shown.set(lists, number)?;
@@ -232,6 +244,18 @@ struct Filters {
     with_root: Answers,
 }
 
+impl Filters {
+    fn new(lists: &Lists, dice: &mut Dice) -> Result<Filters, AllocError> {
+        let (common, with_root) = shared_answers(lists)?;
+        let any = any_answers(lists, dice)?;
+        Ok(Filters {
+            any: Shown::new(lists, any)?,
+            common: Shown::new(lists, common)?,
+            with_root,
+        })
+    }
+}
+
 /// Asks a node one of the questions.
 fn assert_node(
     rt: &impl Abort,
@@ -303,27 +327,28 @@ fn grown(rt: &impl Abort, alloc: Global, dice: &mut Dice) -> Result<(Tree, World
     Ok((tree, world))
 }
 
-/// Thousands of interfaces of up to four trees. Each node is asked one of the questions.
+/// Makes an interface up, asks each of its nodes one of the questions, and says how many nodes and grafted trees it has.
+fn assert_grove(rt: &impl Abort, alloc: Global, dice: &mut Dice) -> Result<(usize, usize), Fail> {
+    let (tree, world) = grown(rt, alloc, dice)?;
+    let lists = Lists::new(&world)?;
+    let filters = Filters::new(&lists, dice)?;
+    for (number, spot) in lists.spots.iter().enumerate() {
+        let node = tree.state().view().node_by_id(spot.id).ok_or("no node")?;
+        assert_node(rt, &lists, node, number, &filters, dice)?;
+    }
+    Ok((lists.spots.len(), world.trees.len().saturating_sub(1)))
+}
+
+/// Thousands of interfaces of up to four trees.
 #[test]
 fn made_up_groves_are_walked_as_lists(rt: HostRuntime) -> Result<(), Fail> {
     let mut dice = Dice::new(7);
     let mut nodes = 0usize;
     let mut graftings = 0usize;
     for _ in 0..GROVES {
-        let (tree, world) = grown(&rt, rt.alloc(), &mut dice)?;
-        let lists = Lists::new(&world)?;
-        let (common, with_root) = shared_answers(&lists)?;
-        let filters = Filters {
-            any: Shown::new(&lists, any_answers(&lists, &mut dice)?)?,
-            common: Shown::new(&lists, common)?,
-            with_root,
-        };
-        for (number, spot) in lists.spots.iter().enumerate() {
-            let node = tree.state().view().node_by_id(spot.id).ok_or("no node")?;
-            assert_node(&rt, &lists, node, number, &filters, &mut dice)?;
-        }
-        nodes = nodes.saturating_add(lists.spots.len());
-        graftings = graftings.saturating_add(world.trees.len().saturating_sub(1));
+        let (count, grafted) = assert_grove(&rt, rt.alloc(), &mut dice)?;
+        nodes = nodes.saturating_add(count);
+        graftings = graftings.saturating_add(grafted);
     }
     assert!(rt;
         nodes > 5 * GROVES && graftings > GROVES / 2,
@@ -333,4 +358,4 @@ fn made_up_groves_are_walked_as_lists(rt: HostRuntime) -> Result<(), Fail> {
 }
 
 /// How many interfaces are made up.
-const GROVES: usize = 3_000;
+const GROVES: usize = 2_000;
