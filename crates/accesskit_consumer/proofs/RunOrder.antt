@@ -145,11 +145,11 @@ module _ (p q a b : TextPosition) (worlds : world_at (root_at q) ≡ world_at (r
   second_offset : offset (text_at p) (position_at b) ≡ offset (text_at q) (position_at q)
   second_offset = ap (λ t. offset t (position_at b)) (sym same_texts) ∙ ap (offset (text_at q)) second.at ∙ start_bias (text_at q) (position_at q)
 
-  pub side_worlds : run_world b.run ≡ run_world a.run
-  side_worlds = ap world_at second.same ∙ worlds ∙ sym (ap world_at first.same)
+  side_worlds : run_world a.run ≡ run_world b.run
+  side_worlds = ap world_at first.same ∙ sym worlds ∙ sym (ap world_at second.same)
 
-  pub side_roots : root_id b.run ≡ root_id a.run
-  side_roots = ap id_at second.same ∙ roots ∙ sym (ap id_at first.same)
+  side_roots : root_id a.run ≡ root_id b.run
+  side_roots = ap id_at first.same ∙ sym roots ∙ sym (ap id_at second.same)
 
   abbrev is_order : Ordering → Type 0
   is_order o = o ≡ position_cmp (text_at p) (position_at p) (text_at q) (position_at q)
@@ -159,16 +159,17 @@ module _ (p q a b : TextPosition) (worlds : world_at (root_at q) ≡ world_at (r
       let told = runs_tell (text_at p) (position_at a) (position_at b) first_side second_side less in
       nat_cmp_is (offset (text_at p) (position_at p)) (offset (text_at q) (position_at q)) Less (omega (arith, first_offset, second_offset, told))
 
-  pub greater_by_run : number_in b.run < number_in a.run → is_order Greater
-  greater_by_run less =
-      let told = runs_tell (text_at p) (position_at b) (position_at a) second_side first_side less in
+  pub greater_by_run : run_id a.run ≢ run_id b.run → number_in b.run ≤ number_in a.run → is_order Greater
+  greater_by_run other le =
+      let apart : number_in a.run ≢ number_in b.run = λ e. other (one_of_number a.run b.run side_worlds side_roots e) in
+      let told = runs_tell (text_at p) (position_at b) (position_at a) second_side first_side (omega (arith, le, apart)) in
       nat_cmp_is (offset (text_at p) (position_at p)) (offset (text_at q) (position_at q)) Greater (omega (arith, first_offset, second_offset, told))
 
-  pub order_in_run : number_in a.run ≡ number_in b.run → is_order (nat_cmp a.index b.index)
+  pub order_in_run : run_id a.run ≡ run_id b.run → is_order (nat_cmp a.index b.index)
   order_in_run e = go (nat_cmp a.index b.index) (ranks a.index b.index)
     where
       starts : start_of (text_at p) (number_in a.run) ≡ start_of (text_at p) (number_in b.run)
-      starts = ap (start_of (text_at p)) e
+      starts = ap (start_of (text_at p)) (number_of_one a.run b.run side_worlds side_roots e)
 
       go : (o : Ordering) → MatchOrdering o (a.index < b.index) (a.index ≡ b.index) (b.index < a.index) → is_order o
       go Less h = nat_cmp_is (offset (text_at p) (position_at p)) (offset (text_at q) (position_at q)) Less (omega (arith, first_offset, second_offset, starts, h))
