@@ -4,28 +4,13 @@ use crate::planting::{graft, node, planted, shown};
 use accesskit_consumer::node::NodeRef;
 use accesskit_consumer::tree::Tree;
 use plain_worlds::ids::tree_id;
+use plain_worlds::sketches::{Has, give};
 use schema::{
     Color, Node, NodeId, Role, TextAlign, TextDecoration, TextDecorationStyle, TextDirection,
     VerticalOffset,
 };
 use std::alloc::{AllocError, Global};
 use std::test::Fail;
-
-#[derive(Clone, Copy)]
-enum Look {
-    Direction(TextDirection),
-    FontFamily(&'static str),
-    Language(&'static str),
-    FontSize(u32),
-    FontWeight(u16),
-    Background(Color),
-    Foreground(Color),
-    Overline(TextDecoration),
-    Strikethrough(TextDecoration),
-    Underline(TextDecoration),
-    Align(TextAlign),
-    Offset(VerticalOffset),
-}
 
 const RED: Color = Color {
     red: 255,
@@ -57,96 +42,80 @@ const DASHED: TextDecoration = TextDecoration {
 };
 
 /// The looks of a window,
-static ABOVE: [Look; 12] = [
-    Look::Direction(TextDirection::RightToLeft),
-    Look::FontFamily("Serif"),
-    Look::Language("he"),
-    Look::FontSize(1200),
-    Look::FontWeight(700),
-    Look::Background(RED),
-    Look::Foreground(CLEAR),
-    Look::Overline(WAVY),
-    Look::Strikethrough(SOLID),
-    Look::Underline(DASHED),
-    Look::Align(TextAlign::Center),
-    Look::Offset(VerticalOffset::Superscript),
+static ABOVE: [Has; 12] = [
+    Has::Direction(TextDirection::RightToLeft),
+    Has::FontFamily("Serif"),
+    Has::Language("he"),
+    Has::FontSize(1200),
+    Has::FontWeight(700),
+    Has::Background(RED),
+    Has::Foreground(CLEAR),
+    Has::Overline(WAVY),
+    Has::Strikethrough(SOLID),
+    Has::Underline(DASHED),
+    Has::Align(TextAlign::Center),
+    Has::Offset(VerticalOffset::Superscript),
 ];
 
 /// and other looks of a node below it.
-static BELOW: [Look; 12] = [
-    Look::Direction(TextDirection::TopToBottom),
-    Look::FontFamily("Mono"),
-    Look::Language("en"),
-    Look::FontSize(0),
-    Look::FontWeight(65535),
-    Look::Background(CLEAR),
-    Look::Foreground(RED),
-    Look::Overline(SOLID),
-    Look::Strikethrough(DASHED),
-    Look::Underline(WAVY),
-    Look::Align(TextAlign::Justify),
-    Look::Offset(VerticalOffset::Subscript),
+static BELOW: [Has; 12] = [
+    Has::Direction(TextDirection::TopToBottom),
+    Has::FontFamily("Mono"),
+    Has::Language("en"),
+    Has::FontSize(0),
+    Has::FontWeight(65535),
+    Has::Background(CLEAR),
+    Has::Foreground(RED),
+    Has::Overline(SOLID),
+    Has::Strikethrough(DASHED),
+    Has::Underline(WAVY),
+    Has::Align(TextAlign::Justify),
+    Has::Offset(VerticalOffset::Subscript),
 ];
 
-fn give(node: &mut Node, look: Look) -> Result<(), AllocError> {
+/// Whether the node looks so. What isn't a look isn't met.
+fn looks(node: &NodeRef, look: Has) -> bool {
     match look {
-        Look::Direction(direction) => node.set_text_direction(direction),
-        Look::FontFamily(family) => return node.set_font_family(family),
-        Look::Language(language) => return node.set_language(language),
-        Look::FontSize(size) => node.set_font_size(size),
-        Look::FontWeight(weight) => node.set_font_weight(weight),
-        Look::Background(color) => node.set_background_color(color),
-        Look::Foreground(color) => node.set_foreground_color(color),
-        Look::Overline(line) => node.set_overline(line),
-        Look::Strikethrough(line) => node.set_strikethrough(line),
-        Look::Underline(line) => node.set_underline(line),
-        Look::Align(align) => node.set_text_align(align),
-        Look::Offset(offset) => node.set_vertical_offset(offset),
-    }
-    Ok(())
-}
-
-/// Whether the node looks so.
-fn looks(node: &NodeRef, look: Look) -> bool {
-    match look {
-        Look::Direction(direction) => node.text_direction() == Some(direction),
-        Look::FontFamily(family) => node.font_family() == Some(family),
-        Look::Language(language) => node.language() == Some(language),
-        Look::FontSize(size) => node.font_size() == Some(size),
-        Look::FontWeight(weight) => node.font_weight() == Some(weight),
-        Look::Background(color) => node.background_color() == Some(color),
-        Look::Foreground(color) => node.foreground_color() == Some(color),
-        Look::Overline(line) => node.overline() == Some(line),
-        Look::Strikethrough(line) => node.strikethrough() == Some(line),
-        Look::Underline(line) => node.underline() == Some(line),
-        Look::Align(align) => node.text_align() == Some(align),
-        Look::Offset(offset) => node.vertical_offset() == Some(offset),
+        Has::Direction(direction) => node.text_direction() == Some(direction),
+        Has::FontFamily(family) => node.font_family() == Some(family),
+        Has::Language(language) => node.language() == Some(language),
+        Has::FontSize(size) => node.font_size() == Some(size),
+        Has::FontWeight(weight) => node.font_weight() == Some(weight),
+        Has::Background(color) => node.background_color() == Some(color),
+        Has::Foreground(color) => node.foreground_color() == Some(color),
+        Has::Overline(line) => node.overline() == Some(line),
+        Has::Strikethrough(line) => node.strikethrough() == Some(line),
+        Has::Underline(line) => node.underline() == Some(line),
+        Has::Align(align) => node.text_align() == Some(align),
+        Has::Offset(offset) => node.vertical_offset() == Some(offset),
+        _ => false,
     }
 }
 
-/// Whether nothing of this kind is told of the node.
-fn is_plain(node: &NodeRef, look: Look) -> bool {
+/// Whether nothing of this kind of look is told of the node.
+fn is_plain(node: &NodeRef, look: Has) -> bool {
     match look {
-        Look::Direction(_) => node.text_direction().is_none(),
-        Look::FontFamily(_) => node.font_family().is_none(),
-        Look::Language(_) => node.language().is_none(),
-        Look::FontSize(_) => node.font_size().is_none(),
-        Look::FontWeight(_) => node.font_weight().is_none(),
-        Look::Background(_) => node.background_color().is_none(),
-        Look::Foreground(_) => node.foreground_color().is_none(),
-        Look::Overline(_) => node.overline().is_none(),
-        Look::Strikethrough(_) => node.strikethrough().is_none(),
-        Look::Underline(_) => node.underline().is_none(),
-        Look::Align(_) => node.text_align().is_none(),
-        Look::Offset(_) => node.vertical_offset().is_none(),
+        Has::Direction(_) => node.text_direction().is_none(),
+        Has::FontFamily(_) => node.font_family().is_none(),
+        Has::Language(_) => node.language().is_none(),
+        Has::FontSize(_) => node.font_size().is_none(),
+        Has::FontWeight(_) => node.font_weight().is_none(),
+        Has::Background(_) => node.background_color().is_none(),
+        Has::Foreground(_) => node.foreground_color().is_none(),
+        Has::Overline(_) => node.overline().is_none(),
+        Has::Strikethrough(_) => node.strikethrough().is_none(),
+        Has::Underline(_) => node.underline().is_none(),
+        Has::Align(_) => node.text_align().is_none(),
+        Has::Offset(_) => node.vertical_offset().is_none(),
+        _ => false,
     }
 }
 
 /// A node that looks so.
-fn looking(alloc: Global, role: Role, looks: &[Look]) -> Result<Node, AllocError> {
+fn looking(alloc: Global, role: Role, looks: &[Has]) -> Result<Node, AllocError> {
     let mut node = Node::new(alloc, role);
     for look in looks {
-        give(&mut node, *look)?;
+        give(alloc, &mut node, *look)?;
     }
     Ok(node)
 }
