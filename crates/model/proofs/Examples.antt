@@ -27,5 +27,6 @@ pub mod ViewExamples
 pub mod WrittenViews
 pub mod RoleExamples
 pub mod SecretExamples
+pub mod AlikeExamples
 pub mod ValueExamples
 pub mod LabelExamples

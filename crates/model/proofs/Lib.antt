@@ -1,4 +1,5 @@
 pub mod Members
+pub mod Mixtures
 pub mod Ascending
 pub mod Closure
 pub mod Decisions
@@ -17,4 +18,5 @@ pub mod Views
 pub mod Walks
 pub mod Text
 pub mod Asking
+pub mod Alike
 pub mod Examples

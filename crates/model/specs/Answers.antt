@@ -7,6 +7,7 @@ pub data Answer : Type 0 where
   Ids : (ids : List FullNodeId) → Answer
   -- as bytes
   Text : (text : Option (List ℕ)) → Answer
+  Set : (size position : Option ℕ) → Answer
   Node : (node : Option FullNodeId) → Answer
   Position : (position : Option TextPosition) → Answer
   Indexes : (usv utf16 line : ℕ) → Answer

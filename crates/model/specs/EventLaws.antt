@@ -1,5 +1,5 @@
 -- What is proved of events and differences.
-use Rattle.std.specs.Prelude.{◌≡◌, ◌≢◌, ℕ, ◌≤◌, Bool, List, [], ◌∷◌, ◌++◌, length, take, Contains, Option, Some, None, IfSome, ◌↔◌, ◌⊎◌}
+use Rattle.std.specs.Prelude.{◌≡◌, ◌≢◌, ℕ, Bool, List, [], ◌∷◌, ◌++◌, take, Contains, Option, Some, None, IfSome, ◌↔◌, ◌⊎◌}
 use Rattle.std.specs.List.{AllZip, AllPairs}
 use Rattle.model.specs.declared.FullNodeId.{FullNodeId}
 use Rattle.model.specs.World.{World, IsNode, in_tree}
@@ -10,7 +10,7 @@ use Rattle.model.specs.Events.{Event, NodeUpdated, Told, seen_in}
 use Rattle.model.specs.Differences.{PlanEvent, Updated, AreOfFocus, AreDifferences, events, told_root}
 use Rattle.model.specs.Repeats.{Repeats}
 use Rattle.model.specs.Reasons.{Reason, MayPrecede}
-use Rattle.model.specs.Run.{CommandData, ToUpdate, ReplyData, Accepted, OutOfMemory, Does, Runs, RunsUpTo, AreAlike, WantAlike}
+use Rattle.model.specs.Run.{CommandData, ToUpdate, ReplyData, Accepted, OutOfMemory, Does, Runs, MayStop, RunsUpTo, AreAlike, WantAlike}
 use Rattle.model.specs.Work.{Work, IsWorkOf}
 use Rattle.model.specs.Mirror.{Records, Mirrors, MirrorsWhileKept, AreRecordsOf}
 
@@ -117,7 +117,7 @@ RepeatTellsRoot =
 -- What a stopped run has done is the beginning of what the whole run does.
 abbrev pub StoppedRunBegins : Type 0
 StoppedRunBegins =
-    (old new : World) (commands : List CommandData) (done : ℕ) (told : List Event) (replies : List ReplyData) → Runs old commands new told replies → done ≤ length commands
+    (old new : World) (commands : List CommandData) (done : ℕ) (told : List Event) (replies : List ReplyData) → Runs old commands new told replies → MayStop done commands
     → (at : World) × (first rest : List Event) × RunsUpTo done old commands at first (take done replies) × (told ≡ first ++ rest)
 
 -- there is only one set of records of a world

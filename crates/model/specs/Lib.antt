@@ -38,6 +38,7 @@ pub mod Answers
 pub mod Queries
 pub mod Outline
 pub mod Shape
+pub mod AlikeRuns
 pub mod ListLaws
 pub mod EventExamples
 pub mod ToldExamples
@@ -47,6 +48,7 @@ pub mod ViewLaws
 pub mod TextLaws
 pub mod QueryLaws
 pub mod OutlineLaws
+pub mod SecretLaws
 pub mod ListExamples
 pub mod Examples
 pub mod ViewExamples
@@ -56,6 +58,9 @@ pub mod LabelExamples
 pub mod TextExamples
 pub mod SecretExamples
 pub mod QueryExamples
+pub mod AlikeExamples
 pub mod Surgery
 pub mod SurgeryLaws
 pub mod SiblingLaws
+pub mod Mixtures
+pub mod MixtureExamples

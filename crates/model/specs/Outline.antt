@@ -1,5 +1,5 @@
 -- What is left of a world where the values of its nodes and the lengths of their characters aren't looked at.
-use Rattle.std.specs.Prelude.{◌≡◌, [], map, None}
+use Rattle.std.specs.Prelude.{◌≡◌, ◌↔◌, [], map, None}
 use Rattle.std.specs.FinMap.{entries, from_sorted}
 use Rattle.schema.specs.NodeData.{NodeData}
 use Rattle.model.specs.World.{World}
@@ -17,3 +17,7 @@ outline w = record w { nodes = from_sorted (map (λ e. (e.0, without_text e.1)) 
 -- whatever reads the outline alone
 abbrev pub ReadsOutline : {A : Type 0} → (World → A) → Type 0
 ReadsOutline of = (w : World) → of w ≡ of (outline w)
+
+-- and what holds in a world exactly if it holds in the outline
+abbrev pub HoldsByOutline : {A : Type 0} → (World → A → Type 0) → Type 0
+HoldsByOutline {A = A} holds = (w : World) (a : A) → holds w a ↔ holds (outline w) a

@@ -1,5 +1,5 @@
 -- What is answered to a query, by the definitions of lists, labels, values, hits, focus and texts.
-use Rattle.std.specs.Prelude.{ℕ, nat_lt, List, slice_get, Option, Some, None, is_some, option_map, option_and_then, if◌then◌else◌}
+use Rattle.std.specs.Prelude.{ℕ, Bool, true, false, nat_lt, List, slice_get, Option, Some, None, is_some, option_map, option_and_then, if◌then◌else◌}
 use Rattle.std.specs.Option.{option_map_or}
 use Rattle.std.specs.Bool.{then_some}
 use Rattle.schema.specs.declared.NodeId.{NodeId}
@@ -20,12 +20,13 @@ use Rattle.model.specs.Covers.{following_filtered_siblings, preceding_filtered_s
 use Rattle.model.specs.Filters.{filter_named}
 use Rattle.model.specs.Labels.{label_of}
 use Rattle.model.specs.Values.{value_of}
+use Rattle.model.specs.Views.{computed_size_of_set, computed_position_in_set}
 use Rattle.model.specs.Geometry.{hit}
 use Rattle.model.specs.FocusFound.{shown_focus}
 use Rattle.model.specs.TextRuns.{supports_text_ranges}
 use Rattle.model.specs.FlatText.{FlatText, Position, flat_text, offset, total, document_start, document_end, biased_to_end}
 use Rattle.model.specs.Moves as moves
-use Rattle.model.specs.Ranges.{text_of, with_end}
+use Rattle.model.specs.Ranges.{text_of, document_range, with_end}
 use Rattle.model.specs.Answers.{Answer}
 use Rattle.model.specs.Answers as answer
 
@@ -87,6 +88,10 @@ of_position t at answer_at = option_map_or answer_at (position_at t at) answer.N
 abbrev pub text_between : FlatText → Position → Position → List ℕ
 text_between t from to = text_of t (with_end t (record { start = from; end = from }) to)
 
+-- the text of all its runs, where the node has a text
+abbrev pub text_in_runs : World → FullNodeId → Option (List ℕ)
+text_in_runs w id = if supports_text_ranges w id then Some (text_of (flat_text w id) (document_range (flat_text w id))) else None
+
 -- ---- answers
 
 abbrev pub answer_of : World → Query → Answer
@@ -98,6 +103,9 @@ answer_of w (query.FollowingFiltered name filter) = of_node w name (λ id. answe
 answer_of w (query.PrecedingFiltered name filter) = of_node w name (λ id. answer.Ids (preceding_filtered_siblings (filter_named filter w) w id))
 answer_of w (query.Label name) = of_node w name (λ id. answer.Text (label_of w id))
 answer_of w (query.Value name) = of_node w name (λ id. answer.Text (value_of w id))
+answer_of w (query.Set name filter) =
+    of_node w name (λ id. answer.Set (computed_size_of_set (filter_named filter w) w id) (computed_position_in_set (filter_named filter w) w id))
+answer_of w (query.Text name) = of_node w name (λ id. answer.Text (text_in_runs w id))
 answer_of w (query.Hit name point filter) = of_node w name (λ id. answer.Node (hit (filter_named filter w) w id point))
 answer_of w query.Focus = answer.Node (shown_focus w)
 answer_of w (query.Move name at move) = of_text w name (λ t. of_position t at (λ p. answer.Position (option_and_then (raw_of t) (moved t p move))))
@@ -105,3 +113,23 @@ answer_of w (query.Indexes name at) =
     of_text w name (λ t. of_position t at (λ p. answer.Indexes (moves.to_global_usv_index t p) (moves.to_global_utf16_index t p) (moves.to_line_index t p)))
 answer_of w (query.RangeText name from to) =
     of_text w name (λ t. of_position t from (λ p. of_position t to (λ q. answer.Text (Some (text_between t p q)))))
+
+-- ---- memory
+
+-- lists and texts take memory
+abbrev pub takes_memory : Query → Bool
+takes_memory (query.Children name) = true
+takes_memory (query.FollowingSiblings name) = true
+takes_memory (query.PrecedingSiblings name) = true
+takes_memory (query.FilteredChildren name filter) = true
+takes_memory (query.FollowingFiltered name filter) = true
+takes_memory (query.PrecedingFiltered name filter) = true
+takes_memory (query.Label name) = true
+takes_memory (query.Value name) = true
+takes_memory (query.Set name filter) = false
+takes_memory (query.Text name) = true
+takes_memory (query.Hit name point filter) = false
+takes_memory query.Focus = false
+takes_memory (query.Move name at move) = false
+takes_memory (query.Indexes name at) = false
+takes_memory (query.RangeText name from to) = true

@@ -5,6 +5,7 @@ use Rattle.schema.specs.declared.TreeId.{TreeId}
 use Rattle.model.specs.declared.queries.At.{At}
 use Rattle.model.specs.declared.queries.Side.TheVariants.{Start, End}
 use Rattle.model.specs.declared.queries.Move.TheVariants as move
+use Rattle.model.specs.declared.queries.NamedFilter.TheVariants.{All}
 use Rattle.model.specs.declared.queries.Query.TheVariants as query
 use Rattle.model.specs.World.{ROOT_NAME}
 use Rattle.model.specs.State.{with_host}
@@ -31,11 +32,14 @@ pub record OfWindow : Type 0 where
   pub unknown : answer_of (window_with_button 0) (query.Children (node 0, name 1)) ≡ answer.NoNode
   pub focus : answer_of (window_with_button 0) query.Focus ≡ answer.Node (Some (at 0 0))
   pub no_focus : answer_of (with_host (window_with_button 0) false) query.Focus ≡ answer.Node None
+  pub no_set : answer_of (window_with_button 0) (query.Set (in_root 0) All) ≡ answer.Set None None
+  pub no_runs : answer_of (window_with_button 0) (query.Text (in_root 0)) ≡ answer.Text None
   pub not_text : answer_of (window_with_button 0) (query.Indexes (in_root 0) (start_at 0)) ≡ answer.NotText
 
 -- a password of two runs with two characters each
 pub record OfSecret : Type 0 where
   pub value : answer_of one_secret (query.Value (in_root 0)) ≡ answer.Text (Some (bullets 4))
+  pub runs : answer_of one_secret (query.Text (in_root 0)) ≡ answer.Text (Some (bullets 4))
   pub indexes : answer_of one_secret (query.Indexes (in_root 0) (start_at 3)) ≡ answer.Indexes 3 3 1
   pub end_side : answer_of one_secret (query.Indexes (in_root 0) (end_at 2)) ≡ answer.Indexes 2 2 0
   pub no_index : answer_of one_secret (query.Indexes (in_root 0) (start_at 5)) ≡ answer.NotText

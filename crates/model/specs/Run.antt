@@ -1,12 +1,12 @@
 -- A run: commands one after another, what they do to the world, what is told and what is replied.
-use Rattle.std.specs.Prelude.{◌≡◌, ℕ, Bool, List, [], ◌∷◌, ◌++◌, length, take, ◌≤◌, ◌↔◌, ⊤}
+use Rattle.std.specs.Prelude.{◌≡◌, ℕ, Bool, IsTrue, List, [], ◌∷◌, ◌++◌, take, slice_get, Some, ◌⊎◌, ◌↔◌, ⊤}
 use Rattle.model.specs.declared.queries.Query.{Query}
 use Rattle.model.specs.World.{World}
 use Rattle.model.specs.Update.{UpdateData, Fault, index_for, Stands, IsAccepted}
 use Rattle.model.specs.State.{empty_world, with_host}
 use Rattle.model.specs.Events.{Event}
 use Rattle.model.specs.Answers.{Answer}
-use Rattle.model.specs.Queries.{answer_of}
+use Rattle.model.specs.Queries.{answer_of, takes_memory}
 use Rattle.model.specs.Differences.{PlanEvent, events, told_root, AreOfFocus, AreDifferences}
 
 pub data CommandData : Type 0 where
@@ -57,6 +57,10 @@ AreAlike r s = r ≡ s
 abbrev pub WantAlike : ReplyData → ReplyData → Type 0
 WantAlike r s = (r ≡ OutOfMemory) ↔ (s ≡ OutOfMemory)
 
+-- A run may stop before its first command, for want of memory for the room of its replies, and at a query whose reply takes memory.
+abbrev pub MayStop : ℕ → List CommandData → Type 0
+MayStop done cs = (done ≡ 0) ⊎ ((q : Query) × (slice_get cs done ≡ Some (ToQuery q)) × IsTrue (takes_memory q))
+
 -- A run that stops is the run of its first commands; the others didn't run.
 abbrev pub RunsUpTo : ℕ → World → List CommandData → World → List Event → List ReplyData → Type 0
-RunsUpTo done w cs v told replies = (done ≤ length cs) × Runs w (take done cs) v told replies
+RunsUpTo done w cs v told replies = MayStop done cs × Runs w (take done cs) v told replies

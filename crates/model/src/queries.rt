@@ -67,6 +67,10 @@ pub enum Query {
     PrecedingFiltered(NodeName, NamedFilter),
     Label(NodeName),
     Value(NodeName),
+    /// The size of the node's set and the position in it, by a filter.
+    Set(NodeName, NamedFilter),
+    /// The text of the node's runs, where they make one.
+    Text(NodeName),
     /// What is hit at a point, by a filter.
     Hit(NodeName, Point, NamedFilter),
     /// The focus, as `focus` answers it.

@@ -11,6 +11,7 @@ use Rattle.model.specs.declared.FullNodeId.{FullNodeId}
 use Rattle.model.specs.declared.queries.At.{At}
 use Rattle.model.specs.declared.queries.Move.{Move}
 use Rattle.model.specs.declared.queries.Move.TheVariants.{ForwardToWordStart, ForwardToCharacterStart}
+use Rattle.model.specs.declared.queries.NamedFilter.TheVariants.{All}
 use Rattle.model.specs.declared.queries.Query.TheVariants as query
 use Rattle.schema.specs.NodeData.{NodeData}
 use Rattle.model.specs.World.{data_of, children}
@@ -20,13 +21,16 @@ use Rattle.model.specs.Labels.{label_of}
 use Rattle.model.specs.Moves.{to_global_usv_index, to_global_utf16_index, to_line_index}
 use Rattle.model.specs.FlatText.{FlatText, shown_run, flat_text}
 use Rattle.model.specs.Values.{value_of}
+use Rattle.model.specs.Filters.{filter_named}
+use Rattle.model.specs.Views.{computed_size_of_set, computed_position_in_set}
+use Rattle.model.specs.Ranges.{text_of, document_range}
 use Rattle.model.specs.TextRuns.{supports_text_ranges}
 use Rattle.model.specs.Answers.{Answer}
 use Rattle.model.specs.Answers as answer
 use Rattle.model.specs.Examples.{at, window, button, plain_tree}
 use Rattle.model.specs.EventExamples.{window_alone, window_with_button}
 use Rattle.model.specs.SecretExamples.{one_secret}
-use Rattle.model.specs.Queries.{node_named, of_node, of_text, of_position, raw_of, moved, text_between, answer_of}
+use Rattle.model.specs.Queries.{node_named, of_node, of_text, of_position, raw_of, moved, text_between, text_in_runs, answer_of}
 use Rattle.model.specs.QueryExamples.{in_root, start_at, end_at, OfWindow, OfSecret}
 use Rattle.model.proofs.Worlds.Written.{data_written, children_written}
 use Rattle.model.proofs.Examples.SecretExamples.{one_root, one_masked, one_text_is, shown_first, sent_as}
@@ -59,6 +63,7 @@ pub of_secret : OfSecret
 unfolding chars is_utf8 encode_utf8
 of_secret = record {
   value = asked (λ id. answer.Text (value_of one_secret id)) ∙ ap answer.Text shown_first;
+  runs = asked (λ id. answer.Text (text_in_runs one_secret id)) ∙ ap (λ b. answer.Text (if b then Some (text_of (flat_text one_secret (at 0 0)) (document_range (flat_text one_secret (at 0 0)))) else None)) one_masked.supported ∙ ap (λ t. answer.Text (Some (text_of t (document_range t)))) one_text_is;
   indexes = read (numbers (start_at 3));
   end_side = read (numbers (end_at 2));
   no_index = read (numbers (start_at 5));
@@ -94,6 +99,12 @@ no_text : supports_text_ranges (window_with_button 0) (at 0 0) ≡ false
 unfolding supports_text_ranges
 no_text = rw root_data refl
 
+no_size : computed_size_of_set (filter_named All (window_with_button 0)) (window_with_button 0) (at 0 0) ≡ None
+no_size = rw root_data refl
+
+no_position : computed_position_in_set (filter_named All (window_with_button 0)) (window_with_button 0) (at 0 0) ≡ None
+no_position = rw root_data refl
+
 pub of_window : OfWindow
 of_window = record {
   children = of_root (λ id. answer.Ids (children (window_with_button 0) id)) ∙ ap answer.Ids (children_written (window_with_button 0) (at 0 0) (window (1 ∷ [])) root_data refl);
@@ -101,5 +112,7 @@ of_window = record {
   unknown = refl;
   focus = focused;
   no_focus = refl;
+  no_set = of_root (λ id. answer.Set (computed_size_of_set (filter_named All (window_with_button 0)) (window_with_button 0) id) (computed_position_in_set (filter_named All (window_with_button 0)) (window_with_button 0) id)) ∙ (λ i. answer.Set (no_size i) (no_position i));
+  no_runs = of_root (λ id. answer.Text (text_in_runs (window_with_button 0) id)) ∙ ap (λ b. answer.Text (if b then Some (text_of (flat_text (window_with_button 0) (at 0 0)) (document_range (flat_text (window_with_button 0) (at 0 0)))) else None)) no_text;
   not_text = of_root (λ id. if supports_text_ranges (window_with_button 0) id then numbers (start_at 0) (flat_text (window_with_button 0) id) else answer.NotText) ∙ ap (λ b. if b then numbers (start_at 0) (flat_text (window_with_button 0) (at 0 0)) else answer.NotText) no_text;
 }

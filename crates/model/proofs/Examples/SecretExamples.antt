@@ -74,7 +74,7 @@ one_masked =
     let r = root_data one_secret (codes "secret") (112 ∷ 195 ∷ 164 ∷ []) (1 ∷ 2 ∷ []) (codes "ss") (1 ∷ 1 ∷ []) refl in
     record { supported = rw (s, r) refl; masked = rw (s, r) refl }
 
-other_masked : IsMaskedText other_secret (at 0 0)
+pub other_masked : IsMaskedText other_secret (at 0 0)
 unfolding supports_text_ranges needs_masking chars is_utf8 encode_utf8
 other_masked =
     let s = sent other_secret (codes "x") (codes "xy") (1 ∷ 1 ∷ []) (codes "zw") (1 ∷ 1 ∷ []) refl in
@@ -103,30 +103,36 @@ outline_is v a1 l1 a2 l2 =
     (λ i. record w { nodes = from_sorted (map (λ (x : FullNodeId × NodeData). (x.0, without_text x.1)) (here i)) })
     ∙ sym (λ i. record e { nodes = from_sorted (map (λ (x : FullNodeId × NodeData). (x.0, without_text x.1)) (there i)) })
 
-equal_shape : EqualShape (at 0 0) one_secret other_secret
-equal_shape =
-    let a1 : List ℕ = 112 ∷ 195 ∷ 164 ∷ [] in
-    let l1 : List ℕ = 1 ∷ 2 ∷ [] in
-    let ones : List ℕ = 1 ∷ 1 ∷ [] in
-    let ids = runs one_secret (codes "secret") a1 l1 (codes "ss") ones refl in
-    let r = root_data one_secret (codes "secret") a1 l1 (codes "ss") ones refl in
-    let q = root_data other_secret (codes "x") (codes "xy") ones (codes "zw") ones refl in
-    let s = sent one_secret (codes "secret") a1 l1 (codes "ss") ones refl in
-    let t = sent other_secret (codes "x") (codes "xy") ones (codes "zw") ones refl in
-    record {
-      first = one_masked;
-      second = other_masked;
-      outlines = outline_is (codes "secret") a1 l1 (codes "ss") ones ∙ sym (outline_is (codes "x") (codes "xy") ones (codes "zw") ones);
-      others = λ id n0 none.
-          at_id one_secret (codes "secret") a1 l1 (codes "ss") ones refl id
-          ∙ apart id (codes "secret") (codes "x") (run_node a1 l1) (run_node (codes "ss") ones) (run_node (codes "xy") ones) (run_node (codes "zw") ones) n0
-          (λ e. none (subst (λ xs. Contains xs id) (sym ids) (0, omega arith, sym e)))
-          (λ e. none (subst (λ xs. Contains xs id) (sym ids) (1, omega arith, sym e)))
-          ∙ sym (at_id other_secret (codes "x") (codes "xy") ones (codes "zw") ones refl id);
-      own = ap (option_map without_value) r ∙ sym (ap (option_map without_value) q);
-      own_value_is_given = rw (r, q) refl;
-      faces = ap (map face) s ∙ sym (ap (map face) t);
-    }
+-- two such worlds with the same faces are of equal shape, if both are masked
+module _ (v a1 l1 a2 l2 u b1 m1 b2 m2 : List ℕ) where
+  abbrev one : World
+  one = secret v (run_node a1 l1) (run_node a2 l2)
+
+  abbrev other : World
+  other = secret u (run_node b1 m1) (run_node b2 m2)
+
+  pub same_shape : IsMaskedText one (at 0 0) → IsMaskedText other (at 0 0) → map face (sent_as 1 a1 l1 ∷ sent_as 2 a2 l2 ∷ []) ≡ map face (sent_as 1 b1 m1 ∷ sent_as 2 b2 m2 ∷ []) → EqualShape (at 0 0) one other
+  same_shape first second faces =
+      let ids = runs one v a1 l1 a2 l2 refl in
+      let r = root_data one v a1 l1 a2 l2 refl in
+      let q = root_data other u b1 m1 b2 m2 refl in
+      record {
+        first = first;
+        second = second;
+        outlines = outline_is v a1 l1 a2 l2 ∙ sym (outline_is u b1 m1 b2 m2);
+        others = λ id n0 none.
+            at_id one v a1 l1 a2 l2 refl id
+            ∙ apart id v u (run_node a1 l1) (run_node a2 l2) (run_node b1 m1) (run_node b2 m2) n0
+            (λ e. none (subst (λ xs. Contains xs id) (sym ids) (0, omega arith, sym e)))
+            (λ e. none (subst (λ xs. Contains xs id) (sym ids) (1, omega arith, sym e)))
+            ∙ sym (at_id other u b1 m1 b2 m2 refl id);
+        own = ap (option_map without_value) r ∙ sym (ap (option_map without_value) q);
+        own_value_is_given = rw (r, q) refl;
+        faces = ap (map face) (sent one v a1 l1 a2 l2 refl) ∙ faces ∙ sym (ap (map face) (sent other u b1 m1 b2 m2 refl));
+      }
+
+pub equal_shape : EqualShape (at 0 0) one_secret other_secret
+equal_shape = same_shape (codes "secret") (112 ∷ 195 ∷ 164 ∷ []) (1 ∷ 2 ∷ []) (codes "ss") (1 ∷ 1 ∷ []) (codes "x") (codes "xy") (1 ∷ 1 ∷ []) (codes "zw") (1 ∷ 1 ∷ []) one_masked other_masked refl
 
 pub one_root : data_of one_secret (at 0 0) ≡ Some (field_node (codes "secret"))
 one_root = root_data one_secret (codes "secret") (112 ∷ 195 ∷ 164 ∷ []) (1 ∷ 2 ∷ []) (codes "ss") (1 ∷ 1 ∷ []) refl

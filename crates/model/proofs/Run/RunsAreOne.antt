@@ -33,7 +33,7 @@ host_agree old v w focused ds es told heard h g d e a b =
 alike_answers : (a : Answer) (r s : ReplyData) → r ≡ Answered a → s ≡ Answered a → AreAlike r s
 alike_answers a r s p q = subst (λ x. AreAlike x s) (sym p) (subst (λ x. AreAlike (Answered a) x) (sym q) refl)
 
-does_agree : (old v w : World) (c : CommandData) (told heard : List Event) (r s : ReplyData) → Does old c v told r → Does old c w heard s → WantAlike r s → Agree v told r w heard s
+pub does_agree : (old v w : World) (c : CommandData) (told heard : List Event) (r s : ReplyData) → Does old c v told r → Does old c w heard s → WantAlike r s → Agree v told r w heard s
 does_agree old v w (ToUpdate u) told heard Accepted Accepted h g m = accepted_agree old v w u h.1 g.1 told heard h.0 g.0 h.2 g.2 h.3 g.3
 does_agree old v w (ToUpdate u) told heard Accepted (Refused f) h g m = absurd (h.0.0 f g.0)
 does_agree old v w (ToUpdate u) told heard Accepted OutOfMemory h g m = absurd (let e : Accepted ≡ OutOfMemory = m.1 refl in cc)

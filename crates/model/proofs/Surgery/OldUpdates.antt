@@ -1,14 +1,13 @@
 -- An update that keeps the rules leaves a state, also the first one.
-use Rattle.std.proofs.Common.{◌≡◌, ◌≢◌, ℕ, ◌-◌, ◌^◌, ◌<◌, ◌≤◌, List, [], ◌∷◌, length, slice_get, Option, Some, None, IsSome, option_map, inl, inr, ⊎_elim, refl, sym, ap, ◌∙◌, subst, arith}
+use Rattle.std.proofs.Common.{◌≡◌, ℕ, ◌-◌, ◌^◌, ◌<◌, ◌≤◌, List, [], ◌∷◌, length, slice_get, Some, None, IsSome, option_map, ⊎_elim, refl, sym, ap, ◌∙◌, subst, arith}
 use Rattle.std.specs.FinMap.{get}
 use Rattle.std.proofs.lemmas.Bool.{cases_eq}
 use Rattle.schema.specs.declared.TreeId.{TreeId}
-use Rattle.model.specs.declared.FullNodeId.{FullNodeId}
 use Rattle.model.specs.World.{ROOT_NAME, World, IsNode, in_tree, index_of, root_of, Kept}
 use Rattle.model.specs.World as world
 use Rattle.model.specs.Update.{UpdateData, IsRebuild, KeepsRules, index_for, merged_world}
 use Rattle.model.specs.State.{IsState}
-use Rattle.model.specs.Surgery.{IsOld, IsOpened, IsPassed}
+use Rattle.model.specs.Surgery.{IsOld, IsOpened}
 use Rattle.model.proofs.State.StatePlaces.{IsSome_is, root_of_parts, root_of-tree}
 use Rattle.model.proofs.Update.Merges.{data_elsewhere, tree_elsewhere, tree_before, known_once_after, length_stays, index_for_known, length_fits}
 use Rattle.model.proofs.Update.RebuildKeeps.{reached_present}

@@ -1,6 +1,6 @@
 -- What is read off the outline of a world is what is read off the world.
-use Rattle.std.proofs.Common.{◌≡◌, ℕ, suc, zero, Bool, true, false, not, T, List, [], ◌∷◌, length, map, reverse, Option, Some, None, refl, sym, ap, subst, ◌∙◌}
-use Rattle.std.specs.Prelude.{pos, option_and_then, option_map, unwrap_or, is_some, is_none, position, slice_get, filter, filter_map, find, cond, take_while, ◌+ℤ◌, ◌&&◌, ◌||◌}
+use Rattle.std.proofs.Common.{◌≡◌, ℕ, suc, zero, Bool, true, false, not, T, List, [], ◌∷◌, length, map, reverse, take, drop, ◌+◌, Option, Some, None, refl, sym, ap, subst, ◌∙◌}
+use Rattle.std.specs.Prelude.{pos, option_and_then, option_map, unwrap_or, is_some, is_none, position, slice_get, filter, filter_map, find, cond, take_while, ◌+ℤ◌, ◌&&◌, ◌||◌, if◌then◌else◌}
 use Rattle.std.specs.Bool.{then_some}
 use Rattle.std.specs.Option.{option_map_or, option_or}
 use Rattle.std.specs.List.{list_any, last_or}
@@ -16,20 +16,20 @@ use Rattle.model.specs.declared.FullNodeId.{FullNodeId}
 use Rattle.model.specs.declared.filters.FilterResult.{FilterResult}
 use Rattle.model.specs.declared.filters.FilterResult.TheVariants.{Include, ExcludeNode, ExcludeSubtree}
 use Rattle.model.specs.FullIds.{full_cmp}
-use Rattle.model.specs.World.{World, data_of, listed_ids, graft_name, focus_of, focus_named, root_named, at_most_one, children, in_tree, Place}
+use Rattle.model.specs.World.{World, data_of, listed_ids, graft_name, focus_of, focus_named, root_named, at_most_one, children, in_tree, index_of, Place}
 use Rattle.model.specs.Forest.{plant, levels_below, below, place_among, place_of, chain, places_up, above, is_same}
-use Rattle.model.specs.Lists.{ancestors}
+use Rattle.model.specs.Lists.{ancestors, following_siblings, preceding_siblings}
 use Rattle.model.specs.Frontier.{frontier, filtered_children}
 use Rattle.model.specs.Upward.{field_at, says, upward, inherited_field, is_within, is_before, is_root}
-use Rattle.model.specs.FocusFound.{focus_beyond, focus_from, effective_focus, active_descendant, is_focused}
+use Rattle.model.specs.FocusFound.{focus_beyond, focus_from, effective_focus, active_descendant, is_focused, shown_focus}
 use Rattle.model.specs.RoleClasses.{is_see_through}
 use Rattle.model.specs.Covers.{is_included, is_left_out, is_cut_off, filtered_parent, cover, kindred_nodes, following_filtered_siblings, preceding_filtered_siblings}
 use Rattle.model.specs.Geometry.{direct_transform, sum_of_moves, transform, transform_within, whole_rect, moved_rect, ordered_rect, bounding_box, meets, seen_from, contains_point, uncut, uncut_preorder, is_at_point, hit}
 use Rattle.model.specs.Filters.{is_hidden, is_transparent, first_answer, base_filter, is_outside, is_first_inside, is_far_outside, is_clipped_by, is_clipped, answer_at, common_filter, NamedFilter, All, Common, CommonWithRoot, filter_named}
 use Rattle.model.specs.Styles.{style_of}
 use Rattle.model.specs.TextRuns.{run_ids, sent_run}
+use Rattle.model.specs.Queries.{node_named}
 use Rattle.model.specs.Outline.{outline, without_text, ReadsOutline}
-use Rattle.model.specs.OutlineLaws.{OutlineShows}
 
 pub funext : {A B : Type 0} (f g : A → B) → ((x : A) → f x ≡ g x) → f ≡ g
 funext f g h = λ i x. h x i
@@ -82,11 +82,11 @@ len_same w = len-entries (outline w).nodes ∙ ap length (entries_bare w) ∙ le
 abbrev pub IsBlind : {A : Type 0} → (NodeData → A) → Type 0
 IsBlind of = (d : NodeData) → of (without_text d) ≡ of d
 
-map_or_same : {A : Type 0} (of : NodeData → A) (d : A) → IsBlind of → (o : Option NodeData) → option_map_or of (option_map without_text o) d ≡ option_map_or of o d
+pub map_or_same : {A : Type 0} (of : NodeData → A) (d : A) → IsBlind of → (o : Option NodeData) → option_map_or of (option_map without_text o) d ≡ option_map_or of o d
 map_or_same of d h None = refl
 map_or_same of d h (Some x) = h x
 
-and_then_same : {A : Type 0} (of : NodeData → Option A) → IsBlind of → (o : Option NodeData) → option_and_then of (option_map without_text o) ≡ option_and_then of o
+pub and_then_same : {A : Type 0} (of : NodeData → Option A) → IsBlind of → (o : Option NodeData) → option_and_then of (option_map without_text o) ≡ option_and_then of o
 and_then_same of h None = refl
 and_then_same of h (Some x) = h x
 
@@ -139,7 +139,7 @@ module _ (w : World) where
   abbrev o : World
   o = outline w
 
-  there : (id : FullNodeId) → is_some (data_of o id) ≡ is_some (data_of w id)
+  pub there : (id : FullNodeId) → is_some (data_of o id) ≡ is_some (data_of w id)
   there id = ap is_some (data_bare w id) ∙ go (data_of w id)
     where
       go : (d : Option NodeData) → is_some (option_map without_text d) ≡ is_some d
@@ -167,7 +167,7 @@ module _ (w : World) where
   within_same : is_within o ≡ is_within w
   within_same i top id = list_any (is_same top) (up_same i id)
 
-  before_same : is_before o ≡ is_before w
+  pub before_same : is_before o ≡ is_before w
   before_same i a b = is_lt (slice_cmp nat_cmp (reverse (map (λ (p : Place). p.1) (above_is i a))) (reverse (map (λ (p : Place). p.1) (above_is i b))))
 
   pub inherited_same : {A : Type 0} (field : NodeData → Option A) → IsBlind field → inherited_field field o ≡ inherited_field field w
@@ -186,7 +186,7 @@ module _ (w : World) where
   unfolding effective_focus
   focus_same i = option_map (from_same (length w.known) i) (focus_of w 0)
 
-  active_same : active_descendant o ≡ active_descendant w
+  pub active_same : active_descendant o ≡ active_descendant w
   active_same i id = option_and_then (λ n. then_some (there (in_tree id.tree n) i) (in_tree id.tree n)) (given_same (λ d. d.active_descendant) (λ d. refl) i id)
 
   pub focused_same : is_focused o ≡ is_focused w
@@ -220,16 +220,16 @@ module _ (w : World) where
     parent_same : filtered_parent f o ≡ filtered_parent f w
     parent_same i id = find (λ a. is_included (f a)) (ancestors_same i id)
 
-    cover_same : cover f o ≡ cover f w
+    pub cover_same : cover f o ≡ cover f w
     cover_same i id = option_and_then (λ a. then_some (is_included (f a)) a) (find (λ a. not (is_left_out (f a))) (ancestors_same i id))
 
     kindred_same : kindred_nodes f o ≡ kindred_nodes f w
     kindred_same i id = option_map_or (filtered_same i) (cover_same i id) []
 
-    following_same : following_filtered_siblings f o ≡ following_filtered_siblings f w
+    pub following_same : following_filtered_siblings f o ≡ following_filtered_siblings f w
     following_same i id = filter (λ m. before_same i id m && not (within_same i id m)) (kindred_same i id)
 
-    preceding_same : preceding_filtered_siblings f o ≡ preceding_filtered_siblings f w
+    pub preceding_same : preceding_filtered_siblings f o ≡ preceding_filtered_siblings f w
     preceding_same i id = reverse (filter (λ m. before_same i m id) (kindred_same i id))
 
     uncut_same : uncut_preorder f o ≡ uncut_preorder f w
@@ -276,12 +276,26 @@ module _ (w : World) where
   named_same Common = common_same
   named_same CommonWithRoot = λ i id. cond (is_root w id) Include (common_same i id)
 
+  -- ---- the node of a name, the focus that is shown, and the nodes beside a node
+
+  pub named_is : node_named o ≡ node_named w
+  named_is i name = option_and_then (λ index. then_some (there (in_tree index name.0) i) (in_tree index name.0)) (index_of w name.1)
+
+  pub shown_is : shown_focus o ≡ shown_focus w
+  shown_is i = if w.host_focused then option_map (λ e. unwrap_or (active_same i e) e) (focus_same i) else None
+
+  pub following_is : following_siblings o ≡ following_siblings w
+  following_is i id = option_map_or (λ (p : Place). drop (p.1 + 1) (children_same w p.0 i)) (place_same w id i) []
+
+  pub preceding_is : preceding_siblings o ≡ preceding_siblings w
+  preceding_is i id = option_map_or (λ (p : Place). reverse (take p.1 (children_same w p.0 i))) (place_same w id i) []
+
   -- ---- hits
 
   at_point_same : is_at_point o ≡ is_at_point w
   at_point_same i top p id = option_map_or (λ r. contains_point r (seen_from (transform_within_same i top id) p)) (given_same (λ d. d.bounds) (λ d. refl) i id) false
 
-  hit_same : (f : FullNodeId → FilterResult) → hit f o ≡ hit f w
+  pub hit_same : (f : FullNodeId → FilterResult) → hit f o ≡ hit f w
   hit_same f i top p = last_or None (filter (λ id. is_included (f id) && at_point_same i top p id) (uncut_same f i top))
 
   -- ---- runs
@@ -315,19 +329,3 @@ module _ (w : World) where
 -- two worlds of one outline agree in what is read off it
 pub agree : {A : Type 0} (of : World → A) (w v : World) → ReadsOutline of → outline w ≡ outline v → of w ≡ of v
 agree of w v h e = h w ∙ ap of e ∙ sym (h v)
-
-pub outline_shows : OutlineShows
-outline_shows = record {
-  children = λ id w. sym (children_same w id);
-  places = λ id w. sym (place_same w id);
-  below = λ id w. sym (below_same_of w id);
-  above = λ id w. sym (above_same w id);
-  runs = λ root w i. sym (runs_same w) i root;
-  focus = λ w. sym (focus_same w);
-  focused = λ id w i. sym (focused_same w) i id;
-  moves = λ id w i. sym (transform_same w) i id;
-  boxes = λ id w i. sym (box_same w) i id;
-  filters = λ name id w i. sym (named_same w name) i id;
-  lists = λ name id w. sym (λ i. filtered_same w (named_same w name i) i id);
-  hits = λ name id p w. sym (λ i. hit_same w (named_same w name i) i id p);
-}

@@ -2,7 +2,7 @@
 ghost use Rattle.model.specs.TextExamples.{TwoLines, EmptyLineLast, Nothing, LongRun, WideCharacter, LinkedRuns, TwoRuns, TwoSecrets, Measured, SomeMakeTexts, Styled, MeasuredAlike, Stacked, Turned, Upright};
 ghost use Rattle.model.specs.ValueExamples.{Values, Placeholders, ShownRuns};
 ghost use Rattle.model.specs.LabelExamples.{LabelsOf};
-ghost use Rattle.model.specs.OutlineLaws.{OutlineShows};
+ghost use Rattle.model.specs.OutlineLaws.{OutlineRules, OutlineShows};
 ghost use Rattle.model.specs.SecretExamples.{SecretsAreAlike};
 ghost use Rattle.model.specs.TextLaws.{AnswersWhetherText, TextsAreWhole, HasValueIfThere, HasLabelIfThere, BiasKeepsOffset, EqualAtOneOffset, SidesAreBiases, IndexesComeBack, TextIsCharacters, SearchesGoRunByRun, ShapeKeepsSecret, CharactersHaveLength, MarksAreWordStarts, WordStartIsNearest, WordStartBeforeIsNearest, TextsHaveLines};
 
@@ -135,8 +135,14 @@ pub fn secrets_are_alike()
     ensures { SecretsAreAlike }
 {}
 
-/// What reads the outline of a world alone.
-#[tactic(auto, using(crate::proofs::Text::Outlines::outline_shows))]
+/// What is reached and kept, where the focus goes, and which faults stand reads the outline of a world alone.
+#[tactic(auto, using(crate::proofs::Alike::OutlineIsEnough::outline_rules))]
+pub fn outline_rules()
+    ensures { OutlineRules }
+{}
+
+/// What views show of nodes without their texts reads the outline of a world alone.
+#[tactic(auto, using(crate::proofs::Alike::OutlineIsEnough::outline_shows))]
 pub fn outline_shows()
     ensures { OutlineShows }
 {}
