@@ -7,6 +7,7 @@ pub mod Roles
 pub mod RunLists
 pub mod Same
 pub mod SameBy
+pub mod TextCalls
 pub mod TreeIds
 pub mod UpdateData
 pub mod Written

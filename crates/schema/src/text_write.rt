@@ -1,6 +1,7 @@
 //! Writers of text, which count the calls that fail.
 
-ghost use Rattle.std.specs.Prelude.{◌≡◌, ℕ, ◌+◌, ◌<◌, ◌^◌, List, [], ◌++◌, Some, OnOk, OnErr, codes, encode_utf8, string_bytes};
+ghost use Rattle.std.specs.Prelude.{◌≡◌, ℕ, ◌+◌, ◌<◌, ◌^◌, ⊤, Bool, List, [], ◌++◌, Some, OnOk, OnErr, is_ok, codes, encode_utf8, string_bytes};
+ghost use Rattle.schema.specs.TextCalls.{TextCall, WithText, WithCharacter};
 
 use std::alloc::Global;
 use std::error::Error;
@@ -29,6 +30,10 @@ pub trait TextWrite {
     /// How many calls have failed.
     ghost faults: { Self → ℕ };
 
+    /// What one call makes of the writer: the writer before it, the call, whether it was taken, and the writer after it.
+    /// A writer of which no more is to be known than what it received leaves this out.
+    ghost steps: { Self → TextCall → Bool → Self → Type 0 } = { λ _ _ _ _. ⊤ };
+
     /// How many calls have failed.
     fn failures(&self) -> u128
         ensures { result ≡ faults self.now };
@@ -43,7 +48,8 @@ pub trait TextWrite {
         ensures err { OnErr result (
             (received self.new ≡ received self.old)
             × (faults self.new ≡ faults self.old + 1)
-            ) };
+            ) }
+        ensures called { steps self.old (WithText text.now) (is_ok result) self.new };
 
     /// Receives one character, or nothing.
     fn write_char(&mut self, character: char) -> Result<(), TextFault>
@@ -55,7 +61,8 @@ pub trait TextWrite {
         ensures err { OnErr result (
             (received self.new ≡ received self.old)
             × (faults self.new ≡ faults self.old + 1)
-            ) };
+            ) }
+        ensures called { steps self.old (WithCharacter character) (is_ok result) self.new };
 }
 
 /// A text in memory. A write to it fails only where a growth was refused.
