@@ -1,6 +1,6 @@
 -- The world that changes make of a world.
 use Rattle.std.specs.Prelude.{ℕ, List, [], ◌∷◌, slice_get, Option, Some, None, ◌||◌, is_some, if◌then◌else◌}
-use Rattle.std.specs.Option.{option_map, option_map_or, option_and_then}
+use Rattle.std.specs.Option.{option_map, option_map_or}
 use Rattle.std.specs.Ordering.{nat_cmp, is_eq}
 use Rattle.std.specs.Cmp.Lexicographic.{slice_cmp}
 use Rattle.std.specs.Map.{lookup}
@@ -33,6 +33,11 @@ entry_data nodes k = option_map (λ e. e.1) (slice_get nodes k)
 abbrev pub place_in : NodeChange → Option Place
 place_in (Put place entry) = place
 place_in Gone = None
+
+-- the entry whose data a change gives
+abbrev pub entry_of : NodeChange → Option ℕ
+entry_of (Put place entry) = entry
+entry_of Gone = None
 
 -- the data after a change
 abbrev pub changed_data : List (NodeId × NodeData) → NodeChange → Option NodeData → Option NodeData

@@ -1,7 +1,6 @@
 -- What a decision on an update says.
-use Rattle.std.specs.Prelude.{◌≡◌, ◌≢◌, ℕ, ◌+◌, ◌*◌, ◌≤◌, List, [], length, map, AllPairs, Option, Some, None, ◌⊎◌}
+use Rattle.std.specs.Prelude.{◌≡◌, ◌≢◌, ℕ, ◌+◌, ◌*◌, ◌≤◌, List, [], length, map, AllPairs, Contains, Option, Some, None, IsSome, ◌⊎◌, ◌↔◌}
 use Rattle.std.specs.List.Sorted.{IsStrictlySortedBy}
-use Rattle.schema.specs.declared.NodeId.{NodeId}
 use Rattle.schema.specs.declared.TreeId.{TreeId}
 use Rattle.model.specs.declared.FullNodeId.{FullNodeId}
 use Rattle.model.specs.FullIds.{full_cmp}
@@ -16,7 +15,7 @@ use Rattle.tree_changes.specs.declared.decision.NodeChange.{NodeChange}
 use Rattle.tree_changes.specs.declared.decision.NodeChange.TheVariants.{Put, Gone}
 use Rattle.tree_changes.specs.declared.decision.Decision.{Decision}
 use Rattle.tree_changes.specs.Looks.{IsPlaceOf, IsTreeRecord}
-use Rattle.tree_changes.specs.Changes.{change_at, place_in, overlaid_world, tree_after}
+use Rattle.tree_changes.specs.Changes.{change_at, place_in, entry_of, overlaid_world, tree_after}
 
 -- the change gives data of an entry that names the node, or leaves those that are there; what goes was there
 abbrev pub FindsData : World → UpdateData → FullNodeId → NodeChange → Type 0
@@ -28,22 +27,37 @@ FindsData w u id Gone = IsNode w id
 abbrev pub Differs : World → World → FullNodeId → Type 0
 Differs w new id = (data_of w id ≢ data_of new id) ⊎ (place_of w id ≢ place_of new id)
 
--- a change of a node: the place after it is where the node stands, its data are found, and something does change
+-- the tree's record is another: none is its record before and after
+abbrev pub TreeDiffers : World → World → TreeId → Type 0
+TreeDiffers w new name = (r : Option TreeRecord) → IsTreeRecord w name r → ¬ (IsTreeRecord new name r)
+
+-- a change of a node: the place after it is where the node stands, its data are found, and something does change; data are given only where they
+-- are others than before
 pub record IsChangeOf (w : World) (u : UpdateData) (new : World) (id : FullNodeId) (c : NodeChange) : Type 0 where
   pub place : IsPlaceOf new id (place_in c)
   pub data_found : FindsData w u id c
   pub differs : Differs w new id
+  pub given : IsSome (entry_of c) → data_of w id ≢ data_of new id
 
--- What is decided on an accepted update: the changes make the rebuilt world, and are those of the records that differ; the focus is the
--- effective one there; and the events are the differences. Of the first update nothing is told.
+-- the nodes, and the names of the trees, whose records a decision lists
+abbrev pub listed_nodes : Decision → List FullNodeId
+listed_nodes d = map (λ e. e.0) d.nodes.items
+
+abbrev pub names_of : List TreeRecord → List TreeId
+names_of rs = map (λ r. r.id) rs
+
+-- What is decided on an accepted update: the changes make the rebuilt world, and are exactly the records that differ, each once; the focus is
+-- the effective one there; and the events are the differences. Of the first update nothing is told.
 pub record IsDecision (w : World) (u : UpdateData) (d : Decision) : Type 0 where
   pub accepted : IsAccepted w u (overlaid_world w u d)
-  pub ascending : IsStrictlySortedBy full_cmp (map (λ e. e.0) d.nodes.items)
+  pub ascending : IsStrictlySortedBy full_cmp (listed_nodes d)
+  pub nodes_listed : (id : FullNodeId) → Contains (listed_nodes d) id ↔ Differs w (overlaid_world w u d) id
   pub changes : (id : FullNodeId) (c : NodeChange) → change_at d.nodes.items id ≡ Some c → IsChangeOf w u (overlaid_world w u d) id c
   pub others : (id : FullNodeId) (p : Place) → change_at d.nodes.items id ≡ None → StandsAt w p id → StandsAt (overlaid_world w u d) p id
   pub others_back : (id : FullNodeId) (p : Place) → change_at d.nodes.items id ≡ None → StandsAt (overlaid_world w u d) p id → StandsAt w p id
   pub trees : (name : TreeId) (r : Option TreeRecord) → IsTreeRecord w name r → IsTreeRecord (overlaid_world w u d) name (tree_after d.trees.items name r)
   pub trees_once : AllPairs (λ a b. a.id ≢ b.id) d.trees.items
+  pub trees_listed : (name : TreeId) → Contains (names_of d.trees.items) name ↔ TreeDiffers w (overlaid_world w u d) name
   pub focus : IsEffectiveFocus (overlaid_world w u d) d.focus
   pub told : ¬ (IsFirst w) → AreToldBy w u (overlaid_world w u d) d.events.items
   pub quiet : IsFirst w → d.events.items ≡ []

@@ -1,5 +1,5 @@
 -- What a look-up gives.
-use Rattle.std.specs.Prelude.{◌≡◌, ℕ, ◌+◌, ◌-◌, ◌^◌, min, Option, Some, IsSome, option_and_then, ◌↔◌, ◌⊎◌}
+use Rattle.std.specs.Prelude.{◌≡◌, ℕ, ◌+◌, ◌-◌, ◌^◌, ◌≤◌, min, Option, Some, IsSome, option_and_then, ◌↔◌, ◌⊎◌}
 use Rattle.std.specs.Option.{option_map}
 use Rattle.std.specs.FinMap.{get}
 use Rattle.schema.specs.declared.TreeId.{TreeId}
@@ -11,6 +11,18 @@ use Rattle.tree_changes.specs.declared.look_ups.TreeRecord.{TreeRecord}
 -- a count after one more, which stays at its last value
 abbrev pub raised_count : ℕ → ℕ
 raised_count n = min (n + 1) (2 ^ 128 - 1)
+
+-- a count after so many more at least: at its last value it stays
+abbrev pub IsRaisedAtLeast : ℕ → ℕ → ℕ → Type 0
+IsRaisedAtLeast before more after = min (before + more) (2 ^ 128 - 1) ≤ after
+
+-- after so many and no more
+abbrev pub IsRaisedBy : ℕ → ℕ → ℕ → Type 0
+IsRaisedBy before more after = (after ≤ before + more) × IsRaisedAtLeast before more after
+
+-- after so many at most, and no fewer than before
+abbrev pub IsRaisedUpTo : ℕ → ℕ → ℕ → Type 0
+IsRaisedUpTo before most after = (after ≤ before + most) × IsRaisedAtLeast before 0 after
 
 -- the place is where the node stands, and there is none where it stands nowhere
 abbrev pub IsPlaceOf : World → FullNodeId → Option Place → Type 0

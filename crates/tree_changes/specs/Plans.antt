@@ -1,5 +1,5 @@
 -- The world that a plan makes of a world.
-use Rattle.std.specs.Prelude.{◌≡◌, ℕ, ◌+◌, ◌*◌, ◌≤◌, List, [], ◌∷◌, ◌++◌, length, Option, Some, None, ◌==◌, if◌then◌else◌}
+use Rattle.std.specs.Prelude.{ℕ, List, [], ◌∷◌, ◌++◌, length, Option, Some, None, ◌==◌, if◌then◌else◌}
 use Rattle.std.specs.Option.{option_map, option_map_or}
 use Rattle.std.specs.FinMap.{FinMap, get}
 use Rattle.std.specs.String.{string_bytes}
@@ -7,7 +7,6 @@ use Rattle.std.specs.declared.string.String.{String}
 use Rattle.std.specs.declared.alloc.Global.{Global}
 use Rattle.schema.specs.NodeData.{NodeData}
 use Rattle.schema.specs.declared.TreeId.{TreeId}
-use Rattle.model.specs.declared.FullNodeId.{FullNodeId}
 use Rattle.model.specs.FullIds.{full_cmp}
 use Rattle.model.specs.World.{World}
 use Rattle.tree_changes.specs.declared.look_ups.TreeRecord.{TreeRecord}

@@ -5,7 +5,8 @@ use model::{FullNodeId, Place, PlanEvent};
 /// What becomes of a node.
 #[derive(Clone, Copy, Debug, PartialEq, Eq)]
 pub enum NodeChange {
-    /// It has this place, and where an entry of the update's nodes is given, by its index there, that entry's data.
+    /// It has this place, and where an entry of the update's nodes is given, by its index there, that entry's data, which
+    /// are others than before.
     Put {
         place: Option<Place>,
         entry: Option<usize>,
@@ -14,12 +15,14 @@ pub enum NodeChange {
     Gone,
 }
 
-/// What an accepted update does: one change for each record that it adds, changes or removes, the nodes' ascending by id, the
-/// events in order, and the effective focus afterwards. Data stay in the update.
+/// What an accepted update does: one change for each record that it adds, changes or removes and none for any other, the
+/// nodes' ascending by id, the events in order, and the effective focus afterwards. Data stay in the update. `looked` is how
+/// many records were looked up for it.
 #[derive(Drop)]
 pub struct Decision {
     pub nodes: Vec<(FullNodeId, NodeChange)>,
     pub trees: Vec<TreeRecord>,
     pub events: Vec<PlanEvent>,
     pub focus: FullNodeId,
+    pub looked: u128,
 }

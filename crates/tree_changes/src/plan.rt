@@ -6,7 +6,7 @@ use schema::Node;
 /// A change of one record.
 #[derive(Drop)]
 pub enum Change {
-    /// The node has this place; where `node` is `None` its data stay.
+    /// The node has this place, and these data, which are others than before; where `node` is `None` its data stay.
     Put {
         id: FullNodeId,
         place: Option<Place>,
@@ -18,8 +18,8 @@ pub enum Change {
     Tree(TreeRecord),
 }
 
-/// What an accepted update does: one change for each record that it adds, changes or removes, the events in order,
-/// the toolkit's texts where they are replaced, and the effective focus afterwards.
+/// What an accepted update does: one change for each record that it adds, changes or removes and none for any other, the
+/// events in order, the toolkit's texts where they are replaced, and the effective focus afterwards.
 #[derive(Drop)]
 pub struct Plan {
     pub changes: Vec<Change>,

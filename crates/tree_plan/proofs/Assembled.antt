@@ -1,5 +1,5 @@
 -- What is written is the decision on the update.
-use Rattle.std.proofs.Common.{Contains, ◌≡◌, ◌≢◌, ℕ, ◌<◌, Bool, true, false, List, [], ◌∷◌, ◌++◌, map, length, slice_get, get_or, Option, Some, None, IsSome, option_map, option_and_then, ◌⊎◌, inl, inr, ⊎_elim, refl, sym, ap, ◌∙◌, subst}
+use Rattle.std.proofs.Common.{Contains, ◌≡◌, ◌≢◌, ℕ, ◌<◌, Bool, true, false, List, [], ◌∷◌, ◌++◌, map, length, slice_get, get_or, Option, Some, None, IsSome, option_map, option_and_then, ◌⊎◌, inl, inr, ⊎_elim, ◌↔◌, refl, sym, ap, ◌∙◌, subst}
 use Rattle.std.specs.Prelude.{AllPairs, is_some, if◌then◌else◌, ◌||◌}
 use Rattle.std.specs.Option.{option_map_or}
 use Rattle.std.specs.Cmp.{nat_cmp_total}
@@ -11,9 +11,10 @@ use Rattle.schema.specs.NodeData.{NodeData}
 use Rattle.schema.specs.declared.TreeId.{TreeId}
 use Rattle.model.specs.declared.FullNodeId.{FullNodeId}
 use Rattle.model.specs.FullIds.{full_cmp, full_total, exact_full}
-use Rattle.model.specs.World.{ROOT_NAME, World, Tree, Place, IsNode, StandsAt, data_of, index_of}
+use Rattle.model.specs.World.{ROOT_NAME, World, Tree, Place, IsNode, StandsAt, data_of, index_of, graft_name}
 use Rattle.model.specs.Forest.{place_of}
 use Rattle.model.specs.Focus.{IsFocus, IsEffectiveFocus, Resolves}
+use Rattle.model.specs.Surgery.{IsOld}
 use Rattle.model.specs.Update.{IsFirst, IsAccepted, index_for, merged_world}
 use Rattle.model.specs.State.{IsState}
 use Rattle.model.specs.Differences.{IsAdded, IsInBoth, IsUpdated, IsAscendingListOf, IsToldForFocus, AreOfFocus, told_root}
@@ -26,7 +27,9 @@ use Rattle.model.proofs.Forest.PlaceOf.{stands_at_place, place_is}
 use Rattle.model.proofs.Forest.Rooted.{state_formed}
 use Rattle.model.proofs.State.StatePlaces.{IsSome_is, value_of, child_is_node}
 use Rattle.model.proofs.Surgery.OldWorlds.{old_state}
-use Rattle.model.proofs.Update.RulesOrFault.{rules_or_fault}
+use Rattle.model.proofs.Closure.{IsDecided}
+use Rattle.model.proofs.Members.{contains_none, contains_head, contains_later, contains_cases}
+use Rattle.model.proofs.Update.RulesOrFault.{decide_grafted, rules_or_fault}
 use Rattle.model.proofs.Surgery.OldUpdates.{old_leaves_state}
 use Rattle.tree_changes.specs.declared.look_ups.TreeRecord.{TreeRecord}
 use Rattle.tree_changes.specs.declared.decision.NodeChange.{NodeChange}
@@ -34,7 +37,7 @@ use Rattle.tree_changes.specs.declared.decision.NodeChange.TheVariants.{Put, Gon
 use Rattle.tree_changes.specs.declared.decision.Decision.{Decision}
 use Rattle.tree_changes.specs.Looks.{IsTreeRecord, tree_named}
 use Rattle.tree_changes.specs.Changes.{change_at, put_all, put_trees, tree_from, if_kept, tree_after, tree_change, overlaid_world}
-use Rattle.tree_changes.specs.Decisions.{IsChangeOf, IsDecision}
+use Rattle.tree_changes.specs.Decisions.{IsChangeOf, Differs, TreeDiffers, listed_nodes, names_of, IsDecision}
 use Rattle.tree_changes.proofs.Overlays.{effect, get-put_all, get-put_trees, tree_at, tree_at_same, tree_at_some, find_index, tree_change_in}
 use Rattle.tree_plan.specs.declared.passes.Focused.{Focused}
 use Rattle.tree_plan.specs.declared.verdicts.Verdict.{Verdict}
@@ -45,6 +48,7 @@ use Rattle.tree_plan.specs.declared.writing.Group.TheVariants as group
 use Rattle.tree_plan.specs.Passes.{at, IsOfName, IsFocusing}
 use Rattle.tree_plan.specs.Verdicts.{Step, IsFound, Becomes, Verdicts}
 use Rattle.tree_plan.specs.Writing.{change_of, untold_updates, IsMove}
+use Rattle.tree_plan.proofs.Adding.{is_among, has_entry}
 use Rattle.tree_plan.proofs.Becoming.{standing_is_node, no_other}
 use Rattle.tree_plan.proofs.Trees.{KnownAlike, AreAfter}
 use Rattle.tree_plan.proofs.Listed.{Entries, ids_where, is_in, has_change, sorted_where, where_passes, passes_where, changes_in, changed_ids, change_at-in}
@@ -83,6 +87,7 @@ module _ (s : Step) (id : FullNodeId) where
     place = no_other id s.new (λ p at. b.1 (child_is_node t p id at));
     data_found = b.0;
     differs = inl (λ same. b.1 (subst IsSome same b.0));
+    given = λ some same. cc;
   })
 
   -- which group it is told with
@@ -301,6 +306,20 @@ alike_record name r a is = record {
   focus = is.focus ∙ ap (option_map (λ t. t.focus)) a.tree;
 }
 
+-- each name has a record, or none
+module _ (w : World) (o : IsOld w) where
+  pub record_of : (name : TreeId) → (r : Option TreeRecord) × IsTreeRecord w name r
+  record_of name = go (decide_grafted w name)
+    where
+      with_graft : (g : Option FullNodeId) → ((x : FullNodeId) → (g ≡ Some x) ↔ (graft_name w x ≡ Some name)) → (r : Option TreeRecord) × IsTreeRecord w name r
+      with_graft g is =
+          let t : TreeRecord = record { id = name; index = index_of w name; graft = g; root = option_map (λ t. t.root) (tree_named w name); focus = option_map (λ t. t.focus) (tree_named w name) } in
+          (if_kept t, kept_record w name t (record { id = refl; index = refl; graft = is; root = refl; focus = refl }))
+
+      go : IsDecided ((g : FullNodeId) × (graft_name w g ≡ Some name)) → (r : Option TreeRecord) × IsTreeRecord w name r
+      go (inl g) = with_graft (Some g.0) (λ x. (λ e. subst (λ y. graft_name w y ≡ Some name) (same_Some g.0 x e) g.1, λ e. ap Some (o.grafted_once g.0 x name g.1 e)))
+      go (inr none) = with_graft None (λ x. (λ e. cc, λ e. absurd (none (x, e))))
+
 not_there : {A : Type 0} (o : Option A) → (IsSome o → ⊥) → o ≡ None
 not_there None h = refl
 not_there (Some x) h = absurd (h refl)
@@ -359,6 +378,21 @@ module _ (s : Step) (f : Found) (h : IsFound s f) (rs : List TreeRecord) (after 
 
 -- ---- the decision
 
+-- the names of records
+names_listed : (rs : List TreeRecord) (name : TreeId) → Contains (names_of rs) name → (t : TreeRecord) × Contains rs t × (t.id ≡ name)
+names_listed [] name c = absurd (contains_none name c)
+names_listed (r ∷ rs) name c = ⊎_elim
+    (λ same. (r, contains_head r r rs refl, same))
+    (λ d. let f = names_listed rs name d in (f.0, contains_later r f.0 rs f.1, f.2))
+    (contains_cases r.id name (names_of rs) c)
+
+listed_names : (rs : List TreeRecord) (t : TreeRecord) → Contains rs t → Contains (names_of rs) t.id
+listed_names [] t c = absurd (contains_none t c)
+listed_names (r ∷ rs) t c = ⊎_elim
+    (λ same. contains_head r.id t.id (names_of rs) (ap (λ y. y.id) same))
+    (λ d. contains_later r.id t.id (names_of rs) (listed_names rs t d))
+    (contains_cases r t rs c)
+
 -- the world without a change of places: a node stands where it stood
 module _ (s : Step) (f : Found) (h : IsFound s f) (vs : Verdicts) (sorted : IsOrdered full_cmp vs) (becomes : (id : FullNodeId) → Becomes s id (at vs id)) (rs : List TreeRecord) (after : AreAfter s.old s.update h.old h.kept s.new h.rebuilt rs) where
   state_new : IsState s.new
@@ -385,6 +419,32 @@ module _ (s : Step) (f : Found) (h : IsFound s f) (vs : Verdicts) (sorted : IsOr
       let same : place_of s.old id ≡ place_of s.new id = unchanged_place s id (at vs id) (becomes id) (sym (change_by id) ∙ none) in
       stands_at_place s.old id p (same ∙ place)
 
+  -- the nodes with a change are those that differ
+  changed_differ : (id : FullNodeId) → Contains (map (λ e. e.0) (changes_in vs.entries)) id ↔ Differs s.old s.new id
+  changed_differ id = (
+    λ c. let e = has_entry (changes_in vs.entries) id c in (change_is s id state_new (at vs id) e.0 (becomes id) (sym (change_by id) ∙ e.1)).differs,
+    λ differs. go differs (change_at (changes_in vs.entries) id) refl,
+  )
+    where
+      go : Differs s.old s.new id → (x : Option NodeChange) → change_at (changes_in vs.entries) id ≡ x → Contains (map (λ e. e.0) (changes_in vs.entries)) id
+      go differs (Some c) e = is_among (changes_in vs.entries) id c e
+      go differs None e =
+          let none : option_and_then change_of (at vs id) ≡ None = sym (change_by id) ∙ e in
+          let same_data : data_of s.old id ≡ data_of s.new id = ap (λ c. effect s.update.nodes c (data_of s.old id)) (sym none) ∙ data_after s id (at vs id) (becomes id) in
+          let same_place : place_of s.old id ≡ place_of s.new id = unchanged_place s id (at vs id) (becomes id) none in
+          absurd (⊎_elim (λ other. other same_data) (λ other. other same_place) differs)
+
+  -- and so it is of the trees
+  named_differ : (name : TreeId) → Contains (names_of rs) name ↔ TreeDiffers s.old s.new name
+  named_differ name = (
+    λ c. let t = names_listed rs name c in subst (TreeDiffers s.old s.new) t.2 (after.differ t.0 t.1),
+    λ differs. go differs (tree_change rs name) refl,
+  )
+    where
+      go : TreeDiffers s.old s.new name → (x : Option TreeRecord) → tree_change rs name ≡ x → Contains (names_of rs) name
+      go differs (Some t) e = let c = tree_change_in rs name t e in subst (Contains (names_of rs)) c.1 (listed_names rs t c.0)
+      go differs None e = let r = record_of s.old h.old name in absurd (differs r.0 r.1 (alike_record name r.0 (after.others name e) r.1))
+
   module _ (d : Decision) (nodes : d.nodes.items ≡ changes_in vs.entries) (trees : d.trees.items ≡ rs) where
     pub overlaid_is : overlaid_world s.old s.update d ≡ s.new
     overlaid_is =
@@ -406,6 +466,8 @@ module _ (s : Step) (f : Found) (h : IsFound s f) (vs : Verdicts) (sorted : IsOr
     decision_is focused focusing focus once told quiet = record {
       accepted = by_new (IsAccepted s.old s.update) ((rules_or_fault s.old s.update).0 h.kept, h.rebuilt);
       ascending = subst (IsStrictlySortedBy full_cmp) (sym (ap (map (λ (c : FullNodeId × NodeChange). c.0)) nodes ∙ changed_ids vs.entries)) (sorted_where has_change vs.entries sorted);
+      nodes_listed = λ id. by_new (λ v. Contains (listed_nodes d) id ↔ Differs s.old v id)
+          (subst (λ xs. Contains (map (λ (c : FullNodeId × NodeChange). c.0) xs) id ↔ Differs s.old s.new id) (sym nodes) (changed_differ id));
       changes = λ id c e. by_new (λ v. IsChangeOf s.old s.update v id c)
           (change_is s id state_new (at vs id) c (becomes id) (sym (ap (λ xs. change_at xs id) nodes ∙ change_by id) ∙ e));
       others = λ id p e stands. by_new (λ v. StandsAt v p id) (stays_there id p (sym (ap (λ xs. change_at xs id) nodes) ∙ e) stands);
@@ -413,6 +475,8 @@ module _ (s : Step) (f : Found) (h : IsFound s f) (vs : Verdicts) (sorted : IsOr
       trees = λ name r is. by_new (λ v. IsTreeRecord v name (tree_after d.trees.items name r))
           (subst (λ xs. IsTreeRecord s.new name (tree_after xs name r)) (sym trees) (records_after s f h rs after name r is));
       trees_once = once;
+      trees_listed = λ name. by_new (λ v. Contains (names_of d.trees.items) name ↔ TreeDiffers s.old v name)
+          (subst (λ xs. Contains (names_of xs) name ↔ TreeDiffers s.old s.new name) (sym trees) (named_differ name));
       focus = by_new (λ v. IsEffectiveFocus v d.focus) (subst (IsEffectiveFocus s.new) (sym focus) (focusing.effective s.new h.rebuilt));
       told = λ later. by_new (λ v. AreToldBy s.old s.update v d.events.items) (told later);
       quiet = quiet;

@@ -176,7 +176,7 @@ module _ (w : World) (u : UpdateData) (o : IsOld w) (k : KeepsRules w u) (new : 
   -- a node that is there and named with these data
   entry_makes : (id : FullNodeId) (n : Named) (place : Option Place) → IsNamedAs w u id n → IsPlaceOf new id place → data_of w id ≢ data_of new id → Makes s id (Put place (Some n.entry))
   entry_makes id n place is at other = (
-    record { place = at; data_found = (is.named.0, is.entry); differs = inl other },
+    record { place = at; data_found = (is.named.0, is.entry); differs = inl other; given = λ some. other },
     sym (named_data id is.named ∙ entry_named w u id n.entry passed.climbed.refined.removed.settled.compared.named_once is.named.0 is.entry),
   )
 
@@ -195,7 +195,7 @@ module _ (w : World) (u : UpdateData) (o : IsOld w) (k : KeepsRules w u) (new : 
   pub moved_becomes : (id : FullNodeId) (place : Option Place) → data_of w id ≡ data_of new id → Moves s id (Some place) → Becomes s id (Some (Moved place))
   moved_becomes id place same moves =
       let was : IsNode w id = subst IsSome (sym same) moves.0 in
-      ((was, moves.0), (record { place = moves.1; data_found = was; differs = inr (moves.2 was) }, same))
+      ((was, moves.0), (record { place = moves.1; data_found = was; differs = inr (moves.2 was); given = λ some other. cc }, same))
 
   pub told_becomes : (id : FullNodeId) → told_root i u.info ≡ Some id → data_of w id ≡ data_of new id → Moves s id None → Becomes s id (Some Told)
   told_becomes id told same moves =

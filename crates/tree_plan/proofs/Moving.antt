@@ -9,7 +9,8 @@ use Rattle.tree_changes.specs.declared.decision.NodeChange.{NodeChange}
 use Rattle.tree_changes.specs.declared.decision.NodeChange.TheVariants.{Put, Gone}
 use Rattle.tree_changes.specs.declared.plan.Change.{Change}
 use Rattle.tree_changes.specs.declared.plan.Change.TheVariants as change
-use Rattle.tree_plan.specs.Planned.{slot_data, plan_change, entry_of, taken_at, AreTakenOnce}
+use Rattle.tree_changes.specs.Changes.{entry_of}
+use Rattle.tree_plan.specs.Planned.{slot_data, plan_change, taken_at, AreTakenOnce}
 
 abbrev pub Slots : Type 0
 Slots = List (Option NodeData)

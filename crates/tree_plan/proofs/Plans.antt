@@ -20,7 +20,7 @@ use Rattle.schema.specs.declared.NodeId.{NodeId}
 use Rattle.schema.specs.declared.TreeId.{TreeId}
 use Rattle.model.specs.declared.FullNodeId.{FullNodeId}
 use Rattle.model.specs.FullIds.{full_cmp, full_total}
-use Rattle.model.specs.World.{ROOT_NAME, World, Place, StandsAt, data_of, index_of, graft_name}
+use Rattle.model.specs.World.{ROOT_NAME, World, Place, StandsAt, data_of, index_of}
 use Rattle.model.specs.Focus.{IsEffectiveFocus}
 use Rattle.model.specs.Run.{AreToldBy}
 use Rattle.model.specs.Work.{IsWorkOf}
@@ -32,23 +32,23 @@ use Rattle.model.proofs.Members.{contains_none, contains_head, contains_later, c
 use Rattle.model.proofs.Surgery.Spots.{index_here, index_zero, zero_index}
 use Rattle.model.proofs.Surgery.RulesArePassed.{rules_passed}
 use Rattle.model.proofs.State.StatePlaces.{map_some, and_then_some}
-use Rattle.model.proofs.Update.RulesOrFault.{decide_grafted, rules_or_fault}
+use Rattle.model.proofs.Update.RulesOrFault.{rules_or_fault}
 use Rattle.tree_changes.specs.declared.look_ups.TreeRecord.{TreeRecord}
 use Rattle.tree_changes.specs.declared.decision.NodeChange.{NodeChange}
 use Rattle.tree_changes.specs.declared.decision.NodeChange.TheVariants as node
 use Rattle.tree_changes.specs.declared.decision.Decision.{Decision}
 use Rattle.tree_changes.specs.declared.plan.Change.{Change}
 use Rattle.tree_changes.specs.declared.plan.Change.TheVariants.{Put, Tree}
-use Rattle.tree_changes.specs.Looks.{IsPlaceOf, IsTreeRecord, tree_named}
-use Rattle.tree_changes.specs.Changes.{NodeChanges, change_at, entry_data, changed_data, set_at, put_all, if_kept, put_trees, tree_change, tree_after, overlaid_world}
-use Rattle.tree_changes.specs.Decisions.{FindsData, Differs, IsDecision, IsWithinWork}
+use Rattle.tree_changes.specs.Looks.{IsPlaceOf, IsTreeRecord}
+use Rattle.tree_changes.specs.Changes.{NodeChanges, change_at, entry_of, entry_data, changed_data, set_at, put_all, if_kept, put_trees, tree_change, tree_after, overlaid_world}
+use Rattle.tree_changes.specs.Decisions.{FindsData, Differs, TreeDiffers, names_of, IsDecision, IsWithinWork}
 use Rattle.tree_changes.specs.declared.plan.Plan.{Plan}
 use Rattle.tree_changes.specs.Plans.{tree_changes, nodes_changed, name_tree, name_trees, replaced_texts, planned_world}
 use Rattle.tree_changes.proofs.Overlays.{effect, get-put_all, tree_change_in}
-use Rattle.tree_plan.specs.Planned.{IsPlan, IsPlannedWithin, changed_nodes, slot_data, plan_change, entry_of, AreTakenOnce, replaces}
-use Rattle.tree_plan.proofs.Adding.{in_either, is_among, has_entry}
+use Rattle.tree_plan.specs.Planned.{IsPlan, IsPlannedWithin, changed_nodes, slot_data, plan_change, AreTakenOnce, replaces}
+use Rattle.tree_plan.proofs.Adding.{in_either, is_among}
 use Rattle.tree_plan.proofs.IdMaps.{at_itself}
-use Rattle.tree_plan.proofs.Assembled.{kept_record}
+use Rattle.tree_plan.proofs.Assembled.{record_of}
 use Rattle.tree_plan.proofs.Moving.{Slots}
 
 -- ---- the changes
@@ -228,20 +228,8 @@ module _ (known : List TreeId) (name : TreeId) where
       go (inr other) (inl same) later = absurd (other (ap (λ t. t.index) same ∙ is))
       go (inr other) (inr d) later = ap (λ k. name_trees k rs) (name_one known r.id r.index other) ∙ later d
 
--- a record of each name
+-- the known names, and the texts
 module _ (w : World) (o : IsOld w) where
-  record_of : (name : TreeId) → (r : Option TreeRecord) × IsTreeRecord w name r
-  record_of name = go (decide_grafted w name)
-    where
-      with_graft : (g : Option FullNodeId) → ((x : FullNodeId) → (g ≡ Some x) ↔ (graft_name w x ≡ Some name)) → (r : Option TreeRecord) × IsTreeRecord w name r
-      with_graft g is =
-          let t : TreeRecord = record { id = name; index = index_of w name; graft = g; root = option_map (λ t. t.root) (tree_named w name); focus = option_map (λ t. t.focus) (tree_named w name) } in
-          (if_kept t, kept_record w name t (record { id = refl; index = refl; graft = is; root = refl; focus = refl }))
-
-      go : IsDecided ((g : FullNodeId) × (graft_name w g ≡ Some name)) → (r : Option TreeRecord) × IsTreeRecord w name r
-      go (inl g) = with_graft (Some g.0) (λ x. (λ e. subst (λ y. graft_name w y ≡ Some name) (same_Some g.0 x e) g.1, λ e. ap Some (o.grafted_once g.0 x name g.1 e)))
-      go (inr none) = with_graft None (λ x. (λ e. cc, λ e. absurd (none (x, e))))
-
   module _ (u : UpdateData) (d : Decision) (h : IsDecision w u d) where
     abbrev new : World
     new = overlaid_world w u d
@@ -249,8 +237,8 @@ module _ (w : World) (o : IsOld w) where
     abbrev rs : List TreeRecord
     rs = d.trees.items
 
-    after : (name : TreeId) → IsTreeRecord new name (tree_after rs name (record_of name).0)
-    after name = h.trees name (record_of name).0 (record_of name).1
+    after : (name : TreeId) → IsTreeRecord new name (tree_after rs name (record_of w o name).0)
+    after name = h.trees name (record_of w o name).0 (record_of w o name).1
 
     -- a changed record has the index of its name afterwards
     index_after : (r : TreeRecord) (i : ℕ) → Contains rs r → r.index ≡ Some i → slice_get new.known i ≡ Some r.id
@@ -259,8 +247,8 @@ module _ (w : World) (o : IsOld w) where
         kept : if_kept r ≡ Some r
         kept = ap (λ x. if (is_some x || is_some r.graft) then Some r else None) is
 
-        here : option_and_then (λ t. t.index) (tree_after rs r.id (record_of r.id).0) ≡ Some i
-        here = ap (λ x. option_and_then (λ (t : TreeRecord). t.index) (option_map_or if_kept x (record_of r.id).0)) (tree_change-of rs r h.trees_once c) ∙ ap (option_and_then (λ t. t.index)) kept ∙ is
+        here : option_and_then (λ t. t.index) (tree_after rs r.id (record_of w o r.id).0) ≡ Some i
+        here = ap (λ x. option_and_then (λ (t : TreeRecord). t.index) (option_map_or if_kept x (record_of w o r.id).0)) (tree_change-of rs r h.trees_once c) ∙ ap (option_and_then (λ t. t.index)) kept ∙ is
 
     -- where the name is new, one has the next index
     next_there : index_of w u.name ≡ None → (r : TreeRecord) × Contains rs r × (r.index ≡ Some (length w.known))
@@ -269,8 +257,8 @@ module _ (w : World) (o : IsOld w) where
         index : index_of new u.name ≡ Some (length w.known)
         index = index_here w u o ∙ ap (λ x. Some (unwrap_or x (length w.known))) none
 
-        was : option_and_then (λ t. t.index) (record_of u.name).0 ≡ None
-        was = (record_of u.name).1.index ∙ none
+        was : option_and_then (λ t. t.index) (record_of w o u.name).0 ≡ None
+        was = (record_of w o u.name).1.index ∙ none
 
         by_kept : (t : TreeRecord) → option_and_then (λ t. t.index) (if_kept t) ≡ Some (length w.known) → t.index ≡ Some (length w.known)
         by_kept t e = by_test (is_some t.index || is_some t.graft) e
@@ -281,10 +269,10 @@ module _ (w : World) (o : IsOld w) where
 
         go : (x : Option TreeRecord) → tree_change rs u.name ≡ x → (r : TreeRecord) × Contains rs r × (r.index ≡ Some (length w.known))
         go None e =
-            let now : option_and_then (λ t. t.index) (record_of u.name).0 ≡ Some (length w.known) = ap (λ x. option_and_then (λ (t : TreeRecord). t.index) (option_map_or if_kept x (record_of u.name).0)) (sym e) ∙ (after u.name).index ∙ index in
+            let now : option_and_then (λ t. t.index) (record_of w o u.name).0 ≡ Some (length w.known) = ap (λ x. option_and_then (λ (t : TreeRecord). t.index) (option_map_or if_kept x (record_of w o u.name).0)) (sym e) ∙ (after u.name).index ∙ index in
             absurd (let clash : None ≡ Some (length w.known) = sym was ∙ now in cc)
         go (Some t) e =
-            let now : option_and_then (λ t. t.index) (if_kept t) ≡ Some (length w.known) = ap (λ x. option_and_then (λ (t : TreeRecord). t.index) (option_map_or if_kept x (record_of u.name).0)) (sym e) ∙ (after u.name).index ∙ index in
+            let now : option_and_then (λ t. t.index) (if_kept t) ≡ Some (length w.known) = ap (λ x. option_and_then (λ (t : TreeRecord). t.index) (option_map_or if_kept x (record_of w o u.name).0)) (sym e) ∙ (after u.name).index ∙ index in
             (t, (tree_change_in rs u.name t e).0, by_kept t now)
 
     pub known_is : name_trees w.known rs ≡ known_after w u.name
@@ -332,15 +320,22 @@ put_is slots (i, node.Put at None) id place given e =
     (None, λ j. (same j, node.Put (there j) None))
 put_is slots (i, node.Gone) id place given e = absurd cc
 
-put_at : (slots : Slots) (ns : NodeChanges) (id : FullNodeId) (place : Option Place) (given : Option NodeData) → Contains (map (plan_change slots) ns) (Put id place given) → (i : ℕ) × (entry : Option ℕ) × (slice_get ns i ≡ Some (id, node.Put place entry))
+-- the data that a change takes out of a slot
+data_taken : (slots : Slots) (id : FullNodeId) (place : Option Place) (entry : Option ℕ) (d : NodeData) → plan_change slots (id, node.Put place entry) ≡ Put id place (Some d) → (k : ℕ) × (entry ≡ Some k) × (slot_data slots k ≡ Some d)
+data_taken slots id place (Some k) d e = (k, refl, cc)
+data_taken slots id place None d e = absurd cc
+
+put_at : (slots : Slots) (ns : NodeChanges) (id : FullNodeId) (place : Option Place) (given : Option NodeData) → Contains (map (plan_change slots) ns) (Put id place given)
+    → (i : ℕ) × (entry : Option ℕ) × (slice_get ns i ≡ Some (id, node.Put place entry)) × (plan_change slots (id, node.Put place entry) ≡ Put id place given)
 put_at slots [] id place given c = absurd (contains_none (Put id place given) c)
 put_at slots (n ∷ ns) id place given c = go (contains_cases (plan_change slots n) (Put id place given) (map (plan_change slots) ns) c) (put_at slots ns id place given)
   where
     go : (plan_change slots n ≡ Put id place given) ⊎ Contains (map (plan_change slots) ns) (Put id place given)
-        → (Contains (map (plan_change slots) ns) (Put id place given) → (i : ℕ) × (entry : Option ℕ) × (slice_get ns i ≡ Some (id, node.Put place entry)))
-        → (i : ℕ) × (entry : Option ℕ) × (slice_get (n ∷ ns) i ≡ Some (id, node.Put place entry))
-    go (inl e) later = let f = put_is slots n id place given e in (0, f.0, ap Some f.1)
-    go (inr d) later = let f = later d in (suc f.0, f.1, f.2)
+        → (Contains (map (plan_change slots) ns) (Put id place given)
+        → (i : ℕ) × (entry : Option ℕ) × (slice_get ns i ≡ Some (id, node.Put place entry)) × (plan_change slots (id, node.Put place entry) ≡ Put id place given))
+        → (i : ℕ) × (entry : Option ℕ) × (slice_get (n ∷ ns) i ≡ Some (id, node.Put place entry)) × (plan_change slots (id, node.Put place entry) ≡ Put id place given)
+    go (inl e) later = let f = put_is slots n id place given e in (0, f.0, ap Some f.1, subst (λ c. plan_change slots c ≡ Put id place given) f.1 e)
+    go (inr d) later = let f = later d in (suc f.0, f.1, f.2, f.3)
 
 module _ (w : World) (o : IsOld w) (u : UpdateData) (d : Decision) (h : IsDecision w u d) (p : Plan) (slots : Slots) (same_slots : slots ≡ map (λ e. Some e.1) u.nodes)
     (changes : p.changes.items ≡ map Tree d.trees.items ++ map (plan_change slots) d.nodes.items) (is_root : Bool) (root : IsTrue is_root ↔ (u.name ≡ ROOT_NAME))
@@ -371,22 +366,36 @@ module _ (w : World) (o : IsOld w) (u : UpdateData) (d : Decision) (h : IsDecisi
       go None e = e
       go (Some c) e = absurd (out (subst (λ ids. Contains ids id) (sym ids_are) (is_among d.nodes.items id c e)))
 
+  -- a node's change in the plan is one of the decision
+  put_in : (id : FullNodeId) (place : Option Place) (given : Option NodeData) → Contains p.changes.items (Put id place given)
+      → (i : ℕ) × (entry : Option ℕ) × (slice_get d.nodes.items i ≡ Some (id, node.Put place entry)) × (plan_change slots (id, node.Put place entry) ≡ Put id place given)
+  put_in id place given c = ⊎_elim (λ x. absurd (no_put d.trees.items id place given x)) (put_at slots d.nodes.items id place given)
+      (in_either (map Tree d.trees.items) (map (plan_change slots) d.nodes.items) (Put id place given) (subst (λ cs. Contains cs (Put id place given)) changes c))
+
   pub plan_is : p.focus ≡ d.focus → p.events.items ≡ d.events.items → IsPlan w u p
   plan_is focus events = record {
     accepted = by_plan (IsAccepted w u) h.accepted;
     once = subst (IsStrictlySortedBy full_cmp) (sym ids_are) h.ascending;
-    changes = λ id c.
-        let e = has_entry d.nodes.items id (subst (λ ids. Contains ids id) ids_are c) in
-        by_plan (λ v. Differs w v id) (h.changes id e.0 e.1).differs;
+    changes = λ id. by_plan (λ v. Contains (changed_nodes p.changes.items) id ↔ Differs w v id)
+        (subst (λ ids. Contains ids id ↔ Differs w (overlaid_world w u d) id) (sym ids_are) (h.nodes_listed id));
     places = λ id place given c.
-        let f = ⊎_elim (λ x. absurd (no_put d.trees.items id place given x)) (put_at slots d.nodes.items id place given)
-        (in_either (map Tree d.trees.items) (map (plan_change slots) d.nodes.items) (Put id place given) (subst (λ cs. Contains cs (Put id place given)) changes c)) in
+        let f = put_in id place given c in
         by_plan (λ v. IsPlaceOf v id place) (h.changes id (node.Put place f.1) (change_at-place d.nodes.items h.ascending f.0 (id, node.Put place f.1) f.2)).place;
+    given = λ id place sent c same.
+        let f = put_in id place (Some sent) c in
+        let e = change_at-place d.nodes.items h.ascending f.0 (id, node.Put place f.1) f.2 in
+        let k = data_taken slots id place f.1 sent f.3 in
+        let now : data_of (overlaid_world w u d) id ≡ Some sent =
+        get-put_all u.nodes w.nodes d.nodes.items id ∙ ap (λ c. effect u.nodes c (data_of w id)) (e ∙ ap (λ x. Some (node.Put place x)) k.1)
+        ∙ sym (slot_data-of u.nodes k.0) ∙ ap (λ s. slot_data s k.0) (sym same_slots) ∙ k.2 in
+        (h.changes id (node.Put place f.1) e).given (subst IsSome (sym k.1) refl) (same ∙ sym now);
     others = λ id out.
         let none = unchanged id out in
         by_plan (λ v. (data_of w id ≡ data_of v id) × ((at : Place) → StandsAt w at id ↔ StandsAt v at id))
         (sym (get-put_all u.nodes w.nodes d.nodes.items id ∙ ap (λ c. effect u.nodes c (data_of w id)) none), λ at. (h.others id at none, h.others_back id at none));
     trees_once = subst (AllPairs (λ a b. a.id ≢ b.id)) (sym trees_are) h.trees_once;
+    trees_listed = λ name. by_plan (λ v. Contains (names_of (tree_changes p.changes.items)) name ↔ TreeDiffers w v name)
+        (subst (λ ts. Contains (names_of ts) name ↔ TreeDiffers w (overlaid_world w u d) name) (sym trees_are) (h.trees_listed name));
     trees = λ name r is. by_plan (λ v. IsTreeRecord v name (tree_after (tree_changes p.changes.items) name r)) (subst (λ ts. IsTreeRecord (overlaid_world w u d) name (tree_after ts name r)) (sym trees_are) (h.trees name r is));
     focus = by_plan (λ v. IsEffectiveFocus v p.focus) (subst (IsEffectiveFocus (overlaid_world w u d)) (sym focus) h.focus);
     told = λ later. by_plan (λ v. AreToldBy w u v p.events.items) (subst (AreToldBy w u (overlaid_world w u d)) (sym events) (h.told later));

@@ -26,11 +26,12 @@ use Rattle.model.proofs.Surgery.RulesArePassed.{rules_passed}
 use Rattle.model.proofs.Surgery.ChangesAreTheRebuild.{rebuild_changed}
 use Rattle.model.proofs.Surgery.Grafts.{named_graft, lost_graft, same_graft}
 use Rattle.tree_changes.specs.declared.look_ups.TreeRecord.{TreeRecord}
-use Rattle.tree_changes.specs.Looks.{tree_named}
+use Rattle.tree_changes.specs.Looks.{IsTreeRecord, tree_named}
 use Rattle.tree_changes.specs.Changes.{tree_change}
+use Rattle.tree_changes.specs.Decisions.{TreeDiffers}
 use Rattle.tree_plan.specs.declared.passes.Opened.{Opened}
 use Rattle.tree_plan.specs.Passes.{IsOfName, IsOpening, IsCut, cut_record, IsGained, Gains}
-use Rattle.tree_plan.specs.Writing.{own_record}
+use Rattle.tree_plan.specs.Writing.{own_record, IsOwnPart}
 use Rattle.tree_changes.proofs.Overlays.{tree_change_none}
 use Rattle.tree_plan.proofs.Adding.{in_either}
 use Rattle.std.proofs.lemmas.List.Elements.{Contains-append_left, Contains-append_right}
@@ -231,18 +232,41 @@ module _ (w : World) (u : UpdateData) (o : IsOld w) (k : KeepsRules w u) (new : 
       same : tree_named w t.id ≡ tree_named new t.id
       same = tree_other t.id other (λ cut. cut.0 (is.n, is.gains.0, is.gains.1))
 
+  -- ---- each is another than before
+
+  -- where a name has one record in both worlds, the same node grafts it
+  one_graft : (name : TreeId) (x : Option TreeRecord) → IsTreeRecord w name x → IsTreeRecord new name x → (g : FullNodeId) → (graft_name w g ≡ Some name) ↔ (graft_name new g ≡ Some name)
+  one_graft name x before now g = let a = before.graft g in let b = now.graft g in (λ e. b.0 (a.1 e), λ e. a.0 (b.1 e))
+
+  cut_differs : (name : TreeId) → IsCut w u name → TreeDiffers w new name
+  cut_differs name cut x before now = lost_graft w u o passed r cut.1 name cut.2 cut.3 cut.0 cut.1 ((one_graft name x before now cut.1).0 cut.2)
+
+  gained_differs : (t : TreeRecord) → IsGained w u t → TreeDiffers w new t.id
+  gained_differs t is x before now = is.gains.2 ((one_graft t.id x before now is.n).1 (((gained_is t is).graft is.n).0 is.graft))
+
+  own_differs : (op : Opened) → IsOpening w u op → own_record u.name u.focus op ≢ op.record → TreeDiffers w new u.name
+  own_differs op is other x before now =
+      let a = is.record_of in
+      let b = own_is op is in
+      let id : u.name ≡ op.record.id = sym a.id in
+      let index : Some op.index ≡ op.record.index = b.index ∙ sym now.index ∙ before.index ∙ sym a.index in
+      let root : Some op.root ≡ op.record.root = b.root ∙ sym now.root ∙ before.root ∙ sym a.root in
+      let focus : Some u.focus ≡ op.record.focus = b.focus ∙ sym now.focus ∙ before.focus ∙ sym a.focus in
+      other (λ j. record { id = id j; index = index j; graft = op.record.graft; root = root j; focus = focus j })
+
   -- ---- all of them
 
-  -- the records say what is known afterwards, and of other names the same is known as before
+  -- the records say what is known afterwards, each is another than before, and of other names the same is known as before
   pub record AreAfter (rs : List TreeRecord) : Type 0 where
     pub each : (t : TreeRecord) → Contains rs t → IsOfName new t.id t
+    pub differ : (t : TreeRecord) → Contains rs t → TreeDiffers w new t.id
     pub others : (name : TreeId) → tree_change rs name ≡ None → KnownAlike w new name
 
   -- each is of another name
   pub all_once : (op : Opened) (cuts gained own : List TreeRecord)
       → ((t : TreeRecord) → Contains cuts t ↔ (IsCut w u t.id × (t ≡ cut_record w t.id)))
       → ((t : TreeRecord) → Contains gained t ↔ IsGained w u t)
-      → ((own_record u.name u.focus op ≡ op.record) × (own ≡ [])) ⊎ (own ≡ own_record u.name u.focus op ∷ [])
+      → IsOwnPart op.record (own_record u.name u.focus op) own
       → AllPairs (λ a b. a.id ≢ b.id) cuts → AllPairs (λ a b. a.id ≢ b.id) gained → AllPairs (λ a b. a.id ≢ b.id) (cuts ++ gained ++ own)
   all_once op cuts gained own are_cut are_gained is_own cut_once gained_once =
       AllPairs-append Apart (cuts ++ gained) own
@@ -253,13 +277,13 @@ module _ (w : World) (u : UpdateData) (o : IsOld w) (k : KeepsRules w u) (new : 
       Apart : TreeRecord → TreeRecord → Type 0
       Apart a b = a.id ≢ b.id
 
-      own_once : ((own_record u.name u.focus op ≡ op.record) × (own ≡ [])) ⊎ (own ≡ own_record u.name u.focus op ∷ []) → AllPairs (λ (a : TreeRecord) (b : TreeRecord). a.id ≢ b.id) own
+      own_once : IsOwnPart op.record (own_record u.name u.focus op) own → AllPairs (λ (a : TreeRecord) (b : TreeRecord). a.id ≢ b.id) own
       own_once (inl x) = subst (AllPairs (λ (a : TreeRecord) (b : TreeRecord). a.id ≢ b.id)) (sym x.1) (λ i j d below within. absurd (omega arith))
-      own_once (inr e) = subst (AllPairs (λ (a : TreeRecord) (b : TreeRecord). a.id ≢ b.id)) (sym e) (λ i j d below within. absurd (omega arith))
+      own_once (inr x) = subst (AllPairs (λ (a : TreeRecord) (b : TreeRecord). a.id ≢ b.id)) (sym x.1) (λ i j d below within. absurd (omega arith))
 
-      own_name : ((own_record u.name u.focus op ≡ op.record) × (own ≡ [])) ⊎ (own ≡ own_record u.name u.focus op ∷ []) → (t : TreeRecord) → Contains own t → t.id ≡ u.name
+      own_name : IsOwnPart op.record (own_record u.name u.focus op) own → (t : TreeRecord) → Contains own t → t.id ≡ u.name
       own_name (inl x) t c = absurd (contains_none t (subst (λ ts. Contains ts t) x.1 c))
-      own_name (inr e) t c = ⊎_elim (λ same. ap (λ y. y.id) (sym same)) (λ h. absurd (contains_none t h)) (contains_cases (own_record u.name u.focus op) t [] (subst (λ ts. Contains ts t) e c))
+      own_name (inr x) t c = ⊎_elim (λ same. ap (λ y. y.id) (sym same)) (λ h. absurd (contains_none t h)) (contains_cases (own_record u.name u.focus op) t [] (subst (λ ts. Contains ts t) x.1 c))
 
       apart : (x : TreeRecord) → Contains cuts x ⊎ Contains gained x → x.id ≡ u.name → ⊥
       apart x (inl c) = cut_other x.id ((are_cut x).0 c).0
@@ -268,13 +292,13 @@ module _ (w : World) (u : UpdateData) (o : IsOld w) (k : KeepsRules w u) (new : 
   pub all_after : (op : Opened) (cuts gained own : List TreeRecord) → IsOpening w u op
       → ((t : TreeRecord) → Contains cuts t ↔ (IsCut w u t.id × (t ≡ cut_record w t.id)))
       → ((t : TreeRecord) → Contains gained t ↔ IsGained w u t)
-      → ((own_record u.name u.focus op ≡ op.record) × (own ≡ [])) ⊎ (own ≡ own_record u.name u.focus op ∷ [])
+      → IsOwnPart op.record (own_record u.name u.focus op) own
       → AreAfter (cuts ++ gained ++ own)
-  all_after op cuts gained own is are_cut are_gained is_own = record { each = each; others = others }
+  all_after op cuts gained own is are_cut are_gained is_own = record { each = each; differ = differ; others = others }
     where
-      by_own : ((own_record u.name u.focus op ≡ op.record) × (own ≡ [])) ⊎ (own ≡ own_record u.name u.focus op ∷ []) → (t : TreeRecord) → Contains own t → IsOfName new t.id t
+      by_own : IsOwnPart op.record (own_record u.name u.focus op) own → (t : TreeRecord) → Contains own t → IsOfName new t.id t
       by_own (inl x) t c = absurd (contains_none t (subst (λ ts. Contains ts t) x.1 c))
-      by_own (inr e) t c = ⊎_elim (λ same. subst (λ x. IsOfName new x.id x) same (own_is op is)) (λ h. absurd (contains_none t h)) (contains_cases (own_record u.name u.focus op) t [] (subst (λ ts. Contains ts t) e c))
+      by_own (inr x) t c = ⊎_elim (λ same. subst (λ y. IsOfName new y.id y) same (own_is op is)) (λ h. absurd (contains_none t h)) (contains_cases (own_record u.name u.focus op) t [] (subst (λ ts. Contains ts t) x.1 c))
 
       each : (t : TreeRecord) → Contains (cuts ++ gained ++ own) t → IsOfName new t.id t
       each t c = ⊎_elim
@@ -284,6 +308,22 @@ module _ (w : World) (u : UpdateData) (o : IsOld w) (k : KeepsRules w u) (new : 
           (in_either cuts gained t d))
           (λ x. by_own is_own t x)
           (in_either (cuts ++ gained) own t c)
+
+      differ : (t : TreeRecord) → Contains (cuts ++ gained ++ own) t → TreeDiffers w new t.id
+      differ t c = ⊎_elim
+          (λ d. ⊎_elim
+          (λ x. cut_differs t.id ((are_cut t).0 x).0)
+          (λ x. gained_differs t ((are_gained t).0 x))
+          (in_either cuts gained t d))
+          (λ x. own_part is_own x)
+          (in_either (cuts ++ gained) own t c)
+        where
+          own_part : IsOwnPart op.record (own_record u.name u.focus op) own → Contains own t → TreeDiffers w new t.id
+          own_part (inl x) d = absurd (contains_none t (subst (λ ts. Contains ts t) x.1 d))
+          own_part (inr x) d = ⊎_elim
+              (λ same. subst (λ y. TreeDiffers w new y.id) same (own_differs op is x.0))
+              (λ h. absurd (contains_none t h))
+              (contains_cases (own_record u.name u.focus op) t [] (subst (λ ts. Contains ts t) x.1 d))
 
       own_in : own ≡ own_record u.name u.focus op ∷ [] → Contains own (own_record u.name u.focus op)
       own_in e = subst (λ ts. Contains ts (own_record u.name u.focus op)) (sym e) (contains_head (own_record u.name u.focus op) (own_record u.name u.focus op) [] refl)
@@ -309,7 +349,7 @@ module _ (w : World) (u : UpdateData) (o : IsOld w) (k : KeepsRules w u) (new : 
           ungained : (n : FullNodeId) → ¬ (Gains w u n name)
           ungained n gains = out (gain n) (in_gained (gain n) ((are_gained (gain n)).1 (record { n = n; gains = gains; graft = refl; index = refl; root = refl; focus = refl }))) refl
 
-          go : ((own_record u.name u.focus op ≡ op.record) × (own ≡ [])) ⊎ (own ≡ own_record u.name u.focus op ∷ []) → (name ≡ u.name) ⊎ (name ≢ u.name) → KnownAlike w new name
+          go : IsOwnPart op.record (own_record u.name u.focus op) own → (name ≡ u.name) ⊎ (name ≢ u.name) → KnownAlike w new name
           go x (inr other) = others_alike name other uncut ungained
           go (inl x) (inl e) = subst (KnownAlike w new) (sym e) (own_alike op is x.0)
-          go (inr x) (inl e) = absurd (out (own_record u.name u.focus op) (Contains-append_right (cuts ++ gained) own (own_record u.name u.focus op) (own_in x)) (sym e))
+          go (inr x) (inl e) = absurd (out (own_record u.name u.focus op) (Contains-append_right (cuts ++ gained) own (own_record u.name u.focus op) (own_in x.1)) (sym e))

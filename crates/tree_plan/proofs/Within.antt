@@ -12,6 +12,7 @@ use Rattle.model.proofs.Surgery.RulesArePassed.{rules_passed}
 use Rattle.model.proofs.Surgery.OldUpdates.{old_leaves_state}
 use Rattle.tree_changes.specs.declared.error.UpdateError.{UpdateError}
 use Rattle.tree_changes.specs.declared.decision.Decision.{Decision}
+use Rattle.tree_changes.specs.Looks.{IsRaisedUpTo}
 use Rattle.tree_changes.specs.Changes.{overlaid_world}
 use Rattle.tree_changes.specs.Decisions.{IsWithinWork}
 use Rattle.tree_plan.specs.declared.deciding.Findings.{Findings}
@@ -29,7 +30,7 @@ root_tree_there w o later = go w.known refl
 module _ (w : World) (u : UpdateData) (new : World) (before middle after : ℕ) (f : Findings) (found : AreFindings w u f) (rebuilt : IsRebuild (merged_world w u) new) (counted : IsCount w u f before middle) where
   within : (d : Decision) → KeepsRules w u → overlaid_world w u d ≡ new
       → ((work : Work) → IsWorkOf w u new work → IsSmall f.compared f.removed f.regrafted d work)
-      → after ≤ middle + 4 * length (merged_world w u).known + 2 → IsWithinWork w u d before after
+      → IsRaisedUpTo middle (4 * length (merged_world w u).known + 2) after → IsWithinWork w u d before after
   within d kept same small asked work is =
       let at : IsWorkOf w u new work = subst (λ v. IsWorkOf w u v work) same is in
       let short : IsSmall f.compared f.removed f.regrafted d work = small work at in
@@ -38,11 +39,11 @@ module _ (w : World) (u : UpdateData) (new : World) (before middle after : ℕ) 
       let lost : length f.compared.lost.items ≤ length u.nodes = found.comparison.lost_count in
       let gained : length f.compared.gained.items ≤ length u.nodes = found.comparison.gained_count in
       let climbed : counted.steps ≤ work.depths = climbs_counted w u found.old (rules_passed w u found.old kept) rebuilt work at (old_leaves_state w u found.old kept new rebuilt) counted.steps counted.are_steps in
-      omega (arith, counted.asked, counted.cut, counted.gained, short.entered, short.gone, short.nodes, short.trees, short.events)
+      omega (arith, asked.0, counted.asked, counted.cut, counted.gained, short.entered, short.gone, short.nodes, short.trees, short.events)
 
   -- by what a call has answered
   pub within_by : (r : Result Decision UpdateError) → OnOk r (KeepsRules w u) → IfOk r (λ d. overlaid_world w u d ≡ new)
       → IfOk r (λ d. (work : Work) → IsWorkOf w u new work → IsSmall f.compared f.removed f.regrafted d work)
-      → OnOk r (after ≤ middle + 4 * length (merged_world w u).known + 2) → IfOk r (λ d. IsWithinWork w u d before after)
+      → OnOk r (IsRaisedUpTo middle (4 * length (merged_world w u).known + 2) after) → IfOk r (λ d. IsWithinWork w u d before after)
   within_by (Ok d) kept same small asked = within d kept same small asked
   within_by (Err e) kept same small asked = kept

@@ -1,5 +1,5 @@
 -- What is written is the decision, and its lists are short.
-use Rattle.std.proofs.Common.{◌≡◌, ◌≢◌, ◌+◌, ◌*◌, ◌≤◌, Bool, true, false, List, [], ◌∷◌, ◌++◌, map, length, IsTrue, ◌⊎◌, inl, inr, refl, sym, ap, ◌∙◌, subst, arith, length-append}
+use Rattle.std.proofs.Common.{◌≡◌, ◌≢◌, ◌+◌, ◌*◌, ◌≤◌, Bool, true, false, List, [], ◌++◌, map, length, IsTrue, inl, inr, refl, sym, ap, ◌∙◌, subst, arith, length-append}
 use Rattle.std.specs.Prelude.{AllPairs}
 use Rattle.std.specs.BTreeMap.{IsOrdered}
 use Rattle.std.specs.List.Sorted.{IsStrictlySortedBy}
@@ -19,7 +19,7 @@ use Rattle.tree_plan.specs.declared.verdicts.Found.{Found}
 use Rattle.tree_plan.specs.declared.writing.Group.TheVariants as group
 use Rattle.tree_plan.specs.Passes.{at, IsFocusing}
 use Rattle.tree_plan.specs.Verdicts.{Step, IsFound, Becomes, Verdicts}
-use Rattle.tree_plan.specs.Writing.{own_record, AreEvents, AreTrees, IsSmall}
+use Rattle.tree_plan.specs.Writing.{own_record, IsOwnPart, AreEvents, AreTrees, IsSmall}
 use Rattle.tree_plan.proofs.Listed.{ids_where, is_in, told-where, changes_in}
 use Rattle.tree_plan.proofs.Trees.{AreAfter, all_after, all_once}
 use Rattle.tree_plan.proofs.Assembled.{all_told, overlaid_is, decision_is}
@@ -27,8 +27,8 @@ use Rattle.tree_plan.proofs.Counts.{entered_small, gone_small, changes_small, ev
 
 module _ (s : Step) (f : Found) (h : IsFound s f) (vs : Verdicts) (sorted : IsOrdered full_cmp vs) (becomes : (id : FullNodeId) → Becomes s id (at vs id)) where
   module _ (own : TreeRecord) (is_own : own ≡ own_record s.update.name s.update.focus f.opened.now) (d : Decision) (nodes : d.nodes.items ≡ changes_in vs.entries) (trees : AreTrees f own d.trees.items) where
-    own_part : ((own_record s.update.name s.update.focus f.opened.now ≡ f.opened.now.record) × (trees.0 ≡ [])) ⊎ (trees.0 ≡ own_record s.update.name s.update.focus f.opened.now ∷ [])
-    own_part = subst (λ r. ((r ≡ f.opened.now.record) × (trees.0 ≡ [])) ⊎ (trees.0 ≡ r ∷ [])) is_own trees.2
+    own_part : IsOwnPart f.opened.now.record (own_record s.update.name s.update.focus f.opened.now) trees.0
+    own_part = subst (λ r. IsOwnPart f.opened.now.record r trees.0) is_own trees.2
 
     after : AreAfter s.old s.update h.old h.kept s.new h.rebuilt (f.removed.now.trees.items ++ f.regrafted.now.trees.items ++ trees.0)
     after = all_after s.old s.update h.old h.kept s.new h.rebuilt f.opened.now f.removed.now.trees.items f.regrafted.now.trees.items trees.0 h.opening h.removal.trees h.regrafting.gained own_part
@@ -61,9 +61,9 @@ module _ (s : Step) (f : Found) (h : IsFound s f) (vs : Verdicts) (sorted : IsOr
       few_told work is true e = let none : length d.events.items ≡ 0 = ap length (quiet e) in omega arith
       few_told work is false e = events_small s f h work is vs sorted becomes focused d.events.items (tell (λ first. let clash : false ≡ true = sym e ∙ first in cc))
 
-      own_short : ((own ≡ f.opened.now.record) × (trees.0 ≡ [])) ⊎ (trees.0 ≡ own ∷ []) → length trees.0 ≤ 1
+      own_short : IsOwnPart f.opened.now.record own trees.0 → length trees.0 ≤ 1
       own_short (inl x) = let e = ap length x.1 in omega arith
-      own_short (inr x) = let e = ap length x in omega arith
+      own_short (inr x) = let e = ap length x.1 in omega arith
 
       pub written_small : IsOrdered full_cmp f.compared.now.entered → IsStrictlySortedBy full_cmp f.removed.now.gone.keys → (work : Work) → IsWorkOf s.old s.update s.new work → IsSmall f.compared.now f.removed.now f.regrafted.now d work
       written_small entered gone work is = record {

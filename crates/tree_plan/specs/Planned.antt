@@ -18,8 +18,8 @@ use Rattle.tree_changes.specs.declared.plan.Change.{Change}
 use Rattle.tree_changes.specs.declared.plan.Change.TheVariants.{Put, Gone, Tree as TreeChange}
 use Rattle.tree_changes.specs.declared.plan.Plan.{Plan}
 use Rattle.tree_changes.specs.Looks.{IsPlaceOf, IsTreeRecord}
-use Rattle.tree_changes.specs.Changes.{tree_after}
-use Rattle.tree_changes.specs.Decisions.{Differs}
+use Rattle.tree_changes.specs.Changes.{entry_of, tree_after}
+use Rattle.tree_changes.specs.Decisions.{Differs, TreeDiffers, names_of}
 use Rattle.tree_changes.specs.Plans.{tree_changes, planned_world}
 
 -- the nodes whose records change
@@ -29,15 +29,18 @@ changed_nodes (Put id place given ∷ cs) = id ∷ changed_nodes cs
 changed_nodes (Gone id ∷ cs) = id ∷ changed_nodes cs
 changed_nodes (TreeChange t ∷ cs) = changed_nodes cs
 
--- What a plan of an accepted update says: its changes make the rebuilt world, one for each record that differs; the focus is the effective one
--- there; and the events are the differences. Of the first update nothing is told.
+-- What a plan of an accepted update says: its changes make the rebuilt world, and are exactly those of the records that differ, one for each;
+-- data are given only where they are others than before; the focus is the effective one there; and the events are the differences. Of the first
+-- update nothing is told.
 pub record IsPlan (w : World) (u : UpdateData) (p : Plan) : Type 0 where
   pub accepted : IsAccepted w u (planned_world w p)
   pub once : IsStrictlySortedBy full_cmp (changed_nodes p.changes.items)
-  pub changes : (id : FullNodeId) → Contains (changed_nodes p.changes.items) id → Differs w (planned_world w p) id
+  pub changes : (id : FullNodeId) → Contains (changed_nodes p.changes.items) id ↔ Differs w (planned_world w p) id
   pub places : (id : FullNodeId) (place : Option Place) (given : Option NodeData) → Contains p.changes.items (Put id place given) → IsPlaceOf (planned_world w p) id place
+  pub given : (id : FullNodeId) (place : Option Place) (d : NodeData) → Contains p.changes.items (Put id place (Some d)) → data_of w id ≢ Some d
   pub others : (id : FullNodeId) → ¬ (Contains (changed_nodes p.changes.items) id) → (data_of w id ≡ data_of (planned_world w p) id) × ((at : Place) → StandsAt w at id ↔ StandsAt (planned_world w p) at id)
   pub trees_once : AllPairs (λ a b. a.id ≢ b.id) (tree_changes p.changes.items)
+  pub trees_listed : (name : TreeId) → Contains (names_of (tree_changes p.changes.items)) name ↔ TreeDiffers w (planned_world w p) name
   pub trees : (name : TreeId) (r : Option TreeRecord) → IsTreeRecord w name r → IsTreeRecord (planned_world w p) name (tree_after (tree_changes p.changes.items) name r)
   pub focus : IsEffectiveFocus (planned_world w p) p.focus
   pub told : ¬ (IsFirst w) → AreToldBy w u (planned_world w p) p.events.items
@@ -57,10 +60,6 @@ abbrev pub plan_change : List (Option NodeData) → FullNodeId × NodeChange →
 plan_change slots (id, node.Put place (Some k)) = Put id place (slot_data slots k)
 plan_change slots (id, node.Put place None) = Put id place None
 plan_change slots (id, node.Gone) = Gone id
-
-abbrev pub entry_of : NodeChange → Option ℕ
-entry_of (node.Put place entry) = entry
-entry_of node.Gone = None
 
 -- the entry whose data the change at this index takes
 abbrev pub taken_at : List (FullNodeId × NodeChange) → ℕ → Option ℕ

@@ -81,11 +81,14 @@ pub record AreEvents (vs : Verdicts) (f : Focused) (events : List PlanEvent) : T
   pub is_move : IsMove (at vs) f.before f.after moved
   pub all : events ≡ flat_map (told_of group.Added) vs.entries ++ flat_map (told_of group.Updated) vs.entries ++ moved ++ flat_map (told_of group.Removed) vs.entries
 
+-- the record of the named tree, where it is another than before
+abbrev pub IsOwnPart : TreeRecord → TreeRecord → List TreeRecord → Type 0
+IsOwnPart before own named = ((own ≡ before) × (named ≡ [])) ⊎ ((own ≢ before) × (named ≡ own ∷ []))
+
 -- the trees that were cut off, those that were gained, and the named one where its record is another than before
 abbrev pub AreTrees : Found → TreeRecord → List TreeRecord → Type 0
 AreTrees f own trees =
-    (named : List TreeRecord) × (trees ≡ f.removed.now.trees.items ++ f.regrafted.now.trees.items ++ named)
-    × (((own ≡ f.opened.now.record) × (named ≡ [])) ⊎ (named ≡ own ∷ []))
+    (named : List TreeRecord) × (trees ≡ f.removed.now.trees.items ++ f.regrafted.now.trees.items ++ named) × IsOwnPart f.opened.now.record own named
 
 -- The lengths of lists against the numbers that bound the look-ups.
 pub record IsSmall (c : Compared) (r : Removed) (g : Regrafted) (d : Decision) (work : Work) : Type 0 where

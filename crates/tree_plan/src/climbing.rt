@@ -1,11 +1,11 @@
 //! Climbs from the parents of what moved: where they end, the nodes are reached.
-ghost use Rattle.std.specs.Prelude.{◌≡◌, ◌≢◌, ◌≤◌, ◌<◌, ◌+◌, ℕ, IfOk, IfErr, OnOk, IsTrue, Some, true, false, length, map, slice_get, ◌↔◌};
+ghost use Rattle.std.specs.Prelude.{◌≡◌, ◌≢◌, ◌<◌, ◌+◌, ℕ, IfErr, OnOk, IsTrue, Some, true, false, length, map, slice_get, ◌↔◌};
 ghost use Rattle.schema.specs.UpdateData.{update_data};
 ghost use Rattle.model.specs.declared.FullNodeId.{FullNodeId};
 ghost use Rattle.model.specs.World.{IsNode, in_tree};
 ghost use Rattle.model.specs.Work.{named_ids};
 ghost use Rattle.model.specs.Surgery.{IsOld, IsRefined, IsClimbed, AreSteps};
-ghost use Rattle.tree_changes.specs.Looks.{IsPlaceOf};
+ghost use Rattle.tree_changes.specs.Looks.{IsPlaceOf, IsRaisedUpTo};
 ghost use Rattle.tree_changes.specs.Refusals.{IsRefusal};
 ghost use Rattle.tree_plan.specs.declared.passes.Named.{Named};
 ghost use Rattle.tree_plan.specs.Passes.{at, IsOpening, IsComparison, IsSettlement};
@@ -36,7 +36,7 @@ pub(crate) fn climb_all<L: LookUps>(
     ensures err { IfErr result (λ e. IsRefusal (L.world look_ups.old) (update_data update.now) e) }
     ensures ok { OnOk result (IsClimbed (L.world look_ups.old) (update_data update.now)) }
     ensures counts { OnOk result (let w = L.world look_ups.old in let u = update_data update.now in
-        (steps : ℕ) × AreSteps w u (named_ids w u) steps × (L.asked look_ups.new ≤ L.asked look_ups.old + steps)) }
+        (steps : ℕ) × AreSteps w u (named_ids w u) steps × IsRaisedUpTo (L.asked look_ups.old) steps (L.asked look_ups.new)) }
 {
     let mut climbed = BTreeMap::new(alloc);
     for entry in 0..update.nodes.len() {
@@ -94,7 +94,7 @@ fn climb<L: LookUps>(
     ensures climbed { OnOk result (let w = L.world look_ups.old in let u = update_data update.now in
         AreClimbed w u (first_ids w u (entry + 1)) climbed.new) }
     ensures way { OnOk result (let w = L.world look_ups.old in let u = update_data update.now in
-        (steps : ℕ) × IsClimbedFrom w u entry steps × (L.asked look_ups.new ≤ L.asked look_ups.old + steps)) }
+        (steps : ℕ) × IsClimbedFrom w u entry steps × IsRaisedUpTo (L.asked look_ups.old) steps (L.asked look_ups.new)) }
 {
     let start = named_id(update, opened, entry);
     if !settled.adopters.contains(&start) {
@@ -143,7 +143,7 @@ fn parent_after<L: LookUps>(look_ups: &mut L, compared: &Compared, id: FullNodeI
     requires named { (n : Named) → at compared.now.named id ≡ Some n
         → IsOldPlace (L.world look_ups.old) id n }
     ensures world { L.world look_ups.new ≡ L.world look_ups.old }
-    ensures counts { L.asked look_ups.new ≤ L.asked look_ups.old + 1 }
+    ensures counts { IsRaisedUpTo (L.asked look_ups.old) 1 (L.asked look_ups.new) }
     ensures next { IsNext (L.world look_ups.old) compared.now id result }
 {
     if let Some(spot) = compared.entered.get(&id) {
@@ -160,7 +160,7 @@ fn old_place<L: LookUps>(look_ups: &mut L, compared: &Compared, id: FullNodeId) 
     requires named { (n : Named) → at compared.now.named id ≡ Some n
         → IsOldPlace (L.world look_ups.old) id n }
     ensures world { L.world look_ups.new ≡ L.world look_ups.old }
-    ensures counts { L.asked look_ups.new ≤ L.asked look_ups.old + 1 }
+    ensures counts { IsRaisedUpTo (L.asked look_ups.old) 1 (L.asked look_ups.new) }
     ensures place { IsPlaceOf (L.world look_ups.old) id result }
 {
     if let Some(named) = compared.named.get(&id) {

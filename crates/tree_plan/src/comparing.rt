@@ -1,8 +1,9 @@
 //! The named nodes against their old records.
-ghost use Rattle.std.specs.Prelude.{◌≡◌, ◌≢◌, ℕ, ◌+◌, ◌<◌, ◌≤◌, ◌↔◌, IsTrue, IsSome, IfOk, IfErr, OnOk, Some, None, length, map, option_map, slice_get};
+ghost use Rattle.std.specs.Prelude.{◌≡◌, ◌≢◌, ◌<◌, ◌↔◌, IsTrue, IfOk, IfErr, OnOk, Some, None, length, map, slice_get};
 ghost use Rattle.schema.specs.UpdateData.{update_data};
-ghost use Rattle.model.specs.World.{in_tree, listed_ids, data_of, graft_name};
+ghost use Rattle.model.specs.World.{in_tree};
 ghost use Rattle.model.specs.Surgery.{IsOld};
+ghost use Rattle.tree_changes.specs.Looks.{IsRaisedBy};
 ghost use Rattle.tree_changes.specs.declared.error.UpdateError.TheVariants.{Memory};
 ghost use Rattle.tree_changes.specs.Refusals.{IsRefusal};
 ghost use Rattle.tree_plan.specs.Passes.{at, at_name, IsOpening, IsComparison};
@@ -210,7 +211,7 @@ impl Compared {
         node: &Node,
     ) -> Result<(), UpdateError>
         ensures world { L.world look_ups.new ≡ L.world look_ups.old }
-        ensures count { L.asked look_ups.new ≤ L.asked look_ups.old + 1 }
+        ensures count { OnOk result (IsRaisedBy (L.asked look_ups.old) 1 (L.asked look_ups.new)) }
         ensures ok { OnOk result
             (ComparesNode (L.world look_ups.old) id entry node.now self.old self.new) }
         ensures err { IfErr result (λ e.
@@ -268,7 +269,7 @@ pub(crate) fn compare<L: LookUps>(
     requires opened { IsOpening (L.world look_ups.old) (update_data update.now) opened.now }
     ensures world { L.world look_ups.new ≡ L.world look_ups.old }
     ensures count { OnOk result
-        (L.asked look_ups.new ≤ L.asked look_ups.old + length update.now.nodes.items) }
+        (IsRaisedBy (L.asked look_ups.old) (length update.now.nodes.items) (L.asked look_ups.new)) }
     ensures ok { IfOk result (λ c. IsComparison (L.world look_ups.old) (update_data update.now) c) }
     ensures err { IfErr result (λ e. IsRefusal (L.world look_ups.old) (update_data update.now) e) }
 {

@@ -1,9 +1,10 @@
 //! The decision on an update, pass by pass.
-ghost use Rattle.std.specs.Prelude.{◌≡◌, ◌≤◌, ◌+◌, ◌*◌, length, IfOk, IfErr, OnOk};
+ghost use Rattle.std.specs.Prelude.{◌≡◌, ◌+◌, ◌-◌, ◌*◌, length, IfOk, IfErr, OnOk};
 ghost use Rattle.schema.specs.UpdateData.{update_data};
 ghost use Rattle.model.specs.Update.{IsRebuild, KeepsRules, merged_world};
 ghost use Rattle.model.specs.Work.{Work, IsWorkOf};
 ghost use Rattle.model.specs.Surgery.{IsOld};
+ghost use Rattle.tree_changes.specs.Looks.{IsRaisedAtLeast, IsRaisedUpTo};
 ghost use Rattle.tree_changes.specs.Changes.{overlaid_world};
 ghost use Rattle.tree_changes.specs.Decisions.{IsDecision, IsWithinWork};
 ghost use Rattle.tree_changes.specs.Refusals.{IsRefusal};
@@ -65,12 +66,13 @@ fn find<L: LookUps>(
     })
 }
 
-/// The decision, by what was found and the focus.
+/// The decision, by what was found and the focus, where so many records were looked up before.
 fn conclude<L: LookUps>(
     alloc: Global,
     look_ups: &mut L,
     update: &TreeUpdate,
     findings: &Findings,
+    before: u128,
 ) -> Result<Decision, UpdateError>
     ghost step: { Step }
     requires old { step.old ≡ L.world look_ups.old }
@@ -84,8 +86,9 @@ fn conclude<L: LookUps>(
     ensures new { IfOk result (λ d. overlaid_world step.old step.update d ≡ step.new) }
     ensures small { IfOk result (λ d. (work : Work) → IsWorkOf step.old step.update step.new work
         → IsSmall findings.now.compared findings.now.removed findings.now.regrafted d work) }
-    ensures count { OnOk result (L.asked look_ups.new
-        ≤ L.asked look_ups.old + 4 * length (merged_world step.old step.update).known + 2) }
+    ensures looked { IfOk result (λ d. d.looked ≡ L.asked look_ups.new - before) }
+    ensures count { OnOk result (let most = 4 * length (merged_world step.old step.update).known + 2 in
+        IsRaisedUpTo (L.asked look_ups.old) most (L.asked look_ups.new)) }
 {
     let Findings {
         opened,
@@ -102,10 +105,12 @@ fn conclude<L: LookUps>(
         regrafted,
         told,
     };
-    write(alloc, update, found, &focused)
+    let looked = look_ups.count().saturating_sub(before);
+    write(alloc, update, found, &focused, looked)
 }
 
-/// The decision on an update: a refusal names a fault that stands, or it is want of memory.
+/// The decision on an update: a refusal names a fault that stands, or it is want of memory. At least one record is looked up
+/// for each node that the update names.
 pub fn decide<L: LookUps>(
     alloc: Global,
     look_ups: &mut L,
@@ -117,7 +122,11 @@ pub fn decide<L: LookUps>(
     ensures ok { IfOk result (IsDecision (L.world look_ups.old) (update_data update.now)) }
     ensures work { IfOk result (λ d.
         IsWithinWork (L.world look_ups.old) (update_data update.now) d (L.asked look_ups.old) (L.asked look_ups.new)) }
+    ensures looked { IfOk result (λ d. d.looked ≡ L.asked look_ups.new - L.asked look_ups.old) }
+    ensures named { OnOk result
+        (IsRaisedAtLeast (L.asked look_ups.old) (length update.now.nodes.items) (L.asked look_ups.new)) }
 {
+    let before = look_ups.count();
     let findings = find(alloc, look_ups, update)?;
-    conclude(alloc, look_ups, update, &findings)
+    conclude(alloc, look_ups, update, &findings, before)
 }

@@ -1,5 +1,5 @@
 //! Where the focus is, before and after.
-ghost use Rattle.std.specs.Prelude.{◌≡◌, ◌≢◌, ◌≤◌, ◌<◌, ◌+◌, ◌*◌, ◌↔◌, IfOk, IfErr, IsTrue, IsSome, MatchOption, None, Some, length, true, false};
+ghost use Rattle.std.specs.Prelude.{◌≡◌, ◌<◌, ◌+◌, ◌*◌, ◌↔◌, IfOk, IfErr, IsTrue, IsSome, MatchOption, None, Some, length, true, false};
 ghost use Rattle.std.specs.FinMap.{get};
 ghost use Rattle.std.specs.Option.{option_map};
 ghost use Rattle.schema.specs.UpdateData.{update_data};
@@ -8,6 +8,7 @@ ghost use Rattle.model.specs.Focus.{IsFocus};
 ghost use Rattle.model.specs.Update.{IsFirst, KeepsRules, merged_world};
 ghost use Rattle.model.specs.Surgery.{IsOld, IsPassed};
 ghost use Rattle.schema.specs.NodeData.{NodeData};
+ghost use Rattle.tree_changes.specs.Looks.{IsRaisedUpTo};
 ghost use Rattle.tree_changes.specs.Changes.{entry_data};
 ghost use Rattle.tree_changes.specs.Refusals.{IsRefusal};
 ghost use Rattle.tree_plan.specs.Passes.{IsOpening, IsComparison, IsRemoval, IsFocusing};
@@ -53,7 +54,7 @@ pub(crate) fn find_focus<L: LookUps>(
     ensures keeps { IfOk result (λ f. KeepsRules (L.world look_ups.old) (update_data update.now)) }
     ensures ends { IfOk result (λ f. EndsWell (merged_world (L.world look_ups.old) (update_data update.now)) f.effective) }
     ensures counts { IfOk result (λ f. let m = merged_world (L.world look_ups.old) (update_data update.now) in
-        L.asked look_ups.new ≤ L.asked look_ups.old + 4 * length m.known + 2) }
+        IsRaisedUpTo (L.asked look_ups.old) (4 * length m.known + 2) (L.asked look_ups.new)) }
 {
     let before = focus_before(look_ups, opened);
     let end = end_after(look_ups, update, opened, compared, removed)?;
@@ -71,7 +72,7 @@ fn focus_before<L: LookUps>(look_ups: &mut L, opened: &Opened) -> Option<FullNod
     requires first { IsTrue opened.now.is_first ↔ IsFirst (L.world look_ups.old) }
     requires present { ¬ (IsFirst (L.world look_ups.old)) → IsSome (get (L.world look_ups.old).trees 0) }
     ensures world { L.world look_ups.new ≡ L.world look_ups.old }
-    ensures counts { L.asked look_ups.new ≤ L.asked look_ups.old + 2 * length (L.world look_ups.old).known + 1 }
+    ensures counts { IsRaisedUpTo (L.asked look_ups.old) (2 * length (L.world look_ups.old).known + 1) (L.asked look_ups.new) }
     ensures focus { ¬ (IsFirst (L.world look_ups.old)) → IsFocus (L.world look_ups.old) result }
 {
     if opened.is_first {
@@ -89,7 +90,7 @@ fn end_before<L: LookUps>(look_ups: &mut L) -> End
     requires old { IsOld (L.world look_ups.old) }
     requires present { IsSome (get (L.world look_ups.old).trees 0) }
     ensures world { L.world look_ups.new ≡ L.world look_ups.old }
-    ensures counts { L.asked look_ups.new ≤ L.asked look_ups.old + 2 * length (L.world look_ups.old).known }
+    ensures counts { IsRaisedUpTo (L.asked look_ups.old) (2 * length (L.world look_ups.old).known) (L.asked look_ups.new) }
     ensures end { IsEnd (L.world look_ups.old) result }
 {
     let mut id = declared(look_ups, &TreeId::root()).unwrap();
@@ -106,7 +107,7 @@ fn end_before<L: LookUps>(look_ups: &mut L) -> End
 /// The active descendant where it was there, and else the node itself.
 fn active_before<L: LookUps>(look_ups: &mut L, end: &End) -> FullNodeId
     ensures world { L.world look_ups.new ≡ L.world look_ups.old }
-    ensures counts { L.asked look_ups.new ≤ L.asked look_ups.old + 1 }
+    ensures counts { IsRaisedUpTo (L.asked look_ups.old) 1 (L.asked look_ups.new) }
     ensures answer { Answers (λ a. IsNode (L.world look_ups.old) a) end.now result }
 {
     let Some(active) = end.active else {
@@ -126,7 +127,7 @@ fn focus_after<L: LookUps>(
     end: &End,
 ) -> Option<FullNodeId>
     ensures world { L.world look_ups.new ≡ L.world look_ups.old }
-    ensures counts { L.asked look_ups.new ≤ L.asked look_ups.old + 1 }
+    ensures counts { IsRaisedUpTo (L.asked look_ups.old) 1 (L.asked look_ups.new) }
     ensures focus { let w = L.world look_ups.old in
         AnswersHost w (Stays w compared.now removed.now) end.now result }
 {
@@ -144,7 +145,7 @@ fn active_after<L: LookUps>(
     end: &End,
 ) -> FullNodeId
     ensures world { L.world look_ups.new ≡ L.world look_ups.old }
-    ensures counts { L.asked look_ups.new ≤ L.asked look_ups.old + 1 }
+    ensures counts { IsRaisedUpTo (L.asked look_ups.old) 1 (L.asked look_ups.new) }
     ensures answer { Answers (Stays (L.world look_ups.old) compared.now removed.now) end.now result }
 {
     let Some(active) = end.active else {
@@ -164,7 +165,7 @@ fn stays<L: LookUps>(
     id: FullNodeId,
 ) -> bool
     ensures world { L.world look_ups.new ≡ L.world look_ups.old }
-    ensures counts { L.asked look_ups.new ≤ L.asked look_ups.old + 1 }
+    ensures counts { IsRaisedUpTo (L.asked look_ups.old) 1 (L.asked look_ups.new) }
     ensures stays { IsTrue result ↔ Stays (L.world look_ups.old) compared.now removed.now id }
 {
     if compared.named.contains_key(&id) {
@@ -194,7 +195,7 @@ fn end_after<L: LookUps>(
     ensures end { IfOk result (λ e. IsEnd (merged_world (L.world look_ups.old) (update_data update.now)) e) }
     ensures reached { IfOk result (λ e. Reached (merged_world (L.world look_ups.old) (update_data update.now)) e.id) }
     ensures counts { IfOk result (λ e. let m = merged_world (L.world look_ups.old) (update_data update.now) in
-        L.asked look_ups.new ≤ L.asked look_ups.old + 2 * length m.known) }
+        IsRaisedUpTo (L.asked look_ups.old) (2 * length m.known) (L.asked look_ups.new)) }
 {
     let limit = u64::from(look_ups.known_trees()) + 1;
     let mut id = declared_after(look_ups, update, opened, &TreeId::root()).unwrap();
@@ -225,7 +226,7 @@ fn aim_after<L: LookUps>(
     requires comparison { IsComparison (L.world look_ups.old) (update_data update.now) compared.now }
     requires removal { IsRemoval (L.world look_ups.old) (update_data update.now) removed.now }
     ensures world { L.world look_ups.new ≡ L.world look_ups.old }
-    ensures counts { L.asked look_ups.new ≤ L.asked look_ups.old + 1 }
+    ensures counts { IsRaisedUpTo (L.asked look_ups.old) 1 (L.asked look_ups.new) }
     ensures aim { FindsAim (L.world look_ups.old) (update_data update.now) compared.now removed.now id result }
 {
     if let Some(named) = compared.named.get(&id) {
@@ -248,7 +249,7 @@ fn entry_aim(update: &TreeUpdate, entry: usize) -> Aim
 /// What is asked of an old node.
 fn old_aim<L: LookUps>(look_ups: &mut L, id: FullNodeId) -> Option<Aim>
     ensures world { L.world look_ups.new ≡ L.world look_ups.old }
-    ensures counts { L.asked look_ups.new ≤ L.asked look_ups.old + 1 }
+    ensures counts { IsRaisedUpTo (L.asked look_ups.old) 1 (L.asked look_ups.new) }
     ensures aim { let w = L.world look_ups.old in MatchOption result (¬ (IsNode w id)) (λ aim. IsAimIn w id aim) }
 {
     let record = look_ups.node(id)?;
@@ -285,7 +286,7 @@ fn declared_after<L: LookUps>(
     requires old { IsOld (L.world look_ups.old) }
     requires opening { IsOpening (L.world look_ups.old) (update_data update.now) opened.now }
     ensures world { L.world look_ups.new ≡ L.world look_ups.old }
-    ensures counts { L.asked look_ups.new ≤ L.asked look_ups.old + 1 }
+    ensures counts { IsRaisedUpTo (L.asked look_ups.old) 1 (L.asked look_ups.new) }
     ensures focus { result ≡ focus_named (merged_world (L.world look_ups.old) (update_data update.now)) name.now }
 {
     if is_same(name, &update.tree_id) {
@@ -300,7 +301,7 @@ fn declared_after<L: LookUps>(
 /// The declared focus of a tree, where it is present.
 fn declared<L: LookUps>(look_ups: &mut L, name: &TreeId) -> Option<FullNodeId>
     ensures world { L.world look_ups.new ≡ L.world look_ups.old }
-    ensures counts { L.asked look_ups.new ≤ L.asked look_ups.old + 1 }
+    ensures counts { IsRaisedUpTo (L.asked look_ups.old) 1 (L.asked look_ups.new) }
     ensures focus { result ≡ focus_named (L.world look_ups.old) name.now }
 {
     let found = tree_record(look_ups, name);

@@ -1,10 +1,11 @@
 //! The tree that an update names, before and after.
-ghost use Rattle.std.specs.Prelude.{◌≡◌, ◌≢◌, ◌+◌, ◌-◌, ◌^◌, ◌<◌, ◌≤◌, ◌↔◌, IsTrue, IfOk, IfErr, OnOk, Some, None, length, option_map, unwrap_or, ◌⊎◌};
+ghost use Rattle.std.specs.Prelude.{◌≡◌, ◌≢◌, ◌-◌, ◌^◌, ◌<◌, ◌≤◌, ◌↔◌, IsTrue, IfOk, IfErr, OnOk, Some, None, option_map, unwrap_or, ◌⊎◌};
 ghost use Rattle.std.specs.Option.{option_map_or};
 ghost use Rattle.schema.specs.UpdateData.{info_data, update_data};
 ghost use Rattle.model.specs.World.{ROOT_NAME};
 ghost use Rattle.model.specs.Surgery.{IsOld};
 ghost use Rattle.model.specs.Update.{IsFirst};
+ghost use Rattle.tree_changes.specs.Looks.{IsRaisedUpTo};
 ghost use Rattle.tree_changes.specs.declared.error.UpdateError.TheVariants.{MissingTreeInfo, NotRootTree, NoFirstTreeInfo, IndexesUsedUp};
 ghost use Rattle.tree_changes.specs.Refusals.{IsRefusal};
 ghost use Rattle.tree_plan.specs.Passes.{IsOpening};
@@ -74,7 +75,7 @@ fn first_root(update: &TreeUpdate) -> Result<NodeId, UpdateError>
 fn open_later<L: LookUps>(look_ups: &mut L, update: &TreeUpdate) -> Result<Opened, UpdateError>
     requires { ¬ (IsFirst (L.world look_ups.old)) }
     ensures world { L.world look_ups.new ≡ L.world look_ups.old }
-    ensures count { L.asked look_ups.new ≤ L.asked look_ups.old + 1 }
+    ensures count { IsRaisedUpTo (L.asked look_ups.old) 1 (L.asked look_ups.new) }
     ensures ok { IfOk result (λ o. IsOpening (L.world look_ups.old) (update_data update.now) o) }
     ensures err { IfErr result (λ e. IsRefusal (L.world look_ups.old) (update_data update.now) e) }
 {
@@ -101,7 +102,7 @@ pub(crate) fn open_tree<L: LookUps>(
     update: &TreeUpdate,
 ) -> Result<Opened, UpdateError>
     ensures world { L.world look_ups.new ≡ L.world look_ups.old }
-    ensures count { L.asked look_ups.new ≤ L.asked look_ups.old + 1 }
+    ensures count { IsRaisedUpTo (L.asked look_ups.old) 1 (L.asked look_ups.new) }
     ensures old { IsOld (L.world look_ups.old) }
     ensures ok { IfOk result (λ o. IsOpening (L.world look_ups.old) (update_data update.now) o) }
     ensures err { IfErr result (λ e. IsRefusal (L.world look_ups.old) (update_data update.now) e) }

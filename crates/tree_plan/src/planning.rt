@@ -4,8 +4,9 @@ ghost use Rattle.schema.specs.UpdateData.{info_data, update_data};
 ghost use Rattle.tree_changes.specs.declared.error.UpdateError.TheVariants.{Memory};
 ghost use Rattle.tree_changes.specs.declared.plan.Change.TheVariants.{Tree};
 ghost use Rattle.tree_changes.specs.Refusals.{IsRefusal};
+ghost use Rattle.tree_changes.specs.Changes.{entry_of};
 ghost use Rattle.tree_changes.specs.Plans.{replaced_texts};
-ghost use Rattle.tree_plan.specs.Planned.{IsPlan, IsPlannedWithin, plan_change, entry_of, AreTakenOnce, slot_data, replaces};
+ghost use Rattle.tree_plan.specs.Planned.{IsPlan, IsPlannedWithin, plan_change, AreTakenOnce, slot_data, replaces};
 
 use crate::deciding::decide;
 use crate::opening::is_root_tree;

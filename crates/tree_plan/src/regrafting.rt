@@ -4,7 +4,7 @@ ghost use Rattle.schema.specs.UpdateData.{update_data};
 ghost use Rattle.tree_changes.specs.declared.error.UpdateError.TheVariants.{Memory, GraftedTwice};
 ghost use Rattle.model.specs.Surgery.{IsOld, IsClimbed};
 ghost use Rattle.tree_changes.specs.Refusals.{IsRefusal};
-ghost use Rattle.tree_changes.specs.Looks.{raised_count};
+ghost use Rattle.tree_changes.specs.Looks.{raised_count, IsRaisedUpTo};
 ghost use Rattle.tree_plan.specs.Passes.{at, at_name, has, IsComparison, IsRemoval, IsRegrafting};
 ghost use Rattle.tree_plan.specs.Regrafts.{HasRival, HasNoRival, MovesIn, PutsRoot, grafted_record};
 
@@ -41,7 +41,8 @@ pub(crate) fn regraft<L: LookUps>(
     ensures err { IfErr result (λ e. IsRefusal (L.world look_ups.old) (update_data _update.now) e) }
     ensures ok { IfOk result (λ r. IsRegrafting (L.world look_ups.old) (update_data _update.now) r.trees.items r.moved_in) }
     ensures trees { IfOk result (λ r. length r.trees.items ≤ length compared.now.gained.items) }
-    ensures counts { IfOk result (λ r. L.asked look_ups.new ≤ L.asked look_ups.old + length compared.now.gained.items) }
+    ensures counts { OnOk result
+        (IsRaisedUpTo (L.asked look_ups.old) (length compared.now.gained.items) (L.asked look_ups.new)) }
 {
     let mut regrafted = Regrafted {
         trees: Vec::new(alloc),

@@ -6,6 +6,7 @@ ghost use Rattle.schema.specs.UpdateData.{UpdateData, update_data};
 ghost use Rattle.model.specs.World.{World, in_tree, graft_name};
 ghost use Rattle.model.specs.Update.{IsNamed};
 ghost use Rattle.model.specs.Surgery.{IsOld, HasEntered, Gone, IsSettled};
+ghost use Rattle.tree_changes.specs.Looks.{IsRaisedUpTo};
 ghost use Rattle.tree_changes.specs.Refusals.{IsRefusal};
 ghost use Rattle.tree_changes.specs.declared.look_ups.TreeRecord.{TreeRecord};
 ghost use Rattle.tree_plan.specs.Passes.{IsComparison, IsRemoval, Loses};
@@ -111,7 +112,7 @@ fn drop_tree<L: LookUps>(
         × (Gone setting.0 setting.1 g ⊎ IsNamed setting.0 setting.1 g) }
     requires fresh { (t : TreeRecord) → Contains removing.old.trees.items t → t.id ≢ name.now }
     ensures world { L.world look_ups.new ≡ L.world look_ups.old }
-    ensures count { L.asked look_ups.new ≤ L.asked look_ups.old + 1 }
+    ensures count { IsRaisedUpTo (L.asked look_ups.old) 1 (L.asked look_ups.new) }
     ensures ok { OnOk result (Drops setting.0 setting.1 name.now removing.old removing.new) }
     ensures err { IfErr result (λ e. IsRefusal setting.0 setting.1 e) }
 {
@@ -140,7 +141,7 @@ fn expand<L: LookUps>(
     requires fresh { (t : TreeRecord) → Contains removing.old.trees.items t
         → graft_name setting.0 id ≢ Some t.id }
     ensures world { L.world look_ups.new ≡ L.world look_ups.old }
-    ensures count { L.asked look_ups.new ≤ L.asked look_ups.old + 2 }
+    ensures count { IsRaisedUpTo (L.asked look_ups.old) 2 (L.asked look_ups.new) }
     ensures ok { OnOk result (Expands setting.0 setting.1 id removing.old removing.new) }
     ensures err { IfErr result (λ e. IsRefusal setting.0 setting.1 e) }
 {
@@ -179,7 +180,7 @@ fn drop_lost<L: LookUps>(
     requires so_far { IsRemoving setting.0 setting.1 compared.now removing.old }
     requires none { removing.old.trees.items ≡ [] }
     ensures world { L.world look_ups.new ≡ L.world look_ups.old }
-    ensures count { L.asked look_ups.new ≤ L.asked look_ups.old + length compared.now.lost.items }
+    ensures count { IsRaisedUpTo (L.asked look_ups.old) (length compared.now.lost.items) (L.asked look_ups.new) }
     ensures ok { OnOk result
         (DropsLost setting.0 setting.1 compared.now removing.old removing.new) }
     ensures err { IfErr result (λ e. IsRefusal setting.0 setting.1 e) }
@@ -203,7 +204,7 @@ fn follow<L: LookUps>(
         → Loses setting.0 setting.1 t.id }
     ensures world { L.world look_ups.new ≡ L.world look_ups.old }
     ensures count { OnOk result
-        (L.asked look_ups.new ≤ L.asked look_ups.old + 2 * length removing.new.queue.items) }
+        (IsRaisedUpTo (L.asked look_ups.old) (2 * length removing.new.queue.items) (L.asked look_ups.new)) }
     ensures ok { OnOk result (Follows setting.0 setting.1 removing.old removing.new) }
     ensures err { IfErr result (λ e. IsRefusal setting.0 setting.1 e) }
 {
@@ -217,11 +218,11 @@ fn follow<L: LookUps>(
     Ok(())
 }
 
-/// Finds all that goes.
+/// Finds all that goes. `_update` is there for the contract alone: a caller makes the `setting` of it.
 fn find_all<L: LookUps>(
     removing: &mut Removing,
     look_ups: &mut L,
-    update: &TreeUpdate,
+    _update: &TreeUpdate,
     compared: &Compared,
 ) -> Result<(), UpdateError>
     ghost setting: { World × UpdateData }
@@ -229,8 +230,9 @@ fn find_all<L: LookUps>(
     requires so_far { IsRemoving setting.0 setting.1 compared.now removing.old }
     requires none { removing.old.trees.items ≡ [] }
     ensures world { L.world look_ups.new ≡ L.world look_ups.old }
-    ensures count { OnOk result (L.asked look_ups.new
-        ≤ L.asked look_ups.old + (2 * length removing.new.queue.items + length compared.now.lost.items)) }
+    ensures count { OnOk result
+        (let most = 2 * length removing.new.queue.items + length compared.now.lost.items in
+        IsRaisedUpTo (L.asked look_ups.old) most (L.asked look_ups.new)) }
     ensures ok { OnOk result (IsWorkedOff setting.0 setting.1 compared.now removing.new) }
     ensures err { IfErr result (λ e. IsRefusal setting.0 setting.1 e) }
 {
@@ -251,8 +253,9 @@ pub(crate) fn remove<L: LookUps>(
     requires settled { IsSettled (L.world look_ups.old) (update_data update.now) }
     ensures world { L.world look_ups.new ≡ L.world look_ups.old }
     ensures ok { IfOk result (IsRemoval (L.world look_ups.old) (update_data update.now)) }
-    ensures count { IfOk result (λ r. L.asked look_ups.new
-        ≤ L.asked look_ups.old + (2 * btree_set_len r.gone + length compared.now.lost.items)) }
+    ensures count { IfOk result
+        (λ r. let most = 2 * btree_set_len r.gone + length compared.now.lost.items in
+        IsRaisedUpTo (L.asked look_ups.old) most (L.asked look_ups.new)) }
     ensures trees { IfOk result
         (λ r. length r.trees.items ≤ btree_set_len r.gone + length compared.now.lost.items) }
     ensures err { IfErr result (λ e. IsRefusal (L.world look_ups.old) (update_data update.now) e) }

@@ -1,9 +1,10 @@
 //! Where those that entered stood before.
-ghost use Rattle.std.specs.Prelude.{◌≡◌, ℕ, ◌+◌, ◌≤◌, ◌↔◌, length, IsTrue, Some, OnOk, IfOk, IfErr};
+ghost use Rattle.std.specs.Prelude.{◌≡◌, ℕ, ◌↔◌, length, IsTrue, Some, OnOk, IfOk, IfErr};
 ghost use Rattle.schema.specs.UpdateData.{update_data};
 ghost use Rattle.model.specs.World.{IsNode, in_tree};
 ghost use Rattle.model.specs.Surgery.{IsOld, Entered};
 ghost use Rattle.model.specs.Update.{merged_world};
+ghost use Rattle.tree_changes.specs.Looks.{IsRaisedUpTo};
 ghost use Rattle.tree_changes.specs.Refusals.{IsRefusal};
 ghost use Rattle.tree_changes.specs.declared.error.UpdateError.TheVariants.{Memory};
 ghost use Rattle.tree_plan.specs.Passes.{IsOpening, IsComparison, IsSettlement};
@@ -38,7 +39,7 @@ fn find_old_place<L: LookUps>(
     requires compared { IsComparison (L.world look_ups.old) (update_data update.now) compared.now }
     requires comes { Comes (L.world look_ups.old) (update_data update.now) id }
     ensures world { L.world look_ups.new ≡ L.world look_ups.old }
-    ensures count { L.asked look_ups.new ≤ L.asked look_ups.old + 1 }
+    ensures count { IsRaisedUpTo (L.asked look_ups.old) 1 (L.asked look_ups.new) }
     ensures ok { IfOk result (StoodAt (L.world look_ups.old) id) }
     ensures there { OnOk result
         (IsNode (merged_world (L.world look_ups.old) (update_data update.now)) id) }
@@ -114,7 +115,7 @@ fn settle_one<L: LookUps>(
     requires entered { Entered (L.world look_ups.old) (update_data update.now) spot id }
     requires so_far { IsSettledSoFar (L.world look_ups.old) (update_data update.now) settled.old }
     ensures world { L.world look_ups.new ≡ L.world look_ups.old }
-    ensures count { L.asked look_ups.new ≤ L.asked look_ups.old + 1 }
+    ensures count { IsRaisedUpTo (L.asked look_ups.old) 1 (L.asked look_ups.new) }
     ensures ok { OnOk result (SettlesOne (L.world look_ups.old) (update_data update.now) id spot
         settled.old settled.new) }
     ensures err { IfErr result (λ e. IsRefusal (L.world look_ups.old) (update_data update.now) e) }
@@ -145,7 +146,7 @@ pub(crate) fn settle<L: LookUps>(
     ensures world { L.world look_ups.new ≡ L.world look_ups.old }
     ensures ok { IfOk result (IsSettlement (L.world look_ups.old) (update_data update.now)) }
     ensures count { OnOk result
-        (L.asked look_ups.new ≤ L.asked look_ups.old + length compared.now.entered.entries) }
+        (IsRaisedUpTo (L.asked look_ups.old) (length compared.now.entered.entries) (L.asked look_ups.new)) }
     ensures err { IfErr result (λ e. IsRefusal (L.world look_ups.old) (update_data update.now) e) }
 {
     let mut settled = Settled {

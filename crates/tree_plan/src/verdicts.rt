@@ -1,10 +1,10 @@
 //! What an update makes of the nodes that it touches.
-ghost use Rattle.std.specs.Prelude.{◌≡◌, ◌≢◌, ◌↔◌, ◌∷◌, [], option_map, IfOk, IfErr, OnOk, IsTrue, Some, None, Contains, true, false};
+ghost use Rattle.std.specs.Prelude.{◌≡◌, ◌↔◌, ◌∷◌, [], option_map, IfOk, IfErr, OnOk, IsTrue, Some, None, false};
 ghost use Rattle.std.specs.BTreeMap.{keys, IsOrdered};
 ghost use Rattle.std.specs.List.Sorted.{IsStrictlySortedBy};
 ghost use Rattle.model.specs.FullIds.{full_cmp};
 ghost use Rattle.model.specs.declared.FullNodeId.{FullNodeId};
-ghost use Rattle.model.specs.World.{IsNode, data_of, at_most_one};
+ghost use Rattle.model.specs.World.{data_of, at_most_one};
 ghost use Rattle.model.specs.Surgery.{Gone};
 ghost use Rattle.tree_changes.specs.declared.error.UpdateError.TheVariants.{Memory};
 

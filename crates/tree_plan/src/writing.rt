@@ -1,5 +1,5 @@
 //! The decision, from what the passes found.
-ghost use Rattle.std.specs.Prelude.{◌≡◌, ◌≢◌, ◌++◌, ◌∷◌, [], List, IfOk, IfErr, OnOk, IsTrue, ◌↔◌, Some, None, map, option_to_list, if◌then◌else◌};
+ghost use Rattle.std.specs.Prelude.{◌≡◌, ◌++◌, [], List, IfOk, IfErr, OnOk, IsTrue, ◌↔◌, Some, None, option_to_list, if◌then◌else◌};
 ghost use Rattle.std.specs.List.{flat_map};
 ghost use Rattle.std.specs.BTreeMap.{IsOrdered};
 ghost use Rattle.schema.specs.UpdateData.{update_data};
@@ -247,12 +247,13 @@ pub(crate) fn told_root(opened: &Opened, update: &TreeUpdate) -> Option<FullNode
     })
 }
 
-/// The decision on an accepted update.
+/// The decision on an accepted update, for which so many records were looked up.
 pub(crate) fn write(
     alloc: Global,
     update: &TreeUpdate,
     found: Found,
     focused: &Focused,
+    looked: u128,
 ) -> Result<Decision, UpdateError>
     ghost step: { Step }
     requires update { step.update ≡ update_data update.now }
@@ -260,6 +261,7 @@ pub(crate) fn write(
     requires focusing { IsFocusing step.old step.update focused.now }
     ensures ok { IfOk result (IsDecision step.old step.update) }
     ensures new { IfOk result (λ d. overlaid_world step.old step.update d ≡ step.new) }
+    ensures looked { IfOk result (λ d. d.looked ≡ looked) }
     ensures small { IfOk result (λ d.
         (work : Work) → IsWorkOf step.old step.update step.new work → IsSmall found.entry.compared.now found.entry.removed.now found.entry.regrafted.now d work) }
     ensures err { IfErr result (λ e. e ≡ Memory) }
@@ -274,5 +276,6 @@ pub(crate) fn write(
         trees,
         events,
         focus: focused.effective,
+        looked,
     })
 }

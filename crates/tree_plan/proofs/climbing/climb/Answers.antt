@@ -19,7 +19,7 @@ returns-then-not-contains-clause-way g c =
     let q = c.requires in
     let start = c.named_id-start.result in
     let first : IsStart w u c.args.entry start = starts_at w u q.old c.args.opened.now c.args.compared.now c.args.settled.now q.opening q.comparison q.settlement q.refined c.args.entry start c.named_id-start.ensures in
-    (0, record { start = start; at = first.at; reached = λ adopts. let is = (q.settlement.adopters start).1 adopts in let no = c.if-not-contains.ensures in cc; way = (start, here start, inr refl) }, omega arith)
+    (0, record { start = start; at = first.at; reached = λ adopts. let is = (q.settlement.adopters start).1 adopts in let no = c.if-not-contains.ensures in cc; way = (start, here start, inr refl) }, (omega arith, omega arith))
 
 pub up-init : goal.up-init
 up-init g c =
@@ -32,7 +32,7 @@ up-init g c =
     record {
       world = refl;
       others = λ n x is. inr (q.before.reached n x is, q.before.begun n x is);
-      climb = (0, begins w u q.old c.args.opened.now c.args.compared.now c.args.settled.now q.opening q.comparison q.settlement q.refined starts start c.args.climbed.now q.before first.new first.named, omega arith);
+      climb = (0, begins w u q.old c.args.opened.now c.args.compared.now c.args.settled.now q.opening q.comparison q.settlement q.refined starts start c.args.climbed.now q.before first.new first.named, (omega arith, omega arith));
       found = named_spotted w u q.old q.refined start first.named (cases_some (data_of w start));
     }
 
@@ -134,7 +134,7 @@ up-preserved g c =
     record {
       world = c.parent_after-id.ensures.world ∙ c.up.invariant.world;
       others = others_step w u q.old c.args.opened.now c.args.compared.now c.args.settled.now q.opening q.comparison q.settlement q.refined starts start id c.up.climbed c.insert.new.self put c.up.invariant.others;
-      climb = (climb.0 + 1, step w u q.old c.args.opened.now c.args.compared.now c.args.settled.now q.opening q.comparison q.settlement q.refined start id c.parent_after-id.result up.0 climb.0 c.up.climbed c.insert.new.self put climb.1 up.1 up.2, omega (arith, c.parent_after-id.ensures.counts, climb.2));
+      climb = (climb.0 + 1, step w u q.old c.args.opened.now c.args.compared.now c.args.settled.now q.opening q.comparison q.settlement q.refined start id c.parent_after-id.result up.0 climb.0 c.up.climbed c.insert.new.self put climb.1 up.1 up.2, (omega (arith, c.parent_after-id.ensures.counts.0, climb.2.0), omega (arith, c.parent_after-id.ensures.counts.1, climb.2.1)));
       found = up.3;
     }
 

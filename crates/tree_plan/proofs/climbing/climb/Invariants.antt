@@ -1,9 +1,10 @@
-use Rattle.std.proofs.Common.{◌≡◌, ◌≤◌, ◌+◌, ◌-◌, ℕ, length, take}
+use Rattle.std.proofs.Common.{◌≡◌, ◌-◌, ℕ, length, take}
 use Rattle.schema.specs.UpdateData.{update_data}
 use Rattle.model.specs.Update.{merged_world}
 use Rattle.model.specs.Work.{named_ids}
 use Rattle.model.specs.Surgery.{IsClimb}
 use Rattle.model.proofs.Update.AcceptedOrFault.{keys}
+use Rattle.tree_changes.specs.Looks.{IsRaisedUpTo}
 use Rattle.tree_plan.proofs.Ascents.{AreOthers, IsMarked, IsFound}
 use Rattle.tree_plan.proofs.climbing.climb.Given as goal
 
@@ -11,7 +12,7 @@ abbrev pub invariant-up : goal.invariant-up
 invariant-up g l = record {
   world : g.L.LookUps.world l.look_ups ≡ g.L.LookUps.world l.fn.look_ups;
   others : AreOthers (g.L.LookUps.world l.fn.look_ups) (update_data l.update) (take l.entry (named_ids (g.L.LookUps.world l.fn.look_ups) (update_data l.update))) l.start l.climbed;
-  climb : (steps : ℕ) × IsClimb (g.L.LookUps.world l.fn.look_ups) (update_data l.update) l.start (IsMarked l.start l.climbed) l.id steps × (g.L.LookUps.asked l.look_ups ≤ g.L.LookUps.asked l.fn.look_ups + steps);
+  climb : (steps : ℕ) × IsClimb (g.L.LookUps.world l.fn.look_ups) (update_data l.update) l.start (IsMarked l.start l.climbed) l.id steps × IsRaisedUpTo (g.L.LookUps.asked l.fn.look_ups) steps (g.L.LookUps.asked l.look_ups);
   found : IsFound (g.L.LookUps.world l.fn.look_ups) (update_data l.update) l.id;
 }
 

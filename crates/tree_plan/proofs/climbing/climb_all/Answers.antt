@@ -49,7 +49,7 @@ loop-entry-preserved g c =
       world = c.climb.ensures.world ∙ before.world;
       climbed = subst (λ v. AreClimbed v u (take (k + 1) (named_ids v u)) c.climb.new.climbed) before.world c.in_ok-climb.ensures.climbed;
       adopters = subst (λ xs. (n : FullNodeId) → Contains xs n → Adopts w u n → Reached (merged_world w u) n) (sym first.more) (adopters_push w u starts way.start before.adopters way.reached);
-      ways = (before.ways.0 + steps, subst (λ xs. AreWays w u xs (before.ways.0 + steps)) (sym first.more) (ways_push w u starts way.start before.ways.0 steps before.ways.1 way.way), omega (arith, c.in_ok-climb.ensures.way.2, before.ways.2));
+      ways = (before.ways.0 + steps, subst (λ xs. AreWays w u xs (before.ways.0 + steps)) (sym first.more) (ways_push w u starts way.start before.ways.0 steps before.ways.1 way.way), (omega (arith, c.in_ok-climb.ensures.way.2.0, before.ways.2.0), omega (arith, c.in_ok-climb.ensures.way.2.1, before.ways.2.1)));
     }
 
 pub returns-clause-ok : goal.returns-clause-ok

@@ -16,7 +16,7 @@ loop-entry-init g c =
     let u : UpdateData = update_data c.args.update.now in
     record {
       world = refl;
-      count = omega arith;
+      count = (omega arith, omega arith);
       compared = compared_none w u c.requires.old c.args.opened.now c.requires.opened c.in_ok-named.named c.in_ok-named.ensures.ok c.in_ok-compared.compared c.in_ok-compared.ensures.ok;
     }
 
@@ -38,7 +38,7 @@ loop-entry-preserved g c =
     (subst (λ (x : World). ComparesNode x c.full_id-id.result k item.1 c.loop-entry.compared c.compare_node.new.self) same c.in_ok-compare_node.ensures.ok) in
     record {
       world = c.compare_node.ensures.world ∙ same;
-      count = omega (arith, c.loop-entry.invariant.count, c.compare_node.ensures.count);
+      count = (omega (arith, c.loop-entry.invariant.count.0, c.in_ok-compare_node.ensures.count.0), omega (arith, c.loop-entry.invariant.count.1, c.in_ok-compare_node.ensures.count.1));
       compared = compared_next w u c.requires.old once k item at_k c.loop-entry.compared c.compare_node.new.self c.loop-entry.invariant.compared step;
     }
 

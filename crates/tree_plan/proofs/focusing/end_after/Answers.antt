@@ -22,7 +22,7 @@ loop-depth-init g c =
     let u : UpdateData = update_data c.args.update.now in
     record {
       world = c.declared_after.ensures.world;
-      asked = omega (arith, c.declared_after.ensures.counts);
+      asked = (omega (arith, c.declared_after.ensures.counts.0), omega (arith, c.declared_after.ensures.counts.1));
       way = new_begins w u c.requires.old c.requires.opening.opened c.unwrap-id.result (sym (c.declared_after.ensures.focus ∙ ap (focus_named (merged_world w u)) c.root.ensures) ∙ c.unwrap-id.ensures);
     }
 
@@ -49,7 +49,7 @@ returns-in_default-graft-clause-counts g c =
     let u : UpdateData = update_data c.args.update.now in
     let before = c.loop-depth.invariant in
     let short : c.loop-depth._depth < length (merged_world w u).known = new_short w u c.requires.old c.args.compared.now c.args.removed.now c.requires.comparison c.requires.removal c.requires.passed c.loop-depth.id c.loop-depth._depth before.way in
-    omega (arith, short, c.aim_after.ensures.counts, before.asked)
+    (omega (arith, short, c.aim_after.ensures.counts.0, before.asked.0), omega (arith, c.aim_after.ensures.counts.1, before.asked.1))
 
 pub returns-in_default-declared_after-clause-err : goal.returns-in_default-declared_after-clause-err
 returns-in_default-declared_after-clause-err g c =
@@ -78,7 +78,7 @@ loop-depth-preserved g c =
     sym (c.declared_after-in-loop-depth.ensures.focus ∙ ap (focus_named (merged_world (g.L.LookUps.world c.aim_after.new.look_ups) u)) c.in-Some-graft.inner-is ∙ ap (λ v. focus_named (merged_world v u) c.in-Some-graft.inner) (c.aim_after.ensures.world ∙ before.world)) ∙ c.in-Some-declared_after.is in
     record {
       world = c.declared_after-in-loop-depth.ensures.world ∙ c.aim_after.ensures.world ∙ before.world;
-      asked = omega (arith, c.declared_after-in-loop-depth.ensures.counts, c.aim_after.ensures.counts, before.asked);
+      asked = (omega (arith, c.declared_after-in-loop-depth.ensures.counts.0, c.aim_after.ensures.counts.0, before.asked.0), omega (arith, c.declared_after-in-loop-depth.ensures.counts.1, c.aim_after.ensures.counts.1, before.asked.1));
       way = new_goes w u c.requires.old c.args.compared.now c.args.removed.now c.requires.comparison c.requires.removal c.requires.passed id c.in-Some-declared_after.declared c.in-Some-graft.inner c.loop-depth._depth before.way stays grafts declared;
     }
 

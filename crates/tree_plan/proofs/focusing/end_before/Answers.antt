@@ -16,7 +16,7 @@ loop-depth-init g c =
     let w : World = g.L.LookUps.world c.args.look_ups.now in
     record {
       world = c.declared.ensures.world;
-      asked = omega (arith, c.declared.ensures.counts);
+      asked = (omega (arith, c.declared.ensures.counts.0), omega (arith, c.declared.ensures.counts.1));
       way = old_begins w c.requires.old c.requires.present c.unwrap-id.result (sym (c.declared.ensures.focus ∙ ap (focus_named w) c.root.ensures) ∙ c.unwrap-id.ensures);
     }
 
@@ -41,7 +41,7 @@ loop-depth-preserved g c =
     sym (c.declared-in-loop-depth.ensures.focus ∙ ap (focus_named (g.L.LookUps.world c.old_aim.new.look_ups)) c.in-Some.inner-is ∙ ap (λ v. focus_named v c.in-Some.inner) (c.old_aim.ensures.world ∙ before.world)) ∙ c.unwrap-id-in-loop-depth.ensures in
     record {
       world = c.declared-in-loop-depth.ensures.world ∙ c.old_aim.ensures.world ∙ before.world;
-      asked = omega (arith, c.declared-in-loop-depth.ensures.counts, c.old_aim.ensures.counts, before.asked);
+      asked = (omega (arith, c.declared-in-loop-depth.ensures.counts.0, c.old_aim.ensures.counts.0, before.asked.0), omega (arith, c.declared-in-loop-depth.ensures.counts.1, c.old_aim.ensures.counts.1, before.asked.1));
       way = old_goes w c.requires.old id c.unwrap-id-in-loop-depth.result c.in-Some.inner c.loop-depth._depth before.way grafts declared;
     }
 

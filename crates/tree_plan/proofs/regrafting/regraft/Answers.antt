@@ -58,7 +58,7 @@ loop-name-preserved g c =
     (subst (λ v. MovesIn v d name c.loop-name.regrafted.moved_in c.add.new.self.moved_in) before.world e.moved_in) in
     record {
       world = c.add.ensures.world ∙ before.world;
-      asked = omega (arith, c.add.ensures.counts, before.asked);
+      asked = (omega (arith, c.add.ensures.counts, before.asked.0), omega (arith, c.add.ensures.counts, before.asked.1));
       found = subst (λ names. AreRegrafted w u d r names c.add.new.self) (sym (take_more xs k name fits ∙ ap (λ x. take k xs ++ x ∷ []) (sym is))) more;
     }
 

@@ -7,7 +7,7 @@ use Rattle.tree_plan.proofs.removing.drop_lost.Goals as goal
 pub loop-name-init : goal.loop-name-init
 loop-name-init g c = record {
   world = refl;
-  count = omega arith;
+  count = (omega arith, omega arith);
   dropping = dropping_start g.setting.0 g.setting.1 c.args.compared.now.lost.items c.args.removing.now c.requires.1.1.0.found c.requires.1.1.1;
 }
 
@@ -47,7 +47,7 @@ loop-name-preserved g c =
     let is : slice_get names k ≡ Some name = slice_get_read names (length names) k name refl lt read in
     record {
       world = c.drop_tree.ensures.world ∙ c.loop-name.invariant.world;
-      count = omega (arith, c.drop_tree.ensures.count, c.loop-name.invariant.count);
+      count = (omega (arith, c.drop_tree.ensures.count.0, c.loop-name.invariant.count.0), omega (arith, c.drop_tree.ensures.count.1, c.loop-name.invariant.count.1));
       dropping = dropping_more w u names k name c.args.removing.now c.loop-name.removing c.drop_tree.new.removing is c.loop-name.invariant.dropping c.in_ok-drop_tree.ensures.ok;
     }
 

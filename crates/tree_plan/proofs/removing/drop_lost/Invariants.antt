@@ -1,4 +1,5 @@
-use Rattle.std.proofs.Common.{◌≡◌, ◌+◌, ◌≤◌}
+use Rattle.std.proofs.Common.{◌≡◌}
+use Rattle.tree_changes.specs.Looks.{IsRaisedUpTo}
 use Rattle.tree_plan.proofs.RemovingSteps.{IsDropping}
 use Rattle.tree_plan.proofs.removing.drop_lost.Given as goal
 
@@ -8,6 +9,6 @@ ghost-drop_tree g a = g.setting
 abbrev pub invariant-loop-name : goal.invariant-loop-name
 invariant-loop-name g l = record {
   world : g.L.LookUps.world l.look_ups ≡ g.L.LookUps.world l.fn.look_ups;
-  count : g.L.LookUps.asked l.look_ups ≤ g.L.LookUps.asked l.fn.look_ups + l.name-index;
+  count : IsRaisedUpTo (g.L.LookUps.asked l.fn.look_ups) l.name-index (g.L.LookUps.asked l.look_ups);
   dropping : IsDropping g.setting.0 g.setting.1 l.compared.lost.items l.name-index l.fn.removing l.removing;
 }

@@ -7,7 +7,7 @@ use Rattle.tree_plan.proofs.removing.follow.Goals as goal
 pub loop-position-init : goal.loop-position-init
 loop-position-init g c = record {
   world = refl;
-  count = omega arith;
+  count = (omega arith, omega arith);
   following = following_start g.setting.0 g.setting.1 c.args.removing.now c.requires.1.1.0.found c.requires.1.1.1;
 }
 
@@ -45,7 +45,7 @@ loop-position-preserved g c =
     let is : slice_get b.queue.items k ≡ Some id = slice_get_read b.queue.items (length b.queue.items) k id refl lt c.index-id.ensures in
     record {
       world = c.expand.ensures.world ∙ c.loop-position.invariant.world;
-      count = omega (arith, c.expand.ensures.count, c.loop-position.invariant.count);
+      count = (omega (arith, c.expand.ensures.count.0, c.loop-position.invariant.count.0), omega (arith, c.expand.ensures.count.1, c.loop-position.invariant.count.1));
       following = following_more w u k id a b c.expand.new.removing is c.loop-position.invariant.following c.in_ok-expand.ensures.ok;
     }
 

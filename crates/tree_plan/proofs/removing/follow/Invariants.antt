@@ -1,4 +1,5 @@
-use Rattle.std.proofs.Common.{◌≡◌, ◌+◌, ◌*◌, ◌≤◌}
+use Rattle.std.proofs.Common.{◌≡◌, ◌*◌}
+use Rattle.tree_changes.specs.Looks.{IsRaisedUpTo}
 use Rattle.tree_plan.proofs.RemovingSteps.{IsFollowing}
 use Rattle.tree_plan.proofs.removing.follow.Given as goal
 
@@ -8,6 +9,6 @@ ghost-expand g a = g.setting
 abbrev pub invariant-loop-position : goal.invariant-loop-position
 invariant-loop-position g l = record {
   world : g.L.LookUps.world l.look_ups ≡ g.L.LookUps.world l.fn.look_ups;
-  count : g.L.LookUps.asked l.look_ups ≤ g.L.LookUps.asked l.fn.look_ups + 2 * l.position;
+  count : IsRaisedUpTo (g.L.LookUps.asked l.fn.look_ups) (2 * l.position) (g.L.LookUps.asked l.look_ups);
   following : IsFollowing g.setting.0 g.setting.1 l.position l.fn.removing l.removing;
 }

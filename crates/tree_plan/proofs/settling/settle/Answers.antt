@@ -21,6 +21,7 @@ loop-id-init g c =
     record {
       world = refl;
       count = let same : length c.into_iter-id-iterator.result ≡ length m.entries = ap length is in omega arith;
+      least = omega arith;
       so_far = settles_start w u a (empty_at c.new.result c.new.ensures.empty) (empty_has c.new-2.result c.new-2.ensures.empty);
       entries = subst (AreEntries m) (sym is) (entries_begin m f.6);
       done = subst (IsLeftOrDone m (λ id s. IsSettledAt w u id s a)) (sym is) (loop_begins m (λ id s. IsSettledAt w u id s a));
@@ -46,7 +47,8 @@ loop-id-preserved g c =
     let one : SettlesOne w u e.0 e.1 a b = subst (λ v. SettlesOne v u e.0 e.1 a b) c.loop-id.invariant.world c.in_ok-settle_one.ensures.ok in
     record {
       world = c.settle_one.ensures.world ∙ c.loop-id.invariant.world;
-      count = let same : length c.loop-id.id-iterator ≡ length (e ∷ c.next.new.self) = ap length split in omega (arith, c.settle_one.ensures.count, c.loop-id.invariant.count);
+      count = let same : length c.loop-id.id-iterator ≡ length (e ∷ c.next.new.self) = ap length split in omega (arith, c.settle_one.ensures.count.0, c.loop-id.invariant.count);
+      least = omega (arith, c.settle_one.ensures.count.1, c.loop-id.invariant.least);
       so_far = one.so_far;
       entries = entries_go m c.loop-id.id-iterator c.next.new.self e split c.loop-id.invariant.entries;
       done = loop_goes m (λ id s. IsSettledAt w u id s a) c.loop-id.id-iterator c.next.new.self e split c.loop-id.invariant.done (λ id s. IsSettledAt w u id s b) (settled_stays w u a b one.keeps) one.here;
