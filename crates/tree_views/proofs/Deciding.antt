@@ -1,6 +1,6 @@
 -- The decision on an update, and what follows where it is carried out.
-use Rattle.std.proofs.Common.{◌≡◌, ◌≤◌, ◌+◌, ◌*◌, ℕ, slice_index_or, List, [], length, Option, Some, None, Result, refl, sym, ◌∙◌, ap, subst, arith}
-use Rattle.std.specs.Prelude.{All, IfOk, IfSome, Ok, Err}
+use Rattle.std.proofs.Common.{◌≡◌, ◌≤◌, ◌+◌, ◌-◌, ◌*◌, ℕ, slice_index_or, List, [], length, Option, Some, None, Result, refl, sym, ◌∙◌, ap, subst, arith}
+use Rattle.std.specs.Prelude.{All, IfOk, OnOk, IfSome, Ok, Err}
 use Rattle.std.specs.Option.{option_map_or}
 use Rattle.std.proofs.lemmas.List.{length-map}
 use Rattle.std.proofs.lemmas.List.Elements.{Contains-get_or}
@@ -21,15 +21,32 @@ use Rattle.tree_changes.specs.declared.error.UpdateError.{UpdateError}
 use Rattle.tree_changes.specs.Changes.{overlaid_world}
 use Rattle.tree_changes.specs.Decisions.{IsDecision, IsWithinWork}
 use Rattle.tree_changes.specs.Refusals.{fault_of, IsRefusal}
-use Rattle.tree_views.specs.Counts.{IsRaisedAtLeast, IsRaisedBy, CountsEvents, change_count}
+use Rattle.tree_changes.specs.Looks.{IsRaisedAtLeast, IsRaisedBy}
+use Rattle.tree_views.specs.Counts.{CountsEvents, change_count}
 use Rattle.tree_views.specs.Telling.{IsTellable}
 
--- what the planner looked up, counted from none, is added to the count
-pub work_counted : (result : Result Decision UpdateError) (v w : World) (u : UpdateData) (start looked before after : ℕ) → v ≡ w → start ≡ 0 → IsRaisedBy before looked after
-    → IfOk result (λ d. IsWithinWork v u d start looked) → IfOk result (λ d. (more : ℕ) × IsRaisedBy before more after × IsWithinWork w u d 0 more)
-work_counted (Ok d) v w u start looked before after world none raised h =
-    (looked, raised, subst (λ n. IsWithinWork w u d n looked) none (subst (λ x. IsWithinWork x u d start looked) world h))
-work_counted (Err e) v w u start looked before after world none raised h = h
+-- What the planner looked up, asked from none on. It is added to the count ..
+module _ (start asked : ℕ) (none : start ≡ 0) where
+  all_asked : (looked : ℕ) → looked ≡ asked - start → asked ≡ looked
+  all_asked looked is = omega arith
+
+  pub looked_counted : (result : Result Decision UpdateError) (before after : ℕ) → IfOk result (λ d. d.looked ≡ asked - start) → IsRaisedBy before asked after
+      → IfOk result (λ d. IsRaisedBy before d.looked after)
+  looked_counted (Ok d) before after is raised = subst (λ n. IsRaisedBy before n after) (all_asked d.looked is) raised
+  looked_counted (Err e) before after is raised = is
+
+  -- .. is at least so much ..
+  pub looked_least : (result : Result Decision UpdateError) (least : ℕ) → IfOk result (λ d. d.looked ≡ asked - start) → OnOk result (IsRaisedAtLeast start least asked)
+      → IfOk result (λ d. IsRaisedAtLeast 0 least d.looked)
+  looked_least (Ok d) least is raised = subst (λ n. IsRaisedAtLeast 0 least n) (all_asked d.looked is) (subst (λ n. IsRaisedAtLeast n least asked) none raised)
+  looked_least (Err e) least is raised = is
+
+  -- .. and is within what is allowed
+  pub looked_within : (result : Result Decision UpdateError) (v w : World) (u : UpdateData) → v ≡ w → IfOk result (λ d. d.looked ≡ asked - start) → IfOk result (λ d. IsWithinWork v u d start asked)
+      → IfOk result (λ d. IsWithinWork w u d 0 d.looked)
+  looked_within (Ok d) v w u world is h =
+      subst (λ n. IsWithinWork w u d 0 n) (all_asked d.looked is) (subst (λ n. IsWithinWork w u d n asked) none (subst (λ x. IsWithinWork x u d start asked) world h))
+  looked_within (Err e) v w u world is h = h
 
 -- a world in which a name is known had its first update
 state_not_first : (w : World) → IsState w → ¬ (IsFirst w)
@@ -73,9 +90,10 @@ pub within : (w new : World) (u : UpdateData) (d : Decision) (looked before deci
     → decided ≤ before + looked → after ≤ decided + 2 * change_count d → (work : Work) → IsWorkOf w u new work → after ≤ before + allowance work
 within w new u d looked before decided after is h asked told work is_work = let least = h work (subst (λ x. IsWorkOf w u x work) is is_work) in omega (arith, asked, told, least)
 
--- a count that rose, and then rose by more, rose by that at least
-pub raised_further : (before more between other after : ℕ) → IsRaisedBy before more between → IsRaisedAtLeast between other after → IsRaisedAtLeast before other after
-raised_further before more between other after first then = grind (arith, first.1, then)
+-- a count that rose, and then rose by more, rose by both at least
+pub raised_further : (before looked least between more after : ℕ) → IsRaisedBy before looked between → IsRaisedAtLeast 0 least looked → IsRaisedAtLeast between more after
+    → IsRaisedAtLeast before (least + more) after
+raised_further before looked least between more after first asked then = grind (arith, first.1, asked, then)
 
 -- an update tells one list
 told_once : (old new : World) (u : UpdateData) (told heard : List Event) → Does old (ToUpdate u) new told Accepted → Does old (ToUpdate u) new heard Accepted → told ≡ heard

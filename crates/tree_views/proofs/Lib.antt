@@ -19,6 +19,7 @@ pub mod LabelSteps
 pub mod LabelTexts
 pub mod ValueTexts
 pub mod Writing
+pub mod Calling
 pub mod Named
 pub mod PlanEvents
 pub mod RangeEnds
@@ -26,6 +27,7 @@ pub mod Refocused
 pub mod SeenFrom
 pub mod Showing
 pub mod Walked
+pub mod Mixed
 pub mod Weights
 pub mod RunSteps
 pub mod RunTexts

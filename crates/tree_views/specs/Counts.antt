@@ -1,21 +1,19 @@
--- How far a count of look-ups has risen. At its last value it stays.
-use Rattle.std.specs.Prelude.{ℕ, ◌+◌, ◌-◌, ◌*◌, ◌^◌, ◌≤◌, min, length, List}
+-- How far a count of look-ups has risen.
+use Rattle.std.specs.Prelude.{ℕ, ◌+◌, ◌*◌, length, List}
 use Rattle.model.specs.Update.{UpdateData}
 use Rattle.model.specs.World.{World}
 use Rattle.model.specs.Events.{Event}
 use Rattle.model.specs.Run.{ToUpdate, Accepted, Does}
 use Rattle.tree_changes.specs.declared.decision.Decision.{Decision}
-
-abbrev pub IsRaisedAtLeast : ℕ → ℕ → ℕ → Type 0
-IsRaisedAtLeast before more after = min (before + more) (2 ^ 128 - 1) ≤ after
-
--- by so many and no more
-abbrev pub IsRaisedBy : ℕ → ℕ → ℕ → Type 0
-IsRaisedBy before more after = (after ≤ before + more) × IsRaisedAtLeast before more after
+use Rattle.tree_changes.specs.Looks.{IsRaisedAtLeast}
 
 -- two are counted for each event that the accepted update tells
 abbrev pub CountsEvents : World → UpdateData → World → ℕ → ℕ → Type 0
 CountsEvents old u new before after = (told : List Event) → Does old (ToUpdate u) new told Accepted → IsRaisedAtLeast before (2 * length told) after
+
+-- and one for each node that it names
+abbrev pub CountsLookUps : World → UpdateData → World → ℕ → ℕ → Type 0
+CountsLookUps old u new before after = (told : List Event) → Does old (ToUpdate u) new told Accepted → IsRaisedAtLeast before (length u.nodes + 2 * length told) after
 
 -- the events and the changes of a decision
 abbrev pub change_count : Decision → ℕ

@@ -1,10 +1,11 @@
 -- The walks over what a filter shows: what each has left, and what its calls give from either end.
-use Rattle.std.specs.Prelude.{◌≡◌, List, reverse, Option}
+use Rattle.std.specs.Prelude.{◌≡◌, List, map, reverse, Option}
 use Rattle.std.specs.Iterator.{YieldsFirstBy, YieldsLastBy}
 use Rattle.model.specs.declared.FullNodeId.{FullNodeId}
 use Rattle.model.specs.declared.filters.FilterResult.{FilterResult}
 use Rattle.model.specs.World.{World}
 use Rattle.model.specs.Views.{item_filter}
+use Rattle.model.specs.Mixtures.{Call, AreCalls, AreTaken, call_seen}
 use Rattle.tree_views.specs.declared.node.node_ref.NodeRef.{NodeRef}
 use Rattle.tree_views.specs.declared.walks.course.Course.{Course}
 use Rattle.tree_views.specs.declared.walks.filtered.FilteredChildren.{FilteredChildren}
@@ -42,6 +43,12 @@ pub record GivesLast {S F : Type 0} (answers : F → NodeRef → FilterResult �
   pub goes : GoesOn (walk.course s) r (walk.course t)
   pub list : (f : FullNodeId → FilterResult) → Follows (answers (walk.filter s)) (walked_world (walk.course s)) f → walk.OnCourse f s →
       walk.OnCourse f t × YieldsLastBy id_at (walk.left f) s r t
+
+-- however calls at both ends are mixed, by each f that the filter follows they take what is left
+abbrev pub MixturesTakeShown : {S F : Type 0} → (S → Option NodeRef → S → Type 0) → (S → Option NodeRef → S → Type 0) → (F → NodeRef → FilterResult → Type 0) → WalkOf S F → Type 0
+MixturesTakeShown {S} next next_back answers walk =
+    (s t : S) (calls : List (Call NodeRef)) → AreCalls next next_back s calls t → (f : FullNodeId → FilterResult) → Follows (answers (walk.filter s)) (walked_world (walk.course s)) f → walk.OnCourse f s →
+    AreTaken (walk.left f s) (map (call_seen id_at) calls) (walk.left f t)
 
 abbrev pub children_walk : {F : Type 0} → WalkOf (FilteredChildren F) F
 children_walk = record { filter = λ s. s.filter; course = λ s. s.course; OnCourse = λ f s. IsOnCourse f s.course; left = λ f s. ids_left f s.course }

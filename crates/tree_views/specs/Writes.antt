@@ -1,5 +1,7 @@
--- What a call that writes a text leaves of its writer.
-use Rattle.std.specs.Prelude.{◌≡◌, ℕ, ◌+◌, List, ◌++◌}
+-- What a call that writes a text leaves of its writer, and how it calls it.
+use Rattle.std.specs.Prelude.{◌≡◌, ℕ, ◌+◌, Bool, true, false, List, ◌∷◌, ◌++◌, replicate}
+use Rattle.std.specs.List.{FoldsTo}
+use Rattle.schema.specs.TextCalls.{TextCall, WithCharacter}
 
 -- by what a writer received, and how many of its calls failed
 module _ {W : Type 0} (received : W → List ℕ) (faults : W → ℕ) where
@@ -21,3 +23,23 @@ module _ {W : Type 0} (received : W → List ℕ) (faults : W → ℕ) where
     pub front : List ℕ
     pub whole : front ++ rest ≡ text
     pub written : IsWritten front old new
+
+-- one call for each of so many bullets
+abbrev pub bullet_calls : ℕ → List TextCall
+bullet_calls n = replicate n (WithCharacter 8226)
+
+-- by what one call makes of a writer
+module _ {W : Type 0} (steps : W → TextCall → Bool → W → Type 0) where
+  -- these calls were made of it, one after another, and each was taken
+  abbrev pub IsCalled : List TextCall → W → W → Type 0
+  IsCalled calls old new = FoldsTo (λ w call v. steps w call true v) old calls new
+
+  -- of these calls the first ones were made of it, and each but the last was taken
+  pub record IsCalledTillFault (calls : List TextCall) (old new : W) : Type 0 where
+    pub front : List TextCall
+    pub call : TextCall
+    pub missing : List TextCall
+    pub whole : front ++ (call ∷ missing) ≡ calls
+    pub before : W
+    pub taken : IsCalled front old before
+    pub failed : steps before call false new

@@ -10,6 +10,7 @@ mod filtered;
 pub mod hits;
 pub(crate) mod items;
 mod labelled_by;
+mod mixtures;
 mod plain;
 mod range;
 mod sets;

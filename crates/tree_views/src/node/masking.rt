@@ -3,18 +3,20 @@ ghost use Rattle.std.specs.Prelude.{◌≡◌, ◌==◌, ◌+◌, ◌<◌, ◌^�
 ghost use Rattle.std.specs.Str.{chars};
 ghost use Rattle.model.specs.FlatText.{are_alike};
 ghost use Rattle.model.specs.Values.{bullets};
-ghost use Rattle.tree_views.specs.Writes.{IsWritten, IsCutShort};
+ghost use Rattle.tree_views.specs.Writes.{bullet_calls, IsCalled, IsCalledTillFault, IsWritten, IsCutShort};
 
 use schema::{TextFault, TextWrite};
 
 /// What is shown for a character of a password.
 const BULLET: char = '\u{2022}';
 
-/// Writes so many bullets.
+/// Writes so many bullets, each by a call of its own.
 pub fn write_bullets<W: TextWrite>(count: usize, writer: &mut W) -> Result<(), TextFault>
     requires { W.faults writer.old + 1 < 2 ^ 128 }
     ensures ok { OnOk result (IsWritten W.received W.faults (bullets count) writer.old writer.new) }
     ensures err { OnErr result (IsCutShort W.received W.faults (bullets count) writer.old writer.new) }
+    ensures called { OnOk result (IsCalled W.steps (bullet_calls count) writer.old writer.new) }
+    ensures stopped { OnErr result (IsCalledTillFault W.steps (bullet_calls count) writer.old writer.new) }
 {
     for _ in 0..count {
         writer.write_char(BULLET)?;

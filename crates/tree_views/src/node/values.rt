@@ -3,6 +3,7 @@ ghost use Rattle.std.specs.Prelude.{◌≡◌, ◌+◌, ◌<◌, ◌^◌, [], is
 ghost use Rattle.std.specs.String.{string_bytes};
 ghost use Rattle.model.specs.Values.{shown_alone, shown_value, has_value_in_runs, is_without_text, placeholder, value_of};
 ghost use Rattle.tree_views.specs.Nodes.{world_at, id_at, data_at};
+ghost use Rattle.tree_views.specs.Secrets.{InEachOfShape};
 ghost use Rattle.tree_views.specs.Writes.{IsWritten, IsCutShort};
 
 use crate::node::NodeRef;
@@ -115,6 +116,8 @@ impl<'a> NodeRef<'a> {
             IfOk result (λ there. (there ≡ is_some value) × IsWritten W.received W.faults (unwrap_or value []) writer.old writer.new) }
         ensures err { let value = value_of (world_at self.now) (id_at self.now) in
             OnErr result (IsCutShort W.received W.faults (unwrap_or value []) writer.old writer.new) }
+        ensures secret { IfOk result (λ there. InEachOfShape self.now (λ v. let value = value_of v (id_at self.now) in
+            (there ≡ is_some value) × IsWritten W.received W.faults (unwrap_or value []) writer.old writer.new)) }
     {
         if let Some(value) = self.node.value() {
             self.write_own_value(value, writer)?;
@@ -139,8 +142,10 @@ impl<'a> NodeRef<'a> {
     /// # Errors
     ///
     /// `AllocError`: memory was wanting.
+    #[tactic(auto, using(model::proofs::Text::Secrets::one_value))]
     pub fn value(&self, alloc: Global) -> Result<Option<String>, AllocError>
-        ensures { IfOk result (λ text. option_map string_bytes text ≡ value_of (world_at self.now) (id_at self.now)) }
+        ensures text { IfOk result (λ text. option_map string_bytes text ≡ value_of (world_at self.now) (id_at self.now)) }
+        ensures secret { IfOk result (λ text. InEachOfShape self.now (λ v. option_map string_bytes text ≡ value_of v (id_at self.now))) }
     {
         let mut buffer = TextBuffer::new(alloc);
         match self.write_value(&mut buffer) {

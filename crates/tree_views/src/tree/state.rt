@@ -1,5 +1,5 @@
 //! A state, and how changes come into it.
-ghost use Rattle.std.specs.Prelude.{◌≡◌, ◌<◌, ◌^◌, ◌*◌, ◌↔◌, ℕ, List, [], IsTrue, IsSome, true, false, Some, MatchOption, IfSome, IfOk, IfErr, OnOk, OnErr, option_copied, option_map};
+ghost use Rattle.std.specs.Prelude.{◌≡◌, ◌<◌, ◌^◌, ◌*◌, ◌↔◌, List, [], length, IsTrue, Some, IfSome, IfOk, IfErr, OnOk, OnErr, option_copied, option_map};
 ghost use Rattle.schema.specs.UpdateData.{update_data};
 ghost use Rattle.model.specs.declared.events.PlanEvent.{PlanEvent};
 ghost use Rattle.model.specs.World.{World, IsNode, root_of, root_named, local_id_of, toolkit_name, toolkit_version};
@@ -10,8 +10,9 @@ ghost use Rattle.model.specs.Differences.{AreOfFocus, events};
 ghost use Rattle.model.specs.Run.{ToUpdate, Accepted, Does};
 ghost use Rattle.tree_changes.specs.Changes.{overlaid_world};
 ghost use Rattle.tree_changes.specs.Decisions.{IsDecision, IsWithinWork};
+ghost use Rattle.tree_changes.specs.Looks.{IsRaisedAtLeast, IsRaisedBy};
 ghost use Rattle.tree_changes.specs.Refusals.{IsRefusal};
-ghost use Rattle.tree_views.specs.Counts.{change_count, IsRaisedBy, CountsEvents};
+ghost use Rattle.tree_views.specs.Counts.{change_count, CountsEvents};
 ghost use Rattle.tree_views.specs.Views.{world_of};
 ghost use Rattle.tree_views.specs.Nodes.{world_at, id_at, ShowsThe};
 
@@ -159,7 +160,8 @@ impl TreeState {
         self.store.is_host_focused()
     }
 
-    /// The decision on an update. The look-ups for it are counted.
+    /// The decision on an update. The look-ups for it are counted: as many as the decision says, at least one for each node
+    /// that the update names.
     pub(super) fn decide(
         &self,
         alloc: Global,
@@ -168,8 +170,11 @@ impl TreeState {
     ) -> Result<Decision, UpdateError>
         ensures err { IfErr result (λ e. IsRefusal self.now (update_data update.now) e) }
         ensures ok { IfOk result (IsDecision self.now (update_data update.now)) }
-        ensures work { IfOk result (λ decision. (looked : ℕ) × IsRaisedBy steps.old looked steps.new
-            × IsWithinWork self.now (update_data update.now) decision 0 looked) }
+        ensures counted { IfOk result (λ decision. IsRaisedBy steps.old decision.looked steps.new) }
+        ensures named { let u = update_data update.now in
+            IfOk result (λ decision. IsRaisedAtLeast 0 (length u.nodes) decision.looked) }
+        ensures work { let u = update_data update.now in
+            IfOk result (λ decision. IsWithinWork self.now u decision 0 decision.looked) }
     {
         let mut look_ups = StoreLookUps::new(&self.store, 0);
         let decided = decide(alloc, &mut look_ups, update);

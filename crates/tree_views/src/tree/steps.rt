@@ -1,6 +1,6 @@
 //! A count of look-ups.
 ghost use Rattle.std.specs.Prelude.{◌≡◌};
-ghost use Rattle.tree_views.specs.Counts.{IsRaisedBy};
+ghost use Rattle.tree_changes.specs.Looks.{IsRaisedBy};
 
 use std::marker::Model;
 

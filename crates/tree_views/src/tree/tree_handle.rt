@@ -6,7 +6,7 @@ ghost use Rattle.model.specs.Run.{ToUpdate, ToHostFocus, Accepted, Begins, Does}
 ghost use Rattle.model.specs.State.{empty_world};
 ghost use Rattle.model.specs.Work.{Work, IsWorkOf, allowance};
 ghost use Rattle.tree_changes.specs.Refusals.{IsRefusal};
-ghost use Rattle.tree_views.specs.Counts.{CountsEvents};
+ghost use Rattle.tree_views.specs.Counts.{CountsLookUps};
 ghost use Rattle.tree_views.specs.Replies.{reply_of};
 
 use crate::tree::{Steps, TreeChangeHandler, TreeState};
@@ -78,7 +78,8 @@ impl Tree {
     }
 
     /// As `update_and_process_changes`, and counts the look-ups of records of nodes and trees. Those of an accepted update
-    /// go with what it touches, however large the trees are; two at least are for each event that is told.
+    /// go with what it touches, however large the trees are; one at least is for each node that it names, and two are for
+    /// each event that is told.
     pub fn update_and_process_changes_counted<H: TreeChangeHandler>(
         &mut self,
         update: TreeUpdate,
@@ -92,7 +93,7 @@ impl Tree {
             → IsWorkOf self.old (update_data update) self.new work
             → steps.new ≤ steps.old + allowance work) }
         ensures counted { let u = update_data update in
-            OnOk result (CountsEvents self.old u self.new steps.old steps.new) }
+            OnOk result (CountsLookUps self.old u self.new steps.old steps.new) }
     {
         let decision = self.state.decide(self.alloc, &update, steps)?;
         self.state.apply(update, decision, handler, steps)?;

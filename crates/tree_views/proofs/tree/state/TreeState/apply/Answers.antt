@@ -4,7 +4,7 @@ use Rattle.model.specs.Differences.{events}
 use Rattle.model.specs.State.{IsState}
 use Rattle.tree_changes.specs.Changes.{overlaid_world}
 use Rattle.tree_changes.specs.Decisions.{IsDecision}
-use Rattle.tree_views.specs.Counts.{IsRaisedBy}
+use Rattle.tree_changes.specs.Looks.{IsRaisedBy}
 use Rattle.tree_views.proofs.PlanEvents.{told_differences}
 use Rattle.tree_views.proofs.Deciding.{views_tellable, does_accepted, events_counted}
 use Rattle.tree_views.proofs.tree.state.TreeState.apply.Goals as goal

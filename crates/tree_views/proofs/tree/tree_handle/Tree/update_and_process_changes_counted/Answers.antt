@@ -25,14 +25,14 @@ returns-clause-does g c =
 pub returns-clause-steps : goal.returns-clause-steps
 returns-clause-steps g c =
     let u = update_data c.args.update in
-    let work = c.in_ok-decision.ensures.work in
-    within c.args.self.now c.apply.new.self u c.in_ok-decision.decision work.0 c.args.steps.now c.decide.new.steps c.apply.new.steps
-    (c.in_ok-apply.ensures.state ∙ ap (λ w. overlaid_world w u c.in_ok-decision.decision) c.self.view_is)
-    (subst (λ w. IsWithinWork w u c.in_ok-decision.decision 0 work.0) c.self.view_is work.2) work.1.0 c.in_ok-apply.ensures.steps.0
+    let d = c.in_ok-decision.decision in
+    within c.args.self.now c.apply.new.self u d d.looked c.args.steps.now c.decide.new.steps c.apply.new.steps
+    (c.in_ok-apply.ensures.state ∙ ap (λ w. overlaid_world w u d) c.self.view_is)
+    (subst (λ w. IsWithinWork w u d 0 d.looked) c.self.view_is c.in_ok-decision.ensures.work) c.in_ok-decision.ensures.counted.0 c.in_ok-apply.ensures.steps.0
 
 pub returns-clause-counted : goal.returns-clause-counted
 returns-clause-counted g c = λ told does.
     let u = update_data c.args.update in
-    let work = c.in_ok-decision.ensures.work in
-    raised_further c.args.steps.now work.0 c.decide.new.steps (2 * length told) c.apply.new.steps work.1
+    raised_further c.args.steps.now c.in_ok-decision.decision.looked (length u.nodes) c.decide.new.steps (2 * length told) c.apply.new.steps
+    c.in_ok-decision.ensures.counted c.in_ok-decision.ensures.named
     (c.in_ok-apply.ensures.counted told (subst (λ w. Does w (ToUpdate u) c.apply.new.self told Accepted) (sym c.self.view_is) does))
