@@ -21,6 +21,7 @@ pub mod UnitCounts
 pub mod GlobalIndexes
 pub mod CutPieces
 pub mod PieceSteps
+pub mod PieceCalls
 pub mod LookSteps
 pub mod NamedRuns
 pub mod LineRanges
@@ -28,3 +29,4 @@ pub mod LineSteps
 pub mod FoundSteps
 pub mod WeakSteps
 pub mod Passing
+pub mod Secrecy

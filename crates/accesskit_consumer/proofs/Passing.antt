@@ -107,12 +107,12 @@ module _ {F T : Type 0} (g : Mut F (Bor NodeRef × (Bor (List ℕ) × Unit {0}))
     past = pieces_past (text_in r) (range_at r) (number_in p.run)
 
     -- something was answered
-    pub passed_with : {h : F} (x : T) → IsCallWith g (world_in r) first now (Some x) h → (last : F) × IsPassed g (world_in r) (passed_texts (text_in r) (range_at r)) f (Some x) last
-    passed_with {h} x call = (h, way.rest (Some x) h (Some x, h, call, (refl, refl)))
+    pub passed_with : {h : F} (x : T) → IsCallWith g (world_in r) first now (Some x) h → IsPassed g (world_in r) (passed_texts (text_in r) (range_at r)) f (Some x) h
+    passed_with {h} x call = way.rest (Some x) h (Some x, h, call, (refl, refl))
 
     -- nothing was, and there are more pieces, or none
     pub passed_on : {h : F} (left : List PieceData) → past ≡ left → IsCallWith g (world_in r) first now None h → IsPassing left f h
     passed_on {h} left e call = record { rest = λ answer last more. way.rest answer last (None, h, call, subst (λ ps. IsPassed g (world_in r) (passed_of (text_in r) ps) h answer last) (sym e) more) }
 
-    pub passed_all : {h : F} → past ≡ [] → IsCallWith g (world_in r) first now None h → (last : F) × IsPassed g (world_in r) (passed_texts (text_in r) (range_at r)) f None last
-    passed_all {h} e call = (h, (passed_on [] e call).rest None h (refl, refl))
+    pub passed_all : {h : F} → past ≡ [] → IsCallWith g (world_in r) first now None h → IsPassed g (world_in r) (passed_texts (text_in r) (range_at r)) f None h
+    passed_all {h} e call = (passed_on [] e call).rest None h (refl, refl)

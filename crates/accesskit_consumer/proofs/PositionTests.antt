@@ -17,6 +17,12 @@ differs a b apart = go (a == b) refl
     go true e = absurd (apart (eqb-true a b e))
     go false e = e
 
+pub before_last_run : (p : TextPosition) (b : Bool) → b ≡ (number_in p.run + 1 == length (text_at p)) → b ≡ false → false ≡ is_document_end (text_at p) (position_at p)
+before_last_run p b is early =
+    let apart = eqb-false (number_in p.run + 1) (length (text_at p)) (sym is ∙ early) in
+    let counted = runs_counted p.run in
+    sym (ap (λ c. c && (p.index == count_in (text_at p) (length (text_at p) - 1))) (differs (number_in p.run) (length (text_at p) - 1) (λ e. apart (omega (arith, e, counted)))))
+
 module _ (p : TextPosition) (n : ℕ) (counted : n ≡ said_count (sent_of p.run)) where
   at_count : n ≡ count_in (text_at p) (number_in p.run)
   at_count = counted ∙ sym (count_at_number p.run)
@@ -27,13 +33,18 @@ module _ (p : TextPosition) (n : ℕ) (counted : n ≡ said_count (sent_of p.run
   pub on_end : (b : Bool) → p.index ≡ n → b ≡ (p.index == count_in (text_at p) (number_in p.run) && b)
   on_end b e = sym (ap (λ c. c && b) (eq-eqb p.index (count_in (text_at p) (number_in p.run)) (e ∙ at_count)))
 
-  pub in_last_run : (b : Bool) → b ≡ (number_in p.run + 1 == length (text_at p)) → b ≡ true → (p.index == n) ≡ is_document_end (text_at p) (position_at p)
+  in_last_run : (b : Bool) → b ≡ (number_in p.run + 1 == length (text_at p)) → b ≡ true → (p.index == n) ≡ is_document_end (text_at p) (position_at p)
   in_last_run b is last =
       let at : number_in p.run ≡ length (text_at p) - 1 = (let e = eqb-true (number_in p.run + 1) (length (text_at p)) (sym is ∙ last) in omega (arith, e)) in
       ap (λ k. p.index == k) (at_count ∙ ap (count_in (text_at p)) at) ∙ sym (ap (λ c. c && (p.index == count_in (text_at p) (length (text_at p) - 1))) (eq-eqb (number_in p.run) (length (text_at p) - 1) at))
 
-pub before_last_run : (p : TextPosition) (b : Bool) → b ≡ (number_in p.run + 1 == length (text_at p)) → b ≡ false → false ≡ is_document_end (text_at p) (position_at p)
-before_last_run p b is early =
-    let apart = eqb-false (number_in p.run + 1) (length (text_at p)) (sym is ∙ early) in
-    let counted = runs_counted p.run in
-    sym (ap (λ c. c && (p.index == count_in (text_at p) (length (text_at p) - 1))) (differs (number_in p.run) (length (text_at p) - 1) (λ e. apart (omega (arith, e, counted)))))
+  pub off_run_end : (p.index ≡ n → ⊥) → false ≡ is_document_end (text_at p) (position_at p)
+  off_run_end apart = go (number_in p.run + 1 == length (text_at p)) refl
+    where
+      go : (b : Bool) → (number_in p.run + 1 == length (text_at p)) ≡ b → false ≡ is_document_end (text_at p) (position_at p)
+      go true e = sym (differs p.index n apart) ∙ in_last_run true (sym e) refl
+      go false e = before_last_run p false (sym e) refl
+
+  pub at_run_end : (b : Bool) → b ≡ (number_in p.run + 1 == length (text_at p)) → p.index ≡ n → b ≡ is_document_end (text_at p) (position_at p)
+  at_run_end true is e = sym (eq-eqb p.index n e) ∙ in_last_run true is refl
+  at_run_end false is e = before_last_run p false is refl

@@ -8,7 +8,7 @@ use Rattle.model.specs.Ranges.{Range, is_degenerate, piece_in, caret_piece, visi
 use Rattle.model.specs.TextLaws.{IsWhole}
 use Rattle.model.proofs.Text.TextFacts.{start_next, start_bias, end_bias}
 use Rattle.model.proofs.Text.Sides.{start_rises, end_bias_side, start_side_of_bias}
-use Rattle.accesskit_consumer.specs.Pieces.{pieces_past}
+use Rattle.accesskit_consumer.specs.Pieces.{last_passed, pieces_past}
 
 -- ---- whether there is something in a range
 
@@ -59,36 +59,31 @@ module _ (t : FlatText) (r : Range) where
           let index : end_side_of.index ≤ count_in t end_side_of.run = (end_bias_side t r.end whole e).index in
           omega (arith, up, index, start_next t end_side_of.run, start_bias t r.start, end_bias t r.end, le)))
 
-  pub caret_alone : (k : ℕ) → is_degenerate t r ≡ true → pieces t r ≡ caret_piece r ∷ pieces_past t r k
-  caret_alone k e = ap (λ b. if b then caret_piece r ∷ [] else map (piece_in t r) (visited_runs t r)) e ∙ ap (λ b. caret_piece r ∷ (if b then [] else map (piece_in t r) (range_with_len (k + 1) (end_side_of.run - k)))) (sym e)
+  pub last_of_caret : is_degenerate t r ≡ true → last_passed t r ≡ r.start.run
+  last_of_caret e = ap (λ b. if b then r.start.run else end_side_of.run) e
 
-  pub none_past_caret : (k : ℕ) → is_degenerate t r ≡ true → pieces_past t r k ≡ []
-  none_past_caret k e = ap (λ b. if b then [] else map (piece_in t r) (range_with_len (k + 1) (end_side_of.run - k))) e
+  pub last_of_some : is_degenerate t r ≡ false → last_passed t r ≡ end_side_of.run
+  last_of_some e = ap (λ b. if b then r.start.run else end_side_of.run) e
 
-  past_is : (k : ℕ) → is_degenerate t r ≡ false → pieces_past t r k ≡ map (piece_in t r) (range_with_len (k + 1) (end_side_of.run - k))
-  past_is k e = ap (λ b. if b then [] else map (piece_in t r) (range_with_len (k + 1) (end_side_of.run - k))) e
+  pub none_past_last : (k : ℕ) → k ≡ last_passed t r → pieces_past t r k ≡ []
+  none_past_last k is = let none : last_passed t r - k ≡ 0 = omega (arith, is) in ap (λ n. map (piece_in t r) (range_with_len (k + 1) n)) none
+
+  pub caret_alone : is_degenerate t r ≡ true → pieces t r ≡ caret_piece r ∷ pieces_past t r r.start.run
+  caret_alone e = ap (λ b. if b then caret_piece r ∷ [] else map (piece_in t r) (visited_runs t r)) e ∙ ap (λ ps. caret_piece r ∷ ps) (sym (none_past_last r.start.run (sym (last_of_caret e))))
 
   pub first_in_range : (k : ℕ) → k ≡ start_side_of.run → start_side_of.run ≤ end_side_of.run → is_degenerate t r ≡ false → pieces t r ≡ piece_in t r k ∷ pieces_past t r k
   first_in_range k is le e =
-      let many : end_side_of.run + 1 - k ≡ suc (end_side_of.run - k) = omega (arith, is, le) in
+      let last = last_of_some e in
+      let many : end_side_of.run + 1 - k ≡ suc (last_passed t r - k) = omega (arith, is, le, last) in
       ap (λ b. if b then caret_piece r ∷ [] else map (piece_in t r) (visited_runs t r)) e
       ∙ ap (λ q. map (piece_in t r) (range_with_len q (end_side_of.run + 1 - q))) (sym is)
       ∙ ap (λ n. map (piece_in t r) (range_with_len k n)) many
-      ∙ ap (λ ps. piece_in t r k ∷ ps) (sym (past_is k e))
 
-  pub next_in_range : (k j : ℕ) → j ≡ k + 1 → k < end_side_of.run → is_degenerate t r ≡ false → pieces_past t r k ≡ piece_in t r j ∷ pieces_past t r j
-  next_in_range k j is less e =
-      let many : end_side_of.run - k ≡ suc (end_side_of.run - j) = omega (arith, is, less) in
-      past_is k e ∙ ap (λ q. map (piece_in t r) (range_with_len q (end_side_of.run - k))) (sym is)
+  pub next_in_range : (k j : ℕ) → j ≡ k + 1 → k < last_passed t r → pieces_past t r k ≡ piece_in t r j ∷ pieces_past t r j
+  next_in_range k j is less =
+      let many : last_passed t r - k ≡ suc (last_passed t r - j) = omega (arith, is, less) in
+      ap (λ q. map (piece_in t r) (range_with_len q (last_passed t r - k))) (sym is)
       ∙ ap (λ n. map (piece_in t r) (range_with_len j n)) many
-      ∙ ap (λ ps. piece_in t r j ∷ ps) (sym (past_is j e))
-
-  pub none_past_end : (k : ℕ) → k ≡ end_side_of.run → pieces_past t r k ≡ []
-  none_past_end k is = go (is_degenerate t r) refl
-    where
-      go : (b : Bool) → is_degenerate t r ≡ b → (if b then [] else map (piece_in t r) (range_with_len (k + 1) (end_side_of.run - k))) ≡ []
-      go true e = refl
-      go false e = let none : end_side_of.run - k ≡ 0 = omega (arith, is) in ap (λ n. map (piece_in t r) (range_with_len (k + 1) n)) none
 
   -- ---- where a piece begins and ends in its run
 

@@ -16,12 +16,12 @@ use Rattle.tree_views.specs.Runs.{root_of, run_id, sent_of, IsAfter}
 use Rattle.accesskit_consumer.specs.RunNumbers.{number_in}
 use Rattle.accesskit_consumer.specs.Positions.{IsAt, root_at, text_of, text_at, position_at}
 use Rattle.accesskit_consumer.specs.TextRanges.{text_in, range_at}
-use Rattle.accesskit_consumer.specs.Pieces.{piece_data, pieces_past, IsUpTo, IsNextPiece}
+use Rattle.accesskit_consumer.specs.Pieces.{piece_data, last_passed, pieces_past, IsUpTo, IsLastPassed, IsNextPiece}
 use Rattle.tree_views.proofs.Focusing.{is_not}
 use Rattle.accesskit_consumer.proofs.FlatRuns.{count_at_number, number_next, text_is_whole, is_position}
 use Rattle.accesskit_consumer.proofs.TextEnds.{then_at}
 use Rattle.accesskit_consumer.proofs.RunOrder.{number_of_one, one_of_number}
-use Rattle.accesskit_consumer.proofs.RangePieces.{apart_by_run, one_run_one_place, runs_in_order, caret_alone, first_in_range, next_in_range, none_past_end, piece_order, piece_within}
+use Rattle.accesskit_consumer.proofs.RangePieces.{apart_by_run, one_run_one_place, runs_in_order, last_of_caret, last_of_some, caret_alone, first_in_range, next_in_range, none_past_last, piece_order, piece_within}
 
 -- two runs of one root are one run exactly if they have one number
 module _ (p q : Run) (same : root_of p ≡ root_of q) where
@@ -110,46 +110,50 @@ module _ (r : TextRange) where
   -- of a range with nothing in it
   pub caret_of : (s : TextPosition) → IsAt r.root (range_at r).start s → is_degenerate (text_in r) (range_at r) ≡ true →
       IsNextPiece r (pieces (text_in r) (range_at r)) (record { run = s.run; from = s.index; to = s.index })
-  caret_of s at none = record {
-    same = at.same;
-    order = omega arith;
-    within = s.within;
-    reached = λ some. absurd (let both : true ≡ false = sym none ∙ some in cc);
-    is = caret_alone (text_in r) (range_at r) (number_in s.run) none
-        ∙ ap (λ (p : Position). (let d : PieceData = record { run = p.run; from = p.index; to = p.index } in d) ∷ pieces_past (text_in r) (range_at r) (number_in s.run)) (sym at.at);
-  }
+  caret_of s at none =
+      let number : number_in s.run ≡ (range_at r).start.run = ap (λ q. q.run) at.at in
+      record {
+        same = at.same;
+        order = omega arith;
+        within = s.within;
+        reached = (let last = last_of_caret (text_in r) (range_at r) none in omega (arith, number, last));
+        is = caret_alone (text_in r) (range_at r) none
+            ∙ ap (λ (p : Position). (let d : PieceData = record { run = p.run; from = p.index; to = p.index } in d) ∷ pieces_past (text_in r) (range_at r) p.run) (sym at.at);
+      }
 
+  pub caret_ends : (s : TextPosition) → IsAt r.root (range_at r).start s → is_degenerate (text_in r) (range_at r) ≡ true → IsLastPassed r s.run
+  caret_ends s at none = record { same = at.same; number = ap (λ q. q.run) at.at ∙ sym (last_of_caret (text_in r) (range_at r) none) }
+
+  -- of one with something in it
   pub first_part : (s a : TextPosition) (p : Piece) → IsAt r.root (range_at r).start s → IsAt (root_at s) (biased_to_start (text_at s) (position_at s)) a → is_degenerate (text_in r) (range_at r) ≡ false →
       p.run ≡ a.run → piece_data p ≡ piece_in (text_in r) (range_at r) (number_in a.run) → IsNextPiece r (pieces (text_in r) (range_at r)) p
   first_part s a p starts side some here is =
       let at : IsAt r.root (biased_to_start (text_in r) (range_at r).start) a = then_at biased_to_start r.root (range_at r).start s a starts side in
       let number : number_in a.run ≡ (biased_to_start (text_in r) (range_at r).start).run = ap (λ q. q.run) at.at in
       let order = runs_in_order (text_in r) (range_at r) (range_whole r) (start_is_position r) (end_is_position r) r.order some in
-      part_of (pieces (text_in r) (range_at r)) a.run p at.same (λ _. omega (arith, number, order)) here is (first_in_range (text_in r) (range_at r) (number_in a.run) number order some)
+      let last = last_of_some (text_in r) (range_at r) some in
+      part_of (pieces (text_in r) (range_at r)) a.run p at.same (omega (arith, number, order, last)) here is (first_in_range (text_in r) (range_at r) (number_in a.run) number order some)
+
+  pub side_ends : (e b : TextPosition) → IsAt r.root (range_at r).end e → IsAt (root_at e) (biased_to_end (text_at e) (position_at e)) b → is_degenerate (text_in r) (range_at r) ≡ false → IsLastPassed r b.run
+  side_ends e b ends side some =
+      let at : IsAt r.root (biased_to_end (text_in r) (range_at r).end) b = then_at biased_to_end r.root (range_at r).end e b ends side in
+      record { same = at.same; number = ap (λ q. q.run) at.at ∙ sym (last_of_some (text_in r) (range_at r) some) }
 
   -- whether a run is the last one
-  module _ (k : Run) (same : root_of k ≡ r.root) (e b : TextPosition) (ends : IsAt r.root (range_at r).end e) (side : IsAt (root_at e) (biased_to_end (text_at e) (position_at e)) b)
-      (x y : FullNodeId) (t : Bool) (xs : x ≡ run_id k) (ys : y ≡ run_id b.run) (tested : (t ≡ true) ↔ (x ≡ y)) where
-    end_at_run : IsAt r.root (biased_to_end (text_in r) (range_at r).end) b
-    end_at_run = then_at biased_to_end r.root (range_at r).end e b ends side
-
-    last_run_is : number_in b.run ≡ (biased_to_end (text_in r) (range_at r).end).run
-    last_run_is = ap (λ q. q.run) end_at_run.at
-
+  module _ (k last : Run) (same : root_of k ≡ r.root) (ends : IsLastPassed r last) (x y : FullNodeId) (t : Bool) (xs : x ≡ run_id k) (ys : y ≡ run_id last) (tested : (t ≡ true) ↔ (x ≡ y)) where
     pub none_after : t ≡ true → pieces_past (text_in r) (range_at r) (number_in k) ≡ []
-    none_after is = none_past_end (text_in r) (range_at r) (number_in k) (one_number k b.run (same ∙ sym end_at_run.same) (sym xs ∙ tested.0 is ∙ ys) ∙ last_run_is)
+    none_after is = none_past_last (text_in r) (range_at r) (number_in k) (one_number k last (same ∙ sym ends.same) (sym xs ∙ tested.0 is ∙ ys) ∙ ends.number)
 
-    pub some_after : t ≡ false → IsUpTo r k → is_degenerate (text_in r) (range_at r) ≡ false → number_in k < (biased_to_end (text_in r) (range_at r).end).run
-    some_after is upto some =
-        let le = upto some in
-        let apart : number_in k ≢ (biased_to_end (text_in r) (range_at r).end).run =
-        λ h. is_not t (x ≡ y) tested is (xs ∙ one_id k b.run (same ∙ sym end_at_run.same) (h ∙ sym last_run_is) ∙ sym ys) in
-        omega (arith, le, apart)
+    some_after : t ≡ false → IsUpTo r k → number_in k < last_passed (text_in r) (range_at r)
+    some_after is upto =
+        let apart : number_in k ≢ last_passed (text_in r) (range_at r) =
+        λ h. is_not t (x ≡ y) tested is (xs ∙ one_id k last (same ∙ sym ends.same) (h ∙ sym ends.number) ∙ sym ys) in
+        omega (arith, upto, apart)
 
-    pub next_part : (n : Run) (p : Piece) → t ≡ false → IsUpTo r k → is_degenerate (text_in r) (range_at r) ≡ false → IsAfter k n → p.run ≡ n → piece_data p ≡ piece_in (text_in r) (range_at r) (number_in n) →
+    pub next_part : (n : Run) (p : Piece) → t ≡ false → IsUpTo r k → IsAfter k n → p.run ≡ n → piece_data p ≡ piece_in (text_in r) (range_at r) (number_in n) →
         IsNextPiece r (pieces_past (text_in r) (range_at r) (number_in k)) p
-    next_part n p is upto some after here part =
-        let less = some_after is upto some in
+    next_part n p is upto after here part =
+        let less = some_after is upto in
         let number : number_in n ≡ number_in k + 1 = number_next k n after in
-        part_of (pieces_past (text_in r) (range_at r) (number_in k)) n p (after.root ∙ same) (λ _. omega (arith, number, less)) here part
-        (next_in_range (text_in r) (range_at r) (number_in k) (number_in n) number less some)
+        part_of (pieces_past (text_in r) (range_at r) (number_in k)) n p (after.root ∙ same) (omega (arith, number, less)) here part
+        (next_in_range (text_in r) (range_at r) (number_in k) (number_in n) number less)

@@ -15,8 +15,10 @@ pub mod TextRanges
 pub mod Pieces
 pub mod GlobalIndexes
 pub mod PieceTexts
+pub mod TextCalls
 pub mod RangeProperties
 pub mod SameRanges
 pub mod FoundRanges
 pub mod WeakRanges
 pub mod Passes
+pub mod Secrets

@@ -31,6 +31,10 @@ pub mod walks {
     };
 }
 
+pub use filters::{FilterResult, common_filter, common_filter_with_root_exception};
 pub use node::{FullNodeId, NodeRef};
-pub use text::{TextIndexes, TextPlaces, TextRoot, TextSelections};
+pub use text::{
+    TextIndexes, TextPlaces, TextPosition, TextRange, TextRangePropertyValue, TextRoot,
+    TextSelections, WeakTextRange,
+};
 pub use tree::{StateRef, Tree, TreeChangeHandler, TreeState, UpdateError};

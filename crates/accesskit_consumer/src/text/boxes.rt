@@ -10,6 +10,7 @@ ghost use Rattle.accesskit_consumer.specs.TextRanges.{text_in, range_at};
 ghost use Rattle.accesskit_consumer.specs.Pieces.{piece_data};
 ghost use Rattle.accesskit_consumer.specs.Measures.{measures, IsAlong};
 ghost use Rattle.accesskit_consumer.specs.Boxes.{box_of, cut_of, IsOnRun};
+ghost use Rattle.accesskit_consumer.specs.Secrets.{InEachText};
 
 use crate::text::metrics::{Metrics, metrics_of};
 use crate::text::pieces::Piece;
@@ -173,19 +174,21 @@ impl TextRange<'_> {
     /// Where the range is shown, in units, as the root of all sees it: one box for each run that it passes, in order;
     /// of a range with nothing in it one, where its start is. None at all if one of the runs lacks a rectangle, the
     /// places or widths of its characters, or a direction. It takes memory.
+    #[tactic(auto, using(model::proofs::Text::Secrets::one_text))]
     pub fn bounding_boxes(&self, alloc: Global) -> Result<Vec<WideRect>, AllocError>
-        ensures { let all = bounding_boxes (text_in self.now) (range_at self.now) in
+        ensures boxes { let all = bounding_boxes (text_in self.now) (range_at self.now) in
             IfOk result (λ boxes. boxes.items ≡ all) }
+        ensures secret { IfOk result (λ boxes. InEachText self.now.root (λ t. boxes.items ≡ bounding_boxes t (range_at self.now))) }
     {
         let range = *self;
         let mut boxes = Vec::new(alloc);
-        let mut piece = range.first_piece();
+        let (mut piece, last) = range.first_and_last();
         loop {
             let Some(shown) = piece.bounding_box() else {
                 return Ok(Vec::new(alloc));
             };
             boxes.push(shown)?;
-            let Some(next) = range.next_piece(piece.run) else {
+            let Some(next) = range.next_piece(piece.run, last) else {
                 return Ok(boxes);
             };
             piece = next;

@@ -8,6 +8,7 @@ ghost use Rattle.accesskit_consumer.specs.Formats.{style_at};
 ghost use Rattle.tree_views.specs.Runs.{IsAfter};
 ghost use Rattle.accesskit_consumer.specs.RunNumbers.{number_in, text_around};
 ghost use Rattle.accesskit_consumer.specs.Positions.{IsMoved, text_at, position_at};
+ghost use Rattle.accesskit_consumer.specs.Secrets.{IsMovedInEach};
 
 use crate::text::looks::{Look, are_same};
 use crate::text::position::TextPosition;
@@ -90,7 +91,8 @@ impl<'a> TextPosition<'a> {
 
     /// The start of the next format after that of the position's run; where there is none, the end of the text.
     pub fn forward_to_format_start(&self) -> TextPosition<'a>
-        ensures { IsMoved forward_to_format_start self.now result }
+        ensures moved { IsMoved forward_to_format_start self.now result }
+        ensures secret { IsMovedInEach forward_to_format_start self.now result }
     {
         let position = *self;
         let mut run = position.run;
@@ -113,14 +115,16 @@ impl<'a> TextPosition<'a> {
 
     /// The start of the next format, at the end of the run before it; else the end of the text.
     pub fn forward_to_format_end(&self) -> TextPosition<'a>
-        ensures { IsMoved forward_to_format_end self.now result }
+        ensures moved { IsMoved forward_to_format_end self.now result }
+        ensures secret { IsMovedInEach forward_to_format_end self.now result }
     {
         self.forward_to_format_start().biased_to_end()
     }
 
     /// The start of the format; from the start of a run that of the format of the run before it, where there is one.
     pub fn backward_to_format_start(&self) -> TextPosition<'a>
-        ensures { IsMoved backward_to_format_start self.now result }
+        ensures moved { IsMoved backward_to_format_start self.now result }
+        ensures secret { IsMovedInEach backward_to_format_start self.now result }
     {
         self.biased_to_end().start_of_format()
     }

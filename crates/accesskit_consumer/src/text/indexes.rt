@@ -7,6 +7,7 @@ ghost use Rattle.tree_views.specs.Nodes.{world_at, id_at};
 ghost use Rattle.tree_views.specs.Runs.{sent_of};
 ghost use Rattle.accesskit_consumer.specs.Positions.{root_at, text_of, text_at, position_at};
 ghost use Rattle.accesskit_consumer.specs.GlobalIndexes.{IsCut, unit_len, length_to, length_of};
+ghost use Rattle.accesskit_consumer.specs.Secrets.{InEachText};
 
 use crate::text::position::TextPosition;
 use tree_views::node::NodeRef;
@@ -128,16 +129,20 @@ impl TextPosition<'_> {
     }
 
     /// How many scalars of the text are before the position. A bullet of a masked password counts as one.
+    #[tactic(auto, using(model::proofs::Text::Secrets::one_text))]
     pub fn to_global_usv_index(&self) -> usize
-        ensures { result ≡ to_global_usv_index (text_at self.now) (position_at self.now) }
+        ensures index { result ≡ to_global_usv_index (text_at self.now) (position_at self.now) }
+        ensures secret { InEachText (root_at self.now) (λ t. result ≡ to_global_usv_index t (position_at self.now)) }
     {
         let position = *self;
         position.global_index(Units::Scalars)
     }
 
     /// How many units of UTF-16 of the text are before the position. A bullet of a masked password counts as one.
+    #[tactic(auto, using(model::proofs::Text::Secrets::one_text))]
     pub fn to_global_utf16_index(&self) -> usize
-        ensures { result ≡ to_global_utf16_index (text_at self.now) (position_at self.now) }
+        ensures index { result ≡ to_global_utf16_index (text_at self.now) (position_at self.now) }
+        ensures secret { InEachText (root_at self.now) (λ t. result ≡ to_global_utf16_index t (position_at self.now)) }
     {
         let position = *self;
         position.global_index(Units::Utf16)

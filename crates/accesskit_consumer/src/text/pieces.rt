@@ -4,7 +4,7 @@ ghost use Rattle.model.specs.Ranges.{piece_in, pieces};
 ghost use Rattle.tree_views.specs.Runs.{root_of};
 ghost use Rattle.accesskit_consumer.specs.RunNumbers.{number_in};
 ghost use Rattle.accesskit_consumer.specs.TextRanges.{text_in, range_at};
-ghost use Rattle.accesskit_consumer.specs.Pieces.{IsNextPiece, IsUpTo, piece_data, pieces_past};
+ghost use Rattle.accesskit_consumer.specs.Pieces.{IsLastPassed, IsNextPiece, IsUpTo, piece_data, pieces_past};
 
 use crate::text::range::TextRange;
 use tree_views::node::same::is_same;
@@ -37,34 +37,37 @@ impl<'a> TextRange<'a> {
         Piece { run, from, to }
     }
 
-    /// The first piece; of a range with nothing in it the one that there is, with nothing in it.
-    pub(super) fn first_piece(self) -> Piece<'a>
-        ensures { let all = pieces (text_in self.entry) (range_at self.entry) in
-            IsNextPiece self.entry all result }
+    /// The first piece, and the run of the last one. Of a range with nothing in it there is one, with nothing in it.
+    ///
+    /// Whether there is something in the range, and on which side of its run its end is, may take a look at all that
+    /// follows the range: so it is asked once, and not for each piece.
+    pub(super) fn first_and_last(self) -> (Piece<'a>, Run<'a>)
+        ensures first { let all = pieces (text_in self.entry) (range_at self.entry) in
+            IsNextPiece self.entry all result.0 }
+        ensures last { IsLastPassed self.entry result.1 }
     {
+        let start = self.start();
         if self.is_degenerate() {
-            let start = self.start();
-            return Piece {
+            let caret = Piece {
                 run: start.run,
                 from: start.index,
                 to: start.index,
             };
+            return (caret, start.run);
         }
-        self.piece_in(self.start().biased_to_start().run)
+        let first = self.piece_in(start.biased_to_start().run);
+        (first, self.end().biased_to_end().run)
     }
 
     /// The piece after the one in this run, where there is one.
-    pub(super) fn next_piece(self, run: Run<'a>) -> Option<Piece<'a>>
+    pub(super) fn next_piece(self, run: Run<'a>, last: Run<'a>) -> Option<Piece<'a>>
         requires same { root_of run ≡ self.root }
         requires reached { IsUpTo self run }
+        requires ends { IsLastPassed self last }
         ensures { let k = number_in run.entry in
             let left = pieces_past (text_in self.entry) (range_at self.entry) k in
             MatchOption result (left ≡ []) (IsNextPiece self.entry left) }
     {
-        if self.is_degenerate() {
-            return None;
-        }
-        let last = self.end().biased_to_end().run;
         if is_same(run.id(), last.id()) {
             return None;
         }

@@ -70,10 +70,10 @@ impl<'a> TextPosition<'a> {
         ensures { result ≡ is_document_end (text_at self.now) (position_at self.now) }
     {
         let position = *self;
-        if !is_last(position.run) {
+        if position.index != position.run.character_count() {
             return false;
         }
-        position.index == position.run.character_count()
+        is_last(position.run)
     }
 
     /// Whether the text starts at the position: a text has one page.

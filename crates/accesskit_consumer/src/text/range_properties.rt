@@ -32,13 +32,13 @@ impl<'a> TextRange<'a> {
     fn sample(self, what: Look) -> Option<NodeRef<'a>>
         ensures { MatchOption result (SomeDiffer what self.entry) (IsSample what self.entry) }
     {
-        let mut piece = self.first_piece();
+        let (mut piece, last) = self.first_and_last();
         let node = piece.run.view();
         loop {
             if !are_same(what, piece.run.view(), node) {
                 return None;
             }
-            let Some(next) = self.next_piece(piece.run) else {
+            let Some(next) = self.next_piece(piece.run, last) else {
                 return Some(node);
             };
             piece = next;

@@ -8,8 +8,9 @@ ghost use Rattle.model.specs.Ranges.{document_range, selection, selection_anchor
 ghost use Rattle.tree_views.specs.Nodes.{world_at, id_at};
 ghost use Rattle.accesskit_consumer.specs.TextRoots.{HasText};
 ghost use Rattle.accesskit_consumer.specs.Positions.{IsAt, root_at, text_of, position_at};
-ghost use Rattle.accesskit_consumer.specs.TextRanges.{IsRangeOf};
+ghost use Rattle.accesskit_consumer.specs.TextRanges.{IsRangeOf, range_at};
 ghost use Rattle.accesskit_consumer.specs.FoundRanges.{IsAtFound, IsRangeFound, range_of_line};
+ghost use Rattle.accesskit_consumer.specs.Secrets.{InEachText};
 
 use crate::text::ends::{document_end, document_start};
 use crate::text::indexes::{Units, position_from};
@@ -100,9 +101,11 @@ impl<'a> TextRoot<'a> for NodeRef<'a> {
         document_start(*self)
     }
 
+    #[tactic(auto, using(model::proofs::Text::Secrets::one_text))]
     fn document_end(&self) -> TextPosition<'a>
         requires { supports_text_ranges (world_at self.now) (id_at self.now) ≡ true }
-        ensures { IsAt self.now (document_end (text_of self.now)) result }
+        ensures at { IsAt self.now (document_end (text_of self.now)) result }
+        ensures secret { InEachText self.now (λ t. position_at result ≡ document_end t) }
     {
         document_end(*self)
     }
@@ -119,18 +122,22 @@ impl<'a> TextRoot<'a> for NodeRef<'a> {
 impl<'a> TextIndexes<'a> for NodeRef<'a> {
     ghost may_ask = { HasText };
 
+    #[tactic(auto, using(model::proofs::Text::Secrets::one_text))]
     fn text_position_from_global_usv_index(&self, index: usize) -> Option<TextPosition<'a>>
         requires { supports_text_ranges (world_at self.now) (id_at self.now) ≡ true }
         ensures at { option_map position_at result ≡ position_from_usv (text_of self.now) index }
         ensures same { IfSome result (λ p. root_at p ≡ self.now) }
+        ensures secret { InEachText self.now (λ t. option_map position_at result ≡ position_from_usv t index) }
     {
         position_from(*self, Units::Scalars, index)
     }
 
+    #[tactic(auto, using(model::proofs::Text::Secrets::one_text))]
     fn text_position_from_global_utf16_index(&self, index: usize) -> Option<TextPosition<'a>>
         requires { supports_text_ranges (world_at self.now) (id_at self.now) ≡ true }
         ensures at { option_map position_at result ≡ position_from_utf16 (text_of self.now) index }
         ensures same { IfSome result (λ p. root_at p ≡ self.now) }
+        ensures secret { InEachText self.now (λ t. option_map position_at result ≡ position_from_utf16 t index) }
     {
         position_from(*self, Units::Utf16, index)
     }
@@ -139,17 +146,21 @@ impl<'a> TextIndexes<'a> for NodeRef<'a> {
 impl<'a> TextPlaces<'a> for NodeRef<'a> {
     ghost may_ask = { HasText };
 
+    #[tactic(auto, using(model::proofs::Text::Secrets::one_text))]
     fn line_range_from_index(&self, index: usize) -> Option<TextRange<'a>>
         requires { supports_text_ranges (world_at self.now) (id_at self.now) ≡ true }
-        ensures { let range = range_of_line (text_of self.now) index in
+        ensures found { let range = range_of_line (text_of self.now) index in
             IsRangeFound (world_at self.now) (id_at self.now) range result }
+        ensures secret { InEachText self.now (λ t. option_map range_at result ≡ range_of_line t index) }
     {
         line_range_of(*self, index)
     }
 
+    #[tactic(auto, using(model::proofs::Text::Secrets::one_text))]
     fn text_position_at_point(&self, point: Point) -> TextPosition<'a>
         requires { supports_text_ranges (world_at self.now) (id_at self.now) ≡ true }
-        ensures { IsAt self.now (position_at_point (text_of self.now) point) result }
+        ensures at { IsAt self.now (position_at_point (text_of self.now) point) result }
+        ensures secret { InEachText self.now (λ t. position_at result ≡ position_at_point t point) }
     {
         position_at(*self, point)
     }

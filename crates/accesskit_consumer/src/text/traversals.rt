@@ -8,7 +8,9 @@ ghost use Rattle.model.specs.Values.{bullets};
 ghost use Rattle.accesskit_consumer.specs.TextRanges.{world_in, root_in, text_in, range_at};
 ghost use Rattle.accesskit_consumer.specs.Passes.{longest, IsEnough, IsPassed};
 ghost use Rattle.accesskit_consumer.specs.PieceTexts.{are_cut_off, left_by, IsPart, sent_part, shown_part};
-ghost use Rattle.tree_views.specs.Writes.{IsWritten, IsCutShort};
+ghost use Rattle.accesskit_consumer.specs.TextCalls.{part_calls, range_calls};
+ghost use Rattle.tree_views.specs.Writes.{IsCalled, IsCalledTillFault, IsWritten, IsCutShort};
+ghost use Rattle.accesskit_consumer.specs.Secrets.{InEachText};
 
 use crate::text::pieces::Piece;
 use crate::text::range::TextRange;
@@ -50,6 +52,9 @@ impl<'a> Piece<'a> {
             OnOk result (IsWritten W.received W.faults text writer.old writer.new) }
         ensures err { let text = shown_part masked self.entry in
             OnErr result (IsCutShort W.received W.faults text writer.old writer.new) }
+        ensures called { OnOk result (IsCalled W.steps (part_calls masked self.entry) writer.old writer.new) }
+        ensures stopped { let calls = part_calls masked self.entry in
+            OnErr result (IsCalledTillFault W.steps calls writer.old writer.new) }
     {
         if masked {
             return write_bullets(self.to - self.from, writer);
@@ -60,24 +65,27 @@ impl<'a> Piece<'a> {
 
 impl TextRange<'_> {
     /// Writes the text of the range, with a bullet for each character of a password of which two differ. No memory is
-    /// taken.
+    /// taken. The writer is called once a bullet, by `write_char`, or else once a run of the range, by `write_str`.
     ///
     /// # Errors
     ///
-    /// The writer took no more. It has a beginning of the text then, and counts one failure more.
+    /// The writer took no more. It has a beginning of the text then, counts one failure more, and isn't called again.
     pub fn write_text<W: TextWrite>(&self, writer: &mut W) -> Result<(), TextFault>
         requires { W.faults writer.old + 1 < 2 ^ 128 }
         ensures ok { let text = text_of (text_in self.now) (range_at self.now) in
             OnOk result (IsWritten W.received W.faults text writer.old writer.new) }
         ensures err { let text = text_of (text_in self.now) (range_at self.now) in
             OnErr result (IsCutShort W.received W.faults text writer.old writer.new) }
+        ensures called { OnOk result (IsCalled W.steps (range_calls self.now) writer.old writer.new) }
+        ensures stopped { OnErr result (IsCalledTillFault W.steps (range_calls self.now) writer.old writer.new) }
+        ensures secret { OnOk result (InEachText self.now.root (λ t. IsWritten W.received W.faults (text_of t (range_at self.now)) writer.old writer.new)) }
     {
         let range = *self;
         let masked = needs_masking(range.root);
-        let mut piece = range.first_piece();
+        let (mut piece, last) = range.first_and_last();
         loop {
             piece.write(masked, writer)?;
-            let Some(next) = range.next_piece(piece.run) else {
+            let Some(next) = range.next_piece(piece.run, last) else {
                 return Ok(());
             };
             piece = next;
@@ -89,9 +97,11 @@ impl TextRange<'_> {
     /// # Errors
     ///
     /// `AllocError`: memory was wanting.
+    #[tactic(auto, using(model::proofs::Text::Secrets::one_text))]
     pub fn text(&self, alloc: Global) -> Result<String, AllocError>
-        ensures { let bytes = text_of (text_in self.now) (range_at self.now) in
+        ensures text { let bytes = text_of (text_in self.now) (range_at self.now) in
             IfOk result (λ text. string_bytes text ≡ bytes) }
+        ensures secret { IfOk result (λ text. InEachText self.now.root (λ t. string_bytes text ≡ text_of t (range_at self.now))) }
     {
         let mut buffer = TextBuffer::new(alloc);
         match self.write_text(&mut buffer) {
@@ -135,11 +145,11 @@ impl TextRange<'_> {
     fn longest(self) -> usize
         ensures { result ≡ longest (pieces (text_in self.entry) (range_at self.entry)) }
     {
-        let mut piece = self.first_piece();
+        let (mut piece, last) = self.first_and_last();
         let mut most = 0;
         loop {
             most = most.max(piece.to - piece.from);
-            let Some(next) = self.next_piece(piece.run) else {
+            let Some(next) = self.next_piece(piece.run, last) else {
                 return most;
             };
             piece = next;
@@ -151,26 +161,47 @@ impl TextRange<'_> {
         self,
         masked: bool,
         bullets: &str,
-        mut f: F,
+        f: &mut F,
     ) -> Option<T>
-        requires callable { F.IsAlwaysCallable f }
+        requires callable { F.IsAlwaysCallable f.old }
         requires masking { masked ≡ needs_masking (world_in self) (root_in self) }
         requires enough { let all = pieces (text_in self) (range_at self) in
             IsEnough masked bullets.now (longest all) }
         ensures { let passed = passed_texts (text_in self.entry) (range_at self.entry) in
-            (last : F) × IsPassed F.FnMut (world_in self.entry) passed f result last }
+            IsPassed F.FnMut (world_in self.entry) passed f.old result f.new }
     {
-        let mut piece = self.first_piece();
+        let (mut piece, last) = self.first_and_last();
         loop {
             let view = piece.run.view();
             if let Some(answer) = f(&view, piece.shown(masked, bullets)) {
                 return Some(answer);
             }
-            let Some(next) = self.next_piece(piece.run) else {
+            let Some(next) = self.next_piece(piece.run, last) else {
                 return None;
             };
             piece = next;
         }
+    }
+
+    /// The whole of [`TextRange::traverse_text`], by a reference, so that its contract sees what the calls leave of the
+    /// function: a refusal leaves it as it was, since it comes before the first call.
+    fn traverse<T, F: FnMut(&NodeRef<'_>, &str) -> Option<T>>(
+        self,
+        alloc: Global,
+        f: &mut F,
+    ) -> Result<Option<T>, AllocError>
+        requires { F.IsAlwaysCallable f.old }
+        ensures passed { let w = world_in self.entry in
+            let passed = passed_texts (text_in self.entry) (range_at self.entry) in
+            IfOk result (λ answer. IsPassed F.FnMut w passed f.old answer f.new) }
+        ensures uncalled { OnErr result (f.new ≡ f.old) }
+        ensures masked { OnErr result (needs_masking (world_in self.entry) (root_in self.entry) ≡ true) }
+    {
+        if !needs_masking(self.root) {
+            return Ok(self.pass(false, "", f));
+        }
+        let bullets = text_of_bullets(alloc, self.longest())?;
+        Ok(self.pass(true, bullets.as_str(), f))
     }
 
     /// Calls the function with each run of the range and what is shown of it, till it answers something, and answers that.
@@ -178,11 +209,11 @@ impl TextRange<'_> {
     ///
     /// # Errors
     ///
-    /// `AllocError`: memory was wanting.
+    /// `AllocError`: memory was wanting, and the function was not called.
     pub fn traverse_text<T, F: FnMut(&NodeRef<'_>, &str) -> Option<T>>(
         &self,
         alloc: Global,
-        f: F,
+        mut f: F,
     ) -> Result<Option<T>, AllocError>
         requires { F.IsAlwaysCallable f }
         ensures passed { let w = world_in self.now in
@@ -191,11 +222,6 @@ impl TextRange<'_> {
         ensures refused { let masked = needs_masking (world_in self.now) (root_in self.now) in
             OnErr result (masked ≡ true) }
     {
-        let range = *self;
-        if !needs_masking(range.root) {
-            return Ok(range.pass(false, "", f));
-        }
-        let bullets = text_of_bullets(alloc, range.longest())?;
-        Ok(range.pass(true, bullets.as_str(), f))
+        self.traverse(alloc, &mut f)
     }
 }

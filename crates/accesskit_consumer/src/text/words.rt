@@ -5,6 +5,7 @@ ghost use Rattle.model.specs.FlatText.{biased_to_start, biased_to_end, words_in,
 ghost use Rattle.model.specs.Moves.{forward_to_word_start, forward_to_word_end, backward_to_word_start};
 ghost use Rattle.accesskit_consumer.specs.RunNumbers.{number_in, text_around};
 ghost use Rattle.accesskit_consumer.specs.Positions.{IsMoved, text_at, position_at};
+ghost use Rattle.accesskit_consumer.specs.Secrets.{IsMovedInEach};
 
 use crate::text::boundaries::{Mark, begins_after};
 use crate::text::position::TextPosition;
@@ -137,21 +138,24 @@ impl<'a> TextPosition<'a> {
 
     /// The start of the next word or paragraph; where there is none, the end of the text.
     pub fn forward_to_word_start(&self) -> TextPosition<'a>
-        ensures { IsMoved forward_to_word_start self.now result }
+        ensures moved { IsMoved forward_to_word_start self.now result }
+        ensures secret { IsMovedInEach forward_to_word_start self.now result }
     {
         self.biased_to_start().word_after()
     }
 
     /// The start of the next word or paragraph, at the end of a run where two runs meet; else the end of the text.
     pub fn forward_to_word_end(&self) -> TextPosition<'a>
-        ensures { IsMoved forward_to_word_end self.now result }
+        ensures moved { IsMoved forward_to_word_end self.now result }
+        ensures secret { IsMovedInEach forward_to_word_end self.now result }
     {
         self.forward_to_word_start().biased_to_end()
     }
 
     /// The start of the word or paragraph before; where there is none, the start of the text.
     pub fn backward_to_word_start(&self) -> TextPosition<'a>
-        ensures { IsMoved backward_to_word_start self.now result }
+        ensures moved { IsMoved backward_to_word_start self.now result }
+        ensures secret { IsMovedInEach backward_to_word_start self.now result }
     {
         self.biased_to_end().word_before()
     }

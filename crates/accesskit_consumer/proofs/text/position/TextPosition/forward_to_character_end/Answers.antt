@@ -3,6 +3,8 @@ use Rattle.accesskit_consumer.specs.Positions.{text_at, position_at}
 use Rattle.accesskit_consumer.proofs.FlatRuns.{text_is_whole, is_position}
 use Rattle.accesskit_consumer.proofs.PositionSteps.{room_after}
 use Rattle.accesskit_consumer.proofs.CharacterMoves.{same_place, character_end}
+use Rattle.accesskit_consumer.proofs.Secrecy.{moved_in_each}
+use Rattle.model.specs.Moves.{forward_to_character_end}
 use Rattle.accesskit_consumer.proofs.text.position.TextPosition.forward_to_character_end.Goals as goal
 
 pub overflow_add-result : goal.overflow_add-result
@@ -15,8 +17,11 @@ invariant_of-result c =
     let room = room_after c.args.self.now c.biased_to_start-start.result c.biased_to_start-start.ensures c.requires in
     record { text = c.biased_to_start-start.result.text; within = omega (arith, room) }
 
-pub returns : goal.returns
-returns c =
+pub returns-clause-moved : goal.returns-clause-moved
+returns-clause-moved c =
     let p = c.args.self.now in
     let q = c.biased_to_start-start.ensures.at in
     record { same = c.biased_to_start-start.ensures.same; at = same_place _ _ _ (ap (λ s. s.run) q) (ap (λ s. s.index + 1) q) ∙ sym (character_end (text_at p) (text_is_whole p) (position_at p) (is_position p) c.requires) }
+
+pub returns-clause-secret : goal.returns-clause-secret
+returns-clause-secret c = moved_in_each forward_to_character_end c.args.self.now _ (returns-clause-moved c)

@@ -2,9 +2,14 @@ use Rattle.model.specs.FlatText.{biased_to_end}
 use Rattle.model.specs.Moves.{forward_to_format_start}
 use Rattle.accesskit_consumer.specs.Positions.{root_at, text_at, position_at}
 use Rattle.accesskit_consumer.proofs.TextEnds.{then_at}
+use Rattle.accesskit_consumer.proofs.Secrecy.{moved_in_each}
+use Rattle.model.specs.Moves.{forward_to_format_end}
 use Rattle.accesskit_consumer.proofs.text.position.TextPosition.forward_to_format_end.Goals as goal
 
-pub returns : goal.returns
-returns c =
+pub returns-clause-moved : goal.returns-clause-moved
+returns-clause-moved c =
     let p = c.args.self.now in
-    then_at biased_to_end (root_at p) (forward_to_format_start (text_at p) (position_at p)) c.forward_to_format_start.result c.biased_to_end.result c.forward_to_format_start.ensures c.biased_to_end.ensures
+    then_at biased_to_end (root_at p) (forward_to_format_start (text_at p) (position_at p)) c.forward_to_format_start.result c.biased_to_end.result c.forward_to_format_start.ensures.moved c.biased_to_end.ensures
+
+pub returns-clause-secret : goal.returns-clause-secret
+returns-clause-secret c = moved_in_each forward_to_format_end c.args.self.now _ (returns-clause-moved c)

@@ -4,10 +4,12 @@ use Rattle.accesskit_consumer.specs.RunNumbers.{number_in}
 use Rattle.accesskit_consumer.specs.Positions.{root_at, text_at}
 use Rattle.accesskit_consumer.proofs.TextEnds.{at_document_end}
 use Rattle.accesskit_consumer.proofs.FormatStarts.{starts_at_next, starts_later, starts_nowhere, at_start_from, at_no_start}
+use Rattle.accesskit_consumer.proofs.Secrecy.{moved_in_each}
+use Rattle.model.specs.Moves.{forward_to_format_start}
 use Rattle.accesskit_consumer.proofs.text.position.TextPosition.forward_to_format_start.Goals as goal
 
-pub returns-in_default : goal.returns-in_default
-returns-in_default c =
+pub returns-in_default-clause-moved : goal.returns-in_default-clause-moved
+returns-in_default-clause-moved c =
     let p = c.args.self.now in
     let r = c.loop-next.run in
     let loop = c.loop-next.invariant in
@@ -17,8 +19,8 @@ returns-in_default c =
           ∙ at_no_start (text_at p) (number_in p.run + 1) (begins_format (text_at p)) (loop.sought ∙ starts_nowhere p.run r loop.same c.in_default.ensures);
     }
 
-pub returns-then-begins_format_after : goal.returns-then-begins_format_after
-returns-then-begins_format_after c =
+pub returns-then-begins_format_after-clause-moved : goal.returns-then-begins_format_after-clause-moved
+returns-then-begins_format_after-clause-moved c =
     let p = c.args.self.now in
     let r = c.loop-next.run in
     let s = c.in-Some.next in
@@ -39,3 +41,9 @@ loop-next-preserved c =
       same = c.in-Some.ensures.root ∙ loop.same;
       sought = loop.sought ∙ starts_later p.run r loop.same s c.in-Some.ensures c.begins_format_after.result c.begins_format_after.ensures c.if-begins_format_after.false;
     }
+
+pub returns-in_default-clause-secret : goal.returns-in_default-clause-secret
+returns-in_default-clause-secret c = moved_in_each forward_to_format_start c.args.self.now _ (returns-in_default-clause-moved c)
+
+pub returns-then-begins_format_after-clause-secret : goal.returns-then-begins_format_after-clause-secret
+returns-then-begins_format_after-clause-secret c = moved_in_each forward_to_format_start c.args.self.now _ (returns-then-begins_format_after-clause-moved c)

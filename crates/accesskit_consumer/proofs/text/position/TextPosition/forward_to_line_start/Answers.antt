@@ -3,9 +3,14 @@ use Rattle.model.specs.Moves.{end_from}
 use Rattle.accesskit_consumer.specs.RunNumbers.{number_in}
 use Rattle.accesskit_consumer.specs.Positions.{root_at, text_at}
 use Rattle.accesskit_consumer.proofs.TextEnds.{then_at}
+use Rattle.accesskit_consumer.proofs.Secrecy.{moved_in_each}
+use Rattle.model.specs.Moves.{forward_to_line_start}
 use Rattle.accesskit_consumer.proofs.text.position.TextPosition.forward_to_line_start.Goals as goal
 
-pub returns : goal.returns
-returns c =
+pub returns-clause-moved : goal.returns-clause-moved
+returns-clause-moved c =
     let p = c.args.self.now in
     then_at biased_to_start (root_at p) (end_from (text_at p) (number_in p.run) (ends_line (text_at p))) c.end_of.result c.biased_to_start.result c.end_of.ensures c.biased_to_start.ensures
+
+pub returns-clause-secret : goal.returns-clause-secret
+returns-clause-secret c = moved_in_each forward_to_line_start c.args.self.now _ (returns-clause-moved c)

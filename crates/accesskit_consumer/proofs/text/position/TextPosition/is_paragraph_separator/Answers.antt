@@ -19,7 +19,7 @@ returns-then-not-is_paragraph_end c =
     let e = c.forward_to_character_end-end.result in
     let less = one_to_separate p c.biased_to_start-start.result c.biased_to_start-start.ensures c.character_count.result c.character_count.ensures c.if-start-character_count.false in
     let y = is_document_end (text_at e) (position_at e) in
-    sym (ap (λ x. x && not y) c.if-not-is_paragraph_end.true) ∙ separates p e c.is_paragraph_end.result y less c.forward_to_character_end-end.ensures c.is_paragraph_end.ensures refl
+    sym (ap (λ x. x && not y) c.if-not-is_paragraph_end.true) ∙ separates p e c.is_paragraph_end.result y less c.forward_to_character_end-end.ensures.moved c.is_paragraph_end.ensures refl
 
 pub returns : goal.returns
 returns c =
@@ -27,4 +27,4 @@ returns c =
     let e = c.forward_to_character_end-end.result in
     let less = one_to_separate p c.biased_to_start-start.result c.biased_to_start-start.ensures c.character_count.result c.character_count.ensures c.if-start-character_count.false in
     sym (ap (λ x. x && not c.is_document_end.result) c.if-not-is_paragraph_end.false)
-    ∙ separates p e c.is_paragraph_end.result c.is_document_end.result less c.forward_to_character_end-end.ensures c.is_paragraph_end.ensures c.is_document_end.ensures
+    ∙ separates p e c.is_paragraph_end.result c.is_document_end.result less c.forward_to_character_end-end.ensures.moved c.is_paragraph_end.ensures c.is_document_end.ensures

@@ -1,20 +1,26 @@
 use Rattle.std.proofs.Common.{ap}
 use Rattle.std.specs.List.{flat_map}
 use Rattle.model.specs.Ranges.{piece_text, pieces, text_of}
+use Rattle.model.proofs.Text.Secrets.{one_text}
+use Rattle.tree_views.specs.Nodes.{world_at, id_at}
 use Rattle.accesskit_consumer.specs.RunNumbers.{number_in}
 use Rattle.accesskit_consumer.specs.TextRanges.{text_in, range_at}
 use Rattle.accesskit_consumer.specs.Pieces.{pieces_past}
 use Rattle.accesskit_consumer.specs.PieceTexts.{shown_part}
 use Rattle.accesskit_consumer.proofs.PieceSteps.{pieces_from, as_next, part_there, texts_left, shown_first}
-use Rattle.tree_views.proofs.Writing.{starts, goes_on, stops, ends, rest_is, err_with}
+use Rattle.accesskit_consumer.specs.TextCalls.{part_calls, range_calls}
+use Rattle.accesskit_consumer.proofs.PieceCalls.{calls_with, calls_left, called_first}
+use Rattle.tree_views.proofs.Calling.{begins, called_on, broken_off, all_called, left_is}
+use Rattle.tree_views.proofs.Writing.{starts, goes_on, stops, ends, rest_is, text_is, err_with}
 use Rattle.accesskit_consumer.proofs.text.range.TextRange.write_text.Goals as goal
 
 pub loop-range-init : goal.loop-range-init
 loop-range-init g c =
     let r = c.args.self.now in
     record {
-      there = as_next r (pieces (text_in r) (range_at r)) c.first_piece-piece.result c.first_piece-piece.ensures;
-      way = rest_is (texts_left r (pieces (text_in r) (range_at r)) c.first_piece-piece.result c.first_piece-piece.ensures) (starts (text_of (text_in r) (range_at r)) c.args.writer.now);
+      there = as_next r (pieces (text_in r) (range_at r)) c.first_and_last.result.0 c.first_and_last.ensures.first;
+      calls = left_is g.W.TextWrite.steps (calls_left r (pieces (text_in r) (range_at r)) c.first_and_last.result.0 c.first_and_last.ensures.first) (begins g.W.TextWrite.steps (range_calls r) c.args.writer.now);
+      way = rest_is (texts_left r (pieces (text_in r) (range_at r)) c.first_and_last.result.0 c.first_and_last.ensures.first) (starts (text_of (text_in r) (range_at r)) c.args.writer.now);
     }
 
 pub write-requires-clause-part : goal.write-requires-clause-part
@@ -35,6 +41,9 @@ loop-range-preserved g c =
     let left = pieces_past (text_in r) (range_at r) (number_in p.run) in
     record {
       there = as_next r left c.in-Some.next c.in-Some.ensures;
+      calls = left_is g.W.TextWrite.steps (calls_left r left c.in-Some.next c.in-Some.ensures)
+          (called_on g.W.TextWrite.steps (part_calls c.needs_masking-masked.result p)
+          (left_is g.W.TextWrite.steps (called_first r p c.needs_masking-masked.result c.loop-range.invariant.there c.needs_masking-masked.ensures) c.loop-range.invariant.calls) c.in_ok-write.ensures.called);
       way = rest_is (texts_left r left c.in-Some.next c.in-Some.ensures)
           (goes_on (rest_is (shown_first r p c.needs_masking-masked.result c.loop-range.invariant.there c.needs_masking-masked.ensures) c.loop-range.invariant.way) c.in_ok-write.ensures.ok);
     }
@@ -45,3 +54,25 @@ returns-in_default-clause-ok g c =
     let p = c.loop-range.piece in
     ends (rest_is (ap (flat_map (piece_text (text_in r))) c.in_default.ensures)
     (goes_on (rest_is (shown_first r p c.needs_masking-masked.result c.loop-range.invariant.there c.needs_masking-masked.ensures) c.loop-range.invariant.way) c.in_ok-write.ensures.ok))
+
+pub returns-in_err-write-clause-stopped : goal.returns-in_err-write-clause-stopped
+returns-in_err-write-clause-stopped g c =
+    let r = c.args.self.now in
+    let p = c.loop-range.piece in
+    err_with c.from_residual.result
+    (broken_off g.W.TextWrite.steps (part_calls c.needs_masking-masked.result p) (calls_with r (pieces_past (text_in r) (range_at r) (number_in p.run)))
+    (left_is g.W.TextWrite.steps (called_first r p c.needs_masking-masked.result c.loop-range.invariant.there c.needs_masking-masked.ensures) c.loop-range.invariant.calls) c.in_err-write.ensures.stopped)
+
+pub returns-in_default-clause-called : goal.returns-in_default-clause-called
+returns-in_default-clause-called g c =
+    let r = c.args.self.now in
+    let p = c.loop-range.piece in
+    all_called g.W.TextWrite.steps (left_is g.W.TextWrite.steps (ap (calls_with r) c.in_default.ensures)
+    (called_on g.W.TextWrite.steps (part_calls c.needs_masking-masked.result p)
+    (left_is g.W.TextWrite.steps (called_first r p c.needs_masking-masked.result c.loop-range.invariant.there c.needs_masking-masked.ensures) c.loop-range.invariant.calls) c.in_ok-write.ensures.called))
+
+-- in a world of equal shape the text is the same
+pub returns-in_default-clause-secret : goal.returns-in_default-clause-secret
+returns-in_default-clause-secret g c = λ v same.
+    let r = c.args.self.now in
+    text_is (ap (λ t. text_of t (range_at r)) (one_text (id_at r.root) (world_at r.root) v same)) (returns-in_default-clause-ok g c)

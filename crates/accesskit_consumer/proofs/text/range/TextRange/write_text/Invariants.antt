@@ -4,13 +4,17 @@ use Rattle.model.specs.Ranges.{piece_text, text_of}
 use Rattle.accesskit_consumer.specs.TextRanges.{text_in, range_at}
 use Rattle.accesskit_consumer.specs.Pieces.{IsNextPiece}
 use Rattle.tree_views.specs.Writes.{IsUnderWay}
+use Rattle.tree_views.proofs.Calling.{IsCalledUpTo}
+use Rattle.accesskit_consumer.specs.TextCalls.{range_calls}
 use Rattle.accesskit_consumer.proofs.PieceSteps.{pieces_from}
+use Rattle.accesskit_consumer.proofs.PieceCalls.{calls_with}
 use Rattle.accesskit_consumer.proofs.text.range.TextRange.write_text.Given as goal
 
 -- the pieces before this one are written
 abbrev pub invariant-loop-range : goal.invariant-loop-range
 invariant-loop-range g l = record {
   there : IsNextPiece l.fn.self (pieces_from l.fn.self l.piece) l.piece;
+  calls : IsCalledUpTo g.W.TextWrite.steps (range_calls l.fn.self) (calls_with l.fn.self (pieces_from l.fn.self l.piece)) l.fn.writer l.writer;
   way : IsUnderWay g.W.TextWrite.received g.W.TextWrite.faults (text_of (text_in l.fn.self) (range_at l.fn.self)) (flat_map (piece_text (text_in l.fn.self)) (pieces_from l.fn.self l.piece)) l.fn.writer l.writer;
 }
 
