@@ -1,24 +1,27 @@
 -- A run, command by command.
-use Rattle.std.proofs.Common.{◌≡◌, ℕ, ◌≤◌, ◌+◌, List, [], ◌∷◌, ◌++◌, length, take, map, arith, sym, ap, ◌∙◌, subst, append_assoc}
+use Rattle.std.proofs.Common.{◌≡◌, ℕ, ◌≤◌, ◌+◌, List, [], ◌∷◌, ◌++◌, length, take, map, arith, inr, refl, sym, ap, ◌∙◌, subst, append_assoc}
 use Rattle.std.proofs.lemmas.List.{map-append, length-map, length-append}
 use Rattle.std.proofs.Math.Seq.{take-append_seam}
 use Rattle.model.specs.World.{World}
 use Rattle.model.specs.Events.{Event, Told}
 use Rattle.model.specs.State.{IsState}
 use Rattle.model.specs.Update.{UpdateData}
-use Rattle.model.specs.Run.{ToUpdate, Does, Runs, RunsUpTo}
-use Rattle.model.proofs.Run.Runs.{runs_more, replies_length, after_command}
+use Rattle.model.specs.Run.{ToUpdate, Does, Runs, MayStop, RunsUpTo}
+use Rattle.model.proofs.Alike.Runs.{runs_keep_secret}
+use Rattle.model.proofs.Run.Runs.{runs_one, runs_more, replies_length, after_command}
 use Rattle.tree_changes.specs.declared.error.UpdateError.{UpdateError}
 use Rattle.tree_views.specs.Replies.{reply_of}
-use Rattle.std.specs.Prelude.{Result, Ok, Err, Option, Some, None, IfSome, IsSomeAnd, if◌then◌else◌}
+use Rattle.std.specs.Prelude.{Result, Ok, Err, Option, Some, None, slice_get, IfSome, IsSomeAnd, if◌then◌else◌}
+use Rattle.std.specs.declared.alloc.AllocError.{AllocError}
 use Rattle.std.specs.Result.{IsOk, is_ok}
 use Rattle.std.specs.Global.{Vec}
 use Rattle.model.specs.Mirror.{Records, AreRecordsOf, MirrorsWhileKept}
 use Rattle.model.proofs.Mirror.KeptRecords.{kept_records_follow_run}
 use Rattle.session.specs.declared.commands.RunStopped.{RunStopped}
 use Rattle.session.specs.declared.commands.Command.{Command}
+use Rattle.session.specs.declared.commands.Command.TheVariants as command
 use Rattle.session.specs.declared.commands.Reply.{Reply}
-use Rattle.session.specs.Replied.{command_said, reply_said, IsRun}
+use Rattle.session.specs.Replied.{command_said, reply_said, TakesMemory, IsStep, IsAlikeStep, IsRun}
 
 -- one command more
 pub run_more : (w m v : World) (cs : List Command) (c : Command) (first rest : List Event) (rs : List Reply) (r : Reply) → Runs w (map command_said cs) m first (map reply_said rs) → Does m (command_said c) v rest (reply_said r) → Runs w (map command_said (cs ++ c ∷ [])) v (first ++ rest) (map reply_said (rs ++ r ∷ []))
@@ -37,27 +40,36 @@ first_said cs others =
     ∙ ap (λ n. take n (map command_said cs ++ map command_said others)) (sym (length-map cs command_said))
     ∙ take-append_seam (map command_said cs) (map command_said others)
 
-within : (cs others : List Command) → length cs ≤ length (map command_said (cs ++ others))
-within cs others = let e = length-map (cs ++ others) command_said in let f = length-append cs others in omega (arith, e, f)
+at_seam : (cs more : List Command) (c : Command) → slice_get (map command_said (cs ++ c ∷ more)) (length cs) ≡ Some (command_said c)
+at_seam [] more c = refl
+at_seam (d ∷ cs) more c = at_seam cs more c
 
--- it stops after some of them
-pub run_stops : (w v : World) (done : ℕ) (cs others all : List Command) (told : List Event) (rs : List Reply) → Runs w (map command_said cs) v told (map reply_said rs) → done ≡ length cs → all ≡ cs ++ others → RunsUpTo done w (map command_said all) v told (map reply_said rs)
-run_stops w v done cs others all told rs h is e =
+-- it may stop at a command whose reply takes memory
+may_stop : (cs more : List Command) (c : Command) → TakesMemory c → MayStop (length cs) (map command_said (cs ++ c ∷ more))
+may_stop cs more (command.Update u) h = absurd h
+may_stop cs more (command.HostFocus focused) h = absurd h
+may_stop cs more (command.Query q) h = inr (q, at_seam cs more (command.Query q), h)
+
+-- and then it stops after those before it
+pub run_stops : (w v : World) (done : ℕ) (cs more all : List Command) (c : Command) (told : List Event) (rs : List Reply) →
+    Runs w (map command_said cs) v told (map reply_said rs) → TakesMemory c → done ≡ length cs → all ≡ cs ++ c ∷ more → RunsUpTo done w (map command_said all) v told (map reply_said rs)
+run_stops w v done cs more all c told rs h takes is e =
     subst (λ xs. RunsUpTo done w (map command_said xs) v told (map reply_said rs)) (sym e)
-    (subst (λ n. RunsUpTo n w (map command_said (cs ++ others)) v told (map reply_said rs)) (sym is)
-    (within cs others, subst (λ xs. Runs w xs v told (map reply_said rs)) (sym (first_said cs others)) h))
+    (subst (λ n. RunsUpTo n w (map command_said (cs ++ c ∷ more)) v told (map reply_said rs)) (sym is)
+    (may_stop cs more c takes, subst (λ xs. Runs w xs v told (map reply_said rs)) (sym (first_said cs (c ∷ more))) h))
 
 -- a state stays one
 pub after_update : (w v : World) (u : UpdateData) (told : List Event) (r : Result (Unit {0}) UpdateError) → Does w (ToUpdate u) v told (reply_of r) → IsState w → IsState v
 after_update w v u told r = after_command w v (ToUpdate u) told (reply_of r)
 
 -- where memory is wanting for a reply, what ran before stands
-pub stops : {H : Type 0} (steps : H → Event → H → Type 0) (w m v : World) (s t u : H) (done : ℕ) (cs others all : List Command) (told : List Event) (rs : List Reply) →
-    Runs w (map command_said cs) m told (map reply_said rs) → Told steps s told t → ((more : List Event) × ((v ≡ m) × (more ≡ [])) × Told steps t more u) → done ≡ length rs → all ≡ cs ++ others →
+pub stops : {H : Type 0} (steps : H → Event → H → Type 0) (w m v : World) (s t u : H) (done : ℕ) (cs others more all : List Command) (c : Command) (told : List Event) (rs : List Reply) →
+    Runs w (map command_said cs) m told (map reply_said rs) → Told steps s told t → ((last : List Event) × ((v ≡ m) × (last ≡ []) × TakesMemory c) × Told steps t last u) → done ≡ length rs →
+    all ≡ cs ++ others → others ≡ c ∷ more →
     (x : List Event) × RunsUpTo done w (map command_said all) v x (map reply_said rs) × Told steps s x u
-stops steps w m v s t u done cs others all told rs runs heard rest is e =
+stops steps w m v s t u done cs others more all c told rs runs heard rest is e left =
     let kept : t ≡ u = subst (λ es. Told steps t es u) rest.1.1 rest.2 in
-    (told, subst (λ z. RunsUpTo done w (map command_said all) z told (map reply_said rs)) (sym rest.1.0) (run_stops w m done cs others all told rs runs (is ∙ as_many w m cs told rs runs) e), subst (Told steps s told) kept heard)
+    (told, subst (λ z. RunsUpTo done w (map command_said all) z told (map reply_said rs)) (sym rest.1.0) (run_stops w m done cs more all c told rs runs rest.1.2 (is ∙ as_many w m cs told rs runs) (e ∙ ap (λ xs. cs ++ xs) left)), subst (Told steps s told) kept heard)
 
 -- while a command is left, fewer than all have run
 pub one_left : (all cs others more : List Command) (c : Command) → all ≡ cs ++ others → others ≡ c ∷ more → length cs + 1 ≤ length all
@@ -71,6 +83,11 @@ others_left all cs others more c h left = h ∙ ap (λ xs. cs ++ xs) left ∙ sy
 -- what was appended
 pub appended : {X U E : Type 0} (r : Result U E) (old new : List X) (x : X) → IsOk r → new ≡ (if is_ok r then old ++ x ∷ [] else old) → new ≡ old ++ x ∷ []
 appended r old new x is h = h ∙ ap (λ b. if b then old ++ x ∷ [] else old) is
+
+-- a command alone is a run of one
+pub step_keeps_secret : (w v : World) (c : Command) (told : List Event) (result : Result Reply AllocError) → IsStep w c v told result → IsAlikeStep w c told result
+step_keeps_secret w v c told (Ok reply) h = runs_keep_secret w v (command_said c ∷ []) told (reply_said reply ∷ []) (runs_one w v (command_said c) told (reply_said reply) h)
+step_keeps_secret w v c told (Err wanting) h = tt
 
 -- a mirror follows a run, also one that stopped
 pub mirrored : (old new : World) (commands : List Command) (result : Result (Vec Reply) RunStopped) (told : List Event) (m n : Option Records) →

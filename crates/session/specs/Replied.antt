@@ -1,7 +1,8 @@
 -- Commands and replies as those of the model, and what a run is.
-use Rattle.std.specs.Prelude.{◌≡◌, List, map, Option, Some, None, option_map, option_and_then, Result, Ok, Err}
+use Rattle.std.specs.Prelude.{◌≡◌, IsTrue, List, [], ◌∷◌, map, Option, Some, None, option_map, option_and_then, Result, Ok, Err, ⊤}
 use Rattle.std.specs.Option.{option_map_or}
 use Rattle.std.specs.Global.{Vec}
+use Rattle.std.specs.declared.alloc.AllocError.{AllocError}
 use Rattle.std.specs.String.{string_bytes}
 use Rattle.schema.specs.declared.NodeId.{NodeId}
 use Rattle.schema.specs.declared.TreeId.{TreeId}
@@ -12,8 +13,9 @@ use Rattle.model.specs.declared.FullNodeId.{FullNodeId}
 use Rattle.model.specs.declared.queries.Query.{Query}
 use Rattle.model.specs.declared.queries.Query.TheVariants as query
 use Rattle.model.specs.Answers as answer
-use Rattle.model.specs.Queries.{node_named, answer_of}
-use Rattle.model.specs.Run.{CommandData, ToUpdate, ToHostFocus, ToQuery, ReplyData, Accepted, Refused, OutOfMemory, Answered, Runs, RunsUpTo}
+use Rattle.model.specs.Queries.{node_named, answer_of, takes_memory}
+use Rattle.model.specs.Run.{CommandData, ToUpdate, ToHostFocus, ToQuery, ReplyData, Accepted, Refused, OutOfMemory, Answered, Does, Runs, RunsUpTo}
+use Rattle.model.specs.AlikeRuns.{RunsAlike}
 use Rattle.tree_changes.specs.Refusals.{fault_of}
 use Rattle.session.specs.declared.commands.Command.{Command}
 use Rattle.session.specs.declared.commands.Command.TheVariants as command
@@ -32,6 +34,7 @@ reply_said reply.Accepted = Accepted
 reply_said (reply.Refused e) = option_map_or Refused (fault_of e) OutOfMemory
 reply_said (reply.Ids ids) = Answered (answer.Ids ids.items)
 reply_said (reply.Text text) = Answered (answer.Text (option_map string_bytes text))
+reply_said (reply.Set size position) = Answered (answer.Set size position)
 reply_said (reply.Node node) = Answered (answer.Node node)
 reply_said (reply.Position position) = Answered (answer.Position position)
 reply_said (reply.Indexes usv utf16 line) = Answered (answer.Indexes usv utf16 line)
@@ -48,6 +51,8 @@ subject (query.FollowingFiltered name filter) = Some name
 subject (query.PrecedingFiltered name filter) = Some name
 subject (query.Label name) = Some name
 subject (query.Value name) = Some name
+subject (query.Set name filter) = Some name
+subject (query.Text name) = Some name
 subject (query.Hit name point filter) = Some name
 subject query.Focus = None
 subject (query.Move name at move) = Some name
@@ -66,7 +71,28 @@ IsAnswer w q r = reply_said r ≡ Answered (answer_of w q)
 abbrev pub IsAnswerAt : World → FullNodeId → (NodeId × TreeId → Query) → Reply → Type 0
 IsAnswerAt w id asked r = (name : NodeId × TreeId) → node_named w name ≡ Some id → IsAnswer w (asked name) r
 
+-- the reply to the command takes memory
+abbrev pub TakesMemory : Command → Type 0
+TakesMemory (command.Update u) = ⊥
+TakesMemory (command.HostFocus focused) = ⊥
+TakesMemory (command.Query q) = IsTrue (takes_memory q)
+
+-- the command takes one world to another, these events are told, and this is the reply; or memory was wanting for the reply, and nothing is done
+abbrev pub IsStep : World → Command → World → List Event → Result Reply AllocError → Type 0
+IsStep old c new told (Ok reply) = Does old (command_said c) new told (reply_said reply)
+IsStep old c new told (Err wanting) = (new ≡ old) × (told ≡ []) × TakesMemory c
+
 -- the commands in turn take one world to another, these events are told, and these are the replies; or memory was wanting, and so did the first of them
 abbrev pub IsRun : World → List Command → World → List Event → Result (Vec Reply) RunStopped → Type 0
 IsRun old commands new told (Ok replies) = Runs old (map command_said commands) new told (map reply_said replies.items)
 IsRun old commands new told (Err stopped) = RunsUpTo stopped.done old (map command_said commands) new told (map reply_said stopped.replies.items)
+
+-- each session that is alike to this one, and wasn't stopped, replies alike and tells the same openly
+abbrev pub IsAlike : World → List Command → List Event → Result (Vec Reply) RunStopped → Type 0
+IsAlike old commands told (Ok replies) = RunsAlike old (map command_said commands) told (map reply_said replies.items)
+IsAlike old commands told (Err stopped) = ⊤
+
+-- and so does each that takes a command alike to this one
+abbrev pub IsAlikeStep : World → Command → List Event → Result Reply AllocError → Type 0
+IsAlikeStep old c told (Ok reply) = RunsAlike old (command_said c ∷ []) told (reply_said reply ∷ [])
+IsAlikeStep old c told (Err wanting) = ⊤

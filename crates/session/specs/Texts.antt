@@ -1,9 +1,7 @@
 -- Places in the text of a node.
-use Rattle.std.specs.Prelude.{ℕ, Option, None, if◌then◌else◌, ⊤}
+use Rattle.std.specs.Prelude.{ℕ, Option, None, if◌then◌else◌}
 use Rattle.model.specs.declared.FullNodeId.{FullNodeId}
 use Rattle.model.specs.declared.queries.At.{At}
-use Rattle.model.specs.declared.queries.Move.{Move}
-use Rattle.model.specs.declared.queries.Move.TheVariants as move
 use Rattle.model.specs.World.{World}
 use Rattle.model.specs.TextRuns.{supports_text_ranges}
 use Rattle.model.specs.FlatText.{Position, flat_text, offset}
@@ -18,31 +16,3 @@ offset_at p = offset (text_at p) (position_at p)
 -- the position of a place in the node's text, where there is both
 abbrev pub place_in : World → FullNodeId → At → Option Position
 place_in w id at = if supports_text_ranges w id then place_at (flat_text w id) at else None
-
--- ---- moves by what they go past
-
-abbrev pub IsByCharacter : Move → Type 0
-IsByCharacter move.ForwardToCharacterStart = ⊤
-IsByCharacter move.ForwardToCharacterEnd = ⊤
-IsByCharacter move.BackwardToCharacterStart = ⊤
-IsByCharacter m = ⊥
-
--- by a word, or by what looks alike
-abbrev pub IsByWord : Move → Type 0
-IsByWord move.ForwardToFormatStart = ⊤
-IsByWord move.ForwardToFormatEnd = ⊤
-IsByWord move.BackwardToFormatStart = ⊤
-IsByWord move.ForwardToWordStart = ⊤
-IsByWord move.ForwardToWordEnd = ⊤
-IsByWord move.BackwardToWordStart = ⊤
-IsByWord m = ⊥
-
--- by a line or a paragraph
-abbrev pub IsByLine : Move → Type 0
-IsByLine move.ForwardToLineStart = ⊤
-IsByLine move.ForwardToLineEnd = ⊤
-IsByLine move.BackwardToLineStart = ⊤
-IsByLine move.ForwardToParagraphStart = ⊤
-IsByLine move.ForwardToParagraphEnd = ⊤
-IsByLine move.BackwardToParagraphStart = ⊤
-IsByLine m = ⊥

@@ -1,17 +1,18 @@
 //! Answers to questions, a function for each kind of question.
-ghost use Rattle.std.specs.Prelude.{◌≡◌, IfOk, IfSome, option_map};
+ghost use Rattle.std.specs.Prelude.{◌≡◌, IsTrue, IfOk, OnErr, IfSome, option_map};
 ghost use Rattle.model.specs.State.{IsState};
 ghost use Rattle.model.specs.Geometry.{hit};
 ghost use Rattle.model.specs.Filters.{filter_named};
 ghost use Rattle.model.specs.FocusFound.{shown_focus};
-ghost use Rattle.model.specs.Queries.{node_named};
+ghost use Rattle.model.specs.Queries.{node_named, takes_memory};
+ghost use Rattle.model.specs.declared.queries.Query.TheVariants.{Set as ToSet};
 ghost use Rattle.tree_views.specs.Views.{world_of};
 ghost use Rattle.tree_views.specs.Nodes.{world_at, id_at};
-ghost use Rattle.session.specs.Replied.{subject, IsAbout, IsAnswer};
+ghost use Rattle.session.specs.Replied.{subject, IsAbout, IsAnswer, IsAnswerAt};
 
 use crate::commands::Reply;
 use crate::named::answer_by;
-use crate::texts::{indexes, movement, range_text};
+use crate::texts::{indexes, movement, range_text, text_in_runs};
 use crate::walked::{
     child_ids, filtered_ids, following_filtered_ids, following_ids, preceding_filtered_ids,
     preceding_ids,
@@ -54,6 +55,17 @@ fn hit_id(node: NodeRef, point: Point, filter: NamedFilter) -> Option<FullNodeId
     }
 }
 
+/// The size of the node's set, and the position in it.
+fn counted_set(node: NodeRef, filter: NamedFilter) -> Reply
+    ensures { IsAnswerAt (world_at node.entry) (id_at node.entry) (λ name. ToSet name filter) result }
+{
+    let shown = move |seen: &NodeRef<'_>| answer_by(filter, seen);
+    Reply::Set {
+        size: node.computed_size_of_set(&shown),
+        position: node.computed_position_in_set(&shown),
+    }
+}
+
 /// The name of the node that a question is about. The one about the focus is about none.
 fn subject_of(query: &Query) -> Option<NodeName>
     ensures { result ≡ subject query.now }
@@ -68,6 +80,8 @@ fn subject_of(query: &Query) -> Option<NodeName>
         | Query::PrecedingFiltered(name, _)
         | Query::Label(name)
         | Query::Value(name)
+        | Query::Set(name, _)
+        | Query::Text(name)
         | Query::Hit(name, _, _)
         | Query::Move(name, _, _)
         | Query::Indexes(name, _)
@@ -76,9 +90,14 @@ fn subject_of(query: &Query) -> Option<NodeName>
 }
 
 /// Answers a question about the node.
+///
+/// # Errors
+///
+/// Memory was wanting for the answer, which takes some.
 fn answer_about(alloc: Global, node: NodeRef, query: Query) -> Result<Reply, AllocError>
     requires { IsAbout (world_at node) (id_at node) query }
-    ensures { IfOk result (IsAnswer (world_at node.entry) query) }
+    ensures ok { IfOk result (IsAnswer (world_at node.entry) query) }
+    ensures err { OnErr result (IsTrue (takes_memory query)) }
 {
     match query {
         Query::Children(_) => Ok(Reply::Ids(child_ids(alloc, node)?)),
@@ -93,6 +112,8 @@ fn answer_about(alloc: Global, node: NodeRef, query: Query) -> Result<Reply, All
         }
         Query::Label(_) => Ok(Reply::Text(node.label(alloc)?)),
         Query::Value(_) => Ok(Reply::Text(node.value(alloc)?)),
+        Query::Set(_, filter) => Ok(counted_set(node, filter)),
+        Query::Text(_) => Ok(Reply::Text(text_in_runs(alloc, node)?)),
         Query::Hit(_, point, filter) => Ok(Reply::Node(hit_id(node, point, filter))),
         Query::Move(_, at, by) => Ok(movement(node, at, by)),
         Query::Indexes(_, at) => Ok(indexes(node, at)),
@@ -102,9 +123,14 @@ fn answer_about(alloc: Global, node: NodeRef, query: Query) -> Result<Reply, All
 }
 
 /// Answers a question of a state.
+///
+/// # Errors
+///
+/// Memory was wanting for the answer, which takes some.
 pub(crate) fn answer(alloc: Global, state: StateRef, query: Query) -> Result<Reply, AllocError>
     requires { IsState (world_of state) }
-    ensures { IfOk result (IsAnswer (world_of state.entry) query) }
+    ensures ok { IfOk result (IsAnswer (world_of state.entry) query) }
+    ensures err { OnErr result (IsTrue (takes_memory query)) }
 {
     let Some(name) = subject_of(&query) else {
         return Ok(Reply::Node(focus_id(state)));

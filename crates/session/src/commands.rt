@@ -23,6 +23,11 @@ pub enum Reply {
     Refused(UpdateError),
     Ids(Vec<FullNodeId>),
     Text(Option<String>),
+    /// The size of a node's set, and the position in it.
+    Set {
+        size: Option<usize>,
+        position: Option<usize>,
+    },
     Node(Option<FullNodeId>),
     /// Where a move leads. There is none for a move by a character past an end of the text.
     Position(Option<TextPosition>),

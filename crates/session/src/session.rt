@@ -1,13 +1,14 @@
 //! A session, and its runs.
-ghost use Rattle.std.specs.Prelude.{◌≡◌, [], List, MatchResult, IfOk, IfErr, IfSome, IsSomeAnd};
+ghost use Rattle.std.specs.Prelude.{◌≡◌, IsTrue, List, IfOk, OnErr, IfErr, IfSome, IsSomeAnd};
 ghost use Rattle.schema.specs.UpdateData.{update_data};
 ghost use Rattle.model.specs.Events.{Event, Told};
 ghost use Rattle.model.specs.Mirror.{AreRecordsOf, MirrorsWhileKept};
 ghost use Rattle.model.specs.Run.{Begins, Does, ToUpdate, ToHostFocus, Accepted};
 ghost use Rattle.model.specs.State.{empty_world};
+ghost use Rattle.model.specs.Queries.{takes_memory};
 ghost use Rattle.tree_changes.specs.Refusals.{IsRefusal};
 ghost use Rattle.tree_views.specs.Replies.{reply_of};
-ghost use Rattle.session.specs.Replied.{command_said, reply_said, IsAnswer, IsRun};
+ghost use Rattle.session.specs.Replied.{reply_said, IsAnswer, IsRun, IsStep, IsAlike, IsAlikeStep};
 
 use crate::answers::answer;
 use crate::commands::{Command, Reply, RunStopped};
@@ -50,7 +51,11 @@ impl Model for Session {
 }
 
 impl Session {
-    /// The session of a first update. Of it nothing is told. It is refused as [`Tree::new`] refuses it.
+    /// The session of a first update. Of it nothing is told.
+    ///
+    /// # Errors
+    ///
+    /// The update is refused, as [`Tree::new`] refuses it.
     pub fn new(
         alloc: Global,
         update: TreeUpdate,
@@ -91,22 +96,28 @@ impl Session {
 
     /// Answers a question.
     fn ask(&self, query: Query) -> Result<Reply, AllocError>
-        ensures { IfOk result (IsAnswer self.now query) }
+        ensures ok { IfOk result (IsAnswer self.now query) }
+        ensures err { OnErr result (IsTrue (takes_memory query)) }
     {
         answer(self.alloc, self.tree.state().view(), query)
     }
 
-    /// Runs a command. Where memory is wanting for the answer to a question, nothing has changed and nothing is told.
-    fn reply<H: TreeChangeHandler>(
+    /// Runs a command, and replies to it. The handler is told of each change of the tree in order.
+    ///
+    /// An update that finds no memory is refused, which is a reply.
+    ///
+    /// # Errors
+    ///
+    /// Memory was wanting for the answer to a question, which takes some. Nothing has changed, and nothing is told.
+    pub fn step<H: TreeChangeHandler>(
         &mut self,
         command: Command,
         handler: &mut H,
     ) -> Result<Reply, AllocError>
-        ensures { (told : List Event)
-            × MatchResult result
-            (λ reply. Does self.old (command_said command) self.new told (reply_said reply))
-            (λ _. (self.new ≡ self.old) × (told ≡ []))
+        ensures done { (told : List Event)
+            × IsStep self.old command self.new told result
             × Told H.steps handler.old told handler.new }
+        ensures alike { (told : List Event) → IsStep self.old command self.new told result → IsAlikeStep self.old command told result }
     {
         match command {
             Command::Update(update) => Ok(self.update(update, handler)),
@@ -127,21 +138,23 @@ impl Session {
     ///
     /// `RunStopped`: memory was wanting for that room, or for the answer to a question. The commands before it stand,
     /// with their replies, and the others didn't run.
+    #[tactic(auto, using(model::proofs::Alike::Runs::runs_keep_secret))]
     pub fn run<H: TreeChangeHandler>(
         &mut self,
         commands: Vec<Command>,
         handler: &mut H,
     ) -> Result<Vec<Reply>, RunStopped>
-        ensures { (told : List Event)
+        ensures run { (told : List Event)
             × IsRun self.old commands.items self.new told result
             × Told H.steps handler.old told handler.new }
+        ensures alike { (told : List Event) → IsRun self.old commands.items self.new told result → IsAlike self.old commands.items told result }
     {
         let Ok(mut replies) = Vec::with_capacity(self.alloc, commands.len()) else {
             let replies = Vec::new(self.alloc);
             return Err(RunStopped { done: 0, replies });
         };
         for command in commands {
-            let Ok(reply) = self.reply(command, handler) else {
+            let Ok(reply) = self.step(command, handler) else {
                 let done = replies.len();
                 return Err(RunStopped { done, replies });
             };
@@ -164,6 +177,7 @@ impl Session {
         ensures run { (told : List Event)
             × IsRun self.old commands.items self.new told result
             × Told MirrorsWhileKept mirror.old told mirror.new }
+        ensures alike { (told : List Event) → IsRun self.old commands.items self.new told result → IsAlike self.old commands.items told result }
         ensures mirrored { IsSomeAnd mirror.old (AreRecordsOf self.old) → IfSome mirror.new (AreRecordsOf self.new) }
     {
         self.run(commands, mirror)

@@ -4,15 +4,15 @@ ghost use Rattle.std.specs.Ordering.{nat_cmp};
 ghost use Rattle.model.specs.declared.queries.Query.TheVariants.{Move as ToMove, Indexes as ToIndexes, RangeText as ToRangeText};
 ghost use Rattle.model.specs.TextRuns.{supports_text_ranges};
 ghost use Rattle.model.specs.FlatText.{total};
-ghost use Rattle.model.specs.Queries.{position_at as place_at, moved as place_after, raw_of, text_between as between};
+ghost use Rattle.model.specs.Queries.{position_at as place_at, moved as place_after, raw_of, text_between as between, text_in_runs as text_if_any};
 ghost use Rattle.tree_views.specs.Nodes.{world_at, id_at};
 ghost use Rattle.accesskit_consumer.specs.Positions.{root_at, text_of, text_at, position_at};
 ghost use Rattle.session.specs.Replied.{IsAnswerAt};
-ghost use Rattle.session.specs.Texts.{offset_at, place_in, IsByCharacter, IsByWord, IsByLine};
+ghost use Rattle.session.specs.Texts.{offset_at, place_in};
 
 use crate::commands::Reply;
 use accesskit_consumer::text::TextPosition;
-use accesskit_consumer::{NodeRef, TextIndexes};
+use accesskit_consumer::{NodeRef, TextIndexes, TextRoot};
 use model::{At, Move, Side};
 use std::alloc::{AllocError, Global};
 use std::cmp::Ordering;
@@ -68,63 +68,6 @@ fn has_previous(position: TextPosition<'_>) -> bool
     order(position.backward_to_page_start(), position).is_lt()
 }
 
-/// Where a move by a character leads. There is no such place without a character there.
-fn moved_by_character<'a>(position: TextPosition<'a>, by: Move) -> Option<TextPosition<'a>>
-    requires { IsByCharacter by }
-    ensures at { let p = position.entry in
-        option_map position_at result ≡ place_after (text_at p) (position_at p) by }
-    ensures same { IfSome result (λ p. root_at p ≡ root_at position.entry) }
-{
-    match by {
-        Move::ForwardToCharacterStart if has_next(position) => {
-            Some(position.forward_to_character_start())
-        }
-        Move::ForwardToCharacterEnd if has_next(position) => {
-            Some(position.forward_to_character_end())
-        }
-        Move::BackwardToCharacterStart if has_previous(position) => {
-            Some(position.backward_to_character_start())
-        }
-        _ => None,
-    }
-}
-
-/// Where a move by a word, or by what looks alike, leads.
-fn moved_by_word<'a>(position: TextPosition<'a>, by: Move) -> TextPosition<'a>
-    requires { IsByWord by }
-    ensures at { let p = position.entry in
-        place_after (text_at p) (position_at p) by ≡ Some (position_at result) }
-    ensures same { root_at result ≡ root_at position.entry }
-{
-    match by {
-        Move::ForwardToFormatStart => position.forward_to_format_start(),
-        Move::ForwardToFormatEnd => position.forward_to_format_end(),
-        Move::BackwardToFormatStart => position.backward_to_format_start(),
-        Move::ForwardToWordStart => position.forward_to_word_start(),
-        Move::ForwardToWordEnd => position.forward_to_word_end(),
-        Move::BackwardToWordStart => position.backward_to_word_start(),
-        _ => unreachable!(),
-    }
-}
-
-/// Where a move by a line or a paragraph leads.
-fn moved_by_line<'a>(position: TextPosition<'a>, by: Move) -> TextPosition<'a>
-    requires { IsByLine by }
-    ensures at { let p = position.entry in
-        place_after (text_at p) (position_at p) by ≡ Some (position_at result) }
-    ensures same { root_at result ≡ root_at position.entry }
-{
-    match by {
-        Move::ForwardToLineStart => position.forward_to_line_start(),
-        Move::ForwardToLineEnd => position.forward_to_line_end(),
-        Move::BackwardToLineStart => position.backward_to_line_start(),
-        Move::ForwardToParagraphStart => position.forward_to_paragraph_start(),
-        Move::ForwardToParagraphEnd => position.forward_to_paragraph_end(),
-        Move::BackwardToParagraphStart => position.backward_to_paragraph_start(),
-        _ => unreachable!(),
-    }
-}
-
 /// Where a move leads. There is no such place for a move by a character past an end of the text.
 fn moved<'a>(position: TextPosition<'a>, by: Move) -> Option<TextPosition<'a>>
     ensures at { let p = position.entry in
@@ -132,19 +75,28 @@ fn moved<'a>(position: TextPosition<'a>, by: Move) -> Option<TextPosition<'a>>
     ensures same { IfSome result (λ p. root_at p ≡ root_at position.entry) }
 {
     match by {
-        Move::ForwardToCharacterStart
-        | Move::ForwardToCharacterEnd
-        | Move::BackwardToCharacterStart => moved_by_character(position, by),
-        Move::ForwardToFormatStart
-        | Move::ForwardToFormatEnd
-        | Move::BackwardToFormatStart
-        | Move::ForwardToWordStart
-        | Move::ForwardToWordEnd
-        | Move::BackwardToWordStart => Some(moved_by_word(position, by)),
+        Move::ForwardToCharacterStart | Move::ForwardToCharacterEnd if !has_next(position) => None,
+        Move::BackwardToCharacterStart if !has_previous(position) => None,
+        Move::ForwardToCharacterStart => Some(position.forward_to_character_start()),
+        Move::ForwardToCharacterEnd => Some(position.forward_to_character_end()),
+        Move::BackwardToCharacterStart => Some(position.backward_to_character_start()),
+        Move::ForwardToFormatStart => Some(position.forward_to_format_start()),
+        Move::ForwardToFormatEnd => Some(position.forward_to_format_end()),
+        Move::BackwardToFormatStart => Some(position.backward_to_format_start()),
+        Move::ForwardToWordStart => Some(position.forward_to_word_start()),
+        Move::ForwardToWordEnd => Some(position.forward_to_word_end()),
+        Move::BackwardToWordStart => Some(position.backward_to_word_start()),
+        Move::ForwardToLineStart => Some(position.forward_to_line_start()),
+        Move::ForwardToLineEnd => Some(position.forward_to_line_end()),
+        Move::BackwardToLineStart => Some(position.backward_to_line_start()),
+        Move::ForwardToParagraphStart => Some(position.forward_to_paragraph_start()),
+        Move::ForwardToParagraphEnd => Some(position.forward_to_paragraph_end()),
+        Move::BackwardToParagraphStart => Some(position.backward_to_paragraph_start()),
         Move::ForwardToPageStart => Some(position.forward_to_page_start()),
-        Move::ForwardToPageEnd | Move::DocumentEnd => Some(position.forward_to_page_end()),
-        Move::BackwardToPageStart | Move::DocumentStart => Some(position.backward_to_page_start()),
-        _ => Some(moved_by_line(position, by)),
+        Move::ForwardToPageEnd => Some(position.forward_to_page_end()),
+        Move::DocumentEnd => Some(position.document_end()),
+        Move::BackwardToPageStart => Some(position.backward_to_page_start()),
+        Move::DocumentStart => Some(position.document_start()),
     }
 }
 
@@ -189,6 +141,16 @@ pub(crate) fn indexes(node: NodeRef, at: At) -> Reply
         utf16: position.to_global_utf16_index(),
         line: position.to_line_index(),
     }
+}
+
+/// The text of the node's runs, where they make one.
+pub(crate) fn text_in_runs(alloc: Global, node: NodeRef) -> Result<Option<String>, AllocError>
+    ensures { IfOk result (λ text. option_map string_bytes text ≡ text_if_any (world_at node.entry) (id_at node.entry)) }
+{
+    if !node.supports_text_ranges() {
+        return Ok(None);
+    }
+    Ok(Some(node.document_range().text(alloc)?))
 }
 
 /// The text from one position up to another.
