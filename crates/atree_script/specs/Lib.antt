@@ -1,4 +1,4 @@
-pub mod Answered
+pub mod Replies
 pub mod Printed
 pub mod Refused
 pub mod Words

@@ -1,13 +1,13 @@
 //! Runs a script.
 ghost use Rattle.std.specs.Prelude.{◌≤◌, ◌≢◌};
 
-use crate::answers::{write_answer, write_focus};
-use crate::lines::{Line, Question, Stop, read_line};
+use crate::lines::{Line, Stop, read_line};
 use crate::outline::print_outline;
 use crate::printer::Printer;
 use crate::refusals::write_refusal;
+use crate::replies::write_reply;
 use schema::TreeUpdate;
-use session::{Command, Reply, Session};
+use session::{Command, Query, Session};
 use std::alloc::Global;
 use std::io::{BufRead, ErrorKind, Write};
 use std::str;
@@ -136,15 +136,14 @@ impl Run {
             }
             Line::HostFocus(is_host_focused) => self.set_host_focus(is_host_focused, output),
             Line::Print => self.print(output),
-            Line::Ask(question) => self.ask(question, output),
-            Line::Focus => self.tell_focus(output),
+            Line::Query(query) => self.ask(query, output),
         }
     }
 
     /// Sends an update, and prints its events and `ok`, or why it is refused.
     fn send<O: Write>(&mut self, update: TreeUpdate, output: &mut O) -> Result<(), Stop> {
         if let Some(session) = &mut self.session {
-            return run_command(self.alloc, session, Command::Update(update), output);
+            return run_command(session, Command::Update(update), output);
         }
         match Session::new(self.alloc, update, self.is_host_focused) {
             Ok(session) => {
@@ -167,37 +166,16 @@ impl Run {
         let Some(session) = &mut self.session else {
             return Ok(());
         };
-        run_command(
-            self.alloc,
-            session,
-            Command::HostFocus(is_host_focused),
-            output,
-        )
+        run_command(session, Command::HostFocus(is_host_focused), output)
     }
 
-    /// Answers a question, or says that there is no tree, or no such node.
-    fn ask<O: Write>(&self, question: Question, output: &mut O) -> Result<(), Stop> {
-        let Some(session) = &self.session else {
+    /// Answers a question, or says that there is no tree.
+    fn ask<O: Write>(&mut self, query: Query, output: &mut O) -> Result<(), Stop> {
+        let Some(session) = &mut self.session else {
             output.write_all(b"no tree\n")?;
             return Ok(());
         };
-        let state = session.tree().state().view();
-        match state.node_by_tree_local_id(question.node, question.tree) {
-            Some(node) => write_answer(self.alloc, node, question.asked, output),
-            None => {
-                output.write_all(b"no node\n")?;
-                Ok(())
-            }
-        }
-    }
-
-    /// Tells where the focus is, or that there is no tree.
-    fn tell_focus<O: Write>(&self, output: &mut O) -> Result<(), Stop> {
-        match &self.session {
-            Some(session) => write_focus(session.tree().state().view(), output)?,
-            None => output.write_all(b"no tree\n")?,
-        }
-        Ok(())
+        run_command(session, Command::Query(query), output)
     }
 
     /// Prints the tree, or that there is none.
@@ -212,26 +190,16 @@ impl Run {
     }
 }
 
-/// Runs one command, and prints its events and `ok`, or why it is refused.
+/// Runs a command, and prints its events and the reply to it.
 fn run_command<O: Write>(
-    alloc: Global,
     session: &mut Session,
     command: Command,
     output: &mut O,
 ) -> Result<(), Stop> {
-    let commands = vec![in alloc; command]?;
     let mut printer = Printer::new(&mut *output);
-    let ran = session.run(commands, &mut printer);
+    let reply = session.step(command, &mut printer);
     printer.finish()?;
-    let Ok(replies) = ran else {
-        return Err(Stop::Memory);
-    };
-    for reply in &replies {
-        match reply {
-            Reply::Refused(refusal) => write_refusal(*refusal, output)?,
-            _ => output.write_all(b"ok\n")?,
-        }
-    }
+    write_reply(&reply?, output)?;
     Ok(())
 }
 

@@ -1,7 +1,7 @@
 use Rattle.std.proofs.Common.{take, flat_map}
 use Rattle.std.specs.Fmt.{HasWritten, IsPlainFormatter}
-use Rattle.atree_script.specs.Answered.{spaced_id}
-use Rattle.atree_script.proofs.answers.SpacedIdsDisplay.fmt.Given as goal
+use Rattle.atree_script.specs.Replies.{spaced_id}
+use Rattle.atree_script.proofs.replies.SpacedIdsDisplay.fmt.Given as goal
 
 -- the ids so far are written
 abbrev pub invariant-loop-id : goal.invariant-loop-id

@@ -1,7 +1,7 @@
 use Rattle.std.proofs.Common.{take, flat_map}
 use Rattle.std.specs.Io.KnownBytes.{Appends}
-use Rattle.atree_script.specs.Answered.{quoted_byte}
-use Rattle.atree_script.proofs.answers.write_quoted.Given as goal
+use Rattle.atree_script.specs.Replies.{quoted_byte}
+use Rattle.atree_script.proofs.replies.write_quoted.Given as goal
 
 -- the bytes so far are written
 abbrev pub invariant-loop-byte : goal.invariant-loop-byte

@@ -1,7 +1,7 @@
 use Rattle.std.proofs.Common.{option_copied, ◌<◌, length}
 use Rattle.std.specs.Str.Iter.{chars_rest}
 use Rattle.atree_script.specs.Words.{left}
-use Rattle.atree_script.proofs.lines.Words.text.Given as goal
+use Rattle.atree_script.proofs.words.Words.text.Given as goal
 
 abbrev pub invariant-loop-c : goal.invariant-loop-c
 invariant-loop-c l =
