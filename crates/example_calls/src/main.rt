@@ -2,6 +2,7 @@
 //! line that says so.
 #![tactic(auto)]
 
+mod planning;
 mod planting;
 mod reading;
 mod setting;

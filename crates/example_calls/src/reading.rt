@@ -1,8 +1,9 @@
-//! Calls on a tree and its views that take memory.
+//! Calls on a tree and its views that take memory, and the plan of an update.
 
+use crate::planning::plan;
 use crate::planting::{CHECK_BOX, PASSWORD, RUN, WINDOW, update};
 use accesskit_consumer::text::TextRange;
-use accesskit_consumer::tree::{Mirror, Tree};
+use accesskit_consumer::tree::{Mirror, Tree, UpdateError};
 use accesskit_consumer::{NodeRef, StateRef, TextRoot};
 use schema::{NodeId, TreeId, WideRect};
 use std::alloc::{AllocError, Global};
@@ -23,9 +24,10 @@ pub enum Reading {
     CloneOfNode,
     CloneOfUpdate,
     MirrorOfTree,
+    PlanOfUpdate,
 }
 
-pub static READINGS: [Reading; 13] = [
+pub static READINGS: [Reading; 14] = [
     Reading::Label,
     Reading::Value,
     Reading::Description,
@@ -39,6 +41,7 @@ pub static READINGS: [Reading; 13] = [
     Reading::CloneOfNode,
     Reading::CloneOfUpdate,
     Reading::MirrorOfTree,
+    Reading::PlanOfUpdate,
 ];
 
 /// What a call answers.
@@ -53,6 +56,10 @@ pub enum Answer {
     End(Vec<usize>, usize),
     /// Whether a copy is equal.
     IsEqual(bool),
+    /// How many changes a plan has, and how many events.
+    Plan(usize, usize),
+    /// Why an update is refused, if not for want of memory.
+    Refused(UpdateError),
     /// What is to be read isn't there.
     Absent,
     /// Pieces were passed before there was no memory.
@@ -160,6 +167,15 @@ fn mirror_run(alloc: Global, tree: &Tree) -> Result<Answer, AllocError> {
     }
 }
 
+/// What a plan has. An update that is refused for want of memory is one that can be tried again.
+fn plan_lengths(alloc: Global) -> Result<Answer, AllocError> {
+    match plan(alloc) {
+        Ok(plan) => Ok(Answer::Plan(plan.changes.len(), plan.events.len())),
+        Err(UpdateError::Memory) => Err(AllocError),
+        Err(fault) => Ok(Answer::Refused(fault)),
+    }
+}
+
 fn copy_node(state: StateRef) -> Result<Answer, AllocError> {
     match node(state, RUN) {
         Some(run) => Ok(Answer::IsEqual(run.data().clone()? == *run.data())),
@@ -177,6 +193,7 @@ pub fn read(alloc: Global, tree: &Tree, reading: Reading) -> Result<Answer, Allo
         Reading::CloneOfNode => copy_node(state),
         Reading::CloneOfUpdate => copy_update(alloc),
         Reading::MirrorOfTree => mirror_run(alloc, tree),
+        Reading::PlanOfUpdate => plan_lengths(alloc),
         _ => read_text(alloc, state, reading),
     }
 }

@@ -201,8 +201,19 @@ const ZW: Sketch = Sketch(
 /// A password of four characters, of which one has two bytes,
 pub const SECRET: Text = &[PASSWORD, P_AND_UMLAUT, SS];
 
-/// and another one of its shape.
+/// another one of its shape,
 pub const OTHER_RUNS: Text = &[PASSWORD, XY, ZW];
+
+/// and one more, of which a character has two scalars, and another one two units of UTF-16.
+pub const WIDE_SECRET: Text = &[
+    PASSWORD,
+    Sketch(
+        1,
+        Role::TextRun,
+        &[Value("e\u{301}\u{1f44d}"), Lengths(&[3, 4]), Words(&[])],
+    ),
+    SS,
+];
 
 /// The first one has a value of its own,
 pub const SECRET_WITH_VALUE: Text = &[

@@ -151,6 +151,26 @@ fn plan_drops_a_child(rt: HostRuntime) -> Result<(), Fail> {
     )
 }
 
+/// Nodes that are sent with the data that they have are no changes, nor is a tree that is as it was.
+#[test]
+fn plan_of_what_is_there_has_no_changes(rt: HostRuntime) -> Result<(), Fail> {
+    assert_planned(
+        &rt,
+        rt.alloc(),
+        &Planned {
+            name: "what is there is sent again",
+            is_host_focused: true,
+            before: PLAIN,
+            sent: PLAIN,
+            changes: &[],
+            events: &[],
+            has_toolkit: true,
+            focus: full(0, 0),
+            most: 112,
+        },
+    )
+}
+
 /// A node that is not sent keeps its data; tree info without texts takes the toolkit's texts away.
 #[test]
 fn plan_makes_a_child_the_root(rt: HostRuntime) -> Result<(), Fail> {

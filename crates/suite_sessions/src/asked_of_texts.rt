@@ -11,7 +11,7 @@ use plain_worlds::sketches::Sketch;
 use plain_worlds::texts::{
     ACCENTS, ALIKE, EMPTY_LAST, LETTERS, MEETING, MORE_LETTERS, NOTHING, OTHER_RUNS, OTHER_SECRET,
     OTHER_SECRET_LINES, OTHER_SECRET_WORDS, PARAGRAPHS, SECRET, SECRET_LINES, SECRET_WITH_VALUE,
-    SECRET_WORDS, WIDE,
+    SECRET_WORDS, WIDE, WIDE_SECRET,
 };
 use schema::Role;
 use session::Move::{
@@ -412,8 +412,8 @@ const OF_PARAGRAPHS: &[Row] = &[
 /// What is asked of one that says where words start.
 const OF_WORDS: &[Row] = &[Row(0, 0, Moved(Start(0), ForwardToWordStart), Position(2, 2))];
 
-/// Passwords by twos, which differ in their texts alone.
-static PASSWORDS: [Case; 8] = [
+/// Passwords by twos or threes, which differ in their texts alone.
+static PASSWORDS: [Case; 9] = [
     Case {
         name: "a password of two runs",
         is_host_focused: false,
@@ -428,6 +428,15 @@ static PASSWORDS: [Case; 8] = [
         is_host_focused: false,
         sent: &[Sent {
             nodes: OTHER_RUNS,
+            ..FIRST
+        }],
+        rows: OF_FOUR,
+    },
+    Case {
+        name: "one of wide characters",
+        is_host_focused: false,
+        sent: &[Sent {
+            nodes: WIDE_SECRET,
             ..FIRST
         }],
         rows: OF_FOUR,

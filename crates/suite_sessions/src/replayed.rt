@@ -141,7 +141,7 @@ fn any_point(dice: &mut Dice) -> Point {
 
 /// A question about this node.
 fn any_query(name: NodeName, dice: &mut Dice) -> Query {
-    match dice.below(10) {
+    match dice.below(12) {
         0 => Query::Children(name),
         1 => Query::FollowingSiblings(name),
         2 => Query::PrecedingSiblings(name),
@@ -151,6 +151,8 @@ fn any_query(name: NodeName, dice: &mut Dice) -> Query {
         6 => Query::Label(name),
         7 => Query::Value(name),
         8 => Query::Hit(name, any_point(dice), any_filter(dice)),
+        9 => Query::Set(name, any_filter(dice)),
+        10 => Query::Text(name),
         _ => Query::Focus,
     }
 }
@@ -262,7 +264,7 @@ fn run(alloc: Global, course: Course) -> Result<(Session, Vec<Reply>), Fail> {
 }
 
 /// How many kinds of replies there are,
-const KINDS: usize = 13;
+const KINDS: usize = 14;
 
 /// and how many there have to be of each.
 const LEAST: u32 = 5;
@@ -283,6 +285,7 @@ fn kind_of(reply: &Reply) -> usize {
         Reply::Indexes { .. } => 10,
         Reply::NoNode => 11,
         Reply::NotText => 12,
+        Reply::Set { .. } => 13,
     }
 }
 

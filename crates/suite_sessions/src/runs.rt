@@ -150,6 +150,25 @@ const OTHER_PASSWORD: Run = Run {
     ..PASSWORD
 };
 
+/// One more, with a character of two scalars, and one of two units of UTF-16.
+const WIDE_PASSWORD: Run = Run {
+    name: "a password of wide characters gets longer",
+    first: Sent {
+        nodes: &[
+            FORM,
+            FIELD,
+            Sketch(
+                2,
+                Role::TextRun,
+                &[Has::Value("e\u{301}\u{1f44d}"), Lengths(&[3, 4])],
+            ),
+            Sketch(3, Role::TextRun, &[Has::Value("ss"), Lengths(&[1, 1])]),
+        ],
+        ..FIRST
+    },
+    ..PASSWORD
+};
+
 /// Asserts that a run's replies, and what is told of it, are as written.
 fn assert_run(rt: &impl Abort, alloc: Global, run: &Run) -> Result<(), Fail> {
     let mut session = session(alloc, false, &[run.first])?;
@@ -164,7 +183,7 @@ fn assert_run(rt: &impl Abort, alloc: Global, run: &Run) -> Result<(), Fail> {
 
 #[test]
 fn commands_are_replied_to_in_order(rt: HostRuntime) -> Result<(), Fail> {
-    for run in [WINDOW, REFUSALS, PASSWORD, OTHER_PASSWORD] {
+    for run in [WINDOW, REFUSALS, PASSWORD, OTHER_PASSWORD, WIDE_PASSWORD] {
         assert_run(&rt, rt.alloc(), &run)?;
     }
     Ok(())

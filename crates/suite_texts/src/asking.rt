@@ -69,6 +69,8 @@ pub enum Move {
     ToPageStart,
     ToPageEnd,
     BackToPageStart,
+    ToDocumentStart,
+    ToDocumentEnd,
     ToStartSide,
     ToEndSide,
 }
@@ -189,6 +191,8 @@ pub fn moved(position: &TextPosition, to: Move) -> Spot {
         Move::ToPageStart => position.forward_to_page_start(),
         Move::ToPageEnd => position.forward_to_page_end(),
         Move::BackToPageStart => position.backward_to_page_start(),
+        Move::ToDocumentStart => position.document_start(),
+        Move::ToDocumentEnd => position.document_end(),
         Move::ToStartSide => position.biased_to_start(),
         Move::ToEndSide => position.biased_to_end(),
     };

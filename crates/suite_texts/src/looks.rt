@@ -8,9 +8,9 @@ use crate::sketches::Has::{
     Italic, Language, Lengths, Offset, Overline, Strikethrough, Underline, Value, Words,
 };
 use crate::sketches::{Sketch, planted, root_of};
+use accesskit_consumer::TextRangePropertyValue::{self, Mixed, Single};
 use accesskit_consumer::node::NodeRef;
-use accesskit_consumer::text::TextRangePropertyValue::{self, Mixed, Single};
-use accesskit_consumer::text::{TextPosition, TextRange};
+use accesskit_consumer::{TextPosition, TextRange};
 use schema::{
     Color, Role, TextAlign, TextDecoration, TextDecorationStyle, TextDirection, VerticalOffset,
 };

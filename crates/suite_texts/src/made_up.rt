@@ -43,7 +43,7 @@ static KINDS: [Kind; 10] = [
 ];
 
 /// In the order of [`PlainText::moves`].
-static MOVES: [Move; 17] = [
+static MOVES: [Move; 19] = [
     Move::ToFormatStart,
     Move::ToFormatEnd,
     Move::BackToFormatStart,
@@ -59,6 +59,8 @@ static MOVES: [Move; 17] = [
     Move::ToPageStart,
     Move::ToPageEnd,
     Move::BackToPageStart,
+    Move::ToDocumentStart,
+    Move::ToDocumentEnd,
     Move::ToStartSide,
     Move::ToEndSide,
 ];

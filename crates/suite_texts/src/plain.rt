@@ -336,8 +336,8 @@ impl PlainText {
     }
 
     /// Where the moves lead: by format forwards to a start and to an end, and back; by word, line, paragraph and page
-    /// likewise; and the two sides.
-    pub fn moves(&self, spot: Spot) -> [Spot; 17] {
+    /// likewise; the two ends of the text; and the two sides.
+    pub fn moves(&self, spot: Spot) -> [Spot; 19] {
         let format = self.next_format(spot);
         let (word, word_before) = self.words_around(spot);
         let past = self.to_start(spot).0;
@@ -363,6 +363,8 @@ impl PlainText {
             self.end(),
             self.end(),
             self.start(),
+            self.start(),
+            self.end(),
             self.to_start(spot),
             self.to_end(spot),
         ]

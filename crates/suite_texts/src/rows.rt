@@ -4,15 +4,16 @@ use crate::asking::Kind::{DocumentEnd, DocumentStart, ParagraphSeparator, WordSt
 use crate::asking::Mark::{Anchor, Focus, Point, Scalar, Unit};
 use crate::asking::Move::{BackToWordStart, ToParagraphStart, ToWordEnd, ToWordStart};
 use crate::asking::Place::{self, At, EndSideOf};
-use crate::asking::Span::{Between, Line, Selection, WithEnd, WithStart};
+use crate::asking::Span::{Between, Document, Line, Selection, WithEnd, WithStart};
 use crate::asking::{
     Kind, Mark, Move, Span, ends, found, is, moved, named, numbers, placed, range,
 };
 use crate::sketches::{Spot, planted, root_of};
 use crate::texts::{
     ACCENTS, ALIKE, BULLETS, ELSEWHERE, EMPTY_LAST, LEFTWARD, LETTERS, MEETING, MORE_LETTERS,
-    NOTHING, OTHER_SECRET, OTHER_SECRET_LINES, OTHER_SECRET_WORDS, PARAGRAPHS, RIGHTWARD, SECRET,
-    SECRET_LINES, SECRET_WORDS, THIRD, Text, WIDE,
+    NOTHING, OTHER_RUNS, OTHER_SECRET, OTHER_SECRET_LINES, OTHER_SECRET_WORDS, PARAGRAPHS,
+    RIGHTWARD, SECRET, SECRET_LINES, SECRET_WITH_VALUE, SECRET_WORDS, THIRD, Text, WIDE,
+    WIDE_SECRET,
 };
 use accesskit_consumer::node::NodeRef;
 use schema::WideRect;
@@ -20,7 +21,7 @@ use std::alloc::Global;
 use std::test::Fail;
 
 /// Which position a place is.
-static PLACES: [(Text, Place, Spot); 9] = [
+static PLACES: [(Text, Place, Spot); 14] = [
     (NOTHING, At(0), (1, 0)),
     (NOTHING, Place::DocumentStart, (1, 0)),
     (NOTHING, Place::DocumentEnd, (1, 0)),
@@ -29,7 +30,12 @@ static PLACES: [(Text, Place, Spot); 9] = [
     (ACCENTS, At(150), (1, 0)),
     (ACCENTS, At(151), (1, 1)),
     (SECRET, At(3), (2, 1)),
+    (OTHER_RUNS, At(3), (2, 1)),
+    (WIDE_SECRET, At(3), (2, 1)),
+    (SECRET_WITH_VALUE, At(3), (2, 1)),
     (OTHER_SECRET, At(3), (2, 1)),
+    (SECRET_WORDS, Place::DocumentEnd, (2, 2)),
+    (OTHER_SECRET_WORDS, Place::DocumentEnd, (2, 2)),
 ];
 
 #[test]
@@ -43,7 +49,7 @@ fn places_are_positions(rt: HostRuntime) -> Result<(), Fail> {
 }
 
 /// What a mark leads to.
-static MARKS: [(Text, Mark, Option<Spot>); 18] = [
+static MARKS: [(Text, Mark, Option<Spot>); 27] = [
     (NOTHING, Scalar(1), None),
     (WIDE, Unit(0), Some((1, 0))),
     (WIDE, Unit(1), Some((1, 1))),
@@ -52,7 +58,16 @@ static MARKS: [(Text, Mark, Option<Spot>); 18] = [
     (WIDE, Unit(4), Some((1, 3))),
     (WIDE, Unit(5), None),
     (SECRET, Scalar(5), None),
+    (OTHER_RUNS, Scalar(5), None),
+    (WIDE_SECRET, Scalar(5), None),
+    (SECRET_WITH_VALUE, Scalar(5), None),
     (OTHER_SECRET, Scalar(5), None),
+    (SECRET, Unit(3), Some((2, 1))),
+    (OTHER_RUNS, Unit(3), Some((2, 1))),
+    (WIDE_SECRET, Unit(3), Some((2, 1))),
+    (SECRET, Unit(5), None),
+    (OTHER_RUNS, Unit(5), None),
+    (WIDE_SECRET, Unit(5), None),
     (MEETING, Anchor, Some((2, 0))),
     (MEETING, Focus, Some((1, 2))),
     (THIRD, Anchor, Some((1, 2))),
@@ -75,13 +90,17 @@ fn marks_lead_to_positions(rt: HostRuntime) -> Result<(), Fail> {
 }
 
 /// Whether a position is of a kind.
-static KINDS: [(Text, Place, Kind, bool); 6] = [
+static KINDS: [(Text, Place, Kind, bool); 10] = [
     (LETTERS, At(44), WordStart, true),
     (LETTERS, At(300), WordStart, false),
     (MORE_LETTERS, At(44), WordStart, false),
     (NOTHING, At(0), DocumentStart, true),
     (NOTHING, At(0), DocumentEnd, true),
     (PARAGRAPHS, At(2), ParagraphSeparator, true),
+    (SECRET_WORDS, At(1), WordStart, false),
+    (OTHER_SECRET_WORDS, At(1), WordStart, false),
+    (SECRET_WORDS, At(4), DocumentEnd, true),
+    (OTHER_SECRET_WORDS, At(4), DocumentEnd, true),
 ];
 
 #[test]
@@ -121,14 +140,20 @@ fn moves_lead_to_positions(rt: HostRuntime) -> Result<(), Fail> {
 }
 
 /// A position's index in scalars, its index in units of UTF-16, and the number of its line.
-static NUMBERS: [(Text, Place, (usize, usize, usize)); 8] = [
+static NUMBERS: [(Text, Place, (usize, usize, usize)); 14] = [
     (EMPTY_LAST, EndSideOf(3), (3, 3, 0)),
     (EMPTY_LAST, At(3), (3, 3, 1)),
     (WIDE, Place::DocumentEnd, (3, 4, 0)),
     (ACCENTS, At(151), (151, 151, 0)),
     (SECRET, At(3), (3, 3, 1)),
-    (SECRET, Place::DocumentEnd, (4, 4, 1)),
+    (OTHER_RUNS, At(3), (3, 3, 1)),
+    (WIDE_SECRET, At(3), (3, 3, 1)),
+    (SECRET_WITH_VALUE, At(3), (3, 3, 1)),
     (OTHER_SECRET, At(3), (3, 3, 1)),
+    (SECRET, Place::DocumentEnd, (4, 4, 1)),
+    (OTHER_RUNS, Place::DocumentEnd, (4, 4, 1)),
+    (WIDE_SECRET, Place::DocumentEnd, (4, 4, 1)),
+    (SECRET_WITH_VALUE, Place::DocumentEnd, (4, 4, 1)),
     (OTHER_SECRET, Place::DocumentEnd, (4, 4, 1)),
 ];
 
@@ -196,11 +221,17 @@ fn ranges_may_have_no_character(rt: HostRuntime) -> Result<(), Fail> {
 }
 
 /// The text of a range.
-static TEXTS: [(Text, Span, &str); 4] = [
+static TEXTS: [(Text, Span, &str); 10] = [
     (MEETING, Selection, ""),
     (THIRD, Selection, "c"),
     (SECRET, Between(At(0), At(4)), BULLETS),
+    (SECRET, Document, BULLETS),
+    (OTHER_RUNS, Document, BULLETS),
+    (WIDE_SECRET, Document, BULLETS),
+    (WIDE_SECRET, Between(At(1), At(3)), "\u{2022}\u{2022}"),
     (OTHER_SECRET, Between(At(0), At(4)), BULLETS),
+    (SECRET_WITH_VALUE, Document, BULLETS),
+    (OTHER_SECRET, Document, BULLETS),
 ];
 
 #[test]
@@ -214,9 +245,12 @@ fn ranges_have_texts(rt: HostRuntime) -> Result<(), Fail> {
 }
 
 /// The value of a root.
-static VALUES: [(Text, Option<&str>); 4] = [
+static VALUES: [(Text, Option<&str>); 7] = [
     (PARAGRAPHS, None),
     (SECRET, Some(BULLETS)),
+    (OTHER_RUNS, Some(BULLETS)),
+    (WIDE_SECRET, Some(BULLETS)),
+    (SECRET_WITH_VALUE, Some(BULLETS)),
     (OTHER_SECRET, Some(BULLETS)),
     (ALIKE, Some("aaaa")),
 ];

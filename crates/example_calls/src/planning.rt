@@ -1,0 +1,77 @@
+//! A plan of an update, by look-ups in a small state.
+
+use accesskit_consumer::tree::{Plan, UpdateError, plan_update};
+use schema::{Node, NodeId, Role, TreeId, TreeInfo, TreeUpdate};
+use std::alloc::{AllocError, Global};
+use tree_plan::decide;
+use tree_store::{NoRecords, Store, StoreLookUps};
+use uuid::Uuid;
+
+const WINDOW: NodeId = NodeId(0);
+
+const TOOLBAR: NodeId = NodeId(1);
+
+const GRAFT: NodeId = NodeId(2);
+
+const BUTTON: NodeId = NodeId(3);
+
+const NEW_TOOLBAR: NodeId = NodeId(4);
+
+fn parent(alloc: Global, role: Role, children: &[NodeId]) -> Result<Node, AllocError> {
+    let mut node = Node::new(alloc, role);
+    node.set_children(children)?;
+    Ok(node)
+}
+
+/// A node that grafts the tree of this number.
+fn graft(alloc: Global, tree: u128) -> Node {
+    let mut node = Node::new(alloc, Role::GenericContainer);
+    node.set_tree_id(TreeId(Uuid::from_u128(tree)));
+    node
+}
+
+/// A window with a button in a toolbar, and with a graft.
+fn first(alloc: Global) -> Result<TreeUpdate, AllocError> {
+    let nodes = vec![in alloc;
+        (WINDOW, parent(alloc, Role::Window, &[TOOLBAR, GRAFT])?),
+        (TOOLBAR, parent(alloc, Role::Toolbar, &[BUTTON])?),
+        (GRAFT, graft(alloc, 1)),
+        (BUTTON, Node::new(alloc, Role::Button)),
+    ]?;
+    Ok(TreeUpdate {
+        nodes,
+        tree: Some(TreeInfo::new(WINDOW)),
+        tree_id: TreeId::root(),
+        focus: WINDOW,
+    })
+}
+
+/// The button moves into a new toolbar and gets the focus, the old toolbar goes, and the graft is one of another tree.
+fn second(alloc: Global) -> Result<TreeUpdate, AllocError> {
+    let nodes = vec![in alloc;
+        (WINDOW, parent(alloc, Role::Window, &[GRAFT, NEW_TOOLBAR])?),
+        (GRAFT, graft(alloc, 2)),
+        (NEW_TOOLBAR, parent(alloc, Role::Toolbar, &[BUTTON])?),
+    ]?;
+    Ok(TreeUpdate {
+        nodes,
+        tree: None,
+        tree_id: TreeId::root(),
+        focus: BUTTON,
+    })
+}
+
+/// The state after the first update, with the host focused.
+fn store(alloc: Global) -> Result<Store, UpdateError> {
+    let update = first(alloc)?;
+    let mut look_ups = NoRecords::new(true);
+    let decision = decide(alloc, &mut look_ups, &update)?;
+    Ok(Store::first(alloc, update, decision, true)?)
+}
+
+/// The plan of the second update.
+pub fn plan(alloc: Global) -> Result<Plan, UpdateError> {
+    let store = store(alloc)?;
+    let mut look_ups = StoreLookUps::new(&store, 0);
+    plan_update(alloc, &mut look_ups, second(alloc)?)
+}
