@@ -4,8 +4,6 @@
 #[cfg(test)]
 mod asking;
 #[cfg(test)]
-mod bad_lines;
-#[cfg(test)]
 mod chains;
 #[cfg(test)]
 mod comparing;
@@ -27,10 +25,6 @@ mod planning;
 mod roles;
 #[cfg(test)]
 mod scripts;
-#[cfg(test)]
-mod scripts_of_questions;
-#[cfg(test)]
-mod scripts_of_trees;
 #[cfg(test)]
 mod spoken;
 #[cfg(test)]

@@ -1,0 +1,83 @@
+"""Runs the program `atree` on a script, and compares what it gives with what is told."""
+
+import itertools
+import os
+import resource
+import subprocess
+import tempfile
+from collections import namedtuple
+
+from model_scripts import is_told
+
+HERE = os.path.dirname(os.path.abspath(__file__))
+
+# The program as the gate builds it.
+BUILT = os.path.join(HERE, "..", "crates", "atree", "out", "atree")
+
+# A run that takes more seconds of a processor is ended.
+SECONDS = 60
+
+# What a run gave: its exit status, where a signal ended it the signal's number below 0, and what it wrote.
+Ran = namedtuple("Ran", "status output errors")
+
+
+class Program:
+    """The program, with a file for each of its streams, which all its runs share."""
+
+    def __init__(self, path=None):
+        self.path = os.path.abspath(path or BUILT)
+        if not os.access(self.path, os.X_OK):
+            raise SystemExit(f"there is no program at {self.path}: rt ci builds it, or name another one")
+        self.streams = [tempfile.TemporaryFile() for _ in range(3)]
+
+    def run(self, script, environment=None, instead=None):
+        """Runs the program on a script, which is bytes. Other files may stand in the place of its streams, by number."""
+        for stream, content in zip(self.streams, (script, b"", b"")):
+            stream.seek(0)
+            stream.truncate()
+            stream.write(content)
+            stream.flush()
+            stream.seek(0)
+        files = {**dict(enumerate(stream.fileno() for stream in self.streams)), **(instead or {})}
+        shown = [(os.POSIX_SPAWN_DUP2, file, number) for number, file in files.items()]
+        child = os.posix_spawn(self.path, [self.path], environment or {}, file_actions=shown)
+        resource.prlimit(child, resource.RLIMIT_CPU, (SECONDS, SECONDS))
+        ended = os.waitpid(child, 0)[1]
+        status = os.WEXITSTATUS(ended) if os.WIFEXITED(ended) else -os.WTERMSIG(ended)
+        return Ran(status, self.written(1), self.written(2))
+
+    def written(self, number):
+        """What the run wrote to a stream."""
+        self.streams[number].seek(0)
+        return self.streams[number].read()
+
+
+def difference(ran, told, bad=None):
+    """How a run differs from these lines, and from an end at the bad line of this number, if there is one; `None` where it
+    doesn't."""
+    printed = ran.output.decode(errors="replace").split("\n")
+    for count, (line, other) in enumerate(itertools.zip_longest(told, printed[:-1]), 1):
+        if line is None or other is None or not is_told(line, other):
+            return f"line {count} of the output is {other!r} and not {line!r}"
+    if printed[-1]:
+        return f"the output ends in {printed[-1]!r}"
+    status, errors = (2, f"line {bad}: bad line\n".encode()) if bad else (0, b"")
+    if (ran.status, ran.errors) != (status, errors):
+        return f"it ends with status {ran.status} and {ran.errors!r}, and not with {status} and {errors!r}"
+    return None
+
+
+class Refusing:
+    """Runs a program with one growth of its memory refused, by a malloc and a realloc that are put before the C library's."""
+
+    def __init__(self, program, folder):
+        self.program = program
+        self.library, self.count = os.path.join(folder, "refusing.so"), os.path.join(folder, "growths")
+        source = os.path.join(HERE, "refusing.c")
+        subprocess.run(["cc", "-shared", "-fPIC", "-O1", "-o", self.library, source], check=True)
+
+    def run(self, script, refused):
+        """Runs the program on a script with the growth of this number refused: what it gave, and how many growths it made."""
+        ran = self.program.run(script, {"LD_PRELOAD": self.library, "REFUSED": str(refused), "GROWTHS": self.count})
+        with open(self.count) as file:
+            return ran, int(file.read())
