@@ -1,35 +1,82 @@
 //! Makes a text and reads it, as often as it is told, with no printing between. What one reading costs is the difference of
 //! two runs of other counts, over the difference of the counts.
 //!
-//!     texts WORK RUNS CHARACTERS COUNT
+//!     texts WORK RUNS CHARACTERS COUNT [SHAPE]
 //!
 //! The text has so many runs of so many characters each; each run is a line, and a word starts with it. `words` goes from
 //! word start to word start through the text; `text` makes the text of the whole document; `lines` goes over the ranges of
 //! all lines; `lines-by-index` asks for the range of each line by its number; `units` asks for a hundred positions by their
-//! indexes in UTF-16; `label` writes a label of ten parts into a buffer. It prints a sum of what it met.
+//! indexes in UTF-16; `label` writes a label of ten parts into a buffer. `pieces` passes the pieces of the whole document to
+//! a function, and `masked-pieces` those of a password; `boxes` asks for the document's boxes, and `properties` for the size
+//! of its font. With the shape `images` as many images follow the runs, with `chain` the runs stand at the end of a chain of
+//! as many groups; such runs have rectangles, places and widths of characters, a direction and a size. It prints a sum of
+//! what it met.
 #![tactic(auto)]
 
-use accesskit_consumer::{NodeRef, TextIndexes, TextPlaces, TextRoot, Tree};
+use accesskit_consumer::{
+    NodeRef, TextIndexes, TextPlaces, TextRangePropertyValue, TextRoot, Tree,
+};
 use anyhow::Context;
-use schema::{Node, NodeId, Role, TextBuffer, TreeId, TreeInfo, TreeUpdate};
+use schema::{Node, NodeId, Rect, Role, TextBuffer, TextDirection, TreeId, TreeInfo, TreeUpdate};
 use std::alloc::{AllocError, Global};
 use std::env;
 
 /// How many parts the label has.
 const PARTS: u64 = 10;
 
+/// The size of the font of runs that are laid out, in hundredths of a pixel.
+const SIZE: u32 = 1600;
+
+/// What stands beside the runs.
+#[derive(Clone, Copy)]
+enum Shape {
+    Alone,
+    /// As many images follow them.
+    Images,
+    /// They stand at the end of a chain of as many groups.
+    Chain,
+}
+
 /// A run of so many characters of one byte.
 fn run(alloc: Global, characters: usize) -> Result<Node, AllocError> {
     let mut value = String::new(alloc);
     let mut lengths = Vec::new(alloc);
     for index in 0..characters {
-        value.push(if index.saturating_add(1) == characters { ' ' } else { 'a' })?;
+        value.push(if index.saturating_add(1) == characters {
+            ' '
+        } else {
+            'a'
+        })?;
         lengths.push(1u16)?;
     }
     let mut node = Node::new(alloc, Role::TextRun);
     node.set_value(&value)?;
     node.set_character_lengths(&lengths)?;
     node.set_word_starts(&[0])?;
+    Ok(node)
+}
+
+/// The same, with a place for each character.
+fn laid_out(alloc: Global, characters: usize) -> Result<Node, AllocError> {
+    let mut node = run(alloc, characters)?;
+    let mut places = Vec::new(alloc);
+    let mut widths = Vec::new(alloc);
+    for index in 0..characters {
+        places.push(i32::try_from(index).unwrap_or(0))?;
+        widths.push(1i32)?;
+    }
+    node.set_character_positions(&places)?;
+    node.set_character_widths(&widths)?;
+    node.set_bounds(Rect::new(0, 0, 100, 10));
+    node.set_text_direction(TextDirection::LeftToRight);
+    node.set_font_size(SIZE);
+    Ok(node)
+}
+
+/// A node of the role with these children.
+fn parent(alloc: Global, role: Role, children: &[NodeId]) -> Result<Node, AllocError> {
+    let mut node = Node::new(alloc, role);
+    node.set_children(children)?;
     Ok(node)
 }
 
@@ -40,26 +87,8 @@ fn part(alloc: Global) -> Result<Node, AllocError> {
     Ok(node)
 }
 
-/// The tree of a text, or of a check box that labels name.
-fn tree(alloc: Global, runs: u64, characters: usize, is_label: bool) -> anyhow::Result<Tree> {
-    let mut nodes = Vec::new(alloc);
-    let mut children = Vec::new(alloc);
-    let count = if is_label { PARTS } else { runs };
-    for number in 0..count {
-        let id = NodeId(number.saturating_add(1));
-        children.push(id)?;
-        let node = if is_label {
-            part(alloc)?
-        } else {
-            run(alloc, characters)?
-        };
-        nodes.push((id, node))?;
-    }
-    let mut root = Node::new(alloc, if is_label { Role::CheckBox } else { Role::Document });
-    root.set_children(&children)?;
-    if is_label {
-        root.set_labelled_by(&children)?;
-    }
+/// A tree whose focus is on its root.
+fn tree_of(alloc: Global, mut nodes: Vec<(NodeId, Node)>, root: Node) -> anyhow::Result<Tree> {
     nodes.push((NodeId(0), root))?;
     let update = TreeUpdate {
         nodes,
@@ -68,6 +97,67 @@ fn tree(alloc: Global, runs: u64, characters: usize, is_label: bool) -> anyhow::
         focus: NodeId(0),
     };
     Ok(Tree::new(alloc, update, true)?)
+}
+
+/// The tree of a check box that labels name.
+fn named(alloc: Global) -> anyhow::Result<Tree> {
+    let mut nodes = Vec::new(alloc);
+    let mut labels = Vec::new(alloc);
+    for number in 1..=PARTS {
+        labels.push(NodeId(number))?;
+        nodes.push((NodeId(number), part(alloc)?))?;
+    }
+    let mut root = parent(alloc, Role::CheckBox, &labels)?;
+    root.set_labelled_by(&labels)?;
+    tree_of(alloc, nodes, root)
+}
+
+/// The tree of a text.
+fn text_tree(
+    alloc: Global,
+    role: Role,
+    shape: Shape,
+    count: u64,
+    characters: usize,
+) -> anyhow::Result<Tree> {
+    let mut nodes = Vec::new(alloc);
+    let mut runs = Vec::new(alloc);
+    let mut images = Vec::new(alloc);
+    for number in 1..=count {
+        runs.push(NodeId(number))?;
+        let node = match shape {
+            Shape::Alone => run(alloc, characters)?,
+            Shape::Images | Shape::Chain => laid_out(alloc, characters)?,
+        };
+        nodes.push((NodeId(number), node))?;
+    }
+    for number in 1..=count {
+        let id = NodeId(count.saturating_add(number));
+        match shape {
+            Shape::Alone => {}
+            Shape::Images => {
+                images.push(id)?;
+                nodes.push((id, Node::new(alloc, Role::Image)))?;
+            }
+            Shape::Chain => {
+                let below = [NodeId(id.0.saturating_add(1))];
+                let below = if number == count {
+                    &runs
+                } else {
+                    below.as_slice()
+                };
+                nodes.push((id, parent(alloc, Role::GenericContainer, below)?))?;
+            }
+        }
+    }
+    let root = match shape {
+        Shape::Chain => parent(alloc, role, &[NodeId(count.saturating_add(1))])?,
+        Shape::Alone | Shape::Images => {
+            runs.append(&mut images)?;
+            parent(alloc, role, &runs)?
+        }
+    };
+    tree_of(alloc, nodes, root)
 }
 
 /// How many word starts there are past the first.
@@ -95,6 +185,40 @@ fn text(alloc: Global, root: &NodeRef) -> Result<u64, AllocError> {
     }
     let text = root.document_range().text(alloc)?;
     Ok(text.len() as u64)
+}
+
+/// How many bytes the pieces of the document have that are passed to a function.
+fn pieces(alloc: Global, root: &NodeRef) -> Result<u64, AllocError> {
+    if !root.supports_text_ranges() {
+        return Ok(0);
+    }
+    let mut sum = 0u64;
+    root.document_range()
+        .traverse_text(alloc, |_: &NodeRef<'_>, piece: &str| {
+            sum = sum.saturating_add(piece.len() as u64);
+            None::<u64>
+        })?;
+    Ok(sum)
+}
+
+/// How many boxes the document has.
+fn boxes(alloc: Global, root: &NodeRef) -> Result<u64, AllocError> {
+    if !root.supports_text_ranges() {
+        return Ok(0);
+    }
+    let boxes = root.document_range().bounding_boxes(alloc)?;
+    Ok(boxes.len() as u64)
+}
+
+/// The size of the document's font, if there is one.
+fn properties(root: &NodeRef) -> u64 {
+    if !root.supports_text_ranges() {
+        return 0;
+    }
+    match root.document_range().font_size() {
+        TextRangePropertyValue::Single(Some(size)) => u64::from(size),
+        _ => 0,
+    }
 }
 
 /// How many lines there are, by their ends.
@@ -160,20 +284,38 @@ fn label(alloc: Global, root: &NodeRef) -> u64 {
     }
 }
 
+const USAGE: &str = "texts WORK RUNS CHARACTERS COUNT [SHAPE]";
+
 fn number(text: Option<String>) -> anyhow::Result<u64> {
-    let text = text.context("texts WORK RUNS CHARACTERS COUNT")?;
+    let text = text.context(USAGE)?;
     Ok(text.parse::<u64>()?)
+}
+
+fn shape_of(word: Option<String>) -> anyhow::Result<Shape> {
+    let Some(word) = word else {
+        return Ok(Shape::Alone);
+    };
+    match word.as_str() {
+        "images" => Ok(Shape::Images),
+        "chain" => Ok(Shape::Chain),
+        _ => anyhow::bail!("the shape is images or chain"),
+    }
 }
 
 fn main(rt: HostRuntime) -> anyhow::Result<()> {
     let alloc = rt.alloc();
     let mut args = env::args(&rt)?;
     drop(args.next());
-    let work = args.next().context("texts WORK RUNS CHARACTERS COUNT")?;
+    let work = args.next().context(USAGE)?;
     let runs = number(args.next())?;
     let characters = number(args.next())? as usize;
     let count = number(args.next())?;
-    let tree = tree(alloc, runs, characters, work.as_str() == "label")?;
+    let shape = shape_of(args.next())?;
+    let tree = match work.as_str() {
+        "label" => named(alloc)?,
+        "masked-pieces" => text_tree(alloc, Role::PasswordInput, shape, runs, characters)?,
+        _ => text_tree(alloc, Role::Document, shape, runs, characters)?,
+    };
     let root = tree.state().view().root();
     let total = characters.saturating_mul(runs as usize);
     let mut sum: u64 = 0;
@@ -181,11 +323,14 @@ fn main(rt: HostRuntime) -> anyhow::Result<()> {
         let met = match work.as_str() {
             "words" => words(&root),
             "text" => text(alloc, &root)?,
+            "pieces" | "masked-pieces" => pieces(alloc, &root)?,
+            "boxes" => boxes(alloc, &root)?,
+            "properties" => properties(&root),
             "lines" => lines(&root),
             "lines-by-index" => lines_by_index(&root),
             "units" => units(&root, total),
             "label" => label(alloc, &root),
-            _ => anyhow::bail!("the work is words, text, lines, lines-by-index, units or label"),
+            _ => anyhow::bail!("there is no such work"),
         };
         sum = sum.saturating_add(met);
     }
