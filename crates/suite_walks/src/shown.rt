@@ -2,9 +2,8 @@
 
 use crate::sketches::Has::{Bounds, Clips, Graft, Hidden};
 use crate::sketches::{Sketch, SketchedTree, id, planted};
-use accesskit_consumer::filters::{common_filter, common_filter_with_root_exception};
-use accesskit_consumer::walks::FilterResult;
-use accesskit_consumer::walks::FilterResult::{ExcludeNode, ExcludeSubtree, Include};
+use accesskit_consumer::FilterResult::{self, ExcludeNode, ExcludeSubtree, Include};
+use accesskit_consumer::{common_filter, common_filter_with_root_exception};
 use schema::Role;
 use std::test::Fail;
 
