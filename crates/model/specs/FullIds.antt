@@ -1,14 +1,20 @@
--- Ids of nodes, in their order.
+-- Ids of nodes, and names of trees, in their order.
 use Rattle.std.specs.Prelude.{ℕ, ◌+◌, ◌*◌, ◌^◌, refl}
 use Rattle.std.specs.Coded.{Coded, code_by, coded×, coded_ℕ}
 use Rattle.std.specs.declared.cmp.Ordering.{Ordering}
 use Rattle.std.specs.Ordering.{nat_cmp, ordering_then}
 use Rattle.std.specs.Cmp.{IsTotalOrder, nat_cmp_total}
+use Rattle.std.specs.Cmp.Lexicographic.{slice_cmp}
 use Rattle.std.proofs.Common.{ap}
 use Rattle.std.proofs.lemmas.Cmp.{on_total, then_total}
 use Rattle.std.proofs.lemmas.Map.Lookups.{CmpEqualImpliesEq, exact_pairs, exact_unsigned}
 use Rattle.schema.specs.declared.NodeId.{NodeId}
+use Rattle.schema.specs.declared.TreeId.{TreeId}
 use Rattle.model.specs.declared.FullNodeId.{FullNodeId}
+
+-- names of trees, by their bytes
+abbrev pub name_cmp : TreeId → TreeId → Ordering
+name_cmp a b = slice_cmp nat_cmp a.0 b.0
 
 -- by tree, and then by node
 abbrev pub full_cmp : FullNodeId → FullNodeId → Ordering

@@ -84,16 +84,16 @@ abbrev pub IsNamed : World → UpdateData → FullNodeId → Type 0
 IsNamed old u id = (id.tree ≡ index_for old u.name) × Contains (map (λ e. e.0) u.nodes) id.node
 
 -- a node that the rules look at: one that the update names, or a reached one of a kept tree
-abbrev pub Counts : World → UpdateData → FullNodeId → Type 0
-Counts old u id = IsNamed old u id ⊎ (Kept (merged_world old u) id.tree × Reached (merged_world old u) id)
+abbrev pub IsJudged : World → UpdateData → FullNodeId → Type 0
+IsJudged old u id = IsNamed old u id ⊎ (Kept (merged_world old u) id.tree × Reached (merged_world old u) id)
 
 -- a node that counts lists the child at this place
 abbrev pub IsListedAt : World → UpdateData → Place → FullNodeId → Type 0
-IsListedAt old u p child = Counts old u p.0 × (slice_get (listed_ids (merged_world old u) p.0) p.1 ≡ Some child)
+IsListedAt old u p child = IsJudged old u p.0 × (slice_get (listed_ids (merged_world old u) p.0) p.1 ≡ Some child)
 
 -- a node that counts is a graft of this name
 abbrev pub IsGraftOf : World → UpdateData → FullNodeId → TreeId → Type 0
-IsGraftOf old u id name = Counts old u id × (graft_name (merged_world old u) id ≡ Some name)
+IsGraftOf old u id name = IsJudged old u id × (graft_name (merged_world old u) id ≡ Some name)
 
 -- The fault stands, but for those of the focus.
 abbrev pub StandsApart : World → UpdateData → Fault → Type 0

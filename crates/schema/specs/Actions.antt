@@ -26,5 +26,5 @@ abbrev pub Gains : ℕ → ℕ → Action → Type 0
 Gains old new a = (b : Action) → IsTrue (has_action new b) ↔ ((b ≡ a) ⊎ IsTrue (has_action old b))
 
 -- a set that is kept as three words: the bits from 256 on, those from 128 on, and those below
-abbrev pub set_of : ℕ → ℕ → ℕ → ℕ
-set_of top high low = (top * 2 ^ 128 + high) * 2 ^ 128 + low
+abbrev pub action_set_of : ℕ → ℕ → ℕ → ℕ
+action_set_of top high low = (top * 2 ^ 128 + high) * 2 ^ 128 + low

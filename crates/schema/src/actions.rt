@@ -47,11 +47,11 @@ pub(crate) struct ActionSet {
 
 impl Model for ActionSet {
     ghost use Rattle.std.specs.Prelude.{ℕ, ◌<◌, ◌^◌};
-    ghost use Rattle.schema.specs.Actions.{set_of};
+    ghost use Rattle.schema.specs.Actions.{action_set_of};
 
     ghost Value = { ℕ };
 
-    ghost view = { λ a. set_of a.top a.high a.low };
+    ghost view = { λ a. action_set_of a.top a.high a.low };
 
     ghost invariant = { λ a. (a.low < 2 ^ 128) × (a.high < 2 ^ 128) };
 }

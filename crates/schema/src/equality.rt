@@ -32,335 +32,154 @@ impl Node {
     fn same(&self, other: &Node) -> bool
         ensures { IsTrue result ↔ (self.now ≡ other.now) }
     {
-        if !self.same_links(other) {
-            return false;
-        }
-        if !self.same_words(other) {
-            return false;
-        }
-        if !self.same_names(other) {
-            return false;
-        }
-        if !self.same_states(other) {
-            return false;
-        }
-        if !self.same_manners(other) {
-            return false;
-        }
-        if !self.same_numbers(other) {
-            return false;
-        }
-        if !self.same_place(other) {
-            return false;
-        }
-        if !self.same_runs(other) {
-            return false;
-        }
-        if !self.same_style(other) {
-            return false;
-        }
-        if !self.same_choices(other) {
-            return false;
-        }
-        true
+        self.same_links(other)
+            && self.same_words(other)
+            && self.same_names(other)
+            && self.same_states(other)
+            && self.same_manners(other)
+            && self.same_numbers(other)
+            && self.same_place(other)
+            && self.same_runs(other)
+            && self.same_style(other)
+            && self.same_choices(other)
     }
 
     /// Whether the role and links agree.
     fn same_links(&self, other: &Node) -> bool
         ensures { IsTrue result ↔ SameLinks self.now other.now }
     {
-        if !same_role(self.plain.role, other.plain.role) {
-            return false;
-        }
-        if !same_ids(self.children.as_slice(), other.children.as_slice()) {
-            return false;
-        }
-        if !same_ids(self.labelled_by.as_slice(), other.labelled_by.as_slice()) {
-            return false;
-        }
-        if !same_ids(self.controls.as_slice(), other.controls.as_slice()) {
-            return false;
-        }
-        if !same_node_id(self.active_descendant(), other.active_descendant()) {
-            return false;
-        }
-        if !same_node_id(self.previous_on_line(), other.previous_on_line()) {
-            return false;
-        }
-        if !same_node_id(self.next_on_line(), other.next_on_line()) {
-            return false;
-        }
-        if !same_tree_id(self.plain.tree_id, other.plain.tree_id) {
-            return false;
-        }
-        true
+        same_role(self.plain.role, other.plain.role)
+            && same_ids(self.children.as_slice(), other.children.as_slice())
+            && same_ids(self.labelled_by.as_slice(), other.labelled_by.as_slice())
+            && same_ids(self.controls.as_slice(), other.controls.as_slice())
+            && same_node_id(self.active_descendant(), other.active_descendant())
+            && same_node_id(self.previous_on_line(), other.previous_on_line())
+            && same_node_id(self.next_on_line(), other.next_on_line())
+            && same_tree_id(self.plain.tree_id, other.plain.tree_id)
     }
 
     /// Whether the words for the user agree.
     fn same_words(&self, other: &Node) -> bool
         ensures { IsTrue result ↔ SameWords self.now other.now }
     {
-        if !same_text(self.label(), other.label()) {
-            return false;
-        }
-        if !same_text(self.value(), other.value()) {
-            return false;
-        }
-        if !same_text(self.description(), other.description()) {
-            return false;
-        }
-        if !same_text(self.role_description(), other.role_description()) {
-            return false;
-        }
-        if !same_text(self.placeholder(), other.placeholder()) {
-            return false;
-        }
-        if !same_text(self.braille_label(), other.braille_label()) {
-            return false;
-        }
-        if !same_text(
-            self.braille_role_description(),
-            other.braille_role_description(),
-        ) {
-            return false;
-        }
-        true
+        same_text(self.label(), other.label())
+            && same_text(self.value(), other.value())
+            && same_text(self.description(), other.description())
+            && same_text(self.role_description(), other.role_description())
+            && same_text(self.placeholder(), other.placeholder())
+            && same_text(self.braille_label(), other.braille_label())
+            && same_text(
+                self.braille_role_description(),
+                other.braille_role_description(),
+            )
     }
 
     /// Whether the names and other texts agree.
     fn same_names(&self, other: &Node) -> bool
         ensures { IsTrue result ↔ SameNames self.now other.now }
     {
-        if !same_text(self.url(), other.url()) {
-            return false;
-        }
-        if !same_text(self.author_id(), other.author_id()) {
-            return false;
-        }
-        if !same_text(self.html_id(), other.html_id()) {
-            return false;
-        }
-        if !same_text(self.class_name(), other.class_name()) {
-            return false;
-        }
-        if !same_text(self.column_index_text(), other.column_index_text()) {
-            return false;
-        }
-        if !same_text(self.row_index_text(), other.row_index_text()) {
-            return false;
-        }
-        if !same_text(self.font_family(), other.font_family()) {
-            return false;
-        }
-        if !same_text(self.language(), other.language()) {
-            return false;
-        }
-        true
+        same_text(self.url(), other.url())
+            && same_text(self.author_id(), other.author_id())
+            && same_text(self.html_id(), other.html_id())
+            && same_text(self.class_name(), other.class_name())
+            && same_text(self.column_index_text(), other.column_index_text())
+            && same_text(self.row_index_text(), other.row_index_text())
+            && same_text(self.font_family(), other.font_family())
+            && same_text(self.language(), other.language())
     }
 
     /// Whether the states agree.
     fn same_states(&self, other: &Node) -> bool
         ensures { IsTrue result ↔ SameStates self.now other.now }
     {
-        if self.plain.hidden != other.plain.hidden {
-            return false;
-        }
-        if self.plain.disabled != other.plain.disabled {
-            return false;
-        }
-        if self.plain.read_only != other.plain.read_only {
-            return false;
-        }
-        if self.plain.busy != other.plain.busy {
-            return false;
-        }
-        if self.plain.modal != other.plain.modal {
-            return false;
-        }
-        if self.plain.required != other.plain.required {
-            return false;
-        }
-        true
+        same_flag(self.plain.hidden, other.plain.hidden)
+            && same_flag(self.plain.disabled, other.plain.disabled)
+            && same_flag(self.plain.read_only, other.plain.read_only)
+            && same_flag(self.plain.busy, other.plain.busy)
+            && same_flag(self.plain.modal, other.plain.modal)
+            && same_flag(self.plain.required, other.plain.required)
     }
 
     /// Whether the other flags agree.
     fn same_manners(&self, other: &Node) -> bool
         ensures { IsTrue result ↔ SameManners self.now other.now }
     {
-        if self.plain.live_atomic != other.plain.live_atomic {
-            return false;
-        }
-        if self.plain.multiselectable != other.plain.multiselectable {
-            return false;
-        }
-        if self.plain.touch_transparent != other.plain.touch_transparent {
-            return false;
-        }
-        if self.plain.italic != other.plain.italic {
-            return false;
-        }
-        if self.plain.clips_children != other.plain.clips_children {
-            return false;
-        }
-        true
+        same_flag(self.plain.live_atomic, other.plain.live_atomic)
+            && same_flag(self.plain.multiselectable, other.plain.multiselectable)
+            && same_flag(self.plain.touch_transparent, other.plain.touch_transparent)
+            && same_flag(self.plain.italic, other.plain.italic)
+            && same_flag(self.plain.clips_children, other.plain.clips_children)
     }
 
     /// Whether the numbers agree.
     fn same_numbers(&self, other: &Node) -> bool
         ensures { IsTrue result ↔ SameNumbers self.now other.now }
     {
-        if !same_usize(self.level(), other.level()) {
-            return false;
-        }
-        if !same_usize(self.size_of_set(), other.size_of_set()) {
-            return false;
-        }
-        if !same_usize(self.position_in_set(), other.position_in_set()) {
-            return false;
-        }
-        if !same_i64(self.numeric_value(), other.numeric_value()) {
-            return false;
-        }
-        if !same_i64(self.min_numeric_value(), other.min_numeric_value()) {
-            return false;
-        }
-        if !same_i64(self.max_numeric_value(), other.max_numeric_value()) {
-            return false;
-        }
-        if !same_i64(self.numeric_value_step(), other.numeric_value_step()) {
-            return false;
-        }
-        if !same_i64(self.numeric_value_jump(), other.numeric_value_jump()) {
-            return false;
-        }
-        true
+        same_usize(self.level(), other.level())
+            && same_usize(self.size_of_set(), other.size_of_set())
+            && same_usize(self.position_in_set(), other.position_in_set())
+            && same_i64(self.numeric_value(), other.numeric_value())
+            && same_i64(self.min_numeric_value(), other.min_numeric_value())
+            && same_i64(self.max_numeric_value(), other.max_numeric_value())
+            && same_i64(self.numeric_value_step(), other.numeric_value_step())
+            && same_i64(self.numeric_value_jump(), other.numeric_value_jump())
     }
 
     /// Whether the scroll positions, bounds and translation agree.
     fn same_place(&self, other: &Node) -> bool
         ensures { IsTrue result ↔ SamePlace self.now other.now }
     {
-        if !same_i64(self.scroll_x(), other.scroll_x()) {
-            return false;
-        }
-        if !same_i64(self.scroll_x_min(), other.scroll_x_min()) {
-            return false;
-        }
-        if !same_i64(self.scroll_x_max(), other.scroll_x_max()) {
-            return false;
-        }
-        if !same_i64(self.scroll_y(), other.scroll_y()) {
-            return false;
-        }
-        if !same_i64(self.scroll_y_min(), other.scroll_y_min()) {
-            return false;
-        }
-        if !same_i64(self.scroll_y_max(), other.scroll_y_max()) {
-            return false;
-        }
-        if !same_rect(self.plain.bounds, other.plain.bounds) {
-            return false;
-        }
-        if !same_translation(self.plain.transform, other.plain.transform) {
-            return false;
-        }
-        true
+        same_i64(self.scroll_x(), other.scroll_x())
+            && same_i64(self.scroll_x_min(), other.scroll_x_min())
+            && same_i64(self.scroll_x_max(), other.scroll_x_max())
+            && same_i64(self.scroll_y(), other.scroll_y())
+            && same_i64(self.scroll_y_min(), other.scroll_y_min())
+            && same_i64(self.scroll_y_max(), other.scroll_y_max())
+            && same_rect(self.plain.bounds, other.plain.bounds)
+            && same_translation(self.plain.transform, other.plain.transform)
     }
 
     /// Whether the characters, selection and actions agree.
     fn same_runs(&self, other: &Node) -> bool
         ensures { IsTrue result ↔ SameRuns self.now other.now }
     {
-        if !self.actions.same(&other.actions) {
-            return false;
-        }
-        if !self.child_actions.same(&other.child_actions) {
-            return false;
-        }
-        if !same_text_selection(self.plain.text_selection, other.plain.text_selection) {
-            return false;
-        }
-        if !same_shorts(self.character_lengths(), other.character_lengths()) {
-            return false;
-        }
-        if !same_shorts(self.word_starts(), other.word_starts()) {
-            return false;
-        }
-        if !same_ints(self.character_positions(), other.character_positions()) {
-            return false;
-        }
-        if !same_ints(self.character_widths(), other.character_widths()) {
-            return false;
-        }
-        true
+        self.actions.same(&other.actions)
+            && self.child_actions.same(&other.child_actions)
+            && same_text_selection(self.plain.text_selection, other.plain.text_selection)
+            && same_shorts(self.character_lengths(), other.character_lengths())
+            && same_shorts(self.word_starts(), other.word_starts())
+            && same_ints(self.character_positions(), other.character_positions())
+            && same_ints(self.character_widths(), other.character_widths())
     }
 
     /// Whether the style agree.
     fn same_style(&self, other: &Node) -> bool
         ensures { IsTrue result ↔ SameStyle self.now other.now }
     {
-        if !same_u32(self.plain.font_size, other.plain.font_size) {
-            return false;
-        }
-        if !same_u16(self.plain.font_weight, other.plain.font_weight) {
-            return false;
-        }
-        if !same_color(self.plain.background_color, other.plain.background_color) {
-            return false;
-        }
-        if !same_color(self.plain.foreground_color, other.plain.foreground_color) {
-            return false;
-        }
-        if !same_text_decoration(self.plain.overline, other.plain.overline) {
-            return false;
-        }
-        if !same_text_decoration(self.plain.strikethrough, other.plain.strikethrough) {
-            return false;
-        }
-        if !same_text_decoration(self.plain.underline, other.plain.underline) {
-            return false;
-        }
-        true
+        same_u32(self.plain.font_size, other.plain.font_size)
+            && same_u16(self.plain.font_weight, other.plain.font_weight)
+            && same_color(self.plain.background_color, other.plain.background_color)
+            && same_color(self.plain.foreground_color, other.plain.foreground_color)
+            && same_text_decoration(self.plain.overline, other.plain.overline)
+            && same_text_decoration(self.plain.strikethrough, other.plain.strikethrough)
+            && same_text_decoration(self.plain.underline, other.plain.underline)
     }
 
     /// Whether the choices agree.
     fn same_choices(&self, other: &Node) -> bool
         ensures { IsTrue result ↔ SameChoices self.now other.now }
     {
-        if !same_bool(self.plain.expanded, other.plain.expanded) {
-            return false;
-        }
-        if !same_bool(self.plain.selected, other.plain.selected) {
-            return false;
-        }
-        if !same_toggled(self.plain.toggled, other.plain.toggled) {
-            return false;
-        }
-        if !same_orientation(self.plain.orientation, other.plain.orientation) {
-            return false;
-        }
-        if !same_sort_direction(self.plain.sort_direction, other.plain.sort_direction) {
-            return false;
-        }
-        if !same_aria_current(self.plain.aria_current, other.plain.aria_current) {
-            return false;
-        }
-        if !same_has_popup(self.plain.has_popup, other.plain.has_popup) {
-            return false;
-        }
-        if !same_live(self.plain.live, other.plain.live) {
-            return false;
-        }
-        if !same_text_direction(self.plain.text_direction, other.plain.text_direction) {
-            return false;
-        }
-        if !same_text_align(self.plain.text_align, other.plain.text_align) {
-            return false;
-        }
-        if !same_vertical_offset(self.plain.vertical_offset, other.plain.vertical_offset) {
-            return false;
-        }
-        true
+        same_bool(self.plain.expanded, other.plain.expanded)
+            && same_bool(self.plain.selected, other.plain.selected)
+            && same_toggled(self.plain.toggled, other.plain.toggled)
+            && same_orientation(self.plain.orientation, other.plain.orientation)
+            && same_sort_direction(self.plain.sort_direction, other.plain.sort_direction)
+            && same_aria_current(self.plain.aria_current, other.plain.aria_current)
+            && same_has_popup(self.plain.has_popup, other.plain.has_popup)
+            && same_live(self.plain.live, other.plain.live)
+            && same_text_direction(self.plain.text_direction, other.plain.text_direction)
+            && same_text_align(self.plain.text_align, other.plain.text_align)
+            && same_vertical_offset(self.plain.vertical_offset, other.plain.vertical_offset)
     }
 }
 
@@ -509,6 +328,12 @@ fn same_tree_id(a: Option<TreeId>, b: Option<TreeId>) -> bool
 }
 
 fn same_vertical_offset(a: Option<VerticalOffset>, b: Option<VerticalOffset>) -> bool
+    ensures { IsTrue result ↔ (a ≡ b) }
+{
+    a == b
+}
+
+fn same_flag(a: bool, b: bool) -> bool
     ensures { IsTrue result ↔ (a ≡ b) }
 {
     a == b

@@ -14,6 +14,10 @@ impl Node {
     }
 
     /// Sets [`Node::children`] to a copy of the list.
+    ///
+    /// # Errors
+    ///
+    /// `AllocError`: memory was wanting, and nothing has changed.
     pub fn set_children(&mut self, ids: &[NodeId]) -> Result<(), AllocError>
         ensures ok { OnOk result (self.new ≡ record self.old { children = ids.now }) }
         ensures err { OnErr result (self.new ≡ self.old) }
@@ -23,6 +27,10 @@ impl Node {
     }
 
     /// Adds an id at the end of [`Node::children`].
+    ///
+    /// # Errors
+    ///
+    /// `AllocError`: memory was wanting, and nothing has changed.
     pub fn push_child(&mut self, id: NodeId) -> Result<(), AllocError>
         ensures ok { OnOk result (self.new ≡ record self.old { children = self.old.children ++ id ∷ [] }) }
         ensures err { OnErr result (self.new ≡ self.old) }
@@ -46,6 +54,10 @@ impl Node {
     }
 
     /// Sets [`Node::labelled_by`] to a copy of the list.
+    ///
+    /// # Errors
+    ///
+    /// `AllocError`: memory was wanting, and nothing has changed.
     pub fn set_labelled_by(&mut self, ids: &[NodeId]) -> Result<(), AllocError>
         ensures ok { OnOk result (self.new ≡ record self.old { labelled_by = ids.now }) }
         ensures err { OnErr result (self.new ≡ self.old) }
@@ -55,6 +67,10 @@ impl Node {
     }
 
     /// Adds an id at the end of [`Node::labelled_by`].
+    ///
+    /// # Errors
+    ///
+    /// `AllocError`: memory was wanting, and nothing has changed.
     pub fn push_labelled_by(&mut self, id: NodeId) -> Result<(), AllocError>
         ensures ok { OnOk result
             (self.new ≡ record self.old { labelled_by = self.old.labelled_by ++ id ∷ [] }) }
@@ -79,6 +95,10 @@ impl Node {
     }
 
     /// Sets [`Node::controls`] to a copy of the list.
+    ///
+    /// # Errors
+    ///
+    /// `AllocError`: memory was wanting, and nothing has changed.
     pub fn set_controls(&mut self, ids: &[NodeId]) -> Result<(), AllocError>
         ensures ok { OnOk result (self.new ≡ record self.old { controls = ids.now }) }
         ensures err { OnErr result (self.new ≡ self.old) }
@@ -88,6 +108,10 @@ impl Node {
     }
 
     /// Adds an id at the end of [`Node::controls`].
+    ///
+    /// # Errors
+    ///
+    /// `AllocError`: memory was wanting, and nothing has changed.
     pub fn push_controls(&mut self, id: NodeId) -> Result<(), AllocError>
         ensures ok { OnOk result (self.new ≡ record self.old { controls = self.old.controls ++ id ∷ [] }) }
         ensures err { OnErr result (self.new ≡ self.old) }

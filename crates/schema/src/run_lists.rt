@@ -131,10 +131,7 @@ impl RunLists {
     pub(crate) fn positions(&self) -> Option<&[i32]>
         ensures { option_copied result ≡ self.now.positions }
     {
-        match &self.table {
-            Some(table) => slice_of(&table.positions),
-            None => None,
-        }
+        slice_of(&self.table.as_ref()?.positions)
     }
 
     /// Sets [`RunLists::positions`].
@@ -169,10 +166,7 @@ impl RunLists {
     pub(crate) fn widths(&self) -> Option<&[i32]>
         ensures { option_copied result ≡ self.now.widths }
     {
-        match &self.table {
-            Some(table) => slice_of(&table.widths),
-            None => None,
-        }
+        slice_of(&self.table.as_ref()?.widths)
     }
 
     /// Sets [`RunLists::widths`].
@@ -217,10 +211,7 @@ impl RunLists {
 fn slice_of(list: &Option<Vec<i32>>) -> Option<&[i32]>
     ensures { option_copied result ≡ option_map (λ v. v.items) list.now }
 {
-    match list {
-        Some(list) => Some(list.as_slice()),
-        None => None,
-    }
+    list.as_ref().map(|list| list.as_slice())
 }
 
 fn copy_of_table(alloc: Global, table: &RunTable) -> Result<RunTable, AllocError>

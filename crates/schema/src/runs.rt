@@ -37,6 +37,10 @@ impl Node {
     }
 
     /// Sets [`Node::character_lengths`] to a copy of the list.
+    ///
+    /// # Errors
+    ///
+    /// `AllocError`: memory was wanting, and nothing has changed.
     pub fn set_character_lengths(&mut self, lengths: &[u16]) -> Result<(), AllocError>
         ensures ok { OnOk result (self.new ≡ record self.old { character_lengths = lengths.now }) }
         ensures err { OnErr result (self.new ≡ self.old) }
@@ -46,6 +50,10 @@ impl Node {
     }
 
     /// Sets what [`Node::set_character_lengths`] sets for the same numbers.
+    ///
+    /// # Errors
+    ///
+    /// `AllocError`: memory was wanting, and nothing has changed.
     pub fn set_character_lengths_u8(&mut self, lengths: &[u8]) -> Result<(), AllocError>
         ensures ok { OnOk result (self.new ≡ record self.old { character_lengths = lengths.now }) }
         ensures err { OnErr result (self.new ≡ self.old) }
@@ -69,6 +77,10 @@ impl Node {
     }
 
     /// Sets [`Node::word_starts`] to a copy of the list.
+    ///
+    /// # Errors
+    ///
+    /// `AllocError`: memory was wanting, and nothing has changed.
     pub fn set_word_starts(&mut self, starts: &[u16]) -> Result<(), AllocError>
         ensures ok { OnOk result (self.new ≡ record self.old { word_starts = starts.now }) }
         ensures err { OnErr result (self.new ≡ self.old) }
@@ -78,6 +90,10 @@ impl Node {
     }
 
     /// Sets what [`Node::set_word_starts`] sets for the same numbers.
+    ///
+    /// # Errors
+    ///
+    /// `AllocError`: memory was wanting, and nothing has changed.
     pub fn set_word_starts_u8(&mut self, starts: &[u8]) -> Result<(), AllocError>
         ensures ok { OnOk result (self.new ≡ record self.old { word_starts = starts.now }) }
         ensures err { OnErr result (self.new ≡ self.old) }
@@ -101,6 +117,10 @@ impl Node {
     }
 
     /// Sets [`Node::character_positions`] to a copy of the list.
+    ///
+    /// # Errors
+    ///
+    /// `AllocError`: memory was wanting, and nothing has changed.
     pub fn set_character_positions(&mut self, positions: &[i32]) -> Result<(), AllocError>
         ensures ok { OnOk result (self.new ≡ record self.old { character_positions = Some positions.now }) }
         ensures err { OnErr result (self.new ≡ self.old) }
@@ -124,6 +144,10 @@ impl Node {
     }
 
     /// Sets [`Node::character_widths`] to a copy of the list.
+    ///
+    /// # Errors
+    ///
+    /// `AllocError`: memory was wanting, and nothing has changed.
     pub fn set_character_widths(&mut self, widths: &[i32]) -> Result<(), AllocError>
         ensures ok { OnOk result (self.new ≡ record self.old { character_widths = Some widths.now }) }
         ensures err { OnErr result (self.new ≡ self.old) }

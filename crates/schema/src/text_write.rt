@@ -8,6 +8,9 @@ use std::error::Error;
 use std::fmt;
 use std::marker::Model;
 
+/// How many bytes there is room for after the first growth of a text in memory, at least.
+const FIRST_ROOM: usize = 64;
+
 /// A writer took no text.
 #[derive(Clone, Copy, Debug, PartialEq, Eq)]
 pub struct TextFault;
@@ -39,6 +42,10 @@ pub trait TextWrite {
         ensures { result ≡ faults self.now };
 
     /// Receives the whole text, or none of it.
+    ///
+    /// # Errors
+    ///
+    /// The writer took nothing, and counts one failure more.
     fn write_str(&mut self, text: &str) -> Result<(), TextFault>
         requires { faults self.old + 1 < 2 ^ 128 }
         ensures ok { OnOk result (
@@ -52,6 +59,10 @@ pub trait TextWrite {
         ensures called { steps self.old (WithText text.now) (is_ok result) self.new };
 
     /// Receives one character, or nothing.
+    ///
+    /// # Errors
+    ///
+    /// The writer took nothing, and counts one failure more.
     fn write_char(&mut self, character: char) -> Result<(), TextFault>
         requires { faults self.old + 1 < 2 ^ 128 }
         ensures ok { OnOk result (
@@ -92,6 +103,16 @@ impl TextBuffer {
         }
     }
 
+    /// Makes room for the first text and for some that may follow it, so that a text of several parts isn't moved at each of
+    /// them. Where there is no memory for so much, the write asks for as much as it needs.
+    fn make_room(&mut self, text: &str)
+        ensures { self.new ≡ self.old }
+    {
+        if self.text.capacity() == 0 && !text.is_empty() {
+            let _ = self.text.reserve(text.len().max(FIRST_ROOM));
+        }
+    }
+
     /// The text received.
     pub fn as_str(&self) -> &str
         ensures { result.now ≡ self.now.text }
@@ -117,6 +138,7 @@ impl TextWrite for TextBuffer {
     }
 
     fn write_str(&mut self, text: &str) -> Result<(), TextFault> {
+        self.make_room(text);
         if self.text.push_str(text).is_err() {
             self.failures += 1;
             return Err(TextFault);

@@ -11,13 +11,14 @@ impl Node {
     pub fn label(&self) -> Option<&str>
         ensures { option_copied result ≡ self.now.label }
     {
-        match &self.label {
-            Some(text) => Some(text.as_str()),
-            None => None,
-        }
+        self.label.as_ref().map(|text| text.as_str())
     }
 
     /// Sets [`Node::label`] to a copy of the text.
+    ///
+    /// # Errors
+    ///
+    /// `AllocError`: memory was wanting, and nothing has changed.
     pub fn set_label(&mut self, text: &str) -> Result<(), AllocError>
         ensures ok { OnOk result (self.new ≡ record self.old { label = Some text.now }) }
         ensures err { OnErr result (self.new ≡ self.old) }
@@ -37,13 +38,14 @@ impl Node {
     pub fn value(&self) -> Option<&str>
         ensures { option_copied result ≡ self.now.value }
     {
-        match &self.value {
-            Some(text) => Some(text.as_str()),
-            None => None,
-        }
+        self.value.as_ref().map(|text| text.as_str())
     }
 
     /// Sets [`Node::value`] to a copy of the text.
+    ///
+    /// # Errors
+    ///
+    /// `AllocError`: memory was wanting, and nothing has changed.
     pub fn set_value(&mut self, text: &str) -> Result<(), AllocError>
         ensures ok { OnOk result (self.new ≡ record self.old { value = Some text.now }) }
         ensures err { OnErr result (self.new ≡ self.old) }
@@ -67,6 +69,10 @@ impl Node {
     }
 
     /// Sets [`Node::description`] to a copy of the text.
+    ///
+    /// # Errors
+    ///
+    /// `AllocError`: memory was wanting, and nothing has changed.
     pub fn set_description(&mut self, text: &str) -> Result<(), AllocError>
         ensures ok { OnOk result (self.new ≡ record self.old { description = Some text.now }) }
         ensures err { OnErr result (self.new ≡ self.old) }
@@ -90,6 +96,10 @@ impl Node {
     }
 
     /// Sets [`Node::role_description`] to a copy of the text.
+    ///
+    /// # Errors
+    ///
+    /// `AllocError`: memory was wanting, and nothing has changed.
     pub fn set_role_description(&mut self, text: &str) -> Result<(), AllocError>
         ensures ok { OnOk result (self.new ≡ record self.old { role_description = Some text.now }) }
         ensures err { OnErr result (self.new ≡ self.old) }
@@ -113,6 +123,10 @@ impl Node {
     }
 
     /// Sets [`Node::placeholder`] to a copy of the text.
+    ///
+    /// # Errors
+    ///
+    /// `AllocError`: memory was wanting, and nothing has changed.
     pub fn set_placeholder(&mut self, text: &str) -> Result<(), AllocError>
         ensures ok { OnOk result (self.new ≡ record self.old { placeholder = Some text.now }) }
         ensures err { OnErr result (self.new ≡ self.old) }
@@ -136,6 +150,10 @@ impl Node {
     }
 
     /// Sets [`Node::url`] to a copy of the text.
+    ///
+    /// # Errors
+    ///
+    /// `AllocError`: memory was wanting, and nothing has changed.
     pub fn set_url(&mut self, text: &str) -> Result<(), AllocError>
         ensures ok { OnOk result (self.new ≡ record self.old { url = Some text.now }) }
         ensures err { OnErr result (self.new ≡ self.old) }
@@ -159,6 +177,10 @@ impl Node {
     }
 
     /// Sets [`Node::author_id`] to a copy of the text.
+    ///
+    /// # Errors
+    ///
+    /// `AllocError`: memory was wanting, and nothing has changed.
     pub fn set_author_id(&mut self, text: &str) -> Result<(), AllocError>
         ensures ok { OnOk result (self.new ≡ record self.old { author_id = Some text.now }) }
         ensures err { OnErr result (self.new ≡ self.old) }
@@ -182,6 +204,10 @@ impl Node {
     }
 
     /// Sets [`Node::html_id`] to a copy of the text.
+    ///
+    /// # Errors
+    ///
+    /// `AllocError`: memory was wanting, and nothing has changed.
     pub fn set_html_id(&mut self, text: &str) -> Result<(), AllocError>
         ensures ok { OnOk result (self.new ≡ record self.old { html_id = Some text.now }) }
         ensures err { OnErr result (self.new ≡ self.old) }
@@ -205,6 +231,10 @@ impl Node {
     }
 
     /// Sets [`Node::class_name`] to a copy of the text.
+    ///
+    /// # Errors
+    ///
+    /// `AllocError`: memory was wanting, and nothing has changed.
     pub fn set_class_name(&mut self, text: &str) -> Result<(), AllocError>
         ensures ok { OnOk result (self.new ≡ record self.old { class_name = Some text.now }) }
         ensures err { OnErr result (self.new ≡ self.old) }
@@ -228,6 +258,10 @@ impl Node {
     }
 
     /// Sets [`Node::braille_label`] to a copy of the text.
+    ///
+    /// # Errors
+    ///
+    /// `AllocError`: memory was wanting, and nothing has changed.
     pub fn set_braille_label(&mut self, text: &str) -> Result<(), AllocError>
         ensures ok { OnOk result (self.new ≡ record self.old { braille_label = Some text.now }) }
         ensures err { OnErr result (self.new ≡ self.old) }
@@ -251,6 +285,10 @@ impl Node {
     }
 
     /// Sets [`Node::braille_role_description`] to a copy of the text.
+    ///
+    /// # Errors
+    ///
+    /// `AllocError`: memory was wanting, and nothing has changed.
     pub fn set_braille_role_description(&mut self, text: &str) -> Result<(), AllocError>
         ensures ok { OnOk result (self.new ≡ record self.old { braille_role_description = Some text.now }) }
         ensures err { OnErr result (self.new ≡ self.old) }
@@ -274,6 +312,10 @@ impl Node {
     }
 
     /// Sets [`Node::column_index_text`] to a copy of the text.
+    ///
+    /// # Errors
+    ///
+    /// `AllocError`: memory was wanting, and nothing has changed.
     pub fn set_column_index_text(&mut self, text: &str) -> Result<(), AllocError>
         ensures ok { OnOk result (self.new ≡ record self.old { column_index_text = Some text.now }) }
         ensures err { OnErr result (self.new ≡ self.old) }
@@ -297,6 +339,10 @@ impl Node {
     }
 
     /// Sets [`Node::row_index_text`] to a copy of the text.
+    ///
+    /// # Errors
+    ///
+    /// `AllocError`: memory was wanting, and nothing has changed.
     pub fn set_row_index_text(&mut self, text: &str) -> Result<(), AllocError>
         ensures ok { OnOk result (self.new ≡ record self.old { row_index_text = Some text.now }) }
         ensures err { OnErr result (self.new ≡ self.old) }
@@ -320,6 +366,10 @@ impl Node {
     }
 
     /// Sets [`Node::font_family`] to a copy of the text.
+    ///
+    /// # Errors
+    ///
+    /// `AllocError`: memory was wanting, and nothing has changed.
     pub fn set_font_family(&mut self, text: &str) -> Result<(), AllocError>
         ensures ok { OnOk result (self.new ≡ record self.old { font_family = Some text.now }) }
         ensures err { OnErr result (self.new ≡ self.old) }
@@ -343,6 +393,10 @@ impl Node {
     }
 
     /// Sets [`Node::language`] to a copy of the text.
+    ///
+    /// # Errors
+    ///
+    /// `AllocError`: memory was wanting, and nothing has changed.
     pub fn set_language(&mut self, text: &str) -> Result<(), AllocError>
         ensures ok { OnOk result (self.new ≡ record self.old { language = Some text.now }) }
         ensures err { OnErr result (self.new ≡ self.old) }

@@ -31,6 +31,10 @@ impl TreeInfo {
     }
 
     /// A copy, whose texts are kept in memory from `alloc`.
+    ///
+    /// # Errors
+    ///
+    /// `AllocError`: memory was wanting.
     pub fn clone(&self, alloc: Global) -> Result<TreeInfo, AllocError>
         ensures { IfOk result (λ copy. info_data copy ≡ info_data self.now) }
     {
@@ -59,6 +63,10 @@ pub struct TreeUpdate {
 
 impl TreeUpdate {
     /// A copy, whose list and texts are kept in memory from `alloc`. Each node is kept where its original is.
+    ///
+    /// # Errors
+    ///
+    /// `AllocError`: memory was wanting.
     pub fn clone(&self, alloc: Global) -> Result<TreeUpdate, AllocError>
         ensures { IfOk result (λ copy. update_data copy ≡ update_data self.now) }
     {

@@ -7,7 +7,7 @@ use Rattle.schema.specs.declared.NodeId.{NodeId}
 use Rattle.schema.specs.declared.TreeId.{TreeId}
 use Rattle.model.specs.declared.FullNodeId.{FullNodeId}
 use Rattle.model.specs.World.{World, Place, IsNode, index_of, root_of}
-use Rattle.model.specs.Update.{UpdateData, index_for, merged_world, named_at, IsFirst, IsNamed, Counts, IsListedAt, IsGraftOf, IsOnEmptyGraft, Fault, MissingTreeInfo, NotRootTree, MissingData, NotReached, NamedTwice, ListedTwice, RootTreeGrafted, GraftWithChildren, GraftedTwice, NoGraft, NoFirstTreeInfo, FocusMissing, FocusOnEmptyGraft, IndexesUsedUp, StandsApart, Stands}
+use Rattle.model.specs.Update.{UpdateData, index_for, merged_world, named_at, IsFirst, IsNamed, IsJudged, IsListedAt, IsGraftOf, IsOnEmptyGraft, Fault, MissingTreeInfo, NotRootTree, MissingData, NotReached, NamedTwice, ListedTwice, RootTreeGrafted, GraftWithChildren, GraftedTwice, NoGraft, NoFirstTreeInfo, FocusMissing, FocusOnEmptyGraft, IndexesUsedUp, StandsApart, Stands}
 use Rattle.model.proofs.Alike.Bare as bare
 use Rattle.model.proofs.Alike.Bare.{SameBare}
 
@@ -47,7 +47,7 @@ module _ {w : World} {u : UpdateData} {v : World} {x : UpdateData} (s : SameOrde
   named : (id : FullNodeId) → IsNamed w u id → IsNamed v x id
   named id h = (h.0 ∙ index, subst (λ ids. Contains ids id.node) s.ids h.1)
 
-  counts : (id : FullNodeId) → Counts w u id → Counts v x id
+  counts : (id : FullNodeId) → IsJudged w u id → IsJudged v x id
   counts id (inl h) = inl (named id h)
   counts id (inr h) = inr (bare.kept s.merged id.tree h.0, bare.reached s.merged id h.1)
 

@@ -13,7 +13,7 @@ use Rattle.model.specs.FullIds.{full_total, exact_full}
 use Rattle.model.specs.World.{ROOT_NAME, World, Tree, HasData, IsNode, data_of, in_tree, index_of, listed_ids, graft_name, root_of, root_named, Place, Reached, Kept}
 use Rattle.model.specs.World as world
 use Rattle.model.specs.Focus.{OnChain, first, next}
-use Rattle.model.specs.Update.{UpdateData, Fault, MissingTreeInfo, NotRootTree, MissingData, NotReached, NamedTwice, ListedTwice, RootTreeGrafted, GraftWithChildren, GraftedTwice, NoGraft, NoFirstTreeInfo, FocusMissing, FocusOnEmptyGraft, IndexesUsedUp, StandsApart, Stands, Counts, IsNamed, IsFirst, named_at, IsRebuild, IsAccepted, index_for, merged_world}
+use Rattle.model.specs.Update.{UpdateData, Fault, MissingTreeInfo, NotRootTree, MissingData, NotReached, NamedTwice, ListedTwice, RootTreeGrafted, GraftWithChildren, GraftedTwice, NoGraft, NoFirstTreeInfo, FocusMissing, FocusOnEmptyGraft, IndexesUsedUp, StandsApart, Stands, IsJudged, IsNamed, IsFirst, named_at, IsRebuild, IsAccepted, index_for, merged_world}
 use Rattle.model.specs.State.{Lists}
 use Rattle.model.proofs.State.StatePlaces.{and_then_some, value_of, IsSome_is, root_of_parts, lister_is_node, listed_tree}
 use Rattle.model.proofs.Update.RebuildKeeps.{listed_same, graft_same, node_kept, node_old}
@@ -160,20 +160,20 @@ module _ {old : World} {u : UpdateData} {new : World} {ts : List (ℕ × Tree)} 
   named_there : (id : FullNodeId) → IsNamed old u id → IsNode new id
   named_there id n = subst (IsNode new) (same_id (in_tree (index_for old u.name) id.node) id (sym n.0) refl) (each_named (λ k. IsNode new (in_tree (index_for old u.name) k)) u.nodes s.named id.node n.1.0 n.1.1 n.1.2)
 
-  counted : (id : FullNodeId) → Counts old u id → IsNode new id
+  counted : (id : FullNodeId) → IsJudged old u id → IsNode new id
   counted id (inl n) = named_there id n
   counted id (inr k) = shown_reached s.rebuilt id k.1 (shown_kept s.rebuilt id.tree k.0)
 
-  listed_new : (p : Place) (child : FullNodeId) → Counts old u p.0 → Lists (merged_world old u) p child → Lists new p child
+  listed_new : (p : Place) (child : FullNodeId) → IsJudged old u p.0 → Lists (merged_world old u) p child → Lists new p child
   listed_new p child c at = let k = node_kept is_rebuild p.0 (counted p.0 c) in subst (λ xs. slice_get xs p.1 ≡ Some child) (sym (listed_same is_rebuild p.0 k.0 k.1)) at
 
-  grafts_new : (id : FullNodeId) (name : TreeId) → Counts old u id → graft_name (merged_world old u) id ≡ Some name → graft_name new id ≡ Some name
+  grafts_new : (id : FullNodeId) (name : TreeId) → IsJudged old u id → graft_name (merged_world old u) id ≡ Some name → graft_name new id ≡ Some name
   grafts_new id name c is = let k = node_kept is_rebuild id (counted id c) in graft_same is_rebuild id k.0 k.1 ∙ is
 
-  placed : (p : Place) (child : FullNodeId) → Counts old u p.0 → Lists (merged_world old u) p child → (p ≡ s.place_of child) × (root_of (merged_world old u) child.tree ≢ Some child)
+  placed : (p : Place) (child : FullNodeId) → IsJudged old u p.0 → Lists (merged_world old u) p child → (p ≡ s.place_of child) × (root_of (merged_world old u) child.tree ≢ Some child)
   placed p child c at = each_listed new es s.rebuilt.es_are (λ p c. (p ≡ s.place_of c) × (root_of (merged_world old u) c.tree ≢ Some c)) s.listed_once p child (listed_new p child c at)
 
-  grafted : (id : FullNodeId) (name : TreeId) → Counts old u id → graft_name (merged_world old u) id ≡ Some name → (d : NodeData) × HasData new id d × ((d.children ≡ []) × (name ≢ ROOT_NAME) × (id ≡ s.graft_of name))
+  grafted : (id : FullNodeId) (name : TreeId) → IsJudged old u id → graft_name (merged_world old u) id ≡ Some name → (d : NodeData) × HasData new id d × ((d.children ≡ []) × (name ≢ ROOT_NAME) × (id ≡ s.graft_of name))
   grafted id name c is = each_graft new es s.rebuilt.es_are (λ id d name. (d.children ≡ []) × (name ≢ ROOT_NAME) × (id ≡ s.graft_of name)) s.grafted_once id name (grafts_new id name c is)
 
   pub none_stands_apart : (f : Fault) → ¬ (StandsApart old u f)
@@ -186,7 +186,7 @@ module _ {old : World} {u : UpdateData} {new : World} {ts : List (ℕ × Tree)} 
       let f = tree_shown s.rebuilt (index_for old u.name) v.0 v.1 in
       let same : v.0 ≡ t.0 = same_Some v.0 t.0 (sym f.0 ∙ t.1) in
       h.2 (node_old is_rebuild h.0 (subst (IsNode new) (ap (λ x. in_tree (index_for old u.name) x.root) same ∙ t.2) f.2)))
-      (λ (l : (p : Place) × (Counts old u p.0 × Lists (merged_world old u) p h.0)).
+      (λ (l : (p : Place) × (IsJudged old u p.0 × Lists (merged_world old u) p h.0)).
       h.2 (node_old is_rebuild h.0 (each_listed new es s.rebuilt.es_are (λ p c. IsNode new c) s.rebuilt.children l.0 h.0 (listed_new l.0 h.0 l.1.0 l.1.1))))
       h.3
   none_stands_apart (NotReached n) h = h.3 (node_kept is_rebuild h.0 (named_there h.0 h.2)).1
@@ -194,7 +194,7 @@ module _ {old : World} {u : UpdateData} {new : World} {ts : List (ℕ × Tree)} 
       let at : (i : ℕ) → named_at u i ≡ Some n → s.entry_of n ≡ i + 0 = λ i is. each_at (λ i k. s.entry_of k ≡ i) 0 (map (λ e. e.0) u.nodes) s.named_once i n is in
       h.2 (let a = at h.0 h.3 in let b = at h.1 h.4 in omega arith)
   none_stands_apart (ListedTwice n) h = ⊎_elim
-      (λ (o : (q : Place) × (h.2 ≢ q) × (Counts old u q.0 × Lists (merged_world old u) q h.0)). o.1 ((placed h.2 h.0 h.3.0 h.3.1).0 ∙ sym (placed o.0 h.0 o.2.0 o.2.1).0))
+      (λ (o : (q : Place) × (h.2 ≢ q) × (IsJudged old u q.0 × Lists (merged_world old u) q h.0)). o.1 ((placed h.2 h.0 h.3.0 h.3.1).0 ∙ sym (placed o.0 h.0 o.2.0 o.2.1).0))
       (λ root. (placed h.2 h.0 h.3.0 h.3.1).1 root) h.4
   none_stands_apart (RootTreeGrafted n) h = (grafted h.0 ROOT_NAME h.2.0 h.2.1).2.1 refl
   none_stands_apart (GraftWithChildren n) h =

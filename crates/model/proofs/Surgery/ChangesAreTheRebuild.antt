@@ -9,7 +9,7 @@ use Rattle.model.specs.World.{ROOT_NAME, World, Tree, IsNode, HasData, data_of, 
 use Rattle.model.specs.World as world
 use Rattle.model.specs.Update.{UpdateData, IsNamed, IsRebuild, index_for, merged_world}
 use Rattle.model.specs.State.{Lists}
-use Rattle.model.specs.Surgery.{IsOld, IsMovedIn, Spot, IsAt, Entered, HasEntered, IsGraftedByNamed, Gone, IsDropped, IsLive, IsOpened, IsClimbed, IsChanged}
+use Rattle.model.specs.Surgery.{IsOld, IsMovedIn, Seat, IsAt, Entered, HasEntered, IsGraftedByNamed, Gone, IsDropped, IsLive, IsOpened, IsClimbed, IsChanged}
 use Rattle.model.specs.Surgery as surgery
 use Rattle.model.proofs.Worlds.Names.{certain, index_of_once}
 use Rattle.model.proofs.State.StatePlaces.{value_of, IsSome_is, root_named_parts, by_place, stands_listed, stands_grafted, lister_is_node, graft_is_node}

@@ -6,7 +6,7 @@ use Rattle.model.specs.World as world
 use Rattle.model.specs.Update.{UpdateData, NotReached, Stands, IsNamed, IsRebuild, merged_world}
 use Rattle.model.specs.State.{Lists}
 use Rattle.model.specs.Work.{HasDepthInTree, at_root, at_child}
-use Rattle.model.specs.Surgery.{IsOld, Spot, IsAt, Entered, HasEntered, Gone, IsLive, IsRemoved, IsRefined, LeadsDown, here, down, IsClimb}
+use Rattle.model.specs.Surgery.{IsOld, Seat, IsAt, Entered, HasEntered, Gone, IsLive, IsRemoved, IsRefined, LeadsDown, here, down, IsClimb}
 use Rattle.model.proofs.State.StatePlaces.{listed_tree, lister_is_node}
 use Rattle.model.proofs.Update.RebuildKeeps.{listed_same}
 use Rattle.model.proofs.Surgery.Spots.{lister_named}
@@ -32,7 +32,7 @@ module _ (w : World) (u : UpdateData) (o : IsOld w) where
   entered_up r p x e = let named = lister_named w u p x e.0 e.1 in (named, e.0, r.named_stays p.0 named)
 
   -- what didn't enter, and isn't the root, has its old parent
-  pub old_up : (s : Spot) (x : FullNodeId) → IsAt w s x → ¬ (HasEntered w u x) → ¬ (Gone w u x) → root_of m x.tree ≢ Some x → (p : Place) × (s ≡ Some p) × Lists m p x × ¬ (Gone w u p.0) × IsNode w p.0
+  pub old_up : (s : Seat) (x : FullNodeId) → IsAt w s x → ¬ (HasEntered w u x) → ¬ (Gone w u x) → root_of m x.tree ≢ Some x → (p : Place) × (s ≡ Some p) × Lists m p x × ¬ (Gone w u p.0) × IsNode w p.0
   old_up None x was none stays other = absurd (other (spot_stays w u o None x was none stays).0)
   old_up (Some p) x was none stays other = let f = spot_stays w u o (Some p) x was none stays in (p, refl, f.0, f.1 p refl, lister_is_node w p x was)
 

@@ -18,7 +18,7 @@ use Rattle.model.specs.Update.{UpdateData, InfoData, IsNamed, IsRebuild, index_f
 use Rattle.model.specs.State.{IsState}
 use Rattle.model.specs.Differences.{told_root}
 use Rattle.model.specs.Work.{Work, HasDepthInTree, IsSumOfDepths, IsWorkOf, IsChildOfNamed, named_ids, allowance}
-use Rattle.model.specs.Surgery.{IsOld, Spot, Entered, HasEntered, Gone, IsMovedIn, IsLive, IsPassed, LeadsDown, AreSteps}
+use Rattle.model.specs.Surgery.{IsOld, Seat, Entered, HasEntered, Gone, IsMovedIn, IsLive, IsPassed, LeadsDown, AreSteps}
 use Rattle.model.proofs.Worlds.Names.{same_id}
 use Rattle.model.proofs.Members.{contains_none, contains_head, contains_later, contains_cases}
 use Rattle.model.proofs.Forest.PlaceOf.{same_from_test, test_self}
@@ -141,7 +141,7 @@ module _ (w : World) (u : UpdateData) (o : IsOld w) (c : IsPassed w u) {new : Wo
       is_root : (id : FullNodeId) → root_of (merged_world w u) (index_for w u.name) ≡ Some id → Contains all id
       is_root id e = in_rest id (Contains-append_right (map grafted_root (named_ids w u)) (root.0 ∷ []) id (contains_head root.0 id [] (same_Some root.0 id (sym root.1 ∙ e))))
 
-      entered : (id : FullNodeId) (s : Spot) → Entered w u s id → Contains all id
+      entered : (id : FullNodeId) (s : Seat) → Entered w u s id → Contains all id
       entered id None e = is_root id (subst (λ k. root_of (merged_world w u) k ≡ Some id) (entered_tree w u None id e) e.0)
       entered id (Some p) e =
           Contains-append_right (named_ids w u) (is.children ++ (map grafted_root (named_ids w u) ++ root.0 ∷ [])) id

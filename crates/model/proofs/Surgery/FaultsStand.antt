@@ -6,9 +6,9 @@ use Rattle.model.specs.declared.FullNodeId.{FullNodeId}
 use Rattle.model.specs.World.{ROOT_NAME, World, Tree, IsNode, data_of, in_tree, listed_ids, graft_name, root_of, root_named, Place, Reached, Kept}
 use Rattle.model.specs.World as world
 use Rattle.model.specs.Focus.{OnChain}
-use Rattle.model.specs.Update.{UpdateData, MissingData, NotReached, ListedTwice, GraftedTwice, RootTreeGrafted, GraftWithChildren, FocusOnEmptyGraft, Stands, Counts, IsNamed, IsListedAt, index_for, merged_world}
+use Rattle.model.specs.Update.{UpdateData, MissingData, NotReached, ListedTwice, GraftedTwice, RootTreeGrafted, GraftWithChildren, FocusOnEmptyGraft, Stands, IsJudged, IsNamed, IsListedAt, index_for, merged_world}
 use Rattle.model.specs.State.{Lists}
-use Rattle.model.specs.Surgery.{IsOld, Spot, IsAt, Entered, HasEntered, Gone, IsLive, IsOpened, IsRemoved, IsRefined, IsClimbed, IsPassed}
+use Rattle.model.specs.Surgery.{IsOld, Seat, IsAt, Entered, HasEntered, Gone, IsLive, IsOpened, IsRemoved, IsRefined, IsClimbed, IsPassed}
 use Rattle.model.proofs.State.StatePlaces.{listed_tree, lister_is_node, graft_is_node}
 use Rattle.model.proofs.Update.RebuildKeeps.{chain_kept}
 use Rattle.model.proofs.Surgery.Spots.{root_at, unnamed_data, unnamed_graft, lister_named, entered_tree, at_is_node, at_or_entered}
@@ -33,21 +33,21 @@ module _ (w : World) (u : UpdateData) (o : IsOld w) where
   named_grafts_stand n k name other a b f g = (n, k, other, (inl a, f), (inl b, g))
 
   -- a parent of the spot, if there is one, counts
-  abbrev IsOfCounting : Spot → Type 0
-  IsOfCounting s = (p : Place) → s ≡ Some p → Counts w u p.0
+  abbrev IsOfCounting : Seat → Type 0
+  IsOfCounting s = (p : Place) → s ≡ Some p → IsJudged w u p.0
 
   -- what has two spots is listed twice, or as a root
-  two_spots_stand : (s t : Spot) (c : FullNodeId) → s ≢ t → IsAt m s c → IsAt m t c → IsOfCounting s → IsOfCounting t → Stands w u (ListedTwice c.node)
+  two_spots_stand : (s t : Seat) (c : FullNodeId) → s ≢ t → IsAt m s c → IsAt m t c → IsOfCounting s → IsOfCounting t → Stands w u (ListedTwice c.node)
   two_spots_stand None None c other a b above beside = absurd (other refl)
   two_spots_stand (Some p) None c other a b above beside = (c, refl, p, (above p refl, a), inr b)
   two_spots_stand None (Some q) c other a b above beside = (c, refl, q, (beside q refl, b), inr a)
   two_spots_stand (Some p) (Some q) c other a b above beside = (c, refl, p, (above p refl, a), inl (q, (λ e. other (ap Some e)), (beside q refl, b)))
 
-  entered_counting : (s : Spot) (c : FullNodeId) → Entered w u s c → IsOfCounting s
+  entered_counting : (s : Seat) (c : FullNodeId) → Entered w u s c → IsOfCounting s
   entered_counting s c e p is = let f : Entered w u (Some p) c = subst (λ t. Entered w u t c) is e in inl (lister_named w u p c f.0 f.1)
 
   -- pass 1: a node that entered two spots
-  pub entered_twice_stands : (s t : Spot) (c : FullNodeId) → s ≢ t → Entered w u s c → Entered w u t c → Stands w u (ListedTwice c.node)
+  pub entered_twice_stands : (s t : Seat) (c : FullNodeId) → s ≢ t → Entered w u s c → Entered w u t c → Stands w u (ListedTwice c.node)
   entered_twice_stands s t c other a b = two_spots_stand s t c other a.0 b.0 (entered_counting s c a) (entered_counting t c b)
 
   -- pass 2: a root that entered a place
@@ -55,10 +55,10 @@ module _ (w : World) (u : UpdateData) (o : IsOld w) where
   root_entered_stands p c is e = two_spots_stand (Some p) None c (λ same. cc) e.0 (root_at m i c is) (entered_counting (Some p) c e) (λ q same. cc)
 
   -- pass 2: what entered, isn't named and wasn't there
-  pub entered_missing_stands : (s : Spot) (c : FullNodeId) → Entered w u s c → ¬ (IsNamed w u c) → ¬ (IsNode w c) → Stands w u (MissingData c.node)
+  pub entered_missing_stands : (s : Seat) (c : FullNodeId) → Entered w u s c → ¬ (IsNamed w u c) → ¬ (IsNode w c) → Stands w u (MissingData c.node)
   entered_missing_stands s c e other absent = (c, refl, (λ there. absent (subst IsSome (unnamed_data w u c other) there)), spot s e)
     where
-      spot : (s : Spot) → Entered w u s c → (root_of m i ≡ Some c) ⊎ ((p : Place) × IsListedAt w u p c)
+      spot : (s : Seat) → Entered w u s c → (root_of m i ≡ Some c) ⊎ ((p : Place) × IsListedAt w u p c)
       spot None e = inl (subst (λ k. root_of m k ≡ Some c) (entered_tree w u None c e) e.0)
       spot (Some p) e = inr (p, (entered_counting (Some p) c e p refl, e.0))
 
@@ -73,7 +73,7 @@ module _ (w : World) (u : UpdateData) (o : IsOld w) where
   pub unentered_stands : (n : FullNodeId) → IsNamed w u n → ¬ (IsNode w n) → ¬ (HasEntered w u n) → Stands w u (NotReached n.node)
   unentered_stands n named absent none = (n, refl, named, out n absent none)
     where
-      no_spot : (n : FullNodeId) → ¬ (IsNode w n) → ¬ (HasEntered w u n) → (s : Spot) → ¬ (IsAt m s n)
+      no_spot : (n : FullNodeId) → ¬ (IsNode w n) → ¬ (HasEntered w u n) → (s : Seat) → ¬ (IsAt m s n)
       no_spot n absent none s at = ⊎_elim (λ was. absent (at_is_node w u o s n was)) (λ e. none (s, e)) (at_or_entered w u s n at)
 
       out : (n : FullNodeId) → ¬ (IsNode w n) → ¬ (HasEntered w u n) → ¬ (Reached m n)
@@ -81,12 +81,12 @@ module _ (w : World) (u : UpdateData) (o : IsOld w) where
       out n absent none (world.Reached.child parent n' k reached at) = no_spot n absent none (Some (parent, k)) at
 
   -- pass 4: what entered, and stays with a parent that doesn't go, where all named nodes are reached
-  pub doubled_stands : IsRemoved w u → ((n : FullNodeId) → IsNamed w u n → Reached m n) → (s : Spot) (q : Place) (c : FullNodeId) → Entered w u s c → Lists w q c → Lists m q c → ¬ (Gone w u q.0) → Stands w u (ListedTwice c.node)
+  pub doubled_stands : IsRemoved w u → ((n : FullNodeId) → IsNamed w u n → Reached m n) → (s : Seat) (q : Place) (c : FullNodeId) → Entered w u s c → Lists w q c → Lists m q c → ¬ (Gone w u q.0) → Stands w u (ListedTwice c.node)
   doubled_stands r named s q c e was at stays =
       let reached : Reached m q.0 = stays_reached w u o (adopted_reached w u o (λ n is adopts. named n is)) r.named_stays q.0 (o.node_reached q.0 (lister_is_node w q c was)) stays in
       let tree : i ≡ q.0.tree = sym (entered_tree w u s c e) ∙ listed_tree w q c was in
-      let counts : Counts w u q.0 = inr (subst (Kept m) tree (named_kept w u o r.settled.compared.opened), reached) in
-      two_spots_stand s (Some q) c (λ same. e.1 (subst (λ t. IsAt w t c) (sym same) was)) e.0 at (entered_counting s c e) (λ p same. subst (λ x. Counts w u x.0) (same_Some q p same) counts)
+      let counts : IsJudged w u q.0 = inr (subst (Kept m) tree (named_kept w u o r.settled.compared.opened), reached) in
+      two_spots_stand s (Some q) c (λ same. e.1 (subst (λ t. IsAt w t c) (sym same) was)) e.0 at (entered_counting s c e) (λ p same. subst (λ x. IsJudged w u x.0) (same_Some q p same) counts)
 
   -- pass 5: a climb that comes to its own nodes
   pub loop_stands : IsRefined w u → (S : FullNodeId → Type 0) → ((n : FullNodeId) → S n → (p : Place) × Lists m p n × ¬ (Gone w u p.0) × S p.0) → (n : FullNodeId) → IsNamed w u n → S n → Stands w u (NotReached n.node)

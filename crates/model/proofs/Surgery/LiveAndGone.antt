@@ -8,7 +8,7 @@ use Rattle.model.specs.World.{ROOT_NAME, World, Tree, IsNode, data_of, in_tree, 
 use Rattle.model.specs.World as world
 use Rattle.model.specs.Update.{UpdateData, IsNamed, index_for, merged_world}
 use Rattle.model.specs.State.{Lists}
-use Rattle.model.specs.Surgery.{IsOld, Spot, IsAt, Left, Entered, HasEntered, IsGraftedByNamed, Gone, IsLive, Adopts, IsOpened, IsCompared, IsSettled, IsRemoved, IsRefined, IsClimbed, IsPassed}
+use Rattle.model.specs.Surgery.{IsOld, Seat, IsAt, Left, Entered, HasEntered, IsGraftedByNamed, Gone, IsLive, Adopts, IsOpened, IsCompared, IsSettled, IsRemoved, IsRefined, IsClimbed, IsPassed}
 use Rattle.model.specs.Surgery as surgery
 use Rattle.model.proofs.Worlds.Names.{cases_id, cases_name, cases_some, certain, known-index_of, index_of_once}
 use Rattle.model.proofs.State.StatePlaces.{root_of-tree, root_named_parts, listed_tree, graft_is_node}
@@ -75,7 +75,7 @@ module _ (w : World) (u : UpdateData) where
     -- ---- U: what goes isn't live
 
     -- nothing that entered goes
-    pub entered_stays : (s : Spot) (c : FullNodeId) → Entered w u s c → ¬ (Gone w u c)
+    pub entered_stays : (s : Seat) (c : FullNodeId) → Entered w u s c → ¬ (Gone w u c)
     entered_stays s c e (surgery.Gone.left t c' l none) = none (s, e)
     entered_stays s c e (surgery.Gone.child p c' g at none) = none (s, e)
     entered_stays s c e (surgery.Gone.under g c' name gone grafts other named none) = none (s, e)
@@ -130,7 +130,7 @@ module _ (w : World) (u : UpdateData) where
 
     -- the nodes that a search finds are all that go: those that left, with each its children and the root of its tree, and the roots of the trees cut off
     pub gone_found : (G : FullNodeId → Type 0)
-        → ((s : Spot) (c : FullNodeId) → Left w u s c → ¬ (HasEntered w u c) → G c)
+        → ((s : Seat) (c : FullNodeId) → Left w u s c → ¬ (HasEntered w u c) → G c)
         → ((p : Place) (c : FullNodeId) → G p.0 → Lists w p c → ¬ (HasEntered w u c) → G c)
         → ((graft c : FullNodeId) (name : TreeId) → G graft ⊎ IsNamed w u graft → graft_name w graft ≡ Some name → ¬ (IsGraftedByNamed w u name) → root_named w name ≡ Some c → ¬ (HasEntered w u c) → G c)
         → (x : FullNodeId) → Gone w u x → G x
@@ -149,23 +149,23 @@ module _ (w : World) (u : UpdateData) where
     IsNamedStaying = (n : FullNodeId) → IsNamed w u n → ¬ (Gone w u n)
 
     -- the parent of a spot, if any, doesn't go
-    abbrev IsUnlost : Spot → Type 0
+    abbrev IsUnlost : Seat → Type 0
     IsUnlost s = (p : Place) → s ≡ Some p → ¬ (Gone w u p.0)
 
     -- an old node that neither entered nor goes has its spot, and its parent doesn't go
-    pub spot_stays : (s : Spot) (x : FullNodeId) → IsAt w s x → ¬ (HasEntered w u x) → ¬ (Gone w u x) → IsAt m s x × IsUnlost s
+    pub spot_stays : (s : Seat) (x : FullNodeId) → IsAt w s x → ¬ (HasEntered w u x) → ¬ (Gone w u x) → IsAt m s x × IsUnlost s
     spot_stays s x was none stays = (⊎_elim (λ at. at) (λ l. absurd (stays (surgery.Gone.left s x l none))) (at_or_left w u s x was), above s was)
       where
-        above : (s : Spot) → IsAt w s x → IsUnlost s
+        above : (s : Seat) → IsAt w s x → IsUnlost s
         above s was p is gone = stays (surgery.Gone.child p x gone (subst (λ t. IsAt w t x) is was) none)
 
     -- what a node lists newly, it lists as a named node, which doesn't go
-    pub entered_unlost : IsNamedStaying → (s : Spot) (x : FullNodeId) → Entered w u s x → IsUnlost s
+    pub entered_unlost : IsNamedStaying → (s : Seat) (x : FullNodeId) → Entered w u s x → IsUnlost s
     entered_unlost named s x e p is =
         let f : Entered w u (Some p) x = subst (λ t. Entered w u t x) is e in
         named p.0 (lister_named w u p x f.0 f.1)
 
-    entered_reached : IsMovedReached → IsNamedStaying → (s : Spot) (x : FullNodeId) → IsAt w s x → ((q : Place) → s ≡ Some q → ¬ (Gone w u q.0) → Reached m q.0) → (t : Spot) → Entered w u t x → Reached m x
+    entered_reached : IsMovedReached → IsNamedStaying → (s : Seat) (x : FullNodeId) → IsAt w s x → ((q : Place) → s ≡ Some q → ¬ (Gone w u q.0) → Reached m q.0) → (t : Seat) → Entered w u t x → Reached m x
     entered_reached moved named s x was above None e = root_reached m x.tree x e.0
     entered_reached moved named None x was above (Some p) e = moved p x (at_is_node w u o None x was) e (λ j lists. o.root_unlisted (p.0, j) x.tree x was lists)
     entered_reached moved named (Some q) x was above (Some p) e = go (cases_id q.0 p.0)
@@ -174,7 +174,7 @@ module _ (w : World) (u : UpdateData) where
         go (inl same) = world.Reached.child p.0 x p.1 (subst (Reached m) same (above q refl (subst (λ y. ¬ (Gone w u y)) (sym same) (named p.0 (lister_named w u p x e.0 e.1))))) e.0
         go (inr other) = moved p x (at_is_node w u o (Some q) x was) e (λ j lists. other (ap (λ z. z.0) (o.listed_once q (p.0, j) x was lists)))
 
-    at_stays_reached : IsMovedReached → IsNamedStaying → (s : Spot) (x : FullNodeId) → IsAt w s x → ((q : Place) → s ≡ Some q → ¬ (Gone w u q.0) → Reached m q.0) → ¬ (Gone w u x) → Reached m x
+    at_stays_reached : IsMovedReached → IsNamedStaying → (s : Seat) (x : FullNodeId) → IsAt w s x → ((q : Place) → s ≡ Some q → ¬ (Gone w u q.0) → Reached m q.0) → ¬ (Gone w u x) → Reached m x
     at_stays_reached moved named s x was above stays = certain (decide_reached m x) (λ lost.
         let none : ¬ (HasEntered w u x) = λ e. lost (entered_reached moved named s x was above e.0 e.1) in
         let f = spot_stays s x was none stays in
@@ -227,7 +227,7 @@ module _ (w : World) (u : UpdateData) where
     pub named_reached : IsRefined w u → ((n : FullNodeId) → IsNamed w u n → Adopts w u n → Reached m n) → (n : FullNodeId) → IsNamed w u n → Reached m n
     named_reached r adopters n named = go (cases_some (data_of w n))
       where
-        new : ¬ (IsNode w n) → (s : Spot) → Entered w u s n → Reached m n
+        new : ¬ (IsNode w n) → (s : Seat) → Entered w u s n → Reached m n
         new absent None e = root_reached m n.tree n e.0
         new absent (Some p) e = world.Reached.child p.0 n p.1 (adopters p.0 (lister_named w u p n e.0 e.1) (p.1, n, e, λ j lists. absent (o.listed_is_node (p.0, j) n lists))) e.0
 
@@ -241,7 +241,7 @@ module _ (w : World) (u : UpdateData) where
     -- ---- M: what is live
 
     -- what is at a spot has data
-    pub at_node : IsSettled w u → (s : Spot) (c : FullNodeId) → IsAt m s c → IsNode m c
+    pub at_node : IsSettled w u → (s : Seat) (c : FullNodeId) → IsAt m s c → IsNode m c
     at_node r s c at = ⊎_elim (λ was. node_stays w u c (at_is_node w u o s c was)) (λ e. r.entered_is_node s c e) (at_or_entered w u s c at)
 
     pub reached_node : IsSettled w u → (x : FullNodeId) → Reached m x → IsNode m x
@@ -262,12 +262,12 @@ module _ (w : World) (u : UpdateData) where
     -- ---- P: one spot
 
     -- what entered and stays at its old spot stays with a parent that goes
-    entered_doubled : IsRefined w u → (s t : Spot) (c : FullNodeId) → Entered w u s c → IsAt w t c → IsAt m t c → ¬ (IsUnlost t)
+    entered_doubled : IsRefined w u → (s t : Seat) (c : FullNodeId) → Entered w u s c → IsAt w t c → IsAt m t c → ¬ (IsUnlost t)
     entered_doubled r None None c e was at above = e.1 was
     entered_doubled r (Some p) None c e was at above = r.removed.settled.root_unlisted p c (subst (λ k. root_of m k ≡ Some c) (entered_tree w u (Some p) c e) at) e
     entered_doubled r s (Some q) c e was at above = above q refl (r.doubled_gone s q c e was at)
 
-    pub one_spot : IsRefined w u → (s t : Spot) (c : FullNodeId) → IsAt m s c → IsAt m t c → IsUnlost s → IsUnlost t → s ≡ t
+    pub one_spot : IsRefined w u → (s t : Seat) (c : FullNodeId) → IsAt m s c → IsAt m t c → IsUnlost s → IsUnlost t → s ≡ t
     one_spot r s t c a b above beside = go (at_or_entered w u s c a) (at_or_entered w u t c b)
       where
         go : IsAt w s c ⊎ Entered w u s c → IsAt w t c ⊎ Entered w u t c → s ≡ t

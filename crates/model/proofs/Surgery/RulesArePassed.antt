@@ -5,10 +5,10 @@ use Rattle.model.specs.declared.FullNodeId.{FullNodeId}
 use Rattle.model.specs.World.{ROOT_NAME, World, Tree, IsNode, data_of, in_tree, graft_name, root_of, Place, Reached, Kept}
 use Rattle.model.specs.World as world
 use Rattle.model.specs.Focus.{OnChain}
-use Rattle.model.specs.Update.{UpdateData, IsNamed, Counts, IsListedAt, IsRebuild, IsAccepted, KeepsRules, index_for, merged_world}
+use Rattle.model.specs.Update.{UpdateData, IsNamed, IsJudged, IsListedAt, IsRebuild, IsAccepted, KeepsRules, index_for, merged_world}
 use Rattle.model.specs.State.{IsState, Lists}
 use Rattle.model.specs.Differences.{PlanEvent, Added, Updated, Removed, IsAscendingListOf, IsInBoth, AreOfFocus, AreDifferences}
-use Rattle.model.specs.Surgery.{IsOld, Spot, IsAt, Entered, HasEntered, Gone, IsLive, IsMovedIn, IsOpened, IsPassed, IsChanged}
+use Rattle.model.specs.Surgery.{IsOld, Seat, IsAt, Entered, HasEntered, Gone, IsLive, IsMovedIn, IsOpened, IsPassed, IsChanged}
 use Rattle.model.proofs.State.StatePlaces.{listed_tree, lister_is_node, graft_is_node}
 use Rattle.model.proofs.Update.RebuildKeeps.{graft_same, chain_old}
 use Rattle.model.proofs.Update.RebuildIsThere.{rebuild_exists}
@@ -48,13 +48,13 @@ module _ (w : World) (u : UpdateData) (o : IsOld w) where
     entered_listed : (p : Place) (c : FullNodeId) → Entered w u (Some p) c → IsListedAt w u p c
     entered_listed p c e = (inl (lister_named w u p c e.0 e.1), e.0)
 
-    entered_once : (s t : Spot) (c : FullNodeId) → Entered w u s c → Entered w u t c → s ≡ t
+    entered_once : (s t : Seat) (c : FullNodeId) → Entered w u s c → Entered w u t c → s ≡ t
     entered_once None None c a b = refl
     entered_once (Some p) None c a b = absurd (k.root_unlisted p c (entered_listed p c a) b.0)
     entered_once None (Some q) c a b = absurd (k.root_unlisted q c (entered_listed q c b) a.0)
     entered_once (Some p) (Some q) c a b = ap Some (k.listed_once p q c (entered_listed p c a) (entered_listed q c b))
 
-    entered_is_node : (s : Spot) (c : FullNodeId) → Entered w u s c → IsNode m c
+    entered_is_node : (s : Seat) (c : FullNodeId) → Entered w u s c → IsNode m c
     entered_is_node None c e = k.root_is_node c (subst (λ j. root_of m j ≡ Some c) (entered_tree w u None c e) e.0)
     entered_is_node (Some p) c e = k.listed_is_node p c (entered_listed p c e)
 
@@ -67,7 +67,7 @@ module _ (w : World) (u : UpdateData) (o : IsOld w) where
     new_entered : (n : FullNodeId) → Reached m n → ¬ (IsNode w n) → HasEntered w u n
     new_entered n (world.Reached.root j t is) absent = spot None (at_or_entered w u None (in_tree j t.root) (ap (option_map (λ t. in_tree j t.root)) is))
       where
-        spot : (s : Spot) → IsAt w s (in_tree j t.root) ⊎ Entered w u s (in_tree j t.root) → HasEntered w u (in_tree j t.root)
+        spot : (s : Seat) → IsAt w s (in_tree j t.root) ⊎ Entered w u s (in_tree j t.root) → HasEntered w u (in_tree j t.root)
         spot s (inl was) = absurd (absent (at_is_node w u o s (in_tree j t.root) was))
         spot s (inr e) = (s, e)
     new_entered n (world.Reached.child parent n' j reached at) absent = spot (at_or_entered w u (Some (parent, j)) n at)
@@ -76,13 +76,13 @@ module _ (w : World) (u : UpdateData) (o : IsOld w) where
         spot (inl was) = absurd (absent (at_is_node w u o (Some (parent, j)) n was))
         spot (inr e) = (Some (parent, j), e)
 
-    doubled_gone : (s : Spot) (q : Place) (c : FullNodeId) → Entered w u s c → Lists w q c → Lists m q c → Gone w u q.0
+    doubled_gone : (s : Seat) (q : Place) (c : FullNodeId) → Entered w u s c → Lists w q c → Lists m q c → Gone w u q.0
     doubled_gone s q c e was at = certain (decide_gone w u o q.0) (λ stays.
         let reached : Reached m q.0 = stays_reached w u o (adopted_reached w u o (λ n is adopts. k.named_reached n is)) named_stays q.0 (o.node_reached q.0 (lister_is_node w q c was)) stays in
         let tree : index_for w u.name ≡ q.0.tree = sym (entered_tree w u s c e) ∙ listed_tree w q c was in
         clash s e (inr (subst (Kept m) tree (named_kept w u o opened), reached)))
       where
-        clash : (s : Spot) → Entered w u s c → Counts w u q.0 → ⊥
+        clash : (s : Seat) → Entered w u s c → IsJudged w u q.0 → ⊥
         clash None e counts = k.root_unlisted q c (counts, at) e.0
         clash (Some p) e counts = e.1 (subst (λ x. Lists w x c) (sym (k.listed_once p q c (entered_listed p c e) (counts, at))) was)
 

@@ -6,7 +6,7 @@ use Rattle.schema.specs.declared.TreeId.{TreeId}
 use Rattle.model.specs.declared.FullNodeId.{FullNodeId}
 use Rattle.model.specs.World.{ROOT_NAME, World, IsNode, listed_ids, graft_name, root_of, root_named, Place, Reached}
 use Rattle.model.specs.Focus.{OnChain}
-use Rattle.model.specs.Update.{UpdateData, Fault, MissingTreeInfo, NotRootTree, MissingData, NotReached, NamedTwice, ListedTwice, RootTreeGrafted, GraftWithChildren, GraftedTwice, NoGraft, NoFirstTreeInfo, FocusMissing, FocusOnEmptyGraft, IndexesUsedUp, StandsApart, Counts, IsNamed, IsListedAt, IsGraftOf, KeepsRules, index_for, merged_world}
+use Rattle.model.specs.Update.{UpdateData, Fault, MissingTreeInfo, NotRootTree, MissingData, NotReached, NamedTwice, ListedTwice, RootTreeGrafted, GraftWithChildren, GraftedTwice, NoGraft, NoFirstTreeInfo, FocusMissing, FocusOnEmptyGraft, IndexesUsedUp, StandsApart, IsJudged, IsNamed, IsListedAt, IsGraftOf, KeepsRules, index_for, merged_world}
 use Rattle.model.specs.State.{Lists}
 use Rattle.model.specs.Surgery.{IsOld, Gone, IsLive, IsOpened, IsCompared, IsSettled, IsClimbed, IsPassed}
 use Rattle.model.proofs.Closure.{IsDecided}
@@ -23,7 +23,7 @@ module _ (w : World) (u : UpdateData) (o : IsOld w) where
   unlost p stays q is = subst (λ y. ¬ (Gone w u y.0)) (same_Some p q is) stays
 
   -- what counts is live
-  pub counts_live : IsClimbed w u → (id : FullNodeId) → Counts w u id → IsLive w u id
+  pub counts_live : IsClimbed w u → (id : FullNodeId) → IsJudged w u id → IsLive w u id
   counts_live c id (inl named) = named_live w u o c id named
   counts_live c id (inr live) = live
 

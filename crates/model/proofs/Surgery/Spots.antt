@@ -13,7 +13,7 @@ use Rattle.model.specs.World.{ROOT_NAME, World, Tree, IsNode, data_of, in_tree, 
 use Rattle.model.specs.World as world
 use Rattle.model.specs.Update.{UpdateData, IsFirst, IsNamed, index_for, overwritten_nodes, root_after, merged_world}
 use Rattle.model.specs.State.{Lists}
-use Rattle.model.specs.Surgery.{IsOld, Spot, IsAt, Left, Entered, IsOpened}
+use Rattle.model.specs.Surgery.{IsOld, Seat, IsAt, Left, Entered, IsOpened}
 use Rattle.model.proofs.Worlds.Names.{same_id, certain, known-index_of, unknown-index_of, index_of-known, index_of_once}
 use Rattle.model.proofs.State.StatePlaces.{IsSome_is, value_of, root_of_parts, root_of-tree, root_named_parts, listed_tree}
 use Rattle.model.proofs.Update.Merges.{other_id, data_elsewhere, tree_elsewhere, tree_named, root_stays, root_comes, known_stays, known_grows, known_once_after, name_stays, slice_get_push}
@@ -69,12 +69,12 @@ root_at v index id is = subst (λ k. root_of v k ≡ Some id) (root_of-tree v in
 pub root_reached : (v : World) (index : ℕ) (id : FullNodeId) → root_of v index ≡ Some id → Reached v id
 root_reached v index id is = let t = root_of_parts v index id is in subst (Reached v) t.2 (world.Reached.root index t.0 t.1)
 
-pub decide_at : (v : World) (s : Spot) (c : FullNodeId) → IsDecided (IsAt v s c)
+pub decide_at : (v : World) (s : Seat) (c : FullNodeId) → IsDecided (IsAt v s c)
 decide_at v None c = decide_id (root_of v c.tree) c
 decide_at v (Some p) c = decide_id (slice_get (listed_ids v p.0) p.1) c
 
 -- what is at a spot of a reached node, or at a root's, is reached
-pub at_reached : (v : World) (s : Spot) (c : FullNodeId) → IsAt v s c → ((p : Place) → s ≡ Some p → Reached v p.0) → Reached v c
+pub at_reached : (v : World) (s : Seat) (c : FullNodeId) → IsAt v s c → ((p : Place) → s ≡ Some p → Reached v p.0) → Reached v c
 at_reached v None c at above = root_reached v c.tree c at
 at_reached v (Some p) c at above = world.Reached.child p.0 c p.1 (above p refl) at
 
@@ -115,14 +115,14 @@ module _ (w : World) (u : UpdateData) where
   pub root_elsewhere : (index : ℕ) → index ≢ i → root_of m index ≡ root_of w index
   root_elsewhere index other = ap (option_map (λ t. in_tree index t.root)) (tree_elsewhere w u index other)
 
-  pub at_elsewhere : (s : Spot) (c : FullNodeId) → c.tree ≢ i → IsAt m s c → IsAt w s c
+  pub at_elsewhere : (s : Seat) (c : FullNodeId) → c.tree ≢ i → IsAt m s c → IsAt w s c
   at_elsewhere None c other at = sym (root_elsewhere c.tree other) ∙ at
   at_elsewhere (Some p) c other at =
       let apart : p.0.tree ≢ i = λ e. other (listed_tree m p c at ∙ e) in
       let lists : listed_ids m p.0 ≡ listed_ids w p.0 = rw (data_elsewhere w u p.0 apart) in
       subst (λ xs. slice_get xs p.1 ≡ Some c) lists at
 
-  pub at_stays_elsewhere : (s : Spot) (c : FullNodeId) → c.tree ≢ i → IsAt w s c → IsAt m s c
+  pub at_stays_elsewhere : (s : Seat) (c : FullNodeId) → c.tree ≢ i → IsAt w s c → IsAt m s c
   at_stays_elsewhere None c other at = root_elsewhere c.tree other ∙ at
   at_stays_elsewhere (Some p) c other at =
       let apart : p.0.tree ≢ i = λ e. other (listed_tree w p c at ∙ e) in
@@ -130,20 +130,20 @@ module _ (w : World) (u : UpdateData) where
       subst (λ xs. slice_get xs p.1 ≡ Some c) lists at
 
   -- what entered is in the named tree, and so is what left
-  pub entered_tree : (s : Spot) (c : FullNodeId) → Entered w u s c → c.tree ≡ i
+  pub entered_tree : (s : Seat) (c : FullNodeId) → Entered w u s c → c.tree ≡ i
   entered_tree s c e = certain (cases_eq c.tree i) (λ other. e.1 (at_elsewhere s c other e.0))
 
-  pub left_tree : (s : Spot) (c : FullNodeId) → Left w u s c → c.tree ≡ i
+  pub left_tree : (s : Seat) (c : FullNodeId) → Left w u s c → c.tree ≡ i
   left_tree s c l = certain (cases_eq c.tree i) (λ other. l.1 (at_stays_elsewhere s c other l.0))
 
   -- E: a spot of the merged world was one, or was entered; one of the old world is left, or stays
-  pub at_or_entered : (s : Spot) (c : FullNodeId) → IsAt m s c → IsAt w s c ⊎ Entered w u s c
+  pub at_or_entered : (s : Seat) (c : FullNodeId) → IsAt m s c → IsAt w s c ⊎ Entered w u s c
   at_or_entered s c at = ⊎_elim inl (λ n. inr (at, n)) (decide_at w s c)
 
-  pub at_or_left : (s : Spot) (c : FullNodeId) → IsAt w s c → IsAt m s c ⊎ Left w u s c
+  pub at_or_left : (s : Seat) (c : FullNodeId) → IsAt w s c → IsAt m s c ⊎ Left w u s c
   at_or_left s c at = ⊎_elim inl (λ n. inr (at, n)) (decide_at m s c)
 
-  pub spots_after : (s : Spot) (c : FullNodeId) → IsAt m s c ↔ (Entered w u s c ⊎ (IsAt w s c × ¬ (Left w u s c)))
+  pub spots_after : (s : Seat) (c : FullNodeId) → IsAt m s c ↔ (Entered w u s c ⊎ (IsAt w s c × ¬ (Left w u s c)))
   spots_after s c = (to, from)
     where
       to : IsAt m s c → Entered w u s c ⊎ (IsAt w s c × ¬ (Left w u s c))
@@ -192,13 +192,13 @@ module _ (w : World) (u : UpdateData) where
     root_named_before name id other is = let f = root_named_parts m name id is in root_named_from w name id.tree id (index_before name id.tree other f.0) (sym (root_elsewhere id.tree other) ∙ f.1)
 
     -- in the old world each node has one spot
-    pub spot_once : (s t : Spot) (c : FullNodeId) → IsAt w s c → IsAt w t c → s ≡ t
+    pub spot_once : (s t : Seat) (c : FullNodeId) → IsAt w s c → IsAt w t c → s ≡ t
     spot_once None None c a b = refl
     spot_once None (Some q) c a b = absurd (o.root_unlisted q c.tree c a b)
     spot_once (Some p) None c a b = absurd (o.root_unlisted p c.tree c b a)
     spot_once (Some p) (Some q) c a b = ap Some (o.listed_once p q c a b)
 
-    pub at_is_node : (s : Spot) (c : FullNodeId) → IsAt w s c → IsNode w c
+    pub at_is_node : (s : Seat) (c : FullNodeId) → IsAt w s c → IsNode w c
     at_is_node None c at = o.root_is_node c.tree c at
     at_is_node (Some p) c at = o.listed_is_node p c at
 

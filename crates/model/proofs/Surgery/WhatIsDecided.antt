@@ -7,7 +7,7 @@ use Rattle.model.specs.declared.FullNodeId.{FullNodeId}
 use Rattle.model.specs.World.{World, listed_ids, graft_name, root_named, Place}
 use Rattle.model.specs.Update.{UpdateData, IsNamed, merged_world}
 use Rattle.model.specs.State.{Lists}
-use Rattle.model.specs.Surgery.{IsOld, Spot, IsAt, Left, Entered, HasEntered, IsGraftedByNamed, Gone, IsMovedIn}
+use Rattle.model.specs.Surgery.{IsOld, Seat, IsAt, Left, Entered, HasEntered, IsGraftedByNamed, Gone, IsMovedIn}
 use Rattle.model.specs.Surgery as surgery
 use Rattle.model.proofs.State.StatePlaces.{graft_is_node, lister_is_node}
 use Rattle.model.proofs.Closure.{IsDecided, Path, start, step, decide_path, decide_both, decide_by}
@@ -20,7 +20,7 @@ module _ (w : World) (u : UpdateData) where
   m = merged_world w u
 
   -- a node at some spot of a world, with what is decided of the spot
-  decide_spot : (v : World) (c : FullNodeId) (Q : Spot → Type 0) → ((s : Spot) → IsDecided (Q s)) → IsDecided ((s : Spot) × IsAt v s c × Q s)
+  decide_spot : (v : World) (c : FullNodeId) (Q : Seat → Type 0) → ((s : Seat) → IsDecided (Q s)) → IsDecided ((s : Seat) × IsAt v s c × Q s)
   decide_spot v c Q decide = go (decide_both (decide_at v None c) (decide None)) (decide_any Here decide_here (places v (keys v)))
     where
       Here : Place × FullNodeId → Type 0
@@ -29,11 +29,11 @@ module _ (w : World) (u : UpdateData) where
       decide_here : (e : Place × FullNodeId) → IsDecided (Here e)
       decide_here e = decide_both (decide_at v (Some e.0) c) (decide (Some e.0))
 
-      at_place : ((IsAt v None c × Q None) → ⊥) → (((e : Place × FullNodeId) × IsIn e (places v (keys v)) × Here e) → ⊥) → (s : Spot) → IsAt v s c → Q s → ⊥
+      at_place : ((IsAt v None c × Q None) → ⊥) → (((e : Place × FullNodeId) × IsIn e (places v (keys v)) × Here e) → ⊥) → (s : Seat) → IsAt v s c → Q s → ⊥
       at_place r d None at q = r (at, q)
       at_place r d (Some p) at q = d ((p, c), is_place v p c at, (at, q))
 
-      go : IsDecided (IsAt v None c × Q None) → IsDecided ((e : Place × FullNodeId) × IsIn e (places v (keys v)) × Here e) → IsDecided ((s : Spot) × IsAt v s c × Q s)
+      go : IsDecided (IsAt v None c × Q None) → IsDecided ((e : Place × FullNodeId) × IsIn e (places v (keys v)) × Here e) → IsDecided ((s : Seat) × IsAt v s c × Q s)
       go (inl r) d = inl (None, r.0, r.1)
       go (inr r) (inl d) = inl (Some d.0.0, d.2.0, d.2.1)
       go (inr r) (inr d) = inr (λ h. at_place r d h.0 h.1 h.2)
@@ -67,7 +67,7 @@ module _ (w : World) (u : UpdateData) where
 
   -- where it begins: what left, and the roots of trees cut off
   Begins : FullNodeId → Type 0
-  Begins c = ¬ (HasEntered w u c) × (((s : Spot) × Left w u s c) ⊎ ((g : FullNodeId) × IsNamed w u g × IsUnderOf g c))
+  Begins c = ¬ (HasEntered w u c) × (((s : Seat) × Left w u s c) ⊎ ((g : FullNodeId) × IsNamed w u g × IsUnderOf g c))
 
   decide_begins : (c : FullNodeId) → IsDecided (Begins c)
   unfolding Begins IsUnderOf
@@ -101,7 +101,7 @@ module _ (w : World) (u : UpdateData) where
   unfolding GoesTo Begins IsUnderOf
   path_to c (start c' h) = begins h.0 h.1
     where
-      begins : ¬ (HasEntered w u c) → ((s : Spot) × Left w u s c) ⊎ ((g : FullNodeId) × IsNamed w u g × IsUnderOf g c) → Gone w u c
+      begins : ¬ (HasEntered w u c) → ((s : Seat) × Left w u s c) ⊎ ((g : FullNodeId) × IsNamed w u g × IsUnderOf g c) → Gone w u c
       begins none (inl l) = surgery.Gone.left l.0 c l.1 none
       begins none (inr h) = surgery.Gone.cut h.0 c h.2.0 h.1 h.2.1 h.2.2 h.2.3 none
   path_to c (step p q path edge) = let e = edge_parts (λ k. k) GoesTo nodes p c edge in goes (subst (Gone w u) (sym e.1) (path_to p path)) e.2.0 e.2.1

@@ -10,7 +10,7 @@ use Rattle.model.specs.Update.{UpdateData, IsNamed, IsRebuild, KeepsRules, index
 use Rattle.model.specs.State.{IsState, Lists}
 use Rattle.model.specs.Focus.{IsFocus, Resolves}
 use Rattle.model.specs.Differences.{Updated, FocusMoved, AreOfFocus, IsAloneIf, IsToldForFocus, IsAdded, IsInBoth, IsUpdated}
-use Rattle.model.specs.Surgery.{IsOld, Spot, IsAt, Entered, HasEntered, Gone, IsLive, IsMovedIn, IsOpened, IsClimbed, IsPassed}
+use Rattle.model.specs.Surgery.{IsOld, Seat, IsAt, Entered, HasEntered, Gone, IsLive, IsMovedIn, IsOpened, IsClimbed, IsPassed}
 use Rattle.model.specs.Surgery as surgery
 use Rattle.model.proofs.Worlds.Names.{cases_some, certain, known-index_of, index_of_once}
 use Rattle.model.proofs.State.StatePlaces.{IsSome_is, root_of-tree, root_named_parts, by_place, stands_listed, listed_tree, root_has_no_place, graft_place, place_exists, child_is_node}
@@ -158,7 +158,7 @@ module _ (w : World) (u : UpdateData) (o : IsOld w) (c : IsPassed w u) (k : Keep
           by_name None e = stands_listed w q id e was
           by_name (Some name) e = absurd (no_child (listed_ids w q.0) (o.graft_childless q.0 name e) was)
 
-      go : (s : Spot) → Entered w u s id → place_of w id ≢ place_of new id
+      go : (s : Seat) → Entered w u s id → place_of w id ≢ place_of new id
       go (Some p) e same = placed p e (stands_at_place w id p (same ∙ found_at (new_state id there) p id (entered_stands w u o c.climbed r p id e)))
       go None e same =
           let tree : id.tree ≡ i = entered_tree w u None id e in

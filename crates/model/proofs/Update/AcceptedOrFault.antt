@@ -10,7 +10,7 @@ use Rattle.schema.specs.declared.TreeId.{TreeId}
 use Rattle.model.specs.declared.FullNodeId.{FullNodeId}
 use Rattle.model.specs.World.{ROOT_NAME, World, Tree, IsNode, data_of, in_tree, index_of, listed_ids, graft_name, root_of, root_named, focus_of, focus_named, Place, Reached, Kept}
 use Rattle.model.specs.Focus.{OnChain, first, next, GoesOn}
-use Rattle.model.specs.Update.{UpdateData, Fault, MissingTreeInfo, NotRootTree, MissingData, NotReached, NamedTwice, ListedTwice, RootTreeGrafted, GraftWithChildren, GraftedTwice, NoGraft, NoFirstTreeInfo, FocusMissing, FocusOnEmptyGraft, IndexesUsedUp, StandsApart, Stands, Counts, IsFirst, IsNamed, named_at, IsListedAt, IsGraftOf, IsOnEmptyGraft, IsAccepted, index_for, merged_world}
+use Rattle.model.specs.Update.{UpdateData, Fault, MissingTreeInfo, NotRootTree, MissingData, NotReached, NamedTwice, ListedTwice, RootTreeGrafted, GraftWithChildren, GraftedTwice, NoGraft, NoFirstTreeInfo, FocusMissing, FocusOnEmptyGraft, IndexesUsedUp, StandsApart, Stands, IsJudged, IsFirst, IsNamed, named_at, IsListedAt, IsGraftOf, IsOnEmptyGraft, IsAccepted, index_for, merged_world}
 use Rattle.model.specs.State.{Lists}
 use Rattle.model.proofs.Worlds.Names.{same_id, cases_id, cases_place, cases_name, cases_some}
 use Rattle.model.proofs.State.StatePlaces.{map_some, and_then_some, value_of, graft_is_node, lister_is_node}
@@ -215,7 +215,7 @@ module _ (old : World) (u : UpdateData) where
   pub decide_named : (id : FullNodeId) → IsDecided (IsNamed old u id)
   decide_named id = decide_both (cases_eq id.tree (index_for old u.name)) (decide_by (in_contains names id.node) (λ c. contains_in names id.node c.0 c.1 c.2) (decide_in names id.node))
 
-  decide_counts : (id : FullNodeId) → IsDecided (Counts old u id)
+  decide_counts : (id : FullNodeId) → IsDecided (IsJudged old u id)
   decide_counts id = decide_either (decide_named id) (decide_both (decide_kept m id.tree) (decide_reached m id))
 
   decide_listed_at : (p : Place) (child : FullNodeId) → IsDecided (IsListedAt old u p child)

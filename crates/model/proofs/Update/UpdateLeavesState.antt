@@ -8,7 +8,7 @@ use Rattle.model.specs.declared.FullNodeId.{FullNodeId}
 use Rattle.model.specs.World.{ROOT_NAME, World, Tree, IsNode, data_of, in_tree, index_of, listed_ids, graft_name, root_of, root_named, Place, Reached, Kept}
 use Rattle.model.specs.World as world
 use Rattle.model.specs.Focus.{OnChain}
-use Rattle.model.specs.Update.{UpdateData, InfoData, Fault, MissingTreeInfo, NotRootTree, MissingData, NotReached, NamedTwice, ListedTwice, RootTreeGrafted, GraftWithChildren, GraftedTwice, NoGraft, NoFirstTreeInfo, FocusMissing, FocusOnEmptyGraft, IndexesUsedUp, StandsApart, Stands, Counts, IsListedAt, IsGraftOf, IsFirst, IsRebuild, IsAccepted, index_for, merged_world}
+use Rattle.model.specs.Update.{UpdateData, InfoData, Fault, MissingTreeInfo, NotRootTree, MissingData, NotReached, NamedTwice, ListedTwice, RootTreeGrafted, GraftWithChildren, GraftedTwice, NoGraft, NoFirstTreeInfo, FocusMissing, FocusOnEmptyGraft, IndexesUsedUp, StandsApart, Stands, IsJudged, IsListedAt, IsGraftOf, IsFirst, IsRebuild, IsAccepted, index_for, merged_world}
 use Rattle.model.specs.State.{empty_world, IsState, Lists}
 use Rattle.model.proofs.Worlds.Names.{IsKnownOnce, cases_id, cases_place, cases_name, cases_some, certain}
 use Rattle.model.proofs.State.StatePlaces.{IsSome_is, root_of_parts, root_of-tree, lister_is_node, graft_is_node, listed_tree}
@@ -98,7 +98,7 @@ module _ (host : Bool) (u : UpdateData) (none : (f : Fault) → ¬ (Stands (empt
       missing (Some x) absent = absurd (absent refl)
 
 module _ (old : World) (u : UpdateData) (none : (f : Fault) → ¬ (Stands old u f)) (sound : IsSound (merged_world old u)) (new : World) (r : IsRebuild (merged_world old u) new) where
-  counts : (id : FullNodeId) → IsNode new id → Counts old u id
+  counts : (id : FullNodeId) → IsNode new id → IsJudged old u id
   counts id there = inr (node_kept r id there)
 
   listed_there : (p : Place) (child : FullNodeId) → IsListedAt old u p child → IsNode (merged_world old u) child
