@@ -14,7 +14,7 @@ use Rattle.tree_changes.specs.declared.look_ups.TreeRecord.{TreeRecord}
 use Rattle.tree_changes.specs.declared.decision.NodeChange.{NodeChange}
 use Rattle.tree_changes.specs.declared.decision.NodeChange.TheVariants.{Put, Gone}
 use Rattle.tree_changes.specs.declared.decision.Decision.{Decision}
-use Rattle.tree_changes.specs.Looks.{IsPlaceOf, IsTreeRecord}
+use Rattle.tree_changes.specs.LookUps.{IsPlaceOf, IsTreeRecord}
 use Rattle.tree_changes.specs.Changes.{change_at, place_in, entry_of, overlaid_world, tree_after}
 
 -- the change gives data of an entry that names the node, or leaves those that are there; what goes was there

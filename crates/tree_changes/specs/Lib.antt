@@ -1,5 +1,4 @@
 pub mod Refusals
-pub mod Looks
+pub mod LookUps
 pub mod Changes
 pub mod Decisions
-pub mod Plans

@@ -5,13 +5,11 @@
 mod decision;
 mod error;
 mod look_ups;
-mod plan;
 
 pub use decision::{Decision, NodeChange};
 pub use error::UpdateError;
 pub use look_ups::{LookUps, NodeRecord, TreeRecord};
 pub use model::PlanEvent;
-pub use plan::{Change, Plan};
 
 /// The texts of a toolkit's name and version.
 pub type ToolkitTexts = (Option<String>, Option<String>);

@@ -4,7 +4,7 @@ ghost use Rattle.std.specs.Borrow.{sem, follows_so};
 ghost use mathlib.Core.Option.{none};
 ghost use Rattle.model.specs.World.{World, data_of};
 ghost use Rattle.model.specs.Surgery.{IsOld};
-ghost use Rattle.tree_changes.specs.Looks.{IsNodeRecord, IsTreeRecord, raised_count};
+ghost use Rattle.tree_changes.specs.LookUps.{IsNodeRecord, IsTreeRecord, raised_count};
 
 use model::{FullNodeId, Place};
 use schema::{Node, NodeId, TreeId};

@@ -22,7 +22,7 @@ use Rattle.schema.specs.declared.TreeId.{TreeId}
 use Rattle.model.specs.Work.{named_ids}
 use Rattle.model.specs.Update.{UpdateData, NotReached, Stands, IsNamed, index_for, named_at, merged_world}
 use Rattle.model.specs.State.{Lists}
-use Rattle.model.specs.Surgery.{IsOld, Spot, IsAt, HasEntered, Gone, IsRefined, LeadsDown, here, down, IsClimb}
+use Rattle.model.specs.Surgery.{IsOld, Seat, IsAt, HasEntered, Gone, IsRefined, LeadsDown, here, down, IsClimb}
 use Rattle.model.proofs.Worlds.Names.{cases_id, cases_some}
 use Rattle.model.proofs.State.StatePlaces.{value_of, by_place, stands_listed, root_named_parts, listed_tree, map_some}
 use Rattle.model.proofs.Update.AcceptedOrFault.{IsIn, keys, is_key}
@@ -30,13 +30,13 @@ use Rattle.model.proofs.Surgery.Spots.{root_reached}
 use Rattle.model.proofs.Surgery.LiveAndGone.{reached_node}
 use Rattle.model.proofs.Surgery.RulesKept.{listed_is_node}
 use Rattle.model.proofs.Surgery.ClimbsUp.{named_spotted, entered_up, old_up, climb_begins, climb_goes_up, climb_loops, climb_ends, unmoved_reached}
-use Rattle.tree_changes.specs.Looks.{IsPlaceOf}
+use Rattle.tree_changes.specs.LookUps.{IsPlaceOf}
 use Rattle.tree_plan.specs.declared.passes.Named.{Named}
 use Rattle.tree_plan.specs.declared.passes.Compared.{Compared}
 use Rattle.tree_plan.specs.declared.passes.Settled.{Settled}
 use Rattle.tree_plan.specs.declared.passes.Opened.{Opened}
-use Rattle.tree_plan.specs.Passes.{at, IsOpening, IsComparison, IsSettlement}
-use Rattle.tree_plan.specs.Climbs.{IsNext, IsOldPlace, AreClimbed}
+use Rattle.tree_plan.specs.Passes.{at, HoldsOpened, HoldsCompared, HoldsSettled}
+use Rattle.tree_plan.specs.Climbs.{IsNext, IsOldPlace, AreClimbed, IsClimbedFrom}
 use Rattle.tree_plan.proofs.IdMaps.{Put, put_here, put_apart}
 
 abbrev pub Marks : Type 0
@@ -54,12 +54,12 @@ module _ (v : World) (marks : Marks) where
       go true e = refl
       go false e = e
 
-  pub marks_bounded : IsStrictlySortedBy full_cmp (tree.keys marks) → ((n q : FullNodeId) → at marks n ≡ Some q → IsNode v n) → length marks.entries ≤ length (keys v)
+  pub marks_bounded : IsStrictlySortedBy full_cmp (tree.keys marks) → ((n q : FullNodeId) → at marks.entries n ≡ Some q → IsNode v n) → length marks.entries ≤ length (keys v)
   marks_bounded sorted nodes =
       let same : length (tree.keys marks) ≡ length marks.entries = length-map marks.entries (λ (e : FullNodeId × FullNodeId). e.0) in
       let most : length (tree.keys marks) ≤ length (keys v) = length-le_from_is_member (eq_by_cmp_equiv full_total) (tree.keys marks) (keys v) (IsDistinct-from_sorted full_cmp (tree.keys marks) sorted) (λ q «in».
-      let there : IsSome (at marks q) = is_some-lookup (is_at (full_cmp q)) marks.entries ∙ «in» in
-      let f = value_of (at marks q) there in
+      let there : IsSome (at marks.entries q) = is_some-lookup (is_at (full_cmp q)) marks.entries ∙ «in» in
+      let f = value_of (at marks.entries q) there in
       is_among (keys v) q (is_key v q (nodes q f.0 f.1))) in
       omega arith
 
@@ -115,16 +115,27 @@ module _ (w : World) (u : UpdateData) where
 
 -- the marks of a climb from this node, over those of others that ended
 abbrev pub AreOthers : World → UpdateData → List FullNodeId → FullNodeId → Marks → Type 0
-AreOthers w u starts start marks = (n q : FullNodeId) → at marks n ≡ Some q → (q ≡ start) ⊎ (Reached (merged_world w u) n × Contains starts q)
+AreOthers w u starts start marks = (n q : FullNodeId) → at marks.entries n ≡ Some q → (q ≡ start) ⊎ (Reached (merged_world w u) n × Contains starts q)
 
 abbrev pub IsMarked : FullNodeId → Marks → FullNodeId → Type 0
-IsMarked start marks n = at marks n ≡ Some start
+IsMarked start marks n = at marks.entries n ≡ Some start
 
 -- a node of which a spot is found
 abbrev pub IsFound : World → UpdateData → FullNodeId → Type 0
 IsFound w u id = IsNode w id ⊎ HasEntered w u id
 
-module _ (w : World) (u : UpdateData) (o : IsOld w) (op : Opened) (c : Compared) (s : Settled) (opening : IsOpening w u op) (compared : IsComparison w u c) (settled : IsSettlement w u s) (r : IsRefined w u) where
+-- what a climb goes by: the passes before it, and that they hold of the update
+pub record Known (w : World) (u : UpdateData) (op : Opened) (c : Compared) (s : Settled) : Type 0 where
+  pub old : IsOld w
+  pub opening : HoldsOpened w u op
+  pub comparison : HoldsCompared w u c
+  pub settlement : HoldsSettled w u s
+  pub refined : IsRefined w u
+
+pub known_by : {w : World} {u : UpdateData} {op : Opened} {c : Compared} {s : Settled} → IsOld w → HoldsOpened w u op → HoldsCompared w u c → HoldsSettled w u s → IsRefined w u → Known w u op c s
+known_by old opening comparison settlement refined = record { old = old; opening = opening; comparison = comparison; settlement = settlement; refined = refined }
+
+module _ {w : World} {u : UpdateData} {op : Opened} {c : Compared} {s : Settled} (known : Known w u op c s) where
   abbrev m : World
   m = merged_world w u
 
@@ -133,32 +144,32 @@ module _ (w : World) (u : UpdateData) (o : IsOld w) (op : Opened) (c : Compared)
 
   -- ---- the next node up
 
-  old_spot : (id : FullNodeId) → Reached w id → (s : Spot) × IsAt w s id
+  old_spot : (id : FullNodeId) → Reached w id → (s : Seat) × IsAt w s id
   old_spot id (world.Reached.root j t is) = (None, ap (option_map (λ t. in_tree j t.root)) is)
   old_spot id (world.Reached.child parent id' k reached at) = (Some (parent, k), at)
 
-  not_entered : (id : FullNodeId) → at c.entered id ≡ None → ¬ (HasEntered w u id)
-  not_entered id none e = let is : at c.entered id ≡ Some e.0 = (compared.entered id e.0).1 e.1 in let no : None ≡ Some e.0 = sym none ∙ is in cc
+  not_entered : (id : FullNodeId) → at c.entered.entries id ≡ None → ¬ (HasEntered w u id)
+  not_entered id none e = let is : at c.entered.entries id ≡ Some e.0 = (known.comparison.entered id e.0).1 e.1 in let no : None ≡ Some e.0 = sym none ∙ is in cc
 
   lists_stands : (p : Place) (id : FullNodeId) → Lists w p id → StandsAt w p id
   lists_stands p id at = stands_listed w p id (ungrafted (graft_name w p.0) refl) at
     where
       ungrafted : (x : Option TreeId) → graft_name w p.0 ≡ x → graft_name w p.0 ≡ None
       ungrafted None e = e
-      ungrafted (Some name) e = let no : slice_get [] p.1 ≡ Some id = subst (λ xs. slice_get xs p.1 ≡ Some id) (o.graft_childless p.0 name e) at in cc
+      ungrafted (Some name) e = let no : slice_get [] p.1 ≡ Some id = subst (λ xs. slice_get xs p.1 ≡ Some id) (known.old.graft_childless p.0 name e) at in cc
 
   pub next_there : (id : FullNodeId) → IsFound w u id → ¬ (Gone w u id) → root_of m id.tree ≢ Some id → (p : FullNodeId) × IsNext w c id p
-  next_there id spotted stays below = go (at c.entered id) refl
+  next_there id spotted stays below = go (at c.entered.entries id) refl
     where
-      from_old : at c.entered id ≡ None → IsNode w id → (p : FullNodeId) × IsNext w c id p
+      from_old : at c.entered.entries id ≡ None → IsNode w id → (p : FullNodeId) × IsNext w c id p
       from_old e there =
-          let s = old_spot id (o.node_reached id there) in
-          let f = old_up w u o s.0 id s.1 (not_entered id e) stays below in
+          let s = old_spot id (known.old.node_reached id there) in
+          let f = old_up w u known.old s.0 id s.1 (not_entered id e) stays below in
           (f.0.0, (f.0.1, inr (e, lists_stands f.0 id (subst (λ t. IsAt w t id) f.1 s.1))))
 
-      go : (x : Option (Option Place)) → at c.entered id ≡ x → (p : FullNodeId) × IsNext w c id p
+      go : (x : Option (Option Place)) → at c.entered.entries id ≡ x → (p : FullNodeId) × IsNext w c id p
       go (Some (Some p)) e = (p.0, (p.1, inl e))
-      go (Some None) e = absurd (below ((compared.entered id None).0 e).0)
+      go (Some None) e = absurd (below ((known.comparison.entered id None).0 e).0)
       go None e = ⊎_elim (from_old e) (λ entered. absurd (not_entered id e entered)) spotted
 
   pub goes_up : (id parent : FullNodeId) → root_of m id.tree ≢ Some id → ¬ (Gone w u id) → IsNext w c id parent → (k : ℕ) × Lists m (parent, k) id × ¬ (Gone w u parent) × IsFound w u parent
@@ -167,78 +178,78 @@ module _ (w : World) (u : UpdateData) (o : IsOld w) (op : Opened) (c : Compared)
       k : ℕ
       k = next.0
 
-      entered : at c.entered id ≡ Some (Some (parent, k)) → (k : ℕ) × Lists m (parent, k) id × ¬ (Gone w u parent) × IsFound w u parent
+      entered : at c.entered.entries id ≡ Some (Some (parent, k)) → (k : ℕ) × Lists m (parent, k) id × ¬ (Gone w u parent) × IsFound w u parent
       entered e =
-          let f = entered_up w u o r.removed (parent, k) id ((compared.entered id (Some (parent, k))).0 e) in
-          (k, f.1, f.2, named_spotted w u o r parent f.0 (cases_some (data_of w parent)))
+          let f = entered_up w u known.old known.refined.removed (parent, k) id ((known.comparison.entered id (Some (parent, k))).0 e) in
+          (k, f.1, f.2, named_spotted w u known.old known.refined parent f.0 (cases_some (data_of w parent)))
 
-      listed_there : at c.entered id ≡ None → Lists w (parent, k) id → (k : ℕ) × Lists m (parent, k) id × ¬ (Gone w u parent) × IsFound w u parent
+      listed_there : at c.entered.entries id ≡ None → Lists w (parent, k) id → (k : ℕ) × Lists m (parent, k) id × ¬ (Gone w u parent) × IsFound w u parent
       listed_there none at =
-          let f = old_up w u o (Some (parent, k)) id at (not_entered id none) stays below in
+          let f = old_up w u known.old (Some (parent, k)) id at (not_entered id none) stays below in
           let same : f.0 ≡ (parent, k) = sym (same_Some (parent, k) f.0 f.1) in
           (k, subst (λ p. Lists m p id) same f.2, subst (λ p. ¬ (Gone w u p.0)) same f.3, inl (subst (λ p. IsNode w p.0) same f.4))
 
-      old : (at c.entered id ≡ None) × StandsAt w (parent, k) id → (k : ℕ) × Lists m (parent, k) id × ¬ (Gone w u parent) × IsFound w u parent
+      old : (at c.entered.entries id ≡ None) × StandsAt w (parent, k) id → (k : ℕ) × Lists m (parent, k) id × ¬ (Gone w u parent) × IsFound w u parent
       old h = ⊎_elim (λ l. listed_there h.0 l.1)
-          (λ g. let f = old_up w u o None id (root_named_parts w g.0 id g.2).1 (not_entered id h.0) stays below in let no : None ≡ Some f.0 = f.1 in cc)
+          (λ g. let f = old_up w u known.old None id (root_named_parts w g.0 id g.2).1 (not_entered id h.0) stays below in let no : None ≡ Some f.0 = f.1 in cc)
           (by_place w (parent, k) id h.1)
 
   pub old_place_known : (id : FullNodeId) (n : Named) → at c.named id ≡ Some n → IsOldPlace w id n
   old_place_known id n is = go n.was refl
     where
       go : (x : Option (Option Place)) → n.was ≡ x → MatchOption x (¬ (IsNode w id)) (λ was. IsPlaceOf w id was)
-      go None e = (compared.is_named id n is).new e
-      go (Some was) e = ((compared.is_named id n is).old was e).1
+      go None e = (known.comparison.is_named id n is).new e
+      go (Some was) e = ((known.comparison.is_named id n is).old was e).1
 
   -- the node of this entry is where a climb starts
   pub starts_at : (k : ℕ) (start : FullNodeId) → slice_get (map (λ (e : NodeId × NodeData). in_tree op.index e.0) u.nodes) k ≡ Some start → IsStart w u k start
-  starts_at k start at = is_start w u compared.compared.named_once k start (subst (λ j. slice_get (map (λ (e : NodeId × NodeData). in_tree j e.0) u.nodes) k ≡ Some start) opening.index at)
+  starts_at k start at = is_start w u known.comparison.compared.named_once k start (subst (λ j. slice_get (map (λ (e : NodeId × NodeData). in_tree j e.0) u.nodes) k ≡ Some start) known.opening.index at)
 
   -- ---- the nodes of the climb
 
   pub begins : (starts : List FullNodeId) (start : FullNodeId) (marks : Marks) → AreClimbed w u starts marks → ¬ (Contains starts start) → IsNamed w u start → IsClimb w u start (IsMarked start marks) start 0
-  begins starts start marks before new named = climb_begins w u o start (IsMarked start marks) (λ n is. new (before.begun n start is)) (r.removed.named_stays start named)
+  begins starts start marks before new named = climb_begins w u known.old start (IsMarked start marks) (λ n is. new (before.begun n start is)) (known.refined.removed.named_stays start named)
 
-  pub step : (start id parent : FullNodeId) (k steps : ℕ) (a b : Marks) → Put id (Some start) (at a) (at b) → IsClimb w u start (IsMarked start a) id steps → Lists m (parent, k) id → ¬ (Gone w u parent) → IsClimb w u start (IsMarked start b) parent (steps + 1)
-  step start id parent k steps a b put climb lists stays = climb_goes_up w u o start (IsMarked start a) (IsMarked start b) id steps (parent, k) climb
-      (λ n is. ⊎_elim (λ same. subst (IsMarked start b) same last) (λ other. put_apart id (Some start) (at a) (at b) put n other ∙ is) (cases_id id n))
+  pub step : (start id parent : FullNodeId) (k steps : ℕ) (a b : Marks) → Put id (Some start) (at a.entries) (at b.entries) → IsClimb w u start (IsMarked start a) id steps → Lists m (parent, k) id → ¬ (Gone w u parent) → IsClimb w u start (IsMarked start b) parent (steps + 1)
+  step start id parent k steps a b put climb lists stays = climb_goes_up w u known.old start (IsMarked start a) (IsMarked start b) id steps (parent, k) climb
+      (λ n is. ⊎_elim (λ same. subst (IsMarked start b) same last) (λ other. put_apart id (Some start) (at a.entries) (at b.entries) put n other ∙ is) (cases_id id n))
       last
-      (λ n is. ⊎_elim (λ same. inr (sym same)) (λ other. inl (sym (put_apart id (Some start) (at a) (at b) put n other) ∙ is)) (cases_id id n))
+      (λ n is. ⊎_elim (λ same. inr (sym same)) (λ other. inl (sym (put_apart id (Some start) (at a.entries) (at b.entries) put n other) ∙ is)) (cases_id id n))
       lists stays
     where
       last : IsMarked start b id
-      last = put_here id (Some start) (at a) (at b) put
+      last = put_here id (Some start) (at a.entries) (at b.entries) put
 
-  pub others_step : (starts : List FullNodeId) (start id : FullNodeId) (a b : Marks) → Put id (Some start) (at a) (at b) → AreOthers w u starts start a → AreOthers w u starts start b
+  pub others_step : (starts : List FullNodeId) (start id : FullNodeId) (a b : Marks) → Put id (Some start) (at a.entries) (at b.entries) → AreOthers w u starts start a → AreOthers w u starts start b
   others_step starts start id a b put others n q is = ⊎_elim
-      (λ same. inl (sym (same_Some start q (sym (put_here id (Some start) (at a) (at b) put) ∙ ap (at b) same ∙ is))))
-      (λ other. others n q (sym (put_apart id (Some start) (at a) (at b) put n other) ∙ is))
+      (λ same. inl (sym (same_Some start q (sym (put_here id (Some start) (at a.entries) (at b.entries) put) ∙ ap (at b.entries) same ∙ is))))
+      (λ other. others n q (sym (put_apart id (Some start) (at a.entries) (at b.entries) put n other) ∙ is))
       (cases_id id n)
 
   pub below_root : (start id : FullNodeId) (steps : ℕ) → IsNamed w u start → LeadsDown m id start steps → id ≢ in_tree op.index op.root → root_of m id.tree ≢ Some id
   below_root start id steps named leads other is =
-      let tree : id.tree ≡ op.index = sym (leads_tree m id start steps leads) ∙ named.0 ∙ sym opening.index in
-      other (same_Some id (in_tree op.index op.root) (sym (subst (λ k. root_of m k ≡ Some id) tree is) ∙ opening.root))
+      let tree : id.tree ≡ op.index = sym (leads_tree m id start steps leads) ∙ named.0 ∙ sym known.opening.index in
+      other (same_Some id (in_tree op.index op.root) (sym (subst (λ k. root_of m k ≡ Some id) tree is) ∙ known.opening.root))
 
   -- below the root a climb goes on
   pub rises : (start id parent : FullNodeId) (steps : ℕ) → IsNamed w u start → LeadsDown m id start steps → id ≢ in_tree op.index op.root → ¬ (Gone w u id) → IsNext w c id parent → (k : ℕ) × Lists m (parent, k) id × ¬ (Gone w u parent) × IsFound w u parent
   rises start id parent steps named leads other stays next = goes_up id parent (below_root start id steps named leads other) stays next
 
   pub known_reached : (id : FullNodeId) → (id ≡ in_tree op.index op.root) ⊎ ((s.has_moved ≡ false) × (n : Named) × (at c.named id ≡ Some n) × IsSome n.was) → Reached m id
-  known_reached id (inl same) = subst (Reached m) (sym same) (root_reached m op.index (in_tree op.index op.root) opening.root)
+  known_reached id (inl same) = subst (Reached m) (sym same) (root_reached m op.index (in_tree op.index op.root) known.opening.root)
   known_reached id (inr h) =
-      let named = compared.is_named id h.1 h.2 in
+      let named = known.comparison.is_named id h.1 h.2 in
       let was = value_of h.1.was h.3 in
-      unmoved_reached w u o r.removed (λ p x is e none. let f = settled.unmoved h.0 p x e is in none f.0 f.1) id named.named (named.old was.0 was.1).0
+      unmoved_reached w u known.old known.refined.removed (λ p x is e none. let f = known.settlement.unmoved h.0 p x e is in none f.0 f.1) id named.named (named.old was.0 was.1).0
 
-  pub comes_round : (start id : FullNodeId) (steps : ℕ) (marks : Marks) → IsNamed w u start → IsClimb w u start (IsMarked start marks) id steps → at marks id ≡ Some start → Stands w u (NotReached start.node)
-  comes_round start id steps marks named climb is = climb_loops w u o r start (IsMarked start marks) id steps climb is named
+  pub comes_round : (start id : FullNodeId) (steps : ℕ) (marks : Marks) → IsNamed w u start → IsClimb w u start (IsMarked start marks) id steps → at marks.entries id ≡ Some start → Stands w u (NotReached start.node)
+  comes_round start id steps marks named climb is = climb_loops w u known.old known.refined start (IsMarked start marks) id steps climb is named
 
-  pub comes_other : (starts : List FullNodeId) (start id q : FullNodeId) (marks : Marks) → AreOthers w u starts start marks → at marks id ≡ Some q → q ≢ start → Reached m id
+  pub comes_other : (starts : List FullNodeId) (start id q : FullNodeId) (marks : Marks) → AreOthers w u starts start marks → at marks.entries id ≡ Some q → q ≢ start → Reached m id
   comes_other starts start id q marks others is other = ⊎_elim (λ same. absurd (other same)) (λ h. h.0) (others id q is)
 
   pub ends_reached : (start id : FullNodeId) (steps : ℕ) (marks : Marks) → IsClimb w u start (IsMarked start marks) id steps → Reached m id → Reached m start
-  ends_reached start id steps marks climb reached = climb_ends w u o start (IsMarked start marks) id steps climb reached
+  ends_reached start id steps marks climb reached = climb_ends w u known.old start (IsMarked start marks) id steps climb reached
 
   pub ends : (starts : List FullNodeId) (start id : FullNodeId) (steps : ℕ) (marks : Marks) → AreOthers w u starts start marks → IsClimb w u start (IsMarked start marks) id steps → Reached m id → AreClimbed w u (starts ++ start ∷ []) marks
   ends starts start id steps marks others climb reached = record {
@@ -249,14 +260,33 @@ module _ (w : World) (u : UpdateData) (o : IsOld w) (op : Opened) (c : Compared)
   pub stays_climbed : (starts : List FullNodeId) (start : FullNodeId) (marks : Marks) → AreClimbed w u starts marks → AreClimbed w u (starts ++ start ∷ []) marks
   stays_climbed starts start marks before = record { reached = before.reached; begun = λ n q is. Contains-append_left starts (start ∷ []) q (before.begun n q is) }
 
-  marked_nodes : (starts : List FullNodeId) (start id : FullNodeId) (steps : ℕ) (marks : Marks) → AreOthers w u starts start marks → IsClimb w u start (IsMarked start marks) id steps → (n q : FullNodeId) → at marks n ≡ Some q → IsNode m n
+  marked_nodes : (starts : List FullNodeId) (start id : FullNodeId) (steps : ℕ) (marks : Marks) → AreOthers w u starts start marks → IsClimb w u start (IsMarked start marks) id steps → (n q : FullNodeId) → at marks.entries n ≡ Some q → IsNode m n
   marked_nodes starts start id steps marks others climb n q is = ⊎_elim
-      (λ same. let f = climb.up n (is ∙ ap Some same) in listed_is_node w u o r.removed.settled f.0 n f.1)
-      (λ h. reached_node w u o r.removed.settled n h.0)
+      (λ same. let f = climb.up n (is ∙ ap Some same) in listed_is_node w u known.old known.refined.removed.settled f.0 n f.1)
+      (λ h. reached_node w u known.old known.refined.removed.settled n h.0)
       (others n q is)
 
   -- one more mark is still no more than there are nodes
-  pub marks_left : (starts : List FullNodeId) (start id parent : FullNodeId) (k steps : ℕ) (a b : Marks) → Put id (Some start) (at a) (at b) → IsStrictlySortedBy full_cmp (tree.keys b) → AreOthers w u starts start a → IsClimb w u start (IsMarked start a) id steps
+  pub marks_left : (starts : List FullNodeId) (start id parent : FullNodeId) (k steps : ℕ) (a b : Marks) → Put id (Some start) (at a.entries) (at b.entries) → IsStrictlySortedBy full_cmp (tree.keys b) → AreOthers w u starts start a → IsClimb w u start (IsMarked start a) id steps
       → Lists m (parent, k) id → ¬ (Gone w u parent) → length b.entries ≤ length (keys m)
   marks_left starts start id parent k steps a b put sorted others climb lists stays = marks_bounded m b sorted
       (marked_nodes starts start parent (steps + 1) b (others_step starts start id a b put others) (step start id parent k steps a b put climb lists stays))
+
+  -- a climb from the node of this entry, over the marks of those before it
+  module _ {entry : ℕ} {start : FullNodeId} (first : IsStart w u entry start) (marks : Marks) {id : FullNodeId} {steps : ℕ} (others : AreOthers w u (take entry (named_ids w u)) start marks)
+      (climb : IsClimb w u start (IsMarked start marks) id steps) where
+    abbrev starts : List FullNodeId
+    starts = take entry (named_ids w u)
+
+    -- below the root it goes on to the parent
+    pub up_to : (parent : FullNodeId) → id ≢ in_tree op.index op.root → IsNext w c id parent → (k : ℕ) × Lists m (parent, k) id × ¬ (Gone w u parent) × IsFound w u parent
+    up_to parent other next = rises start id parent steps first.named climb.leads other climb.stays next
+
+    pub at_other : (q : FullNodeId) → at marks.entries id ≡ Some q → q ≢ start → Reached m id
+    at_other q is other = comes_other starts start id q marks others is other
+
+    pub all_climbed_to : Reached m id → AreClimbed w u (take (entry + 1) (named_ids w u)) marks
+    all_climbed_to reached = subst (λ xs. AreClimbed w u xs marks) (sym first.more) (ends starts start id steps marks others climb reached)
+
+    pub climbed_from : Reached m id → IsClimbedFrom w u entry steps
+    climbed_from reached = record { start = start; at = first.at; reached = λ adopts. ends_reached start id steps marks climb reached; way = (id, climb.leads, inl reached) }

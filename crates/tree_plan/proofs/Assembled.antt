@@ -35,10 +35,11 @@ use Rattle.tree_changes.specs.declared.look_ups.TreeRecord.{TreeRecord}
 use Rattle.tree_changes.specs.declared.decision.NodeChange.{NodeChange}
 use Rattle.tree_changes.specs.declared.decision.NodeChange.TheVariants.{Put, Gone}
 use Rattle.tree_changes.specs.declared.decision.Decision.{Decision}
-use Rattle.tree_changes.specs.Looks.{IsTreeRecord, tree_named}
+use Rattle.tree_changes.specs.LookUps.{IsTreeRecord, tree_named}
 use Rattle.tree_changes.specs.Changes.{change_at, put_all, put_trees, tree_from, if_kept, tree_after, tree_change, overlaid_world}
 use Rattle.tree_changes.specs.Decisions.{IsChangeOf, Differs, TreeDiffers, listed_nodes, names_of, IsDecision}
 use Rattle.tree_changes.proofs.Overlays.{effect, get-put_all, get-put_trees, tree_at, tree_at_same, tree_at_some, find_index, tree_change_in}
+use Rattle.rows.specs.Rows.{Ascends}
 use Rattle.tree_plan.specs.declared.passes.Focused.{Focused}
 use Rattle.tree_plan.specs.declared.verdicts.Verdict.{Verdict}
 use Rattle.tree_plan.specs.declared.verdicts.Verdict.TheVariants.{Added, Renewed, Moved, Told, Removed}
@@ -46,7 +47,7 @@ use Rattle.tree_plan.specs.declared.verdicts.Found.{Found}
 use Rattle.tree_plan.specs.declared.writing.Group.{Group}
 use Rattle.tree_plan.specs.declared.writing.Group.TheVariants as group
 use Rattle.tree_plan.specs.Passes.{at, IsOfName, IsFocusing}
-use Rattle.tree_plan.specs.Verdicts.{Step, IsFound, Becomes, Verdicts}
+use Rattle.tree_plan.specs.Verdicts.{Transition, IsFound, Becomes, Verdicts}
 use Rattle.tree_plan.specs.Writing.{change_of, untold_updates, IsMove}
 use Rattle.tree_plan.proofs.Adding.{is_among, has_entry}
 use Rattle.tree_plan.proofs.Becoming.{standing_is_node, no_other}
@@ -55,7 +56,7 @@ use Rattle.tree_plan.proofs.Listed.{Entries, ids_where, is_in, has_change, sorte
 
 -- ---- one node
 
-module _ (s : Step) (id : FullNodeId) where
+module _ (s : Transition) (id : FullNodeId) where
   data_after : (o : Option Verdict) → Becomes s id o → effect s.update.nodes (option_and_then change_of o) (data_of s.old id) ≡ data_of s.new id
   data_after None b = b.0.0
   data_after (Some (Added place entry)) b = b.1.1
@@ -162,9 +163,9 @@ module _ (s : Step) (id : FullNodeId) where
 focus_there : (v : World) (id : FullNodeId) → IsFocus v (Some id) → IsNode v id
 focus_there v id f = ⊎_elim (λ (x : Resolves v f.1 id). x.4) (λ x. subst (IsNode v) (sym x.0) (IsSome_is f.2.1 f.2.2)) f.3
 
-module _ (s : Step) (vs : Verdicts) (sorted : IsOrdered full_cmp vs) (becomes : (id : FullNodeId) → Becomes s id (at vs id)) where
+module _ (s : Transition) (vs : Verdicts) (sorted : Ascends vs) (becomes : (id : FullNodeId) → Becomes s id (at vs id)) where
   abbrev es : Entries
-  es = vs.entries
+  es = vs
 
   listed : (g : Group) (P : FullNodeId → Type 0)
       → ((id : FullNodeId) (v : Verdict) → Becomes s id (Some v) → is_in g v ≡ true → P id)
@@ -324,7 +325,7 @@ not_there : {A : Type 0} (o : Option A) → (IsSome o → ⊥) → o ≡ None
 not_there None h = refl
 not_there (Some x) h = absurd (h refl)
 
-module _ (s : Step) (f : Found) (h : IsFound s f) (rs : List TreeRecord) (after : AreAfter s.old s.update h.old h.kept s.new h.rebuilt rs) where
+module _ (s : Transition) (f : Found) (h : IsFound s f) (rs : List TreeRecord) (after : AreAfter s.old s.update h.old h.kept s.new h.rebuilt rs) where
   state : IsState s.new
   state = old_leaves_state s.old s.update h.old h.kept s.new h.rebuilt
 
@@ -394,40 +395,40 @@ listed_names (r ∷ rs) t c = ⊎_elim
     (contains_cases r t rs c)
 
 -- the world without a change of places: a node stands where it stood
-module _ (s : Step) (f : Found) (h : IsFound s f) (vs : Verdicts) (sorted : IsOrdered full_cmp vs) (becomes : (id : FullNodeId) → Becomes s id (at vs id)) (rs : List TreeRecord) (after : AreAfter s.old s.update h.old h.kept s.new h.rebuilt rs) where
+module _ (s : Transition) (f : Found) (h : IsFound s f) (vs : Verdicts) (sorted : Ascends vs) (becomes : (id : FullNodeId) → Becomes s id (at vs id)) (rs : List TreeRecord) (after : AreAfter s.old s.update h.old h.kept s.new h.rebuilt rs) where
   state_new : IsState s.new
   state_new = old_leaves_state s.old s.update h.old h.kept s.new h.rebuilt
 
-  change_by : (id : FullNodeId) → change_at (changes_in vs.entries) id ≡ option_and_then change_of (at vs id)
-  change_by id = change_at-in vs.entries sorted id
+  change_by : (id : FullNodeId) → change_at (changes_in vs) id ≡ option_and_then change_of (at vs id)
+  change_by id = change_at-in vs sorted id
 
-  nodes_after : (id : FullNodeId) → get (put_all s.update.nodes s.old.nodes (changes_in vs.entries)) id ≡ get s.new.nodes id
+  nodes_after : (id : FullNodeId) → get (put_all s.update.nodes s.old.nodes (changes_in vs)) id ≡ get s.new.nodes id
   nodes_after id =
-      get-put_all s.update.nodes s.old.nodes (changes_in vs.entries) id
+      get-put_all s.update.nodes s.old.nodes (changes_in vs) id
       ∙ ap (λ c. effect s.update.nodes c (data_of s.old id)) (change_by id)
       ∙ data_after s id (at vs id) (becomes id)
 
-  stays_there : (id : FullNodeId) (p : Place) → change_at (changes_in vs.entries) id ≡ None → StandsAt s.old p id → StandsAt s.new p id
+  stays_there : (id : FullNodeId) (p : Place) → change_at (changes_in vs) id ≡ None → StandsAt s.old p id → StandsAt s.new p id
   stays_there id p none stands =
       let place : place_of s.old id ≡ Some p = (place_is s.old (state_formed (old_state h.old id (standing_is_node h.old p id stands))) id p).1 stands in
       let same : place_of s.old id ≡ place_of s.new id = unchanged_place s id (at vs id) (becomes id) (sym (change_by id) ∙ none) in
       stands_at_place s.new id p (sym same ∙ place)
 
-  stood_there : (id : FullNodeId) (p : Place) → change_at (changes_in vs.entries) id ≡ None → StandsAt s.new p id → StandsAt s.old p id
+  stood_there : (id : FullNodeId) (p : Place) → change_at (changes_in vs) id ≡ None → StandsAt s.new p id → StandsAt s.old p id
   stood_there id p none stands =
       let place : place_of s.new id ≡ Some p = (place_is s.new (state_formed state_new) id p).1 stands in
       let same : place_of s.old id ≡ place_of s.new id = unchanged_place s id (at vs id) (becomes id) (sym (change_by id) ∙ none) in
       stands_at_place s.old id p (same ∙ place)
 
   -- the nodes with a change are those that differ
-  changed_differ : (id : FullNodeId) → Contains (map (λ e. e.0) (changes_in vs.entries)) id ↔ Differs s.old s.new id
+  changed_differ : (id : FullNodeId) → Contains (map (λ e. e.0) (changes_in vs)) id ↔ Differs s.old s.new id
   changed_differ id = (
-    λ c. let e = has_entry (changes_in vs.entries) id c in (change_is s id state_new (at vs id) e.0 (becomes id) (sym (change_by id) ∙ e.1)).differs,
-    λ differs. go differs (change_at (changes_in vs.entries) id) refl,
+    λ c. let e = has_entry (changes_in vs) id c in (change_is s id state_new (at vs id) e.0 (becomes id) (sym (change_by id) ∙ e.1)).differs,
+    λ differs. go differs (change_at (changes_in vs) id) refl,
   )
     where
-      go : Differs s.old s.new id → (x : Option NodeChange) → change_at (changes_in vs.entries) id ≡ x → Contains (map (λ e. e.0) (changes_in vs.entries)) id
-      go differs (Some c) e = is_among (changes_in vs.entries) id c e
+      go : Differs s.old s.new id → (x : Option NodeChange) → change_at (changes_in vs) id ≡ x → Contains (map (λ e. e.0) (changes_in vs)) id
+      go differs (Some c) e = is_among (changes_in vs) id c e
       go differs None e =
           let none : option_and_then change_of (at vs id) ≡ None = sym (change_by id) ∙ e in
           let same_data : data_of s.old id ≡ data_of s.new id = ap (λ c. effect s.update.nodes c (data_of s.old id)) (sym none) ∙ data_after s id (at vs id) (becomes id) in
@@ -445,7 +446,7 @@ module _ (s : Step) (f : Found) (h : IsFound s f) (vs : Verdicts) (sorted : IsOr
       go differs (Some t) e = let c = tree_change_in rs name t e in subst (Contains (names_of rs)) c.1 (listed_names rs t c.0)
       go differs None e = let r = record_of s.old h.old name in absurd (differs r.0 r.1 (alike_record name r.0 (after.others name e) r.1))
 
-  module _ (d : Decision) (nodes : d.nodes.items ≡ changes_in vs.entries) (trees : d.trees.items ≡ rs) where
+  module _ (d : Decision) (nodes : d.nodes.items ≡ changes_in vs) (trees : d.trees.items ≡ rs) where
     pub overlaid_is : overlaid_world s.old s.update d ≡ s.new
     overlaid_is =
         let known : (overlaid_world s.old s.update d).known ≡ s.new.known = sym h.rebuilt.known in
@@ -465,7 +466,7 @@ module _ (s : Step) (f : Found) (h : IsFound s f) (vs : Verdicts) (sorted : IsOr
         → (¬ (IsFirst s.old) → AreToldBy s.old s.update s.new d.events.items) → (IsFirst s.old → d.events.items ≡ []) → IsDecision s.old s.update d
     decision_is focused focusing focus once told quiet = record {
       accepted = by_new (IsAccepted s.old s.update) ((rules_or_fault s.old s.update).0 h.kept, h.rebuilt);
-      ascending = subst (IsStrictlySortedBy full_cmp) (sym (ap (map (λ (c : FullNodeId × NodeChange). c.0)) nodes ∙ changed_ids vs.entries)) (sorted_where has_change vs.entries sorted);
+      ascending = subst (IsStrictlySortedBy full_cmp) (sym (ap (map (λ (c : FullNodeId × NodeChange). c.0)) nodes ∙ changed_ids vs)) (sorted_where has_change vs sorted);
       nodes_listed = λ id. by_new (λ v. Contains (listed_nodes d) id ↔ Differs s.old v id)
           (subst (λ xs. Contains (map (λ (c : FullNodeId × NodeChange). c.0) xs) id ↔ Differs s.old s.new id) (sym nodes) (changed_differ id));
       changes = λ id c e. by_new (λ v. IsChangeOf s.old s.update v id c)

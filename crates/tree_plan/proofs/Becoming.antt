@@ -29,12 +29,12 @@ use Rattle.model.proofs.Surgery.RulesArePassed.{rules_passed}
 use Rattle.model.proofs.Surgery.OldUpdates.{old_leaves_state}
 use Rattle.tree_changes.specs.declared.look_ups.TreeRecord.{TreeRecord}
 use Rattle.tree_changes.specs.declared.decision.NodeChange.TheVariants.{Put}
-use Rattle.tree_changes.specs.Looks.{IsPlaceOf}
+use Rattle.tree_changes.specs.LookUps.{IsPlaceOf}
 use Rattle.tree_plan.specs.declared.passes.Named.{Named}
-use Rattle.tree_plan.specs.Passes.{at, has, IsOfName, IsNamedAs, Gains}
+use Rattle.tree_plan.specs.Passes.{at, has, IsOfName, IsNamedAs, GainsGraft}
 use Rattle.tree_plan.specs.declared.verdicts.Found.{Found}
 use Rattle.tree_plan.specs.declared.verdicts.Verdict.TheVariants.{Added, Renewed, Moved, Told, Removed}
-use Rattle.tree_plan.specs.Verdicts.{Step, IsFound, Makes, Moves, Becomes}
+use Rattle.tree_plan.specs.Verdicts.{Transition, IsFound, Makes, Moves, Becomes}
 use Rattle.tree_plan.proofs.Entries.{entry_named}
 
 -- ---- places
@@ -91,7 +91,7 @@ module _ (w : World) (u : UpdateData) (o : IsOld w) (k : KeepsRules w u) (new : 
   state : IsState new
   state = old_leaves_state w u o k new r
 
-  abbrev s : Step
+  abbrev s : Transition
   s = record { old = w; update = u; new = new }
 
   pub to_place : (id : FullNodeId) (p : Place) → StandsAt new p id → (IsNode w id → place_of w id ≢ place_of new id) → Moves s id (Some (Some p))
@@ -132,7 +132,7 @@ module _ (w : World) (u : UpdateData) (o : IsOld w) (k : KeepsRules w u) (new : 
           subst (λ (x : Option FullNodeId). Moves s id (Some (option_map (λ g. (g, 0)) x))) (sym ((of.graft g.0).1 g.1)) (there, placed state (g.0, 0) id g.2, elsewhere)
 
   -- the root of a tree that a named node gains comes to that node
-  pub moved_in_place : (id n : FullNodeId) (name : TreeId) → Gains w u n name → root_named w name ≡ Some id → Moves s id (Some (Some (n, 0)))
+  pub moved_in_place : (id n : FullNodeId) (name : TreeId) → GainsGraft w u n name → root_named w name ≡ Some id → Moves s id (Some (Some (n, 0)))
   moved_in_place id n name gains is =
       to_place id (n, 0) (moved_in_stands w u o passed k r n id name gains.0 gains.1 gains.2 is) (λ there. moved_in_elsewhere w u o passed k r id (n, name, gains.0, gains.1, gains.2, is))
 
@@ -211,34 +211,34 @@ module _ (w : World) (u : UpdateData) (o : IsOld w) (k : KeepsRules w u) (new : 
 nothing_at : {A : Type 0} (o : Option A) (x : A) → o ≡ None → o ≡ Some x → ⊥
 nothing_at o x none some = cc
 
-module _ (s : Step) (f : Found) (h : IsFound s f) where
+module _ (s : Transition) (f : Found) (h : IsFound s f) where
   abbrev w : World
   w = s.old
 
   abbrev u : UpdateData
   u = s.update
 
-  pub by_spot : (id : FullNodeId) (p : Place) → at f.compared.now.entered id ≡ Some (Some p) → Moves s id (Some (Some p))
+  pub by_spot : (id : FullNodeId) (p : Place) → at f.compared.entered.entries id ≡ Some (Some p) → Moves s id (Some (Some p))
   by_spot id p at_id = entered_place w u h.old h.kept s.new h.rebuilt id p ((h.comparison.entered id (Some p)).0 at_id)
 
-  pub by_root : (id : FullNodeId) (place : Option Place) → place ≡ option_map (λ g. (g, 0)) f.opened.now.record.graft → at f.compared.now.entered id ≡ Some None → Moves s id (Some place)
+  pub by_root : (id : FullNodeId) (place : Option Place) → place ≡ option_map (λ g. (g, 0)) f.opened.record.graft → at f.compared.entered.entries id ≡ Some None → Moves s id (Some place)
   by_root id place same at_id =
-      subst (λ x. Moves s id (Some x)) (sym same) (entered_root w u h.old h.kept s.new h.rebuilt id f.opened.now.record h.opening.record_of ((h.comparison.entered id None).0 at_id))
+      subst (λ x. Moves s id (Some x)) (sym same) (entered_root w u h.old h.kept s.new h.rebuilt id f.opened.record h.opening.record_of ((h.comparison.entered id None).0 at_id))
 
-  pub by_graft : (id g : FullNodeId) → at f.regrafted.now.moved_in id ≡ Some g → Moves s id (Some (Some (g, 0)))
+  pub by_graft : (id g : FullNodeId) → at f.regrafted.moved_in.entries id ≡ Some g → Moves s id (Some (Some (g, 0)))
   by_graft id g at_id = let m = (h.regrafting.moved_in id g).0 at_id in moved_in_place w u h.old h.kept s.new h.rebuilt id g m.0 m.1 m.2
 
-  unentered : (id : FullNodeId) → at f.compared.now.entered id ≡ None → ¬ (HasEntered w u id)
-  unentered id none e = nothing_at (at f.compared.now.entered id) e.0 none ((h.comparison.entered id e.0).1 e.1)
+  unentered : (id : FullNodeId) → at f.compared.entered.entries id ≡ None → ¬ (HasEntered w u id)
+  unentered id none e = nothing_at (at f.compared.entered.entries id) e.0 none ((h.comparison.entered id e.0).1 e.1)
 
-  unmoved : (id : FullNodeId) → at f.regrafted.now.moved_in id ≡ None → ¬ (IsMovedIn w u id)
-  unmoved id none m = nothing_at (at f.regrafted.now.moved_in id) m.0 none ((h.regrafting.moved_in id m.0).1 (m.1, (m.2, m.3, m.4), m.5))
+  unmoved : (id : FullNodeId) → at f.regrafted.moved_in.entries id ≡ None → ¬ (IsMovedIn w u id)
+  unmoved id none m = nothing_at (at f.regrafted.moved_in.entries id) m.0 none ((h.regrafting.moved_in id m.0).1 (m.1, (m.2, m.3, m.4), m.5))
 
-  pub by_none : (id : FullNodeId) → ¬ (Gone w u id) → at f.compared.now.entered id ≡ None → at f.regrafted.now.moved_in id ≡ None → Moves s id None
+  pub by_none : (id : FullNodeId) → ¬ (Gone w u id) → at f.compared.entered.entries id ≡ None → at f.regrafted.moved_in.entries id ≡ None → Moves s id None
   by_none id stays none none' = unmoved_place w u h.old h.kept s.new h.rebuilt id (unentered id none) stays (unmoved id none')
 
-  pub unnamed_by : (id : FullNodeId) → at f.compared.now.named id ≡ None → ¬ (IsNamed w u id)
-  unnamed_by id none named = let n = value_of (at f.compared.now.named id) (h.comparison.has_named id named) in nothing_at (at f.compared.now.named id) n.0 none n.1
+  pub unnamed_by : (id : FullNodeId) → at f.compared.named id ≡ None → ¬ (IsNamed w u id)
+  unnamed_by id none named = let n = value_of (at f.compared.named id) (h.comparison.has_named id named) in nothing_at (at f.compared.named id) n.0 none n.1
 
   pub told_by : (id : FullNodeId) → f.told ≡ Some id → data_of w id ≡ data_of s.new id → Moves s id None → Becomes s id (Some Told)
   told_by id told same moves = told_becomes w u h.old h.kept s.new h.rebuilt id (sym h.told ∙ told) same moves
@@ -247,31 +247,31 @@ module _ (s : Step) (f : Found) (h : IsFound s f) where
   untold_by id other same moves = ((same, moves), λ told. other (h.told ∙ told))
 
   -- what is in none of the maps, and isn't told, is as it was
-  pub untouched : (id : FullNodeId) → ¬ (has f.removed.now.gone id) → at f.compared.now.named id ≡ None → at f.compared.now.entered id ≡ None → at f.regrafted.now.moved_in id ≡ None → f.told ≢ Some id → Becomes s id None
+  pub untouched : (id : FullNodeId) → ¬ (has f.removed.gone id) → at f.compared.named id ≡ None → at f.compared.entered.entries id ≡ None → at f.regrafted.moved_in.entries id ≡ None → f.told ≢ Some id → Becomes s id None
   untouched id stays unnamed none none' other =
       let stays' : ¬ (Gone w u id) = λ gone. stays ((h.removal.gone id).1 gone) in
       untold_by id other (unnamed_same w u h.old h.kept s.new h.rebuilt id (unnamed_by id unnamed) stays') (by_none id stays' none none')
 
   -- a new node: one that is named and wasn't there
-  pub new_by : (id : FullNodeId) (n : Named) (moved : Option (Option Place)) → at f.compared.now.named id ≡ Some n → n.was ≡ None → Moves s id moved → Becomes s id (Some (Added (unwrap_or moved None) n.entry))
+  pub new_by : (id : FullNodeId) (n : Named) (moved : Option (Option Place)) → at f.compared.named id ≡ Some n → n.was ≡ None → Moves s id moved → Becomes s id (Some (Added (unwrap_or moved None) n.entry))
   new_by id n moved at_id new_one moves = new_becomes w u h.old h.kept s.new h.rebuilt id n moved (h.comparison.is_named id n at_id) new_one moves
 
   -- an old node that is named with other data
-  pub news_by : (id : FullNodeId) (n : Named) (was : Option Place) (moved : Option (Option Place)) → at f.compared.now.named id ≡ Some n → n.was ≡ Some was → n.is_news ≡ true → Moves s id moved → Becomes s id (Some (Renewed (unwrap_or moved was) n.entry))
+  pub news_by : (id : FullNodeId) (n : Named) (was : Option Place) (moved : Option (Option Place)) → at f.compared.named id ≡ Some n → n.was ≡ Some was → n.is_news ≡ true → Moves s id moved → Becomes s id (Some (Renewed (unwrap_or moved was) n.entry))
   news_by id n was moved at_id old news moves = news_becomes w u h.old h.kept s.new h.rebuilt id n was moved (h.comparison.is_named id n at_id) old news moves
 
   -- what is named with the data that it has, or isn't named, has them afterwards
-  pub same_by : (id : FullNodeId) (n : Named) → at f.compared.now.named id ≡ Some n → n.is_news ≡ false → data_of w id ≡ data_of s.new id
+  pub same_by : (id : FullNodeId) (n : Named) → at f.compared.named id ≡ Some n → n.is_news ≡ false → data_of w id ≡ data_of s.new id
   same_by id n at_id no_news = old_same w u h.old h.kept s.new h.rebuilt id n (h.comparison.is_named id n at_id) no_news
 
-  pub unnamed_same_by : (id : FullNodeId) → ¬ (Gone w u id) → at f.compared.now.named id ≡ None → data_of w id ≡ data_of s.new id
+  pub unnamed_same_by : (id : FullNodeId) → ¬ (Gone w u id) → at f.compared.named id ≡ None → data_of w id ≡ data_of s.new id
   unnamed_same_by id stays none = unnamed_same w u h.old h.kept s.new h.rebuilt id (unnamed_by id none) stays
 
-  pub gone_by : (id : FullNodeId) → has f.removed.now.gone id → Becomes s id (Some Removed)
+  pub gone_by : (id : FullNodeId) → has f.removed.gone id → Becomes s id (Some Removed)
   gone_by id gone = gone_becomes w u h.old h.kept s.new h.rebuilt id ((h.removal.gone id).0 gone)
 
-  pub stays_by : (id : FullNodeId) → contains full_cmp f.removed.now.gone id ≡ false → ¬ (Gone w u id)
-  stays_by id out gone = let there : contains full_cmp f.removed.now.gone id ≡ true = (h.removal.gone id).1 gone in let clash : false ≡ true = sym out ∙ there in cc
+  pub stays_by : (id : FullNodeId) → contains full_cmp f.removed.gone id ≡ false → ¬ (Gone w u id)
+  stays_by id out gone = let there : contains full_cmp f.removed.gone id ≡ true = (h.removal.gone id).1 gone in let clash : false ≡ true = sym out ∙ there in cc
 
   pub moved_by : (id : FullNodeId) (place : Option Place) (moved : Option (Option Place)) → data_of w id ≡ data_of s.new id → Moves s id moved → moved ≡ Some place → Becomes s id (Some (Moved place))
   moved_by id place moved same moves e = moved_becomes w u h.old h.kept s.new h.rebuilt id place same (subst (Moves s id) e moves)

@@ -26,8 +26,8 @@ use Rattle.tree_plan.specs.declared.passes.Removed.{Removed}
 use Rattle.tree_plan.specs.declared.passes.Opened.{Opened}
 use Rattle.tree_plan.specs.declared.focusing.Aim.{Aim}
 use Rattle.tree_plan.specs.declared.focusing.End.{End}
-use Rattle.tree_plan.specs.Passes.{at, has, IsOpening, IsComparison, IsRemoval}
-use Rattle.tree_plan.specs.Aims.{IsAimIn, IsEnd, Answers, Stays, IsLost}
+use Rattle.tree_plan.specs.Passes.{at, has, HoldsOpened, HoldsCompared, HoldsRemoved}
+use Rattle.tree_plan.specs.Aims.{IsAimIn, IsEnd, Answers, IsStaying, IsLost}
 
 module _ (v : World) where
   rootless : (o : Option ℕ) → option_and_then (focus_of v) o ≡ None → option_and_then (root_of v) o ≡ None
@@ -160,7 +160,7 @@ module _ (w : World) (u : UpdateData) (o : IsOld w) where
           let no : None ≡ Some r.0 = sym e ∙ r.1 in
           cc
 
-  pub focus_here : (op : Opened) → IsOpening w u op → focus_named m u.name ≡ Some (in_tree op.index u.focus)
+  pub focus_here : (op : Opened) → HoldsOpened w u op → focus_named m u.name ≡ Some (in_tree op.index u.focus)
   focus_here op h =
       let root : root_of m i ≡ Some (in_tree op.index op.root) = subst (λ k. root_of m k ≡ Some (in_tree op.index op.root)) h.index h.root in
       ap (option_and_then (focus_of m)) (index_here w u o) ∙ focus_at (in_tree op.index op.root) root ∙ ap (λ k. Some (in_tree k u.focus)) (sym h.index)
@@ -194,29 +194,29 @@ module _ (w : World) (u : UpdateData) (o : IsOld w) where
       let same : e.0 ≡ id = same_Some e.0 id (sym e.1 ∙ declared) in
       subst (λ x. NewWay w u x 0) same (e.2, subst (λ k. IsDeep m (IsLive w u) k 0) (sym e.3) top)
 
-  module _ (c : Compared) (r : Removed) (compared : IsComparison w u c) (removed : IsRemoval w u r) where
-    pub stays_is : (id : FullNodeId) → Stays w c r id ↔ (IsNamed w u id ⊎ (IsNode w id × ¬ (Gone w u id)))
+  module _ (c : Compared) (r : Removed) (compared : HoldsCompared w u c) (removed : HoldsRemoved w u r) where
+    pub stays_is : (id : FullNodeId) → IsStaying w c r id ↔ (IsNamed w u id ⊎ (IsNode w id × ¬ (Gone w u id)))
     stays_is id = (
       (λ h. ⊎_elim (λ named. let n = value_of (at c.named id) named in inl (compared.is_named id n.0 n.1).named) (λ k. inr (k.0, λ gone. k.1 ((removed.gone id).1 gone))) h),
       (λ h. ⊎_elim (λ named. inl (compared.has_named id named)) (λ k. inr (k.0, λ gone. k.1 ((removed.gone id).0 gone))) h),
     )
 
     -- what is asked of a node that isn't named
-    pub unnamed_aim : (id : FullNodeId) → at c.named id ≡ None → ¬ (has r.gone id) → (a : Option Aim) → MatchOption a (¬ (IsNode w id)) (IsAimIn w id) → MatchOption a (IsLost w u id) (λ a. Stays w c r id × IsAimIn m id a)
+    pub unnamed_aim : (id : FullNodeId) → at c.named id ≡ None → ¬ (has r.gone id) → (a : Option Aim) → MatchOption a (¬ (IsNode w id)) (IsAimIn w id) → MatchOption a (IsLost w u id) (λ a. IsStaying w c r id × IsAimIn m id a)
     unnamed_aim id absent stays a h = go a h
       where
         unnamed : ¬ (IsNamed w u id)
         unnamed named = let n = value_of (at c.named id) (compared.has_named id named) in let no : None ≡ Some n.0 = sym absent ∙ n.1 in cc
 
-        go : (a : Option Aim) → MatchOption a (¬ (IsNode w id)) (IsAimIn w id) → MatchOption a (IsLost w u id) (λ a. Stays w c r id × IsAimIn m id a)
+        go : (a : Option Aim) → MatchOption a (¬ (IsNode w id)) (IsAimIn w id) → MatchOption a (IsLost w u id) (λ a. IsStaying w c r id × IsAimIn m id a)
         go None h = (unnamed, inr h)
         go (Some a) h = (inr (IsSome_is h.0 h.1, stays), (h.0, unnamed_data w u id unnamed ∙ h.1, h.2))
 
     module _ (p : IsPassed w u) where
-      pub new_reached : (id : FullNodeId) → Stays w c r id → Reached m id
+      pub new_reached : (id : FullNodeId) → IsStaying w c r id → Reached m id
       new_reached id stays = ((live_iff w u o p.climbed id).1 ((stays_is id).0 stays)).1
 
-      pub new_goes : (id inner : FullNodeId) (name : TreeId) (n : ℕ) → NewWay w u id n → Stays w c r id → graft_name m id ≡ Some name → focus_named m name ≡ Some inner → NewWay w u inner (n + 1)
+      pub new_goes : (id inner : FullNodeId) (name : TreeId) (n : ℕ) → NewWay w u id n → IsStaying w c r id → graft_name m id ≡ Some name → focus_named m name ≡ Some inner → NewWay w u inner (n + 1)
       new_goes id inner name n way stays grafts declared =
           let goes = goes_on m id inner name (chain_kept m id way.0) (new_reached id stays) grafts declared in
           let more : suc n ≡ n + 1 = omega arith in
@@ -225,32 +225,32 @@ module _ (w : World) (u : UpdateData) (o : IsOld w) where
       pub new_short : (id : FullNodeId) (n : ℕ) → NewWay w u id n → n < length m.known
       new_short id n way = walk_short w u o p id.tree n way.1
 
-      pub empty_stands : (id : FullNodeId) (name : TreeId) → OnChain m id → Stays w c r id → graft_name m id ≡ Some name → focus_named m name ≡ None → Stands w u (FocusOnEmptyGraft name)
+      pub empty_stands : (id : FullNodeId) (name : TreeId) → OnChain m id → IsStaying w c r id → graft_name m id ≡ Some name → focus_named m name ≡ None → Stands w u (FocusOnEmptyGraft name)
       empty_stands id name on stays grafts none = empty_graft_stands w u o p id name on ((stays_is id).0 stays) grafts (focus_rootless m name none)
 
       -- in the rebuilt world the end is the same, and there are the nodes that stay
       pub end_new : (new : World) → IsRebuild m new → (e : End) → IsEnd m e → Reached m e.id → IsEnd new e
       end_new new rebuilt e h reached = (chain_new rebuilt e.id h.0, h.1, (rebuilt.nodes e.id h.1).1 (chain_kept m e.id h.0, reached, h.2), h.3, h.4)
 
-      pub there_new : (new : World) → IsRebuild m new → (e : End) → IsEnd m e → (a : FullNodeId) → a.tree ≡ e.id.tree → Stays w c r a ↔ IsNode new a
+      pub there_new : (new : World) → IsRebuild m new → (e : End) → IsEnd m e → (a : FullNodeId) → a.tree ≡ e.id.tree → IsStaying w c r a ↔ IsNode new a
       there_new new rebuilt e h a tree = (to, from)
         where
-          to : Stays w c r a → IsNode new a
+          to : IsStaying w c r a → IsNode new a
           to stays =
               let live = (live_iff w u o p.climbed a).1 ((stays_is a).0 stays) in
               let d = value_of (data_of m a) (reached_node w u o p.climbed.refined.removed.settled a live.1) in
               IsSome_is d.0 ((rebuilt.nodes a d.0).1 (live.0, live.1, d.1))
 
-          from : IsNode new a → Stays w c r a
+          from : IsNode new a → IsStaying w c r a
           from there =
               let d = value_of (data_of new a) there in
               let k = (rebuilt.nodes a d.0).0 d.1 in
               (stays_is a).1 ((live_iff w u o p.climbed a).0 (k.0, k.1))
 
-      pub after_new : (new : World) → IsRebuild m new → (e : End) → IsEnd m e → Reached m e.id → (x : Option FullNodeId) → MatchOption x (w.host_focused ≡ false) (λ id. (w.host_focused ≡ true) × Answers (Stays w c r) e id) → IsFocus new x
+      pub after_new : (new : World) → IsRebuild m new → (e : End) → IsEnd m e → Reached m e.id → (x : Option FullNodeId) → MatchOption x (w.host_focused ≡ false) (λ id. (w.host_focused ≡ true) × Answers (IsStaying w c r) e id) → IsFocus new x
       after_new new rebuilt e h reached None host = rebuilt.host ∙ host
       after_new new rebuilt e h reached (Some id) answer =
-          answers_focus new (rebuilt.host ∙ answer.0) e (end_new new rebuilt e h reached) (Stays w c r) (there_new new rebuilt e h) id answer.1
+          answers_focus new (rebuilt.host ∙ answer.0) e (end_new new rebuilt e h reached) (IsStaying w c r) (there_new new rebuilt e h) id answer.1
 
 -- the end of the way grafts nothing
 pub end_ungrafted : (v : World) (e : End) → IsEnd v e → graft_name v e.id ≡ None

@@ -15,26 +15,26 @@ use Rattle.tree_changes.specs.declared.look_ups.TreeRecord.{TreeRecord}
 use Rattle.tree_plan.specs.declared.passes.Compared.{Compared}
 use Rattle.tree_plan.specs.declared.passes.Removed.{Removed}
 use Rattle.tree_plan.specs.declared.regrafting.Regrafted.{Regrafted}
-use Rattle.tree_plan.specs.Passes.{at, at_name, has, Gains, IsComparison, IsRemoval, IsGained, IsRegrafting}
+use Rattle.tree_plan.specs.Passes.{at, at_name, has, GainsGraft, HoldsCompared, HoldsRemoved, IsGained, HoldsRegrafted}
 use Rattle.tree_plan.specs.Regrafts.{HasRival, HasNoRival, MovesIn, AreRegrafted, grafted_record}
 
 -- the root of a tree of one of these names, which the node gains
 abbrev pub IsMoved : World → UpdateData → List TreeId → FullNodeId → FullNodeId → Type 0
-IsMoved w u names id g = (name : TreeId) × Contains names name × Gains w u g name × (root_named w name ≡ Some id)
+IsMoved w u names id g = (name : TreeId) × Contains names name × GainsGraft w u g name × (root_named w name ≡ Some id)
 
-module _ (w : World) (u : UpdateData) (c : Compared) (r : Removed) (compared : IsComparison w u c) where
+module _ (w : World) (u : UpdateData) (c : Compared) (r : Removed) (compared : HoldsCompared w u c) where
   -- the named node that grafts a gained tree gains it
-  pub gainer : (name : TreeId) → Contains c.gained.items name → (g : FullNodeId) → at_name c.grafted name ≡ Some g → Gains w u g name
+  pub gainer : (name : TreeId) → Contains c.gained.items name → (g : FullNodeId) → at_name c.grafted name ≡ Some g → GainsGraft w u g name
   gainer name «in» g is =
       let h = (compared.gained name).0 «in» in
       let grafts = (compared.grafted name g).0 is in
       let same : h.0 ≡ g = compared.compared.named_apart h.0 g name h.1.0 grafts.0 h.1.1 grafts.1 in
-      subst (λ x. Gains w u x name) same h.1
+      subst (λ x. GainsGraft w u x name) same h.1
 
   pub grafted_there : (name : TreeId) → Contains c.gained.items name → (g : FullNodeId) × (at_name c.grafted name ≡ Some g)
   grafted_there name «in» = let h = (compared.gained name).0 «in» in (h.0, (compared.grafted name h.0).1 (h.1.0, h.1.1))
 
-  pub regrafts_nothing : (found : Regrafted) → found.trees.items ≡ [] → ((id : FullNodeId) → at found.moved_in id ≡ None) → AreRegrafted w u c r [] found
+  pub regrafts_nothing : (found : Regrafted) → found.trees.items ≡ [] → ((id : FullNodeId) → at found.moved_in.entries id ≡ None) → AreRegrafted w u c r [] found
   regrafts_nothing found trees roots = record {
     free = λ name «in». absurd (omega (arith, «in».1));
     trees = trees;
@@ -49,13 +49,13 @@ module _ (w : World) (u : UpdateData) (c : Compared) (r : Removed) (compared : I
     moved_in = λ id g. (to id g, from id g);
   }
     where
-      to : (id g : FullNodeId) → at b.moved_in id ≡ Some g → IsMoved w u (names ++ name ∷ []) id g
+      to : (id g : FullNodeId) → at b.moved_in.entries id ≡ Some g → IsMoved w u (names ++ name ∷ []) id g
       to id g is = ⊎_elim
           (λ h. (name, Contains-push names name, gainer name gained g h.1, h.0))
           (λ h. let f = (before.moved_in id g).0 h.1 in (f.0, Contains-append_left names (name ∷ []) f.0 f.1, f.2, f.3))
           ((moves id g).0 is)
 
-      from : (id g : FullNodeId) → IsMoved w u (names ++ name ∷ []) id g → at b.moved_in id ≡ Some g
+      from : (id g : FullNodeId) → IsMoved w u (names ++ name ∷ []) id g → at b.moved_in.entries id ≡ Some g
       from id g h = (moves id g).1 (⊎_elim
           (λ «in». inr (
             (λ root.
@@ -75,7 +75,7 @@ module _ (w : World) (u : UpdateData) (c : Compared) (r : Removed) (compared : I
       let low : h.0 < k = omega (arith, h.1) in
       compared.gained_once h.0 k x low fits (sym (get_or-take k xs h.0 x low) ∙ h.2 ∙ get_or_default xs k d x fits)
 
-  pub regrafted_all : (removed : IsRemoval w u r) → IsClimbed w u → (found : Regrafted) → AreRegrafted w u c r c.gained.items found → IsRegrafting w u found.trees.items found.moved_in
+  pub regrafted_all : (removed : HoldsRemoved w u r) → IsClimbed w u → (found : Regrafted) → AreRegrafted w u c r c.gained.items found → HoldsRegrafted w u found.trees.items found.moved_in
   regrafted_all removed climbed found all = record {
     passed = record { climbed = climbed; rival_gone = λ n g name named grafts gained was. apart g (all.free name ((compared.gained name).1 (n, (named, grafts, gained))) g was) };
     gained = λ t. subst (λ xs. Contains xs t ↔ IsGained w u t) (sym all.trees) (to t, from t);
@@ -114,7 +114,7 @@ module _ (w : World) (u : UpdateData) (c : Compared) (r : Removed) (compared : I
           let low : i < length xs = omega (arith, below) in
           compared.gained_once i j d.id below high (sym (ap (λ t. t.id) (get_or-map (grafted_record w c) xs i d.id d low)) ∙ e ∙ ap (λ t. t.id) (get_or-map (grafted_record w c) xs j d.id d high))
 
-  pub rival_refused : IsOld w → (removed : IsRemoval w u r) → IsClimbed w u → (name : TreeId) → Contains c.gained.items name → HasRival w c r name → Stands w u (GraftedTwice name)
+  pub rival_refused : IsOld w → (removed : HoldsRemoved w u r) → IsClimbed w u → (name : TreeId) → Contains c.gained.items name → HasRival w c r name → Stands w u (GraftedTwice name)
   rival_refused o removed climbed name gained h =
       let f = (compared.gained name).0 gained in
       rival_stands w u o climbed f.0 h.0 name f.1.0 f.1.1 f.1.2 h.1 (λ gone. h.2 ((removed.gone h.0).1 gone)) (λ named. let n = value_of (at c.named h.0) (compared.has_named h.0 named) in let no : None ≡ Some n.0 = sym h.3 ∙ n.1 in cc)

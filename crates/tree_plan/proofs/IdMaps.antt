@@ -1,17 +1,22 @@
 -- Maps and sets by ids as functions.
-use Rattle.std.proofs.Common.{◌≡◌, ◌≢◌, ◌⊎◌, Bool, true, false, cond, Contains, ℕ, suc, All, List, [], ◌∷◌, Option, Some, None, ⊎_elim, inl, inr, refl, sym, ap, subst, ◌∙◌}
+use Rattle.std.proofs.Common.{get_or, ◌+◌, ◌<◌, ◌≤◌, length, arith, ◌≡◌, ◌≢◌, ◌⊎◌, Bool, true, false, cond, Contains, ℕ, suc, All, List, [], ◌∷◌, Option, Some, None, ⊎_elim, inl, inr, refl, sym, ap, subst, ◌∙◌}
 use Rattle.std.specs.Prelude.{IsSome, is_some, slice_get}
 use Rattle.std.specs.Cmp.{Equal-is, eq_by_cmp_equiv}
 use Rattle.std.specs.BTreeMap.{BTreeMap, is_at}
 use Rattle.std.specs.BTreeSet.{BTreeSet}
 use Rattle.std.specs.List.{list_any}
-use Rattle.std.specs.Map.{lookup}
-use Rattle.std.proofs.lemmas.Map.Entries.{place_from_lookup}
-use Rattle.std.proofs.lemmas.Option.{slice_get_within, get_or_from_slice_get}
+use Rattle.std.specs.Map.{lookup, keys_of, set_value}
+use Rattle.std.proofs.lemmas.Bool.{cases_lt}
+use Rattle.std.proofs.lemmas.Map.{lookup-set_value}
+use Rattle.std.proofs.lemmas.Map.Keys.{IsDistinct-from_sorted}
+use Rattle.std.proofs.lemmas.Map.Entries.{place_from_lookup, lookup_from_place}
+use Rattle.std.proofs.lemmas.Option.{same_Some, slice_get-get_or, slice_get_within, get_or_from_slice_get}
 use Rattle.std.proofs.lemmas.List.Elements.{All-contains}
 use Rattle.model.specs.declared.FullNodeId.{FullNodeId}
 use Rattle.model.specs.FullIds.{full_cmp, exact_full, full_total}
 use Rattle.model.proofs.Members.{contains_none, contains_first, contains_later, contains_cases}
+use Rattle.rows.specs.Rows.{Ascends}
+use Rattle.rows.proofs.Settled.{contains_from_row_at}
 use Rattle.tree_plan.specs.Passes.{at, has}
 
 -- f has v at c, and is g elsewhere
@@ -59,19 +64,24 @@ at_contains {X} (y ∷ ys) x h = go (contains_cases y x ys h) (at_contains ys x)
     go (inl same) later = (0, ap Some same)
     go (inr h) later = let f = later h in (suc f.0, f.1)
 
--- ---- a loop over a map: each entry is left, or done
+-- ---- an entry that gets another value
 
-module _ {X : Type 0} (m : BTreeMap FullNodeId X) (D : FullNodeId → X → Type 0) where
+pub put_changed : {X : Type 0} (es : List (FullNodeId × X)) (id : FullNodeId) (v : X) → IsSome (at es id) → Put id (Some v) (at es) (at (set_value (is_at (full_cmp id)) es v))
+put_changed es id v there q = lookup-set_value (eq_by_cmp_equiv full_total) (is_at (full_cmp id)) (λ x y same. ap (λ k. is_at (full_cmp k) y) (same_key id x same)) q v es there
+
+-- ---- a loop over the entries of a map: each is left, or done
+
+module _ {X : Type 0} (m : List (FullNodeId × X)) (D : FullNodeId → X → Type 0) where
   abbrev pub IsLeftOrDone : List (FullNodeId × X) → Type 0
   IsLeftOrDone rest = (c : FullNodeId) (x : X) → at m c ≡ Some x → Contains rest (c, x) ⊎ D c x
 
-  pub entry_at : (c : FullNodeId) (x : X) → at m c ≡ Some x → Contains m.entries (c, x)
+  pub entry_at : (c : FullNodeId) (x : X) → at m c ≡ Some x → Contains m (c, x)
   entry_at c x is =
-      let f = place_from_lookup (is_at (full_cmp c)) m.entries x is in
+      let f = place_from_lookup (is_at (full_cmp c)) m x is in
       let same : c ≡ f.1 = same_key c f.1 f.3 in
-      contains_at m.entries f.0 (c, x) (f.2 ∙ ap (λ k. Some (k, x)) (sym same))
+      contains_at m f.0 (c, x) (f.2 ∙ ap (λ k. Some (k, x)) (sym same))
 
-  pub loop_begins : IsLeftOrDone m.entries
+  pub loop_begins : IsLeftOrDone m
   loop_begins c x is = inl (entry_at c x is)
 
   pub loop_goes : (rest later : List (FullNodeId × X)) (e : FullNodeId × X) → rest ≡ e ∷ later → IsLeftOrDone rest → (E : FullNodeId → X → Type 0) → ((c : FullNodeId) (x : X) → D c x → E c x) → E e.0 e.1 → (c : FullNodeId) (x : X) → at m c ≡ Some x → Contains later (c, x) ⊎ E c x
@@ -88,22 +98,54 @@ module _ {X : Type 0} (m : BTreeMap FullNodeId X) (D : FullNodeId → X → Type
   pub loop_ends : (rest : List (FullNodeId × X)) → rest ≡ [] → IsLeftOrDone rest → (c : FullNodeId) (x : X) → at m c ≡ Some x → D c x
   loop_ends rest none left c x is = ⊎_elim (λ h. absurd (contains_none (c, x) (subst (λ xs. Contains xs (c, x)) none h))) (λ done. done) (left c x is)
 
+-- ---- a loop over rows: the first so many are done
+
+-- what ascends is read where it stands
+pub read_here : {X : Type 0} (es : List (FullNodeId × X)) → Ascends es → (k : ℕ) (e : FullNodeId × X) → slice_get es k ≡ Some e → at es e.0 ≡ Some e.1
+read_here es sorted k e is = lookup_from_place (eq_by_cmp_equiv full_total) es k e.0 e.1 (IsDistinct-from_sorted full_cmp (keys_of es) sorted) is
+
+pub read_step : {X : Type 0} (es : List (FullNodeId × X)) → Ascends es → (xs : List (FullNodeId × X)) → xs ≡ es → (n : ℕ) (d : FullNodeId × X) → n < length xs → at es (get_or xs n d).0 ≡ Some (get_or xs n d).1
+read_step {X} es sorted xs all n d inside =
+    let lt : n < length es = subst (λ (ys : List (FullNodeId × X)). n < length ys) all inside in
+    subst (λ (ys : List (FullNodeId × X)). at es (get_or ys n d).0 ≡ Some (get_or ys n d).1) (sym all) (read_here es sorted n (get_or es n d) (slice_get-get_or es n d lt))
+
+module _ {X : Type 0} (es : List (FullNodeId × X)) (D : FullNodeId → X → Type 0) where
+  abbrev pub AreDone : ℕ → Type 0
+  AreDone n = (k : ℕ) (e : FullNodeId × X) → k < n → slice_get es k ≡ Some e → D e.0 e.1
+
+  pub done_next : (n : ℕ) (e : FullNodeId × X) → slice_get es n ≡ Some e → AreDone n → D e.0 e.1 → AreDone (n + 1)
+  done_next n e here done now k f lt is = ⊎_elim
+      (λ less. done k f less is)
+      (λ ge. let same : k ≡ n = omega arith in subst (λ (x : FullNodeId × X). D x.0 x.1) (same_Some e f (sym here ∙ subst (λ j. slice_get es j ≡ Some f) same is)) now)
+      (cases_lt k n)
+
+  -- the entry that a loop reads
+  pub done_step : (xs : List (FullNodeId × X)) → xs ≡ es → (n : ℕ) (d : FullNodeId × X) → n < length xs → AreDone n → D (get_or xs n d).0 (get_or xs n d).1 → AreDone (n + 1)
+  done_step xs all n d inside done now =
+      let lt : n < length es = subst (λ (ys : List (FullNodeId × X)). n < length ys) all inside in
+      done_next n (get_or es n d) (slice_get-get_or es n d lt) done (subst (λ (ys : List (FullNodeId × X)). D (get_or ys n d).0 (get_or ys n d).1) all now)
+
+  pub done_all : (n : ℕ) → length es ≤ n → AreDone n → (id : FullNodeId) (x : X) → at es id ≡ Some x → D id x
+  done_all n fits done id x is =
+      let f = at_contains es (id, x) (contains_from_row_at es id x is) in
+      done f.0 (id, x) (let lt = slice_get_within es f.0 (id, x) f.1 in omega arith) f.1
+
 -- what is left are entries of the map
-abbrev pub AreEntries : {X : Type 0} → BTreeMap FullNodeId X → List (FullNodeId × X) → Type 0
+abbrev pub AreEntries : {X : Type 0} → List (FullNodeId × X) → List (FullNodeId × X) → Type 0
 AreEntries {X} m rest = (e : FullNodeId × X) → Contains rest e → at m e.0 ≡ Some e.1
 
-pub entries_begin : {X : Type 0} (m : BTreeMap FullNodeId X) → All (λ e. at m e.0 ≡ Some e.1) m.entries → AreEntries m m.entries
-entries_begin m all e h = All-contains (λ e. at m e.0 ≡ Some e.1) m.entries e all h
+pub entries_begin : {X : Type 0} (m : List (FullNodeId × X)) → All (λ e. at m e.0 ≡ Some e.1) m → AreEntries m m
+entries_begin m all e h = All-contains (λ e. at m e.0 ≡ Some e.1) m e all h
 
-pub entries_first : {X : Type 0} (m : BTreeMap FullNodeId X) (rest later : List (FullNodeId × X)) (e : FullNodeId × X) → rest ≡ e ∷ later → AreEntries m rest → at m e.0 ≡ Some e.1
+pub entries_first : {X : Type 0} (m : List (FullNodeId × X)) (rest later : List (FullNodeId × X)) (e : FullNodeId × X) → rest ≡ e ∷ later → AreEntries m rest → at m e.0 ≡ Some e.1
 entries_first m rest later e split are = are e (subst (λ xs. Contains xs e) (sym split) (contains_first e later))
 
-pub entries_go : {X : Type 0} (m : BTreeMap FullNodeId X) (rest later : List (FullNodeId × X)) (e : FullNodeId × X) → rest ≡ e ∷ later → AreEntries m rest → AreEntries m later
+pub entries_go : {X : Type 0} (m : List (FullNodeId × X)) (rest later : List (FullNodeId × X)) (e : FullNodeId × X) → rest ≡ e ∷ later → AreEntries m rest → AreEntries m later
 entries_go m rest later e split are f h = are f (subst (λ xs. Contains xs f) (sym split) (contains_later e f later h))
 
 -- ---- an empty map, and an empty set
 
-pub empty_at : {X : Type 0} (m : BTreeMap FullNodeId X) → m.entries ≡ [] → (id : FullNodeId) → at m id ≡ None
+pub empty_at : {X : Type 0} (m : BTreeMap FullNodeId X) → m.entries ≡ [] → (id : FullNodeId) → at m.entries id ≡ None
 empty_at m none id = ap (λ es. lookup (is_at (full_cmp id)) es) none
 
 pub empty_has : (s : BTreeSet FullNodeId) → s.keys ≡ [] → (id : FullNodeId) → ¬ (has s id)

@@ -1,10 +1,12 @@
 -- What the lists of a decision have, from verdicts in order of their ids.
-use Rattle.std.proofs.Common.{Contains, ◌≡◌, ◌+◌, ◌≤◌, Bool, true, false, cond, not, List, [], ◌∷◌, ◌++◌, map, length, Option, Some, None, option_map, ⊎_elim, refl, sym, ap, ◌∙◌, subst, arith}
+use Rattle.std.proofs.Common.{Contains, ◌≡◌, ℕ, ◌+◌, ◌<◌, ◌≤◌, take, get_or, Bool, true, false, cond, not, List, [], ◌∷◌, ◌++◌, map, length, Option, Some, None, option_map, ⊎_elim, refl, sym, ap, ◌∙◌, subst, arith}
 use Rattle.std.specs.Prelude.{is_some, option_and_then, option_to_list}
 use Rattle.std.specs.List.{flat_map, AllByRecursion}
 use Rattle.std.specs.List.Sorted.{IsStrictlySortedBy}
 use Rattle.std.specs.Ordering.{is_eq}
 use Rattle.std.specs.Map.{keys_of, lookup}
+use Rattle.std.proofs.lemmas.Grind.{flat_map-append}
+use Rattle.std.proofs.lemmas.List.{append-nil, take_more}
 use Rattle.std.specs.BTreeMap.{is_at}
 use Rattle.std.specs.declared.cmp.Ordering.TheVariants.{Less}
 use Rattle.model.specs.declared.FullNodeId.{FullNodeId}
@@ -214,3 +216,11 @@ length-changes (e ∷ es) = go (change_of e.1) (length-changes es)
     go : (o : Option NodeChange) → length (changes_in es) ≤ length es → length (option_to_list (option_map (λ c. (e.0, c)) o) ++ changes_in es) ≤ length (e ∷ es)
     go None h = omega arith
     go (Some c) h = omega arith
+
+-- one more verdict, as a loop reads it
+pub changes_more : (es xs : Entries) → xs ≡ es → (k : ℕ) (d : FullNodeId × Verdict) → k < length xs → flat_map change_entry (take (k + 1) es) ≡ flat_map change_entry (take k es) ++ change_entry (get_or xs k d)
+changes_more es xs all k d inside =
+    let lt : k < length es = subst (λ (ys : Entries). k < length ys) all inside in
+    ap (flat_map change_entry) (take_more es k d lt) ∙ flat_map-append change_entry (take k es) (get_or es k d ∷ [])
+    ∙ ap (λ ys. flat_map change_entry (take k es) ++ ys) (append-nil (change_entry (get_or es k d)))
+    ∙ ap (λ (ys : Entries). flat_map change_entry (take k es) ++ change_entry (get_or ys k d)) (sym all)

@@ -22,31 +22,31 @@ module _ (w : World) (c : Compared) (name : TreeId) (n : FullNodeId) (before aft
   -- the tree isn't present
   stays : root_named w name ≡ None → after ≡ before → MovesIn w c name before after
   stays none same id g = (
-    (λ is. inr ((λ root. let no : None ≡ Some id = sym none ∙ root in cc), subst (λ m. at m id ≡ Some g) same is)),
-    (λ h. ⊎_elim (λ x. let no : None ≡ Some id = sym none ∙ x.0 in cc) (λ x. subst (λ m. at m id ≡ Some g) (sym same) x.1) h),
+    (λ is. inr ((λ root. let no : None ≡ Some id = sym none ∙ root in cc), subst (λ m. at m.entries id ≡ Some g) same is)),
+    (λ h. ⊎_elim (λ x. let no : None ≡ Some id = sym none ∙ x.0 in cc) (λ x. subst (λ m. at m.entries id ≡ Some g) (sym same) x.1) h),
   )
 
-  moves : (root : FullNodeId) → root_named w name ≡ Some root → Put root (Some n) (at before) (at after) → MovesIn w c name before after
+  moves : (root : FullNodeId) → root_named w name ≡ Some root → Put root (Some n) (at before.entries) (at after.entries) → MovesIn w c name before after
   moves root is put id g = (to, from)
     where
-      here : root ≡ id → at after id ≡ Some n
-      here same = subst (λ q. at after q ≡ Some n) same (put_here root (Some n) (at before) (at after) put)
+      here : root ≡ id → at after.entries id ≡ Some n
+      here same = subst (λ q. at after.entries q ≡ Some n) same (put_here root (Some n) (at before.entries) (at after.entries) put)
 
-      apart : root ≢ id → at after id ≡ at before id
-      apart other = put_apart root (Some n) (at before) (at after) put id other
+      apart : root ≢ id → at after.entries id ≡ at before.entries id
+      apart other = put_apart root (Some n) (at before.entries) (at after.entries) put id other
 
-      to : at after id ≡ Some g → ((root_named w name ≡ Some id) × (at_name c.grafted name ≡ Some g)) ⊎ ((root_named w name ≢ Some id) × (at before id ≡ Some g))
+      to : at after.entries id ≡ Some g → ((root_named w name ≡ Some id) × (at_name c.grafted name ≡ Some g)) ⊎ ((root_named w name ≢ Some id) × (at before.entries id ≡ Some g))
       to found = ⊎_elim
           (λ same. inl (is ∙ ap Some same, grafted ∙ sym (here same) ∙ found))
           (λ other. inr ((λ e. other (same_Some root id (sym is ∙ e))), sym (apart other) ∙ found))
           (cases_id root id)
 
-      from : ((root_named w name ≡ Some id) × (at_name c.grafted name ≡ Some g)) ⊎ ((root_named w name ≢ Some id) × (at before id ≡ Some g)) → at after id ≡ Some g
+      from : ((root_named w name ≡ Some id) × (at_name c.grafted name ≡ Some g)) ⊎ ((root_named w name ≢ Some id) × (at before.entries id ≡ Some g)) → at after.entries id ≡ Some g
       from (inl h) = here (same_Some root id (sym is ∙ h.0)) ∙ sym grafted ∙ h.1
       from (inr h) = apart (λ same. h.0 (is ∙ ap Some same)) ∙ h.1
 
   pub moves_in : (t : TreeRecord) → IsOfName w name t → (t.index ≡ None → after ≡ before) → (t.root ≡ None → after ≡ before)
-      → ((index : ℕ) (node : NodeId) (g q : FullNodeId) → t.index ≡ Some index → t.root ≡ Some node → at_name c.grafted name ≡ Some g → at after q ≡ cond (is_at (full_cmp (in_tree index node)) q) (Some g) (at before q))
+      → ((index : ℕ) (node : NodeId) (g q : FullNodeId) → t.index ≡ Some index → t.root ≡ Some node → at_name c.grafted name ≡ Some g → at after.entries q ≡ cond (is_at (full_cmp (in_tree index node)) q) (Some g) (at before.entries q))
       → MovesIn w c name before after
   moves_in t h absent rootless present = go t.index t.root refl refl
     where

@@ -7,8 +7,8 @@ use Rattle.schema.specs.NodeData.{NodeData}
 use Rattle.model.specs.declared.FullNodeId.{FullNodeId}
 use Rattle.tree_changes.specs.declared.decision.NodeChange.{NodeChange}
 use Rattle.tree_changes.specs.declared.decision.NodeChange.TheVariants.{Put, Gone}
-use Rattle.tree_changes.specs.declared.plan.Change.{Change}
-use Rattle.tree_changes.specs.declared.plan.Change.TheVariants as change
+use Rattle.tree_plan.specs.declared.plan.Change.{Change}
+use Rattle.tree_plan.specs.declared.plan.Change.TheVariants as change
 use Rattle.tree_changes.specs.Changes.{entry_of}
 use Rattle.tree_plan.specs.Planned.{slot_data, plan_change, taken_at, AreTakenOnce}
 

@@ -3,7 +3,7 @@ use Rattle.std.proofs.Common.{◌≡◌, ◌≢◌, Bool, true, false, cond, ref
 use Rattle.std.specs.BTreeMap.{is_at}
 use Rattle.schema.specs.declared.TreeId.{TreeId}
 use Rattle.model.proofs.Worlds.Names.{is_name-true, is_name-itself}
-use Rattle.tree_plan.specs.Passes.{name_cmp}
+use Rattle.model.specs.FullIds.{name_cmp}
 
 -- f has v at the name, and is g elsewhere
 abbrev pub PutName : {X : Type 0} → TreeId → X → (TreeId → X) → (TreeId → X) → Type 0

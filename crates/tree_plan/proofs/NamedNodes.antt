@@ -2,7 +2,7 @@
 use Rattle.std.proofs.Common.{◌≡◌, ◌≢◌, ◌⊎◌, ⊎_elim, ◌↔◌, ℕ, zero, suc, ◌+◌, ◌<◌, ◌≤◌, List, [], ◌∷◌, ◌++◌, length, map, get_or, slice_get, AllPairs, Contains, Option, Some, None, IsSome, option_map, option_and_then, length-append, inl, inr, refl, sym, ap, subst, ◌∙◌, arith}
 use Rattle.std.specs.Prelude.{IsTrue}
 use Rattle.std.specs.Option.{option_to_list}
-use Rattle.std.specs.BTreeMap.{BTreeMap, is_at}
+use Rattle.std.specs.BTreeMap.{is_at}
 use Rattle.std.specs.FinMap.{get}
 use Rattle.std.specs.Map.{lookup}
 use Rattle.std.proofs.Math.Seq.{get_or-append_seam}
@@ -15,7 +15,7 @@ use Rattle.schema.specs.declared.TreeId.{TreeId}
 use Rattle.model.specs.declared.FullNodeId.{FullNodeId}
 use Rattle.model.specs.World.{ROOT_NAME, World, Tree, Place, data_of, in_tree, listed_ids, graft_name, root_of}
 use Rattle.model.specs.Update.{UpdateData, index_for, merged_world, IsNamed, named_at}
-use Rattle.model.specs.Surgery.{IsOld, IsOpened, Spot, IsAt, Left, Entered}
+use Rattle.model.specs.Surgery.{IsOld, IsOpened, Seat, IsAt, Left, Entered}
 use Rattle.model.proofs.Worlds.Names.{cases_id, cases_name, same_id}
 use Rattle.model.proofs.State.StatePlaces.{value_of, root_of-tree}
 use Rattle.model.proofs.Surgery.Spots.{spot_once, left_tree, entered_tree, lister_named, leaver_named}
@@ -26,10 +26,11 @@ use Rattle.tree_changes.specs.Refusals.{IsRefusal}
 use Rattle.tree_plan.specs.declared.passes.Opened.{Opened}
 use Rattle.tree_plan.specs.declared.passes.Named.{Named}
 use Rattle.tree_plan.specs.declared.passes.Compared.{Compared}
-use Rattle.tree_plan.specs.Passes.{at, at_name, name_cmp, IsNamedAs, IsOpening, IsComparison}
-use Rattle.tree_plan.specs.Comparisons.{IsNamedBefore, AreTaken, Gathers, GathersNew, OnlyAt, OnlyIn, child_ids, ChangesGraft, ComparesNode, Begins, IsNodeFault, IsDone, AreCompared}
+use Rattle.tree_plan.specs.Passes.{at, at_name, IsNamedAs, HoldsOpened, HoldsCompared}
+use Rattle.tree_plan.specs.Comparisons.{IsNamedBefore, AreEntriesTaken, Gathers, GathersNew, OnlyAt, OnlyIn, child_ids, ChangesGraft, ComparesNode, BeginsComparing, IsNodeFault, IsDone, AreCompared}
 use Rattle.tree_plan.proofs.Entries.{AreNamedOnce, entry_named}
 use Rattle.model.proofs.Update.RulesOrFault.{no_some}
+use Rattle.model.specs.FullIds.{name_cmp}
 use Rattle.tree_plan.proofs.IdMaps.{contains_at, at_contains, put_here, put_apart, some_is}
 use Rattle.tree_plan.proofs.Opens.{tree_is}
 use Rattle.tree_plan.proofs.Taking.{entry_id, last_or_before}
@@ -90,7 +91,7 @@ module _ (w : World) (u : UpdateData) (o : IsOld w) where
   none_named : (n : FullNodeId) → ¬ (IsNamedBefore w u 0 n)
   none_named n h = let lt : h.1 < 0 = h.2 in omega arith
 
-  later_done : (k : ℕ) (s : Spot) → IsDone w u k s → IsDone w u (k + 1) s
+  later_done : (k : ℕ) (s : Seat) → IsDone w u k s → IsDone w u (k + 1) s
   later_done k None d = d
   later_done k (Some p) d = later_named k p.0 d
 
@@ -129,6 +130,10 @@ module _ (w : World) (u : UpdateData) (o : IsOld w) where
     named_here : IsNamedBefore w u (k + 1) id
     named_here = (refl, k, omega arith, here)
 
+    -- the node is among the named ones
+    pub named_known : (a : Compared) → AreCompared w u k a → IsSome (at a.named id)
+    named_known a h = (h.has_named id).1 (named_is (k + 1) id named_here)
+
     first_named : ¬ (IsNamedBefore w u k id)
     first_named h = let same : h.1 ≡ k = once h.1 k e.0 h.3 here in let lt : h.1 < k = h.2 in omega arith
 
@@ -141,19 +146,19 @@ module _ (w : World) (u : UpdateData) (o : IsOld w) where
     apart : (n : FullNodeId) → IsNamedBefore w u k n → id ≢ n
     apart n h same = first_named (subst (IsNamedBefore w u k) (sym same) h)
 
-    abbrev WasHere : FullNodeId → Spot → Type 0
+    abbrev WasHere : FullNodeId → Seat → Type 0
     WasHere = OnlyIn id (listed_ids w id) (child_ids id e.1)
 
-    abbrev IsHere : FullNodeId → Spot → Type 0
+    abbrev IsHere : FullNodeId → Seat → Type 0
     IsHere = OnlyIn id (child_ids id e.1) (listed_ids w id)
 
-    here_done : (s : Spot) (j : ℕ) → s ≡ Some (id, j) → IsDone w u (k + 1) s
+    here_done : (s : Seat) (j : ℕ) → s ≡ Some (id, j) → IsDone w u (k + 1) s
     here_done s j is = subst (IsDone w u (k + 1)) (sym is) named_here
 
-    was_left : (c : FullNodeId) (s : Spot) → WasHere c s → Left w u s c
+    was_left : (c : FullNodeId) (s : Seat) → WasHere c s → Left w u s c
     was_left c s h = subst (λ t. Left w u t c) (sym h.1.0) (h.1.1.0, subst (λ xs. slice_get xs h.0 ≢ Some c) (sym lists_here) h.1.1.1)
 
-    is_entered : (c : FullNodeId) (s : Spot) → IsHere c s → Entered w u s c
+    is_entered : (c : FullNodeId) (s : Seat) → IsHere c s → Entered w u s c
     is_entered c s h = subst (λ t. Entered w u t c) (sym h.1.0) (subst (λ xs. slice_get xs h.0 ≡ Some c) (sym lists_here) h.1.1.0, h.1.1.1)
 
     spot_of : (p : Place) → id ≡ p.0 → Some p ≡ Some (id, p.1)
@@ -197,7 +202,7 @@ module _ (w : World) (u : UpdateData) (o : IsOld w) where
           (λ ne. subst (λ x. IsSome x ↔ IsNamed w u q) (sym (put_apart id (Some s.n) (at a.named) (at b.named) s.compares.named q ne)) (h.has_named q))
           (cases_id id q)
 
-      left_to : (c : FullNodeId) (t : Spot) → at b.left c ≡ Some t → Left w u t c × IsDone w u (k + 1) t
+      left_to : (c : FullNodeId) (t : Seat) → at b.left.entries c ≡ Some t → Left w u t c × IsDone w u (k + 1) t
       left_to c t is = ⊎_elim
           (λ same. let f = (h.left c t).0 (sym same ∙ is) in (f.0, later_done k t f.1))
           (λ g.
@@ -205,20 +210,20 @@ module _ (w : World) (u : UpdateData) (o : IsOld w) where
           subst (λ x. Left w u x c × IsDone w u (k + 1) x) e' (was_left c g.0 g.1, here_done g.0 g.1.0 g.1.1.0))
           (s.compares.left.others c)
 
-      left_from : (c : FullNodeId) (t : Spot) → Left w u t c → IsDone w u (k + 1) t → at b.left c ≡ Some t
-      left_from c t l done = there (value_of (at b.left c) (found t l done))
+      left_from : (c : FullNodeId) (t : Seat) → Left w u t c → IsDone w u (k + 1) t → at b.left.entries c ≡ Some t
+      left_from c t l done = there (value_of (at b.left.entries c) (found t l done))
         where
-          there : (x : Spot) × (at b.left c ≡ Some x) → at b.left c ≡ Some t
+          there : (x : Seat) × (at b.left.entries c ≡ Some x) → at b.left.entries c ≡ Some t
           there f = f.1 ∙ ap Some (spot_once w u o f.0 t c (left_to c f.0 f.1).0.0 l.0)
 
-          before : (t : Spot) → Left w u t c → IsDone w u k t → IsSome (at b.left c)
-          before t l done = ⊎_elim (λ same. some_is (at b.left c) t (same ∙ (h.left c t).1 (l, done))) (λ g. some_is (at b.left c) g.0 g.2) (s.compares.left.others c)
+          before : (t : Seat) → Left w u t c → IsDone w u k t → IsSome (at b.left.entries c)
+          before t l done = ⊎_elim (λ same. some_is (at b.left.entries c) t (same ∙ (h.left c t).1 (l, done))) (λ g. some_is (at b.left.entries c) g.0 g.2) (s.compares.left.others c)
 
-          found : (t : Spot) → Left w u t c → IsDone w u (k + 1) t → IsSome (at b.left c)
+          found : (t : Seat) → Left w u t c → IsDone w u (k + 1) t → IsSome (at b.left.entries c)
           found None l done = before None l done
           found (Some p) l done = ⊎_elim (λ earlier. before (Some p) l earlier) (λ same. s.compares.left.found c (Some p) (left_was c p same l)) (last_named p.0 done)
 
-      entered_to : (c : FullNodeId) (t : Spot) → at b.entered c ≡ Some t → Entered w u t c × IsDone w u (k + 1) t
+      entered_to : (c : FullNodeId) (t : Seat) → at b.entered.entries c ≡ Some t → Entered w u t c × IsDone w u (k + 1) t
       entered_to c t is = ⊎_elim
           (λ same. let f = (h.entered c t).0 (sym same ∙ is) in (f.0, later_done k t f.1))
           (λ g.
@@ -226,15 +231,15 @@ module _ (w : World) (u : UpdateData) (o : IsOld w) where
           subst (λ x. Entered w u x c × IsDone w u (k + 1) x) e' (is_entered c g.0 g.1, here_done g.0 g.1.0 g.1.1.0))
           (s.compares.entered.others c)
 
-      entered_from : (c : FullNodeId) (t : Spot) → Entered w u t c → IsDone w u (k + 1) t → at b.entered c ≡ Some t
+      entered_from : (c : FullNodeId) (t : Seat) → Entered w u t c → IsDone w u (k + 1) t → at b.entered.entries c ≡ Some t
       entered_from c t l done = go t l done
         where
-          before : (t : Spot) → Entered w u t c → IsDone w u k t → at b.entered c ≡ Some t
+          before : (t : Seat) → Entered w u t c → IsDone w u k t → at b.entered.entries c ≡ Some t
           before t l done =
-              let was : at a.entered c ≡ Some t = (h.entered c t).1 (l, done) in
-              ⊎_elim (λ same. same ∙ was) (λ g. absurd (no_some (at a.entered c) (s.compares.entered.found c g.0 g.1).0 (some_is (at a.entered c) t was))) (s.compares.entered.others c)
+              let was : at a.entered.entries c ≡ Some t = (h.entered c t).1 (l, done) in
+              ⊎_elim (λ same. same ∙ was) (λ g. absurd (no_some (at a.entered.entries c) (s.compares.entered.found c g.0 g.1).0 (some_is (at a.entered.entries c) t was))) (s.compares.entered.others c)
 
-          go : (t : Spot) → Entered w u t c → IsDone w u (k + 1) t → at b.entered c ≡ Some t
+          go : (t : Seat) → Entered w u t c → IsDone w u (k + 1) t → at b.entered.entries c ≡ Some t
           go None l done = before None l done
           go (Some p) l done = ⊎_elim (λ earlier. before (Some p) l earlier) (λ same. (s.compares.entered.found c (Some p) (entered_is c p same l)).1) (last_named p.0 done)
 
@@ -375,7 +380,7 @@ module _ (w : World) (u : UpdateData) (o : IsOld w) where
     node_refused a h (error.ListedTwice n) x =
         subst (λ y. IsRefusal w u (error.ListedTwice y)) x.1 (⊎_elim
         (λ there.
-        let t = value_of (at a.entered x.0) there in
+        let t = value_of (at a.entered.entries x.0) there in
         let f = (h.entered x.0 t.0).0 t.1 in
         let ne : x.2 ≢ t.0 = λ same. first_named (subst (IsDone w u k) (sym same ∙ x.3.1.0) f.1) in
         entered_twice_stands w u o x.2 t.0 x.0 ne (is_entered x.0 x.2 x.3) f.0)
@@ -384,7 +389,7 @@ module _ (w : World) (u : UpdateData) (o : IsOld w) where
     node_refused a h f x = absurd x
 
   -- ---- before the first entry
-  module _ (opened : Opened) (op : IsOpening w u opened) (named : BTreeMap FullNodeId Named) (t : AreTaken opened.index u (length u.nodes) named) where
+  module _ (opened : Opened) (op : HoldsOpened w u opened) (named : List (FullNodeId × Named)) (t : AreEntriesTaken opened.index u (length u.nodes) named) where
     pub named_once : AreNamedOnce u.nodes
     named_once j k n at_j at_k = t.once j k n (within j n at_j) (within k n at_k) at_j at_k
       where
@@ -404,41 +409,41 @@ module _ (w : World) (u : UpdateData) (o : IsOld w) where
     new_root : Some (in_tree opened.index opened.root) ≡ root_of m i
     new_root = sym op.root ∙ ap (root_of m) op.index
 
-    module _ (c : Compared) (b : Begins opened named c) where
-      left_roots : Gathers (OnlyAt None (root_of w i) (root_of m i)) (λ _. None) (at c.left)
-      left_roots = subst (λ x. Gathers (OnlyAt None (root_of w i) x) (λ _. None) (at c.left)) new_root (subst (λ x. Gathers (OnlyAt None x (Some (in_tree opened.index opened.root))) (λ _. None) (at c.left)) old_root b.left)
+    module _ (c : Compared) (b : BeginsComparing opened named c) where
+      left_roots : Gathers (OnlyAt None (root_of w i) (root_of m i)) (λ _. None) (at c.left.entries)
+      left_roots = subst (λ x. Gathers (OnlyAt None (root_of w i) x) (λ _. None) (at c.left.entries)) new_root (subst (λ x. Gathers (OnlyAt None x (Some (in_tree opened.index opened.root))) (λ _. None) (at c.left.entries)) old_root b.left)
 
-      entered_roots : GathersNew (OnlyAt None (root_of m i) (root_of w i)) (λ _. None) (at c.entered)
-      entered_roots = subst (λ x. GathersNew (OnlyAt None x (root_of w i)) (λ _. None) (at c.entered)) new_root (subst (λ x. GathersNew (OnlyAt None (Some (in_tree opened.index opened.root)) x) (λ _. None) (at c.entered)) old_root b.entered)
+      entered_roots : GathersNew (OnlyAt None (root_of m i) (root_of w i)) (λ _. None) (at c.entered.entries)
+      entered_roots = subst (λ x. GathersNew (OnlyAt None x (root_of w i)) (λ _. None) (at c.entered.entries)) new_root (subst (λ x. GathersNew (OnlyAt None (Some (in_tree opened.index opened.root)) x) (λ _. None) (at c.entered.entries)) old_root b.entered)
 
       -- what is the root of the one and not of the other
       root_only : (v v' : World) (x : FullNodeId) → root_of v i ≡ Some x → root_of v' i ≢ Some x → IsAt v None x × ¬ (IsAt v' None x)
       root_only v v' x is other = let tree : i ≡ x.tree = root_of-tree v i x is in (subst (λ j. root_of v j ≡ Some x) tree is, subst (λ j. root_of v' j ≢ Some x) tree other)
 
-      root_first : (x : FullNodeId) (s : Spot) → at c.left x ≡ Some s → Left w u s x × IsDone w u 0 s
+      root_first : (x : FullNodeId) (s : Seat) → at c.left.entries x ≡ Some s → Left w u s x × IsDone w u 0 s
       root_first x s is = ⊎_elim
-          (λ none. absurd (no_some (at c.left x) none (some_is (at c.left x) s is)))
+          (λ none. absurd (no_some (at c.left.entries x) none (some_is (at c.left.entries x) s is)))
           (λ g.
           let e' : None ≡ s = sym g.1.0 ∙ same_Some g.0 s (sym g.2 ∙ is) in
           subst (λ y. Left w u y x × IsDone w u 0 y) e' (root_only w m x g.1.1.0 g.1.1.1, tt))
           (left_roots.others x)
 
-      root_last : (x : FullNodeId) (s : Spot) → Left w u s x → IsDone w u 0 s → at c.left x ≡ Some s
+      root_last : (x : FullNodeId) (s : Seat) → Left w u s x → IsDone w u 0 s → at c.left.entries x ≡ Some s
       root_last x (Some p) l done = absurd (none_named p.0 done)
       root_last x None l done =
           let tree : x.tree ≡ i = left_tree w u None x l in
-          let f = value_of (at c.left x) (left_roots.found x None (refl, (subst (λ j. root_of w j ≡ Some x) tree l.0, subst (λ j. root_of m j ≢ Some x) tree l.1))) in
+          let f = value_of (at c.left.entries x) (left_roots.found x None (refl, (subst (λ j. root_of w j ≡ Some x) tree l.0, subst (λ j. root_of m j ≢ Some x) tree l.1))) in
           f.1 ∙ ap Some (spot_once w u o f.0 None x (root_first x f.0 f.1).0.0 l.0)
 
-      root_first_entered : (x : FullNodeId) (s : Spot) → at c.entered x ≡ Some s → Entered w u s x × IsDone w u 0 s
+      root_first_entered : (x : FullNodeId) (s : Seat) → at c.entered.entries x ≡ Some s → Entered w u s x × IsDone w u 0 s
       root_first_entered x s is = ⊎_elim
-          (λ none. absurd (no_some (at c.entered x) none (some_is (at c.entered x) s is)))
+          (λ none. absurd (no_some (at c.entered.entries x) none (some_is (at c.entered.entries x) s is)))
           (λ g.
           let e' : None ≡ s = sym g.1.0 ∙ same_Some g.0 s (sym g.2 ∙ is) in
           subst (λ y. Entered w u y x × IsDone w u 0 y) e' (root_only m w x g.1.1.0 g.1.1.1, tt))
           (entered_roots.others x)
 
-      root_last_entered : (x : FullNodeId) (s : Spot) → Entered w u s x → IsDone w u 0 s → at c.entered x ≡ Some s
+      root_last_entered : (x : FullNodeId) (s : Seat) → Entered w u s x → IsDone w u 0 s → at c.entered.entries x ≡ Some s
       root_last_entered x (Some p) l done = absurd (none_named p.0 done)
       root_last_entered x None l done =
           let tree : x.tree ≡ i = entered_tree w u None x l in
@@ -469,22 +474,22 @@ module _ (w : World) (u : UpdateData) (o : IsOld w) where
         gained = λ name. ((λ x. absurd (none_in c.gained.items b.gained name x)), λ f. absurd (none_named f.0 f.1));
         lost_once = once_in c.lost.items b.lost;
         gained_once = once_in c.gained.items b.gained;
-        named_count = ap (λ (x : BTreeMap FullNodeId Named). length x.entries) b.named_is ∙ t.count_of;
+        named_count = ap (λ (x : List (FullNodeId × Named)). length x) b.named_is ∙ t.count_of;
         lost_count = subst (λ xs. length xs ≤ 0) (sym b.lost) (omega arith);
         gained_count = subst (λ xs. length xs ≤ 0) (sym b.gained) (omega arith);
       }
 
   -- ---- after the last entry
   module _ (opened : IsOpened w u) (once : AreNamedOnce u.nodes) (c : Compared) (h : AreCompared w u (length u.nodes) c) where
-    done_left : (s : Spot) (x : FullNodeId) → Left w u s x → IsDone w u (length u.nodes) s
+    done_left : (s : Seat) (x : FullNodeId) → Left w u s x → IsDone w u (length u.nodes) s
     done_left None x l = tt
     done_left (Some p) x l = (all_named p.0).1 (leaver_named w u p x l.0 l.1)
 
-    done_entered : (s : Spot) (x : FullNodeId) → Entered w u s x → IsDone w u (length u.nodes) s
+    done_entered : (s : Seat) (x : FullNodeId) → Entered w u s x → IsDone w u (length u.nodes) s
     done_entered None x l = tt
     done_entered (Some p) x l = (all_named p.0).1 (lister_named w u p x l.0 l.1)
 
-    pub compared_all : IsComparison w u c
+    pub compared_all : HoldsCompared w u c
     compared_all = record {
       compared = record {
         opened = opened;

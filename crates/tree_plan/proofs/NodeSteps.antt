@@ -2,13 +2,12 @@
 use Rattle.std.proofs.Common.{◌≡◌, ◌≢◌, ◌↔◌, ℕ, ◌+◌, Bool, true, List, [], ◌++◌, length, Option, Some, None, IsSome, inl, inr, refl, sym, ap, subst, ◌∙◌, arith}
 use Rattle.std.specs.Prelude.{IsTrue, is_some, if◌then◌else◌}
 use Rattle.std.specs.Option.{option_to_list}
-use Rattle.std.specs.BTreeMap.{BTreeMap}
 use Rattle.std.proofs.lemmas.Option.{same_Some}
 use Rattle.schema.specs.NodeData.{NodeData}
 use Rattle.schema.specs.declared.TreeId.{TreeId}
 use Rattle.model.specs.declared.FullNodeId.{FullNodeId}
 use Rattle.model.specs.World.{World, Place, data_of, listed_ids, graft_name}
-use Rattle.tree_changes.specs.Looks.{IsPlaceOf}
+use Rattle.tree_changes.specs.LookUps.{IsPlaceOf}
 use Rattle.tree_changes.specs.declared.error.UpdateError.{UpdateError}
 use Rattle.tree_changes.specs.declared.error.UpdateError.TheVariants as error
 use Rattle.tree_plan.specs.declared.passes.Named.{Named}
@@ -18,23 +17,18 @@ use Rattle.tree_plan.specs.Comparisons.{Gathers, GathersNew, IsFoundTwice, OnlyI
 use Rattle.model.proofs.Update.RulesOrFault.{no_some}
 use Rattle.tree_plan.proofs.IdMaps.{Put, some_is}
 
--- the map had the key
-pub still_counted : {X : Type 0} (n k : ℕ) (o p : Option X) → k ≡ n + (if is_some o then 0 else 1) → o ≡ p → IsSome p → k ≡ n
-still_counted n k o None len is there = cc
-still_counted n k o (Some x) len is there = let zero : n + (if is_some o then 0 else 1) ≡ n + 0 = ap (λ y. n + (if is_some y then 0 else 1)) is in omega (arith, len, zero)
-
 -- what compared data are, in three steps: the entry, the lists, the grafts
-pub data_compared : (id : FullNodeId) (n : Named) (xs : List FullNodeId) (graft now : Option TreeId) (d : NodeData) (a b c : Compared) (entries : BTreeMap FullNodeId Named)
-    → now ≡ d.tree_id → Put id (Some n) (at a.named) (at entries) → (IsSome (at a.named id) → length entries.entries ≡ length a.named.entries)
-    → Gathers (OnlyIn id xs (child_ids id d)) (at a.left) (at b.left) → GathersNew (OnlyIn id (child_ids id d) xs) (at a.entered) (at b.entered)
+pub data_compared : (id : FullNodeId) (n : Named) (xs : List FullNodeId) (graft now : Option TreeId) (d : NodeData) (a b c : Compared) (entries : List (FullNodeId × Named))
+    → now ≡ d.tree_id → Put id (Some n) (at a.named) (at entries) → (IsSome (at a.named id) → length entries ≡ length a.named)
+    → Gathers (OnlyIn id xs (child_ids id d)) (at a.left.entries) (at b.left.entries) → GathersNew (OnlyIn id (child_ids id d) xs) (at a.entered.entries) (at b.entered.entries)
     → b ≡ record { named = entries; left = b.left; entered = b.entered; grafted = a.grafted; lost = a.lost; gained = a.gained }
     → c ≡ record { named = b.named; left = b.left; entered = b.entered; grafted = b.grafted; lost = c.lost; gained = c.gained }
     → ChangesGraft graft now b c → ComparesData id n xs graft d a c
 data_compared id n xs graft now d a b c entries is put count left entered first second grafts = record {
   named = subst (λ m. Put id (Some n) (at a.named) (at m)) (sym map_is) put;
-  count_of = λ there. ap (λ (m : BTreeMap FullNodeId Named). length m.entries) map_is ∙ count there;
-  left = subst (λ m. Gathers (OnlyIn id xs (child_ids id d)) (at a.left) (at m)) (ap (λ (x : Compared). x.left) (sym second)) left;
-  entered = subst (λ m. GathersNew (OnlyIn id (child_ids id d) xs) (at a.entered) (at m)) (ap (λ (x : Compared). x.entered) (sym second)) entered;
+  count_of = λ there. ap (λ (m : List (FullNodeId × Named)). length m) map_is ∙ count there;
+  left = subst (λ m. Gathers (OnlyIn id xs (child_ids id d)) (at a.left.entries) (at m.entries)) (ap (λ (x : Compared). x.left) (sym second)) left;
+  entered = subst (λ m. GathersNew (OnlyIn id (child_ids id d) xs) (at a.entered.entries) (at m.entries)) (ap (λ (x : Compared). x.entered) (sym second)) entered;
   regrafted = go grafts;
 }
   where
@@ -64,9 +58,9 @@ node_compared w id entry d a b c n xs graft takes first stays is lists grafts h 
   is_entry = is;
   compares = subst (λ x. ComparesData id n (listed_ids w id) x d a c) grafts (subst (λ x. ComparesData id n x graft d a c) lists (record {
     named = subst (λ m. Put id (Some n) (at m) (at c.named)) (ap (λ (x : Compared). x.named) first) h.named;
-    count_of = subst (λ (m : BTreeMap FullNodeId Named). IsSome (at m id) → length c.named.entries ≡ length m.entries) (ap (λ (x : Compared). x.named) first) h.count_of;
-    left = subst (λ m. Gathers (OnlyIn id xs (child_ids id d)) (at m) (at c.left)) (ap (λ (x : Compared). x.left) first) h.left;
-    entered = subst (λ m. GathersNew (OnlyIn id (child_ids id d) xs) (at m) (at c.entered)) (ap (λ (x : Compared). x.entered) first) h.entered;
+    count_of = subst (λ (m : List (FullNodeId × Named)). IsSome (at m id) → length c.named ≡ length m) (ap (λ (x : Compared). x.named) first) h.count_of;
+    left = subst (λ m. Gathers (OnlyIn id xs (child_ids id d)) (at m.entries) (at c.left.entries)) (ap (λ (x : Compared). x.left) first) h.left;
+    entered = subst (λ m. GathersNew (OnlyIn id (child_ids id d) xs) (at m.entries) (at c.entered.entries)) (ap (λ (x : Compared). x.entered) first) h.entered;
     regrafted = go h.regrafted;
   }));
 }
@@ -115,9 +109,9 @@ new_graft w id none = rw none refl
 -- what is wrong with the data is wrong with the node
 pub data_fault : (w : World) (id : FullNodeId) (d : NodeData) (a b : Compared) (xs : List FullNodeId) → xs ≡ listed_ids w id
     → b ≡ record { named = a.named; left = a.left; entered = a.entered; grafted = b.grafted; lost = a.lost; gained = a.gained }
-    → (e : UpdateError) → IsFoundTwice (OnlyIn id (child_ids id d) xs) (at b.entered) e → IsNodeFault w id d a e
+    → (e : UpdateError) → IsFoundTwice (OnlyIn id (child_ids id d) xs) (at b.entered.entries) e → IsNodeFault w id d a e
 data_fault w id d a b xs lists first error.Memory h = h
 data_fault w id d a b xs lists first (error.ListedTwice n) h =
-    subst (λ x. IsFoundTwice (OnlyIn id (child_ids id d) x) (at a.entered) (error.ListedTwice n)) lists
-    (subst (λ m. IsFoundTwice (OnlyIn id (child_ids id d) xs) (at m) (error.ListedTwice n)) (ap (λ (x : Compared). x.entered) first) h)
+    subst (λ x. IsFoundTwice (OnlyIn id (child_ids id d) x) (at a.entered.entries) (error.ListedTwice n)) lists
+    (subst (λ m. IsFoundTwice (OnlyIn id (child_ids id d) xs) (at m.entries) (error.ListedTwice n)) (ap (λ (x : Compared). x.entered) first) h)
 data_fault w id d a b xs lists first e h = absurd h

@@ -11,8 +11,8 @@ use Rattle.model.specs.Surgery.{IsOld}
 use Rattle.model.proofs.Update.Merges.{tree_named as merged_tree}
 use Rattle.model.proofs.State.StatePlaces.{graft_is_node, IsSome_is}
 use Rattle.tree_changes.specs.declared.look_ups.TreeRecord.{TreeRecord}
-use Rattle.tree_changes.specs.Looks.{tree_named}
-use Rattle.tree_plan.specs.Passes.{IsOfName, IsOpening}
+use Rattle.tree_changes.specs.LookUps.{tree_named}
+use Rattle.tree_plan.specs.Passes.{IsOfName, HoldsOpened}
 
 abbrev pub blank : TreeId → TreeRecord
 blank name = record { id = name; index = None; graft = None; root = None; focus = None }
@@ -54,7 +54,7 @@ module _ (w : World) (o : IsOld w) where
     root_found : (root : NodeId) → root_after w u ≡ Some root → root_of (merged_world w u) (index_for w u.name) ≡ Some (in_tree (index_for w u.name) root)
     root_found root is = ap (option_map (λ (t : Tree). in_tree (index_for w u.name) t.root)) (merged_tree w u root is)
 
-    pub first_opening : IsFirst w → (info : InfoData) → u.info ≡ Some info → (root : NodeId) → info.root ≡ root → u.name ≡ ROOT_NAME → IsOpening w u (record { «record» = blank u.name; index = 0; root = root; is_first = true })
+    pub first_opening : IsFirst w → (info : InfoData) → u.info ≡ Some info → (root : NodeId) → info.root ≡ root → u.name ≡ ROOT_NAME → HoldsOpened w u (record { «record» = blank u.name; index = 0; root = root; is_first = true })
     first_opening first info has root is name =
         let at : 0 ≡ index_for w u.name = rw (no_name first u.name) (rw first refl) in
         record {
@@ -78,7 +78,7 @@ module _ (w : World) (o : IsOld w) where
     pub later_opening : ¬ (IsFirst w) → (t : TreeRecord) → IsOfName w u.name t → (u.name ≢ ROOT_NAME → IsSome t.graft)
         → (index : ℕ) → index ≡ unwrap_or t.index (length w.known) → (t.index ≡ None → length w.known < 2 ^ 32 - 1)
         → (root : NodeId) → option_map_or (λ i. Some i.root) u.info t.root ≡ Some root
-        → IsOpening w u (record { «record» = t; index = index; root = root; is_first = false })
+        → HoldsOpened w u (record { «record» = t; index = index; root = root; is_first = false })
     later_opening later t h grafted index at room root is =
         let here : index ≡ index_for w u.name = at ∙ ap (λ x. unwrap_or x (length w.known)) h.index in
         let was : t.root ≡ option_map (λ (k : Tree). k.root) (get w.trees (index_for w u.name)) = h.root ∙ ap (option_map (λ (k : Tree). k.root)) (sym (tree_is u.name)) in

@@ -37,13 +37,13 @@ use Rattle.tree_changes.specs.declared.look_ups.TreeRecord.{TreeRecord}
 use Rattle.tree_changes.specs.declared.decision.NodeChange.{NodeChange}
 use Rattle.tree_changes.specs.declared.decision.NodeChange.TheVariants as node
 use Rattle.tree_changes.specs.declared.decision.Decision.{Decision}
-use Rattle.tree_changes.specs.declared.plan.Change.{Change}
-use Rattle.tree_changes.specs.declared.plan.Change.TheVariants.{Put, Tree}
-use Rattle.tree_changes.specs.Looks.{IsPlaceOf, IsTreeRecord}
+use Rattle.tree_plan.specs.declared.plan.Change.{Change}
+use Rattle.tree_plan.specs.declared.plan.Change.TheVariants.{Put, Tree}
+use Rattle.tree_changes.specs.LookUps.{IsPlaceOf, IsTreeRecord}
 use Rattle.tree_changes.specs.Changes.{NodeChanges, change_at, entry_of, entry_data, changed_data, set_at, put_all, if_kept, put_trees, tree_change, tree_after, overlaid_world}
 use Rattle.tree_changes.specs.Decisions.{FindsData, Differs, TreeDiffers, names_of, IsDecision, IsWithinWork}
-use Rattle.tree_changes.specs.declared.plan.Plan.{Plan}
-use Rattle.tree_changes.specs.Plans.{tree_changes, nodes_changed, name_tree, name_trees, replaced_texts, planned_world}
+use Rattle.tree_plan.specs.declared.plan.Plan.{Plan}
+use Rattle.tree_plan.specs.Plans.{tree_changes, nodes_changed, name_tree, name_trees, replaced_texts, planned_world}
 use Rattle.tree_changes.proofs.Overlays.{effect, get-put_all, tree_change_in}
 use Rattle.tree_plan.specs.Planned.{IsPlan, IsPlannedWithin, changed_nodes, slot_data, plan_change, AreTakenOnce, replaces}
 use Rattle.tree_plan.proofs.Adding.{in_either, is_among}

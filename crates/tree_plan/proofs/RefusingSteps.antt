@@ -31,8 +31,8 @@ use Rattle.tree_plan.specs.declared.passes.Compared.{Compared}
 use Rattle.tree_plan.specs.declared.passes.Settled.{Settled}
 use Rattle.tree_plan.specs.declared.passes.Removed.{Removed}
 use Rattle.tree_plan.specs.declared.refusing.Search.{Search}
-use Rattle.tree_plan.specs.Passes.{at, has, IsOpening, IsComparison, IsSettlement, IsRemoval}
-use Rattle.tree_plan.specs.Refusing.{AreListed, IsOfUnlisted, IsDoubled, IsListedStill, IsSearch, Adds, SearchesAll, HasReached, Explains}
+use Rattle.tree_plan.specs.Passes.{at, has, HoldsOpened, HoldsCompared, HoldsSettled, HoldsRemoved}
+use Rattle.tree_plan.specs.Refusing.{AreListed, IsOfUnlisted, IsDoubled, IsListedStill, IsSearch, Enqueues, SearchesAll, HasReached, Explains}
 use Rattle.model.proofs.Update.RulesOrFault.{no_some}
 use Rattle.tree_plan.proofs.IdMaps.{Put, put_here, put_apart, some_is, none_or_some, contains_at, at_contains}
 use Rattle.tree_plan.proofs.Entries.{entry_named}
@@ -40,7 +40,7 @@ use Rattle.tree_plan.proofs.RemovingSteps.{push_keeps, contains_one, contains_pu
 
 -- ---- the search
 
-pub adds_there : (id : FullNodeId) (a : Search) → IsSearch a → has a.seen id → Adds (id ∷ []) a a
+pub adds_there : (id : FullNodeId) (a : Search) → IsSearch a → has a.seen id → Enqueues (id ∷ []) a a
 adds_there id a search there = record {
   search = search;
   queue = λ i x e. e;
@@ -48,10 +48,10 @@ adds_there id a search there = record {
   only = λ x h. inl h;
 }
 
-pub adds_none : (a : Search) → IsSearch a → Adds [] a a
+pub adds_none : (a : Search) → IsSearch a → Enqueues [] a a
 adds_none a search = record { search = search; queue = λ i x e. e; added = λ x h. absurd (contains_none x h); only = λ x h. inl h }
 
-pub adds_new : (id : FullNodeId) (a b : Search) → IsSearch a → Put id true (λ q. contains full_cmp a.seen q) (λ q. contains full_cmp b.seen q) → b.queue.items ≡ a.queue.items ++ id ∷ [] → Adds (id ∷ []) a b
+pub adds_new : (id : FullNodeId) (a b : Search) → IsSearch a → Put id true (λ q. contains full_cmp a.seen q) (λ q. contains full_cmp b.seen q) → b.queue.items ≡ a.queue.items ++ id ∷ [] → Enqueues (id ∷ []) a b
 adds_new id a b search put queue = record {
   search = λ x. (to x, from x);
   queue = λ i x e. subst (λ xs. slice_get xs i ≡ Some x) (sym queue) (push_keeps a.queue.items id i x e);
@@ -77,7 +77,7 @@ adds_new id a b search put queue = record {
 kept : (a b : Search) → ((i : ℕ) (id : FullNodeId) → slice_get a.queue.items i ≡ Some id → slice_get b.queue.items i ≡ Some id) → (id : FullNodeId) → Contains a.queue.items id → Contains b.queue.items id
 kept a b queue id h = let f = at_contains a.queue.items id h in contains_at b.queue.items f.0 id (queue f.0 id f.1)
 
-pub adds_more : (xs : List FullNodeId) (y : FullNodeId) (a b c : Search) → Adds xs a b → Adds (y ∷ []) b c → Adds (xs ++ y ∷ []) a c
+pub adds_more : (xs : List FullNodeId) (y : FullNodeId) (a b c : Search) → Enqueues xs a b → Enqueues (y ∷ []) b c → Enqueues (xs ++ y ∷ []) a c
 adds_more xs y a b c f g = record {
   search = g.search;
   queue = λ i x e. g.queue i x (f.queue i x e);
@@ -99,7 +99,7 @@ module _ (w : World) (u : UpdateData) where
   pub searching_start : (a : Search) → IsSearch a → IsSearching 0 a a
   searching_start a search = record { search = search; queue = λ i id e. e; closed = λ k id c lt is h. absurd (omega arith); reached = λ all. all }
 
-  pub searching_more : (n : ℕ) (id : FullNodeId) (a b c : Search) → slice_get b.queue.items n ≡ Some id → IsSearching n a b → Adds (listed_ids m id) b c → IsSearching (n + 1) a c
+  pub searching_more : (n : ℕ) (id : FullNodeId) (a b c : Search) → slice_get b.queue.items n ≡ Some id → IsSearching n a b → Enqueues (listed_ids m id) b c → IsSearching (n + 1) a c
   searching_more n id a b c is i e = record {
     search = e.search;
     queue = λ j x f. e.queue j x (i.queue j x f);
@@ -129,7 +129,7 @@ module _ (w : World) (u : UpdateData) where
   }
 
   -- from the root
-  pub has_reached : (o : IsOld w) (p : Opened) → IsOpening w u p → (a b c : Search) → a.queue.items ≡ [] → Adds (in_tree p.index p.root ∷ []) a b → SearchesAll w u b c → HasReached w u c.seen
+  pub has_reached : (o : IsOld w) (p : Opened) → HoldsOpened w u p → (a b c : Search) → a.queue.items ≡ [] → Enqueues (in_tree p.index p.root ∷ []) a b → SearchesAll w u b c → HasReached w u c.seen
   has_reached o p opening a b c empty first all id = (
     λ h. all.reached begun id ((all.search id).0 h),
     λ r. (all.search id).1 (search_all w u o (λ x. Contains c.queue.items x) (index_for w u.name) root all.closed id r.0 r.1),
@@ -143,7 +143,7 @@ module _ (w : World) (u : UpdateData) where
 
   -- ---- a node's data afterwards
 
-  module _ (d : Compared) (k : IsComparison w u d) where
+  module _ (d : Compared) (k : HoldsCompared w u d) where
     pub named_fits : (id : FullNodeId) (n : Named) → at d.named id ≡ Some n → n.entry < length u.nodes
     named_fits id n is =
         let within : n.entry < length (map (λ e. e.0) u.nodes) = slice_get_within (map (λ e. e.0) u.nodes) n.entry id.node (k.is_named id n is).entry in
@@ -169,14 +169,14 @@ module _ (w : World) (u : UpdateData) where
 
   -- ---- what is refused
 
-  module _ (o : IsOld w) (d : Compared) (k : IsComparison w u d) where
+  module _ (o : IsOld w) (d : Compared) (k : HoldsCompared w u d) where
     pub unlisted_refused : (e : UpdateError) → IsOfUnlisted d e → IsRefusal w u e
     unlisted_refused e f =
         let n = k.is_named f.0 f.1.0 f.1.1 in
-        let none : ¬ (HasEntered w u f.0) = λ h. no_some (at d.entered f.0) f.1.2.1 (some_is (at d.entered f.0) h.0 ((k.entered f.0 h.0).1 h.1)) in
+        let none : ¬ (HasEntered w u f.0) = λ h. no_some (at d.entered.entries f.0) f.1.2.1 (some_is (at d.entered.entries f.0) h.0 ((k.entered f.0 h.0).1 h.1)) in
         subst (IsRefusal w u) (sym f.2) (unentered_stands w u o f.0 n.named (n.new f.1.2.0) none)
 
-    pub explained : (r : Removed) → IsRemoval w u r → (reached : BTreeSet FullNodeId) → HasReached w u reached → (c : FullNodeId) → IsListedStill w u c → (e : UpdateError) → Explains d reached c e → IsRefusal w u e
+    pub explained : (r : Removed) → HoldsRemoved w u r → (reached : BTreeSet FullNodeId) → HasReached w u reached → (c : FullNodeId) → IsListedStill w u c → (e : UpdateError) → Explains d reached c e → IsRefusal w u e
     explained r removal reached all c (s, q, entered, was, still, stays) e (inl f) =
         let n = value_of (at d.named f.0) f.1 in
         let named : IsNamed w u f.0 = (k.is_named f.0 n.0 n.1).named in
@@ -185,14 +185,14 @@ module _ (w : World) (u : UpdateData) where
         let named : (n : FullNodeId) → IsNamed w u n → Reached m n = λ n is. ((all n).0 (f.0 n (k.has_named n is))).0 in
         subst (IsRefusal w u) (sym f.1) (doubled_stands w u o removal.removed named s q c entered was still stays)
 
-    module _ (a : Settled) (settlement : IsSettlement w u a) (r : Removed) (removal : IsRemoval w u r) where
-      pub doubled_still : (c : FullNodeId) (place : Option Place) → at a.old_places c ≡ Some place → IsDoubled d r c place → IsListedStill w u c
+    module _ (a : Settled) (settlement : HoldsSettled w u a) (r : Removed) (removal : HoldsRemoved w u r) where
+      pub doubled_still : (c : FullNodeId) (place : Option Place) → at a.old_places.entries c ≡ Some place → IsDoubled d r c place → IsListedStill w u c
       doubled_still c place is (none, p, same, stays) =
           let f = settlement.found c p (is ∙ ap Some same) in
           let here : Lists m p c = ⊎_elim (λ h. h) (λ l. let g : None ≡ Some (Some p) = sym none ∙ (k.left c (Some p)).1 l in absurd cc) (at_or_left w u (Some p) c f.1) in
           (f.0.0, p, f.0.1, f.1, here, λ gone. stays ((removal.gone p.0).1 gone))
 
-      pub refined : AreListed d → ((c : FullNodeId) (place : Option Place) → at a.old_places c ≡ Some place → ¬ (IsDoubled d r c place)) → IsRefined w u
+      pub refined : AreListed d → ((c : FullNodeId) (place : Option Place) → at a.old_places.entries c ≡ Some place → ¬ (IsDoubled d r c place)) → IsRefined w u
       refined listed_ids apart = record {
         removed = removal.removed;
         new_entered = λ n named absent. certain (decide_entered w u n) (λ none. let x = value_of (at d.named n) (k.has_named n named) in listed_ids n (x.0, x.1, (new n x.0 x.1 absent, no_entry n none)));
@@ -206,11 +206,11 @@ module _ (w : World) (u : UpdateData) where
               go None e = refl
               go (Some p) e = absurd (absent ((k.is_named n x is).old p e).0)
 
-          no_entry : (n : FullNodeId) → ¬ (HasEntered w u n) → at d.entered n ≡ None
-          no_entry n none = ⊎_elim (λ h. h) (λ s. absurd (none (s.0, (k.entered n s.0).0 s.1))) (none_or_some (at d.entered n))
+          no_entry : (n : FullNodeId) → ¬ (HasEntered w u n) → at d.entered.entries n ≡ None
+          no_entry n none = ⊎_elim (λ h. h) (λ s. absurd (none (s.0, (k.entered n s.0).0 s.1))) (none_or_some (at d.entered.entries n))
 
-          not_left : (q : Place) (c : FullNodeId) → Lists w q c → Lists m q c → at d.left c ≡ None
-          not_left q c was still = ⊎_elim (λ h. h) (λ s. let l = (k.left c s.0).0 s.1 in absurd (l.1 (subst (λ t. IsAt m t c) (spot_once w u o (Some q) s.0 c was l.0) still))) (none_or_some (at d.left c))
+          not_left : (q : Place) (c : FullNodeId) → Lists w q c → Lists m q c → at d.left.entries c ≡ None
+          not_left q c was still = ⊎_elim (λ h. h) (λ s. let l = (k.left c s.0).0 s.1 in absurd (l.1 (subst (λ t. IsAt m t c) (spot_once w u o (Some q) s.0 c was l.0) still))) (none_or_some (at d.left.entries c))
 
           certain_gone : (q : Place) → (¬ (has r.gone q.0) → ⊥) → Gone w u q.0
           certain_gone q h = go (contains full_cmp r.gone q.0) refl

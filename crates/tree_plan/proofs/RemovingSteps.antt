@@ -16,7 +16,7 @@ use Rattle.model.specs.FullIds.{full_cmp}
 use Rattle.model.specs.World.{World, Tree, HasData, data_of, index_of, root_named, graft_name, in_tree}
 use Rattle.model.specs.State.{Lists}
 use Rattle.model.specs.Update.{UpdateData, IsNamed}
-use Rattle.model.specs.Surgery.{IsOld, Spot, Left, HasEntered, IsGraftedByNamed, Gone, IsSettled}
+use Rattle.model.specs.Surgery.{IsOld, Seat, Left, HasEntered, IsGraftedByNamed, Gone, IsSettled}
 use Rattle.model.specs.Surgery as surgery
 use Rattle.model.proofs.Worlds.Names.{cases_id}
 use Rattle.model.proofs.Members.{contains_none, contains_first, contains_cases}
@@ -26,8 +26,8 @@ use Rattle.tree_changes.specs.declared.look_ups.TreeRecord.{TreeRecord}
 use Rattle.tree_plan.specs.declared.passes.Compared.{Compared}
 use Rattle.tree_plan.specs.declared.passes.Removed.{Removed}
 use Rattle.tree_plan.specs.declared.removing.Removing.{Removing}
-use Rattle.tree_plan.specs.Passes.{at, has, at_name, IsOfName, IsComparison, IsCut, IsRemoval, Loses, cut_record}
-use Rattle.tree_plan.specs.Removing.{IsFound, Extends, IsPlacedOrFound, LosesAll, IsOver, Drops, IsExpanded, Expands, LosesLeft, DropsLost, Follows, IsWorkedOff}
+use Rattle.tree_plan.specs.Passes.{at, has, at_name, IsOfName, HoldsCompared, IsUngrafted, HoldsRemoved, LosesGraft, cut_record}
+use Rattle.tree_plan.specs.Removing.{FindsGone, Extends, IsPlacedOrFound, LosesAll, IsDropDone, Drops, IsExpanded, Expands, LosesLeft, DropsLost, FollowsUp, IsWorkedOff}
 use Rattle.tree_plan.proofs.Taking.{last_or_before}
 use Rattle.model.proofs.State.StatePlaces.{value_of}
 use Rattle.model.proofs.Update.RulesOrFault.{no_some}
@@ -72,12 +72,12 @@ pairs_none R i j d lt within = absurd (omega arith)
 
 -- ---- what the named nodes' maps say
 
-module _ (w : World) (u : UpdateData) (d : Compared) (k : IsComparison w u d) where
-  pub entered_has : (id : FullNodeId) → true ≡ is_some (at d.entered id) → HasEntered w u id
-  entered_has id is = let f = value_of (at d.entered id) (sym is) in (f.0, (k.entered id f.0).0 f.1)
+module _ (w : World) (u : UpdateData) (d : Compared) (k : HoldsCompared w u d) where
+  pub entered_has : (id : FullNodeId) → true ≡ is_some (at d.entered.entries id) → HasEntered w u id
+  entered_has id is = let f = value_of (at d.entered.entries id) (sym is) in (f.0, (k.entered id f.0).0 f.1)
 
-  pub entered_not : (id : FullNodeId) → false ≡ is_some (at d.entered id) → ¬ (HasEntered w u id)
-  entered_not id is h = no_some (at d.entered id) (none_if_not (at d.entered id) is) (some_is (at d.entered id) h.0 ((k.entered id h.0).1 h.1))
+  pub entered_not : (id : FullNodeId) → false ≡ is_some (at d.entered.entries id) → ¬ (HasEntered w u id)
+  entered_not id is h = no_some (at d.entered.entries id) (none_if_not (at d.entered.entries id) is) (some_is (at d.entered.entries id) h.0 ((k.entered id h.0).1 h.1))
 
   pub named_has : (id : FullNodeId) → true ≡ is_some (at d.named id) → IsNamed w u id
   named_has id is = let f = value_of (at d.named id) (sym is) in (k.is_named id f.0 f.1).named
@@ -114,7 +114,7 @@ module _ (w : World) (u : UpdateData) where
   pub placed_stays : (a b : Removing) → Extends a b → (id : FullNodeId) → IsPlacedOrFound w u a id → IsPlacedOrFound w u b id
   placed_stays a b e id h = ⊎_elim inl (λ q. inr (queued_stays a b e id q)) h
 
-  pub over_stays : (a b : Removing) → Extends a b → (name : TreeId) → IsOver w u name a → IsOver w u name b
+  pub over_stays : (a b : Removing) → Extends a b → (name : TreeId) → IsDropDone w u name a → IsDropDone w u name b
   over_stays a b e name h = record {
     tree = λ other. e.trees (cut_record w name) (h.tree other);
     root = λ other c is. placed_stays a b e c (h.root other c is);
@@ -128,7 +128,7 @@ module _ (w : World) (u : UpdateData) where
 
   -- ---- nodes that lost their spots
 
-  pub loses_none : (a : Removing) → IsFound w u a → LosesAll w u [] a a
+  pub loses_none : (a : Removing) → FindsGone w u a → LosesAll w u [] a a
   loses_none a found = record { found = found; extends = extends_itself a; trees = refl; lost = λ id h. absurd (contains_none id h) }
 
   pub loses_more : (xs : List FullNodeId) (y : FullNodeId) (a b c : Removing) → LosesAll w u xs a b → LosesAll w u (y ∷ []) b c → LosesAll w u (xs ++ y ∷ []) a c
@@ -140,7 +140,7 @@ module _ (w : World) (u : UpdateData) where
   }
 
   -- one that came to another spot, or is found already
-  pub loses_there : (id : FullNodeId) (a : Removing) → IsFound w u a → IsPlacedOrFound w u a id → LosesAll w u (id ∷ []) a a
+  pub loses_there : (id : FullNodeId) (a : Removing) → FindsGone w u a → IsPlacedOrFound w u a id → LosesAll w u (id ∷ []) a a
   loses_there id a found there = record {
     found = found;
     extends = extends_itself a;
@@ -149,7 +149,7 @@ module _ (w : World) (u : UpdateData) where
   }
 
   -- a new one
-  pub loses_new : (id : FullNodeId) (a b : Removing) → IsFound w u a → Gone w u id → ¬ (IsNamed w u id)
+  pub loses_new : (id : FullNodeId) (a b : Removing) → FindsGone w u a → Gone w u id → ¬ (IsNamed w u id)
       → contains full_cmp a.gone id ≡ false
       → Put id true (λ q. contains full_cmp a.gone q) (λ q. contains full_cmp b.gone q)
       → btree_set_len b.gone ≡ btree_set_len a.gone + 1
@@ -200,7 +200,7 @@ module _ (w : World) (u : UpdateData) where
 
   -- ---- a tree that lost its graft
 
-  pub dropped_not : (name : TreeId) (a : Removing) → IsFound w u a → IsGraftedByNamed w u name → Drops w u name a a
+  pub dropped_not : (name : TreeId) (a : Removing) → FindsGone w u a → IsGraftedByNamed w u name → Drops w u name a a
   dropped_not name a found grafted = record {
     found = found;
     extends = extends_itself a;
@@ -210,15 +210,15 @@ module _ (w : World) (u : UpdateData) where
   }
 
   -- its record is pushed
-  pub with_tree : (name : TreeId) (a b : Removing) → IsFound w u a → IsCut w u name → ((t : TreeRecord) → Contains a.trees.items t → t.id ≢ name)
-      → b.gone ≡ a.gone → b.queue ≡ a.queue → b.trees.items ≡ a.trees.items ++ cut_record w name ∷ [] → IsFound w u b × Extends a b × Contains b.trees.items (cut_record w name)
+  pub with_tree : (name : TreeId) (a b : Removing) → FindsGone w u a → IsUngrafted w u name → ((t : TreeRecord) → Contains a.trees.items t → t.id ≢ name)
+      → b.gone ≡ a.gone → b.queue ≡ a.queue → b.trees.items ≡ a.trees.items ++ cut_record w name ∷ [] → FindsGone w u b × Extends a b × Contains b.trees.items (cut_record w name)
   with_tree name a b found is fresh gone queue trees = (
     record {
       gone = λ id. subst (λ s. has s id ↔ Contains b.queue.items id) (sym gone) (subst (λ q. has a.gone id ↔ Contains q.items id) (sym queue) (found.gone id));
       once = subst (λ q. (i j : ℕ) (id : FullNodeId) → slice_get q.items i ≡ Some id → slice_get q.items j ≡ Some id → i ≡ j) (sym queue) found.once;
       count = ap (λ s. btree_set_len s) gone ∙ found.count ∙ ap (λ q. length q.items) (sym queue);
       goes = λ id h. found.goes id (subst (λ q. Contains q.items id) queue h);
-      trees = λ t h. ⊎_elim (λ before. found.trees t before) (λ same. subst (λ x. IsCut w u x.id × (x ≡ cut_record w x.id)) same (is, refl)) (contains_push a.trees.items (cut_record w name) t (subst (λ ts. Contains ts t) trees h));
+      trees = λ t h. ⊎_elim (λ before. found.trees t before) (λ same. subst (λ x. IsUngrafted w u x.id × (x ≡ cut_record w x.id)) same (is, refl)) (contains_push a.trees.items (cut_record w name) t (subst (λ ts. Contains ts t) trees h));
       trees_once = subst (AllPairs (λ (x y : TreeRecord). x.id ≢ y.id)) (sym trees) (pairs_push (λ (x y : TreeRecord). x.id ≢ y.id) a.trees.items (cut_record w name) found.trees_once fresh);
     },
     record {
@@ -228,7 +228,7 @@ module _ (w : World) (u : UpdateData) where
     subst (λ ts. Contains ts (cut_record w name)) (sym trees) (contains_last a.trees.items (cut_record w name)),
   )
 
-  pub dropped : (name : TreeId) (a b c : Removing) → IsFound w u c → Extends a c → Contains c.trees.items (cut_record w name)
+  pub dropped : (name : TreeId) (a b c : Removing) → FindsGone w u c → Extends a c → Contains c.trees.items (cut_record w name)
       → b.trees.items ≡ a.trees.items ++ cut_record w name ∷ [] → c.trees ≡ b.trees
       → ((id : FullNodeId) → root_named w name ≡ Some id → IsPlacedOrFound w u c id) → Drops w u name a c
   dropped name a b c found extends there trees same root = record {
@@ -252,7 +252,7 @@ root_is w name t of = go (index_of w name) refl
     go (Some i) e = rw (of.index ∙ e) (rw of.root (rw e (with_tree i (fin.get w.trees i))))
 
 -- a tree that lost its graft, and that no named node grafts: its record is pushed
-module _ (w : World) (u : UpdateData) (name : TreeId) (t cut : TreeRecord) (of : IsOfName w name t) (a b : Removing) (found : IsFound w u a)
+module _ (w : World) (u : UpdateData) (name : TreeId) (t cut : TreeRecord) (of : IsOfName w name t) (a b : Removing) (found : FindsGone w u a)
     (fresh : (x : TreeRecord) → Contains a.trees.items x → x.id ≢ name)
     (lost : (g : FullNodeId) × (graft_name w g ≡ Some name) × (Gone w u g ⊎ IsNamed w u g))
     (other : ¬ (IsGraftedByNamed w u name))
@@ -261,10 +261,10 @@ module _ (w : World) (u : UpdateData) (name : TreeId) (t cut : TreeRecord) (of :
   pushed : b.trees.items ≡ a.trees.items ++ cut_record w name ∷ []
   pushed = trees ∙ ap (λ x. a.trees.items ++ x ∷ []) (cut_so ∙ cut_is w name t of)
 
-  after : IsFound w u b × Extends a b × Contains b.trees.items (cut_record w name)
+  after : FindsGone w u b × Extends a b × Contains b.trees.items (cut_record w name)
   after = with_tree w u name a b found (other, lost.0, lost.1, lost.2) fresh gone queue pushed
 
-  pub pushed_found : IsFound w u b
+  pub pushed_found : FindsGone w u b
   pushed_found = after.0
 
   pub pushed_goes : (c : FullNodeId) (r : Option FullNodeId) → r ≡ option_and_then (λ index. option_map (in_tree index) t.root) t.index → r ≡ Some c → ¬ (HasEntered w u c) → Gone w u c
@@ -287,7 +287,7 @@ child_goes w u id d has gone c h none =
     let f = at_contains (map (in_tree id.tree) d.children) c h in
     surgery.Gone.child (id, f.0) c gone (ap (λ o. slice_get (option_map_or (λ x. map (in_tree id.tree) x.children) o []) f.0) has ∙ f.1) none
 
-module _ (w : World) (u : UpdateData) (id : FullNodeId) (a : Removing) (found : IsFound w u a) where
+module _ (w : World) (u : UpdateData) (id : FullNodeId) (a : Removing) (found : FindsGone w u a) where
   -- one without a record would list nothing
   pub expands_nothing : data_of w id ≡ None → Expands w u id a a
   expands_nothing none = record {
@@ -323,7 +323,7 @@ module _ (w : World) (u : UpdateData) (id : FullNodeId) (a : Removing) (found : 
       extends = extends_then a b c l.extends e.extends;
       expanded = record {
         children = children_lost w u id d c has (λ x h. placed_stays w u b c e.extends x (l.lost x h));
-        tree = λ other named. subst (λ x. IsOver w u x c) (same_Some name other (sym is ∙ sym grafts ∙ named)) e.over;
+        tree = λ other named. subst (λ x. IsDropDone w u x c) (same_Some name other (sym is ∙ sym grafts ∙ named)) e.over;
       };
       only = λ t h. ⊎_elim (λ before. inl (subst (λ ts. Contains ts.items t) l.trees before)) (λ same. inr (grafts ∙ is ∙ ap Some (sym same))) (e.only t h);
       few = let same : length b.trees.items ≡ length a.trees.items = ap (λ ts. length ts.items) l.trees in let more : length c.trees.items ≤ length b.trees.items + 1 = e.few in omega arith;
@@ -336,23 +336,23 @@ module _ (w : World) (u : UpdateData) (id : FullNodeId) (a : Removing) (found : 
 
 -- the first of the lost names are worked off
 pub record IsDropping (w : World) (u : UpdateData) (names : List TreeId) (n : ℕ) (a b : Removing) : Type 0 where
-  pub found : IsFound w u b
+  pub found : FindsGone w u b
   pub extends : Extends a b
-  pub over : (k : ℕ) (name : TreeId) → k < n → slice_get names k ≡ Some name → IsOver w u name b
+  pub over : (k : ℕ) (name : TreeId) → k < n → slice_get names k ≡ Some name → IsDropDone w u name b
   pub only : (t : TreeRecord) → Contains b.trees.items t → (k : ℕ) × (k < n) × (slice_get names k ≡ Some t.id)
   pub few : length b.trees.items ≤ n
 
 -- the first of the queue are worked off
 pub record IsFollowing (w : World) (u : UpdateData) (n : ℕ) (a b : Removing) : Type 0 where
-  pub found : IsFound w u b
+  pub found : FindsGone w u b
   pub extends : Extends a b
   pub expanded : (k : ℕ) (id : FullNodeId) → k < n → slice_get b.queue.items k ≡ Some id → IsExpanded w u id b
-  pub only : (t : TreeRecord) → Contains b.trees.items t → Loses w u t.id ⊎ ((k : ℕ) × (id : FullNodeId) × (k < n) × (slice_get b.queue.items k ≡ Some id) × (graft_name w id ≡ Some t.id))
+  pub only : (t : TreeRecord) → Contains b.trees.items t → LosesGraft w u t.id ⊎ ((k : ℕ) × (id : FullNodeId) × (k < n) × (slice_get b.queue.items k ≡ Some id) × (graft_name w id ≡ Some t.id))
   pub few : length b.trees.items ≤ length a.trees.items + n
   pub within : n ≤ length b.queue.items
 
 module _ (w : World) (u : UpdateData) where
-  pub dropping_start : (names : List TreeId) (a : Removing) → IsFound w u a → a.trees.items ≡ [] → IsDropping w u names 0 a a
+  pub dropping_start : (names : List TreeId) (a : Removing) → FindsGone w u a → a.trees.items ≡ [] → IsDropping w u names 0 a a
   dropping_start names a found none = record {
     found = found;
     extends = extends_itself a;
@@ -371,12 +371,12 @@ module _ (w : World) (u : UpdateData) where
   dropping_more names n name a b c is i e = record {
     found = e.found;
     extends = extends_then a b c i.extends e.extends;
-    over = λ k other lt at_k. ⊎_elim (λ before. over_stays w u b c e.extends other (i.over k other before at_k)) (λ same. subst (λ x. IsOver w u x c) (same_Some name other (sym is ∙ ap (slice_get names) (sym same) ∙ at_k)) e.over) (last_or_before k n lt);
+    over = λ k other lt at_k. ⊎_elim (λ before. over_stays w u b c e.extends other (i.over k other before at_k)) (λ same. subst (λ x. IsDropDone w u x c) (same_Some name other (sym is ∙ ap (slice_get names) (sym same) ∙ at_k)) e.over) (last_or_before k n lt);
     only = λ t h. ⊎_elim (λ before. let f = i.only t before in (f.0, (let lt : f.0 < n = f.1 in omega arith), f.2)) (λ same. (n, omega arith, is ∙ ap Some (sym same))) (e.only t h);
     few = let before : length b.trees.items ≤ n = i.few in let more : length c.trees.items ≤ length b.trees.items + 1 = e.few in omega arith;
   }
 
-  pub dropping_end : (d : Compared) (k : IsComparison w u d) (n : ℕ) (a b : Removing) → length d.lost.items ≤ n → n ≤ length d.lost.items → IsDropping w u d.lost.items n a b → DropsLost w u d a b
+  pub dropping_end : (d : Compared) (k : HoldsCompared w u d) (n : ℕ) (a b : Removing) → length d.lost.items ≤ n → n ≤ length d.lost.items → IsDropping w u d.lost.items n a b → DropsLost w u d a b
   dropping_end d k n a b all within i = record {
     found = i.found;
     extends = i.extends;
@@ -385,7 +385,7 @@ module _ (w : World) (u : UpdateData) where
     few = let few : length b.trees.items ≤ n = i.few in omega arith;
   }
 
-  pub following_start : (a : Removing) → IsFound w u a → ((t : TreeRecord) → Contains a.trees.items t → Loses w u t.id) → IsFollowing w u 0 a a
+  pub following_start : (a : Removing) → FindsGone w u a → ((t : TreeRecord) → Contains a.trees.items t → LosesGraft w u t.id) → IsFollowing w u 0 a a
   following_start a found lost = record {
     found = found;
     extends = extends_itself a;
@@ -402,7 +402,7 @@ module _ (w : World) (u : UpdateData) where
       goes : Gone w u id × ¬ (IsNamed w u id)
       goes = i.found.goes id (contains_at b.queue.items n id is)
 
-      go : Loses w u t.id ⊎ ((k : ℕ) × (x : FullNodeId) × (k < n) × (slice_get b.queue.items k ≡ Some x) × (graft_name w x ≡ Some t.id)) → ⊥
+      go : LosesGraft w u t.id ⊎ ((k : ℕ) × (x : FullNodeId) × (k < n) × (slice_get b.queue.items k ≡ Some x) × (graft_name w x ≡ Some t.id)) → ⊥
       go (inl l) = goes.1 (subst (IsNamed w u) (o.grafted_once l.0 id t.id l.2 grafts) l.1)
       go (inr f) =
           let same : f.1 ≡ id = o.grafted_once f.1 id t.id f.4 grafts in
@@ -429,11 +429,11 @@ module _ (w : World) (u : UpdateData) where
           let there : slice_get b.queue.items k ≡ Some (get_or b.queue.items k x) = slice_get-get_or b.queue.items k x within in
           there ∙ sym (e.extends.queue k (get_or b.queue.items k x) there) ∙ at_k
 
-      kept : (t : TreeRecord) → Loses w u t.id ⊎ ((k : ℕ) × (x : FullNodeId) × (k < n) × (slice_get b.queue.items k ≡ Some x) × (graft_name w x ≡ Some t.id)) → Loses w u t.id ⊎ ((k : ℕ) × (x : FullNodeId) × (k < n + 1) × (slice_get c.queue.items k ≡ Some x) × (graft_name w x ≡ Some t.id))
+      kept : (t : TreeRecord) → LosesGraft w u t.id ⊎ ((k : ℕ) × (x : FullNodeId) × (k < n) × (slice_get b.queue.items k ≡ Some x) × (graft_name w x ≡ Some t.id)) → LosesGraft w u t.id ⊎ ((k : ℕ) × (x : FullNodeId) × (k < n + 1) × (slice_get c.queue.items k ≡ Some x) × (graft_name w x ≡ Some t.id))
       kept t (inl l) = inl l
       kept t (inr f) = inr (f.0, f.1, (let lt : f.0 < n = f.2 in omega arith), e.extends.queue f.0 f.1 f.3, f.4)
 
-  pub following_end : (n : ℕ) (a b : Removing) → length b.queue.items ≤ n → IsFollowing w u n a b → Follows w u a b
+  pub following_end : (n : ℕ) (a b : Removing) → length b.queue.items ≤ n → IsFollowing w u n a b → FollowsUp w u a b
   following_end n a b all i = record {
     found = i.found;
     extends = i.extends;
@@ -443,7 +443,7 @@ module _ (w : World) (u : UpdateData) where
 
   -- ---- all of it
 
-  pub worked_off : (d : Compared) (a b c e : Removing) → a.trees.items ≡ [] → LosesLeft w u a b → DropsLost w u d b c → Follows w u c e → IsWorkedOff w u d e
+  pub worked_off : (d : Compared) (a b c e : Removing) → a.trees.items ≡ [] → LosesLeft w u a b → DropsLost w u d b c → FollowsUp w u c e → IsWorkedOff w u d e
   worked_off d a b c e none l x f = record {
     found = f.found;
     left = λ s id is. placed_stays w u c e f.extends id (placed_stays w u b c x.extends id (l.left s id is));
@@ -454,7 +454,7 @@ module _ (w : World) (u : UpdateData) where
 
   module _ (o : IsOld w) (d : Compared) (r : Removing) (i : IsWorkedOff w u d r) where
     -- a tree that a named node grafted, and none grafts now, is lost
-    loses : (g : FullNodeId) (name : TreeId) → IsNamed w u g → graft_name w g ≡ Some name → ¬ (IsGraftedByNamed w u name) → Loses w u name
+    loses : (g : FullNodeId) (name : TreeId) → IsNamed w u g → graft_name w g ≡ Some name → ¬ (IsGraftedByNamed w u name) → LosesGraft w u name
     loses g name named grafts other = (g, named, grafts, λ after. other (g, named, after))
 
     gone_queued : (id : FullNodeId) → Gone w u id → Contains r.queue.items id
@@ -463,18 +463,18 @@ module _ (w : World) (u : UpdateData) where
         (λ p c h lists none. ⊎_elim (λ e. absurd (none e)) (λ q. q) ((i.expanded p.0 h).children p.1 c lists))
         (λ g c name from grafts other is none. ⊎_elim (λ e. absurd (none e)) (λ q. q) ((over g name from grafts other).root other c is))
       where
-        over : (g : FullNodeId) (name : TreeId) → Contains r.queue.items g ⊎ IsNamed w u g → graft_name w g ≡ Some name → ¬ (IsGraftedByNamed w u name) → IsOver w u name r
+        over : (g : FullNodeId) (name : TreeId) → Contains r.queue.items g ⊎ IsNamed w u g → graft_name w g ≡ Some name → ¬ (IsGraftedByNamed w u name) → IsDropDone w u name r
         over g name (inl h) grafts other = (i.expanded g h).tree name grafts
         over g name (inr named) grafts other = i.over name (loses g name named grafts other)
 
-    cut_there : (name : TreeId) → IsCut w u name → Contains r.trees.items (cut_record w name)
+    cut_there : (name : TreeId) → IsUngrafted w u name → Contains r.trees.items (cut_record w name)
     cut_there name (other, g, grafts, from) = (over from).tree other
       where
-        over : Gone w u g ⊎ IsNamed w u g → IsOver w u name r
+        over : Gone w u g ⊎ IsNamed w u g → IsDropDone w u name r
         over (inl gone) = (i.expanded g (gone_queued g gone)).tree name grafts
         over (inr named) = i.over name (loses g name named grafts other)
 
-    pub removal : IsSettled w u → (out : Removed) → out.gone ≡ r.gone → out.trees ≡ r.trees → IsRemoval w u out
+    pub removal : IsSettled w u → (out : Removed) → out.gone ≡ r.gone → out.trees ≡ r.trees → HoldsRemoved w u out
     removal settled out gone trees = record {
       removed = record { settled = settled; named_stays = λ n named is. (i.found.goes n (gone_queued n is)).1 named };
       gone = λ id. (
@@ -490,11 +490,11 @@ module _ (w : World) (u : UpdateData) where
 
 -- ---- what left
 
-module _ (w : World) (u : UpdateData) (d : Compared) (k : IsComparison w u d) where
-  pub left_goes : (s : Spot) (id : FullNodeId) → at d.left id ≡ Some s → ¬ (HasEntered w u id) → Gone w u id
+module _ (w : World) (u : UpdateData) (d : Compared) (k : HoldsCompared w u d) where
+  pub left_goes : (s : Seat) (id : FullNodeId) → at d.left.entries id ≡ Some s → ¬ (HasEntered w u id) → Gone w u id
   left_goes s id is none = surgery.Gone.left s id ((k.left id s).0 is) none
 
-  pub left_end : (a b : Removing) → IsFound w u b → b.trees ≡ a.trees → ((id : FullNodeId) (s : Spot) → at d.left id ≡ Some s → IsPlacedOrFound w u b id) → LosesLeft w u a b
+  pub left_end : (a b : Removing) → FindsGone w u b → b.trees ≡ a.trees → ((id : FullNodeId) (s : Seat) → at d.left.entries id ≡ Some s → IsPlacedOrFound w u b id) → LosesLeft w u a b
   left_end a b found trees all = record {
     found = found;
     trees = trees;

@@ -9,17 +9,17 @@ use Rattle.model.specs.FullIds.{full_cmp}
 use Rattle.model.specs.World.{World, Place, StandsAt, IsNode, root_of, graft_name, in_tree}
 use Rattle.model.specs.State.{Lists}
 use Rattle.model.specs.Update.{UpdateData, MissingData, ListedTwice, Stands, index_for, merged_world}
-use Rattle.model.specs.Surgery.{IsOld, Spot, IsAt, Left, Entered, HasEntered, Adopts}
+use Rattle.model.specs.Surgery.{IsOld, Seat, IsAt, Left, Entered, HasEntered, Adopts}
 use Rattle.model.proofs.Worlds.Names.{cases_id}
 use Rattle.model.proofs.State.StatePlaces.{by_place, stands_listed, root_named_parts}
 use Rattle.model.proofs.Surgery.Spots.{at_or_left, spot_once, at_is_node, entered_tree, named_is_node}
 use Rattle.model.proofs.Surgery.FaultsStand.{entered_missing_stands, root_entered_stands}
-use Rattle.tree_changes.specs.Looks.{IsPlaceOf}
+use Rattle.tree_changes.specs.LookUps.{IsPlaceOf}
 use Rattle.tree_plan.specs.declared.passes.Opened.{Opened}
 use Rattle.tree_plan.specs.declared.passes.Named.{Named}
 use Rattle.tree_plan.specs.declared.passes.Compared.{Compared}
 use Rattle.tree_plan.specs.declared.passes.Settled.{Settled}
-use Rattle.tree_plan.specs.Passes.{at, has, IsOpening, IsNamedAs, IsComparison, IsSettlement}
+use Rattle.tree_plan.specs.Passes.{at, has, HoldsOpened, IsNamedAs, HoldsCompared, HoldsSettled}
 use Rattle.tree_plan.specs.Settling.{Comes, StoodAt, WasBelow, KeepsPlace, KeepsAdopter, IsSettledSoFar, IsSettledAt, Settles, SettlesOne}
 use Rattle.model.proofs.Update.RulesOrFault.{no_some}
 use Rattle.tree_plan.proofs.IdMaps.{Put, put_here, put_apart, none_or_some}
@@ -35,11 +35,11 @@ kept_none id was a none = record {
   moved = refl;
 }
 
-pub kept_some : (id : FullNodeId) (was : Option (Option Place)) (s : Option Place) (a : Settled) (m : BTreeMap FullNodeId (Option Place)) → was ≡ Some s → Put id (Some s) (at a.old_places) (at m) → KeepsPlace id was a (record a { old_places = m })
+pub kept_some : (id : FullNodeId) (was : Option (Option Place)) (s : Option Place) (a : Settled) (m : BTreeMap FullNodeId (Option Place)) → was ≡ Some s → Put id (Some s) (at a.old_places.entries) (at m.entries) → KeepsPlace id was a (record a { old_places = m })
 kept_some id was s a m is put = record {
-  here = λ t e. put_here id (Some s) (at a.old_places) (at m) put ∙ sym is ∙ e;
+  here = λ t e. put_here id (Some s) (at a.old_places.entries) (at m.entries) put ∙ sym is ∙ e;
   none = λ e. cc;
-  others = put_apart id (Some s) (at a.old_places) (at m) put;
+  others = put_apart id (Some s) (at a.old_places.entries) (at m.entries) put;
   adopters = refl;
   moved = refl;
 }
@@ -66,7 +66,7 @@ module _ (w : World) (u : UpdateData) (o : IsOld w) where
   abbrev m : World
   m = merged_world w u
 
-  pub stood_left : (s : Spot) (c : FullNodeId) → Left w u s c → StoodAt w c (Some s)
+  pub stood_left : (s : Seat) (c : FullNodeId) → Left w u s c → StoodAt w c (Some s)
   stood_left s c l = record {
     new = λ e. cc;
     old = λ t e. at_is_node w u o s c l.0;
@@ -77,13 +77,13 @@ module _ (w : World) (u : UpdateData) (o : IsOld w) where
   }
 
   -- a root that hasn't left hasn't entered as anything else
-  no_root : (c : FullNodeId) → Comes w u c → ((s : Spot) → ¬ (Left w u s c)) → root_of w c.tree ≢ Some c
+  no_root : (c : FullNodeId) → Comes w u c → ((s : Seat) → ¬ (Left w u s c)) → root_of w c.tree ≢ Some c
   no_root c comes stays is = ⊎_elim after (stays None) (at_or_left w u None c is)
     where
       after : IsAt m None c → ⊥
       after root = (comes.root (subst (λ k. root_of m k ≡ Some c) (entered_tree w u comes.entered.0 c comes.entered.1) root)).1 is
 
-  pub stood_stays : (c : FullNodeId) (place : Option Place) → Comes w u c → ((s : Spot) → ¬ (Left w u s c)) → IsNode w c → IsPlaceOf w c place → StoodAt w c (Some place)
+  pub stood_stays : (c : FullNodeId) (place : Option Place) → Comes w u c → ((s : Seat) → ¬ (Left w u s c)) → IsNode w c → IsPlaceOf w c place → StoodAt w c (Some place)
   stood_stays c place comes stays there stands = record {
     new = λ e. cc;
     old = λ t e. there;
@@ -99,11 +99,11 @@ module _ (w : World) (u : UpdateData) (o : IsOld w) where
       ungrafting : (p : Place) → Lists w p c → graft_name w p.0 ≡ None
       ungrafting p lists = ⊎_elim (λ none. none) (λ f. let none : None ≡ Some c = ap (λ xs. slice_get xs p.1) (sym (o.graft_childless p.0 f.0 f.1)) ∙ lists in absurd cc) (none_or_some (graft_name w p.0))
 
-  module _ (d : Compared) (k : IsComparison w u d) where
-    pub where_left : (c : FullNodeId) → at d.left c ≡ None → (s : Spot) → ¬ (Left w u s c)
+  module _ (d : Compared) (k : HoldsCompared w u d) where
+    pub where_left : (c : FullNodeId) → at d.left.entries c ≡ None → (s : Seat) → ¬ (Left w u s c)
     where_left c none s l = let f : None ≡ Some s = sym none ∙ (k.left c s).1 l in cc
 
-    pub stood_named : (c : FullNodeId) (n : Named) → Comes w u c → at d.left c ≡ None → at d.named c ≡ Some n → StoodAt w c n.was
+    pub stood_named : (c : FullNodeId) (n : Named) → Comes w u c → at d.left.entries c ≡ None → at d.named c ≡ Some n → StoodAt w c n.was
     stood_named c n comes none is = go n.was refl
       where
         entry : IsNamedAs w u c n
@@ -123,14 +123,14 @@ module _ (w : World) (u : UpdateData) (o : IsOld w) where
     pub missing_stands : (c : FullNodeId) → HasEntered w u c → at d.named c ≡ None → ¬ (IsNode w c) → Stands w u (MissingData c.node)
     missing_stands c e none absent = entered_missing_stands w u o e.0 c e.1 (λ n. no_some (at d.named c) none (k.has_named c n)) absent
 
-    module _ (p : Opened) (opening : IsOpening w u p) where
+    module _ (p : Opened) (opening : HoldsOpened w u p) where
       root_is : (c : FullNodeId) → root_of m (index_for w u.name) ≡ Some c → c ≡ in_tree p.index p.root
       root_is c is = same_Some c (in_tree p.index p.root) (sym is ∙ ap (root_of m) (sym opening.index) ∙ opening.root)
 
       pub comes_root : (c : FullNodeId) → Entered w u None c → Comes w u c
       comes_root c e = record { entered = (None, e); root = λ _. e }
 
-      pub comes_below : (c : FullNodeId) (s : Spot) → Entered w u s c → c ≢ in_tree p.index p.root → Comes w u c
+      pub comes_below : (c : FullNodeId) (s : Seat) → Entered w u s c → c ≢ in_tree p.index p.root → Comes w u c
       comes_below c s e other = record { entered = (s, e); root = λ is. absurd (other (root_is c is)) }
 
       pub root_below_stands : (c : FullNodeId) (q : Place) → Entered w u (Some q) c → c ≡ in_tree p.index p.root → Stands w u (ListedTwice c.node)
@@ -141,7 +141,7 @@ module _ (w : World) (u : UpdateData) (o : IsOld w) where
 
   -- ---- one node
 
-  module _ (c : FullNodeId) (s : Spot) (was : Option (Option Place)) (e : Entered w u s c) (stood : StoodAt w c was) (there : IsNode m c) where
+  module _ (c : FullNodeId) (s : Seat) (was : Option (Option Place)) (e : Entered w u s c) (stood : StoodAt w c was) (there : IsNode m c) where
     abbrev IsFree : Type 0
     IsFree = (p : Place) → s ≡ Some p → root_of m (index_for w u.name) ≢ Some c
 
@@ -150,26 +150,26 @@ module _ (w : World) (u : UpdateData) (o : IsOld w) where
     was_some is = ⊎_elim (λ none. absurd (stood.new none is)) (λ h. h) (none_or_some was)
 
     module _ (a k : Settled) (so_far : IsSettledSoFar w u a) (kept : KeepsPlace c was a k) where
-      places_kept : (x : FullNodeId) (q : Place) → Lists w q x → at a.old_places x ≡ Some (Some q) → at k.old_places x ≡ Some (Some q)
+      places_kept : (x : FullNodeId) (q : Place) → Lists w q x → at a.old_places.entries x ≡ Some (Some q) → at k.old_places.entries x ≡ Some (Some q)
       places_kept x q lists is = go (cases_id c x)
         where
-          go : (c ≡ x) ⊎ (c ≢ x) → at k.old_places x ≡ Some (Some q)
+          go : (c ≡ x) ⊎ (c ≢ x) → at k.old_places.entries x ≡ Some (Some q)
           go (inr other) = kept.others x other ∙ is
           go (inl same) =
               let lists' : Lists w q c = subst (Lists w q) (sym same) lists in
               let t = was_some (o.listed_is_node q c lists') in
-              ap (at k.old_places) (sym same) ∙ kept.here t.0 t.1 ∙ ap Some ((stood.place t.0 q t.1).1 lists')
+              ap (at k.old_places.entries) (sym same) ∙ kept.here t.0 t.1 ∙ ap Some ((stood.place t.0 q t.1).1 lists')
 
-      listed_kept : (q : Place) → Lists w q c → at k.old_places c ≡ Some (Some q)
+      listed_kept : (q : Place) → Lists w q c → at k.old_places.entries c ≡ Some (Some q)
       listed_kept q lists = let t = was_some (o.listed_is_node q c lists) in kept.here t.0 t.1 ∙ ap Some ((stood.place t.0 q t.1).1 lists)
 
-      found_kept : (x : FullNodeId) (q : Place) → at k.old_places x ≡ Some (Some q) → HasEntered w u x × Lists w q x
+      found_kept : (x : FullNodeId) (q : Place) → at k.old_places.entries x ≡ Some (Some q) → HasEntered w u x × Lists w q x
       found_kept x q is = go (cases_id c x)
         where
           here : (t : Option (Option Place)) → was ≡ t → c ≡ x → HasEntered w u x × Lists w q x
-          here None none same = so_far.found x q (ap (λ f. at f x) (sym (kept.none none)) ∙ is)
+          here None none same = so_far.found x q (ap (λ f. at f.entries x) (sym (kept.none none)) ∙ is)
           here (Some t) some same =
-              let place : t ≡ Some q = same_Some t (Some q) (sym (kept.here t some) ∙ ap (at k.old_places) same ∙ is) in
+              let place : t ≡ Some q = same_Some t (Some q) (sym (kept.here t some) ∙ ap (at k.old_places.entries) same ∙ is) in
               (subst (HasEntered w u) same (s, e), subst (Lists w q) same ((stood.place t q some).0 place))
 
           go : (c ≡ x) ⊎ (c ≢ x) → HasEntered w u x × Lists w q x
@@ -177,8 +177,8 @@ module _ (w : World) (u : UpdateData) (o : IsOld w) where
           go (inr other) = so_far.found x q (sym (kept.others x other) ∙ is)
 
       module _ (b : Settled) (places : b.old_places ≡ k.old_places) where
-        in_b : (x : FullNodeId) → at k.old_places x ≡ at b.old_places x
-        in_b x = ap (λ f. at f x) (sym places)
+        in_b : (x : FullNodeId) → at k.old_places.entries x ≡ at b.old_places.entries x
+        in_b x = ap (λ f. at f.entries x) (sym places)
 
         -- as a root
         pub rooted_so_far : b.adopters ≡ a.adopters → IsSettledSoFar w u b
@@ -258,13 +258,13 @@ module _ (w : World) (u : UpdateData) (o : IsOld w) where
 
         pub placed_so_far : IsSettledSoFar w u b
         placed_so_far = record {
-          found = λ x q is. found_kept x q (ap (λ f. at f x) (sym places') ∙ is);
+          found = λ x q is. found_kept x q (ap (λ f. at f.entries x) (sym places') ∙ is);
           adopters = sound;
         }
 
         pub placed_settles : Settles w a b
         placed_settles = record {
-          listed = λ x q lists is. ap (λ f. at f x) places' ∙ places_kept x q lists is;
+          listed = λ x q lists is. ap (λ f. at f.entries x) places' ∙ places_kept x q lists is;
           adopters = λ n h. kept_adopter n (subst (λ f. has f n) (sym kept.adopters) h);
           moved = λ h. sym kept.moved ∙ (unmoved_before h).0;
         }
@@ -273,7 +273,7 @@ module _ (w : World) (u : UpdateData) (o : IsOld w) where
         placed_here free = record {
           is_node = there;
           unlisted = λ p is. free;
-          listed = λ q lists. ap (λ f. at f c) places' ∙ listed_kept q lists;
+          listed = λ q lists. ap (λ f. at f.entries c) places' ∙ listed_kept q lists;
           adopter = λ p is none.
               let same : parent ≡ p.0 = ap (λ z. z.0) (same_Some (parent, k') p (sym at_place ∙ is)) in
               let other : ¬ (WasBelow was parent) = λ h. let f = below_listed h in none f.0 (subst (λ x. Lists w (x, f.0) c) same f.1) in
@@ -302,13 +302,13 @@ module _ (w : World) (u : UpdateData) (o : IsOld w) where
 
 -- ---- all of them
 
-pub settles_start : (w : World) (u : UpdateData) (a : Settled) → ((c : FullNodeId) → at a.old_places c ≡ None) → ((n : FullNodeId) → ¬ (has a.adopters n)) → IsSettledSoFar w u a
+pub settles_start : (w : World) (u : UpdateData) (a : Settled) → ((c : FullNodeId) → at a.old_places.entries c ≡ None) → ((n : FullNodeId) → ¬ (has a.adopters n)) → IsSettledSoFar w u a
 settles_start w u a none empty = record {
   found = λ c q is. let f : None ≡ Some (Some q) = sym (none c) ∙ is in cc;
   adopters = λ n h. absurd (empty n h);
 }
 
-pub settled_stays : (w : World) (u : UpdateData) (a b : Settled) → Settles w a b → (c : FullNodeId) (s : Spot) → IsSettledAt w u c s a → IsSettledAt w u c s b
+pub settled_stays : (w : World) (u : UpdateData) (a b : Settled) → Settles w a b → (c : FullNodeId) (s : Seat) → IsSettledAt w u c s a → IsSettledAt w u c s b
 settled_stays w u a b keeps c s h = record {
   is_node = h.is_node;
   unlisted = h.unlisted;
@@ -317,7 +317,7 @@ settled_stays w u a b keeps c s h = record {
   unmoved = λ still. h.unmoved (keeps.moved still);
 }
 
-pub settlement : (w : World) (u : UpdateData) (d : Compared) (a : Settled) → IsComparison w u d → IsSettledSoFar w u a → ((c : FullNodeId) (s : Spot) → at d.entered c ≡ Some s → IsSettledAt w u c s a) → IsSettlement w u a
+pub settlement : (w : World) (u : UpdateData) (d : Compared) (a : Settled) → HoldsCompared w u d → IsSettledSoFar w u a → ((c : FullNodeId) (s : Seat) → at d.entered.entries c ≡ Some s → IsSettledAt w u c s a) → HoldsSettled w u a
 settlement w u d a k so_far all = record {
   settled = record {
     compared = k.compared;
@@ -330,5 +330,5 @@ settlement w u d a k so_far all = record {
   unmoved = λ still p c e there. (here (Some p) c e).unmoved still p refl there;
 }
   where
-    here : (s : Spot) (c : FullNodeId) → Entered w u s c → IsSettledAt w u c s a
+    here : (s : Seat) (c : FullNodeId) → Entered w u s c → IsSettledAt w u c s a
     here s c e = all c s ((k.entered c s).1 e)

@@ -1,21 +1,24 @@
 -- The named nodes, entry by entry.
-use Rattle.std.proofs.Common.{◌≡◌, ◌≢◌, ◌⊎◌, ⊎_elim, ℕ, ◌+◌, ◌<◌, [], length, slice_get, Some, None, IsSome, option_map, inl, inr, refl, sym, ap, subst, ◌∙◌, arith}
-use Rattle.std.specs.BTreeMap.{BTreeMap, is_at}
-use Rattle.std.specs.Map.{lookup}
+use Rattle.std.proofs.Common.{◌≡◌, ◌≢◌, ◌⊎◌, ⊎_elim, ◌↔◌, ℕ, zero, suc, ◌+◌, ◌<◌, ◌≤◌, List, [], ◌∷◌, ◌++◌, length, map, take, slice_get, Contains, Option, Some, None, IsSome, option_map, inl, inr, refl, sym, ap, subst, ◌∙◌, arith}
+use Rattle.std.specs.Map.{keys_of}
+use Rattle.std.specs.List.Sorted.{IsPermutation}
 use Rattle.std.proofs.lemmas.Bool.{cases_lt}
-use Rattle.std.proofs.lemmas.Option.{same_Some, slice_get-map}
+use Rattle.std.proofs.lemmas.List.{length-map, map-append, take_more}
+use Rattle.std.proofs.lemmas.List.Sorted.{length_permutation}
+use Rattle.std.proofs.lemmas.Map.Entries.{length-keys_of}
+use Rattle.std.proofs.lemmas.Option.{same_Some, slice_get-map, slice_get_within, get_or_from_slice_get}
+use Rattle.rows.specs.Rows.{IsTwice}
 use Rattle.schema.specs.declared.NodeId.{NodeId}
 use Rattle.schema.specs.NodeData.{NodeData}
 use Rattle.model.specs.declared.FullNodeId.{FullNodeId}
-use Rattle.model.specs.FullIds.{full_cmp}
 use Rattle.model.specs.World.{in_tree}
 use Rattle.model.specs.Update.{UpdateData, named_at}
-use Rattle.model.proofs.Worlds.Names.{cases_id, same_id}
+use Rattle.model.proofs.Worlds.Names.{same_id}
+use Rattle.model.proofs.State.StatePlaces.{value_of}
 use Rattle.tree_plan.specs.declared.passes.Named.{Named}
 use Rattle.tree_plan.specs.Passes.{at}
-use Rattle.tree_plan.specs.Comparisons.{AreTaken}
-use Rattle.model.proofs.Update.RulesOrFault.{no_some}
-use Rattle.tree_plan.proofs.IdMaps.{Put, put_here, put_apart, some_is}
+use Rattle.tree_plan.specs.Comparisons.{AreEntriesTaken}
+use Rattle.tree_plan.proofs.IdMaps.{some_is, contains_at, at_contains}
 
 -- the id in an entry that was read
 pub entry_id : (u : UpdateData) (k : ℕ) (e : NodeId × NodeData) → slice_get u.nodes k ≡ Some e → named_at u k ≡ Some e.0
@@ -24,43 +27,75 @@ entry_id u k e at = slice_get-map (λ (e : NodeId × NodeData). e.0) u.nodes k �
 pub last_or_before : (j k : ℕ) → j < k + 1 → (j < k) ⊎ (j ≡ k)
 last_or_before j k lt = ⊎_elim inl (λ ge. inr (omega arith)) (cases_lt j k)
 
+-- an id among entries, with its value
+key_of : {X : Type 0} (es : List (FullNodeId × X)) (j : ℕ) (e : FullNodeId × X) → slice_get es j ≡ Some e → slice_get (keys_of es) j ≡ Some e.0
+key_of [] j e is = cc
+key_of {X} (f ∷ es) zero e is = ap (λ (x : FullNodeId × X). Some x.0) (same_Some f e is)
+key_of (f ∷ es) (suc j) e is = key_of es j e is
+
+value_at : {X : Type 0} (es : List (FullNodeId × X)) (j : ℕ) (id : FullNodeId) → slice_get (keys_of es) j ≡ Some id → (v : X) × (slice_get es j ≡ Some (id, v))
+value_at [] j id is = cc
+value_at {X} (f ∷ es) zero id is = let pair : FullNodeId → FullNodeId × X = λ k. (k, f.1) in (f.1, ap (λ k. Some (pair k)) (same_Some f.0 id is))
+value_at (f ∷ es) (suc j) id is = value_at es j id is
+
 module _ (index : ℕ) (u : UpdateData) where
-  pub taken_none : (named : BTreeMap FullNodeId Named) → named.entries ≡ [] → AreTaken index u 0 named
-  taken_none named none = record {
-    has = λ id. ((λ there. absurd (no_some (at named id) (ap (lookup (is_at (full_cmp id))) none) there)), λ h. absurd (let lt : h.1 < 0 = h.2 in omega arith));
-    once = λ i j n lt. absurd (omega (arith, lt));
-    count_of = ap length none;
-  }
+  -- the ids that the entries name, in their order
+  abbrev pub entry_ids : List FullNodeId
+  entry_ids = map (λ (e : NodeId × NodeData). in_tree index e.0) u.nodes
 
-  module _ (k : ℕ) (a b : BTreeMap FullNodeId Named) (h : AreTaken index u k a) (n : NodeId) (here : named_at u k ≡ Some n) where
-    pub taken_twice : IsSome (at a (in_tree index n)) → (i j : ℕ) × (i ≢ j) × (named_at u i ≡ Some n) × (named_at u j ≡ Some n)
-    taken_twice there = let f = (h.has (in_tree index n)).0 there in (f.1, k, (λ same. let lt : f.1 < k = f.2 in omega arith), f.3, here)
+  entry_to : (es : List (NodeId × NodeData)) (j : ℕ) (id : FullNodeId) → slice_get (map (λ (e : NodeId × NodeData). in_tree index e.0) es) j ≡ Some id → (id.tree ≡ index) × (slice_get (map (λ (e : NodeId × NodeData). e.0) es) j ≡ Some id.node)
+  entry_to [] j id is = cc
+  entry_to (e ∷ es) zero id is = let same : in_tree index e.0 ≡ id = same_Some (in_tree index e.0) id is in (sym (ap (λ (x : FullNodeId). x.tree) same), ap (λ (x : FullNodeId). Some x.node) same)
+  entry_to (e ∷ es) (suc j) id is = entry_to es j id is
 
-    module _ (v : Named) (none : at a (in_tree index n) ≡ None) (put : Put (in_tree index n) (Some v) (at a) (at b)) where
-      to : (id : FullNodeId) → IsSome (at b id) → (id.tree ≡ index) × (j : ℕ) × (j < k + 1) × (named_at u j ≡ Some id.node)
-      to id there = ⊎_elim
-          (λ same. (ap (λ (x : FullNodeId). x.tree) (sym same), k, omega arith, here ∙ ap Some (ap (λ (x : FullNodeId). x.node) same)))
-          (λ ne. let f = (h.has id).0 (subst IsSome (put_apart (in_tree index n) (Some v) (at a) (at b) put id ne) there) in (f.0, f.1, (let lt : f.1 < k = f.2 in omega arith), f.3))
-          (cases_id (in_tree index n) id)
+  entry_from : (es : List (NodeId × NodeData)) (j : ℕ) (id : FullNodeId) → id.tree ≡ index → slice_get (map (λ (e : NodeId × NodeData). e.0) es) j ≡ Some id.node → slice_get (map (λ (e : NodeId × NodeData). in_tree index e.0) es) j ≡ Some id
+  entry_from [] j id tree is = cc
+  entry_from (e ∷ es) zero id tree is = ap Some (same_id (in_tree index e.0) id (sym tree) (same_Some e.0 id.node is))
+  entry_from (e ∷ es) (suc j) id tree is = entry_from es j id tree is
 
-      from : (id : FullNodeId) (j : ℕ) → id.tree ≡ index → j < k + 1 → named_at u j ≡ Some id.node → IsSome (at b id)
-      from id j tree lt at_j = ⊎_elim
-          (λ same. some_is (at b id) v (subst (λ x. at b x ≡ Some v) same (put_here (in_tree index n) (Some v) (at a) (at b) put)))
-          (λ ne. ⊎_elim
-          (λ below. subst IsSome (sym (put_apart (in_tree index n) (Some v) (at a) (at b) put id ne)) ((h.has id).1 (tree, j, below, at_j)))
-          (λ e. absurd (ne (same_id (in_tree index n) id (sym tree) (same_Some n id.node (sym here ∙ subst (λ x. named_at u x ≡ Some id.node) e at_j)))))
-          (last_or_before j k lt))
-          (cases_id (in_tree index n) id)
+  -- one more entry
+  pub taken_next : (k : ℕ) (e : NodeId × NodeData) → slice_get u.nodes k ≡ Some e → (list : List (FullNodeId × Named)) → keys_of list ≡ take k entry_ids → (id : FullNodeId) (v : Named) → id ≡ in_tree index e.0
+      → keys_of (list ++ (id, v) ∷ []) ≡ take (k + 1) entry_ids
+  taken_next k e at_k list so_far id v same =
+      let is : slice_get entry_ids k ≡ Some id = slice_get-map (λ (x : NodeId × NodeData). in_tree index x.0) u.nodes k ∙ ap (option_map (λ (x : NodeId × NodeData). in_tree index x.0)) at_k ∙ ap Some (sym same) in
+      let here = get_or_from_slice_get entry_ids k id id is in
+      let pair : FullNodeId × Named = (id, v) in
+      map-append (λ (x : FullNodeId × Named). x.0) list (pair ∷ []) ∙ ap (λ ks. ks ++ id ∷ []) so_far
+      ∙ sym (take_more entry_ids k id (slice_get_within entry_ids k id is) ∙ ap (λ x. take k entry_ids ++ x ∷ []) here)
 
-      unnamed : (j : ℕ) (x : NodeId) → j < k → named_at u j ≡ Some x → named_at u k ≡ Some x → ⊥
-      unnamed j x lt at_j at_k = no_some (at a (in_tree index n)) none ((h.has (in_tree index n)).1 (refl, j, lt, at_j ∙ sym at_k ∙ here))
+  module _ (list : List (FullNodeId × Named)) (whole : keys_of list ≡ entry_ids) where
+    named_to : (j : ℕ) (id : FullNodeId) → slice_get (keys_of list) j ≡ Some id → (id.tree ≡ index) × (named_at u j ≡ Some id.node)
+    named_to j id is = entry_to u.nodes j id (subst (λ ks. slice_get ks j ≡ Some id) whole is)
 
-      pub taken_next : length b.entries ≡ length a.entries + 1 → AreTaken index u (k + 1) b
-      taken_next len = record {
-        has = λ id. (to id, λ f. from id f.1 f.0 f.2 f.3);
-        once = λ i j x lt lt' at_i at_j. ⊎_elim
-            (λ below. ⊎_elim (λ below'. h.once i j x below below' at_i at_j) (λ e. absurd (unnamed i x below at_i (subst (λ y. named_at u y ≡ Some x) e at_j))) (last_or_before j k lt'))
-            (λ e. ⊎_elim (λ below'. absurd (unnamed j x below' at_j (subst (λ y. named_at u y ≡ Some x) e at_i))) (λ e'. e ∙ sym e') (last_or_before j k lt'))
-            (last_or_before i k lt);
-        count_of = len ∙ ap (λ x. x + 1) h.count_of;
+    named_from : (j : ℕ) (id : FullNodeId) → id.tree ≡ index → named_at u j ≡ Some id.node → slice_get (keys_of list) j ≡ Some id
+    named_from j id tree is = subst (λ ks. slice_get ks j ≡ Some id) (sym whole) (entry_from u.nodes j id tree is)
+
+    long : length list ≡ length u.nodes
+    long = sym (length-keys_of list) ∙ ap length whole ∙ length-map u.nodes (λ (e : NodeId × NodeData). in_tree index e.0)
+
+    -- what stands twice is named twice
+    pub taken_twice : (id : FullNodeId) → IsTwice list id → (i j : ℕ) × (i ≢ j) × (named_at u i ≡ Some id.node) × (named_at u j ≡ Some id.node)
+    taken_twice id h = (h.0, h.1, (λ same. let lt : h.0 < h.1 = h.2 in omega arith), (named_to h.0 id h.3).1, (named_to h.1 id h.4).1)
+
+    module _ (rows : List (FullNodeId × Named)) (same : IsPermutation list rows) (reads : (id : FullNodeId) (v : Named) → (at rows id ≡ Some v) ↔ Contains list (id, v)) (once : (id : FullNodeId) → ¬ (IsTwice list id)) where
+      to : (id : FullNodeId) → IsSome (at rows id) → (id.tree ≡ index) × (j : ℕ) × (j < length u.nodes) × (named_at u j ≡ Some id.node)
+      to id there =
+          let v = value_of (at rows id) there in
+          let f = at_contains list (id, v.0) ((reads id v.0).0 v.1) in
+          let n = named_to f.0 id (key_of list f.0 (id, v.0) f.1) in
+          (n.0, f.0, (let lt = slice_get_within list f.0 (id, v.0) f.1 in omega (arith, long)), n.1)
+
+      from : (id : FullNodeId) (j : ℕ) → id.tree ≡ index → named_at u j ≡ Some id.node → IsSome (at rows id)
+      from id j tree is =
+          let f = value_at list j id (named_from j id tree is) in
+          some_is (at rows id) f.0 ((reads id f.0).1 (contains_at list j (id, f.0) f.1))
+
+      apart : (i j : ℕ) (n : NodeId) → i < j → named_at u i ≡ Some n → named_at u j ≡ Some n → ⊥
+      apart i j n less at_i at_j = once (in_tree index n) (i, j, less, named_from i (in_tree index n) refl at_i, named_from j (in_tree index n) refl at_j)
+
+      pub taken : AreEntriesTaken index u (length u.nodes) rows
+      taken = record {
+        has = λ id. (to id, λ f. from id f.1 f.0 f.3);
+        once = λ i j n lt lt' at_i at_j. ⊎_elim (λ less. absurd (apart i j n less at_i at_j)) (λ ge. ⊎_elim (λ less. absurd (apart j i n less at_j at_i)) (λ ge'. omega arith) (cases_lt j i)) (cases_lt i j);
+        count_of = length_permutation list rows same ∙ long;
       }

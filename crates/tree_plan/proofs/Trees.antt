@@ -26,11 +26,11 @@ use Rattle.model.proofs.Surgery.RulesArePassed.{rules_passed}
 use Rattle.model.proofs.Surgery.ChangesAreTheRebuild.{rebuild_changed}
 use Rattle.model.proofs.Surgery.Grafts.{named_graft, lost_graft, same_graft}
 use Rattle.tree_changes.specs.declared.look_ups.TreeRecord.{TreeRecord}
-use Rattle.tree_changes.specs.Looks.{IsTreeRecord, tree_named}
+use Rattle.tree_changes.specs.LookUps.{IsTreeRecord, tree_named}
 use Rattle.tree_changes.specs.Changes.{tree_change}
 use Rattle.tree_changes.specs.Decisions.{TreeDiffers}
 use Rattle.tree_plan.specs.declared.passes.Opened.{Opened}
-use Rattle.tree_plan.specs.Passes.{IsOfName, IsOpening, IsCut, cut_record, IsGained, Gains}
+use Rattle.tree_plan.specs.Passes.{IsOfName, HoldsOpened, IsUngrafted, cut_record, IsGained, GainsGraft}
 use Rattle.tree_plan.specs.Writing.{own_record, IsOwnPart}
 use Rattle.tree_changes.proofs.Overlays.{tree_change_none}
 use Rattle.tree_plan.proofs.Adding.{in_either}
@@ -125,7 +125,7 @@ module _ (w : World) (u : UpdateData) (o : IsOld w) (k : KeepsRules w u) (new : 
   own_index : index_of new u.name ≡ Some i
   own_index = index_new u.name ∙ index_here w u o
 
-  own_tree : (op : Opened) → IsOpening w u op → tree_named new u.name ≡ Some (record { root = op.root; focus = u.focus })
+  own_tree : (op : Opened) → HoldsOpened w u op → tree_named new u.name ≡ Some (record { root = op.root; focus = u.focus })
   own_tree op is =
       let at : root_of m i ≡ Some (in_tree i op.root) = subst (λ j. root_of m j ≡ Some (in_tree j op.root)) is.index is.root in
       let t = root_of_parts m i (in_tree i op.root) at in
@@ -134,7 +134,7 @@ module _ (w : World) (u : UpdateData) (o : IsOld w) (k : KeepsRules w u) (new : 
       let one : t.0 ≡ record { root = op.root; focus = u.focus } = λ j. record { root = root j; focus = focus j } in
       ap (option_and_then (λ j. get new.trees j)) own_index ∙ tree_same r i (named_kept w u o opened) ∙ t.1 ∙ ap Some one
 
-  pub own_is : (op : Opened) → IsOpening w u op → IsOfName new u.name (own_record u.name u.focus op)
+  pub own_is : (op : Opened) → HoldsOpened w u op → IsOfName new u.name (own_record u.name u.focus op)
   own_is op is = record {
     id = refl;
     index = ap Some is.index ∙ sym own_index;
@@ -151,7 +151,7 @@ module _ (w : World) (u : UpdateData) (o : IsOld w) (k : KeepsRules w u) (new : 
       ap Some (λ j. record { root = root j; focus = focus j })
 
   -- where its record is as before, so is what is known of the named tree
-  pub own_alike : (op : Opened) → IsOpening w u op → own_record u.name u.focus op ≡ op.record → KnownAlike w new u.name
+  pub own_alike : (op : Opened) → HoldsOpened w u op → own_record u.name u.focus op ≡ op.record → KnownAlike w new u.name
   own_alike op is same = record {
     index = sym is.record_of.index ∙ sym (ap (λ x. x.index) same) ∙ (own_is op is).index;
     graft = λ g. let f = own_graft g in (f.1, f.0);
@@ -169,11 +169,11 @@ module _ (w : World) (u : UpdateData) (o : IsOld w) (k : KeepsRules w u) (new : 
   other_index : (name : TreeId) (j : ℕ) → name ≢ u.name → index_of w name ≡ Some j → j ≢ i
   other_index name j other is e = other (name_here w u o name (index_stays w u o name j is ∙ ap Some e))
 
-  tree_other : (name : TreeId) → name ≢ u.name → ¬ (IsCut w u name) → tree_named w name ≡ tree_named new name
+  tree_other : (name : TreeId) → name ≢ u.name → ¬ (IsUngrafted w u name) → tree_named w name ≡ tree_named new name
   tree_other name other uncut = go (index_of w name) refl
     where
       spared : (j : ℕ) → index_of w name ≡ Some j → ¬ (IsDropped w u j)
-      spared j is d = uncut (subst (IsCut w u) (index_of_once w d.0 name j d.1 is) (d.2, d.3, d.4, d.5))
+      spared j is d = uncut (subst (IsUngrafted w u) (index_of_once w d.0 name j d.1 is) (d.2, d.3, d.4, d.5))
 
       go : (x : Option ℕ) → index_of w name ≡ x → tree_named w name ≡ tree_named new name
       go None e = ap (option_and_then (λ j. get w.trees j)) e ∙ sym (ap (option_and_then (λ j. get new.trees j)) (sym (index_other name other) ∙ e))
@@ -182,7 +182,7 @@ module _ (w : World) (u : UpdateData) (o : IsOld w) (k : KeepsRules w u) (new : 
           let same : get w.trees j ≡ get new.trees j = same_option (get w.trees j) (get new.trees j) (λ t is. (f t (other_index name j other e)).1 (spared j e, is)) (λ t is. ((f t (other_index name j other e)).0 is).1) in
           ap (option_and_then (λ j. get w.trees j)) e ∙ same ∙ sym (ap (option_and_then (λ j. get new.trees j)) (sym (index_other name other) ∙ e))
 
-  pub others_alike : (name : TreeId) → name ≢ u.name → ¬ (IsCut w u name) → ((n : FullNodeId) → ¬ (Gains w u n name)) → KnownAlike w new name
+  pub others_alike : (name : TreeId) → name ≢ u.name → ¬ (IsUngrafted w u name) → ((n : FullNodeId) → ¬ (GainsGraft w u n name)) → KnownAlike w new name
   others_alike name other uncut ungained = record {
     index = index_other name other;
     graft = λ g. let f = same_graft w u o passed r name
@@ -191,11 +191,11 @@ module _ (w : World) (u : UpdateData) (o : IsOld w) (k : KeepsRules w u) (new : 
     tree = tree_other name other uncut;
   }
 
-  cut_other : (name : TreeId) → IsCut w u name → name ≢ u.name
+  cut_other : (name : TreeId) → IsUngrafted w u name → name ≢ u.name
   cut_other name cut same = own_unlost cut.1 (cut.2 ∙ ap Some same) cut.3
 
   -- a tree that loses its graft has none, and is present no more
-  pub cut_is : (name : TreeId) → IsCut w u name → IsOfName new name (cut_record w name)
+  pub cut_is : (name : TreeId) → IsUngrafted w u name → IsOfName new name (cut_record w name)
   cut_is name cut = record {
     id = refl;
     index = index_other name (cut_other name cut);
@@ -238,13 +238,13 @@ module _ (w : World) (u : UpdateData) (o : IsOld w) (k : KeepsRules w u) (new : 
   one_graft : (name : TreeId) (x : Option TreeRecord) → IsTreeRecord w name x → IsTreeRecord new name x → (g : FullNodeId) → (graft_name w g ≡ Some name) ↔ (graft_name new g ≡ Some name)
   one_graft name x before now g = let a = before.graft g in let b = now.graft g in (λ e. b.0 (a.1 e), λ e. a.0 (b.1 e))
 
-  cut_differs : (name : TreeId) → IsCut w u name → TreeDiffers w new name
+  cut_differs : (name : TreeId) → IsUngrafted w u name → TreeDiffers w new name
   cut_differs name cut x before now = lost_graft w u o passed r cut.1 name cut.2 cut.3 cut.0 cut.1 ((one_graft name x before now cut.1).0 cut.2)
 
   gained_differs : (t : TreeRecord) → IsGained w u t → TreeDiffers w new t.id
   gained_differs t is x before now = is.gains.2 ((one_graft t.id x before now is.n).1 (((gained_is t is).graft is.n).0 is.graft))
 
-  own_differs : (op : Opened) → IsOpening w u op → own_record u.name u.focus op ≢ op.record → TreeDiffers w new u.name
+  own_differs : (op : Opened) → HoldsOpened w u op → own_record u.name u.focus op ≢ op.record → TreeDiffers w new u.name
   own_differs op is other x before now =
       let a = is.record_of in
       let b = own_is op is in
@@ -264,7 +264,7 @@ module _ (w : World) (u : UpdateData) (o : IsOld w) (k : KeepsRules w u) (new : 
 
   -- each is of another name
   pub all_once : (op : Opened) (cuts gained own : List TreeRecord)
-      → ((t : TreeRecord) → Contains cuts t ↔ (IsCut w u t.id × (t ≡ cut_record w t.id)))
+      → ((t : TreeRecord) → Contains cuts t ↔ (IsUngrafted w u t.id × (t ≡ cut_record w t.id)))
       → ((t : TreeRecord) → Contains gained t ↔ IsGained w u t)
       → IsOwnPart op.record (own_record u.name u.focus op) own
       → AllPairs (λ a b. a.id ≢ b.id) cuts → AllPairs (λ a b. a.id ≢ b.id) gained → AllPairs (λ a b. a.id ≢ b.id) (cuts ++ gained ++ own)
@@ -289,8 +289,8 @@ module _ (w : World) (u : UpdateData) (o : IsOld w) (k : KeepsRules w u) (new : 
       apart x (inl c) = cut_other x.id ((are_cut x).0 c).0
       apart x (inr c) = gained_other x ((are_gained x).0 c)
 
-  pub all_after : (op : Opened) (cuts gained own : List TreeRecord) → IsOpening w u op
-      → ((t : TreeRecord) → Contains cuts t ↔ (IsCut w u t.id × (t ≡ cut_record w t.id)))
+  pub all_after : (op : Opened) (cuts gained own : List TreeRecord) → HoldsOpened w u op
+      → ((t : TreeRecord) → Contains cuts t ↔ (IsUngrafted w u t.id × (t ≡ cut_record w t.id)))
       → ((t : TreeRecord) → Contains gained t ↔ IsGained w u t)
       → IsOwnPart op.record (own_record u.name u.focus op) own
       → AreAfter (cuts ++ gained ++ own)
@@ -340,13 +340,13 @@ module _ (w : World) (u : UpdateData) (o : IsOld w) (k : KeepsRules w u) (new : 
           in_gained : (t : TreeRecord) → Contains gained t → Contains (cuts ++ gained ++ own) t
           in_gained t c = Contains-append_left (cuts ++ gained) own t (Contains-append_right cuts gained t c)
 
-          uncut : ¬ (IsCut w u name)
+          uncut : ¬ (IsUngrafted w u name)
           uncut cut = out (cut_record w name) (in_cuts (cut_record w name) ((are_cut (cut_record w name)).1 (cut, refl))) refl
 
           gain : FullNodeId → TreeRecord
           gain n = record { id = name; index = index_of w name; graft = Some n; root = option_map (λ t. t.root) (tree_named w name); focus = option_map (λ t. t.focus) (tree_named w name) }
 
-          ungained : (n : FullNodeId) → ¬ (Gains w u n name)
+          ungained : (n : FullNodeId) → ¬ (GainsGraft w u n name)
           ungained n gains = out (gain n) (in_gained (gain n) ((are_gained (gain n)).1 (record { n = n; gains = gains; graft = refl; index = refl; root = refl; focus = refl }))) refl
 
           go : IsOwnPart op.record (own_record u.name u.focus op) own → (name ≡ u.name) ⊎ (name ≢ u.name) → KnownAlike w new name

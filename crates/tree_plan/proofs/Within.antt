@@ -12,10 +12,10 @@ use Rattle.model.proofs.Surgery.RulesArePassed.{rules_passed}
 use Rattle.model.proofs.Surgery.OldUpdates.{old_leaves_state}
 use Rattle.tree_changes.specs.declared.error.UpdateError.{UpdateError}
 use Rattle.tree_changes.specs.declared.decision.Decision.{Decision}
-use Rattle.tree_changes.specs.Looks.{IsRaisedUpTo}
+use Rattle.tree_changes.specs.LookUps.{IsRaisedUpTo}
 use Rattle.tree_changes.specs.Changes.{overlaid_world}
 use Rattle.tree_changes.specs.Decisions.{IsWithinWork}
-use Rattle.tree_plan.specs.declared.deciding.Findings.{Findings}
+use Rattle.tree_plan.specs.declared.verdicts.Found.{Found}
 use Rattle.tree_plan.specs.Deciding.{AreFindings, IsCount}
 use Rattle.tree_plan.specs.Writing.{IsSmall}
 
@@ -27,7 +27,7 @@ root_tree_there w o later = go w.known refl
     go [] e = absurd (later e)
     go (x ∷ xs) e = o.root_present x (ap (λ k. slice_get k 0) e)
 
-module _ (w : World) (u : UpdateData) (new : World) (before middle after : ℕ) (f : Findings) (found : AreFindings w u f) (rebuilt : IsRebuild (merged_world w u) new) (counted : IsCount w u f before middle) where
+module _ (w : World) (u : UpdateData) (new : World) (before middle after : ℕ) (f : Found) (found : AreFindings w u f) (rebuilt : IsRebuild (merged_world w u) new) (counted : IsCount w u f before middle) where
   within : (d : Decision) → KeepsRules w u → overlaid_world w u d ≡ new
       → ((work : Work) → IsWorkOf w u new work → IsSmall f.compared f.removed f.regrafted d work)
       → IsRaisedUpTo middle (4 * length (merged_world w u).known + 2) after → IsWithinWork w u d before after

@@ -2,6 +2,7 @@
 use Rattle.std.proofs.Common.{◌≡◌, ◌≢◌, ◌+◌, ◌*◌, ◌≤◌, Bool, true, false, List, [], ◌++◌, map, length, IsTrue, inl, inr, refl, sym, ap, ◌∙◌, subst, arith, length-append}
 use Rattle.std.specs.Prelude.{AllPairs}
 use Rattle.std.specs.BTreeMap.{IsOrdered}
+use Rattle.rows.specs.Rows.{Ascends}
 use Rattle.std.specs.List.Sorted.{IsStrictlySortedBy}
 use Rattle.model.specs.declared.FullNodeId.{FullNodeId}
 use Rattle.model.specs.FullIds.{full_cmp}
@@ -18,31 +19,31 @@ use Rattle.tree_plan.specs.declared.passes.Focused.{Focused}
 use Rattle.tree_plan.specs.declared.verdicts.Found.{Found}
 use Rattle.tree_plan.specs.declared.writing.Group.TheVariants as group
 use Rattle.tree_plan.specs.Passes.{at, IsFocusing}
-use Rattle.tree_plan.specs.Verdicts.{Step, IsFound, Becomes, Verdicts}
+use Rattle.tree_plan.specs.Verdicts.{Transition, IsFound, Becomes, Verdicts}
 use Rattle.tree_plan.specs.Writing.{own_record, IsOwnPart, AreEvents, AreTrees, IsSmall}
 use Rattle.tree_plan.proofs.Listed.{ids_where, is_in, told-where, changes_in}
 use Rattle.tree_plan.proofs.Trees.{AreAfter, all_after, all_once}
 use Rattle.tree_plan.proofs.Assembled.{all_told, overlaid_is, decision_is}
 use Rattle.tree_plan.proofs.Counts.{entered_small, gone_small, changes_small, events_small}
 
-module _ (s : Step) (f : Found) (h : IsFound s f) (vs : Verdicts) (sorted : IsOrdered full_cmp vs) (becomes : (id : FullNodeId) → Becomes s id (at vs id)) where
-  module _ (own : TreeRecord) (is_own : own ≡ own_record s.update.name s.update.focus f.opened.now) (d : Decision) (nodes : d.nodes.items ≡ changes_in vs.entries) (trees : AreTrees f own d.trees.items) where
-    own_part : IsOwnPart f.opened.now.record (own_record s.update.name s.update.focus f.opened.now) trees.0
-    own_part = subst (λ r. IsOwnPart f.opened.now.record r trees.0) is_own trees.2
+module _ (s : Transition) (f : Found) (h : IsFound s f) (vs : Verdicts) (sorted : Ascends vs) (becomes : (id : FullNodeId) → Becomes s id (at vs id)) where
+  module _ (own : TreeRecord) (is_own : own ≡ own_record s.update.name s.update.focus f.opened) (d : Decision) (nodes : d.nodes.items ≡ changes_in vs) (trees : AreTrees f own d.trees.items) where
+    own_part : IsOwnPart f.opened.record (own_record s.update.name s.update.focus f.opened) trees.0
+    own_part = subst (λ r. IsOwnPart f.opened.record r trees.0) is_own trees.2
 
-    after : AreAfter s.old s.update h.old h.kept s.new h.rebuilt (f.removed.now.trees.items ++ f.regrafted.now.trees.items ++ trees.0)
-    after = all_after s.old s.update h.old h.kept s.new h.rebuilt f.opened.now f.removed.now.trees.items f.regrafted.now.trees.items trees.0 h.opening h.removal.trees h.regrafting.gained own_part
+    after : AreAfter s.old s.update h.old h.kept s.new h.rebuilt (f.removed.trees.items ++ f.regrafted.trees.items ++ trees.0)
+    after = all_after s.old s.update h.old h.kept s.new h.rebuilt f.opened f.removed.trees.items f.regrafted.trees.items trees.0 h.opening h.removal.trees h.regrafting.gained own_part
 
     pub written_new : overlaid_world s.old s.update d ≡ s.new
-    written_new = overlaid_is s f h vs sorted becomes (f.removed.now.trees.items ++ f.regrafted.now.trees.items ++ trees.0) after d nodes trees.1
+    written_new = overlaid_is s f h vs sorted becomes (f.removed.trees.items ++ f.regrafted.trees.items ++ trees.0) after d nodes trees.1
 
-    module _ (focused : Focused) (focusing : IsFocusing s.old s.update focused) (quiet : IsTrue f.opened.now.is_first → d.events.items ≡ []) (tell : ¬ (IsTrue f.opened.now.is_first) → AreEvents vs focused d.events.items) where
+    module _ (focused : Focused) (focusing : IsFocusing s.old s.update focused) (quiet : IsTrue f.opened.is_first → d.events.items ≡ []) (tell : ¬ (IsTrue f.opened.is_first) → AreEvents vs focused d.events.items) where
       groups_told : (events : List PlanEvent) (all : AreEvents vs focused events)
-          → events ≡ map told.Added (ids_where (is_in group.Added) vs.entries) ++ map told.Updated (ids_where (is_in group.Updated) vs.entries) ++ all.moved ++ map told.Removed (ids_where (is_in group.Removed) vs.entries)
+          → events ≡ map told.Added (ids_where (is_in group.Added) vs) ++ map told.Updated (ids_where (is_in group.Updated) vs) ++ all.moved ++ map told.Removed (ids_where (is_in group.Removed) vs)
       groups_told events all =
-          let added = told-where group.Added vs.entries in
-          let updated = told-where group.Updated vs.entries in
-          let removed = told-where group.Removed vs.entries in
+          let added = told-where group.Added vs in
+          let updated = told-where group.Updated vs in
+          let removed = told-where group.Removed vs in
           all.all ∙ (λ i. added i ++ updated i ++ all.moved ++ removed i)
 
       differences : ¬ (IsFirst s.old) → AreToldBy s.old s.update s.new d.events.items
@@ -52,29 +53,29 @@ module _ (s : Step) (f : Found) (h : IsFound s f) (vs : Verdicts) (sorted : IsOr
 
       pub written_decision : d.focus ≡ focused.effective → IsDecision s.old s.update d
       written_decision focus =
-          decision_is s f h vs sorted becomes (f.removed.now.trees.items ++ f.regrafted.now.trees.items ++ trees.0) after d nodes trees.1 focused focusing focus
+          decision_is s f h vs sorted becomes (f.removed.trees.items ++ f.regrafted.trees.items ++ trees.0) after d nodes trees.1 focused focusing focus
           (subst (AllPairs (λ a b. a.id ≢ b.id)) (sym trees.1)
-          (all_once s.old s.update h.old h.kept s.new h.rebuilt f.opened.now f.removed.now.trees.items f.regrafted.now.trees.items trees.0 h.removal.trees h.regrafting.gained own_part h.removal.trees_once h.regrafting.gained_once))
+          (all_once s.old s.update h.old h.kept s.new h.rebuilt f.opened f.removed.trees.items f.regrafted.trees.items trees.0 h.removal.trees h.regrafting.gained own_part h.removal.trees_once h.regrafting.gained_once))
           differences (λ first. quiet (h.opening.first.1 first))
 
-      few_told : (work : Work) (is : IsWorkOf s.old s.update s.new work) (first : Bool) → f.opened.now.is_first ≡ first → length d.events.items ≤ 2 * work.named + work.children + work.removed + 4
+      few_told : (work : Work) (is : IsWorkOf s.old s.update s.new work) (first : Bool) → f.opened.is_first ≡ first → length d.events.items ≤ 2 * work.named + work.children + work.removed + 4
       few_told work is true e = let none : length d.events.items ≡ 0 = ap length (quiet e) in omega arith
       few_told work is false e = events_small s f h work is vs sorted becomes focused d.events.items (tell (λ first. let clash : false ≡ true = sym e ∙ first in cc))
 
-      own_short : IsOwnPart f.opened.now.record own trees.0 → length trees.0 ≤ 1
+      own_short : IsOwnPart f.opened.record own trees.0 → length trees.0 ≤ 1
       own_short (inl x) = let e = ap length x.1 in omega arith
       own_short (inr x) = let e = ap length x.1 in omega arith
 
-      pub written_small : IsOrdered full_cmp f.compared.now.entered → IsStrictlySortedBy full_cmp f.removed.now.gone.keys → (work : Work) → IsWorkOf s.old s.update s.new work → IsSmall f.compared.now f.removed.now f.regrafted.now d work
+      pub written_small : IsOrdered full_cmp f.compared.entered → IsStrictlySortedBy full_cmp f.removed.gone.keys → (work : Work) → IsWorkOf s.old s.update s.new work → IsSmall f.compared f.removed f.regrafted d work
       written_small entered gone work is = record {
         entered = entered_small s f h work is entered;
         gone = gone_small s f h work is gone;
         nodes = let a = changes_small s f h work is vs sorted becomes in let e = ap length nodes in omega arith;
         trees =
             let e = ap length trees.1 in
-            let a = length-append (f.removed.now.trees.items ++ f.regrafted.now.trees.items) trees.0 in
-            let b = length-append f.removed.now.trees.items f.regrafted.now.trees.items in
+            let a = length-append (f.removed.trees.items ++ f.regrafted.trees.items) trees.0 in
+            let b = length-append f.removed.trees.items f.regrafted.trees.items in
             let c = own_short trees.2 in
             omega arith;
-        events = few_told work is f.opened.now.is_first refl;
+        events = few_told work is f.opened.is_first refl;
       }

@@ -29,8 +29,8 @@ abbrev pub Answers : (FullNodeId → Type 0) → End → FullNodeId → Type 0
 Answers IsThere e id = ((e.active ≡ Some id) × IsThere id) ⊎ ((id ≡ e.id) × ((a : FullNodeId) → e.active ≡ Some a → ¬ (IsThere a)))
 
 -- the node is named, or it was there and doesn't go
-abbrev pub Stays : World → Compared → Removed → FullNodeId → Type 0
-Stays w c r id = IsSome (at c.named id) ⊎ (IsNode w id × ¬ (has r.gone id))
+abbrev pub IsStaying : World → Compared → Removed → FullNodeId → Type 0
+IsStaying w c r id = IsSome (at c.named id) ⊎ (IsNode w id × ¬ (has r.gone id))
 
 -- the node isn't named, and it goes or wasn't there
 abbrev pub IsLost : World → UpdateData → FullNodeId → Type 0
@@ -38,7 +38,7 @@ IsLost w u id = ¬ (IsNamed w u id) × (Gone w u id ⊎ ¬ (IsNode w id))
 
 -- what is asked of a node after the update, and nothing of one that is lost
 abbrev pub FindsAim : World → UpdateData → Compared → Removed → FullNodeId → Option Aim → Type 0
-FindsAim w u c r id aim = MatchOption aim (IsLost w u id) (λ a. Stays w c r id × IsAimIn (merged_world w u) id a)
+FindsAim w u c r id aim = MatchOption aim (IsLost w u id) (λ a. IsStaying w c r id × IsAimIn (merged_world w u) id a)
 
 -- the answer where the host is focused, and else none
 abbrev pub AnswersHost : World → (FullNodeId → Type 0) → End → Option FullNodeId → Type 0

@@ -6,7 +6,7 @@ use Rattle.model.specs.World.{World, in_tree, StandsAt, IsNode, Reached}
 use Rattle.model.specs.Update.{UpdateData, merged_world}
 use Rattle.model.specs.Surgery.{Adopts, LeadsDown}
 use Rattle.model.specs.Work.{named_ids}
-use Rattle.tree_changes.specs.Looks.{IsPlaceOf}
+use Rattle.tree_changes.specs.LookUps.{IsPlaceOf}
 use Rattle.tree_plan.specs.declared.passes.Opened.{Opened}
 use Rattle.tree_plan.specs.declared.passes.Named.{Named}
 use Rattle.tree_plan.specs.declared.passes.Settled.{Settled}
@@ -15,7 +15,7 @@ use Rattle.tree_plan.specs.Passes.{at}
 
 -- the parent of the spot that the node entered, or, where it entered none, of its old place
 abbrev pub IsNext : World → Compared → FullNodeId → FullNodeId → Type 0
-IsNext w c id parent = (k : ℕ) × ((at c.entered id ≡ Some (Some (parent, k))) ⊎ ((at c.entered id ≡ None) × StandsAt w (parent, k) id))
+IsNext w c id parent = (k : ℕ) × ((at c.entered.entries id ≡ Some (Some (parent, k))) ⊎ ((at c.entered.entries id ≡ None) × StandsAt w (parent, k) id))
 
 -- the old place of a named node, if it is an old node
 abbrev pub IsOldPlace : World → FullNodeId → Named → Type 0
@@ -31,8 +31,8 @@ first_ids w u n = take n (named_ids w u)
 
 -- the nodes that climbs from these nodes came to, each with the node from which it was: all of them are reached
 pub record AreClimbed (w : World) (u : UpdateData) (starts : List FullNodeId) (climbed : BTreeMap FullNodeId FullNodeId) : Type 0 where
-  pub reached : (n q : FullNodeId) → at climbed n ≡ Some q → Reached (merged_world w u) n
-  pub begun : (n q : FullNodeId) → at climbed n ≡ Some q → Contains starts q
+  pub reached : (n q : FullNodeId) → at climbed.entries n ≡ Some q → Reached (merged_world w u) n
+  pub begun : (n q : FullNodeId) → at climbed.entries n ≡ Some q → Contains starts q
 
 -- in so many steps a climb from q came to a reached node, or it stayed where it began
 abbrev pub IsWay : World → UpdateData → FullNodeId → ℕ → Type 0

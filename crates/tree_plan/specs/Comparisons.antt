@@ -9,8 +9,8 @@ use Rattle.model.specs.declared.FullNodeId.{FullNodeId}
 use Rattle.model.specs.FullIds.{full_cmp}
 use Rattle.model.specs.World.{ROOT_NAME, World, Place, IsNode, data_of, in_tree, listed_ids, graft_name}
 use Rattle.model.specs.Update.{UpdateData, index_for, merged_world, IsNamed, named_at}
-use Rattle.model.specs.Surgery.{Spot, Left, Entered}
-use Rattle.tree_changes.specs.Looks.{IsPlaceOf}
+use Rattle.model.specs.Surgery.{Seat, Left, Entered}
+use Rattle.tree_changes.specs.LookUps.{IsPlaceOf}
 use Rattle.tree_changes.specs.declared.error.UpdateError.{UpdateError}
 use Rattle.tree_changes.specs.declared.error.UpdateError.TheVariants as error
 use Rattle.tree_plan.specs.declared.passes.Opened.{Opened}
@@ -24,10 +24,10 @@ IsNamedBefore w u count id =
     (id.tree ≡ index_for w u.name) × (k : ℕ) × (k < count) × (named_at u k ≡ Some id.node)
 
 -- the first so many entries name nodes of the tree with this index, each another
-pub record AreTaken (index : ℕ) (u : UpdateData) (count : ℕ) (named : BTreeMap FullNodeId Named) : Type 0 where
+pub record AreEntriesTaken (index : ℕ) (u : UpdateData) (count : ℕ) (named : List (FullNodeId × Named)) : Type 0 where
   pub has : (id : FullNodeId) → IsSome (at named id) ↔ ((id.tree ≡ index) × (k : ℕ) × (k < count) × (named_at u k ≡ Some id.node))
   pub once : (i j : ℕ) (n : NodeId) → i < count → j < count → named_at u i ≡ Some n → named_at u j ≡ Some n → i ≡ j
-  pub count_of : length named.entries ≡ count
+  pub count_of : length named ≡ count
 
 -- two entries name the node, or memory is wanting
 abbrev pub IsNamedTwice : UpdateData → UpdateError → Type 0
@@ -36,23 +36,23 @@ IsNamedTwice u (error.NamedTwice n) = (i j : ℕ) × (i ≢ j) × (named_at u i 
 IsNamedTwice u e = ⊥
 
 abbrev pub SpotMap : Type 0
-SpotMap = FullNodeId → Option Spot
+SpotMap = FullNodeId → Option Seat
 
 -- what P finds at spots has got such a spot, and nothing else has changed
-pub record Gathers (P : FullNodeId → Spot → Type 0) (before after : SpotMap) : Type 0 where
-  pub found : (c : FullNodeId) (s : Spot) → P c s → IsSome (after c)
-  pub others : (c : FullNodeId) → (after c ≡ before c) ⊎ ((s : Spot) × P c s × (after c ≡ Some s))
+pub record Gathers (P : FullNodeId → Seat → Type 0) (before after : SpotMap) : Type 0 where
+  pub found : (c : FullNodeId) (s : Seat) → P c s → IsSome (after c)
+  pub others : (c : FullNodeId) → (after c ≡ before c) ⊎ ((s : Seat) × P c s × (after c ≡ Some s))
 
 -- and what P finds had none before
-pub record GathersNew (P : FullNodeId → Spot → Type 0) (before after : SpotMap) : Type 0 where
-  pub found : (c : FullNodeId) (s : Spot) → P c s → (before c ≡ None) × (after c ≡ Some s)
-  pub others : (c : FullNodeId) → (after c ≡ before c) ⊎ ((s : Spot) × P c s × (after c ≡ Some s))
+pub record GathersNew (P : FullNodeId → Seat → Type 0) (before after : SpotMap) : Type 0 where
+  pub found : (c : FullNodeId) (s : Seat) → P c s → (before c ≡ None) × (after c ≡ Some s)
+  pub others : (c : FullNodeId) → (after c ≡ before c) ⊎ ((s : Seat) × P c s × (after c ≡ Some s))
 
 -- P finds what had a spot before, or has two, or memory is wanting
-abbrev pub IsFoundTwice : (FullNodeId → Spot → Type 0) → SpotMap → UpdateError → Type 0
+abbrev pub IsFoundTwice : (FullNodeId → Seat → Type 0) → SpotMap → UpdateError → Type 0
 IsFoundTwice P before error.Memory = ⊤
 IsFoundTwice P before (error.ListedTwice n) =
-    (c : FullNodeId) × (c.node ≡ n) × (s : Spot) × P c s × (IsSome (before c) ⊎ ((t : Spot) × (s ≢ t) × P c t))
+    (c : FullNodeId) × (c.node ≡ n) × (s : Seat) × P c s × (IsSome (before c) ⊎ ((t : Seat) × (s ≢ t) × P c t))
 IsFoundTwice P before e = ⊥
 
 -- it is the one and not the other
@@ -60,15 +60,15 @@ abbrev pub IsOnly : Option FullNodeId → Option FullNodeId → FullNodeId → T
 IsOnly this other c = (this ≡ Some c) × (other ≢ Some c)
 
 -- at this spot there is this and not the other
-abbrev pub OnlyAt : Spot → Option FullNodeId → Option FullNodeId → FullNodeId → Spot → Type 0
+abbrev pub OnlyAt : Seat → Option FullNodeId → Option FullNodeId → FullNodeId → Seat → Type 0
 OnlyAt spot this other c s = (s ≡ spot) × IsOnly this other c
 
 -- it stands in this list of the parent, and not at the same index of the other one
-abbrev pub OnlyIn : FullNodeId → List FullNodeId → List FullNodeId → FullNodeId → Spot → Type 0
+abbrev pub OnlyIn : FullNodeId → List FullNodeId → List FullNodeId → FullNodeId → Seat → Type 0
 OnlyIn parent this other c s = (k : ℕ) × OnlyAt (Some (parent, k)) (slice_get this k) (slice_get other k) c s
 
 -- the same, at the first so many indexes
-abbrev pub OnlyInBefore : ℕ → FullNodeId → List FullNodeId → List FullNodeId → FullNodeId → Spot → Type 0
+abbrev pub OnlyInBefore : ℕ → FullNodeId → List FullNodeId → List FullNodeId → FullNodeId → Seat → Type 0
 OnlyInBefore count parent this other c s = (k : ℕ) × (k < count) × OnlyAt (Some (parent, k)) (slice_get this k) (slice_get other k) c s
 
 -- what a node with these data lists, in the tree of the id
@@ -106,9 +106,9 @@ pub record IsEntryOf (w : World) (id : FullNodeId) (entry : ℕ) (d : NodeData) 
 -- A node's data are compared with what it listed and grafted before.
 pub record ComparesData (id : FullNodeId) (n : Named) (children : List FullNodeId) (graft : Option TreeId) (d : NodeData) (a b : Compared) : Type 0 where
   pub named : (q : FullNodeId) → at b.named q ≡ (if is_at (full_cmp id) q then Some n else at a.named q)
-  pub count_of : IsSome (at a.named id) → length b.named.entries ≡ length a.named.entries
-  pub left : Gathers (OnlyIn id children (child_ids id d)) (at a.left) (at b.left)
-  pub entered : GathersNew (OnlyIn id (child_ids id d) children) (at a.entered) (at b.entered)
+  pub count_of : IsSome (at a.named id) → length b.named ≡ length a.named
+  pub left : Gathers (OnlyIn id children (child_ids id d)) (at a.left.entries) (at b.left.entries)
+  pub entered : GathersNew (OnlyIn id (child_ids id d) children) (at a.entered.entries) (at b.entered.entries)
   pub regrafted : ChangesGraft graft d.tree_id a b
 
 -- a named node is compared with its old record
@@ -119,21 +119,21 @@ pub record ComparesNode (w : World) (id : FullNodeId) (entry : ℕ) (d : NodeDat
   pub compares : ComparesData id n (listed_ids w id) (graft_name w id) d a b
 
 -- the root is compared with the one before, and nothing else
-pub record Begins (o : Opened) (named : BTreeMap FullNodeId Named) (c : Compared) : Type 0 where
+pub record BeginsComparing (o : Opened) (named : List (FullNodeId × Named)) (c : Compared) : Type 0 where
   pub named_is : c.named ≡ named
-  pub left : Gathers (OnlyAt None (option_map (in_tree o.index) o.record.root) (Some (in_tree o.index o.root))) (λ _. None) (at c.left)
-  pub entered : GathersNew (OnlyAt None (Some (in_tree o.index o.root)) (option_map (in_tree o.index) o.record.root)) (λ _. None) (at c.entered)
+  pub left : Gathers (OnlyAt None (option_map (in_tree o.index) o.record.root) (Some (in_tree o.index o.root))) (λ _. None) (at c.left.entries)
+  pub entered : GathersNew (OnlyAt None (Some (in_tree o.index o.root)) (option_map (in_tree o.index) o.record.root)) (λ _. None) (at c.entered.entries)
   pub grafted : c.grafted.entries ≡ []
   pub lost : c.lost.items ≡ []
   pub gained : c.gained.items ≡ []
 
 -- what can be wrong with it
 abbrev pub IsNodeFault : World → FullNodeId → NodeData → Compared → UpdateError → Type 0
-IsNodeFault w id d a (error.ListedTwice n) = IsFoundTwice (OnlyIn id (child_ids id d) (listed_ids w id)) (at a.entered) (error.ListedTwice n)
+IsNodeFault w id d a (error.ListedTwice n) = IsFoundTwice (OnlyIn id (child_ids id d) (listed_ids w id)) (at a.entered.entries) (error.ListedTwice n)
 IsNodeFault w id d a e = IsGraftFault id d (at_name a.grafted) e
 
 -- the root's spot, and those in the lists of the nodes that the first so many entries name
-abbrev pub IsDone : World → UpdateData → ℕ → Spot → Type 0
+abbrev pub IsDone : World → UpdateData → ℕ → Seat → Type 0
 IsDone w u count None = ⊤
 IsDone w u count (Some p) = IsNamedBefore w u count p.0
 
@@ -143,13 +143,13 @@ pub record AreCompared (w : World) (u : UpdateData) (count : ℕ) (c : Compared)
   pub childless : (n : FullNodeId) (name : TreeId) → IsNamedBefore w u count n → graft_name (merged_world w u) n ≡ Some name → listed_ids (merged_world w u) n ≡ []
   pub is_named : (id : FullNodeId) (n : Named) → IsNamedBefore w u count id → at c.named id ≡ Some n → IsNamedAs w u id n
   pub has_named : (id : FullNodeId) → IsSome (at c.named id) ↔ IsNamed w u id
-  pub left : (id : FullNodeId) (s : Spot) → (at c.left id ≡ Some s) ↔ (Left w u s id × IsDone w u count s)
-  pub entered : (id : FullNodeId) (s : Spot) → (at c.entered id ≡ Some s) ↔ (Entered w u s id × IsDone w u count s)
+  pub left : (id : FullNodeId) (s : Seat) → (at c.left.entries id ≡ Some s) ↔ (Left w u s id × IsDone w u count s)
+  pub entered : (id : FullNodeId) (s : Seat) → (at c.entered.entries id ≡ Some s) ↔ (Entered w u s id × IsDone w u count s)
   pub grafted : (name : TreeId) (n : FullNodeId) → (at_name c.grafted name ≡ Some n) ↔ (IsNamedBefore w u count n × (graft_name (merged_world w u) n ≡ Some name))
   pub lost : (name : TreeId) → Contains c.lost.items name ↔ ((n : FullNodeId) × IsNamedBefore w u count n × (graft_name w n ≡ Some name) × (graft_name (merged_world w u) n ≢ Some name))
   pub gained : (name : TreeId) → Contains c.gained.items name ↔ ((n : FullNodeId) × IsNamedBefore w u count n × (graft_name (merged_world w u) n ≡ Some name) × (graft_name w n ≢ Some name))
   pub lost_once : AllPairs (λ a b. a ≢ b) c.lost.items
   pub gained_once : AllPairs (λ a b. a ≢ b) c.gained.items
-  pub named_count : length c.named.entries ≡ length u.nodes
+  pub named_count : length c.named ≡ length u.nodes
   pub lost_count : length c.lost.items ≤ count
   pub gained_count : length c.gained.items ≤ count

@@ -1,23 +1,25 @@
 -- What the passes find together.
-use Rattle.std.specs.Prelude.{ℕ, ◌+◌, ◌*◌, ◌≤◌, length}
+use Rattle.std.specs.Prelude.{◌≡◌, ℕ, ◌+◌, ◌*◌, ◌≤◌, length}
 use Rattle.model.specs.World.{World}
-use Rattle.model.specs.Update.{UpdateData}
+use Rattle.model.specs.Update.{UpdateData, index_for}
+use Rattle.model.specs.Differences.{told_root}
 use Rattle.model.specs.Work.{named_ids}
 use Rattle.model.specs.Surgery.{IsOld, AreSteps}
-use Rattle.tree_changes.specs.Looks.{IsRaisedAtLeast}
-use Rattle.tree_plan.specs.declared.deciding.Findings.{Findings}
-use Rattle.tree_plan.specs.Passes.{IsOpening, IsComparison, IsRemoval, IsRegrafting}
+use Rattle.tree_changes.specs.LookUps.{IsRaisedAtLeast}
+use Rattle.tree_plan.specs.declared.verdicts.Found.{Found}
+use Rattle.tree_plan.specs.Passes.{HoldsOpened, HoldsCompared, HoldsRemoved, HoldsRegrafted}
 
 -- the passes have named no fault, and have found this
-pub record AreFindings (w : World) (u : UpdateData) (f : Findings) : Type 0 where
+pub record AreFindings (w : World) (u : UpdateData) (f : Found) : Type 0 where
   pub old : IsOld w
-  pub opening : IsOpening w u f.opened
-  pub comparison : IsComparison w u f.compared
-  pub removal : IsRemoval w u f.removed
-  pub regrafting : IsRegrafting w u f.regrafted.trees.items f.regrafted.moved_in
+  pub opening : HoldsOpened w u f.opened
+  pub comparison : HoldsCompared w u f.compared
+  pub removal : HoldsRemoved w u f.removed
+  pub regrafting : HoldsRegrafted w u f.regrafted.trees.items f.regrafted.moved_in
+  pub told : f.told ≡ told_root (index_for w u.name) u.info
 
 -- the look-ups of these passes, one after another, at least one for each named node, and how many trees they change
-pub record IsCount (w : World) (u : UpdateData) (f : Findings) (before after : ℕ) : Type 0 where
+pub record IsCount (w : World) (u : UpdateData) (f : Found) (before after : ℕ) : Type 0 where
   pub steps : ℕ
   pub are_steps : AreSteps w u (named_ids w u) steps
   pub cut : length f.removed.trees.items ≤ length f.removed.gone.keys + length f.compared.lost.items

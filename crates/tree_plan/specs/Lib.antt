@@ -9,4 +9,5 @@ pub mod Refusing
 pub mod Regrafts
 pub mod Aims
 pub mod Climbs
+pub mod Plans
 pub mod Planned

@@ -14,13 +14,13 @@ use Rattle.model.specs.Work.{Work, IsWorkOf, allowance}
 use Rattle.tree_changes.specs.declared.look_ups.TreeRecord.{TreeRecord}
 use Rattle.tree_changes.specs.declared.decision.NodeChange.{NodeChange}
 use Rattle.tree_changes.specs.declared.decision.NodeChange.TheVariants as node
-use Rattle.tree_changes.specs.declared.plan.Change.{Change}
-use Rattle.tree_changes.specs.declared.plan.Change.TheVariants.{Put, Gone, Tree as TreeChange}
-use Rattle.tree_changes.specs.declared.plan.Plan.{Plan}
-use Rattle.tree_changes.specs.Looks.{IsPlaceOf, IsTreeRecord}
+use Rattle.tree_plan.specs.declared.plan.Change.{Change}
+use Rattle.tree_plan.specs.declared.plan.Change.TheVariants.{Put, Gone, Tree as TreeChange}
+use Rattle.tree_plan.specs.declared.plan.Plan.{Plan}
+use Rattle.tree_changes.specs.LookUps.{IsPlaceOf, IsTreeRecord}
 use Rattle.tree_changes.specs.Changes.{entry_of, tree_after}
 use Rattle.tree_changes.specs.Decisions.{Differs, TreeDiffers, names_of}
-use Rattle.tree_changes.specs.Plans.{tree_changes, planned_world}
+use Rattle.tree_plan.specs.Plans.{tree_changes, planned_world}
 
 -- the nodes whose records change
 abbrev pub changed_nodes : List Change → List FullNodeId

@@ -5,7 +5,7 @@ use Rattle.model.specs.declared.FullNodeId.{FullNodeId}
 use Rattle.model.specs.World.{World, Place, Reached}
 use Rattle.model.specs.State.{Lists}
 use Rattle.model.specs.Update.{UpdateData, index_for, merged_world}
-use Rattle.model.specs.Surgery.{Spot, Entered, Gone}
+use Rattle.model.specs.Surgery.{Seat, Entered, Gone}
 use Rattle.tree_changes.specs.declared.error.UpdateError.{UpdateError}
 use Rattle.tree_changes.specs.declared.error.UpdateError.TheVariants as error
 use Rattle.tree_plan.specs.declared.passes.Named.{Named}
@@ -16,7 +16,7 @@ use Rattle.tree_plan.specs.Passes.{at, has}
 
 -- it is new and entered no spot
 abbrev pub IsNowhere : Compared → FullNodeId → Named → Type 0
-IsNowhere c id n = (n.was ≡ None) × (at c.entered id ≡ None)
+IsNowhere c id n = (n.was ≡ None) × (at c.entered.entries id ≡ None)
 
 -- a new named node that entered no spot
 abbrev pub IsUnlisted : Compared → FullNodeId → Type 0
@@ -31,18 +31,18 @@ IsOfUnlisted c e = (id : FullNodeId) × IsUnlisted c id × (e ≡ error.NotReach
 
 -- a node that entered, and stood at this place, hasn't left it, and its parent there doesn't go
 abbrev pub IsDoubled : Compared → Removed → FullNodeId → Option Place → Type 0
-IsDoubled c r id place = (at c.left id ≡ None) × (p : Place) × (place ≡ Some p) × ¬ (has r.gone p.0)
+IsDoubled c r id place = (at c.left.entries id ≡ None) × (p : Place) × (place ≡ Some p) × ¬ (has r.gone p.0)
 
 -- a node that entered is still listed where it was, by a node that doesn't go
 abbrev pub IsListedStill : World → UpdateData → FullNodeId → Type 0
-IsListedStill w u c = (s : Spot) × (q : Place) × Entered w u s c × Lists w q c × Lists (merged_world w u) q c × ¬ (Gone w u q.0)
+IsListedStill w u c = (s : Seat) × (q : Place) × Entered w u s c × Lists w q c × Lists (merged_world w u) q c × ¬ (Gone w u q.0)
 
 -- what is seen is what the queue has
 abbrev pub IsSearch : Search → Type 0
 IsSearch s = (id : FullNodeId) → has s.seen id ↔ Contains s.queue.items id
 
 -- b has what a has, in its order, and these
-pub record Adds (ids : List FullNodeId) (a b : Search) : Type 0 where
+pub record Enqueues (ids : List FullNodeId) (a b : Search) : Type 0 where
   pub search : IsSearch b
   pub queue : (i : ℕ) (id : FullNodeId) → slice_get a.queue.items i ≡ Some id → slice_get b.queue.items i ≡ Some id
   pub added : (id : FullNodeId) → Contains ids id → Contains b.queue.items id

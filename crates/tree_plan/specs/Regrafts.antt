@@ -9,11 +9,11 @@ use Rattle.model.specs.FullIds.{full_cmp}
 use Rattle.model.specs.World.{World, in_tree, index_of, root_named, graft_name}
 use Rattle.model.specs.Update.{UpdateData}
 use Rattle.tree_changes.specs.declared.look_ups.TreeRecord.{TreeRecord}
-use Rattle.tree_changes.specs.Looks.{tree_named}
+use Rattle.tree_changes.specs.LookUps.{tree_named}
 use Rattle.tree_plan.specs.declared.passes.Compared.{Compared}
 use Rattle.tree_plan.specs.declared.passes.Removed.{Removed}
 use Rattle.tree_plan.specs.declared.regrafting.Regrafted.{Regrafted}
-use Rattle.tree_plan.specs.Passes.{at, at_name, has, Gains}
+use Rattle.tree_plan.specs.Passes.{at, at_name, has, GainsGraft}
 
 -- a node grafted the tree of this name, and neither goes nor is named
 abbrev pub HasRival : World → Compared → Removed → TreeId → Type 0
@@ -36,8 +36,8 @@ grafted_record w c name = record {
 -- the root of the tree of this name, if it is present, is moved in below the named node that grafts the tree
 abbrev pub MovesIn : World → Compared → TreeId → BTreeMap FullNodeId FullNodeId → BTreeMap FullNodeId FullNodeId → Type 0
 MovesIn w c name before after =
-    (id g : FullNodeId) → (at after id ≡ Some g)
-    ↔ (((root_named w name ≡ Some id) × (at_name c.grafted name ≡ Some g)) ⊎ ((root_named w name ≢ Some id) × (at before id ≡ Some g)))
+    (id g : FullNodeId) → (at after.entries id ≡ Some g)
+    ↔ (((root_named w name ≡ Some id) × (at_name c.grafted name ≡ Some g)) ⊎ ((root_named w name ≢ Some id) × (at before.entries id ≡ Some g)))
 
 -- the record's root, if there is one, gets the record's graft
 abbrev pub PutsRoot : TreeRecord → BTreeMap FullNodeId FullNodeId → BTreeMap FullNodeId FullNodeId → Type 0
@@ -47,4 +47,4 @@ PutsRoot t before after = (index : ℕ) (node : NodeId) (g : FullNodeId) → t.i
 pub record AreRegrafted (w : World) (u : UpdateData) (c : Compared) (r : Removed) (names : List TreeId) (found : Regrafted) : Type 0 where
   pub free : (name : TreeId) → Contains names name → HasNoRival w c r name
   pub trees : found.trees.items ≡ map (grafted_record w c) names
-  pub moved_in : (id g : FullNodeId) → (at found.moved_in id ≡ Some g) ↔ ((name : TreeId) × Contains names name × Gains w u g name × (root_named w name ≡ Some id))
+  pub moved_in : (id g : FullNodeId) → (at found.moved_in.entries id ≡ Some g) ↔ ((name : TreeId) × Contains names name × GainsGraft w u g name × (root_named w name ≡ Some id))

@@ -4,7 +4,7 @@ use Rattle.model.specs.declared.FullNodeId.{FullNodeId}
 use Rattle.model.specs.World.{World, Place, IsNode, root_of}
 use Rattle.model.specs.State.{Lists}
 use Rattle.model.specs.Update.{UpdateData, index_for, merged_world}
-use Rattle.model.specs.Surgery.{Spot, Entered, HasEntered, Adopts}
+use Rattle.model.specs.Surgery.{Seat, Entered, HasEntered, Adopts}
 use Rattle.tree_plan.specs.declared.passes.Settled.{Settled}
 use Rattle.tree_plan.specs.Passes.{at, has}
 
@@ -21,9 +21,9 @@ pub record StoodAt (w : World) (id : FullNodeId) (was : Option (Option Place)) :
 
 -- b has the place where the node stood, if it is old, and else what a has
 pub record KeepsPlace (id : FullNodeId) (was : Option (Option Place)) (a b : Settled) : Type 0 where
-  pub here : (s : Option Place) → was ≡ Some s → at b.old_places id ≡ Some s
+  pub here : (s : Option Place) → was ≡ Some s → at b.old_places.entries id ≡ Some s
   pub none : was ≡ None → b.old_places ≡ a.old_places
-  pub others : (q : FullNodeId) → id ≢ q → at b.old_places q ≡ at a.old_places q
+  pub others : (q : FullNodeId) → id ≢ q → at b.old_places.entries q ≡ at a.old_places.entries q
   pub adopters : b.adopters ≡ a.adopters
   pub moved : b.has_moved ≡ a.has_moved
 
@@ -40,25 +40,25 @@ pub record KeepsAdopter (parent : FullNodeId) (was : Option (Option Place)) (a b
 
 -- what is kept is so
 pub record IsSettledSoFar (w : World) (u : UpdateData) (a : Settled) : Type 0 where
-  pub found : (c : FullNodeId) (q : Place) → at a.old_places c ≡ Some (Some q) → HasEntered w u c × Lists w q c
+  pub found : (c : FullNodeId) (q : Place) → at a.old_places.entries c ≡ Some (Some q) → HasEntered w u c × Lists w q c
   pub adopters : (n : FullNodeId) → has a.adopters n → Adopts w u n
 
 -- b has what a has
 pub record Settles (w : World) (a b : Settled) : Type 0 where
-  pub listed : (c : FullNodeId) (q : Place) → Lists w q c → at a.old_places c ≡ Some (Some q) → at b.old_places c ≡ Some (Some q)
+  pub listed : (c : FullNodeId) (q : Place) → Lists w q c → at a.old_places.entries c ≡ Some (Some q) → at b.old_places.entries c ≡ Some (Some q)
   pub adopters : (n : FullNodeId) → has a.adopters n → has b.adopters n
   pub moved : b.has_moved ≡ false → a.has_moved ≡ false
 
 -- a node that entered this spot is settled
-pub record IsSettledAt (w : World) (u : UpdateData) (c : FullNodeId) (s : Spot) (a : Settled) : Type 0 where
+pub record IsSettledAt (w : World) (u : UpdateData) (c : FullNodeId) (s : Seat) (a : Settled) : Type 0 where
   pub is_node : IsNode (merged_world w u) c
   pub unlisted : (p : Place) → s ≡ Some p → root_of (merged_world w u) (index_for w u.name) ≢ Some c
-  pub listed : (q : Place) → Lists w q c → at a.old_places c ≡ Some (Some q)
+  pub listed : (q : Place) → Lists w q c → at a.old_places.entries c ≡ Some (Some q)
   pub adopter : (p : Place) → s ≡ Some p → ((j : ℕ) → ¬ (Lists w (p.0, j) c)) → has a.adopters p.0
   pub unmoved : a.has_moved ≡ false → (p : Place) → s ≡ Some p → IsNode w c → (k : ℕ) × Lists w (p.0, k) c
 
 -- one node that entered this spot is settled, from a to b
-pub record SettlesOne (w : World) (u : UpdateData) (c : FullNodeId) (s : Spot) (a b : Settled) : Type 0 where
+pub record SettlesOne (w : World) (u : UpdateData) (c : FullNodeId) (s : Seat) (a b : Settled) : Type 0 where
   pub so_far : IsSettledSoFar w u b
   pub keeps : Settles w a b
   pub here : IsSettledAt w u c s b

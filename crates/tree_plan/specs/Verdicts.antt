@@ -1,6 +1,5 @@
 -- What an accepted update makes of a node.
 use Rattle.std.specs.Prelude.{◌≡◌, ◌≢◌, List, Contains, Option, Some, None}
-use Rattle.std.specs.BTreeMap.{BTreeMap}
 use Rattle.model.specs.declared.FullNodeId.{FullNodeId}
 use Rattle.model.specs.World.{World, Place, IsNode, data_of}
 use Rattle.model.specs.Forest.{place_of}
@@ -9,46 +8,46 @@ use Rattle.model.specs.Differences.{IsAdded, IsInBoth, told_root}
 use Rattle.model.specs.Surgery.{IsOld}
 use Rattle.tree_changes.specs.declared.decision.NodeChange.{NodeChange}
 use Rattle.tree_changes.specs.declared.decision.NodeChange.TheVariants.{Put}
-use Rattle.tree_changes.specs.Looks.{IsPlaceOf}
+use Rattle.tree_changes.specs.LookUps.{IsPlaceOf}
 use Rattle.tree_changes.specs.Changes.{changed_data}
 use Rattle.tree_changes.specs.Decisions.{IsChangeOf}
 use Rattle.tree_plan.specs.declared.verdicts.Verdict.{Verdict}
 use Rattle.tree_plan.specs.declared.verdicts.Verdict.TheVariants.{Added, Renewed, Moved, Told, Removed}
 use Rattle.tree_plan.specs.declared.verdicts.Found.{Found}
-use Rattle.tree_plan.specs.Passes.{at, IsOpening, IsComparison, IsRemoval, IsRegrafting}
+use Rattle.tree_plan.specs.Passes.{at, HoldsOpened, HoldsCompared, HoldsRemoved, HoldsRegrafted}
 
 -- an update, and the worlds before and after it
-pub record Step : Type 0 where
+pub record Transition : Type 0 where
   pub old : World
   pub update : UpdateData
   pub new : World
 
 -- the passes have found this, and the update is accepted
-pub record IsFound (s : Step) (f : Found) : Type 0 where
+pub record IsFound (s : Transition) (f : Found) : Type 0 where
   pub old : IsOld s.old
-  pub opening : IsOpening s.old s.update f.opened.now
-  pub comparison : IsComparison s.old s.update f.compared.now
-  pub removal : IsRemoval s.old s.update f.removed.now
-  pub regrafting : IsRegrafting s.old s.update f.regrafted.now.trees.items f.regrafted.now.moved_in
+  pub opening : HoldsOpened s.old s.update f.opened
+  pub comparison : HoldsCompared s.old s.update f.compared
+  pub removal : HoldsRemoved s.old s.update f.removed
+  pub regrafting : HoldsRegrafted s.old s.update f.regrafted.trees.items f.regrafted.moved_in
   pub kept : KeepsRules s.old s.update
   pub rebuilt : IsRebuild (merged_world s.old s.update) s.new
   pub told : f.told ≡ told_root (index_for s.old s.update.name) s.update.info
 
 -- the change is one of this node, and gives it its data
-abbrev pub Makes : Step → FullNodeId → NodeChange → Type 0
+abbrev pub Makes : Transition → FullNodeId → NodeChange → Type 0
 Makes s id c = IsChangeOf s.old s.update s.new id c × (changed_data s.update.nodes c (data_of s.old id) ≡ data_of s.new id)
 
 -- the node has the data and the place that it had
-abbrev pub Stays : Step → FullNodeId → Type 0
+abbrev pub Stays : Transition → FullNodeId → Type 0
 Stays s id = (data_of s.old id ≡ data_of s.new id) × (place_of s.old id ≡ place_of s.new id)
 
 -- the node comes to this place, which is another than before, or it stays where it was
-abbrev pub Moves : Step → FullNodeId → Option (Option Place) → Type 0
+abbrev pub Moves : Transition → FullNodeId → Option (Option Place) → Type 0
 Moves s id None = place_of s.old id ≡ place_of s.new id
 Moves s id (Some place) = IsNode s.new id × IsPlaceOf s.new id place × (IsNode s.old id → place_of s.old id ≢ place_of s.new id)
 
 -- this becomes of the node
-abbrev pub Becomes : Step → FullNodeId → Option Verdict → Type 0
+abbrev pub Becomes : Transition → FullNodeId → Option Verdict → Type 0
 Becomes s id (Some (Added place entry)) = IsAdded s.old s.new id × Makes s id (Put place (Some entry))
 Becomes s id (Some (Renewed place entry)) = IsInBoth s.old s.new id × Makes s id (Put place (Some entry))
 Becomes s id (Some (Moved place)) = IsInBoth s.old s.new id × Makes s id (Put place None)
@@ -57,14 +56,14 @@ Becomes s id (Some Removed) = IsAdded s.new s.old id
 Becomes s id None = Stays s id × (told_root (index_for s.old s.update.name) s.update.info ≢ Some id)
 
 abbrev pub Verdicts : Type 0
-Verdicts = BTreeMap FullNodeId Verdict
+Verdicts = List (FullNodeId × Verdict)
 
 -- each verdict says what becomes of its node
-abbrev pub AreSound : Step → Verdicts → Type 0
-AreSound s vs = (id : FullNodeId) (v : Verdict) → at vs id ≡ Some v → Becomes s id (Some v)
+abbrev pub AreSound : Transition → Verdicts → Type 0
+AreSound s vs = (id : FullNodeId) (v : Verdict) → Contains vs (id, v) → Becomes s id (Some v)
 
 -- To verdicts, each of which says what becomes of its node, those on these nodes are added.
-pub record Adds (s : Step) (ids : List FullNodeId) (before after : Verdicts) : Type 0 where
+pub record Adds (s : Transition) (ids : List FullNodeId) (before after : Verdicts) : Type 0 where
   pub sound : AreSound s after
   pub judged : (id : FullNodeId) → Contains ids id → Becomes s id (at after id)
   pub kept : (id : FullNodeId) → Becomes s id (at before id) → Becomes s id (at after id)

@@ -79,7 +79,7 @@ own_record name focus o = record { id = name; index = Some o.index; graft = o.re
 pub record AreEvents (vs : Verdicts) (f : Focused) (events : List PlanEvent) : Type 0 where
   pub moved : List PlanEvent
   pub is_move : IsMove (at vs) f.before f.after moved
-  pub all : events ≡ flat_map (told_of group.Added) vs.entries ++ flat_map (told_of group.Updated) vs.entries ++ moved ++ flat_map (told_of group.Removed) vs.entries
+  pub all : events ≡ flat_map (told_of group.Added) vs ++ flat_map (told_of group.Updated) vs ++ moved ++ flat_map (told_of group.Removed) vs
 
 -- the record of the named tree, where it is another than before
 abbrev pub IsOwnPart : TreeRecord → TreeRecord → List TreeRecord → Type 0
@@ -88,7 +88,7 @@ IsOwnPart before own named = ((own ≡ before) × (named ≡ [])) ⊎ ((own ≢ 
 -- the trees that were cut off, those that were gained, and the named one where its record is another than before
 abbrev pub AreTrees : Found → TreeRecord → List TreeRecord → Type 0
 AreTrees f own trees =
-    (named : List TreeRecord) × (trees ≡ f.removed.now.trees.items ++ f.regrafted.now.trees.items ++ named) × IsOwnPart f.opened.now.record own named
+    (named : List TreeRecord) × (trees ≡ f.removed.trees.items ++ f.regrafted.trees.items ++ named) × IsOwnPart f.opened.record own named
 
 -- The lengths of lists against the numbers that bound the look-ups.
 pub record IsSmall (c : Compared) (r : Removed) (g : Regrafted) (d : Decision) (work : Work) : Type 0 where

@@ -5,10 +5,10 @@ ghost use Rattle.model.specs.declared.FullNodeId.{FullNodeId};
 ghost use Rattle.model.specs.World.{IsNode, in_tree};
 ghost use Rattle.model.specs.Work.{named_ids};
 ghost use Rattle.model.specs.Surgery.{IsOld, IsRefined, IsClimbed, AreSteps};
-ghost use Rattle.tree_changes.specs.Looks.{IsPlaceOf, IsRaisedUpTo};
+ghost use Rattle.tree_changes.specs.LookUps.{IsPlaceOf, IsRaisedUpTo};
 ghost use Rattle.tree_changes.specs.Refusals.{IsRefusal};
 ghost use Rattle.tree_plan.specs.declared.passes.Named.{Named};
-ghost use Rattle.tree_plan.specs.Passes.{at, IsOpening, IsComparison, IsSettlement};
+ghost use Rattle.tree_plan.specs.Passes.{at, HoldsOpened, HoldsCompared, HoldsSettled};
 ghost use Rattle.tree_plan.specs.Climbs.{IsNext, IsOldPlace, IsKnown, first_ids, AreClimbed, IsClimbedFrom};
 
 use crate::passes::{Compared, Opened, Settled};
@@ -28,9 +28,9 @@ pub(crate) fn climb_all<L: LookUps>(
     settled: &Settled,
 ) -> Result<(), UpdateError>
     requires old { IsOld (L.world look_ups.old) }
-    requires opening { IsOpening (L.world look_ups.old) (update_data update.now) opened.now }
-    requires comparison { IsComparison (L.world look_ups.old) (update_data update.now) compared.now }
-    requires settlement { IsSettlement (L.world look_ups.old) (update_data update.now) settled.now }
+    requires opening { HoldsOpened (L.world look_ups.old) (update_data update.now) opened.now }
+    requires comparison { HoldsCompared (L.world look_ups.old) (update_data update.now) compared.now }
+    requires settlement { HoldsSettled (L.world look_ups.old) (update_data update.now) settled.now }
     requires refined { IsRefined (L.world look_ups.old) (update_data update.now) }
     ensures world { L.world look_ups.new ≡ L.world look_ups.old }
     ensures err { IfErr result (λ e. IsRefusal (L.world look_ups.old) (update_data update.now) e) }
@@ -82,9 +82,9 @@ fn climb<L: LookUps>(
     entry: usize,
 ) -> Result<(), UpdateError>
     requires old { IsOld (L.world look_ups.old) }
-    requires opening { IsOpening (L.world look_ups.old) (update_data update.now) opened.now }
-    requires comparison { IsComparison (L.world look_ups.old) (update_data update.now) compared.now }
-    requires settlement { IsSettlement (L.world look_ups.old) (update_data update.now) settled.now }
+    requires opening { HoldsOpened (L.world look_ups.old) (update_data update.now) opened.now }
+    requires comparison { HoldsCompared (L.world look_ups.old) (update_data update.now) compared.now }
+    requires settlement { HoldsSettled (L.world look_ups.old) (update_data update.now) settled.now }
     requires refined { IsRefined (L.world look_ups.old) (update_data update.now) }
     requires entry { entry < length update.now.nodes.items }
     requires before { let w = L.world look_ups.old in let u = update_data update.now in
@@ -124,16 +124,12 @@ fn is_known(opened: &Opened, compared: &Compared, settled: &Settled, id: FullNod
         tree: opened.index,
         node: opened.root,
     };
-    if is_same(&id, &root) {
-        return true;
-    }
-    if settled.has_moved {
-        return false;
-    }
-    match compared.named.get(&id) {
-        Some(named) => named.was.is_some(),
-        None => false,
-    }
+    is_same(&id, &root)
+        || (!settled.has_moved
+            && compared
+                .named
+                .get(&id)
+                .is_some_and(|named| named.was.is_some()))
 }
 
 /// The parent after the update of a node that isn't the root and doesn't go.

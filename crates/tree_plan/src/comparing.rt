@@ -1,17 +1,18 @@
 //! The named nodes against their old records.
-ghost use Rattle.std.specs.Prelude.{◌≡◌, ◌≢◌, ◌<◌, ◌↔◌, IsTrue, IfOk, IfErr, OnOk, Some, None, length, map, slice_get};
+ghost use Rattle.std.specs.Prelude.{◌≡◌, ◌≢◌, ◌<◌, ◌↔◌, IsTrue, IfOk, IfErr, OnOk, Some, None, IsSome, length, map, slice_get};
 ghost use Rattle.schema.specs.UpdateData.{update_data};
 ghost use Rattle.model.specs.World.{in_tree};
 ghost use Rattle.model.specs.Surgery.{IsOld};
-ghost use Rattle.tree_changes.specs.Looks.{IsRaisedBy};
+ghost use Rattle.tree_changes.specs.LookUps.{IsRaisedBy};
 ghost use Rattle.tree_changes.specs.declared.error.UpdateError.TheVariants.{Memory};
 ghost use Rattle.tree_changes.specs.Refusals.{IsRefusal};
-ghost use Rattle.tree_plan.specs.Passes.{at, at_name, IsOpening, IsComparison};
-ghost use Rattle.tree_plan.specs.Comparisons.{AreTaken, IsNamedTwice, Gathers, GathersNew, IsFoundTwice, OnlyAt, OnlyIn, child_ids, TakesGraft, IsGraftFault, ChangesGraft, ComparesData, ComparesNode, Begins, IsNodeFault};
+ghost use Rattle.tree_plan.specs.Passes.{at, at_name, HoldsOpened, HoldsCompared};
+ghost use Rattle.tree_plan.specs.Comparisons.{AreEntriesTaken, IsNamedTwice, Gathers, GathersNew, IsFoundTwice, OnlyAt, OnlyIn, child_ids, TakesGraft, IsGraftFault, ChangesGraft, ComparesData, ComparesNode, BeginsComparing, IsNodeFault};
 
 use crate::opening::is_root_tree;
 use crate::passes::{Compared, Named, Opened};
 use model::{FullNodeId, Place};
+use rows::{RowList, Rows};
 use schema::{Node, NodeId, TreeId, TreeUpdate};
 use std::alloc::Global;
 use std::collections::BTreeMap;
@@ -25,48 +26,41 @@ pub(crate) fn full_id(index: u32, node: NodeId) -> FullNodeId
 }
 
 /// The named nodes, each by its entry, and as if it were new.
-fn take(
-    alloc: Global,
-    index: u32,
-    update: &TreeUpdate,
-) -> Result<BTreeMap<FullNodeId, Named>, UpdateError>
+fn take(alloc: Global, index: u32, update: &TreeUpdate) -> Result<Rows<Named>, UpdateError>
     ensures ok { IfOk result (λ named.
-        AreTaken index (update_data update.now) (length update.now.nodes.items) named) }
+        AreEntriesTaken index (update_data update.now) (length update.now.nodes.items) named) }
     ensures err { IfErr result (λ e. IsNamedTwice (update_data update.now) e) }
 {
-    let mut named = BTreeMap::new(alloc);
+    let mut list = RowList::with_capacity(alloc, update.nodes.len())?;
     for (entry, item) in update.nodes.iter().enumerate() {
         let as_new = Named {
             entry,
             was: None,
             is_news: true,
         };
-        let earlier = named.insert(full_id(index, item.0), as_new)?;
-        if earlier.is_some() {
-            return Err(UpdateError::NamedTwice(item.0));
-        }
+        list.push(full_id(index, item.0), as_new)?;
     }
-    Ok(named)
+    match list.settle() {
+        Ok(named) => Ok(named),
+        Err(id) => Err(UpdateError::NamedTwice(id.node)),
+    }
 }
 
 /// The child at an index of a list.
 fn child_at(parent: FullNodeId, children: &[NodeId], index: usize) -> Option<FullNodeId>
     ensures { result ≡ slice_get (map (in_tree parent.tree) children.now) index }
 {
-    if index >= children.len() {
-        return None;
-    }
-    Some(full_id(parent.tree, children[index]))
+    children
+        .get(index)
+        .map(|child| full_id(parent.tree, *child))
 }
 
 /// Whether a node's data are others than before.
 fn is_news(old: &Node, node: &Node) -> bool
     ensures { IsTrue result ↔ (old.now ≢ node.now) }
 {
-    if *old == *node {
-        return false;
-    }
-    true
+    // what `==` ensures is exact, and what `!=` ensures isn't
+    !(*old == *node)
 }
 
 impl Compared {
@@ -78,15 +72,15 @@ impl Compared {
         new: Option<FullNodeId>,
     ) -> Result<(), UpdateError>
         ensures left { OnOk result
-            (Gathers (OnlyAt spot old new) (at self.old.left) (at self.new.left)) }
+            (Gathers (OnlyAt spot old new) (at self.old.left.entries) (at self.new.left.entries)) }
         ensures entered { OnOk result
-            (GathersNew (OnlyAt spot new old) (at self.old.entered) (at self.new.entered)) }
+            (GathersNew (OnlyAt spot new old) (at self.old.entered.entries) (at self.new.entered.entries)) }
         ensures rest { self.new ≡ record self.old {
           left = self.new.left;
           entered = self.new.entered;
         } }
         ensures err { IfErr result (λ e.
-            IsFoundTwice (OnlyAt spot new old) (at self.old.entered) e) }
+            IsFoundTwice (OnlyAt spot new old) (at self.old.entered.entries) e) }
     {
         if old == new {
             return Ok(());
@@ -113,17 +107,17 @@ impl Compared {
     ) -> Result<(), UpdateError>
         ensures left { OnOk result (Gathers
             (OnlyIn parent (map (in_tree parent.tree) old.now) (map (in_tree parent.tree) new.now))
-            (at self.old.left) (at self.new.left)) }
+            (at self.old.left.entries) (at self.new.left.entries)) }
         ensures entered { OnOk result (GathersNew
             (OnlyIn parent (map (in_tree parent.tree) new.now) (map (in_tree parent.tree) old.now))
-            (at self.old.entered) (at self.new.entered)) }
+            (at self.old.entered.entries) (at self.new.entered.entries)) }
         ensures rest { self.new ≡ record self.old {
           left = self.new.left;
           entered = self.new.entered;
         } }
         ensures err { IfErr result (λ e. IsFoundTwice
             (OnlyIn parent (map (in_tree parent.tree) new.now) (map (in_tree parent.tree) old.now))
-            (at self.old.entered) e) }
+            (at self.old.entered.entries) e) }
     {
         for index in 0..old.len().max(new.len()) {
             let was = child_at(parent, old, index);
@@ -190,14 +184,16 @@ impl Compared {
         graft: Option<TreeId>,
         node: &Node,
     ) -> Result<(), UpdateError>
+        requires there { IsSome (at self.old.named id) }
         ensures ok { OnOk result (ComparesData id named
             (map (in_tree id.tree) children.now) graft node.now self.old self.new) }
         ensures rest { self.new.grafted ≡ self.old.grafted }
         ensures err { IfErr result (λ e. IsFoundTwice
             (OnlyIn id (child_ids id node.now) (map (in_tree id.tree) children.now))
-            (at self.old.entered) e) }
+            (at self.old.entered.entries) e) }
     {
-        self.named.insert(id, named)?;
+        let mut near = named.entry;
+        self.named.change_near(id, named, &mut near);
         self.compare_lists(id, children, node.children())?;
         self.compare_grafts(graft, node.tree_id())
     }
@@ -210,6 +206,7 @@ impl Compared {
         entry: usize,
         node: &Node,
     ) -> Result<(), UpdateError>
+        requires there { IsSome (at self.old.named id) }
         ensures world { L.world look_ups.new ≡ L.world look_ups.old }
         ensures count { OnOk result (IsRaisedBy (L.asked look_ups.old) 1 (L.asked look_ups.new)) }
         ensures ok { OnOk result
@@ -235,12 +232,8 @@ impl Compared {
     }
 
     /// Compares the root with the one before.
-    fn begin(
-        alloc: Global,
-        named: BTreeMap<FullNodeId, Named>,
-        opened: &Opened,
-    ) -> Result<Compared, UpdateError>
-        ensures ok { IfOk result (λ c. Begins opened.now named c) }
+    fn begin(alloc: Global, named: Rows<Named>, opened: &Opened) -> Result<Compared, UpdateError>
+        ensures ok { IfOk result (λ c. BeginsComparing opened.now named c) }
         ensures err { IfErr result (λ e. e ≡ Memory) }
     {
         let mut compared = Compared {
@@ -266,11 +259,11 @@ pub(crate) fn compare<L: LookUps>(
     opened: &Opened,
 ) -> Result<Compared, UpdateError>
     requires old { IsOld (L.world look_ups.old) }
-    requires opened { IsOpening (L.world look_ups.old) (update_data update.now) opened.now }
+    requires opened { HoldsOpened (L.world look_ups.old) (update_data update.now) opened.now }
     ensures world { L.world look_ups.new ≡ L.world look_ups.old }
     ensures count { OnOk result
         (IsRaisedBy (L.asked look_ups.old) (length update.now.nodes.items) (L.asked look_ups.new)) }
-    ensures ok { IfOk result (λ c. IsComparison (L.world look_ups.old) (update_data update.now) c) }
+    ensures ok { IfOk result (λ c. HoldsCompared (L.world look_ups.old) (update_data update.now) c) }
     ensures err { IfErr result (λ e. IsRefusal (L.world look_ups.old) (update_data update.now) e) }
 {
     let named = take(alloc, opened.index, update)?;

@@ -4,21 +4,20 @@ ghost use Rattle.schema.specs.UpdateData.{update_data};
 ghost use Rattle.model.specs.Update.{IsRebuild, KeepsRules, merged_world};
 ghost use Rattle.model.specs.Work.{Work, IsWorkOf};
 ghost use Rattle.model.specs.Surgery.{IsOld};
-ghost use Rattle.tree_changes.specs.Looks.{IsRaisedAtLeast, IsRaisedUpTo};
+ghost use Rattle.tree_changes.specs.LookUps.{IsRaisedAtLeast, IsRaisedUpTo};
 ghost use Rattle.tree_changes.specs.Changes.{overlaid_world};
 ghost use Rattle.tree_changes.specs.Decisions.{IsDecision, IsWithinWork};
 ghost use Rattle.tree_changes.specs.Refusals.{IsRefusal};
 ghost use Rattle.tree_plan.specs.Deciding.{AreFindings, IsCount};
-ghost use Rattle.tree_plan.specs.Verdicts.{Step};
+ghost use Rattle.tree_plan.specs.Verdicts.{Transition};
 ghost use Rattle.tree_plan.specs.Writing.{IsSmall};
 
 use crate::climbing::climb_all;
 use crate::comparing::compare;
 use crate::focusing::find_focus;
 use crate::opening::open_tree;
-use crate::passes::{Compared, Opened, Removed};
 use crate::refusing::refuse_misplaced;
-use crate::regrafting::{Regrafted, regraft};
+use crate::regrafting::regraft;
 use crate::removing::remove;
 use crate::settling::settle;
 use crate::verdicts::Found;
@@ -27,21 +26,12 @@ use schema::TreeUpdate;
 use std::alloc::Global;
 use tree_changes::{Decision, LookUps, UpdateError};
 
-/// What the passes find.
-#[derive(Drop)]
-pub(crate) struct Findings {
-    pub(crate) opened: Opened,
-    pub(crate) compared: Compared,
-    pub(crate) removed: Removed,
-    pub(crate) regrafted: Regrafted,
-}
-
 /// The passes, one after another.
 fn find<L: LookUps>(
     alloc: Global,
     look_ups: &mut L,
     update: &TreeUpdate,
-) -> Result<Findings, UpdateError>
+) -> Result<Found, UpdateError>
     ensures world { L.world look_ups.new ≡ L.world look_ups.old }
     ensures old { IsOld (L.world look_ups.old) }
     ensures err { IfErr result (λ e. IsRefusal (L.world look_ups.old) (update_data update.now) e) }
@@ -50,6 +40,7 @@ fn find<L: LookUps>(
         IsCount (L.world look_ups.old) (update_data update.now) f (L.asked look_ups.old) (L.asked look_ups.new)) }
 {
     let opened = open_tree(look_ups, update)?;
+    let told = told_root(&opened, update);
     let compared = compare(alloc, look_ups, update, &opened)?;
     let settled = settle(alloc, look_ups, update, &opened, &compared)?;
     let removed = remove(alloc, look_ups, update, &compared)?;
@@ -58,11 +49,12 @@ fn find<L: LookUps>(
     )?;
     climb_all(alloc, look_ups, update, &opened, &compared, &settled)?;
     let regrafted = regraft(alloc, look_ups, update, &compared, &removed)?;
-    Ok(Findings {
+    Ok(Found {
         opened,
         compared,
         removed,
         regrafted,
+        told,
     })
 }
 
@@ -71,10 +63,10 @@ fn conclude<L: LookUps>(
     alloc: Global,
     look_ups: &mut L,
     update: &TreeUpdate,
-    findings: &Findings,
+    findings: &Found,
     before: u128,
 ) -> Result<Decision, UpdateError>
-    ghost step: { Step }
+    ghost step: { Transition }
     requires old { step.old ≡ L.world look_ups.old }
     requires update { step.update ≡ update_data update.now }
     requires new { IsRebuild (merged_world step.old step.update) step.new }
@@ -90,27 +82,23 @@ fn conclude<L: LookUps>(
     ensures count { OnOk result (let most = 4 * length (merged_world step.old step.update).known + 2 in
         IsRaisedUpTo (L.asked look_ups.old) most (L.asked look_ups.new)) }
 {
-    let Findings {
+    let Found {
         opened,
         compared,
         removed,
-        regrafted,
+        ..
     } = findings;
     let focused = find_focus(look_ups, update, opened, compared, removed)?;
-    let told = told_root(opened, update);
-    let found = Found {
-        opened,
-        compared,
-        removed,
-        regrafted,
-        told,
-    };
     let looked = look_ups.count().saturating_sub(before);
-    write(alloc, update, found, &focused, looked)
+    write(alloc, update, findings, &focused, looked)
 }
 
-/// The decision on an update: a refusal names a fault that stands, or it is want of memory. At least one record is looked up
-/// for each node that the update names.
+/// The decision on an update. At least one record is looked up for each node that the update names.
+///
+/// # Errors
+///
+/// `UpdateError::Memory`: memory was wanting. Each other error names a fault of the update, which stands. The world that is
+/// looked up is the same.
 pub fn decide<L: LookUps>(
     alloc: Global,
     look_ups: &mut L,

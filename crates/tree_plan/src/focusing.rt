@@ -8,11 +8,11 @@ ghost use Rattle.model.specs.Focus.{IsFocus};
 ghost use Rattle.model.specs.Update.{IsFirst, KeepsRules, merged_world};
 ghost use Rattle.model.specs.Surgery.{IsOld, IsPassed};
 ghost use Rattle.schema.specs.NodeData.{NodeData};
-ghost use Rattle.tree_changes.specs.Looks.{IsRaisedUpTo};
+ghost use Rattle.tree_changes.specs.LookUps.{IsRaisedUpTo};
 ghost use Rattle.tree_changes.specs.Changes.{entry_data};
 ghost use Rattle.tree_changes.specs.Refusals.{IsRefusal};
-ghost use Rattle.tree_plan.specs.Passes.{IsOpening, IsComparison, IsRemoval, IsFocusing};
-ghost use Rattle.tree_plan.specs.Aims.{IsAimOf, IsAimIn, IsEnd, Answers, AnswersHost, FindsAim, EndsWell, Stays};
+ghost use Rattle.tree_plan.specs.Passes.{HoldsOpened, HoldsCompared, HoldsRemoved, IsFocusing};
+ghost use Rattle.tree_plan.specs.Aims.{IsAimOf, IsAimIn, IsEnd, Answers, AnswersHost, FindsAim, EndsWell, IsStaying};
 
 use crate::passes::{Compared, Focused, Opened, Removed};
 use crate::records::tree_record;
@@ -44,9 +44,9 @@ pub(crate) fn find_focus<L: LookUps>(
 ) -> Result<Focused, UpdateError>
     requires old { IsOld (L.world look_ups.old) }
     requires present { ¬ (IsFirst (L.world look_ups.old)) → IsSome (get (L.world look_ups.old).trees 0) }
-    requires opening { IsOpening (L.world look_ups.old) (update_data update.now) opened.now }
-    requires comparison { IsComparison (L.world look_ups.old) (update_data update.now) compared.now }
-    requires removal { IsRemoval (L.world look_ups.old) (update_data update.now) removed.now }
+    requires opening { HoldsOpened (L.world look_ups.old) (update_data update.now) opened.now }
+    requires comparison { HoldsCompared (L.world look_ups.old) (update_data update.now) compared.now }
+    requires removal { HoldsRemoved (L.world look_ups.old) (update_data update.now) removed.now }
     requires passed { IsPassed (L.world look_ups.old) (update_data update.now) }
     ensures world { L.world look_ups.new ≡ L.world look_ups.old }
     ensures err { IfErr result (λ e. IsRefusal (L.world look_ups.old) (update_data update.now) e) }
@@ -129,7 +129,7 @@ fn focus_after<L: LookUps>(
     ensures world { L.world look_ups.new ≡ L.world look_ups.old }
     ensures counts { IsRaisedUpTo (L.asked look_ups.old) 1 (L.asked look_ups.new) }
     ensures focus { let w = L.world look_ups.old in
-        AnswersHost w (Stays w compared.now removed.now) end.now result }
+        AnswersHost w (IsStaying w compared.now removed.now) end.now result }
 {
     if !look_ups.is_host_focused() {
         return None;
@@ -146,7 +146,7 @@ fn active_after<L: LookUps>(
 ) -> FullNodeId
     ensures world { L.world look_ups.new ≡ L.world look_ups.old }
     ensures counts { IsRaisedUpTo (L.asked look_ups.old) 1 (L.asked look_ups.new) }
-    ensures answer { Answers (Stays (L.world look_ups.old) compared.now removed.now) end.now result }
+    ensures answer { Answers (IsStaying (L.world look_ups.old) compared.now removed.now) end.now result }
 {
     let Some(active) = end.active else {
         return end.id;
@@ -166,15 +166,9 @@ fn stays<L: LookUps>(
 ) -> bool
     ensures world { L.world look_ups.new ≡ L.world look_ups.old }
     ensures counts { IsRaisedUpTo (L.asked look_ups.old) 1 (L.asked look_ups.new) }
-    ensures stays { IsTrue result ↔ Stays (L.world look_ups.old) compared.now removed.now id }
+    ensures stays { IsTrue result ↔ IsStaying (L.world look_ups.old) compared.now removed.now id }
 {
-    if compared.named.contains_key(&id) {
-        return true;
-    }
-    if removed.gone.contains(&id) {
-        return false;
-    }
-    look_ups.node(id).is_some()
+    compared.named.contains_key(&id) || (!removed.gone.contains(&id) && look_ups.node(id).is_some())
 }
 
 /// Where the focus comes to after the update.
@@ -186,9 +180,9 @@ fn end_after<L: LookUps>(
     removed: &Removed,
 ) -> Result<End, UpdateError>
     requires old { IsOld (L.world look_ups.old) }
-    requires opening { IsOpening (L.world look_ups.old) (update_data update.now) opened.now }
-    requires comparison { IsComparison (L.world look_ups.old) (update_data update.now) compared.now }
-    requires removal { IsRemoval (L.world look_ups.old) (update_data update.now) removed.now }
+    requires opening { HoldsOpened (L.world look_ups.old) (update_data update.now) opened.now }
+    requires comparison { HoldsCompared (L.world look_ups.old) (update_data update.now) compared.now }
+    requires removal { HoldsRemoved (L.world look_ups.old) (update_data update.now) removed.now }
     requires passed { IsPassed (L.world look_ups.old) (update_data update.now) }
     ensures world { L.world look_ups.new ≡ L.world look_ups.old }
     ensures err { IfErr result (λ e. IsRefusal (L.world look_ups.old) (update_data update.now) e) }
@@ -223,8 +217,8 @@ fn aim_after<L: LookUps>(
     id: FullNodeId,
 ) -> Option<Aim>
     requires old { IsOld (L.world look_ups.old) }
-    requires comparison { IsComparison (L.world look_ups.old) (update_data update.now) compared.now }
-    requires removal { IsRemoval (L.world look_ups.old) (update_data update.now) removed.now }
+    requires comparison { HoldsCompared (L.world look_ups.old) (update_data update.now) compared.now }
+    requires removal { HoldsRemoved (L.world look_ups.old) (update_data update.now) removed.now }
     ensures world { L.world look_ups.new ≡ L.world look_ups.old }
     ensures counts { IsRaisedUpTo (L.asked look_ups.old) 1 (L.asked look_ups.new) }
     ensures aim { FindsAim (L.world look_ups.old) (update_data update.now) compared.now removed.now id result }
@@ -284,7 +278,7 @@ fn declared_after<L: LookUps>(
     name: &TreeId,
 ) -> Option<FullNodeId>
     requires old { IsOld (L.world look_ups.old) }
-    requires opening { IsOpening (L.world look_ups.old) (update_data update.now) opened.now }
+    requires opening { HoldsOpened (L.world look_ups.old) (update_data update.now) opened.now }
     ensures world { L.world look_ups.new ≡ L.world look_ups.old }
     ensures counts { IsRaisedUpTo (L.asked look_ups.old) 1 (L.asked look_ups.new) }
     ensures focus { result ≡ focus_named (merged_world (L.world look_ups.old) (update_data update.now)) name.now }

@@ -8,6 +8,7 @@ mod deciding;
 mod focusing;
 mod opening;
 mod passes;
+mod plan;
 mod planning;
 mod records;
 mod refusing;
@@ -18,4 +19,5 @@ mod verdicts;
 mod writing;
 
 pub use deciding::decide;
+pub use plan::{Change, Plan};
 pub use planning::plan_update;

@@ -5,10 +5,10 @@ ghost use Rattle.schema.specs.UpdateData.{info_data, update_data};
 ghost use Rattle.model.specs.World.{ROOT_NAME};
 ghost use Rattle.model.specs.Surgery.{IsOld};
 ghost use Rattle.model.specs.Update.{IsFirst};
-ghost use Rattle.tree_changes.specs.Looks.{IsRaisedUpTo};
+ghost use Rattle.tree_changes.specs.LookUps.{IsRaisedUpTo};
 ghost use Rattle.tree_changes.specs.declared.error.UpdateError.TheVariants.{MissingTreeInfo, NotRootTree, NoFirstTreeInfo, IndexesUsedUp};
 ghost use Rattle.tree_changes.specs.Refusals.{IsRefusal};
-ghost use Rattle.tree_plan.specs.Passes.{IsOpening};
+ghost use Rattle.tree_plan.specs.Passes.{HoldsOpened};
 
 use crate::passes::Opened;
 use crate::records::{no_record, tree_record};
@@ -76,7 +76,7 @@ fn open_later<L: LookUps>(look_ups: &mut L, update: &TreeUpdate) -> Result<Opene
     requires { ¬ (IsFirst (L.world look_ups.old)) }
     ensures world { L.world look_ups.new ≡ L.world look_ups.old }
     ensures count { IsRaisedUpTo (L.asked look_ups.old) 1 (L.asked look_ups.new) }
-    ensures ok { IfOk result (λ o. IsOpening (L.world look_ups.old) (update_data update.now) o) }
+    ensures ok { IfOk result (λ o. HoldsOpened (L.world look_ups.old) (update_data update.now) o) }
     ensures err { IfErr result (λ e. IsRefusal (L.world look_ups.old) (update_data update.now) e) }
 {
     let known = look_ups.known_trees();
@@ -104,7 +104,7 @@ pub(crate) fn open_tree<L: LookUps>(
     ensures world { L.world look_ups.new ≡ L.world look_ups.old }
     ensures count { IsRaisedUpTo (L.asked look_ups.old) 1 (L.asked look_ups.new) }
     ensures old { IsOld (L.world look_ups.old) }
-    ensures ok { IfOk result (λ o. IsOpening (L.world look_ups.old) (update_data update.now) o) }
+    ensures ok { IfOk result (λ o. HoldsOpened (L.world look_ups.old) (update_data update.now) o) }
     ensures err { IfErr result (λ e. IsRefusal (L.world look_ups.old) (update_data update.now) e) }
 {
     if look_ups.known_trees() > 0 {

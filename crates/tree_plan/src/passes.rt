@@ -1,5 +1,6 @@
 //! What each pass finds.
 use model::{FullNodeId, Place};
+use rows::Rows;
 use schema::{NodeId, TreeId};
 use std::collections::{BTreeMap, BTreeSet};
 use tree_changes::TreeRecord;
@@ -26,7 +27,7 @@ pub(crate) struct Named {
 /// The named nodes against their old records. A spot is a place in a list, or `None`, where a tree's root stands.
 #[derive(Drop)]
 pub(crate) struct Compared {
-    pub(crate) named: BTreeMap<FullNodeId, Named>,
+    pub(crate) named: Rows<Named>,
     /// What was at a spot and is there no more, with the spot.
     pub(crate) left: BTreeMap<FullNodeId, Option<Place>>,
     /// What is at a spot and wasn't there, with the spot.

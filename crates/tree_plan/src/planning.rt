@@ -2,18 +2,19 @@
 ghost use Rattle.std.specs.Prelude.{◌≡◌, ◌≢◌, ℕ, List, Option, ◌++◌, map, option_map, IfOk, IfErr, OnOk, Some};
 ghost use Rattle.schema.specs.UpdateData.{info_data, update_data};
 ghost use Rattle.tree_changes.specs.declared.error.UpdateError.TheVariants.{Memory};
-ghost use Rattle.tree_changes.specs.declared.plan.Change.TheVariants.{Tree};
+ghost use Rattle.tree_plan.specs.declared.plan.Change.TheVariants.{Tree};
 ghost use Rattle.tree_changes.specs.Refusals.{IsRefusal};
 ghost use Rattle.tree_changes.specs.Changes.{entry_of};
-ghost use Rattle.tree_changes.specs.Plans.{replaced_texts};
+ghost use Rattle.tree_plan.specs.Plans.{replaced_texts};
 ghost use Rattle.tree_plan.specs.Planned.{IsPlan, IsPlannedWithin, plan_change, AreTakenOnce, slot_data, replaces};
 
 use crate::deciding::decide;
 use crate::opening::is_root_tree;
+use crate::plan::{Change, Plan};
 use model::FullNodeId;
 use schema::{Node, NodeId, TreeInfo, TreeUpdate};
 use std::alloc::Global;
-use tree_changes::{Change, LookUps, NodeChange, Plan, ToolkitTexts, TreeRecord, UpdateError};
+use tree_changes::{LookUps, NodeChange, ToolkitTexts, TreeRecord, UpdateError};
 
 /// The data of the update's entries, each to be taken once.
 fn slots_of(alloc: Global, nodes: Vec<(NodeId, Node)>) -> Result<Vec<Option<Node>>, UpdateError>
@@ -32,10 +33,7 @@ fn take_data(slots: &mut Vec<Option<Node>>, entry: usize) -> Option<Node>
     ensures taken { result ≡ slot_data slots.old.items entry }
     ensures others { (k : ℕ) → k ≢ entry → slot_data slots.new.items k ≡ slot_data slots.old.items k }
 {
-    if entry >= slots.len() {
-        return None;
-    }
-    slots[entry].take()
+    slots.get_mut(entry)?.take()
 }
 
 /// The change of a node's record, with its data.
@@ -89,9 +87,7 @@ fn toolkit_texts(tree: Option<TreeInfo>, is_root: bool) -> Option<ToolkitTexts>
     ensures { (before : Option (List ℕ) × Option (List ℕ))
         → replaced_texts result before ≡ replaces (option_map info_data tree) is_root before }
 {
-    let Some(info) = tree else {
-        return None;
-    };
+    let info = tree?;
     if !is_root {
         return None;
     }
@@ -103,7 +99,11 @@ fn toolkit_texts(tree: Option<TreeInfo>, is_root: bool) -> Option<ToolkitTexts>
     Some((toolkit_name, toolkit_version))
 }
 
-/// The plan of an update: a refusal names a fault that stands, or it is want of memory.
+/// The plan of an update.
+///
+/// # Errors
+///
+/// `UpdateError`, as [`decide`].
 pub fn plan_update<L: LookUps>(
     alloc: Global,
     look_ups: &mut L,

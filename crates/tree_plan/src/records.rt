@@ -1,6 +1,6 @@
 //! Records by look-ups.
 ghost use Rattle.std.specs.Prelude.{◌≡◌, None};
-ghost use Rattle.tree_changes.specs.Looks.{raised_count};
+ghost use Rattle.tree_changes.specs.LookUps.{raised_count};
 ghost use Rattle.tree_plan.specs.Passes.{IsOfName};
 
 use schema::TreeId;

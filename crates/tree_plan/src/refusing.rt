@@ -7,8 +7,8 @@ ghost use Rattle.model.specs.Update.{merged_world};
 ghost use Rattle.model.specs.Surgery.{IsOld, IsRefined};
 ghost use Rattle.tree_changes.specs.Refusals.{IsRefusal};
 ghost use Rattle.tree_changes.specs.declared.error.UpdateError.TheVariants.{Memory};
-ghost use Rattle.tree_plan.specs.Passes.{at, IsOpening, IsComparison, IsSettlement, IsRemoval};
-ghost use Rattle.tree_plan.specs.Refusing.{IsNowhere, AreListed, IsOfUnlisted, IsDoubled, IsListedStill, IsSearch, Adds, HasReached, SearchesAll, Explains};
+ghost use Rattle.tree_plan.specs.Passes.{at, HoldsOpened, HoldsCompared, HoldsSettled, HoldsRemoved};
+ghost use Rattle.tree_plan.specs.Refusing.{IsNowhere, AreListed, IsOfUnlisted, IsDoubled, IsListedStill, IsSearch, Enqueues, HasReached, SearchesAll, Explains};
 
 use crate::passes::{Compared, Named, Opened, Removed, Settled};
 use model::{FullNodeId, Place};
@@ -21,10 +21,7 @@ use tree_changes::{LookUps, UpdateError};
 fn is_nowhere(compared: &Compared, id: FullNodeId, named: &Named) -> bool
     ensures { IsTrue result ↔ IsNowhere compared.now id named.now }
 {
-    if named.was.is_some() {
-        return false;
-    }
-    !compared.entered.contains_key(&id)
+    named.was.is_none() && !compared.entered.contains_key(&id)
 }
 
 /// Refuses a new named node that entered no spot.
@@ -32,9 +29,9 @@ fn refuse_unlisted(compared: &Compared) -> Result<(), UpdateError>
     ensures ok { OnOk result (AreListed compared.now) }
     ensures err { IfErr result (IsOfUnlisted compared.now) }
 {
-    for (id, named) in &compared.named {
-        if is_nowhere(compared, *id, named) {
-            return Err(UpdateError::NotReached(id.node));
+    for item in compared.named.entries() {
+        if is_nowhere(compared, item.0, &item.1) {
+            return Err(UpdateError::NotReached(item.0.node));
         }
     }
     Ok(())
@@ -44,13 +41,8 @@ fn refuse_unlisted(compared: &Compared) -> Result<(), UpdateError>
 fn is_doubled(compared: &Compared, removed: &Removed, id: FullNodeId, place: Option<Place>) -> bool
     ensures { IsTrue result ↔ IsDoubled compared.now removed.now id place }
 {
-    if compared.left.contains_key(&id) {
-        return false;
-    }
-    let Some((parent, _)) = place else {
-        return false;
-    };
-    !removed.gone.contains(&parent)
+    !compared.left.contains_key(&id)
+        && place.is_some_and(|(parent, _)| !removed.gone.contains(&parent))
 }
 
 /// What a search has come to, also in the order in which it did.
@@ -63,7 +55,7 @@ struct Search {
 /// Comes to a node.
 fn add(search: &mut Search, id: FullNodeId) -> Result<(), UpdateError>
     requires search { IsSearch search.old }
-    ensures ok { OnOk result (Adds (id ∷ []) search.old search.new) }
+    ensures ok { OnOk result (Enqueues (id ∷ []) search.old search.new) }
     ensures err { IfErr result (λ e. e ≡ Memory) }
 {
     if search.seen.contains(&id) {
@@ -81,7 +73,7 @@ fn add_children(
     children: &[NodeId],
 ) -> Result<(), UpdateError>
     requires search { IsSearch search.old }
-    ensures ok { OnOk result (Adds (map (in_tree parent.tree) children.now) search.old search.new) }
+    ensures ok { OnOk result (Enqueues (map (in_tree parent.tree) children.now) search.old search.new) }
     ensures err { IfErr result (λ e. e ≡ Memory) }
 {
     for child in children {
@@ -102,10 +94,10 @@ fn visit<L: LookUps>(
     compared: &Compared,
     id: FullNodeId,
 ) -> Result<(), UpdateError>
-    requires compared { IsComparison (L.world look_ups.old) (update_data update.now) compared.now }
+    requires compared { HoldsCompared (L.world look_ups.old) (update_data update.now) compared.now }
     requires search { IsSearch search.old }
     ensures world { L.world look_ups.new ≡ L.world look_ups.old }
-    ensures ok { OnOk result (Adds
+    ensures ok { OnOk result (Enqueues
         (listed_ids (merged_world (L.world look_ups.old) (update_data update.now)) id) search.old search.new) }
     ensures err { IfErr result (λ e. e ≡ Memory) }
 {
@@ -125,7 +117,7 @@ fn work_off<L: LookUps>(
     update: &TreeUpdate,
     compared: &Compared,
 ) -> Result<(), UpdateError>
-    requires compared { IsComparison (L.world look_ups.old) (update_data update.now) compared.now }
+    requires compared { HoldsCompared (L.world look_ups.old) (update_data update.now) compared.now }
     requires search { IsSearch search.old }
     ensures world { L.world look_ups.new ≡ L.world look_ups.old }
     ensures ok { OnOk result
@@ -151,8 +143,8 @@ fn find_reached<L: LookUps>(
     compared: &Compared,
 ) -> Result<BTreeSet<FullNodeId>, UpdateError>
     requires old { IsOld (L.world look_ups.old) }
-    requires opening { IsOpening (L.world look_ups.old) (update_data update.now) opened.now }
-    requires compared { IsComparison (L.world look_ups.old) (update_data update.now) compared.now }
+    requires opening { HoldsOpened (L.world look_ups.old) (update_data update.now) opened.now }
+    requires compared { HoldsCompared (L.world look_ups.old) (update_data update.now) compared.now }
     ensures world { L.world look_ups.new ≡ L.world look_ups.old }
     ensures ok { IfOk result (HasReached (L.world look_ups.old) (update_data update.now)) }
     ensures err { IfErr result (λ e. e ≡ Memory) }
@@ -179,9 +171,9 @@ fn fault_of_double(
 ) -> UpdateError
     ensures { Explains compared.now reached.now double result }
 {
-    for (id, _) in &compared.named {
-        if !reached.contains(id) {
-            return UpdateError::NotReached(id.node);
+    for item in compared.named.entries() {
+        if !reached.contains(&item.0) {
+            return UpdateError::NotReached(item.0.node);
         }
     }
     UpdateError::ListedTwice(double.node)
@@ -198,9 +190,9 @@ fn explain<L: LookUps>(
     double: FullNodeId,
 ) -> UpdateError
     requires old { IsOld (L.world look_ups.old) }
-    requires opening { IsOpening (L.world look_ups.old) (update_data update.now) opened.now }
-    requires compared { IsComparison (L.world look_ups.old) (update_data update.now) compared.now }
-    requires removal { IsRemoval (L.world look_ups.old) (update_data update.now) removed.now }
+    requires opening { HoldsOpened (L.world look_ups.old) (update_data update.now) opened.now }
+    requires compared { HoldsCompared (L.world look_ups.old) (update_data update.now) compared.now }
+    requires removal { HoldsRemoved (L.world look_ups.old) (update_data update.now) removed.now }
     requires double { IsListedStill (L.world look_ups.old) (update_data update.now) double }
     ensures world { L.world look_ups.new ≡ L.world look_ups.old }
     ensures stands { IsRefusal (L.world look_ups.old) (update_data update.now) result }
@@ -222,10 +214,10 @@ pub(crate) fn refuse_misplaced<L: LookUps>(
     removed: &Removed,
 ) -> Result<(), UpdateError>
     requires old { IsOld (L.world look_ups.old) }
-    requires opening { IsOpening (L.world look_ups.old) (update_data update.now) opened.now }
-    requires compared { IsComparison (L.world look_ups.old) (update_data update.now) compared.now }
-    requires settlement { IsSettlement (L.world look_ups.old) (update_data update.now) settled.now }
-    requires removal { IsRemoval (L.world look_ups.old) (update_data update.now) removed.now }
+    requires opening { HoldsOpened (L.world look_ups.old) (update_data update.now) opened.now }
+    requires compared { HoldsCompared (L.world look_ups.old) (update_data update.now) compared.now }
+    requires settlement { HoldsSettled (L.world look_ups.old) (update_data update.now) settled.now }
+    requires removal { HoldsRemoved (L.world look_ups.old) (update_data update.now) removed.now }
     ensures world { L.world look_ups.new ≡ L.world look_ups.old }
     ensures count { OnOk result (L.asked look_ups.new ≡ L.asked look_ups.old) }
     ensures ok { OnOk result (IsRefined (L.world look_ups.old) (update_data update.now)) }

@@ -4,8 +4,8 @@ ghost use Rattle.schema.specs.UpdateData.{update_data};
 ghost use Rattle.tree_changes.specs.declared.error.UpdateError.TheVariants.{Memory, GraftedTwice};
 ghost use Rattle.model.specs.Surgery.{IsOld, IsClimbed};
 ghost use Rattle.tree_changes.specs.Refusals.{IsRefusal};
-ghost use Rattle.tree_changes.specs.Looks.{raised_count, IsRaisedUpTo};
-ghost use Rattle.tree_plan.specs.Passes.{at, at_name, has, IsComparison, IsRemoval, IsRegrafting};
+ghost use Rattle.tree_changes.specs.LookUps.{raised_count, IsRaisedUpTo};
+ghost use Rattle.tree_plan.specs.Passes.{at, at_name, has, HoldsCompared, HoldsRemoved, HoldsRegrafted};
 ghost use Rattle.tree_plan.specs.Regrafts.{HasRival, HasNoRival, MovesIn, PutsRoot, grafted_record};
 
 use crate::passes::{Compared, Removed};
@@ -34,12 +34,12 @@ pub(crate) fn regraft<L: LookUps>(
     removed: &Removed,
 ) -> Result<Regrafted, UpdateError>
     requires old { IsOld (L.world look_ups.old) }
-    requires comparison { IsComparison (L.world look_ups.old) (update_data _update.now) compared.now }
-    requires removal { IsRemoval (L.world look_ups.old) (update_data _update.now) removed.now }
+    requires comparison { HoldsCompared (L.world look_ups.old) (update_data _update.now) compared.now }
+    requires removal { HoldsRemoved (L.world look_ups.old) (update_data _update.now) removed.now }
     requires climbed { IsClimbed (L.world look_ups.old) (update_data _update.now) }
     ensures world { L.world look_ups.new ≡ L.world look_ups.old }
     ensures err { IfErr result (λ e. IsRefusal (L.world look_ups.old) (update_data _update.now) e) }
-    ensures ok { IfOk result (λ r. IsRegrafting (L.world look_ups.old) (update_data _update.now) r.trees.items r.moved_in) }
+    ensures ok { IfOk result (λ r. HoldsRegrafted (L.world look_ups.old) (update_data _update.now) r.trees.items r.moved_in) }
     ensures trees { IfOk result (λ r. length r.trees.items ≤ length compared.now.gained.items) }
     ensures counts { OnOk result
         (IsRaisedUpTo (L.asked look_ups.old) (length compared.now.gained.items) (L.asked look_ups.new)) }
@@ -62,10 +62,7 @@ fn is_free(graft: Option<FullNodeId>, compared: &Compared, removed: &Removed) ->
     let Some(graft) = graft else {
         return true;
     };
-    if removed.gone.contains(&graft) {
-        return true;
-    }
-    compared.named.contains_key(&graft)
+    removed.gone.contains(&graft) || compared.named.contains_key(&graft)
 }
 
 impl Regrafted {

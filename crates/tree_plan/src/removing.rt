@@ -6,11 +6,11 @@ ghost use Rattle.schema.specs.UpdateData.{UpdateData, update_data};
 ghost use Rattle.model.specs.World.{World, in_tree, graft_name};
 ghost use Rattle.model.specs.Update.{IsNamed};
 ghost use Rattle.model.specs.Surgery.{IsOld, HasEntered, Gone, IsSettled};
-ghost use Rattle.tree_changes.specs.Looks.{IsRaisedUpTo};
+ghost use Rattle.tree_changes.specs.LookUps.{IsRaisedUpTo};
 ghost use Rattle.tree_changes.specs.Refusals.{IsRefusal};
 ghost use Rattle.tree_changes.specs.declared.look_ups.TreeRecord.{TreeRecord};
-ghost use Rattle.tree_plan.specs.Passes.{IsComparison, IsRemoval, Loses};
-ghost use Rattle.tree_plan.specs.Removing.{IsRemoving, LosesAll, Drops, Expands, LosesLeft, DropsLost, Follows, IsWorkedOff};
+ghost use Rattle.tree_plan.specs.Passes.{HoldsCompared, HoldsRemoved, LosesGraft};
+ghost use Rattle.tree_plan.specs.Removing.{IsRemoving, LosesAll, Drops, Expands, LosesLeft, DropsLost, FollowsUp, IsWorkedOff};
 
 use crate::passes::{Compared, Removed};
 use crate::records::tree_record;
@@ -201,11 +201,11 @@ fn follow<L: LookUps>(
     requires world { L.world look_ups.old ≡ setting.0 }
     requires so_far { IsRemoving setting.0 setting.1 compared.now removing.old }
     requires lost { (t : TreeRecord) → Contains removing.old.trees.items t
-        → Loses setting.0 setting.1 t.id }
+        → LosesGraft setting.0 setting.1 t.id }
     ensures world { L.world look_ups.new ≡ L.world look_ups.old }
     ensures count { OnOk result
         (IsRaisedUpTo (L.asked look_ups.old) (2 * length removing.new.queue.items) (L.asked look_ups.new)) }
-    ensures ok { OnOk result (Follows setting.0 setting.1 removing.old removing.new) }
+    ensures ok { OnOk result (FollowsUp setting.0 setting.1 removing.old removing.new) }
     ensures err { IfErr result (λ e. IsRefusal setting.0 setting.1 e) }
 {
     for position in 0..usize::MAX {
@@ -249,10 +249,10 @@ pub(crate) fn remove<L: LookUps>(
     compared: &Compared,
 ) -> Result<Removed, UpdateError>
     requires old { IsOld (L.world look_ups.old) }
-    requires compared { IsComparison (L.world look_ups.old) (update_data update.now) compared.now }
+    requires compared { HoldsCompared (L.world look_ups.old) (update_data update.now) compared.now }
     requires settled { IsSettled (L.world look_ups.old) (update_data update.now) }
     ensures world { L.world look_ups.new ≡ L.world look_ups.old }
-    ensures ok { IfOk result (IsRemoval (L.world look_ups.old) (update_data update.now)) }
+    ensures ok { IfOk result (HoldsRemoved (L.world look_ups.old) (update_data update.now)) }
     ensures count { IfOk result
         (λ r. let most = 2 * btree_set_len r.gone + length compared.now.lost.items in
         IsRaisedUpTo (L.asked look_ups.old) most (L.asked look_ups.new)) }

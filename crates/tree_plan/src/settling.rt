@@ -4,10 +4,10 @@ ghost use Rattle.schema.specs.UpdateData.{update_data};
 ghost use Rattle.model.specs.World.{IsNode, in_tree};
 ghost use Rattle.model.specs.Surgery.{IsOld, Entered};
 ghost use Rattle.model.specs.Update.{merged_world};
-ghost use Rattle.tree_changes.specs.Looks.{IsRaisedUpTo};
+ghost use Rattle.tree_changes.specs.LookUps.{IsRaisedUpTo};
 ghost use Rattle.tree_changes.specs.Refusals.{IsRefusal};
 ghost use Rattle.tree_changes.specs.declared.error.UpdateError.TheVariants.{Memory};
-ghost use Rattle.tree_plan.specs.Passes.{IsOpening, IsComparison, IsSettlement};
+ghost use Rattle.tree_plan.specs.Passes.{HoldsOpened, HoldsCompared, HoldsSettled};
 ghost use Rattle.tree_plan.specs.Settling.{Comes, StoodAt, KeepsPlace, KeepsAdopter, IsSettledSoFar, SettlesOne};
 
 use crate::passes::{Compared, Opened, Settled};
@@ -36,7 +36,7 @@ fn find_old_place<L: LookUps>(
     id: FullNodeId,
 ) -> Result<Option<Option<Place>>, UpdateError>
     requires old { IsOld (L.world look_ups.old) }
-    requires compared { IsComparison (L.world look_ups.old) (update_data update.now) compared.now }
+    requires compared { HoldsCompared (L.world look_ups.old) (update_data update.now) compared.now }
     requires comes { Comes (L.world look_ups.old) (update_data update.now) id }
     ensures world { L.world look_ups.new ≡ L.world look_ups.old }
     ensures count { IsRaisedUpTo (L.asked look_ups.old) 1 (L.asked look_ups.new) }
@@ -110,8 +110,8 @@ fn settle_one<L: LookUps>(
     spot: Option<Place>,
 ) -> Result<(), UpdateError>
     requires old { IsOld (L.world look_ups.old) }
-    requires opening { IsOpening (L.world look_ups.old) (update_data update.now) opened.now }
-    requires compared { IsComparison (L.world look_ups.old) (update_data update.now) compared.now }
+    requires opening { HoldsOpened (L.world look_ups.old) (update_data update.now) opened.now }
+    requires compared { HoldsCompared (L.world look_ups.old) (update_data update.now) compared.now }
     requires entered { Entered (L.world look_ups.old) (update_data update.now) spot id }
     requires so_far { IsSettledSoFar (L.world look_ups.old) (update_data update.now) settled.old }
     ensures world { L.world look_ups.new ≡ L.world look_ups.old }
@@ -141,10 +141,10 @@ pub(crate) fn settle<L: LookUps>(
     compared: &Compared,
 ) -> Result<Settled, UpdateError>
     requires old { IsOld (L.world look_ups.old) }
-    requires opening { IsOpening (L.world look_ups.old) (update_data update.now) opened.now }
-    requires compared { IsComparison (L.world look_ups.old) (update_data update.now) compared.now }
+    requires opening { HoldsOpened (L.world look_ups.old) (update_data update.now) opened.now }
+    requires compared { HoldsCompared (L.world look_ups.old) (update_data update.now) compared.now }
     ensures world { L.world look_ups.new ≡ L.world look_ups.old }
-    ensures ok { IfOk result (IsSettlement (L.world look_ups.old) (update_data update.now)) }
+    ensures ok { IfOk result (HoldsSettled (L.world look_ups.old) (update_data update.now)) }
     ensures count { OnOk result
         (IsRaisedUpTo (L.asked look_ups.old) (length compared.now.entered.entries) (L.asked look_ups.new)) }
     ensures err { IfErr result (λ e. IsRefusal (L.world look_ups.old) (update_data update.now) e) }

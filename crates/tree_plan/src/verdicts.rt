@@ -1,6 +1,7 @@
 //! What an update makes of the nodes that it touches.
-ghost use Rattle.std.specs.Prelude.{◌≡◌, ◌↔◌, ◌∷◌, [], option_map, IfOk, IfErr, OnOk, IsTrue, Some, None, false};
+ghost use Rattle.std.specs.Prelude.{◌≡◌, ◌↔◌, ◌∷◌, [], option_map, IfOk, IfErr, OnOk, IsTrue, IsSome, Some, None, false};
 ghost use Rattle.std.specs.BTreeMap.{keys, IsOrdered};
+ghost use Rattle.std.specs.Map.{keys_of};
 ghost use Rattle.std.specs.List.Sorted.{IsStrictlySortedBy};
 ghost use Rattle.model.specs.FullIds.{full_cmp};
 ghost use Rattle.model.specs.declared.FullNodeId.{FullNodeId};
@@ -8,11 +9,11 @@ ghost use Rattle.model.specs.World.{data_of, at_most_one};
 ghost use Rattle.model.specs.Surgery.{Gone};
 ghost use Rattle.tree_changes.specs.declared.error.UpdateError.TheVariants.{Memory};
 
-use crate::passes::{Compared, Opened, Removed};
+use crate::passes::{Compared, Named, Opened, Removed};
 use crate::regrafting::Regrafted;
 use model::{FullNodeId, Place};
+use rows::{RowList, Rows};
 use std::alloc::Global;
-use std::collections::BTreeMap;
 use tree_changes::UpdateError;
 
 /// What becomes of a node that is not as it was, or is told all the same.
@@ -31,31 +32,31 @@ pub(crate) enum Verdict {
 }
 
 /// What the passes found, and the root that is told even where it is as it was.
-#[derive(Clone, Copy)]
-pub(crate) struct Found<'a> {
-    pub(crate) opened: &'a Opened,
-    pub(crate) compared: &'a Compared,
-    pub(crate) removed: &'a Removed,
-    pub(crate) regrafted: &'a Regrafted,
+#[derive(Drop)]
+pub(crate) struct Found {
+    pub(crate) opened: Opened,
+    pub(crate) compared: Compared,
+    pub(crate) removed: Removed,
+    pub(crate) regrafted: Regrafted,
     pub(crate) told: Option<FullNodeId>,
 }
 
-impl Found<'_> {
+impl Found {
     ghost use Rattle.tree_plan.specs.Passes.{at, has};
-    ghost use Rattle.tree_plan.specs.Verdicts.{Step, IsFound, Moves, Becomes, AreSound, Adds};
+    ghost use Rattle.tree_plan.specs.Verdicts.{Transition, IsFound, Moves, Becomes, AreSound, Adds};
 
     /// The place of the named tree's root: at the graft of the tree.
-    fn root_place(self) -> Option<Place>
-        ensures { result ≡ option_map (λ graft. (graft, 0)) self.entry.opened.now.record.graft }
+    fn root_place(&self) -> Option<Place>
+        ensures { result ≡ option_map (λ graft. (graft, 0)) self.now.opened.record.graft }
     {
         let graft = self.opened.record.graft?;
         Some((graft, 0))
     }
 
     /// The place of a node that comes to another.
-    fn other_place(self, id: FullNodeId) -> Option<Option<Place>>
-        ghost step: { Step }
-        requires found { IsFound step self }
+    fn other_place(&self, id: FullNodeId) -> Option<Option<Place>>
+        ghost step: { Transition }
+        requires found { IsFound step self.now }
         requires stays { ¬ (Gone step.old step.update id) }
         ensures { Moves step id result }
     {
@@ -65,16 +66,14 @@ impl Found<'_> {
             };
             return Some(Some(place));
         }
-        let Some(graft) = self.regrafted.moved_in.get(&id) else {
-            return None;
-        };
+        let graft = self.regrafted.moved_in.get(&id)?;
         Some(Some((*graft, 0)))
     }
 
     /// What becomes of a node whose data stay.
-    fn moved_or_told(self, id: FullNodeId, moved: Option<Option<Place>>) -> Option<Verdict>
-        ghost step: { Step }
-        requires found { IsFound step self }
+    fn moved_or_told(&self, id: FullNodeId, moved: Option<Option<Place>>) -> Option<Verdict>
+        ghost step: { Transition }
+        requires found { IsFound step self.now }
         requires same { data_of step.old id ≡ data_of step.new id }
         requires moves { Moves step id moved }
         ensures { Becomes step id result }
@@ -89,26 +88,24 @@ impl Found<'_> {
     }
 
     /// Whether the node is told even where it is as it was.
-    fn is_told(self, id: FullNodeId) -> bool
-        ensures { IsTrue result ↔ (self.entry.told ≡ Some id) }
+    fn is_told(&self, id: FullNodeId) -> bool
+        ensures { IsTrue result ↔ (self.now.told ≡ Some id) }
     {
-        let Some(root) = self.told else {
-            return false;
-        };
-        root == id
+        self.told == Some(id)
     }
 
-    /// What becomes of a node, where it is not as it was or is told all the same.
-    fn verdict(self, id: FullNodeId) -> Option<Verdict>
-        ghost step: { Step }
-        requires { IsFound step self }
+    /// What becomes of a node with this entry among the named ones, where it is not as it was or is told all the same.
+    fn verdict(&self, id: FullNodeId, named: Option<Named>) -> Option<Verdict>
+        ghost step: { Transition }
+        requires found { IsFound step self.now }
+        requires named { named ≡ at self.now.compared.named id }
         ensures { Becomes step id result }
     {
         if self.removed.gone.contains(&id) {
             return Some(Verdict::Removed);
         }
         let moved = self.other_place(id);
-        let Some(named) = self.compared.named.get(&id) else {
+        let Some(named) = named else {
             return self.moved_or_told(id, moved);
         };
         let entry = named.entry;
@@ -123,97 +120,126 @@ impl Found<'_> {
         self.moved_or_told(id, moved)
     }
 
-    /// Adds the verdict on a node, where there is one.
-    fn judge(
-        self,
+    /// Adds the verdict on a node with this entry among the named ones, where there is one.
+    fn judge_as(
+        &self,
         id: FullNodeId,
-        verdicts: &mut BTreeMap<FullNodeId, Verdict>,
+        named: Option<Named>,
+        verdicts: &mut RowList<Verdict>,
     ) -> Result<(), UpdateError>
-        ghost step: { Step }
-        requires found { IsFound step self }
+        ghost step: { Transition }
+        requires found { IsFound step self.now }
+        requires named { named ≡ at self.now.compared.named id }
         requires sound { AreSound step verdicts.old }
         ensures ok { OnOk result (Adds step (id ∷ []) verdicts.old verdicts.new) }
         ensures err { IfErr result (λ e. e ≡ Memory) }
     {
-        let Some(verdict) = self.verdict(id) else {
+        let Some(verdict) = self.verdict(id, named) else {
             return Ok(());
         };
-        verdicts.insert(id, verdict)?;
+        verdicts.push(id, verdict)?;
         Ok(())
     }
 
-    /// Adds the verdict on a node that may have been judged before.
-    fn judge_more(
-        self,
-        id: FullNodeId,
-        verdicts: &mut BTreeMap<FullNodeId, Verdict>,
-    ) -> Result<(), UpdateError>
-        ghost step: { Step }
-        requires found { IsFound step self }
+    /// Adds the verdict on a node, where there is one.
+    fn judge(&self, id: FullNodeId, verdicts: &mut RowList<Verdict>) -> Result<(), UpdateError>
+        ghost step: { Transition }
+        requires found { IsFound step self.now }
         requires sound { AreSound step verdicts.old }
         ensures ok { OnOk result (Adds step (id ∷ []) verdicts.old verdicts.new) }
         ensures err { IfErr result (λ e. e ≡ Memory) }
     {
-        if verdicts.contains_key(&id) {
-            return Ok(());
-        }
-        self.judge(id, verdicts)
+        let named = self.compared.named.get(&id).copied();
+        self.judge_as(id, named, verdicts)
     }
 
     /// Adds the verdicts on the named nodes.
-    fn judge_named(self, verdicts: &mut BTreeMap<FullNodeId, Verdict>) -> Result<(), UpdateError>
-        ghost step: { Step }
-        requires found { IsFound step self }
+    fn judge_named(&self, verdicts: &mut RowList<Verdict>) -> Result<(), UpdateError>
+        ghost step: { Transition }
+        requires found { IsFound step self.now }
         requires sound { AreSound step verdicts.old }
-        ensures ok { OnOk result (Adds step (keys self.entry.compared.now.named) verdicts.old verdicts.new) }
+        ensures ok { OnOk result (Adds step (keys_of self.now.compared.named) verdicts.old verdicts.new) }
         ensures err { IfErr result (λ e. e ≡ Memory) }
     {
-        for id in self.compared.named.keys() {
+        for item in self.compared.named.entries() {
+            self.judge_as(item.0, Some(item.1), verdicts)?;
+        }
+        Ok(())
+    }
+
+    /// Adds the verdict on a node that was judged if it is named.
+    fn judge_unnamed(
+        &self,
+        id: FullNodeId,
+        near: &mut usize,
+        verdicts: &mut RowList<Verdict>,
+    ) -> Result<(), UpdateError>
+        ghost step: { Transition }
+        requires found { IsFound step self.now }
+        requires sound { AreSound step verdicts.old }
+        requires judged { IsSome (at self.now.compared.named id) → Becomes step id (at verdicts.old id) }
+        ensures ok { OnOk result (Adds step (id ∷ []) verdicts.old verdicts.new) }
+        ensures err { IfErr result (λ e. e ≡ Memory) }
+    {
+        let named = self.compared.named.get_near(id, near);
+        if named.is_some() {
+            return Ok(());
+        }
+        self.judge_as(id, named, verdicts)
+    }
+
+    /// Adds the verdicts on the nodes that entered a spot, where the named ones are judged.
+    fn judge_entered(&self, verdicts: &mut RowList<Verdict>) -> Result<(), UpdateError>
+        ghost step: { Transition }
+        requires found { IsFound step self.now }
+        requires sound { AreSound step verdicts.old }
+        requires judged { (id : FullNodeId) → IsSome (at self.now.compared.named id) → Becomes step id (at verdicts.old id) }
+        ensures ok { OnOk result (Adds step (keys self.now.compared.entered) verdicts.old verdicts.new) }
+        ensures ordered { IsOrdered full_cmp self.now.compared.entered }
+        ensures err { IfErr result (λ e. e ≡ Memory) }
+    {
+        let mut near = 0;
+        for id in self.compared.entered.keys() {
+            self.judge_unnamed(*id, &mut near, verdicts)?;
+        }
+        Ok(())
+    }
+
+    /// Adds the verdicts on the roots that are moved in.
+    fn judge_moved_in(&self, verdicts: &mut RowList<Verdict>) -> Result<(), UpdateError>
+        ghost step: { Transition }
+        requires found { IsFound step self.now }
+        requires sound { AreSound step verdicts.old }
+        ensures ok { OnOk result (Adds step (keys self.now.regrafted.moved_in) verdicts.old verdicts.new) }
+        ensures err { IfErr result (λ e. e ≡ Memory) }
+    {
+        for id in self.regrafted.moved_in.keys() {
             self.judge(*id, verdicts)?;
         }
         Ok(())
     }
 
-    /// Adds the verdicts on the nodes of a map.
-    fn judge_keys<V>(
-        self,
-        nodes: &BTreeMap<FullNodeId, V>,
-        verdicts: &mut BTreeMap<FullNodeId, Verdict>,
-    ) -> Result<(), UpdateError>
-        ghost step: { Step }
-        requires found { IsFound step self }
-        requires sound { AreSound step verdicts.old }
-        ensures ok { OnOk result (Adds step (keys nodes.now) verdicts.old verdicts.new) }
-        ensures ordered { IsOrdered full_cmp nodes.now }
-        ensures err { IfErr result (λ e. e ≡ Memory) }
-    {
-        for id in nodes.keys() {
-            self.judge_more(*id, verdicts)?;
-        }
-        Ok(())
-    }
-
     /// Adds the verdicts on the nodes that go.
-    fn judge_gone(self, verdicts: &mut BTreeMap<FullNodeId, Verdict>) -> Result<(), UpdateError>
-        ghost step: { Step }
-        requires found { IsFound step self }
+    fn judge_gone(&self, verdicts: &mut RowList<Verdict>) -> Result<(), UpdateError>
+        ghost step: { Transition }
+        requires found { IsFound step self.now }
         requires sound { AreSound step verdicts.old }
-        ensures ok { OnOk result (Adds step self.entry.removed.now.gone.keys verdicts.old verdicts.new) }
-        ensures ordered { IsStrictlySortedBy full_cmp self.entry.removed.now.gone.keys }
+        ensures ok { OnOk result (Adds step self.now.removed.gone.keys verdicts.old verdicts.new) }
+        ensures ordered { IsStrictlySortedBy full_cmp self.now.removed.gone.keys }
         ensures err { IfErr result (λ e. e ≡ Memory) }
     {
         for id in self.removed.gone.iter() {
-            self.judge_more(*id, verdicts)?;
+            self.judge(*id, verdicts)?;
         }
         Ok(())
     }
 
     /// Adds the verdict on the told root, where there is one.
-    fn judge_told(self, verdicts: &mut BTreeMap<FullNodeId, Verdict>) -> Result<(), UpdateError>
-        ghost step: { Step }
-        requires found { IsFound step self }
+    fn judge_told(&self, verdicts: &mut RowList<Verdict>) -> Result<(), UpdateError>
+        ghost step: { Transition }
+        requires found { IsFound step self.now }
         requires sound { AreSound step verdicts.old }
-        ensures ok { OnOk result (Adds step (at_most_one self.entry.told) verdicts.old verdicts.new) }
+        ensures ok { OnOk result (Adds step (at_most_one self.now.told) verdicts.old verdicts.new) }
         ensures err { IfErr result (λ e. e ≡ Memory) }
     {
         let Some(root) = self.told else {
@@ -224,23 +250,20 @@ impl Found<'_> {
     }
 
     /// What becomes of each node that is not as it was, or is told all the same.
-    pub(crate) fn verdicts(
-        self,
-        alloc: Global,
-    ) -> Result<BTreeMap<FullNodeId, Verdict>, UpdateError>
-        ghost step: { Step }
-        requires { IsFound step self }
+    pub(crate) fn verdicts(&self, alloc: Global) -> Result<Rows<Verdict>, UpdateError>
+        ghost step: { Transition }
+        requires { IsFound step self.now }
         ensures ok { IfOk result (λ vs. (id : FullNodeId) → Becomes step id (at vs id)) }
-        ensures entered { OnOk result (IsOrdered full_cmp self.entry.compared.now.entered) }
-        ensures gone { OnOk result (IsStrictlySortedBy full_cmp self.entry.removed.now.gone.keys) }
+        ensures entered { OnOk result (IsOrdered full_cmp self.now.compared.entered) }
+        ensures gone { OnOk result (IsStrictlySortedBy full_cmp self.now.removed.gone.keys) }
         ensures err { IfErr result (λ e. e ≡ Memory) }
     {
-        let mut verdicts = BTreeMap::new(alloc);
+        let mut verdicts = RowList::with_capacity(alloc, self.compared.named.len())?;
         self.judge_named(&mut verdicts)?;
-        self.judge_keys(&self.compared.entered, &mut verdicts)?;
-        self.judge_keys(&self.regrafted.moved_in, &mut verdicts)?;
+        self.judge_entered(&mut verdicts)?;
+        self.judge_moved_in(&mut verdicts)?;
         self.judge_gone(&mut verdicts)?;
         self.judge_told(&mut verdicts)?;
-        Ok(verdicts)
+        Ok(verdicts.settle_each())
     }
 }

@@ -1,10 +1,9 @@
 //! The decision, from what the passes found.
 ghost use Rattle.std.specs.Prelude.{◌≡◌, ◌++◌, [], List, IfOk, IfErr, OnOk, IsTrue, ◌↔◌, Some, None, option_to_list, if◌then◌else◌};
 ghost use Rattle.std.specs.List.{flat_map};
-ghost use Rattle.std.specs.BTreeMap.{IsOrdered};
+ghost use Rattle.rows.specs.Rows.{Ascends};
 ghost use Rattle.schema.specs.UpdateData.{update_data};
 ghost use Rattle.model.specs.declared.FullNodeId.{FullNodeId};
-ghost use Rattle.model.specs.FullIds.{full_cmp};
 ghost use Rattle.model.specs.declared.events.PlanEvent.{PlanEvent};
 ghost use Rattle.tree_changes.specs.declared.error.UpdateError.TheVariants.{Memory};
 ghost use Rattle.tree_plan.specs.declared.verdicts.Verdict.{Verdict};
@@ -14,14 +13,14 @@ ghost use Rattle.model.specs.Differences.{told_root};
 ghost use Rattle.model.specs.Work.{Work, IsWorkOf};
 ghost use Rattle.tree_changes.specs.Changes.{overlaid_world};
 ghost use Rattle.tree_changes.specs.Decisions.{IsDecision};
-ghost use Rattle.tree_plan.specs.Verdicts.{Step, IsFound};
+ghost use Rattle.tree_plan.specs.Verdicts.{Transition, IsFound};
 
 use crate::passes::{Focused, Opened};
 use crate::verdicts::{Found, Verdict};
 use model::{FullNodeId, PlanEvent};
+use rows::Rows;
 use schema::TreeUpdate;
 use std::alloc::Global;
-use std::collections::BTreeMap;
 use tree_changes::{Decision, NodeChange, TreeRecord, UpdateError};
 
 /// Which nodes are told of together.
@@ -88,14 +87,14 @@ fn entry_change(id: FullNodeId, verdict: Verdict) -> Option<(FullNodeId, NodeCha
 /// The changes of nodes, ids ascending.
 fn node_changes(
     alloc: Global,
-    verdicts: &BTreeMap<FullNodeId, Verdict>,
+    verdicts: &Rows<Verdict>,
 ) -> Result<Vec<(FullNodeId, NodeChange)>, UpdateError>
-    ensures ok { IfOk result (λ changes. changes.items ≡ flat_map change_entry verdicts.now.entries) }
-    ensures ordered { OnOk result (IsOrdered full_cmp verdicts.now) }
+    ensures ok { IfOk result (λ changes. changes.items ≡ flat_map change_entry verdicts.now) }
+    ensures ordered { OnOk result (Ascends verdicts.now) }
     ensures err { IfErr result (λ e. e ≡ Memory) }
 {
     let mut changes = Vec::new(alloc);
-    for (id, verdict) in verdicts {
+    for (id, verdict) in verdicts.entries() {
         if let Some(change) = entry_change(*id, *verdict) {
             changes.push(change)?;
         }
@@ -105,14 +104,14 @@ fn node_changes(
 
 /// Adds the events of a group, ids ascending.
 fn push_group(
-    verdicts: &BTreeMap<FullNodeId, Verdict>,
+    verdicts: &Rows<Verdict>,
     told: Group,
     events: &mut Vec<PlanEvent>,
 ) -> Result<(), UpdateError>
-    ensures ok { OnOk result (events.new.items ≡ events.old.items ++ flat_map (told_of told) verdicts.now.entries) }
+    ensures ok { OnOk result (events.new.items ≡ events.old.items ++ flat_map (told_of told) verdicts.now) }
     ensures err { IfErr result (λ e. e ≡ Memory) }
 {
-    for (id, verdict) in verdicts {
+    for (id, verdict) in verdicts.entries() {
         if let Some(event) = event(verdict.group(), told, *id) {
             events.push(event)?;
         }
@@ -122,26 +121,24 @@ fn push_group(
 
 /// Adds that a focused node is updated, unless it is told of anyway.
 fn push_untold(
-    verdicts: &BTreeMap<FullNodeId, Verdict>,
+    verdicts: &Rows<Verdict>,
     focus: Option<FullNodeId>,
     events: &mut Vec<PlanEvent>,
 ) -> Result<(), UpdateError>
     ensures ok { OnOk result (events.new.items ≡ events.old.items ++ untold_updates (at verdicts.now) focus) }
     ensures err { IfErr result (λ e. e ≡ Memory) }
 {
-    let Some(id) = focus else {
-        return Ok(());
-    };
-    if verdicts.contains_key(&id) {
-        return Ok(());
+    if let Some(id) = focus {
+        if !verdicts.contains_key(&id) {
+            events.push(PlanEvent::Updated(id))?;
+        }
     }
-    events.push(PlanEvent::Updated(id))?;
     Ok(())
 }
 
 /// Adds what a move of the focus tells.
 fn push_move(
-    verdicts: &BTreeMap<FullNodeId, Verdict>,
+    verdicts: &Rows<Verdict>,
     before: Option<FullNodeId>,
     after: Option<FullNodeId>,
     events: &mut Vec<PlanEvent>,
@@ -162,7 +159,7 @@ fn push_move(
 fn told_events(
     alloc: Global,
     is_first: bool,
-    verdicts: &BTreeMap<FullNodeId, Verdict>,
+    verdicts: &Rows<Verdict>,
     focused: &Focused,
 ) -> Result<Vec<PlanEvent>, UpdateError>
     ensures quiet { IfOk result (λ events. IsTrue is_first → events.items ≡ []) }
@@ -197,37 +194,28 @@ fn own_record(opened: &Opened, update: &TreeUpdate) -> TreeRecord
 fn is_same_record(a: &TreeRecord, b: &TreeRecord) -> bool
     ensures { IsTrue result ↔ (a.now ≡ b.now) }
 {
-    if a.index != b.index {
-        return false;
-    }
-    if a.graft != b.graft {
-        return false;
-    }
-    if a.root != b.root {
-        return false;
-    }
-    if a.focus != b.focus {
-        return false;
-    }
-    a.id == b.id
+    a.index == b.index
+        && a.graft == b.graft
+        && a.root == b.root
+        && a.focus == b.focus
+        && a.id == b.id
 }
 
 /// The records of trees afterwards, where they are others than before.
 fn tree_changes(
     alloc: Global,
-    found: Found,
+    found: &Found,
     own: TreeRecord,
 ) -> Result<Vec<TreeRecord>, UpdateError>
-    ensures ok { IfOk result (λ trees. AreTrees found.entry own trees.items) }
+    ensures ok { IfOk result (λ trees. AreTrees found.now own trees.items) }
     ensures err { IfErr result (λ e. e ≡ Memory) }
 {
     let mut trees = Vec::new(alloc);
     trees.extend_from_slice(&found.removed.trees)?;
     trees.extend_from_slice(&found.regrafted.trees)?;
-    if is_same_record(&own, &found.opened.record) {
-        return Ok(trees);
+    if !is_same_record(&own, &found.opened.record) {
+        trees.push(own)?;
     }
-    trees.push(own)?;
     Ok(trees)
 }
 
@@ -235,9 +223,7 @@ fn tree_changes(
 pub(crate) fn told_root(opened: &Opened, update: &TreeUpdate) -> Option<FullNodeId>
     ensures { result ≡ told_root opened.now.index (update_data update.now).info }
 {
-    let Some(info) = &update.tree else {
-        return None;
-    };
+    let info = update.tree.as_ref()?;
     if opened.index == 0 {
         return None;
     }
@@ -251,24 +237,24 @@ pub(crate) fn told_root(opened: &Opened, update: &TreeUpdate) -> Option<FullNode
 pub(crate) fn write(
     alloc: Global,
     update: &TreeUpdate,
-    found: Found,
+    found: &Found,
     focused: &Focused,
     looked: u128,
 ) -> Result<Decision, UpdateError>
-    ghost step: { Step }
+    ghost step: { Transition }
     requires update { step.update ≡ update_data update.now }
-    requires found { IsFound step found }
+    requires found { IsFound step found.now }
     requires focusing { IsFocusing step.old step.update focused.now }
     ensures ok { IfOk result (IsDecision step.old step.update) }
     ensures new { IfOk result (λ d. overlaid_world step.old step.update d ≡ step.new) }
     ensures looked { IfOk result (λ d. d.looked ≡ looked) }
     ensures small { IfOk result (λ d.
-        (work : Work) → IsWorkOf step.old step.update step.new work → IsSmall found.entry.compared.now found.entry.removed.now found.entry.regrafted.now d work) }
+        (work : Work) → IsWorkOf step.old step.update step.new work → IsSmall found.now.compared found.now.removed found.now.regrafted d work) }
     ensures err { IfErr result (λ e. e ≡ Memory) }
 {
     let verdicts = found.verdicts(alloc)?;
     let nodes = node_changes(alloc, &verdicts)?;
-    let own = own_record(found.opened, update);
+    let own = own_record(&found.opened, update);
     let trees = tree_changes(alloc, found, own)?;
     let events = told_events(alloc, found.opened.is_first, &verdicts, focused)?;
     Ok(Decision {

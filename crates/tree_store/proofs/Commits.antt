@@ -1,15 +1,15 @@
 -- What a store shows after room is made and after changes are written.
-use Rattle.std.proofs.Common.{◌≡◌, ℕ, List, [], Bool, true, false, cond, Option, Some, None, Result, Ok, Err, refl, sym, ap, subst, ◌∙◌, ◌<◌, nat_lt}
-use Rattle.std.specs.Prelude.{◌↔◌, ◌||◌, is_some, IsSome, OnErr, OnOk, option_and_then, slice_get, Contains, All, length, slice_index_or}
+use Rattle.std.proofs.Common.{◌≡◌, ℕ, List, [], Bool, true, false, cond, Option, Some, None, refl, sym, ap, subst, ◌∙◌}
+use Rattle.std.specs.Prelude.{◌||◌, is_some, option_and_then}
 use Rattle.std.specs.Option.{option_map, option_map_or}
-use Rattle.std.specs.FinMap.{FinMap, get, get-empty, empty, same_map}
+use Rattle.std.specs.FinMap.{get, get-empty, empty, same_map}
 use Rattle.std.specs.FinSet as set
 use Rattle.schema.specs.NodeData.{NodeData}
 use Rattle.schema.specs.declared.NodeId.{NodeId}
 use Rattle.schema.specs.declared.TreeId.{TreeId}
 use Rattle.model.specs.declared.FullNodeId.{FullNodeId}
 use Rattle.model.specs.FullIds.{full_cmp, full_total, exact_full}
-use Rattle.model.specs.World.{World, Place, StandsAt, index_of, graft_name}
+use Rattle.model.specs.World.{World, Place, index_of, graft_name}
 use Rattle.model.specs.Focus.{IsEffectiveFocus}
 use Rattle.model.specs.Update.{UpdateData, known_after, toolkit_after}
 use Rattle.model.specs.State.{IsState, empty_world}
@@ -17,18 +17,18 @@ use Rattle.tree_changes.specs.declared.look_ups.TreeRecord.{TreeRecord}
 use Rattle.tree_changes.specs.declared.decision.NodeChange.{NodeChange}
 use Rattle.tree_changes.specs.declared.decision.NodeChange.TheVariants.{Put, Gone}
 use Rattle.tree_changes.specs.declared.decision.Decision.{Decision}
-use Rattle.tree_changes.specs.Changes.{NodeChanges, change_at, changed_data, entry_data, place_in, put_all, put_trees, overlaid_world, tree_change, tree_after, if_kept}
-use Rattle.tree_changes.specs.Looks.{IsPlaceOf, IsTreeRecord}
+use Rattle.tree_changes.specs.Changes.{NodeChanges, change_at, entry_data, place_in, put_all, put_trees, overlaid_world, tree_change, tree_after, if_kept}
+use Rattle.tree_changes.specs.LookUps.{IsPlaceOf, IsTreeRecord}
 use Rattle.tree_changes.specs.Decisions.{IsDecision}
 use Rattle.tree_store.specs.declared.records.Record.{Record}
 use Rattle.tree_store.specs.declared.records.PresentTree.{PresentTree}
 use Rattle.tree_store.specs.declared.records.NameRecord.{NameRecord}
 use Rattle.tree_store.specs.declared.store.Store.TheInside.{Inside}
-use Rattle.tree_store.specs.Stored.{Slots, nodes_shown, trees_shown, texts_shown, slots_shown, names_shown, record_at, slot_at, PlacesAreTrue}
-use Rattle.tree_store.specs.KeptNames.{name_at, name_kept, name_after, kept_in}
+use Rattle.tree_store.specs.Stored.{Slots, nodes_shown, trees_shown, texts_shown, slots_shown, names_shown, record_at, HasTruePlaces}
+use Rattle.tree_store.specs.KeptNames.{name_at, name_after, kept_in}
 use Rattle.tree_store.specs.NameRecords.{record_of}
 use Rattle.tree_store.specs.Shown.{world_shown, NamesAreTrue, IsStored}
-use Rattle.tree_store.specs.Commits.{record_moved_to, record_after, after_change, HasNoSpare, HasRoomFor}
+use Rattle.tree_store.specs.Commits.{record_moved_to, record_after, changed_record, HasNoSpare, HasRoomFor}
 use Rattle.tree_store.proofs.Maps.{node_in, get-nodes_shown, contains-slots_shown}
 use Rattle.tree_store.proofs.KeptReads.{stored_record}
 use Rattle.tree_changes.proofs.Overlays.{effect, get-put_all}
@@ -57,11 +57,11 @@ pub same_nodes : (es fs : Slots) → ((id : FullNodeId) → record_at fs id ≡ 
 same_nodes es fs same = same_map full_total exact_full _ _ (λ q. get-nodes_shown fs q ∙ ap node_in (same q) ∙ sym (get-nodes_shown es q))
 
 -- a store with room shows what it showed, and keeps what it kept
-module _ (a b : Inside) (stored : IsStored a (world_shown a)) (nodes : (id : FullNodeId) → record_at b.nodes.entries id ≡ record_at a.nodes.entries id)
-    (names : (name : TreeId) → kept_in (name_at b.names name) ≡ kept_in (name_at a.names name)) (known : b.known.items ≡ a.known.items)
-    (texts : texts_shown b.toolkit ≡ texts_shown a.toolkit) (host : b.host_focused ≡ a.host_focused) (focus : b.focus ≡ a.focus) where
+module _ (a b : Inside) (stored : IsStored a (world_shown a)) (nodes : (id : FullNodeId) → record_at b.tables.nodes.entries id ≡ record_at a.tables.nodes.entries id)
+    (names : (name : TreeId) → kept_in (name_at b.tables.names name) ≡ kept_in (name_at a.tables.names name)) (known : b.tables.known.items ≡ a.tables.known.items)
+    (texts : texts_shown b.tables.toolkit ≡ texts_shown a.tables.toolkit) (host : b.host_focused ≡ a.host_focused) (focus : b.focus ≡ a.focus) where
   pub world_same : world_shown b ≡ world_shown a
-  world_same = λ i. record { known = names_shown (known i); trees = trees_shown 0 (known i); nodes = same_nodes a.nodes.entries b.nodes.entries nodes i; toolkit = texts i; host_focused = host i }
+  world_same = λ i. record { known = names_shown (known i); trees = trees_shown 0 (known i); nodes = same_nodes a.tables.nodes.entries b.tables.nodes.entries nodes i; toolkit = texts i; host_focused = host i }
 
   stored_by : (v : World) → v ≡ world_shown a → IsStored b v
   stored_by v e = subst (IsStored b) (sym e) (record {
@@ -85,7 +85,7 @@ node_moved : (place : Option Place) (r : Option Record) → node_in (record_move
 node_moved place None = refl
 node_moved place (Some r) = refl
 
-node_after : (nodes : List (NodeId × NodeData)) (o : Option NodeChange) (r : Option Record) → node_in (after_change nodes o r) ≡ effect nodes o (node_in r)
+node_after : (nodes : List (NodeId × NodeData)) (o : Option NodeChange) (r : Option Record) → node_in (changed_record nodes o r) ≡ effect nodes o (node_in r)
 node_after nodes None r = refl
 node_after nodes (Some (Put p (Some k))) r = node_given p (entry_data nodes k)
 node_after nodes (Some (Put p None)) r = node_moved p r
@@ -141,40 +141,40 @@ graft_after rs name (Some r) n t e =
     ∙ ap (λ x. option_and_then (λ r. r.graft) (option_map_or if_kept x (record_of name (option_and_then (λ r. r.index) n) (option_and_then (λ r. r.graft) n) t))) e
 
 -- the record of a name that a store keeps
-pub record_of_name : (a : Inside) (name : TreeId) → NamesAreTrue a.names (world_shown a) → (before : Option TreeRecord) × IsTreeRecord (world_shown a) name before
-record_of_name a name stored = (_, stored_record a name (name_at a.names name) _ _ _ stored refl refl refl refl)
+pub record_of_name : (a : Inside) (name : TreeId) → NamesAreTrue a.tables.names (world_shown a) → (before : Option TreeRecord) × IsTreeRecord (world_shown a) name before
+record_of_name a name stored = (_, stored_record a name (name_at a.tables.names name) _ _ _ stored refl refl refl refl)
 
 -- a store whose changes are written shows the world with the changes, and keeps what that asks
-module _ (a b : Inside) (u : UpdateData) (d : Decision) (old_places : PlacesAreTrue a.nodes.entries (world_shown a)) (old_names : NamesAreTrue a.names (world_shown a)) (leaves : IsState (overlaid_world (world_shown a) u d)) (decided : IsDecision (world_shown a) u d)
-    (records : (id : FullNodeId) → record_at b.nodes.entries id ≡ after_change u.nodes (change_at d.nodes.items id) (record_at a.nodes.entries id))
-    (known : names_shown b.known.items ≡ known_after (world_shown a) u.name) (trees : trees_shown 0 b.known.items ≡ put_trees (trees_shown 0 a.known.items) d.trees.items)
-    (names : (name : TreeId) → name_at b.names name ≡ name_after (tree_change d.trees.items name) (name_at a.names name))
-    (texts : texts_shown b.toolkit ≡ toolkit_after (world_shown a) u) (host : b.host_focused ≡ a.host_focused) (focus : b.focus ≡ d.focus) where
-  nodes_written : nodes_shown b.nodes.entries ≡ put_all u.nodes (nodes_shown a.nodes.entries) d.nodes.items
+module _ (a b : Inside) (u : UpdateData) (d : Decision) (old_places : HasTruePlaces a.tables.nodes.entries (world_shown a)) (old_names : NamesAreTrue a.tables.names (world_shown a)) (leaves : IsState (overlaid_world (world_shown a) u d)) (decided : IsDecision (world_shown a) u d)
+    (records : (id : FullNodeId) → record_at b.tables.nodes.entries id ≡ changed_record u.nodes (change_at d.nodes.items id) (record_at a.tables.nodes.entries id))
+    (known : names_shown b.tables.known.items ≡ known_after (world_shown a) u.name) (trees : trees_shown 0 b.tables.known.items ≡ put_trees (trees_shown 0 a.tables.known.items) d.trees.items)
+    (names : (name : TreeId) → name_at b.tables.names name ≡ name_after (tree_change d.trees.items name) (name_at a.tables.names name))
+    (texts : texts_shown b.tables.toolkit ≡ toolkit_after (world_shown a) u) (host : b.host_focused ≡ a.host_focused) (focus : b.focus ≡ d.focus) where
+  nodes_written : nodes_shown b.tables.nodes.entries ≡ put_all u.nodes (nodes_shown a.tables.nodes.entries) d.nodes.items
   nodes_written = same_map full_total exact_full _ _ (λ q.
-      get-nodes_shown b.nodes.entries q ∙ ap node_in (records q) ∙ node_after u.nodes (change_at d.nodes.items q) (record_at a.nodes.entries q)
-      ∙ ap (effect u.nodes (change_at d.nodes.items q)) (sym (get-nodes_shown a.nodes.entries q)) ∙ sym (get-put_all u.nodes (nodes_shown a.nodes.entries) d.nodes.items q))
+      get-nodes_shown b.tables.nodes.entries q ∙ ap node_in (records q) ∙ node_after u.nodes (change_at d.nodes.items q) (record_at a.tables.nodes.entries q)
+      ∙ ap (effect u.nodes (change_at d.nodes.items q)) (sym (get-nodes_shown a.tables.nodes.entries q)) ∙ sym (get-put_all u.nodes (nodes_shown a.tables.nodes.entries) d.nodes.items q))
 
   pub world_written : world_shown b ≡ overlaid_world (world_shown a) u d
   world_written = λ i. record { known = known i; trees = trees i; nodes = nodes_written i; toolkit = texts i; host_focused = host i }
 
-  place_by : (id : FullNodeId) (r : Record) (o : Option NodeChange) → change_at d.nodes.items id ≡ o → after_change u.nodes o (record_at a.nodes.entries id) ≡ Some r → IsPlaceOf (overlaid_world (world_shown a) u d) id r.place
+  place_by : (id : FullNodeId) (r : Record) (o : Option NodeChange) → change_at d.nodes.items id ≡ o → changed_record u.nodes o (record_at a.tables.nodes.entries id) ≡ Some r → IsPlaceOf (overlaid_world (world_shown a) u d) id r.place
   place_by id r None is e p =
       let here = old_places id r e p in
       ((λ at. decided.others id p is (here.0 at)), (λ at. here.1 (decided.others_back id p is at)))
-  place_by id r (Some c) is e p = subst (IsPlaceOf (overlaid_world (world_shown a) u d) id) (sym (place_after u.nodes c (record_at a.nodes.entries id) r e)) (decided.changes id c is).place p
+  place_by id r (Some c) is e p = subst (IsPlaceOf (overlaid_world (world_shown a) u d) id) (sym (place_after u.nodes c (record_at a.tables.nodes.entries id) r e)) (decided.changes id c is).place p
 
-  record_before : (name : TreeId) → (t : Option PresentTree) × IsTreeRecord (world_shown a) name (record_of name (option_and_then (λ r. r.index) (name_at a.names name)) (option_and_then (λ r. r.graft) (name_at a.names name)) t)
-  record_before name = (_, stored_record a name (name_at a.names name) _ _ _ old_names refl refl refl refl)
+  record_before : (name : TreeId) → (t : Option PresentTree) × IsTreeRecord (world_shown a) name (record_of name (option_and_then (λ r. r.index) (name_at a.tables.names name)) (option_and_then (λ r. r.graft) (name_at a.tables.names name)) t)
+  record_before name = (_, stored_record a name (name_at a.tables.names name) _ _ _ old_names refl refl refl refl)
 
-  names_written : NamesAreTrue b.names (overlaid_world (world_shown a) u d)
+  names_written : NamesAreTrue b.tables.names (overlaid_world (world_shown a) u d)
   names_written = record {
     index = λ name.
         let h = record_before name in
-        ap (option_and_then (λ r. r.index)) (names name) ∙ index_after d.trees.items name (tree_change d.trees.items name) (name_at a.names name) h.0 refl ∙ (decided.trees name _ h.1).index;
+        ap (option_and_then (λ r. r.index)) (names name) ∙ index_after d.trees.items name (tree_change d.trees.items name) (name_at a.tables.names name) h.0 refl ∙ (decided.trees name _ h.1).index;
     graft = λ name g.
         let h = record_before name in
-        let same = ap (option_and_then (λ r. r.graft)) (names name) ∙ graft_after d.trees.items name (tree_change d.trees.items name) (name_at a.names name) h.0 refl in
+        let same = ap (option_and_then (λ r. r.graft)) (names name) ∙ graft_after d.trees.items name (tree_change d.trees.items name) (name_at a.tables.names name) h.0 refl in
         let k = (decided.trees name _ h.1).graft g in
         ((λ e. k.0 (sym same ∙ e)), (λ e. same ∙ k.1 e));
   }
@@ -191,25 +191,25 @@ module _ (a b : Inside) (u : UpdateData) (d : Decision) (old_places : PlacesAreT
   stored_written = written_by (world_shown b) world_written
 
 -- before anything is written a store of no record shows the empty world, and keeps what that asks
-module _ (a : Inside) (host : Bool) (known : a.known.items ≡ []) (nodes : (id : FullNodeId) → record_at a.nodes.entries id ≡ None)
-    (names : (name : TreeId) → kept_in (name_at a.names name) ≡ (None, None)) (texts : texts_shown a.toolkit ≡ (None, None)) (told : a.host_focused ≡ host) where
+module _ (a : Inside) (host : Bool) (known : a.tables.known.items ≡ []) (nodes : (id : FullNodeId) → record_at a.tables.nodes.entries id ≡ None)
+    (names : (name : TreeId) → kept_in (name_at a.tables.names name) ≡ (None, None)) (texts : texts_shown a.tables.toolkit ≡ (None, None)) (told : a.host_focused ≡ host) where
   pub blank_world : world_shown a ≡ empty_world host
   blank_world = λ i. record {
     known = names_shown (known i);
     trees = trees_shown 0 (known i);
-    nodes = same_map full_total exact_full (nodes_shown a.nodes.entries) empty (λ q. get-nodes_shown a.nodes.entries q ∙ ap node_in (nodes q) ∙ sym (get-empty full_cmp q)) i;
+    nodes = same_map full_total exact_full (nodes_shown a.tables.nodes.entries) empty (λ q. get-nodes_shown a.tables.nodes.entries q ∙ ap node_in (nodes q) ∙ sym (get-empty full_cmp q)) i;
     toolkit = texts i;
     host_focused = told i;
   }
 
-  pub blank_places : PlacesAreTrue a.nodes.entries (world_shown a)
+  pub blank_places : HasTruePlaces a.tables.nodes.entries (world_shown a)
   blank_places id r e = let none : None ≡ Some r = sym (nodes id) ∙ e in cc
 
   ungrafted : (g : FullNodeId) (name : TreeId) → graft_name (world_shown a) g ≡ Some name → ⊥
   ungrafted g name e =
       let none : None ≡ Some name = sym (ap (λ w. graft_name w g) blank_world ∙ ap (option_and_then (λ d. d.tree_id)) (get-empty full_cmp g)) ∙ e in cc
 
-  pub blank_names : NamesAreTrue a.names (world_shown a)
+  pub blank_names : NamesAreTrue a.tables.names (world_shown a)
   blank_names = record {
     index = λ name. ap (λ p. p.0) (names name) ∙ sym (ap (λ w. index_of w name) blank_world);
     graft = λ name g. ((λ e. let none : None ≡ Some g = sym (ap (λ p. p.1) (names name)) ∙ e in cc), (λ e. absurd (ungrafted g name e)));

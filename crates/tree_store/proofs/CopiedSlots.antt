@@ -1,5 +1,5 @@
 -- What is copied of slots, entry by entry.
-use Rattle.std.proofs.Common.{◌≡◌, List, [], ◌∷◌, Bool, true, false, cond, true≢false, Option, Some, None, refl, sym, ap, subst, ◌∙◌}
+use Rattle.std.proofs.Common.{◌≡◌, List, [], ◌∷◌, Bool, true, false, cond, Option, Some, None, refl, sym, ap, subst, ◌∙◌}
 use Rattle.std.specs.Prelude.{IsSome}
 use Rattle.std.specs.Option.{option_map}
 use Rattle.std.specs.List.{AllByRecursion}
@@ -18,10 +18,10 @@ use Rattle.model.specs.Forest.{is_same}
 use Rattle.model.proofs.Forest.PlaceOf.{same_from_test, test_self}
 use Rattle.tree_store.specs.declared.records.Record.{Record}
 use Rattle.tree_store.specs.declared.copies.MirrorRecord.{MirrorRecord}
-use Rattle.tree_store.specs.Stored.{Slots, slot_at, record_at, record_in}
+use Rattle.tree_store.specs.Stored.{Slots, record_at, record_in}
 use Rattle.tree_store.specs.Copied.{copy_at, copy_of, IsCopyOf}
 use Rattle.model.specs.World.{World, data_of}
-use Rattle.tree_store.specs.Stored.{nodes_shown, PlacesAreTrue}
+use Rattle.tree_store.specs.Stored.{nodes_shown, HasTruePlaces}
 use Rattle.tree_store.proofs.Maps.{node_in, get-nodes_shown}
 use Rattle.tree_store.proofs.SlotCounts.{apart_back}
 
@@ -103,7 +103,7 @@ module _ (whole rest : Slots) (k : FullNodeId) (b : Box (Option Record) Global) 
     }
 
 -- a copy of a record that shows the world's node
-module _ (es : Slots) (w : World) (places : PlacesAreTrue es w) (nodes : w.nodes ≡ nodes_shown es) (id : FullNodeId) where
+module _ (es : Slots) (w : World) (places : HasTruePlaces es w) (nodes : w.nodes ≡ nodes_shown es) (id : FullNodeId) where
   data_is : data_of w id ≡ node_in (record_at es id)
   data_is = ap (λ m. get m id) nodes ∙ get-nodes_shown es id
 

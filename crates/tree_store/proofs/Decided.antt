@@ -1,12 +1,10 @@
 -- What a decision asks of the steps of its commit.
-use Rattle.std.proofs.Common.{◌≡◌, ◌≢◌, ℕ, zero, suc, ◌+◌, ◌<◌, length, map, get_or, List, [], ◌∷◌, ◌++◌, ◌||◌, Bool, true, false, not, cond, Option, Some, None, refl, sym, ap, subst, ◌∙◌, arith}
-use Rattle.std.specs.Prelude.{is_some, is_none, IsSome, IfSome, All, AllPairs, slice_get, option_and_then, Contains, if◌then◌else◌}
+use Rattle.std.proofs.Common.{◌≡◌, ◌≢◌, ℕ, zero, suc, ◌<◌, length, map, get_or, List, [], ◌∷◌, ◌++◌, ◌||◌, Bool, true, false, not, cond, Option, Some, None, refl, sym, ap, subst, ◌∙◌, arith}
+use Rattle.std.specs.Prelude.{is_some, is_none, IfSome, All, AllPairs, slice_get, option_and_then, if◌then◌else◌}
 use Rattle.std.specs.Option.{option_map_or}
-use Rattle.std.specs.List.Sorted.{IsStrictlySortedBy}
 use Rattle.std.specs.Cmp.{tied_itself}
 use Rattle.std.specs.Ordering.{nat_cmp, is_eq}
 use Rattle.std.specs.Cmp.Lexicographic.{slice_cmp}
-use Rattle.std.specs.Map.{keys_of, lookup}
 use Rattle.std.proofs.lemmas.Map.Entries.{length-keys_of}
 use Rattle.std.proofs.lemmas.Option.{slice_get_within}
 use Rattle.schema.specs.NodeData.{NodeData}
@@ -22,10 +20,10 @@ use Rattle.tree_changes.specs.declared.look_ups.TreeRecord.{TreeRecord}
 use Rattle.tree_changes.specs.declared.decision.NodeChange.{NodeChange}
 use Rattle.tree_changes.specs.declared.decision.NodeChange.TheVariants.{Put, Gone}
 use Rattle.tree_changes.specs.declared.decision.Decision.{Decision}
-use Rattle.tree_changes.specs.Changes.{change_at, overlaid_world, tree_change, tree_after, if_kept}
-use Rattle.tree_changes.specs.Looks.{IsTreeRecord}
+use Rattle.tree_changes.specs.Changes.{overlaid_world, tree_change, tree_after, if_kept, entry_of}
+use Rattle.tree_changes.specs.LookUps.{IsTreeRecord}
 use Rattle.tree_changes.specs.Decisions.{FindsData, IsDecision}
-use Rattle.tree_store.specs.Commits.{entry_of, with_name, texts_after, HasEntries, AreEntriesApart}
+use Rattle.tree_store.specs.Commits.{with_name, texts_after, HasEntries, AreEntriesApart}
 use Rattle.tree_store.proofs.Searches.{found, below_by}
 use Rattle.tree_store.proofs.WrittenSlots.{if_some}
 

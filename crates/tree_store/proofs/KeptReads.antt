@@ -1,29 +1,26 @@
 -- What is read of a store's fields is read of the world that it shows.
-use Rattle.std.proofs.Common.{◌≡◌, ℕ, List, Bool, true, false, cond, Option, Some, None, refl, sym, ap, subst, ◌∙◌, inl, inr}
-use Rattle.std.specs.Prelude.{IsSome, ◌↔◌, ◌||◌, ◌⊎◌, is_some, slice_get, option_and_then}
+use Rattle.std.proofs.Common.{◌≡◌, ℕ, List, Bool, Option, Some, None, refl, sym, ap, subst, ◌∙◌, inl, inr}
+use Rattle.std.specs.Prelude.{IsSome, ◌↔◌, slice_get, option_and_then}
 use Rattle.std.specs.Option.{option_map}
 use Rattle.std.specs.FinMap.{get, get-empty}
-use Rattle.std.proofs.lemmas.Option.{slice_get-map, none-some}
+use Rattle.std.proofs.lemmas.Option.{none-some}
 use Rattle.model.specs.FullIds.{full_cmp}
 use Rattle.model.specs.State.{empty_world}
 use Rattle.model.proofs.State.HostFocus.{host_leaves_state, chain_before}
 use Rattle.schema.specs.declared.TreeId.{TreeId}
 use Rattle.model.specs.declared.FullNodeId.{FullNodeId}
-use Rattle.model.specs.World.{World, Tree, data_of, index_of, graft_name}
-use Rattle.model.specs.Focus.{IsEffectiveFocus}
+use Rattle.model.specs.World.{World, index_of, graft_name}
 use Rattle.tree_changes.specs.declared.look_ups.TreeRecord.{TreeRecord}
-use Rattle.tree_changes.specs.Looks.{IsTreeRecord, tree_named}
-use Rattle.tree_store.specs.declared.records.Record.{Record}
+use Rattle.tree_changes.specs.LookUps.{IsTreeRecord, tree_named}
 use Rattle.tree_store.specs.declared.records.PresentTree.{PresentTree}
 use Rattle.tree_store.specs.declared.records.KnownTree.{KnownTree}
 use Rattle.tree_store.specs.declared.records.NameRecord.{NameRecord}
 use Rattle.tree_store.specs.declared.store.Store.TheInside.{Inside}
-use Rattle.tree_store.specs.Kept.{Kept}
 use Rattle.tree_store.specs.Stored.{tree_of, trees_shown}
 use Rattle.tree_store.specs.NameRecords.{record_of}
 use Rattle.tree_store.specs.Shown.{world_shown, NamesAreTrue, IsStored}
 use Rattle.tree_store.specs.KeptNames.{name_at}
-use Rattle.tree_store.proofs.Maps.{node_in, get-trees}
+use Rattle.tree_store.proofs.Maps.{get-trees}
 
 some_is_none : {A : Type 0} (o : Option A) → IsSome o → o ≡ None → ⊥
 some_is_none None h e = cc
@@ -96,14 +93,14 @@ tree_by ks None = refl
 tree_by ks (Some i) = sym (get-trees ks i)
 
 -- the record that is put together of what a store keeps of a name
-pub stored_record : (a : Inside) (name : TreeId) (found : Option NameRecord) (index : Option ℕ) (graft : Option FullNodeId) (tree : Option PresentTree) → NamesAreTrue a.names (world_shown a)
-    → found ≡ name_at a.names name → index ≡ option_and_then (λ r. r.index) found → graft ≡ option_and_then (λ r. r.graft) found
-    → tree ≡ option_and_then (λ i. option_and_then (λ k. k.tree) (slice_get a.known.items i)) index
+pub stored_record : (a : Inside) (name : TreeId) (found : Option NameRecord) (index : Option ℕ) (graft : Option FullNodeId) (tree : Option PresentTree) → NamesAreTrue a.tables.names (world_shown a)
+    → found ≡ name_at a.tables.names name → index ≡ option_and_then (λ r. r.index) found → graft ≡ option_and_then (λ r. r.graft) found
+    → tree ≡ option_and_then (λ i. option_and_then (λ k. k.tree) (slice_get a.tables.known.items i)) index
     → IsTreeRecord (world_shown a) name (record_of name index graft tree)
 stored_record a name found index graft tree s is_found is_index is_graft is_tree =
     let at : index ≡ index_of (world_shown a) name = is_index ∙ ap (option_and_then (λ r. r.index)) is_found ∙ s.index name in
-    let grafted : graft ≡ option_and_then (λ r. r.graft) (name_at a.names name) = is_graft ∙ ap (option_and_then (λ r. r.graft)) is_found in
+    let grafted : graft ≡ option_and_then (λ r. r.graft) (name_at a.tables.names name) = is_graft ∙ ap (option_and_then (λ r. r.graft)) is_found in
     record_made (world_shown a) name index graft tree at
     (λ g. ((λ e. (s.graft name g).0 (sym grafted ∙ e)), (λ e. grafted ∙ (s.graft name g).1 e)))
-    (ap (option_map tree_of) is_tree ∙ tree_by a.known.items index ∙ ap (option_and_then (λ i. get (trees_shown 0 a.known.items) i)) at)
-    (λ e. is_tree ∙ ap (option_and_then (λ i. option_and_then (λ k. k.tree) (slice_get a.known.items i))) e)
+    (ap (option_map tree_of) is_tree ∙ tree_by a.tables.known.items index ∙ ap (option_and_then (λ i. get (trees_shown 0 a.tables.known.items) i)) at)
+    (λ e. is_tree ∙ ap (option_and_then (λ i. option_and_then (λ k. k.tree) (slice_get a.tables.known.items i))) e)

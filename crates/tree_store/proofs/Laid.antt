@@ -1,20 +1,17 @@
 -- What is read of a world with an update's changes over it.
-use Rattle.std.proofs.Common.{◌≡◌, ℕ, ◌<◌, ◌≤◌, List, [], ◌∷◌, ◌++◌, length, map, Bool, true, false, cond, Option, Some, None, refl, sym, ap, subst, ◌∙◌, arith}
+use Rattle.std.proofs.Common.{◌≡◌, ℕ, map, Option, Some, None, refl, sym, ap, subst, ◌∙◌}
 use mathlib.Core.Logic.{∥∥₁_elim, ∥∥₁_map}
-use Rattle.std.specs.Prelude.{◌↔◌, IsSome, slice_get, option_and_then}
-use Rattle.std.specs.Option.{option_map, option_map_or}
-use Rattle.std.specs.Cmp.{Equal-is}
+use Rattle.std.specs.Prelude.{IsSome, option_and_then}
+use Rattle.std.specs.Option.{option_map}
 use Rattle.std.specs.Coded.{Coded-set, coded_option, coded×, coded_ℕ, ×_prop, Π_prop, →_prop}
-use Rattle.std.specs.Ordering.{eq_by_cmp}
-use Rattle.std.specs.FinMap.{FinMap, get}
+use Rattle.std.specs.FinMap.{get}
 use Rattle.std.specs.List.Sorted.{IsStrictlySortedBy, IsStrictlySortedBy-prop}
-use Rattle.schema.specs.NodeData.{NodeData}
 use Rattle.schema.specs.declared.NodeId.{NodeId}
 use Rattle.schema.specs.declared.TreeId.{TreeId}
 use Rattle.model.specs.declared.FullNodeId.{FullNodeId}
-use Rattle.model.specs.FullIds.{full_cmp, exact_full, coded_full}
+use Rattle.model.specs.FullIds.{full_cmp, coded_full}
 use Rattle.model.proofs.Worlds.Names.{index_of-known}
-use Rattle.model.specs.World.{ROOT_NAME, World, Tree, Place, StandsAt, IsNode, data_of, child_at, index_of, root_of, root_named, in_tree}
+use Rattle.model.specs.World.{ROOT_NAME, World, Tree, Place, IsNode, data_of, child_at, index_of, root_of, root_named, in_tree}
 use Rattle.model.specs.Focus.{IsEffectiveFocus}
 use Rattle.model.specs.FocusFound.{effective_focus}
 use Rattle.model.specs.State.{IsState}
@@ -25,8 +22,8 @@ use Rattle.model.proofs.State.StatesKept.{state_kept}
 use Rattle.tree_changes.specs.declared.look_ups.TreeRecord.{TreeRecord}
 use Rattle.tree_changes.specs.declared.decision.NodeChange.{NodeChange}
 use Rattle.tree_changes.specs.declared.decision.Decision.{Decision}
-use Rattle.tree_changes.specs.Changes.{NodeChanges, change_at, changed_data, place_in, put_all, overlaid_world, tree_after}
-use Rattle.tree_changes.specs.Looks.{IsPlaceOf, IsTreeRecord, tree_named}
+use Rattle.tree_changes.specs.Changes.{change_at, place_in, overlaid_world, tree_after}
+use Rattle.tree_changes.specs.LookUps.{IsPlaceOf, IsTreeRecord, tree_named}
 use Rattle.tree_changes.specs.Decisions.{IsDecision}
 use Rattle.tree_store.specs.Overlays.{root_recorded}
 use Rattle.tree_changes.proofs.Overlays.{effect, get-put_all}

@@ -1,20 +1,19 @@
 -- Names whose records are made, written and taken back.
-use Rattle.std.proofs.Common.{◌≡◌, ◌≢◌, ℕ, suc, ◌+◌, ◌<◌, length, get_or, List, [], ◌∷◌, Bool, true, false, cond, Option, Some, None, refl, sym, ap, subst, ◌∙◌, arith, inl, inr, ⊎_elim}
+use Rattle.std.proofs.Common.{◌≡◌, ◌≢◌, ℕ, suc, ◌<◌, length, get_or, List, [], ◌∷◌, Bool, true, false, cond, Option, Some, None, refl, sym, ap, subst, ◌∙◌, arith, inl, inr, ⊎_elim}
 use Rattle.std.specs.Prelude.{is_some, IsSome, All, AllPairs, option_and_then, Contains, ◌⊎◌}
 use Rattle.std.specs.Map.{keys_of, lookup}
 use Rattle.model.proofs.Members.{contains_none, contains_head, contains_later, contains_cases}
 use Rattle.std.specs.BTreeMap.{is_at}
 use Rattle.std.specs.Ordering.{nat_cmp, is_eq}
 use Rattle.std.specs.Cmp.Lexicographic.{slice_cmp}
-use Rattle.std.proofs.lemmas.Cmp.{nat_list_cmp_total, eq_by_cmp_equiv}
 use Rattle.schema.specs.declared.TreeId.{TreeId}
-use Rattle.model.specs.declared.FullNodeId.{FullNodeId}
 use Rattle.model.proofs.Worlds.Names.{is_name-true, is_name-itself}
+use Rattle.model.specs.FullIds.{name_cmp}
 use Rattle.tree_changes.specs.declared.look_ups.TreeRecord.{TreeRecord}
 use Rattle.tree_changes.specs.Changes.{tree_change}
 use Rattle.tree_store.specs.declared.records.NameRecord.{NameRecord}
 use Rattle.tree_store.proofs.KeptSlots.{none_from_false}
-use Rattle.tree_store.specs.KeptNames.{name_cmp, name_kept, name_after, kept_in, IsNoBlank, IsOneOf}
+use Rattle.tree_store.specs.KeptNames.{name_kept, name_after, kept_in, IsNoBlank, IsOneOf}
 
 same_name : (k q : TreeId) → is_at (name_cmp k) q ≡ true → k ≡ q
 same_name k q e = is_name-true q k e

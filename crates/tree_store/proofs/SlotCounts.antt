@@ -1,5 +1,5 @@
 -- A world has no more nodes than there are slots for them.
-use Rattle.std.proofs.Common.{◌≡◌, ℕ, zero, suc, ◌+◌, ◌-◌, ◌≤◌, ◌<◌, List, [], ◌∷◌, length, Bool, true, false, cond, map, Option, Some, None, not, true≢false, subst, refl, sym, ap, ◌∙◌, arith}
+use Rattle.std.proofs.Common.{◌≡◌, ℕ, zero, suc, ◌+◌, ◌-◌, ◌≤◌, List, [], ◌∷◌, length, Bool, true, false, cond, Option, Some, None, not, true≢false, subst, refl, sym, ap, ◌∙◌, arith}
 use Rattle.std.specs.Prelude.{◌||◌, ◌&&◌, is_some}
 use Rattle.std.specs.List.{IsDistinct, AllByRecursion, list_any}
 use Rattle.std.specs.FinMap.{FinMap, keys, len, entries, entries_sorted, len-entries, contains_key, contains_key-keys}
@@ -9,7 +9,7 @@ use Rattle.schema.specs.NodeData.{NodeData}
 use Rattle.schema.specs.declared.NodeId.{NodeId}
 use Rattle.model.specs.declared.FullNodeId.{FullNodeId}
 use Rattle.model.specs.FullIds.{full_cmp, full_total}
-use Rattle.model.specs.World.{World, data_of}
+use Rattle.model.specs.World.{data_of}
 use Rattle.model.specs.Update.{UpdateData}
 use Rattle.model.specs.Forest.{is_same}
 use Rattle.model.proofs.Forest.PlaceOf.{same_from_test, test_self}
@@ -18,9 +18,9 @@ use Rattle.tree_changes.specs.declared.decision.NodeChange.{NodeChange}
 use Rattle.tree_changes.specs.declared.decision.Decision.{Decision}
 use Rattle.tree_changes.specs.Changes.{change_at, overlaid_world}
 use Rattle.tree_store.specs.declared.records.Record.{Record}
-use Rattle.tree_store.specs.Kept.{Kept}
+use Rattle.tree_store.specs.StoreViews.{StoreView}
 use Rattle.tree_store.specs.Commits.{HasSlots}
-use Rattle.tree_store.specs.Stored.{Slots, nodes_shown, slots_shown, slot_at, record_at, record_in}
+use Rattle.tree_store.specs.Stored.{Slots, nodes_shown, slots_shown, slot_at, record_in}
 use Rattle.tree_store.proofs.Maps.{get-nodes_shown, contains-slots_shown, node_in}
 use Rattle.tree_changes.proofs.Overlays.{effect}
 use Rattle.tree_store.proofs.Laid.{data_laid}
@@ -86,7 +86,7 @@ after_or nodes (Some c) None h = refl
 after_or nodes (Some c) (Some d) h = refl
 
 -- so where each node and each changed one has a slot, the nodes after the changes are no more than the slots
-pub laid_fit : (k : Kept) (u : UpdateData) (d : Decision) → HasSlots k d → len (overlaid_world k.world u d).nodes ≤ set.len k.slots
+pub laid_fit : (k : StoreView) (u : UpdateData) (d : Decision) → HasSlots k d → len (overlaid_world k.world u d).nodes ≤ set.len k.slots
 laid_fit k u d slots =
     nodes_within (overlaid_world k.world u d).nodes k.slots
     (λ q h. slots q ∙ after_or u.nodes (change_at d.nodes.items q) (data_of k.world q) (sym (ap is_some (data_laid k.world u d q)) ∙ h))

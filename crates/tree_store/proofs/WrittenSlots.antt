@@ -1,6 +1,6 @@
 -- What is left to write after the first of some changes is written.
-use Rattle.std.proofs.Common.{◌≡◌, ◌≢◌, ℕ, suc, ◌+◌, ◌<◌, get_or, length, List, [], ◌∷◌, map, drop, Bool, true, false, cond, Option, Some, None, refl, sym, ap, subst, ◌∙◌, arith}
-use Rattle.std.specs.Prelude.{◌||◌, is_some, IsSome, IfSome, All, AllPairs, slice_get}
+use Rattle.std.proofs.Common.{◌≡◌, ◌≢◌, ℕ, suc, ◌+◌, ◌<◌, get_or, length, List, [], ◌∷◌, drop, Bool, true, false, cond, Option, Some, None, refl, sym, ap, subst, ◌∙◌, arith}
+use Rattle.std.specs.Prelude.{◌||◌, is_some, IsSome, IfSome, All, slice_get}
 use Rattle.std.specs.Option.{option_map}
 use Rattle.std.specs.BTreeMap.{is_at}
 use Rattle.std.proofs.Math.Seq.{drop-cons}
@@ -17,10 +17,10 @@ use Rattle.model.specs.declared.FullNodeId.{FullNodeId}
 use Rattle.model.specs.FullIds.{full_cmp, full_total}
 use Rattle.tree_changes.specs.declared.decision.NodeChange.{NodeChange}
 use Rattle.tree_changes.specs.declared.decision.NodeChange.TheVariants.{Put, Gone}
-use Rattle.tree_changes.specs.Changes.{NodeChanges, change_at}
+use Rattle.tree_changes.specs.Changes.{NodeChanges, change_at, entry_of}
 use Rattle.tree_store.specs.declared.records.Record.{Record}
 use Rattle.tree_store.specs.Stored.{Slots, slot_at, record_at}
-use Rattle.tree_store.specs.Commits.{entry_of, record_after, after_change, AreEntriesApart, HasRoomFor}
+use Rattle.tree_store.specs.Commits.{record_after, changed_record, AreEntriesApart, HasRoomFor}
 use Rattle.tree_store.proofs.KeptSlots.{same_id, symmetric}
 
 -- the entries of these changes are there, and are as they were in the first list
@@ -61,15 +61,15 @@ module _ (nodes : List (NodeId × NodeData)) (es fs : Slots) (k : FullNodeId) (c
   none_here : (q : FullNodeId) → is_at (full_cmp k) q ≡ true → change_at cs q ≡ None
   none_here q b = subst (λ i. change_at cs i ≡ None) (same_id k q b) (only_first k c cs sorted)
 
-  written_by : (q : FullNodeId) (b : Bool) → (b ≡ true → k ≡ q) → (b ≡ true → change_at cs q ≡ None) → record_at fs q ≡ cond b (record_after nodes c (record_at es k)) (record_at es q) → after_change nodes (change_at cs q) (record_at fs q) ≡ after_change nodes (cond b (Some c) (change_at cs q)) (record_at es q)
-  written_by q true same none e = ap (λ o. after_change nodes o (record_at fs q)) (none refl) ∙ e ∙ ap (λ i. record_after nodes c (record_at es i)) (same refl)
-  written_by q false same none e = ap (after_change nodes (change_at cs q)) e
+  written_by : (q : FullNodeId) (b : Bool) → (b ≡ true → k ≡ q) → (b ≡ true → change_at cs q ≡ None) → record_at fs q ≡ cond b (record_after nodes c (record_at es k)) (record_at es q) → changed_record nodes (change_at cs q) (record_at fs q) ≡ changed_record nodes (cond b (Some c) (change_at cs q)) (record_at es q)
+  written_by q true same none e = ap (λ o. changed_record nodes o (record_at fs q)) (none refl) ∙ e ∙ ap (λ i. record_after nodes c (record_at es i)) (same refl)
+  written_by q false same none e = ap (changed_record nodes (change_at cs q)) e
 
   -- after the first change the others are left
-  pub written_next : (q : FullNodeId) → after_change nodes (change_at cs q) (record_at fs q) ≡ after_change nodes (change_at ((k, c) ∷ cs) q) (record_at es q)
+  pub written_next : (q : FullNodeId) → changed_record nodes (change_at cs q) (record_at fs q) ≡ changed_record nodes (change_at ((k, c) ∷ cs) q) (record_at es q)
   written_next q =
       written_by q (is_at (full_cmp k) q) (same_id k q) (none_here q) (records q)
-      ∙ ap (λ b. after_change nodes (cond b (Some c) (change_at cs q)) (record_at es q)) (sym (symmetric k q))
+      ∙ ap (λ b. changed_record nodes (cond b (Some c) (change_at cs q)) (record_at es q)) (sym (symmetric k q))
 
   roomy_by : (q : FullNodeId) (b : Bool) → (b ≡ true → change_at cs q ≡ None) → record_at fs q ≡ cond b (record_after nodes c (record_at es k)) (record_at es q) → (s t : Bool) → t ≡ cond b (is_some (record_at fs q)) s → s ≡ (is_some (record_at es q) || is_some (cond b (Some c) (change_at cs q))) → t ≡ (is_some (record_at fs q) || is_some (change_at cs q))
   roomy_by q true none e s t f h = f ∙ sym (ap (λ o. is_some (record_at fs q) || is_some o) (none refl) ∙ or-false (is_some (record_at fs q)))
@@ -105,7 +105,7 @@ module _ (first now later : List (NodeId × NodeData)) (es fs : Slots) (e : Full
     given : (q : FullNodeId) → record_at fs q ≡ cond (is_at (full_cmp e.0) q) (record_after first e.1 (record_at es e.0)) (record_at es q)
     given q = written q ∙ ap (λ r. cond (is_at (full_cmp e.0) q) r (record_at es q)) (same_given first now e.1 (record_at es e.0) (All-head (λ x. (k : ℕ) → entry_of x.1 ≡ Some k → (k < length now) × (slice_get now k ≡ slice_get first k)) e cs entries))
 
-    pub next_records : (q : FullNodeId) → after_change first (change_at cs q) (record_at fs q) ≡ after_change first (change_at (e ∷ cs) q) (record_at es q)
+    pub next_records : (q : FullNodeId) → changed_record first (change_at cs q) (record_at fs q) ≡ changed_record first (change_at (e ∷ cs) q) (record_at es q)
     next_records = written_next first es fs e.0 e.1 cs sorted given
 
     pub next_room : HasRoomFor fs cs

@@ -12,25 +12,20 @@ use Rattle.model.specs.Update.{UpdateData}
 use Rattle.tree_changes.specs.declared.decision.NodeChange.{NodeChange}
 use Rattle.tree_changes.specs.declared.decision.NodeChange.TheVariants.{Put, Gone}
 use Rattle.tree_changes.specs.declared.decision.Decision.{Decision}
-use Rattle.tree_changes.specs.Changes.{NodeChanges, change_at, entry_data}
+use Rattle.tree_changes.specs.Changes.{NodeChanges, change_at, entry_data, entry_of}
 use Rattle.tree_store.specs.declared.records.Record.{Record}
-use Rattle.tree_store.specs.Kept.{Kept}
+use Rattle.tree_store.specs.StoreViews.{StoreView}
 use Rattle.tree_store.specs.Stored.{Slots, slot_at, record_at}
 
 -- there is a slot for each node and for each changed one, and no other
-abbrev pub HasSlots : Kept → Decision → Type 0
+abbrev pub HasSlots : StoreView → Decision → Type 0
 HasSlots k d = (id : FullNodeId) → contains k.slots id ≡ (is_some (data_of k.world id) || is_some (change_at d.nodes.items id))
 
 -- besides, each changed name has a record, and there is room for a new name
-pub record IsReadyFor (k : Kept) (u : UpdateData) (d : Decision) : Type 0 where
+pub record IsReadyFor (k : StoreView) (u : UpdateData) (d : Decision) : Type 0 where
   pub slots : HasSlots k d
   pub names : All (λ r. Contains k.names r.id) d.trees.items
   pub room : index_of k.world u.name ≡ None → k.room ≡ true
-
--- the entry whose data a change gives
-abbrev pub entry_of : NodeChange → Option ℕ
-entry_of (Put place entry) = entry
-entry_of Gone = None
 
 -- the changes give data of entries that are there, each of another one
 abbrev pub HasEntries : List (NodeId × NodeData) → NodeChanges → Type 0
@@ -50,9 +45,9 @@ record_after nodes (Put place None) before = record_moved_to place before
 record_after nodes Gone before = None
 
 -- the record after a change that may be missing
-abbrev pub after_change : List (NodeId × NodeData) → Option NodeChange → Option Record → Option Record
-after_change nodes None before = before
-after_change nodes (Some c) before = record_after nodes c before
+abbrev pub changed_record : List (NodeId × NodeData) → Option NodeChange → Option Record → Option Record
+changed_record nodes None before = before
+changed_record nodes (Some c) before = record_after nodes c before
 
 -- there is a slot for the records, and no other
 abbrev pub HasNoSpare : Slots → Type 0

@@ -1,16 +1,11 @@
 -- What is kept of names, and what becomes of it.
 use Rattle.std.specs.Prelude.{◌≡◌, ℕ, List, Option, Some, None, All, Contains, IsSome, ◌⊎◌, ◌||◌, is_some, option_and_then, if◌then◌else◌}
 use Rattle.std.specs.BTreeMap.{BTreeMap, get}
-use Rattle.std.specs.Ordering.{nat_cmp}
-use Rattle.std.specs.Cmp.Lexicographic.{slice_cmp}
-use Rattle.std.specs.declared.cmp.Ordering.{Ordering}
 use Rattle.schema.specs.declared.TreeId.{TreeId}
 use Rattle.model.specs.declared.FullNodeId.{FullNodeId}
+use Rattle.model.specs.FullIds.{name_cmp}
 use Rattle.tree_changes.specs.declared.look_ups.TreeRecord.{TreeRecord}
 use Rattle.tree_store.specs.declared.records.NameRecord.{NameRecord}
-
-abbrev pub name_cmp : TreeId → TreeId → Ordering
-name_cmp a b = slice_cmp nat_cmp a.0 b.0
 
 -- what is kept at a name
 abbrev pub name_at : BTreeMap TreeId NameRecord → TreeId → Option NameRecord

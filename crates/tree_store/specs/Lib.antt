@@ -1,4 +1,4 @@
-pub mod Kept
+pub mod StoreViews
 pub mod Stored
 pub mod NameRecords
 pub mod KeptNames

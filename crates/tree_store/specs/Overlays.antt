@@ -6,7 +6,7 @@ use Rattle.std.specs.Option.{option_map}
 use Rattle.model.specs.declared.FullNodeId.{FullNodeId}
 use Rattle.model.specs.World.{World, in_tree}
 use Rattle.tree_changes.specs.declared.look_ups.TreeRecord.{TreeRecord}
-use Rattle.tree_changes.specs.Looks.{IsTreeRecord}
+use Rattle.tree_changes.specs.LookUps.{IsTreeRecord}
 use Rattle.model.specs.Update.{index_for}
 use Rattle.tree_changes.specs.Changes.{overlaid_world, tree_after}
 use Rattle.tree_changes.specs.Decisions.{IsDecision}

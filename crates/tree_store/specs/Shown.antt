@@ -1,9 +1,6 @@
 -- The world that a store shows, and what has to hold of its records.
-use Rattle.std.specs.Prelude.{◌≡◌, ◌<◌, Option, Some, None, IsSome, ◌↔◌, ◌⊎◌, option_and_then, nat_lt}
-use Rattle.std.specs.BTreeMap.{BTreeMap, get}
-use Rattle.std.specs.Vec.{vec_len, vec_capacity}
-use Rattle.std.specs.Ordering.{nat_cmp}
-use Rattle.std.specs.Cmp.Lexicographic.{slice_cmp}
+use Rattle.std.specs.Prelude.{◌≡◌, Some, ◌↔◌, option_and_then}
+use Rattle.std.specs.BTreeMap.{BTreeMap}
 use Rattle.schema.specs.declared.TreeId.{TreeId}
 use Rattle.model.specs.declared.FullNodeId.{FullNodeId}
 use Rattle.model.specs.World.{World, index_of, graft_name}
@@ -12,14 +9,14 @@ use Rattle.model.specs.State.{IsState}
 use Rattle.tree_store.specs.declared.records.NameRecord.{NameRecord}
 use Rattle.tree_store.specs.declared.store.Store.TheInside.{Inside}
 use Rattle.tree_store.specs.KeptNames.{name_at}
-use Rattle.tree_store.specs.Stored.{nodes_shown, trees_shown, slots_shown, texts_shown, names_shown, PlacesAreTrue}
+use Rattle.tree_store.specs.Stored.{nodes_shown, trees_shown, texts_shown, names_shown, HasTruePlaces}
 
 abbrev pub world_shown : Inside → World
 world_shown a = record {
-  known = names_shown a.known.items;
-  trees = trees_shown 0 a.known.items;
-  nodes = nodes_shown a.nodes.entries;
-  toolkit = texts_shown a.toolkit;
+  known = names_shown a.tables.known.items;
+  trees = trees_shown 0 a.tables.known.items;
+  nodes = nodes_shown a.tables.nodes.entries;
+  toolkit = texts_shown a.tables.toolkit;
   host_focused = a.host_focused;
 }
 
@@ -31,6 +28,6 @@ pub record NamesAreTrue (m : BTreeMap TreeId NameRecord) (w : World) : Type 0 wh
 -- a store's records are those of the world that it shows, which is a state
 pub record IsStored (a : Inside) (w : World) : Type 0 where
   pub state : IsState w
-  pub places : PlacesAreTrue a.nodes.entries w
-  pub names : NamesAreTrue a.names w
+  pub places : HasTruePlaces a.tables.nodes.entries w
+  pub names : NamesAreTrue a.tables.names w
   pub focus : IsEffectiveFocus w a.focus

@@ -1,9 +1,9 @@
 -- How the records of a store show a world.
-use Rattle.std.specs.Prelude.{◌≡◌, ℕ, suc, List, [], ◌∷◌, map, Option, Some, None, IsSome, ◌↔◌, ◌⊎◌, is_some, option_and_then}
+use Rattle.std.specs.Prelude.{◌≡◌, ℕ, suc, List, [], ◌∷◌, map, Option, Some, None, option_and_then}
 use Rattle.std.specs.Option.{option_map}
 use Rattle.std.specs.Ordering.{nat_cmp}
 use Rattle.std.specs.Map.{lookup}
-use Rattle.std.specs.BTreeMap.{BTreeMap, get, is_at}
+use Rattle.std.specs.BTreeMap.{is_at}
 use Rattle.std.specs.FinMap.{FinMap, empty}
 use Rattle.std.specs.FinSet as set
 use Rattle.std.specs.String.{string_bytes}
@@ -14,15 +14,12 @@ use Rattle.schema.specs.NodeData.{NodeData}
 use Rattle.schema.specs.declared.TreeId.{TreeId}
 use Rattle.model.specs.declared.FullNodeId.{FullNodeId}
 use Rattle.model.specs.FullIds.{full_cmp}
-use Rattle.model.specs.World.{World, Tree, StandsAt, index_of, graft_name}
-use Rattle.model.specs.Focus.{IsEffectiveFocus}
-use Rattle.model.specs.State.{IsState}
+use Rattle.model.specs.World.{World, Tree}
 use Rattle.tree_changes.specs.Changes.{set_at, set_tree}
-use Rattle.tree_changes.specs.Looks.{IsPlaceOf}
+use Rattle.tree_changes.specs.LookUps.{IsPlaceOf}
 use Rattle.tree_store.specs.declared.records.Record.{Record}
 use Rattle.tree_store.specs.declared.records.PresentTree.{PresentTree}
 use Rattle.tree_store.specs.declared.records.KnownTree.{KnownTree}
-use Rattle.tree_store.specs.declared.records.NameRecord.{NameRecord}
 
 abbrev pub Slots : Type 0
 Slots = List (FullNodeId × Box (Option Record) Global)
@@ -68,5 +65,5 @@ abbrev pub names_shown : List KnownTree → List TreeId
 names_shown ks = map (λ k. k.name) ks
 
 -- the places that the records keep are those where the nodes stand
-abbrev pub PlacesAreTrue : Slots → World → Type 0
-PlacesAreTrue es w = (id : FullNodeId) (r : Record) → record_at es id ≡ Some r → IsPlaceOf w id r.place
+abbrev pub HasTruePlaces : Slots → World → Type 0
+HasTruePlaces es w = (id : FullNodeId) (r : Record) → record_at es id ≡ Some r → IsPlaceOf w id r.place

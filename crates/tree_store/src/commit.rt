@@ -8,8 +8,8 @@ ghost use Rattle.model.specs.State.{empty_world};
 ghost use Rattle.model.specs.FullIds.{full_cmp};
 ghost use Rattle.std.specs.List.Sorted.{IsStrictlySortedBy};
 ghost use Rattle.tree_changes.specs.Decisions.{IsDecision};
-ghost use Rattle.tree_store.specs.Kept.{IsTight};
-ghost use Rattle.tree_store.specs.Commits.{texts_after, with_name, after_change, IsReadyFor, HasEntries, AreEntriesApart, HasNoSpare, HasRoomFor};
+ghost use Rattle.tree_store.specs.StoreViews.{IsTight};
+ghost use Rattle.tree_store.specs.Commits.{texts_after, with_name, changed_record, IsReadyFor, HasEntries, AreEntriesApart, HasNoSpare, HasRoomFor};
 ghost use Rattle.tree_store.specs.KeptNames.{name_at, name_after, kept_in, HasNames, HasNoMore};
 ghost use Rattle.model.specs.declared.FullNodeId.{FullNodeId};
 ghost use Rattle.schema.specs.declared.TreeId.{TreeId};
@@ -17,17 +17,21 @@ ghost use Rattle.schema.specs.declared.TreeId.{TreeId};
 use crate::known::write_known;
 use crate::names::{make_names, take_names_back, write_names};
 use crate::overlay::is_root_index;
-use crate::records::{KnownTree, NameRecord};
-use crate::slots::{Slots, make_room, take_back, write_all};
+use crate::records::{KnownTree, Tables};
+use crate::slots::{make_room, take_back, write_all};
 use crate::store::Store;
-use schema::{TreeId, TreeInfo, TreeUpdate};
+use schema::{TreeInfo, TreeUpdate};
 use std::alloc::{AllocError, Global};
 use std::collections::BTreeMap;
 use tree_changes::{Decision, ToolkitTexts};
 
 impl Store {
     /// Makes what is needed so that the changes can be written without memory: a slot for each new node, a record for each
-    /// new name, and room for a new known tree. Where memory is refused all that was made is taken back.
+    /// new name, and room for a new known tree.
+    ///
+    /// # Errors
+    ///
+    /// `AllocError`: memory was wanting. The world is the same, and all that was made is taken back.
     pub fn reserve(&mut self, update: &TreeUpdate, decision: &Decision) -> Result<(), AllocError>
         requires tight { IsTight self.old }
         requires decided { IsDecision self.old.world (update_data update.now) decision.now }
@@ -37,14 +41,7 @@ impl Store {
         ensures names { OnErr result ((name : TreeId) → Contains self.new.names name → Contains self.old.names name) }
     {
         let is_new = self.tree_index(update.tree_id).is_none();
-        make_all(
-            self.alloc,
-            &mut self.nodes,
-            &mut self.names,
-            &mut self.known,
-            is_new,
-            decision,
-        )
+        self.tables.make_all(is_new, decision)
     }
 
     /// Writes the changes into the state, which is ready for them. Nothing is allocated, and no node's data are copied.
@@ -56,21 +53,16 @@ impl Store {
     {
         let is_new = self.tree_index(update.tree_id).is_none();
         let is_root = is_root_index(self, update.tree_id);
-        write_decision(
-            self.alloc,
-            &mut self.nodes,
-            &mut self.names,
-            &mut self.known,
-            &mut self.toolkit,
-            is_new,
-            is_root,
-            update,
-            &decision,
-        );
+        self.tables
+            .write_decision(update, &decision, is_new, is_root);
         self.focus = decision.focus;
     }
 
     /// The first state: what the first update makes.
+    ///
+    /// # Errors
+    ///
+    /// `AllocError`: memory was wanting.
     pub fn first(
         alloc: Global,
         update: TreeUpdate,
@@ -81,104 +73,90 @@ impl Store {
         ensures world { IfOk result (λ s. s.world ≡ overlaid_world (empty_world is_host_focused) (update_data update) decision) }
         ensures tight { IfOk result (λ s. IsTight s) }
     {
-        let mut nodes = BTreeMap::new(alloc);
-        let mut names = BTreeMap::new(alloc);
-        let mut known = Vec::new(alloc);
-        let mut toolkit = (None, None);
-        make_all(alloc, &mut nodes, &mut names, &mut known, true, &decision)?;
-        write_decision(
+        let mut tables = Tables {
             alloc,
-            &mut nodes,
-            &mut names,
-            &mut known,
-            &mut toolkit,
-            true,
-            true,
-            update,
-            &decision,
-        );
+            nodes: BTreeMap::new(alloc),
+            known: Vec::new(alloc),
+            names: BTreeMap::new(alloc),
+            toolkit: (None, None),
+        };
+        tables.make_all(true, &decision)?;
+        tables.write_decision(update, &decision, true, true);
         Ok(Store {
-            alloc,
-            nodes,
-            known,
-            names,
-            toolkit,
+            tables,
             host_focused: is_host_focused,
             focus: decision.focus,
         })
     }
 }
 
-// writes an update's changes, for which there is room
-fn write_decision(
-    alloc: Global,
-    nodes: &mut Slots,
-    names: &mut BTreeMap<TreeId, NameRecord>,
-    known: &mut Vec<KnownTree>,
-    toolkit: &mut ToolkitTexts,
-    is_new: bool,
-    is_root: bool,
-    update: TreeUpdate,
-    decision: &Decision,
-)
-    requires room { HasRoomFor nodes.old.entries decision.now.nodes.items }
-    requires ascending { IsStrictlySortedBy full_cmp (map (λ e. e.0) decision.now.nodes.items) }
-    requires entries { HasEntries update.nodes.items decision.now.nodes.items }
-    requires apart { AreEntriesApart decision.now.nodes.items }
-    requires there { HasNames names.old decision.now.trees.items }
-    requires once { AllPairs (λ a b. a.id ≢ b.id) decision.now.trees.items }
-    requires spare { is_new ≡ true → vec_len known.old < vec_capacity known.old }
-    requires indexes { All (λ r. IfSome r.index (λ i. i < length (with_name is_new (names_shown known.old.items) update.tree_id))) decision.now.trees.items }
-    ensures records { (id : FullNodeId) → record_at nodes.new.entries id ≡ after_change update.nodes.items (change_at decision.now.nodes.items id) (record_at nodes.old.entries id) }
-    ensures tight { HasNoSpare nodes.new.entries }
-    ensures kept { (name : TreeId) → name_at names.new name ≡ name_after (tree_change decision.now.trees.items name) (name_at names.old name) }
-    ensures names { names_shown known.new.items ≡ with_name is_new (names_shown known.old.items) update.tree_id }
-    ensures trees { trees_shown 0 known.new.items ≡ put_trees (trees_shown 0 known.old.items) decision.now.trees.items }
-    ensures texts { texts_shown toolkit.new ≡ texts_after (if is_root then option_map info_data update.tree else None) (texts_shown toolkit.old) }
-{
-    let TreeUpdate {
-        nodes: mut entries,
-        tree,
-        tree_id,
-        focus: _,
-    } = update;
-    write_all(alloc, nodes, &mut entries, decision.nodes.as_slice());
-    write_known(known, is_new, tree_id, decision.trees.as_slice());
-    write_names(names, decision.trees.as_slice());
-    set_texts(toolkit, is_root, tree);
-}
+impl Tables {
+    /// Writes an update's changes, for which there is room.
+    fn write_decision(
+        &mut self,
+        update: TreeUpdate,
+        decision: &Decision,
+        is_new: bool,
+        is_root: bool,
+    )
+        requires room { HasRoomFor self.old.nodes.entries decision.now.nodes.items }
+        requires ascending { IsStrictlySortedBy full_cmp (map (λ e. e.0) decision.now.nodes.items) }
+        requires entries { HasEntries update.nodes.items decision.now.nodes.items }
+        requires apart { AreEntriesApart decision.now.nodes.items }
+        requires there { HasNames self.old.names decision.now.trees.items }
+        requires once { AllPairs (λ a b. a.id ≢ b.id) decision.now.trees.items }
+        requires spare { is_new ≡ true → vec_len self.old.known < vec_capacity self.old.known }
+        requires indexes { All (λ r. IfSome r.index (λ i. i < length (with_name is_new (names_shown self.old.known.items) update.tree_id))) decision.now.trees.items }
+        ensures records { (id : FullNodeId) → record_at self.new.nodes.entries id ≡ changed_record update.nodes.items (change_at decision.now.nodes.items id) (record_at self.old.nodes.entries id) }
+        ensures tight { HasNoSpare self.new.nodes.entries }
+        ensures kept { (name : TreeId) → name_at self.new.names name ≡ name_after (tree_change decision.now.trees.items name) (name_at self.old.names name) }
+        ensures names { names_shown self.new.known.items ≡ with_name is_new (names_shown self.old.known.items) update.tree_id }
+        ensures trees { trees_shown 0 self.new.known.items ≡ put_trees (trees_shown 0 self.old.known.items) decision.now.trees.items }
+        ensures texts { texts_shown self.new.toolkit ≡ texts_after (if is_root then option_map info_data update.tree else None) (texts_shown self.old.toolkit) }
+    {
+        let TreeUpdate {
+            nodes: mut entries,
+            tree,
+            tree_id,
+            focus: _,
+        } = update;
+        write_all(
+            self.alloc,
+            &mut self.nodes,
+            &mut entries,
+            decision.nodes.as_slice(),
+        );
+        write_known(&mut self.known, is_new, tree_id, decision.trees.as_slice());
+        write_names(&mut self.names, decision.trees.as_slice());
+        set_texts(&mut self.toolkit, is_root, tree);
+    }
 
-// makes a slot for each changed node, a record for each changed name, and room for a new one; where memory is refused all is taken
-// back
-fn make_all(
-    alloc: Global,
-    nodes: &mut Slots,
-    names: &mut BTreeMap<TreeId, NameRecord>,
-    known: &mut Vec<KnownTree>,
-    is_new: bool,
-    decision: &Decision,
-) -> Result<(), AllocError>
-    requires { HasNoSpare nodes.old.entries }
-    ensures nodes { (id : FullNodeId) → record_at nodes.new.entries id ≡ record_at nodes.old.entries id }
-    ensures names { (name : TreeId) → kept_in (name_at names.new name) ≡ kept_in (name_at names.old name) }
-    ensures known { known.new.items ≡ known.old.items }
-    ensures room { OnOk result (HasRoomFor nodes.new.entries decision.now.nodes.items) }
-    ensures there { OnOk result (HasNames names.new decision.now.trees.items) }
-    ensures spare { OnOk result (is_new ≡ true → vec_len known.new < vec_capacity known.new) }
-    ensures err { OnErr result (HasNoSpare nodes.new.entries) }
-    ensures fewer { OnErr result (HasNoMore names.old names.new) }
-{
-    make_room(alloc, nodes, decision.nodes.as_slice())?;
-    if make_names(names, decision.trees.as_slice()).is_err() {
-        take_back(nodes, decision.nodes.as_slice());
-        return Err(AllocError);
+    /// Makes a slot for each changed node, a record for each changed name, and room for a new one. Where memory is refused all is
+    /// taken back.
+    fn make_all(&mut self, is_new: bool, decision: &Decision) -> Result<(), AllocError>
+        requires { HasNoSpare self.old.nodes.entries }
+        ensures nodes { (id : FullNodeId) → record_at self.new.nodes.entries id ≡ record_at self.old.nodes.entries id }
+        ensures names { (name : TreeId) → kept_in (name_at self.new.names name) ≡ kept_in (name_at self.old.names name) }
+        ensures known { self.new.known.items ≡ self.old.known.items }
+        ensures texts { self.new.toolkit ≡ self.old.toolkit }
+        ensures room { OnOk result (HasRoomFor self.new.nodes.entries decision.now.nodes.items) }
+        ensures there { OnOk result (HasNames self.new.names decision.now.trees.items) }
+        ensures spare { OnOk result (is_new ≡ true → vec_len self.new.known < vec_capacity self.new.known) }
+        ensures err { OnErr result (HasNoSpare self.new.nodes.entries) }
+        ensures fewer { OnErr result (HasNoMore self.old.names self.new.names) }
+    {
+        make_room(self.alloc, &mut self.nodes, decision.nodes.as_slice())?;
+        if make_names(&mut self.names, decision.trees.as_slice()).is_err() {
+            take_back(&mut self.nodes, decision.nodes.as_slice());
+            return Err(AllocError);
+        }
+        if make_known(&mut self.known, is_new).is_err() {
+            take_back(&mut self.nodes, decision.nodes.as_slice());
+            take_names_back(&mut self.names, decision.trees.as_slice());
+            return Err(AllocError);
+        }
+        Ok(())
     }
-    if make_known(known, is_new).is_err() {
-        take_back(nodes, decision.nodes.as_slice());
-        take_names_back(names, decision.trees.as_slice());
-        return Err(AllocError);
-    }
-    Ok(())
 }
 
 // makes room for one more known tree, where one is needed

@@ -21,13 +21,17 @@ pub struct MirrorRecord {
 
 impl Store {
     /// Copies of the records of all nodes, by id.
+    ///
+    /// # Errors
+    ///
+    /// `AllocError`: memory was wanting for a copy.
     pub fn copy_records(
         &self,
         alloc: Global,
     ) -> Result<BTreeMap<FullNodeId, MirrorRecord>, AllocError>
         ensures { IfOk result (λ copies. (id : FullNodeId) → IsCopyOf self.now.world id (copy_at copies.entries id)) }
     {
-        copy_all(alloc, &self.nodes)
+        copy_all(alloc, &self.tables.nodes)
     }
 }
 

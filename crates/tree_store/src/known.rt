@@ -75,11 +75,7 @@ fn set_tree(known: &mut Vec<KnownTree>, index: usize, tree: Option<PresentTree>)
 fn present_in(changed: &TreeRecord) -> Option<PresentTree>
     ensures { option_map tree_of result ≡ tree_from changed.now.root changed.now.focus }
 {
-    let Some(root) = changed.root else {
-        return None;
-    };
-    match changed.focus {
-        Some(focus) => Some(PresentTree { root, focus }),
-        None => None,
-    }
+    let root = changed.root?;
+    let focus = changed.focus?;
+    Some(PresentTree { root, focus })
 }

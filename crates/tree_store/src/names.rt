@@ -3,8 +3,9 @@ ghost use Rattle.std.specs.Prelude.{◌≡◌, option_copied, option_map, option
 ghost use Rattle.tree_store.specs.Stored.{tree_of};
 ghost use Rattle.std.specs.Ordering.{is_eq};
 ghost use Rattle.schema.specs.declared.TreeId.{TreeId};
+ghost use Rattle.model.specs.FullIds.{name_cmp};
 ghost use Rattle.tree_changes.specs.Changes.{tree_change};
-ghost use Rattle.tree_store.specs.KeptNames.{name_at, name_cmp, name_kept, name_after, kept_in, HasNames, HasNoMore, HasNoMoreBut, IsNoBlank};
+ghost use Rattle.tree_store.specs.KeptNames.{name_at, name_kept, name_after, kept_in, HasNames, HasNoMore, HasNoMoreBut, IsNoBlank};
 
 use crate::records::{KnownTree, NameRecord, PresentTree};
 use model::FullNodeId;
@@ -17,80 +18,56 @@ use tree_changes::TreeRecord;
 pub(crate) fn present_tree(known: &[KnownTree], index: u32) -> Option<PresentTree>
     ensures { result ≡ option_and_then (λ k. k.tree) (slice_get known.now index) }
 {
-    match known.get(index as usize) {
-        Some(known) => known.tree,
-        None => None,
-    }
+    known.get(index as usize)?.tree
 }
 
 /// The name of the tree with this index.
 pub(crate) fn known_name(known: &[KnownTree], index: u32) -> Option<TreeId>
     ensures { result ≡ option_map (λ k. k.name) (slice_get known.now index) }
 {
-    match known.get(index as usize) {
-        Some(known) => Some(known.name),
-        None => None,
-    }
+    known.get(index as usize).map(|known| known.name)
 }
 
 /// What is said of the tree with this index, where there is one and it is present.
 pub(crate) fn tree_in(known: &[KnownTree], index: Option<u32>) -> Option<PresentTree>
     ensures { result ≡ option_and_then (λ i. option_and_then (λ k. k.tree) (slice_get known.now i)) index }
 {
-    match index {
-        Some(index) => present_tree(known, index),
-        None => None,
-    }
+    present_tree(known, index?)
 }
 
 /// What is kept of a name.
 pub(crate) fn name_record(names: &BTreeMap<TreeId, NameRecord>, name: &TreeId) -> Option<NameRecord>
     ensures { result ≡ name_at names.now name.now }
 {
-    match names.get(name) {
-        Some(record) => Some(*record),
-        None => None,
-    }
+    names.get(name).copied()
 }
 
 /// The index of a name, where it is known.
 pub(crate) fn index_in(found: Option<NameRecord>) -> Option<u32>
     ensures { result ≡ option_and_then (λ r. r.index) found }
 {
-    match found {
-        Some(record) => record.index,
-        None => None,
-    }
+    found?.index
 }
 
 /// The node that grafts the tree of a name, where one does.
 pub(crate) fn graft_in(found: Option<NameRecord>) -> Option<FullNodeId>
     ensures { result ≡ option_and_then (λ r. r.graft) found }
 {
-    match found {
-        Some(record) => record.graft,
-        None => None,
-    }
+    found?.graft
 }
 
 /// The root of a tree that may be present.
 pub(crate) fn root_in(tree: Option<PresentTree>) -> Option<NodeId>
     ensures { result ≡ option_map (λ t. t.root) tree }
 {
-    match tree {
-        Some(tree) => Some(tree.root),
-        None => None,
-    }
+    tree.map(|tree| tree.root)
 }
 
 /// The declared focus of a tree that may be present.
 pub(crate) fn focus_in(tree: Option<PresentTree>) -> Option<NodeId>
     ensures { result ≡ option_map (λ t. t.focus) tree }
 {
-    match tree {
-        Some(tree) => Some(tree.focus),
-        None => None,
-    }
+    tree.map(|tree| tree.focus)
 }
 
 /// Keeps what is changed of names. Each of them has a record, so that nothing is allocated.
@@ -109,14 +86,8 @@ fn write_name(names: &mut BTreeMap<TreeId, NameRecord>, changed: &TreeRecord)
     ensures { (q : TreeId) → name_at names.new q ≡ cond (is_eq (name_cmp changed.now.id q)) (name_kept changed.now) (name_at names.old q) }
 {
     match kept_name(changed) {
-        Some(kept) => {
-            put_name(names, &changed.id, kept);
-            return;
-        }
-        None => {
-            drop(names.remove(&changed.id));
-            return;
-        }
+        Some(kept) => put_name(names, &changed.id, kept),
+        None => drop(names.remove(&changed.id)),
     }
 }
 

@@ -9,7 +9,7 @@ ghost use Rattle.model.specs.World.{World, IsNode, data_of, index_of, root_of, r
 ghost use Rattle.model.specs.Focus.{IsEffectiveFocus};
 ghost use Rattle.model.specs.Forest.{IsFormed};
 ghost use Rattle.model.specs.State.{IsState};
-ghost use Rattle.tree_changes.specs.Looks.{IsPlaceOf};
+ghost use Rattle.tree_changes.specs.LookUps.{IsPlaceOf};
 ghost use Rattle.tree_changes.specs.Changes.{change_at, changed_data, entry_data, place_in, tree_change, if_kept};
 ghost use Rattle.std.specs.Ordering.{nat_cmp, is_eq};
 ghost use Rattle.std.specs.Cmp.Lexicographic.{slice_cmp};
@@ -46,10 +46,7 @@ pub(crate) fn change_of(changes: &[(FullNodeId, NodeChange)], id: FullNodeId) ->
 pub(crate) fn entry_node(nodes: &[(NodeId, Node)], entry: usize) -> Option<&Node>
     ensures { option_copied result ≡ entry_data nodes.now entry }
 {
-    match nodes.get(entry) {
-        Some(entry) => Some(&entry.1),
-        None => None,
-    }
+    nodes.get(entry).map(|entry| &entry.1)
 }
 
 /// The data of a node after a change. What is kept is looked up only where the data stay.
@@ -115,25 +112,16 @@ fn kept_record(changed: TreeRecord) -> Option<TreeRecord>
 fn index_in_record(found: Option<TreeRecord>) -> Option<u32>
     ensures { result ≡ option_and_then (λ r. r.index) found }
 {
-    match found {
-        Some(found) => found.index,
-        None => None,
-    }
+    found?.index
 }
 
 fn root_in_record(found: Option<TreeRecord>) -> Option<FullNodeId>
     ensures { result ≡ root_recorded found }
 {
-    let Some(found) = found else {
-        return None;
-    };
-    let Some(tree) = found.index else {
-        return None;
-    };
-    match found.root {
-        Some(node) => Some(FullNodeId { tree, node }),
-        None => None,
-    }
+    let found = found?;
+    let tree = found.index?;
+    let node = found.root?;
+    Some(FullNodeId { tree, node })
 }
 
 impl<'a> Overlay<'a> {
@@ -254,10 +242,7 @@ impl<'a> Overlay<'a> {
         if !is_root_index(base, self.update.tree_id) {
             return None;
         }
-        match &self.update.tree {
-            Some(info) => Some(info),
-            None => None,
-        }
+        self.update.tree.as_ref()
     }
 
     /// The text of the toolkit's name, as it was sent.
@@ -295,8 +280,5 @@ pub(crate) fn is_root_index(base: &Store, name: TreeId) -> bool
 fn given_text(text: &Option<String>) -> Option<&str>
     ensures { option_copied result ≡ option_map string_bytes text.now }
 {
-    match text {
-        Some(text) => Some(text.as_str()),
-        None => None,
-    }
+    text.as_ref().map(|text| text.as_str())
 }

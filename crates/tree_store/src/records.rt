@@ -1,6 +1,10 @@
 //! What is kept of a node and of a tree.
+use crate::slots::Slots;
 use model::{FullNodeId, Place};
 use schema::{Node, NodeId, TreeId};
+use std::alloc::Global;
+use std::collections::BTreeMap;
+use tree_changes::ToolkitTexts;
 
 /// A node as it is kept: its place, and its data.
 #[derive(Drop)]
@@ -28,4 +32,14 @@ pub(crate) struct KnownTree {
 pub(crate) struct NameRecord {
     pub(crate) index: Option<u32>,
     pub(crate) graft: Option<FullNodeId>,
+}
+
+/// All that an update's changes are written into: nodes by id, known trees by index, names, and the toolkit's texts.
+#[derive(Drop)]
+pub(crate) struct Tables {
+    pub(crate) alloc: Global,
+    pub(crate) nodes: Slots,
+    pub(crate) known: Vec<KnownTree>,
+    pub(crate) names: BTreeMap<TreeId, NameRecord>,
+    pub(crate) toolkit: ToolkitTexts,
 }

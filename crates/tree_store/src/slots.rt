@@ -3,9 +3,9 @@ ghost use Rattle.std.specs.Prelude.{◌≡◌, ◌≢◌, ◌<◌, ℕ, length, 
 ghost use Rattle.std.specs.BTreeMap.{is_at};
 ghost use Rattle.model.specs.declared.FullNodeId.{FullNodeId};
 ghost use Rattle.model.specs.FullIds.{full_cmp};
-ghost use Rattle.tree_changes.specs.Changes.{change_at, entry_data};
+ghost use Rattle.tree_changes.specs.Changes.{change_at, entry_data, entry_of};
 ghost use Rattle.tree_store.specs.Stored.{slot_at, record_at};
-ghost use Rattle.tree_store.specs.Commits.{entry_of, record_moved_to, record_after, after_change, HasEntries, AreEntriesApart, HasNoSpare, HasRoomFor};
+ghost use Rattle.tree_store.specs.Commits.{record_moved_to, record_after, changed_record, HasEntries, AreEntriesApart, HasNoSpare, HasRoomFor};
 ghost use Rattle.std.specs.List.Sorted.{IsStrictlySortedBy};
 ghost use Rattle.tree_changes.specs.declared.decision.NodeChange.TheVariants.{Put};
 ghost use Rattle.tree_store.specs.declared.records.Record.{Record};
@@ -25,19 +25,13 @@ pub(crate) type Slots = BTreeMap<FullNodeId, Box<Option<Record>>>;
 pub(crate) fn record(slots: &Slots, id: FullNodeId) -> Option<&Record>
     ensures { option_copied result ≡ record_at slots.now.entries id }
 {
-    match slots.get(&id) {
-        Some(slot) => filled(slot),
-        None => None,
-    }
+    filled(slots.get(&id)?)
 }
 
 fn filled(slot: &Box<Option<Record>>) -> Option<&Record>
     ensures { option_copied result ≡ slot.now.value }
 {
-    match &**slot {
-        Some(record) => Some(record),
-        None => None,
-    }
+    (**slot).as_ref()
 }
 
 /// Makes an empty slot for each change that has none. Where one is refused all are taken back.
@@ -88,10 +82,9 @@ fn remove_empty(slots: &mut Slots, id: FullNodeId)
     ensures same { (q : FullNodeId) → record_at slots.new.entries q ≡ record_at slots.old.entries q }
     ensures tight { (q : FullNodeId) → is_some (slot_at slots.new.entries q) ≡ cond (is_at (full_cmp id) q) (is_some (record_at slots.old.entries q)) (is_some (slot_at slots.old.entries q)) }
 {
-    if has_record(slots, id) {
-        return;
+    if !has_record(slots, id) {
+        drop(slots.remove(&id));
     }
-    drop(slots.remove(&id));
 }
 
 fn has_record(slots: &Slots, id: FullNodeId) -> bool
@@ -162,10 +155,9 @@ fn put_place(slots: &mut Slots, id: FullNodeId, place: Option<Place>)
     ensures records { (q : FullNodeId) → record_at slots.new.entries q ≡ cond (is_at (full_cmp id) q) (record_moved_to place (record_at slots.old.entries id)) (record_at slots.old.entries q) }
     ensures tight { (q : FullNodeId) → is_some (slot_at slots.new.entries q) ≡ cond (is_at (full_cmp id) q) (is_some (record_at slots.new.entries q)) (is_some (slot_at slots.old.entries q)) }
 {
-    if set_place(slots, id, place) {
-        return;
+    if !set_place(slots, id, place) {
+        drop(slots.remove(&id));
     }
-    drop(slots.remove(&id));
 }
 
 // gives the record in a slot that is there this place, and answers whether there is one
@@ -212,18 +204,9 @@ fn write(
         NodeChange::Put {
             place,
             entry: Some(entry),
-        } => {
-            put_node(alloc, slots, nodes, id, place, entry);
-            return;
-        }
-        NodeChange::Put { place, entry: None } => {
-            put_place(slots, id, place);
-            return;
-        }
-        NodeChange::Gone => {
-            drop(slots.remove(&id));
-            return;
-        }
+        } => put_node(alloc, slots, nodes, id, place, entry),
+        NodeChange::Put { place, entry: None } => put_place(slots, id, place),
+        NodeChange::Gone => drop(slots.remove(&id)),
     }
 }
 
@@ -238,7 +221,7 @@ pub(crate) fn write_all(
     requires ascending { IsStrictlySortedBy full_cmp (map (λ e. e.0) changes.now) }
     requires entries { HasEntries nodes.old.items changes.now }
     requires apart { AreEntriesApart changes.now }
-    ensures records { (id : FullNodeId) → record_at slots.new.entries id ≡ after_change nodes.old.items (change_at changes.now id) (record_at slots.old.entries id) }
+    ensures records { (id : FullNodeId) → record_at slots.new.entries id ≡ changed_record nodes.old.items (change_at changes.now id) (record_at slots.old.entries id) }
     ensures tight { HasNoSpare slots.new.entries }
 {
     for change in changes {

@@ -6,31 +6,25 @@ ghost use Rattle.model.specs.World.{World, IsNode, data_of, index_of, root_of, r
 ghost use Rattle.model.specs.Focus.{IsEffectiveFocus};
 ghost use Rattle.model.specs.Forest.{IsFormed};
 ghost use Rattle.model.specs.State.{IsState};
-ghost use Rattle.tree_changes.specs.Looks.{IsPlaceOf, IsNodeRecord, IsTreeRecord};
+ghost use Rattle.tree_changes.specs.LookUps.{IsPlaceOf, IsNodeRecord, IsTreeRecord};
 ghost use Rattle.tree_store.specs.Stored.{tree_of};
 ghost use Rattle.tree_store.specs.NameRecords.{record_of};
 
 use crate::names::{
     focus_in, graft_in, index_in, known_name, name_record, present_tree, root_in, tree_in,
 };
-use crate::records::{KnownTree, NameRecord, PresentTree};
-use crate::slots::{Slots, record};
+use crate::records::{PresentTree, Tables};
+use crate::slots::record;
 use model::{FullNodeId, Place};
 use schema::{Node, TreeId};
-use std::alloc::Global;
-use std::collections::BTreeMap;
 use std::marker::Model;
-use tree_changes::{NodeRecord, ToolkitTexts, TreeRecord};
+use tree_changes::{NodeRecord, TreeRecord};
 
 /// A state: each node's data and place, the known trees, the toolkit's texts and the focus. A clause sees the world that it
 /// shows, as `store.now.world`, the ids that there is a slot for, and whether there is room for a new tree.
 #[derive(Drop)]
 pub struct Store {
-    pub(crate) alloc: Global,
-    pub(crate) nodes: Slots,
-    pub(crate) known: Vec<KnownTree>,
-    pub(crate) names: BTreeMap<TreeId, NameRecord>,
-    pub(crate) toolkit: ToolkitTexts,
+    pub(crate) tables: Tables,
     pub(crate) host_focused: bool,
     pub(crate) focus: FullNodeId,
 }
@@ -39,15 +33,15 @@ impl Model for Store {
     ghost use Rattle.std.specs.Prelude.{nat_lt};
     ghost use Rattle.std.specs.Map.{keys_of};
     ghost use Rattle.std.specs.Vec.{vec_len, vec_capacity};
-    ghost use Rattle.tree_store.specs.Kept.{Kept, coded_kept};
+    ghost use Rattle.tree_store.specs.StoreViews.{StoreView, coded_store};
     ghost use Rattle.tree_store.specs.Stored.{slots_shown};
     ghost use Rattle.tree_store.specs.Shown.{world_shown, IsStored};
 
-    ghost Value = { Kept };
+    ghost Value = { StoreView };
 
-    ghost coded = { coded_kept };
+    ghost coded = { coded_store };
 
-    ghost view = { λ a. record { world = world_shown a; slots = slots_shown a.nodes.entries; names = keys_of a.names.entries; room = nat_lt (vec_len a.known) (vec_capacity a.known) } };
+    ghost view = { λ a. record { world = world_shown a; slots = slots_shown a.tables.nodes.entries; names = keys_of a.tables.names.entries; room = nat_lt (vec_len a.tables.known) (vec_capacity a.tables.known) } };
 
     ghost invariant = { λ a. IsStored a (world_shown a) };
 }
@@ -66,17 +60,15 @@ impl Store {
         ensures slots { slots_len self.now.slots < 2 ^ 63 }
         ensures nodes { nodes_len self.now.world.nodes < 2 ^ 63 }
     {
-        let _count = self.nodes.len();
+        let _count = self.tables.nodes.len();
     }
 
     /// The data of a node.
     pub fn get(&self, id: FullNodeId) -> Option<&Node>
         ensures { option_copied result ≡ data_of self.now.world id }
     {
-        match record(&self.nodes, id) {
-            Some(record) => Some(&record.node),
-            None => None,
-        }
+        let record = record(&self.tables.nodes, id)?;
+        Some(&record.node)
     }
 
     /// Where a node that is there stands.
@@ -84,7 +76,7 @@ impl Store {
         requires { IsNode self.now.world id }
         ensures { IsPlaceOf self.now.world id result }
     {
-        match record(&self.nodes, id) {
+        match record(&self.tables.nodes, id) {
             Some(record) => record.place,
             None => unreachable!(),
         }
@@ -95,22 +87,20 @@ impl Store {
         ensures found { is_some result ≡ is_some (data_of self.now.world id) }
         ensures given { IfSome result (λ r. IsNodeRecord self.now.world id r) }
     {
-        match record(&self.nodes, id) {
-            Some(record) => Some(NodeRecord {
-                place: record.place,
-                node: &record.node,
-            }),
-            None => None,
-        }
+        let record = record(&self.tables.nodes, id)?;
+        Some(NodeRecord {
+            place: record.place,
+            node: &record.node,
+        })
     }
 
     /// What is known of a name, where it is known or grafted.
     pub fn tree(&self, name: TreeId) -> Option<TreeRecord>
         ensures { IsTreeRecord self.now.world name result }
     {
-        let found = name_record(&self.names, &name);
+        let found = name_record(&self.tables.names, &name);
         let index = index_in(found);
-        let tree = tree_in(self.known.as_slice(), index);
+        let tree = tree_in(self.tables.known.as_slice(), index);
         tree_record(&name, index, graft_in(found), tree)
     }
 
@@ -118,23 +108,16 @@ impl Store {
     pub fn present_tree(&self, index: u32) -> Option<PresentTree>
         ensures { option_map tree_of result ≡ tree_at self.now.world.trees index }
     {
-        present_tree(self.known.as_slice(), index)
+        present_tree(self.tables.known.as_slice(), index)
     }
 
     /// The root of the tree of this name, where it is present.
     pub fn subtree_root(&self, name: TreeId) -> Option<FullNodeId>
         ensures { result ≡ root_named self.now.world name }
     {
-        let Some(index) = self.tree_index(name) else {
-            return None;
-        };
-        match self.present_tree(index) {
-            Some(tree) => Some(FullNodeId {
-                tree: index,
-                node: tree.root,
-            }),
-            None => None,
-        }
+        let tree = self.tree_index(name)?;
+        let node = self.present_tree(tree)?.root;
+        Some(FullNodeId { tree, node })
     }
 
     /// The root of the root tree.
@@ -177,41 +160,35 @@ impl Store {
     pub fn known_trees(&self) -> u32
         ensures { result ≡ length self.now.world.known }
     {
-        self.known.len() as u32
+        self.tables.known.len() as u32
     }
 
     /// The index of the tree of this name, where it was ever known.
     pub fn tree_index(&self, name: TreeId) -> Option<u32>
         ensures { result ≡ index_of self.now.world name }
     {
-        index_in(name_record(&self.names, &name))
+        index_in(name_record(&self.tables.names, &name))
     }
 
     /// The name of the tree with this index.
     pub fn tree_id(&self, index: u32) -> Option<TreeId>
         ensures { result ≡ slice_get self.now.world.known index }
     {
-        known_name(self.known.as_slice(), index)
+        known_name(self.tables.known.as_slice(), index)
     }
 
     /// The text of the toolkit's name, as it was sent.
     pub fn toolkit_name(&self) -> Option<&str>
         ensures { option_copied result ≡ self.now.world.toolkit.0 }
     {
-        match &self.toolkit.0 {
-            Some(text) => Some(text.as_str()),
-            None => None,
-        }
+        self.tables.toolkit.0.as_ref().map(|text| text.as_str())
     }
 
     /// The text of the toolkit's version, as it was sent.
     pub fn toolkit_version(&self) -> Option<&str>
         ensures { option_copied result ≡ self.now.world.toolkit.1 }
     {
-        match &self.toolkit.1 {
-            Some(text) => Some(text.as_str()),
-            None => None,
-        }
+        self.tables.toolkit.1.as_ref().map(|text| text.as_str())
     }
 }
 
@@ -240,8 +217,5 @@ fn tree_record(
 fn is_unused(index: Option<u32>, graft: Option<FullNodeId>) -> bool
     ensures { result ≡ not (is_some index || is_some graft) }
 {
-    if index.is_some() {
-        return false;
-    }
-    graft.is_none()
+    index.is_none() && graft.is_none()
 }

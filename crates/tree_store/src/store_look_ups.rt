@@ -2,7 +2,7 @@
 ghost use Rattle.std.specs.Prelude.{◌≡◌, is_some, IfSome};
 ghost use Rattle.model.specs.World.{data_of};
 ghost use Rattle.model.specs.State.{empty_world};
-ghost use Rattle.tree_changes.specs.Looks.{IsNodeRecord, IsTreeRecord, raised_count};
+ghost use Rattle.tree_changes.specs.LookUps.{IsNodeRecord, IsTreeRecord, raised_count};
 
 use crate::store::Store;
 use model::FullNodeId;

@@ -1,164 +1,126 @@
-use Rattle.std.proofs.Common.{◌≡◌, ◌≢◌, ◌+◌, length, take, None, Some, option_copied, inl, inr, refl, sym, ap, subst, ◌∙◌, arith}
+use Rattle.std.proofs.Common.{◌≡◌, ◌+◌, length, take, None, Some, option_copied, inr, refl, sym, ap, subst, ◌∙◌, arith}
 use Rattle.schema.specs.UpdateData.{UpdateData, update_data}
 use Rattle.model.specs.declared.FullNodeId.{FullNodeId}
-use Rattle.model.specs.World.{World, data_of, root_of, Reached}
-use Rattle.model.specs.Update.{merged_world}
+use Rattle.model.specs.World.{World, data_of}
 use Rattle.model.specs.Surgery.{here}
 use Rattle.model.specs.Work.{named_ids}
 use Rattle.model.proofs.Worlds.Names.{cases_some}
 use Rattle.model.proofs.Surgery.ClimbsUp.{named_spotted}
 use Rattle.tree_plan.specs.Passes.{at}
-use Rattle.tree_plan.specs.Climbs.{IsNext, IsOldPlace, AreClimbed}
-use Rattle.tree_plan.proofs.Ascents.{IsStart, starts_at, next_there, rises, old_place_known, begins, step, others_step, below_root, known_reached, comes_round, comes_other, ends_reached, ends, marks_left}
+use Rattle.tree_plan.specs.Climbs.{IsNext, IsOldPlace}
+use Rattle.tree_plan.proofs.Ascents.{known_by, starts_at, next_there, old_place_known, begins, step, others_step, below_root, known_reached, comes_round, at_other, all_climbed_to, climbed_from, up_to, marks_left}
 use Rattle.tree_plan.proofs.climbing.climb.Goals as goal
 
 pub returns-then-not-contains-clause-way : goal.returns-then-not-contains-clause-way
 returns-then-not-contains-clause-way g c =
-    let w : World = g.L.LookUps.world c.args.look_ups.now in
-    let u : UpdateData = update_data c.args.update.now in
     let q = c.requires in
+    let known = known_by q.old q.opening q.comparison q.settlement q.refined in
+    let first = starts_at known c.args.entry c.named_id-start.result c.named_id-start.ensures in
     let start = c.named_id-start.result in
-    let first : IsStart w u c.args.entry start = starts_at w u q.old c.args.opened.now c.args.compared.now c.args.settled.now q.opening q.comparison q.settlement q.refined c.args.entry start c.named_id-start.ensures in
     (0, record { start = start; at = first.at; reached = λ adopts. let is = (q.settlement.adopters start).1 adopts in let no = c.if-not-contains.ensures in cc; way = (start, here start, inr refl) }, (omega arith, omega arith))
 
 pub up-init : goal.up-init
 up-init g c =
+    let q = c.requires in
+    let known = known_by q.old q.opening q.comparison q.settlement q.refined in
+    let first = starts_at known c.args.entry c.named_id-start.result c.named_id-start.ensures in
+    let start = c.named_id-start.result in
     let w : World = g.L.LookUps.world c.args.look_ups.now in
     let u : UpdateData = update_data c.args.update.now in
-    let q = c.requires in
-    let start = c.named_id-start.result in
-    let first : IsStart w u c.args.entry start = starts_at w u q.old c.args.opened.now c.args.compared.now c.args.settled.now q.opening q.comparison q.settlement q.refined c.args.entry start c.named_id-start.ensures in
-    let starts = take c.args.entry (named_ids w u) in
     record {
       world = refl;
       others = λ n x is. inr (q.before.reached n x is, q.before.begun n x is);
-      climb = (0, begins w u q.old c.args.opened.now c.args.compared.now c.args.settled.now q.opening q.comparison q.settlement q.refined starts start c.args.climbed.now q.before first.new first.named, (omega arith, omega arith));
+      climb = (0, begins known (take c.args.entry (named_ids w u)) start c.args.climbed.now q.before first.new first.named, (omega arith, omega arith));
       found = named_spotted w u q.old q.refined start first.named (cases_some (data_of w start));
     }
 
 pub returns-then-is_same-clause-err : goal.returns-then-is_same-clause-err
 returns-then-is_same-clause-err g c =
-    let w : World = g.L.LookUps.world c.args.look_ups.now in
-    let u : UpdateData = update_data c.args.update.now in
     let q = c.requires in
-    let start = c.named_id-start.result in
-    let first : IsStart w u c.args.entry start = starts_at w u q.old c.args.opened.now c.args.compared.now c.args.settled.now q.opening q.comparison q.settlement q.refined c.args.entry start c.named_id-start.ensures in
-    let id = c.up.id in
-    let climb = c.up.invariant.climb in
-    let other = c.in-Some.other.now in
-    let marked : at c.up.climbed id ≡ Some other = sym c.get.ensures.value ∙ ap option_copied c.in-Some.is in
-    comes_round w u q.old c.args.opened.now c.args.compared.now c.args.settled.now q.opening q.comparison q.settlement q.refined start id climb.0 c.up.climbed first.named climb.1 (marked ∙ ap Some (c.if-is_same.ensures.0 refl))
+    let known = known_by q.old q.opening q.comparison q.settlement q.refined in
+    let first = starts_at known c.args.entry c.named_id-start.result c.named_id-start.ensures in
+    let marked = sym c.get.ensures.value ∙ ap option_copied c.in-Some.is in
+    comes_round known c.named_id-start.result c.up.id c.up.invariant.climb.0 c.up.climbed first.named c.up.invariant.climb.1 (marked ∙ ap Some (c.if-is_same.ensures.0 refl))
 
 pub returns-in-Some-clause-climbed : goal.returns-in-Some-clause-climbed
 returns-in-Some-clause-climbed g c =
-    let w : World = g.L.LookUps.world c.args.look_ups.now in
-    let u : UpdateData = update_data c.args.update.now in
     let q = c.requires in
-    let start = c.named_id-start.result in
-    let first : IsStart w u c.args.entry start = starts_at w u q.old c.args.opened.now c.args.compared.now c.args.settled.now q.opening q.comparison q.settlement q.refined c.args.entry start c.named_id-start.ensures in
-    let starts = take c.args.entry (named_ids w u) in
-    let id = c.up.id in
-    let climb = c.up.invariant.climb in
-    let other = c.in-Some.other.now in
-    let marked : at c.up.climbed id ≡ Some other = sym c.get.ensures.value ∙ ap option_copied c.in-Some.is in
-    let reached : Reached (merged_world w u) id = comes_other w u q.old c.args.opened.now c.args.compared.now c.args.settled.now q.opening q.comparison q.settlement q.refined starts start id other c.up.climbed c.up.invariant.others marked (λ same. let no = c.if-is_same.ensures.1 same in cc) in
-    subst (λ xs. AreClimbed w u xs c.up.climbed) (sym first.more) (ends w u q.old c.args.opened.now c.args.compared.now c.args.settled.now q.opening q.comparison q.settlement q.refined starts start id climb.0 c.up.climbed c.up.invariant.others climb.1 reached)
+    let known = known_by q.old q.opening q.comparison q.settlement q.refined in
+    let first = starts_at known c.args.entry c.named_id-start.result c.named_id-start.ensures in
+    let i = c.up.invariant in
+    let marked = sym c.get.ensures.value ∙ ap option_copied c.in-Some.is in
+    all_climbed_to known first c.up.climbed i.others i.climb.1 (at_other known first c.up.climbed i.others i.climb.1 c.in-Some.other.now marked (λ same. let no = c.if-is_same.ensures.1 same in cc))
 
 pub returns-in-Some-clause-way : goal.returns-in-Some-clause-way
 returns-in-Some-clause-way g c =
-    let w : World = g.L.LookUps.world c.args.look_ups.now in
-    let u : UpdateData = update_data c.args.update.now in
     let q = c.requires in
-    let start = c.named_id-start.result in
-    let first : IsStart w u c.args.entry start = starts_at w u q.old c.args.opened.now c.args.compared.now c.args.settled.now q.opening q.comparison q.settlement q.refined c.args.entry start c.named_id-start.ensures in
-    let starts = take c.args.entry (named_ids w u) in
-    let id = c.up.id in
-    let climb = c.up.invariant.climb in
-    let other = c.in-Some.other.now in
-    let marked : at c.up.climbed id ≡ Some other = sym c.get.ensures.value ∙ ap option_copied c.in-Some.is in
-    let reached : Reached (merged_world w u) id = comes_other w u q.old c.args.opened.now c.args.compared.now c.args.settled.now q.opening q.comparison q.settlement q.refined starts start id other c.up.climbed c.up.invariant.others marked (λ same. let no = c.if-is_same.ensures.1 same in cc) in
-    (climb.0, record { start = start; at = first.at; reached = λ adopts. ends_reached w u q.old c.args.opened.now c.args.compared.now c.args.settled.now q.opening q.comparison q.settlement q.refined start id climb.0 c.up.climbed climb.1 reached; way = (id, climb.1.leads, inl reached) }, climb.2)
+    let known = known_by q.old q.opening q.comparison q.settlement q.refined in
+    let first = starts_at known c.args.entry c.named_id-start.result c.named_id-start.ensures in
+    let i = c.up.invariant in
+    let marked = sym c.get.ensures.value ∙ ap option_copied c.in-Some.is in
+    (i.climb.0, climbed_from known first c.up.climbed i.others i.climb.1 (at_other known first c.up.climbed i.others i.climb.1 c.in-Some.other.now marked (λ same. let no = c.if-is_same.ensures.1 same in cc)), i.climb.2)
 
 pub parent_after-id-requires-clause-next : goal.parent_after-id-requires-clause-next
 parent_after-id-requires-clause-next g c =
-    let w : World = g.L.LookUps.world c.args.look_ups.now in
-    let u : UpdateData = update_data c.args.update.now in
     let q = c.requires in
-    let start = c.named_id-start.result in
-    let first : IsStart w u c.args.entry start = starts_at w u q.old c.args.opened.now c.args.compared.now c.args.settled.now q.opening q.comparison q.settlement q.refined c.args.entry start c.named_id-start.ensures in
-    let id = c.up.id in
+    let known = known_by q.old q.opening q.comparison q.settlement q.refined in
+    let first = starts_at known c.args.entry c.named_id-start.result c.named_id-start.ensures in
     let climb = c.up.invariant.climb in
-    let below : root_of (merged_world w u) id.tree ≢ Some id = below_root w u q.old c.args.opened.now c.args.compared.now c.args.settled.now q.opening q.comparison q.settlement q.refined start id climb.0 first.named climb.1.leads (c.up-test.ensures.unknown refl) in
-    let f = next_there w u q.old c.args.opened.now c.args.compared.now c.args.settled.now q.opening q.comparison q.settlement q.refined id c.up.invariant.found climb.1.stays below in
-    subst (λ v. (p : FullNodeId) × IsNext v c.args.compared.now id p) (sym c.up.invariant.world) f
+    let below = below_root known c.named_id-start.result c.up.id climb.0 first.named climb.1.leads (c.up-test.ensures.unknown refl) in
+    subst (λ v. (p : FullNodeId) × IsNext v c.args.compared.now c.up.id p) (sym c.up.invariant.world) (next_there known c.up.id c.up.invariant.found climb.1.stays below)
 
 pub parent_after-id-requires-clause-named : goal.parent_after-id-requires-clause-named
 parent_after-id-requires-clause-named g c =
-    let w : World = g.L.LookUps.world c.args.look_ups.now in
-    let u : UpdateData = update_data c.args.update.now in
     let q = c.requires in
-    let id = c.up.id in
-    λ n is. subst (λ v. IsOldPlace v id n) (sym c.up.invariant.world) (old_place_known w u q.old c.args.opened.now c.args.compared.now c.args.settled.now q.opening q.comparison q.settlement q.refined id n is)
+    let known = known_by q.old q.opening q.comparison q.settlement q.refined in
+    λ n is. subst (λ v. IsOldPlace v c.up.id n) (sym c.up.invariant.world) (old_place_known known c.up.id n is)
 
 pub up-smaller : goal.up-smaller
 up-smaller g c =
-    let w : World = g.L.LookUps.world c.args.look_ups.now in
-    let u : UpdateData = update_data c.args.update.now in
     let q = c.requires in
-    let start = c.named_id-start.result in
-    let first : IsStart w u c.args.entry start = starts_at w u q.old c.args.opened.now c.args.compared.now c.args.settled.now q.opening q.comparison q.settlement q.refined c.args.entry start c.named_id-start.ensures in
-    let starts = take c.args.entry (named_ids w u) in
-    let id = c.up.id in
-    let climb = c.up.invariant.climb in
-    let next : IsNext w c.args.compared.now id c.parent_after-id.result = subst (λ v. IsNext v c.args.compared.now id c.parent_after-id.result) c.up.invariant.world c.parent_after-id.ensures.next in
-    let up = rises w u q.old c.args.opened.now c.args.compared.now c.args.settled.now q.opening q.comparison q.settlement q.refined start id c.parent_after-id.result climb.0 first.named climb.1.leads (c.up-test.ensures.unknown refl) climb.1.stays next in
-    let absent : at c.up.climbed id ≡ None = sym c.get.ensures.value ∙ ap option_copied c.in_default.is in
-    let left = marks_left w u q.old c.args.opened.now c.args.compared.now c.args.settled.now q.opening q.comparison q.settlement q.refined starts start id c.parent_after-id.result up.0 climb.0 c.up.climbed c.insert.new.self c.in_ok-insert.ensures.updates.0 c.in_ok-insert.ensures.ordered c.up.invariant.others climb.1 up.1 up.2 in
-    let was : c.in_ok-insert.field-0 ≡ None = c.in_ok-insert.ensures.old ∙ absent in
-    let more : length c.insert.new.self.entries ≡ length c.up.climbed.entries + 1 = rw was at c.in_ok-insert.ensures.len in
+    let known = known_by q.old q.opening q.comparison q.settlement q.refined in
+    let first = starts_at known c.args.entry c.named_id-start.result c.named_id-start.ensures in
+    let i = c.up.invariant in
+    let parent = c.parent_after-id.result in
+    let up = up_to known first c.up.climbed i.others i.climb.1 parent (c.up-test.ensures.unknown refl) (subst (λ v. IsNext v c.args.compared.now c.up.id parent) i.world c.parent_after-id.ensures.next) in
+    let put = c.in_ok-insert.ensures in
+    let starts = take c.args.entry (named_ids (g.L.LookUps.world c.args.look_ups.now) (update_data c.args.update.now)) in
+    let left = marks_left known starts c.named_id-start.result c.up.id parent up.0 i.climb.0 c.up.climbed c.insert.new.self put.updates.0 put.ordered i.others i.climb.1 up.1 up.2 in
+    let absent : at c.up.climbed.entries c.up.id ≡ None = sym c.get.ensures.value ∙ ap option_copied c.in_default.is in
+    let was : c.in_ok-insert.field-0 ≡ None = put.old ∙ absent in
+    let more : length c.insert.new.self.entries ≡ length c.up.climbed.entries + 1 = rw was at put.len in
     omega (arith, left, more)
 
 pub up-preserved : goal.up-preserved
 up-preserved g c =
-    let w : World = g.L.LookUps.world c.args.look_ups.now in
-    let u : UpdateData = update_data c.args.update.now in
     let q = c.requires in
-    let start = c.named_id-start.result in
-    let first : IsStart w u c.args.entry start = starts_at w u q.old c.args.opened.now c.args.compared.now c.args.settled.now q.opening q.comparison q.settlement q.refined c.args.entry start c.named_id-start.ensures in
-    let starts = take c.args.entry (named_ids w u) in
-    let id = c.up.id in
-    let climb = c.up.invariant.climb in
-    let next : IsNext w c.args.compared.now id c.parent_after-id.result = subst (λ v. IsNext v c.args.compared.now id c.parent_after-id.result) c.up.invariant.world c.parent_after-id.ensures.next in
-    let up = rises w u q.old c.args.opened.now c.args.compared.now c.args.settled.now q.opening q.comparison q.settlement q.refined start id c.parent_after-id.result climb.0 first.named climb.1.leads (c.up-test.ensures.unknown refl) climb.1.stays next in
+    let known = known_by q.old q.opening q.comparison q.settlement q.refined in
+    let first = starts_at known c.args.entry c.named_id-start.result c.named_id-start.ensures in
+    let i = c.up.invariant in
+    let parent = c.parent_after-id.result in
+    let up = up_to known first c.up.climbed i.others i.climb.1 parent (c.up-test.ensures.unknown refl) (subst (λ v. IsNext v c.args.compared.now c.up.id parent) i.world c.parent_after-id.ensures.next) in
     let put = c.in_ok-insert.ensures.updates.0 in
+    let starts = take c.args.entry (named_ids (g.L.LookUps.world c.args.look_ups.now) (update_data c.args.update.now)) in
+    let start = c.named_id-start.result in
     record {
-      world = c.parent_after-id.ensures.world ∙ c.up.invariant.world;
-      others = others_step w u q.old c.args.opened.now c.args.compared.now c.args.settled.now q.opening q.comparison q.settlement q.refined starts start id c.up.climbed c.insert.new.self put c.up.invariant.others;
-      climb = (climb.0 + 1, step w u q.old c.args.opened.now c.args.compared.now c.args.settled.now q.opening q.comparison q.settlement q.refined start id c.parent_after-id.result up.0 climb.0 c.up.climbed c.insert.new.self put climb.1 up.1 up.2, (omega (arith, c.parent_after-id.ensures.counts.0, climb.2.0), omega (arith, c.parent_after-id.ensures.counts.1, climb.2.1)));
+      world = c.parent_after-id.ensures.world ∙ i.world;
+      others = others_step known starts start c.up.id c.up.climbed c.insert.new.self put i.others;
+      climb = (i.climb.0 + 1, step known start c.up.id parent up.0 i.climb.0 c.up.climbed c.insert.new.self put i.climb.1 up.1 up.2, (omega (arith, c.parent_after-id.ensures.counts.0, i.climb.2.0), omega (arith, c.parent_after-id.ensures.counts.1, i.climb.2.1)));
       found = up.3;
     }
 
 pub returns-clause-climbed : goal.returns-clause-climbed
 returns-clause-climbed g c =
-    let w : World = g.L.LookUps.world c.args.look_ups.now in
-    let u : UpdateData = update_data c.args.update.now in
     let q = c.requires in
-    let start = c.named_id-start.result in
-    let first : IsStart w u c.args.entry start = starts_at w u q.old c.args.opened.now c.args.compared.now c.args.settled.now q.opening q.comparison q.settlement q.refined c.args.entry start c.named_id-start.ensures in
-    let starts = take c.args.entry (named_ids w u) in
-    let id = c.up.id in
-    let climb = c.up.invariant.climb in
-    let reached : Reached (merged_world w u) id = known_reached w u q.old c.args.opened.now c.args.compared.now c.args.settled.now q.opening q.comparison q.settlement q.refined id (c.up-test.ensures.known refl) in
-    subst (λ xs. AreClimbed w u xs c.up.climbed) (sym first.more) (ends w u q.old c.args.opened.now c.args.compared.now c.args.settled.now q.opening q.comparison q.settlement q.refined starts start id climb.0 c.up.climbed c.up.invariant.others climb.1 reached)
+    let known = known_by q.old q.opening q.comparison q.settlement q.refined in
+    let first = starts_at known c.args.entry c.named_id-start.result c.named_id-start.ensures in
+    let i = c.up.invariant in
+    all_climbed_to known first c.up.climbed i.others i.climb.1 (known_reached known c.up.id (c.up-test.ensures.known refl))
 
 pub returns-clause-way : goal.returns-clause-way
 returns-clause-way g c =
-    let w : World = g.L.LookUps.world c.args.look_ups.now in
-    let u : UpdateData = update_data c.args.update.now in
     let q = c.requires in
-    let start = c.named_id-start.result in
-    let first : IsStart w u c.args.entry start = starts_at w u q.old c.args.opened.now c.args.compared.now c.args.settled.now q.opening q.comparison q.settlement q.refined c.args.entry start c.named_id-start.ensures in
-    let id = c.up.id in
-    let climb = c.up.invariant.climb in
-    let reached : Reached (merged_world w u) id = known_reached w u q.old c.args.opened.now c.args.compared.now c.args.settled.now q.opening q.comparison q.settlement q.refined id (c.up-test.ensures.known refl) in
-    (climb.0, record { start = start; at = first.at; reached = λ adopts. ends_reached w u q.old c.args.opened.now c.args.compared.now c.args.settled.now q.opening q.comparison q.settlement q.refined start id climb.0 c.up.climbed climb.1 reached; way = (id, climb.1.leads, inl reached) }, climb.2)
+    let known = known_by q.old q.opening q.comparison q.settlement q.refined in
+    let first = starts_at known c.args.entry c.named_id-start.result c.named_id-start.ensures in
+    let i = c.up.invariant in
+    (i.climb.0, climbed_from known first c.up.climbed i.others i.climb.1 (known_reached known c.up.id (c.up-test.ensures.known refl)), i.climb.2)

@@ -4,7 +4,7 @@ use Rattle.model.specs.Update.{merged_world}
 use Rattle.model.specs.Work.{named_ids}
 use Rattle.model.specs.Surgery.{IsClimb}
 use Rattle.model.proofs.Update.AcceptedOrFault.{keys}
-use Rattle.tree_changes.specs.Looks.{IsRaisedUpTo}
+use Rattle.tree_changes.specs.LookUps.{IsRaisedUpTo}
 use Rattle.tree_plan.proofs.Ascents.{AreOthers, IsMarked, IsFound}
 use Rattle.tree_plan.proofs.climbing.climb.Given as goal
 

@@ -9,7 +9,7 @@ use Rattle.model.specs.World.{World, in_tree, Reached}
 use Rattle.model.specs.Update.{index_for, merged_world}
 use Rattle.model.specs.Work.{named_ids}
 use Rattle.model.specs.Surgery.{IsOld, IsRefined, Adopts}
-use Rattle.tree_plan.specs.Passes.{IsOpening, IsComparison, IsSettlement}
+use Rattle.tree_plan.specs.Passes.{HoldsOpened, HoldsCompared, HoldsSettled}
 use Rattle.tree_plan.specs.Climbs.{AreClimbed, IsClimbedFrom, AreWays}
 use Rattle.tree_plan.proofs.Ascents.{IsStart, is_start}
 use Rattle.tree_plan.proofs.Ways.{id_named, ways_push, adopters_push, all_climbed, ways_steps}
@@ -19,13 +19,13 @@ pub climb-requires-clause-old : goal.climb-requires-clause-old
 climb-requires-clause-old g c = subst IsOld (sym c.loop-entry.invariant.world) c.requires.old
 
 pub climb-requires-clause-opening : goal.climb-requires-clause-opening
-climb-requires-clause-opening g c = subst (λ v. IsOpening v (update_data c.args.update.now) c.args.opened.now) (sym c.loop-entry.invariant.world) c.requires.opening
+climb-requires-clause-opening g c = subst (λ v. HoldsOpened v (update_data c.args.update.now) c.args.opened.now) (sym c.loop-entry.invariant.world) c.requires.opening
 
 pub climb-requires-clause-comparison : goal.climb-requires-clause-comparison
-climb-requires-clause-comparison g c = subst (λ v. IsComparison v (update_data c.args.update.now) c.args.compared.now) (sym c.loop-entry.invariant.world) c.requires.comparison
+climb-requires-clause-comparison g c = subst (λ v. HoldsCompared v (update_data c.args.update.now) c.args.compared.now) (sym c.loop-entry.invariant.world) c.requires.comparison
 
 pub climb-requires-clause-settlement : goal.climb-requires-clause-settlement
-climb-requires-clause-settlement g c = subst (λ v. IsSettlement v (update_data c.args.update.now) c.args.settled.now) (sym c.loop-entry.invariant.world) c.requires.settlement
+climb-requires-clause-settlement g c = subst (λ v. HoldsSettled v (update_data c.args.update.now) c.args.settled.now) (sym c.loop-entry.invariant.world) c.requires.settlement
 
 pub climb-requires-clause-refined : goal.climb-requires-clause-refined
 climb-requires-clause-refined g c = subst (λ v. IsRefined v (update_data c.args.update.now)) (sym c.loop-entry.invariant.world) c.requires.refined

@@ -6,7 +6,7 @@ use Rattle.model.specs.World.{Reached}
 use Rattle.model.specs.Update.{merged_world}
 use Rattle.model.specs.Work.{named_ids}
 use Rattle.model.specs.Surgery.{Adopts}
-use Rattle.tree_changes.specs.Looks.{IsRaisedUpTo}
+use Rattle.tree_changes.specs.LookUps.{IsRaisedUpTo}
 use Rattle.tree_plan.specs.Climbs.{AreClimbed, AreWays}
 use Rattle.tree_plan.proofs.climbing.climb_all.Given as goal
 

@@ -2,7 +2,7 @@ use Rattle.std.proofs.Common.{◌≡◌, Some, option_copied, sym, ap, subst, �
 use Rattle.std.proofs.lemmas.Option.{same_Some}
 use Rattle.model.specs.World.{World}
 use Rattle.model.proofs.State.StatePlaces.{IsSome_is}
-use Rattle.tree_changes.specs.Looks.{IsPlaceOf}
+use Rattle.tree_changes.specs.LookUps.{IsPlaceOf}
 use Rattle.tree_plan.specs.Passes.{at}
 use Rattle.tree_plan.proofs.Ascents.{old_was}
 use Rattle.tree_plan.proofs.climbing.old_place.Goals as goal

@@ -1,13 +1,14 @@
-use Rattle.std.proofs.Common.{◌≡◌, Some, length, slice_get, refl, ap, subst, ◌∙◌, arith}
+use Rattle.std.proofs.Common.{◌≡◌, Some, IsSome, length, slice_get, refl, sym, ap, subst, ◌∙◌, arith}
 use Rattle.std.proofs.lemmas.Option.{slice_get_read}
 use Rattle.std.proofs.lemmas.Result.{err_from_is_err_and}
 use Rattle.schema.specs.UpdateData.{UpdateData, update_data}
 use Rattle.model.specs.declared.FullNodeId.{FullNodeId}
 use Rattle.model.specs.World.{World, in_tree}
 use Rattle.model.specs.Update.{index_for}
+use Rattle.tree_plan.specs.Passes.{at}
 use Rattle.tree_plan.specs.Comparisons.{ComparesNode, IsNodeFault, AreCompared}
 use Rattle.tree_plan.proofs.Entries.{AreNamedOnce}
-use Rattle.tree_plan.proofs.NamedNodes.{named_once, compared_none, compared_next, compared_all, node_refused}
+use Rattle.tree_plan.proofs.NamedNodes.{named_once, named_known, compared_none, compared_next, compared_all, node_refused}
 use Rattle.tree_plan.proofs.comparing.compare.Goals as goal
 
 pub loop-entry-init : goal.loop-entry-init
@@ -19,6 +20,19 @@ loop-entry-init g c =
       count = (omega arith, omega arith);
       compared = compared_none w u c.requires.old c.args.opened.now c.requires.opened c.in_ok-named.named c.in_ok-named.ensures.ok c.in_ok-compared.compared c.in_ok-compared.ensures.ok;
     }
+
+pub compare_node-requires : goal.compare_node-requires
+compare_node-requires g c =
+    let w : World = g.L.LookUps.world c.args.look_ups.now in
+    let u : UpdateData = update_data c.args.update.now in
+    let k = c.loop-entry.entry in
+    let xs = c.deref-item-items.result.now in
+    let items : xs ≡ u.nodes = c.deref-item-items.ensures.value in
+    let item = c.item-item.result in
+    let at_k : slice_get u.nodes k ≡ Some item = subst (λ ys. slice_get ys k ≡ Some item) items (slice_get_read xs (length xs) k _ refl c.loop-entry-test.true c.item-item.is) in
+    let once : AreNamedOnce u.nodes = named_once w u c.requires.old c.args.opened.now c.requires.opened c.in_ok-named.named c.in_ok-named.ensures.ok in
+    let id : c.full_id-id.result ≡ in_tree (index_for w u.name) item.0 = c.full_id-id.ensures ∙ ap (λ i. in_tree i item.0) c.requires.opened.index in
+    record { there = subst (λ (x : FullNodeId). IsSome (at c.loop-entry.compared.named x)) (sym id) (named_known w u c.requires.old once k item at_k c.loop-entry.compared c.loop-entry.invariant.compared) }
 
 pub loop-entry-preserved : goal.loop-entry-preserved
 loop-entry-preserved g c =

@@ -1,6 +1,6 @@
 use Rattle.std.proofs.Common.{◌≡◌}
 use Rattle.schema.specs.UpdateData.{update_data}
-use Rattle.tree_changes.specs.Looks.{IsRaisedBy}
+use Rattle.tree_changes.specs.LookUps.{IsRaisedBy}
 use Rattle.tree_plan.specs.Comparisons.{AreCompared}
 use Rattle.tree_plan.proofs.comparing.compare.Given as goal
 

@@ -5,7 +5,7 @@ use Rattle.model.specs.Update.{FocusOnEmptyGraft, Stands, merged_world}
 use Rattle.model.proofs.State.StatePlaces.{IsSome_is}
 use Rattle.model.proofs.Update.Merges.{length_fits}
 use Rattle.model.proofs.Surgery.FocusWalk.{lost_focus_stands}
-use Rattle.tree_plan.specs.Aims.{IsAimIn, IsLost, Stays}
+use Rattle.tree_plan.specs.Aims.{IsAimIn, IsLost, IsStaying}
 use Rattle.tree_plan.proofs.FocusWays.{new_top, new_begins, new_goes, new_short, new_reached, empty_stands, aim_graft}
 use Rattle.tree_plan.proofs.focusing.end_after.Goals as goal
 
@@ -40,7 +40,7 @@ returns-in_default-graft-clause-reached g c =
     let w : World = g.L.LookUps.world c.args.look_ups.now in
     let u : UpdateData = update_data c.args.update.now in
     let id = c.loop-depth.id in
-    let stays : Stays w c.args.compared.now c.args.removed.now id = subst (λ v. Stays v c.args.compared.now c.args.removed.now id) c.loop-depth.invariant.world c.in-Some.ensures.aim.0 in
+    let stays : IsStaying w c.args.compared.now c.args.removed.now id = subst (λ v. IsStaying v c.args.compared.now c.args.removed.now id) c.loop-depth.invariant.world c.in-Some.ensures.aim.0 in
     rw c.end_at.ensures.id (new_reached w u c.requires.old c.args.compared.now c.args.removed.now c.requires.comparison c.requires.removal c.requires.passed id stays)
 
 pub returns-in_default-graft-clause-counts : goal.returns-in_default-graft-clause-counts
@@ -57,7 +57,7 @@ returns-in_default-declared_after-clause-err g c =
     let u : UpdateData = update_data c.args.update.now in
     let id = c.loop-depth.id in
     let before = c.loop-depth.invariant in
-    let stays : Stays w c.args.compared.now c.args.removed.now id = subst (λ v. Stays v c.args.compared.now c.args.removed.now id) before.world c.in-Some.ensures.aim.0 in
+    let stays : IsStaying w c.args.compared.now c.args.removed.now id = subst (λ v. IsStaying v c.args.compared.now c.args.removed.now id) before.world c.in-Some.ensures.aim.0 in
     let aim : IsAimIn (merged_world w u) id c.in-Some.aim = subst (λ v. IsAimIn (merged_world v u) id c.in-Some.aim) before.world c.in-Some.ensures.aim.1 in
     let grafts : graft_name (merged_world w u) id ≡ Some c.in-Some-graft.inner = aim_graft (merged_world w u) id c.in-Some.aim aim ∙ c.in-Some-graft.is in
     let declared : focus_named (merged_world w u) c.in-Some-graft.inner ≡ None =
@@ -71,7 +71,7 @@ loop-depth-preserved g c =
     let u : UpdateData = update_data c.args.update.now in
     let id = c.loop-depth.id in
     let before = c.loop-depth.invariant in
-    let stays : Stays w c.args.compared.now c.args.removed.now id = subst (λ v. Stays v c.args.compared.now c.args.removed.now id) before.world c.in-Some.ensures.aim.0 in
+    let stays : IsStaying w c.args.compared.now c.args.removed.now id = subst (λ v. IsStaying v c.args.compared.now c.args.removed.now id) before.world c.in-Some.ensures.aim.0 in
     let aim : IsAimIn (merged_world w u) id c.in-Some.aim = subst (λ v. IsAimIn (merged_world v u) id c.in-Some.aim) before.world c.in-Some.ensures.aim.1 in
     let grafts : graft_name (merged_world w u) id ≡ Some c.in-Some-graft.inner = aim_graft (merged_world w u) id c.in-Some.aim aim ∙ c.in-Some-graft.is in
     let declared : focus_named (merged_world w u) c.in-Some-graft.inner ≡ Some c.in-Some-declared_after.declared =

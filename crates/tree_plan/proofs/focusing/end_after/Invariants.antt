@@ -1,6 +1,6 @@
 use Rattle.std.proofs.Common.{◌≡◌, ◌+◌, ◌*◌}
 use Rattle.schema.specs.UpdateData.{update_data}
-use Rattle.tree_changes.specs.Looks.{IsRaisedUpTo}
+use Rattle.tree_changes.specs.LookUps.{IsRaisedUpTo}
 use Rattle.tree_plan.proofs.FocusWays.{NewWay}
 use Rattle.tree_plan.proofs.focusing.end_after.Given as goal
 

@@ -1,5 +1,5 @@
 use Rattle.std.proofs.Common.{◌≡◌, ◌+◌, ◌*◌}
-use Rattle.tree_changes.specs.Looks.{IsRaisedUpTo}
+use Rattle.tree_changes.specs.LookUps.{IsRaisedUpTo}
 use Rattle.tree_plan.proofs.FocusWays.{OldWay}
 use Rattle.tree_plan.proofs.focusing.end_before.Given as goal
 

@@ -3,7 +3,7 @@ use Rattle.schema.specs.UpdateData.{UpdateData, update_data}
 use Rattle.model.specs.World.{World, Reached}
 use Rattle.model.specs.Update.{merged_world}
 use Rattle.model.proofs.Surgery.FocusWalk.{walked_keeps}
-use Rattle.tree_plan.specs.Aims.{IsEnd, Answers, Stays}
+use Rattle.tree_plan.specs.Aims.{IsEnd, Answers, IsStaying}
 use Rattle.tree_plan.proofs.FocusWays.{end_effective, end_new, after_new, end_ungrafted}
 use Rattle.tree_plan.proofs.focusing.find_focus.Goals as goal
 
@@ -20,7 +20,7 @@ returns-clause-ok g c =
       before = c.focus_before-before.ensures.focus;
       effective = λ new r. end_effective new e (end_new w u c.requires.old c.args.compared.now c.args.removed.now c.requires.comparison c.requires.removal c.requires.passed new r e end reached);
       after = λ new r. after_new w u c.requires.old c.args.compared.now c.args.removed.now c.requires.comparison c.requires.removal c.requires.passed new r e end reached c.focus_after-after.result
-          (subst (λ (v : World). MatchOption c.focus_after-after.result (v.host_focused ≡ false) (λ id. (v.host_focused ≡ true) × Answers (Stays v c.args.compared.now c.args.removed.now) e id)) last c.focus_after-after.ensures.focus);
+          (subst (λ (v : World). MatchOption c.focus_after-after.result (v.host_focused ≡ false) (λ id. (v.host_focused ≡ true) × Answers (IsStaying v c.args.compared.now c.args.removed.now) e id)) last c.focus_after-after.ensures.focus);
     }
 
 pub returns-clause-keeps : goal.returns-clause-keeps

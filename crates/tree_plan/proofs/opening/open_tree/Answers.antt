@@ -5,7 +5,7 @@ use Rattle.model.specs.World.{World}
 use Rattle.model.specs.Update.{IsFirst}
 use Rattle.model.proofs.State.StatePlaces.{map_some}
 use Rattle.tree_changes.specs.declared.look_ups.TreeRecord.{TreeRecord}
-use Rattle.tree_plan.specs.Passes.{IsOpening}
+use Rattle.tree_plan.specs.Passes.{HoldsOpened}
 use Rattle.tree_plan.proofs.Opens.{blank, first_opening}
 use Rattle.tree_plan.proofs.opening.open_tree.Goals as goal
 
@@ -22,5 +22,5 @@ returns-clause-ok g c =
     let info = map_some _ c.args.update.now.tree c.in_ok-root.root c.in_ok-root.ensures.ok.0 in
     let has : u.info ≡ Some (info_data info.0) = ap (option_map info_data) info.1 in
     let same : blank u.name ≡ c.no_record.result = cc in
-    let P : TreeRecord → Type 0 = λ t. IsOpening w u (record { «record» = t; index = 0; root = c.in_ok-root.root; is_first = _ }) in
+    let P : TreeRecord → Type 0 = λ t. HoldsOpened w u (record { «record» = t; index = 0; root = c.in_ok-root.root; is_first = _ }) in
     subst P same (first_opening w c.known_trees.ensures.old u first (info_data info.0) has c.in_ok-root.root info.2 c.in_ok-root.ensures.ok.1)

@@ -1,6 +1,6 @@
 use Rattle.std.proofs.Common.{◌++◌, map, refl, ap, ◌∙◌, subst, sym}
 use Rattle.schema.specs.UpdateData.{update_data}
-use Rattle.tree_changes.specs.declared.plan.Change.TheVariants.{Tree}
+use Rattle.tree_plan.specs.declared.plan.Change.TheVariants.{Tree}
 use Rattle.tree_plan.specs.Planned.{AreTakenOnce, plan_change}
 use Rattle.tree_plan.proofs.Plans.{taken_once, plan_is, plan_within}
 use Rattle.tree_plan.proofs.planning.plan_update.Goals as goal

@@ -1,5 +1,5 @@
 use Rattle.std.proofs.Common.{◌≡◌, ◌++◌, map, take}
-use Rattle.tree_changes.specs.declared.plan.Change.TheVariants.{Tree}
+use Rattle.tree_plan.specs.declared.plan.Change.TheVariants.{Tree}
 use Rattle.tree_plan.proofs.planning.push_trees.Given as goal
 
 abbrev pub invariant-loop-record : goal.invariant-loop-record

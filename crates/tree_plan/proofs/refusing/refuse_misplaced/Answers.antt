@@ -20,7 +20,7 @@ returns-in_err-refuse_unlisted-clause-err g c =
 
 pub loop-id-init : goal.loop-id-init
 loop-id-init g c =
-    let m = c.args.settled.now.old_places in
+    let m = c.args.settled.now.old_places.entries in
     let f = c.into_iter-id-iterator.ensures.into_iter_gives in
     record {
       world = refl;
@@ -32,7 +32,7 @@ loop-id-init g c =
 pub explain-requires-clause-double : goal.explain-requires-clause-double
 explain-requires-clause-double g c =
     let w = g.L.LookUps.world c.args.look_ups.now in let u = update_data c.args.update.now in
-    let m = c.args.settled.now.old_places in
+    let m = c.args.settled.now.old_places.entries in
     let e : FullNodeId × Option (FullNodeId × ℕ) = (c.in-Some.id.now, c.in-Some.place.now) in
     let split = rest_more deref_pair c.loop-id.id-iterator c.next.new.self c.next.result (c.in-Some.id, c.in-Some.place) c.in-Some.is c.next.ensures.steps in
     let is = entries_first m c.loop-id.id-iterator c.next.new.self e split c.loop-id.invariant.entries in
@@ -44,7 +44,7 @@ returns-then-is_doubled-clause-err g c = subst (λ v. IsRefusal v (update_data c
 
 pub loop-id-preserved : goal.loop-id-preserved
 loop-id-preserved g c =
-    let m = c.args.settled.now.old_places in
+    let m = c.args.settled.now.old_places.entries in
     let e : FullNodeId × Option (FullNodeId × ℕ) = (c.in-Some.id.now, c.in-Some.place.now) in
     let split = rest_more deref_pair c.loop-id.id-iterator c.next.new.self c.next.result (c.in-Some.id, c.in-Some.place) c.in-Some.is c.next.ensures.steps in
     record {
@@ -56,7 +56,7 @@ loop-id-preserved g c =
 
 pub returns-clause-ok : goal.returns-clause-ok
 returns-clause-ok g c =
-    let m = c.args.settled.now.old_places in
+    let m = c.args.settled.now.old_places.entries in
     let none = rest_all deref_pair c.loop-id.id-iterator c.next.new.self c.next.result c.in-None.is c.next.ensures.steps in
     refined (g.L.LookUps.world c.args.look_ups.now) (update_data c.args.update.now) c.requires.old c.args.compared.now c.requires.compared c.args.settled.now c.requires.settlement c.args.removed.now c.requires.removal
     c.in_ok-refuse_unlisted.ensures.ok (loop_ends m (λ id p. ¬ (IsDoubled c.args.compared.now c.args.removed.now id p)) c.loop-id.id-iterator none c.loop-id.invariant.done)

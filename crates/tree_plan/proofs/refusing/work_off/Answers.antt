@@ -3,7 +3,7 @@ use Rattle.std.proofs.lemmas.Option.{slice_get_read}
 use Rattle.schema.specs.UpdateData.{update_data}
 use Rattle.model.specs.World.{listed_ids}
 use Rattle.model.specs.Update.{merged_world}
-use Rattle.tree_plan.specs.Refusing.{Adds}
+use Rattle.tree_plan.specs.Refusing.{Enqueues}
 use Rattle.tree_plan.proofs.RefusingSteps.{searching_start, searching_more, searching_end}
 use Rattle.tree_plan.proofs.refusing.work_off.Goals as goal
 
@@ -21,7 +21,7 @@ loop-position-preserved g c =
     let id = c.index-id.result.now in
     let lt : k < length b.queue.items = omega (arith, c.len.ensures, c.if-position-len.false) in
     let is : slice_get b.queue.items k ≡ Some id = slice_get_read b.queue.items (length b.queue.items) k id refl lt c.index-id.ensures in
-    let adds : Adds (listed_ids (merged_world w u) id) b c.visit.new.search = subst (λ v. Adds (listed_ids (merged_world v u) id) b c.visit.new.search) c.loop-position.invariant.world c.in_ok-visit.ensures.ok in
+    let adds : Enqueues (listed_ids (merged_world w u) id) b c.visit.new.search = subst (λ v. Enqueues (listed_ids (merged_world v u) id) b c.visit.new.search) c.loop-position.invariant.world c.in_ok-visit.ensures.ok in
     record {
       world = c.visit.ensures.world ∙ c.loop-position.invariant.world;
       searching = searching_more w u k id c.args.search.now b c.visit.new.search is c.loop-position.invariant.searching adds;

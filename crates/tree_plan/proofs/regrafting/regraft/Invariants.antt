@@ -1,6 +1,6 @@
 use Rattle.std.proofs.Common.{◌≡◌, take}
 use Rattle.schema.specs.UpdateData.{update_data}
-use Rattle.tree_changes.specs.Looks.{IsRaisedUpTo}
+use Rattle.tree_changes.specs.LookUps.{IsRaisedUpTo}
 use Rattle.tree_plan.specs.Regrafts.{AreRegrafted}
 use Rattle.tree_plan.proofs.regrafting.regraft.Given as goal
 

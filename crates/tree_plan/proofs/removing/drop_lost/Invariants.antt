@@ -1,5 +1,5 @@
 use Rattle.std.proofs.Common.{◌≡◌}
-use Rattle.tree_changes.specs.Looks.{IsRaisedUpTo}
+use Rattle.tree_changes.specs.LookUps.{IsRaisedUpTo}
 use Rattle.tree_plan.proofs.RemovingSteps.{IsDropping}
 use Rattle.tree_plan.proofs.removing.drop_lost.Given as goal
 

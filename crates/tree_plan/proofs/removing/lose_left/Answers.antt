@@ -11,7 +11,7 @@ use Rattle.tree_plan.proofs.removing.lose_left.Goals as goal
 pub loop-id-init : goal.loop-id-init
 loop-id-init g c =
     let w = g.setting.0 in let u = g.setting.1 in
-    let m = c.args.compared.now.left in
+    let m = c.args.compared.now.left.entries in
     let a = c.args.removing.now in
     let f = c.into_iter-id-iterator.ensures.into_iter_gives in
     record {
@@ -24,7 +24,7 @@ loop-id-init g c =
 pub lose-requires : goal.lose-requires
 lose-requires g c =
     let w = g.setting.0 in let u = g.setting.1 in
-    let m = c.args.compared.now.left in
+    let m = c.args.compared.now.left.entries in
     let e : FullNodeId × Option (FullNodeId × ℕ) = (c.in-Some.id.now, c.in-Some.field-0-1.now) in
     let split = rest_more deref_pair c.loop-id.id-iterator c.next.new.self c.next.result (c.in-Some.id, c.in-Some.field-0-1) c.in-Some.is c.next.ensures.steps in
     (record { old = c.requires.old; compared = c.requires.compared; found = c.loop-id.invariant.found }, left_goes w u c.args.compared.now c.requires.compared e.1 e.0 (entries_first m c.loop-id.id-iterator c.next.new.self e split c.loop-id.invariant.entries))
@@ -32,7 +32,7 @@ lose-requires g c =
 pub loop-id-preserved : goal.loop-id-preserved
 loop-id-preserved g c =
     let w = g.setting.0 in let u = g.setting.1 in
-    let m = c.args.compared.now.left in
+    let m = c.args.compared.now.left.entries in
     let a = c.loop-id.removing in
     let b = c.lose.new.removing in
     let e : FullNodeId × Option (FullNodeId × ℕ) = (c.in-Some.id.now, c.in-Some.field-0-1.now) in
@@ -48,7 +48,7 @@ loop-id-preserved g c =
 pub returns-clause-ok : goal.returns-clause-ok
 returns-clause-ok g c =
     let w = g.setting.0 in let u = g.setting.1 in
-    let m = c.args.compared.now.left in
+    let m = c.args.compared.now.left.entries in
     let b = c.loop-id.removing in
     let none = rest_all deref_pair c.loop-id.id-iterator c.next.new.self c.next.result c.in-None.is c.next.ensures.steps in
     left_end w u c.args.compared.now c.requires.compared c.args.removing.now b c.loop-id.invariant.found c.loop-id.invariant.trees (loop_ends m (λ id s. IsPlacedOrFound w u b id) c.loop-id.id-iterator none c.loop-id.invariant.done)

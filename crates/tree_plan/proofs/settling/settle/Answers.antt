@@ -14,13 +14,13 @@ pub loop-id-init : goal.loop-id-init
 loop-id-init g c =
     let w = g.L.LookUps.world c.args.look_ups.now in
     let u = update_data c.args.update.now in
-    let m = c.args.compared.now.entered in
+    let m = c.args.compared.now.entered.entries in
     let f = c.into_iter-id-iterator.ensures.into_iter_gives in
     let a : Settled = record { old_places = c.new.result; adopters = c.new-2.result; has_moved = false } in
-    let is : c.into_iter-id-iterator.result ≡ m.entries = f.0 in
+    let is : c.into_iter-id-iterator.result ≡ m = f.0 in
     record {
       world = refl;
-      count = let same : length c.into_iter-id-iterator.result ≡ length m.entries = ap length is in omega arith;
+      count = let same : length c.into_iter-id-iterator.result ≡ length m = ap length is in omega arith;
       least = omega arith;
       so_far = settles_start w u a (empty_at c.new.result c.new.ensures.empty) (empty_has c.new-2.result c.new-2.ensures.empty);
       entries = subst (AreEntries m) (sym is) (entries_begin m f.6);
@@ -30,7 +30,7 @@ loop-id-init g c =
 pub settle_one-requires-clause-entered : goal.settle_one-requires-clause-entered
 settle_one-requires-clause-entered g c =
     let u = update_data c.args.update.now in
-    let m = c.args.compared.now.entered in
+    let m = c.args.compared.now.entered.entries in
     let split = rest_more deref_pair c.loop-id.id-iterator c.next.new.self c.next.result (c.in-Some.id, c.in-Some.spot) c.in-Some.is c.next.ensures.steps in
     let is = entries_first m c.loop-id.id-iterator c.next.new.self (c.in-Some.id.now, c.in-Some.spot.now) split c.loop-id.invariant.entries in
     subst (λ w. Entered w u c.in-Some.spot.now c.in-Some.id.now) (sym c.loop-id.invariant.world) ((c.requires.compared.entered c.in-Some.id.now c.in-Some.spot.now).0 is)
@@ -39,7 +39,7 @@ pub loop-id-preserved : goal.loop-id-preserved
 loop-id-preserved g c =
     let w = g.L.LookUps.world c.args.look_ups.now in
     let u = update_data c.args.update.now in
-    let m = c.args.compared.now.entered in
+    let m = c.args.compared.now.entered.entries in
     let e : FullNodeId × Option (FullNodeId × ℕ) = (c.in-Some.id.now, c.in-Some.spot.now) in
     let a = c.loop-id.settled in
     let b = c.settle_one.new.settled in
@@ -58,6 +58,6 @@ pub returns-clause-ok : goal.returns-clause-ok
 returns-clause-ok g c =
     let w = g.L.LookUps.world c.args.look_ups.now in
     let u = update_data c.args.update.now in
-    let m = c.args.compared.now.entered in
+    let m = c.args.compared.now.entered.entries in
     let none = rest_all deref_pair c.loop-id.id-iterator c.next.new.self c.next.result c.in-None.is c.next.ensures.steps in
     settlement w u c.args.compared.now c.loop-id.settled c.requires.compared c.loop-id.invariant.so_far (loop_ends m (λ id s. IsSettledAt w u id s c.loop-id.settled) c.loop-id.id-iterator none c.loop-id.invariant.done)

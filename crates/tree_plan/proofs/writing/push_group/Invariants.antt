@@ -1,8 +1,7 @@
-use Rattle.std.proofs.Common.{◌≡◌, ◌++◌, map}
+use Rattle.std.proofs.Common.{◌≡◌, ◌++◌, take}
 use Rattle.std.specs.List.{flat_map}
-use Rattle.std.specs.Map.Iter.{deref_pair}
 use Rattle.tree_plan.specs.Writing.{told_of}
 use Rattle.tree_plan.proofs.writing.push_group.Given as goal
 
 abbrev pub invariant-loop-id : goal.invariant-loop-id
-invariant-loop-id l = l.events.items ≡ l.fn.events.items ++ flat_map (told_of l.told) (map deref_pair l.yielded)
+invariant-loop-id l = l.events.items ≡ l.fn.events.items ++ flat_map (told_of l.told) (take l.id-index l.verdicts)

@@ -1,4 +1,4 @@
-use Rattle.std.proofs.Common.{rules, ◌∷◌, ◌++◌, [], None, refl, ap, ◌∙◌}
+use Rattle.std.proofs.Common.{rules, None, refl, ap, ◌∙◌}
 use Rattle.tree_store.specs.declared.records.KnownTree.{KnownTree}
 use Rattle.tree_store.specs.Stored.{trees_shown}
 use Rattle.tree_store.proofs.KnownTrees.{shown_push}

@@ -1,4 +1,4 @@
-use Rattle.std.proofs.Common.{sym, ap, ◌∙◌}
+use Rattle.std.proofs.Common.{ap}
 use Rattle.std.proofs.Math.Seq.{map-set_same}
 use Rattle.tree_store.specs.declared.records.KnownTree.{KnownTree}
 use Rattle.tree_store.proofs.KnownTrees.{shown_set}

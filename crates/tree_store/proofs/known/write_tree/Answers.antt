@@ -1,4 +1,3 @@
-use Rattle.std.proofs.Common.{sym}
 use Rattle.tree_store.proofs.KnownTrees.{shown_put}
 use Rattle.tree_store.proofs.known.write_tree.Goals as goal
 

@@ -1,4 +1,4 @@
-use Rattle.std.proofs.Common.{refl, sym, ap, ◌∙◌, Some}
+use Rattle.std.proofs.Common.{sym, ap, ◌∙◌, Some}
 use Rattle.tree_store.specs.Stored.{record_in}
 use Rattle.tree_store.proofs.KeptSlots.{blank_same, record_none}
 use Rattle.tree_store.proofs.slots.add_slot.Goals as goal

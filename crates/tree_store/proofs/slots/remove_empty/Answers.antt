@@ -3,7 +3,7 @@ use Rattle.tree_store.proofs.KeptSlots.{blank_same, none_from_false}
 use Rattle.tree_store.specs.Stored.{record_at}
 use Rattle.tree_store.proofs.slots.remove_empty.Goals as goal
 
-pub returns-clause-same : goal.returns-clause-same
-returns-clause-same c =
+pub returns-then-not-has_record-clause-same : goal.returns-then-not-has_record-clause-same
+returns-then-not-has_record-clause-same c =
     blank_same c.args.slots.now.entries c.remove.new.self.entries c.args.id None refl c.remove.ensures.updates.0
-    (none_from_false (record_at c.args.slots.now.entries c.args.id) (sym c.has_record.ensures ∙ c.if-has_record.false))
+    (none_from_false (record_at c.args.slots.now.entries c.args.id) (sym c.has_record.ensures ∙ c.if-not-has_record.true))

@@ -1,5 +1,4 @@
-use Rattle.std.proofs.Common.{◌≡◌, ◌∷◌, drop, ◌+◌, get_or, None, sym, ap, subst, ◌∙◌}
-use Rattle.std.specs.Prelude.{◌||◌, is_some, slice_index_or}
+use Rattle.std.proofs.Common.{drop, ◌+◌, get_or, None, sym, ap, subst, ◌∙◌}
 use Rattle.std.specs.List.Sorted.{IsStrictlySortedBy}
 use Rattle.std.specs.Map.{keys_of}
 use Rattle.model.specs.declared.FullNodeId.{FullNodeId}
@@ -8,8 +7,8 @@ use Rattle.tree_changes.specs.declared.decision.NodeChange.{NodeChange}
 use Rattle.tree_changes.specs.declared.decision.NodeChange.TheVariants.{Put}
 use Rattle.tree_changes.specs.Changes.{NodeChanges, change_at}
 use Rattle.tree_store.specs.Stored.{record_at}
-use Rattle.tree_store.specs.Commits.{after_change, HasRoomFor, AreEntriesApart}
-use Rattle.tree_store.proofs.WrittenSlots.{HasEntriesOf, step_at, slot_here, entry_here, next_records, next_room, next_sorted, next_entries, next_apart}
+use Rattle.tree_store.specs.Commits.{changed_record, HasRoomFor, AreEntriesApart}
+use Rattle.tree_store.proofs.WrittenSlots.{HasEntriesOf, step_at, slot_here, next_records, next_room, next_sorted, next_entries, next_apart}
 use Rattle.tree_store.proofs.slots.write_all.Goals as goal
 
 pub write-requires-clause-slot : goal.write-requires-clause-slot
@@ -41,7 +40,7 @@ loop-change-preserved c =
     record {
       records = λ q.
           next_records first now later es fs e rest room sorted entries apart w.records w.tight w.nodes w.count q
-          ∙ ap (λ (cs : NodeChanges). after_change first (change_at cs q) (record_at es q)) (sym step)
+          ∙ ap (λ (cs : NodeChanges). changed_record first (change_at cs q) (record_at es q)) (sym step)
           ∙ i.records q;
       room = next_room first now later es fs e rest room sorted entries apart w.records w.tight w.nodes w.count;
       sorted = next_sorted first now later es fs e rest room sorted entries apart w.records w.tight w.nodes w.count;

@@ -14,8 +14,8 @@ loop-index-init c =
     let old : List FullNodeId = map (in_tree c.args.parent.tree) c.args.old.now in
     let new : List FullNodeId = map (in_tree c.args.parent.tree) c.args.new.now in
     record {
-      left = gathers_none (OnlyInBefore 0 c.args.parent old new) (at c.args.self.now.left) (none_at_zero c.args.parent old new);
-      entered = gathers_new_none (OnlyInBefore 0 c.args.parent new old) (at c.args.self.now.entered) (none_at_zero c.args.parent new old);
+      left = gathers_none (OnlyInBefore 0 c.args.parent old new) (at c.args.self.now.left.entries) (none_at_zero c.args.parent old new);
+      entered = gathers_new_none (OnlyInBefore 0 c.args.parent new old) (at c.args.self.now.entered.entries) (none_at_zero c.args.parent new old);
       rest = refl;
     }
 
@@ -28,12 +28,12 @@ loop-index-preserved c =
     let was : c.child_at-was.result ≡ slice_get old k = c.child_at-was.ensures in
     let is : c.child_at-is.result ≡ slice_get new k = c.child_at-is.ensures in
     let b : Compared = c.compare_spot.new.self in
-    let left : Gathers (OnlyAt (Some (parent, k)) (slice_get old k) (slice_get new k)) (at c.loop-index.self.left) (at b.left) =
-    subst (λ (x : Option FullNodeId). Gathers (OnlyAt (Some (parent, k)) x (slice_get new k)) (at c.loop-index.self.left) (at b.left)) was
-    (subst (λ (x : Option FullNodeId). Gathers (OnlyAt (Some (parent, k)) c.child_at-was.result x) (at c.loop-index.self.left) (at b.left)) is c.in_ok-compare_spot.ensures.left) in
-    let entered : GathersNew (OnlyAt (Some (parent, k)) (slice_get new k) (slice_get old k)) (at c.loop-index.self.entered) (at b.entered) =
-    subst (λ (x : Option FullNodeId). GathersNew (OnlyAt (Some (parent, k)) x (slice_get old k)) (at c.loop-index.self.entered) (at b.entered)) is
-    (subst (λ (x : Option FullNodeId). GathersNew (OnlyAt (Some (parent, k)) c.child_at-is.result x) (at c.loop-index.self.entered) (at b.entered)) was c.in_ok-compare_spot.ensures.entered) in
+    let left : Gathers (OnlyAt (Some (parent, k)) (slice_get old k) (slice_get new k)) (at c.loop-index.self.left.entries) (at b.left.entries) =
+    subst (λ (x : Option FullNodeId). Gathers (OnlyAt (Some (parent, k)) x (slice_get new k)) (at c.loop-index.self.left.entries) (at b.left.entries)) was
+    (subst (λ (x : Option FullNodeId). Gathers (OnlyAt (Some (parent, k)) c.child_at-was.result x) (at c.loop-index.self.left.entries) (at b.left.entries)) is c.in_ok-compare_spot.ensures.left) in
+    let entered : GathersNew (OnlyAt (Some (parent, k)) (slice_get new k) (slice_get old k)) (at c.loop-index.self.entered.entries) (at b.entered.entries) =
+    subst (λ (x : Option FullNodeId). GathersNew (OnlyAt (Some (parent, k)) x (slice_get old k)) (at c.loop-index.self.entered.entries) (at b.entered.entries)) is
+    (subst (λ (x : Option FullNodeId). GathersNew (OnlyAt (Some (parent, k)) c.child_at-is.result x) (at c.loop-index.self.entered.entries) (at b.entered.entries)) was c.in_ok-compare_spot.ensures.entered) in
     record {
       left = gathers_both (OnlyInBefore k parent old new) (OnlyAt (Some (parent, k)) (slice_get old k) (slice_get new k)) (OnlyInBefore (k + 1) parent old new) (next_from parent old new k) (next_left parent old new k) (next_right parent old new k) _ _ _ c.loop-index.invariant.left left;
       entered = gathers_new_both (OnlyInBefore k parent new old) (OnlyAt (Some (parent, k)) (slice_get new k) (slice_get old k)) (OnlyInBefore (k + 1) parent new old) (next_from parent new old k) (next_left parent new old k) (next_right parent new old k) _ _ _ c.loop-index.invariant.entered entered;
@@ -65,9 +65,9 @@ returns-in_err-compare_spot-clause-err c =
     let was : c.child_at-was.result ≡ slice_get old k = c.child_at-was.ensures in
     let is : c.child_at-is.result ≡ slice_get new k = c.child_at-is.ensures in
     let e = c.in_err-compare_spot.field-0.0 in
-    let twice : IsFoundTwice (OnlyAt (Some (parent, k)) (slice_get new k) (slice_get old k)) (at c.loop-index.self.entered) e =
-    subst (λ (x : Option FullNodeId). IsFoundTwice (OnlyAt (Some (parent, k)) x (slice_get old k)) (at c.loop-index.self.entered) e) is
-    (subst (λ (x : Option FullNodeId). IsFoundTwice (OnlyAt (Some (parent, k)) c.child_at-is.result x) (at c.loop-index.self.entered) e) was c.in_err-compare_spot.ensures.err) in
+    let twice : IsFoundTwice (OnlyAt (Some (parent, k)) (slice_get new k) (slice_get old k)) (at c.loop-index.self.entered.entries) e =
+    subst (λ (x : Option FullNodeId). IsFoundTwice (OnlyAt (Some (parent, k)) x (slice_get old k)) (at c.loop-index.self.entered.entries) e) is
+    (subst (λ (x : Option FullNodeId). IsFoundTwice (OnlyAt (Some (parent, k)) c.child_at-is.result x) (at c.loop-index.self.entered.entries) e) was c.in_err-compare_spot.ensures.err) in
     let p = err_from_is_err_and c.from_residual.result c.from_residual.ensures.1 in
     rw (p.1, p.2)
     (twice_after (OnlyInBefore k parent new old) (OnlyAt (Some (parent, k)) (slice_get new k) (slice_get old k)) (OnlyIn parent new old) (all_left parent new old k) (all_right parent new old k) (next_apart parent new old k) _ _ c.loop-index.invariant.entered e twice)

@@ -1,4 +1,4 @@
 use Rattle.tree_plan.proofs.verdicts.Found.judge.Given as goal
 
-abbrev pub ghost-verdict : goal.ghost-verdict
-ghost-verdict g a = g.step
+abbrev pub ghost-judge_as : goal.ghost-judge_as
+ghost-judge_as g a = g.step

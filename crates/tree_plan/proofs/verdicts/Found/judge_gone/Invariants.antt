@@ -3,8 +3,8 @@ use Rattle.std.specs.Map.Iter.{deref}
 use Rattle.tree_plan.specs.Verdicts.{Adds}
 use Rattle.tree_plan.proofs.verdicts.Found.judge_gone.Given as goal
 
-abbrev pub ghost-judge_more : goal.ghost-judge_more
-ghost-judge_more g a = g.step
+abbrev pub ghost-judge : goal.ghost-judge
+ghost-judge g a = g.step
 
 abbrev pub invariant-loop-id : goal.invariant-loop-id
 invariant-loop-id g l = Adds g.step (map deref l.yielded) l.fn.verdicts l.verdicts

@@ -5,35 +5,35 @@ use Rattle.tree_plan.proofs.Becoming.{gone_by, stays_by, new_by, news_by, same_b
 use Rattle.tree_plan.proofs.verdicts.Found.verdict.Goals as goal
 
 pub returns-then-contains : goal.returns-then-contains
-returns-then-contains g c = gone_by g.step c.args.self c.requires c.args.id (sym c.contains.ensures ∙ c.if-contains.true)
+returns-then-contains g c = gone_by g.step c.args.self.now c.requires.0 c.args.id (sym c.contains.ensures ∙ c.if-contains.true)
 
 pub other_place-moved-requires : goal.other_place-moved-requires
-other_place-moved-requires g c = (c.requires, stays_by g.step c.args.self c.requires c.args.id (sym c.contains.ensures ∙ c.if-contains.false))
+other_place-moved-requires g c = (c.requires.0, stays_by g.step c.args.self.now c.requires.0 c.args.id (sym c.contains.ensures ∙ c.if-contains.false))
 
 pub moved_or_told-requires : goal.moved_or_told-requires
 moved_or_told-requires g c = (
-  c.requires,
+  c.requires.0,
   (
-    unnamed_same_by g.step c.args.self c.requires c.args.id (stays_by g.step c.args.self c.requires c.args.id (sym c.contains.ensures ∙ c.if-contains.false)) (sym c.in_default.ensures.value),
+    unnamed_same_by g.step c.args.self.now c.requires.0 c.args.id (stays_by g.step c.args.self.now c.requires.0 c.args.id (sym c.contains.ensures ∙ c.if-contains.false)) (sym c.requires.1 ∙ c.in_default.is),
     c.other_place-moved.ensures,
   ),
 )
 
 pub returns-in_default-was : goal.returns-in_default-was
 returns-in_default-was g c =
-    subst (λ p. Becomes g.step c.args.id (Some (Added p c.in-Some.named.now.entry))) (sym c.unwrap_or-place.ensures)
-    (new_by g.step c.args.self c.requires c.args.id c.in-Some.named.now c.other_place-moved.result (sym c.in-Some.ensures.value) c.in_default-was.is c.other_place-moved.ensures)
+    subst (λ p. Becomes g.step c.args.id (Some (Added p c.in-Some.named.entry))) (sym c.unwrap_or-place.ensures)
+    (new_by g.step c.args.self.now c.requires.0 c.args.id c.in-Some.named c.other_place-moved.result (sym c.requires.1 ∙ c.in-Some.is) c.in_default-was.is c.other_place-moved.ensures)
 
 pub returns-then-named : goal.returns-then-named
 returns-then-named g c =
-    subst (λ p. Becomes g.step c.args.id (Some (Renewed p c.in-Some.named.now.entry))) (sym c.unwrap_or-place-then-named.ensures)
-    (news_by g.step c.args.self c.requires c.args.id c.in-Some.named.now c.in-Some-was.was c.other_place-moved.result (sym c.in-Some.ensures.value) c.in-Some-was.is c.if-named.true c.other_place-moved.ensures)
+    subst (λ p. Becomes g.step c.args.id (Some (Renewed p c.in-Some.named.entry))) (sym c.unwrap_or-place-then-named.ensures)
+    (news_by g.step c.args.self.now c.requires.0 c.args.id c.in-Some.named c.in-Some-was.was c.other_place-moved.result (sym c.requires.1 ∙ c.in-Some.is) c.in-Some-was.is c.if-named.true c.other_place-moved.ensures)
 
 pub moved_or_told-requires-2 : goal.moved_or_told-requires-2
 moved_or_told-requires-2 g c = (
-  c.requires,
+  c.requires.0,
   (
-    same_by g.step c.args.self c.requires c.args.id c.in-Some.named.now (sym c.in-Some.ensures.value) c.if-named.false,
+    same_by g.step c.args.self.now c.requires.0 c.args.id c.in-Some.named (sym c.requires.1 ∙ c.in-Some.is) c.if-named.false,
     c.other_place-moved.ensures,
   ),
 )

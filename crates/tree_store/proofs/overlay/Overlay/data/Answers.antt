@@ -1,4 +1,4 @@
-use Rattle.std.proofs.Common.{sym, ap, ◌∙◌, Some}
+use Rattle.std.proofs.Common.{ap, ◌∙◌, Some}
 use Rattle.schema.specs.UpdateData.{update_data}
 use Rattle.model.specs.World.{data_of}
 use Rattle.tree_changes.specs.Changes.{changed_data}

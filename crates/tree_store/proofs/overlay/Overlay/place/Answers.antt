@@ -1,6 +1,6 @@
 use Rattle.std.proofs.Common.{sym, subst}
 use Rattle.schema.specs.UpdateData.{update_data}
-use Rattle.tree_changes.specs.Looks.{IsPlaceOf}
+use Rattle.tree_changes.specs.LookUps.{IsPlaceOf}
 use Rattle.tree_store.proofs.Laid.{ascending, place_changed, place_kept, node_below}
 use Rattle.tree_store.specs.Overlays.{laid_over}
 use Rattle.tree_store.proofs.overlay.Overlay.place.Goals as goal

@@ -4,7 +4,7 @@ use Rattle.schema.specs.UpdateData.{update_data}
 use Rattle.model.specs.State.{IsState}
 use Rattle.model.proofs.Update.UpdateLeavesState.{update_leaves_state}
 use Rattle.tree_store.specs.declared.store.Store.TheInside.{Inside}
-use Rattle.tree_store.specs.Kept.{Kept}
+use Rattle.tree_store.specs.StoreViews.{StoreView}
 use Rattle.tree_store.specs.Shown.{world_shown}
 use Rattle.tree_store.specs.Commits.{IsReadyFor}
 use Rattle.tree_store.proofs.Commits.{room_for, tight}
@@ -15,8 +15,8 @@ use Rattle.tree_store.proofs.store.Store.commit.Goals as goal
 
 pub write_decision-requires-clause-room : goal.write_decision-requires-clause-room
 write_decision-requires-clause-room c =
-    let r = subst (λ (k : Kept). IsReadyFor k (update_data c.args.update) c.args.decision) (sym c.self.view_is) c.requires.ready in
-    room_for c.self.inside.nodes.entries c.args.decision.nodes.items r.slots
+    let r = subst (λ (k : StoreView). IsReadyFor k (update_data c.args.update) c.args.decision) (sym c.self.view_is) c.requires.ready in
+    room_for c.self.inside.tables.nodes.entries c.args.decision.nodes.items r.slots
 
 pub write_decision-requires-clause-entries : goal.write_decision-requires-clause-entries
 write_decision-requires-clause-entries c =
@@ -28,22 +28,22 @@ write_decision-requires-clause-apart c = entries_apart c.args.self.now.world (up
 pub write_decision-requires-clause-indexes : goal.write_decision-requires-clause-indexes
 write_decision-requires-clause-indexes c =
     let a = c.self.inside in
-    let shows : world_shown a ≡ c.args.self.now.world = ap (λ (k : Kept). k.world) c.self.view_is in
+    let shows : world_shown a ≡ c.args.self.now.world = ap (λ (k : StoreView). k.world) c.self.view_is in
     let is_new = none_is c.is_none-is_new.result c.tree_index.result c.is_none-is_new.ensures ∙ ap is_none c.tree_index.ensures in
     indexes_within a c.args.self.now.world shows c.self.invariant.names (update_data c.args.update) c.args.decision c.requires.decided c.is_none-is_new.result is_new
 
 pub write_decision-requires-clause-there : goal.write_decision-requires-clause-there
 write_decision-requires-clause-there c =
-    let r = subst (λ (k : Kept). IsReadyFor k (update_data c.args.update) c.args.decision) (sym c.self.view_is) c.requires.ready in
-    (λ k d less. key_is_kept c.self.inside.names.entries (slice_index_or c.args.decision.trees.items k d).id (r.names k d less))
+    let r = subst (λ (k : StoreView). IsReadyFor k (update_data c.args.update) c.args.decision) (sym c.self.view_is) c.requires.ready in
+    (λ k d less. key_is_kept c.self.inside.tables.names.entries (slice_index_or c.args.decision.trees.items k d).id (r.names k d less))
 
 pub invariant_of-self : goal.invariant_of-self
 invariant_of-self c =
     let a = c.self.inside in
-    let shows : world_shown a ≡ c.args.self.now.world = ap (λ (k : Kept). k.world) c.self.view_is in
+    let shows : world_shown a ≡ c.args.self.now.world = ap (λ (k : StoreView). k.world) c.self.view_is in
     let is_new = none_is c.is_none-is_new.result c.tree_index.result c.is_none-is_new.ensures ∙ ap is_none c.tree_index.ensures in
     let w = c.write_decision.ensures in
-    let b : Inside = record { alloc = a.alloc; nodes = c.write_decision.new.nodes; known = c.write_decision.new.known; names = c.write_decision.new.names; toolkit = c.write_decision.new.toolkit; host_focused = a.host_focused; focus = c.args.decision.focus } in
+    let b : Inside = record { tables = c.write_decision.new.self; host_focused = a.host_focused; focus = c.args.decision.focus } in
     let leaves = update_leaves_state c.args.self.now.world (update_data c.args.update) _ (subst IsState shows c.self.invariant.state) c.requires.decided.accepted in
     stored_after a c.args.self.now.world shows c.self.invariant.names (update_data c.args.update) c.args.decision c.requires.decided c.is_none-is_new.result is_new
     b c.self.invariant.places leaves c.is_root_index-is_root.result c.is_root_index-is_root.ensures w.records w.names w.trees w.kept w.texts refl refl
@@ -51,13 +51,13 @@ invariant_of-self c =
 pub returns-clause-world : goal.returns-clause-world
 returns-clause-world c =
     let a = c.self.inside in
-    let shows : world_shown a ≡ c.args.self.now.world = ap (λ (k : Kept). k.world) c.self.view_is in
+    let shows : world_shown a ≡ c.args.self.now.world = ap (λ (k : StoreView). k.world) c.self.view_is in
     let is_new = none_is c.is_none-is_new.result c.tree_index.result c.is_none-is_new.ensures ∙ ap is_none c.tree_index.ensures in
     let w = c.write_decision.ensures in
-    let b : Inside = record { alloc = a.alloc; nodes = c.write_decision.new.nodes; known = c.write_decision.new.known; names = c.write_decision.new.names; toolkit = c.write_decision.new.toolkit; host_focused = a.host_focused; focus = c.args.decision.focus } in
+    let b : Inside = record { tables = c.write_decision.new.self; host_focused = a.host_focused; focus = c.args.decision.focus } in
     let leaves = update_leaves_state c.args.self.now.world (update_data c.args.update) _ (subst IsState shows c.self.invariant.state) c.requires.decided.accepted in
     world_after a c.args.self.now.world shows c.self.invariant.names (update_data c.args.update) c.args.decision c.requires.decided c.is_none-is_new.result is_new
     b c.self.invariant.places leaves c.is_root_index-is_root.result c.is_root_index-is_root.ensures w.records w.names w.trees w.kept w.texts refl refl
 
 pub returns-clause-tight : goal.returns-clause-tight
-returns-clause-tight c = tight c.write_decision.new.nodes.entries c.write_decision.ensures.tight
+returns-clause-tight c = tight c.write_decision.new.self.nodes.entries c.write_decision.ensures.tight

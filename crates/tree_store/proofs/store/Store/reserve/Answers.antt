@@ -1,9 +1,10 @@
-use Rattle.std.proofs.Common.{rules, ◌≡◌, ◌<◌, ℕ, true, None, nat_lt, Result, Ok, Err, sym, ap, subst, refl, ◌∙◌}
+use Rattle.std.proofs.Common.{rules, ◌≡◌, ◌<◌, ℕ, true, nat_lt, Result, Ok, Err, sym, ap, subst, refl, ◌∙◌}
 use Rattle.std.specs.Prelude.{Contains, OnOk, OnErr, is_none, slice_index_or}
 use Rattle.std.specs.Vec.{vec_len, vec_capacity}
 use Rattle.model.specs.World.{index_of}
 use Rattle.tree_store.specs.declared.store.Store.TheInside.{Inside}
-use Rattle.tree_store.specs.Kept.{Kept, IsTight}
+use Rattle.tree_store.specs.StoreViews.{StoreView, IsTight}
+use Rattle.tree_store.specs.Stored.{texts_shown}
 use Rattle.tree_store.proofs.Commits.{no_spare, tight, ready, world_same, stored_same}
 use Rattle.tree_store.proofs.Decided.{none_is}
 use Rattle.tree_store.proofs.NamesKept.{kept_is_key, key_is_kept}
@@ -21,33 +22,33 @@ lt_true : (a b : ℕ) → a < b → nat_lt a b ≡ true
 lt_true a b less = search rules
 
 pub make_all-requires : goal.make_all-requires
-make_all-requires c = no_spare c.self.inside.nodes.entries (subst IsTight (sym c.self.view_is) c.requires.tight)
+make_all-requires c = no_spare c.self.inside.tables.nodes.entries (subst IsTight (sym c.self.view_is) c.requires.tight)
 
 pub invariant_of-self : goal.invariant_of-self
-invariant_of-self c = stored_same c.self.inside _ c.self.invariant c.make_all.ensures.nodes c.make_all.ensures.names c.make_all.ensures.known refl refl refl
+invariant_of-self c = stored_same c.self.inside _ c.self.invariant c.make_all.ensures.nodes c.make_all.ensures.names c.make_all.ensures.known (ap texts_shown c.make_all.ensures.texts) refl refl
 
 pub returns-clause-same : goal.returns-clause-same
 returns-clause-same c =
-    let b : Inside = record { alloc = c.self.inside.alloc; nodes = c.make_all.new.nodes; known = c.make_all.new.known; names = c.make_all.new.names; toolkit = c.self.inside.toolkit; host_focused = c.self.inside.host_focused; focus = c.self.inside.focus } in
-    world_same c.self.inside b c.self.invariant c.make_all.ensures.nodes c.make_all.ensures.names c.make_all.ensures.known refl refl refl
-    ∙ ap (λ (k : Kept). k.world) c.self.view_is
+    let b : Inside = record { tables = c.make_all.new.self; host_focused = c.self.inside.host_focused; focus = c.self.inside.focus } in
+    world_same c.self.inside b c.self.invariant c.make_all.ensures.nodes c.make_all.ensures.names c.make_all.ensures.known (ap texts_shown c.make_all.ensures.texts) refl refl
+    ∙ ap (λ (k : StoreView). k.world) c.self.view_is
 
 pub returns-clause-ok : goal.returns-clause-ok
 returns-clause-ok c =
-    let b : Inside = record { alloc = c.self.inside.alloc; nodes = c.make_all.new.nodes; known = c.make_all.new.known; names = c.make_all.new.names; toolkit = c.self.inside.toolkit; host_focused = c.self.inside.host_focused; focus = c.self.inside.focus } in
+    let b : Inside = record { tables = c.make_all.new.self; host_focused = c.self.inside.host_focused; focus = c.self.inside.focus } in
     let same =
-    world_same c.self.inside b c.self.invariant c.make_all.ensures.nodes c.make_all.ensures.names c.make_all.ensures.known refl refl refl
-    ∙ ap (λ (k : Kept). k.world) c.self.view_is in
+    world_same c.self.inside b c.self.invariant c.make_all.ensures.nodes c.make_all.ensures.names c.make_all.ensures.known (ap texts_shown c.make_all.ensures.texts) refl refl
+    ∙ ap (λ (k : StoreView). k.world) c.self.view_is in
     on_ok c.make_all.result _ _ _ _ (λ room there spare. record {
-      slots = ready c.make_all.new.nodes.entries c.args.decision.now.nodes.items room;
-      names = λ k d less. kept_is_key c.make_all.new.names.entries (slice_index_or c.args.decision.now.trees.items k d).id (there k d less);
-      room = λ e. lt_true (vec_len c.make_all.new.known) (vec_capacity c.make_all.new.known) (spare (none_is c.is_none-is_new.result c.tree_index.result c.is_none-is_new.ensures ∙ ap is_none (c.tree_index.ensures ∙ ap (λ w. index_of w c.args.update.now.tree_id) (sym same) ∙ e)));
+      slots = ready c.make_all.new.self.nodes.entries c.args.decision.now.nodes.items room;
+      names = λ k d less. kept_is_key c.make_all.new.self.names.entries (slice_index_or c.args.decision.now.trees.items k d).id (there k d less);
+      room = λ e. lt_true (vec_len c.make_all.new.self.known) (vec_capacity c.make_all.new.self.known) (spare (none_is c.is_none-is_new.result c.tree_index.result c.is_none-is_new.ensures ∙ ap is_none (c.tree_index.ensures ∙ ap (λ w. index_of w c.args.update.now.tree_id) (sym same) ∙ e)));
     }) c.make_all.ensures.room c.make_all.ensures.there c.make_all.ensures.spare
 
 pub returns-clause-err : goal.returns-clause-err
-returns-clause-err c = on_err c.make_all.result _ _ (λ spare. tight c.make_all.new.nodes.entries spare) c.make_all.ensures.err
+returns-clause-err c = on_err c.make_all.result _ _ (λ spare. tight c.make_all.new.self.nodes.entries spare) c.make_all.ensures.err
 
 pub returns-clause-names : goal.returns-clause-names
 returns-clause-names c =
     on_err c.make_all.result _ _ (λ fewer name there.
-    subst (λ (k : Kept). Contains k.names name) c.self.view_is (kept_is_key c.self.inside.names.entries name (fewer name (key_is_kept c.make_all.new.names.entries name there)))) c.make_all.ensures.fewer
+    subst (λ (k : StoreView). Contains k.names name) c.self.view_is (kept_is_key c.self.inside.tables.names.entries name (fewer name (key_is_kept c.make_all.new.self.names.entries name there)))) c.make_all.ensures.fewer

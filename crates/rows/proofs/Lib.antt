@@ -1,0 +1,4 @@
+pub mod Changed
+pub mod Places
+pub mod Settled
+pub mod Twice

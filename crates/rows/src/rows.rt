@@ -1,0 +1,112 @@
+//! Values by id that ascend by id.
+ghost use Rattle.std.specs.Prelude.{◌≡◌, [], length};
+ghost use Rattle.std.specs.Option.{is_some, option_copied};
+ghost use Rattle.std.specs.BTreeMap.{is_at};
+ghost use Rattle.std.specs.Map.{set_value};
+ghost use Rattle.model.specs.FullIds.{full_cmp};
+ghost use Rattle.rows.specs.Rows.{Ascends, row_at};
+
+use crate::order::place;
+use model::FullNodeId;
+use std::alloc::Global;
+use std::marker::Model;
+
+/// Values by id. They ascend by id, and each id stands once.
+#[derive(Drop)]
+pub struct Rows<V: Copy + Drop> {
+    pub(crate) items: Vec<(FullNodeId, V)>,
+}
+
+impl<V: Copy + Drop> Model for Rows<V> {
+    ghost use Rattle.std.specs.Prelude.{List};
+    ghost use Rattle.model.specs.declared.FullNodeId.{FullNodeId};
+    ghost use Rattle.rows.specs.Rows.{Ascends};
+
+    ghost Value = { List (FullNodeId × V) };
+
+    ghost view = { λ a. a.items.items };
+
+    ghost invariant = { λ a. Ascends a.items.items };
+}
+
+impl<V: Copy + Drop> Rows<V> {
+    #[tactic(auto, using(crate::proofs::Places::ascends_empty))]
+    pub fn new(alloc: Global) -> Rows<V>
+        ensures { result ≡ [] }
+    {
+        Rows {
+            items: Vec::new(alloc),
+        }
+    }
+
+    pub fn len(&self) -> usize
+        ensures count { result ≡ length self.now }
+        ensures ascends { Ascends self.now }
+    {
+        self.items.len()
+    }
+
+    /// The entries, in the order of their ids.
+    pub fn entries(&self) -> &[(FullNodeId, V)]
+        ensures all { result.now ≡ self.now }
+        ensures ascends { Ascends self.now }
+    {
+        &self.items
+    }
+
+    /// The value at an id. It is looked for where the last search ended, as `near` says, and then everywhere.
+    #[tactic(auto, using(crate::proofs::Places::at_end, crate::proofs::Places::found_here, crate::proofs::Places::not_here))]
+    pub fn get_near(&self, id: FullNodeId, near: &mut usize) -> Option<V>
+        ensures { result ≡ row_at self.now id }
+    {
+        let index = place(&self.items, id, *near);
+        *near = index;
+        if index == self.items.len() {
+            return None;
+        }
+        let item = self.items[index];
+        if item.0 == id {
+            return Some(item.1);
+        }
+        None
+    }
+
+    /// The value at an id.
+    #[tactic(auto, using(crate::proofs::Places::at_end, crate::proofs::Places::found_here, crate::proofs::Places::not_here))]
+    pub fn get(&self, id: &FullNodeId) -> Option<&V>
+        ensures value { option_copied result ≡ row_at self.now id.now }
+        ensures ascends { Ascends self.now }
+    {
+        let index = place(&self.items, *id, 0);
+        if index == self.items.len() {
+            return None;
+        }
+        let item = &self.items[index];
+        if item.0 == *id {
+            return Some(&item.1);
+        }
+        None
+    }
+
+    /// Whether there is a value at an id.
+    pub fn contains_key(&self, id: &FullNodeId) -> bool
+        ensures { result ≡ is_some (row_at self.now id.now) }
+    {
+        self.get(id).is_some()
+    }
+
+    /// Gives the entry of an id another value, where there is one. It is looked for as in `get_near`.
+    #[tactic(auto, using(crate::proofs::Changed::set_at_end))]
+    pub fn change_near(&mut self, id: FullNodeId, value: V, near: &mut usize)
+        ensures { self.new ≡ set_value (is_at (full_cmp id)) self.old value }
+    {
+        let index = place(&self.items, id, *near);
+        *near = index;
+        if index == self.items.len() {
+            return;
+        }
+        if self.items[index].0 == id {
+            self.items[index] = (id, value);
+        }
+    }
+}
