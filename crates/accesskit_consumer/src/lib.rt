@@ -1,40 +1,48 @@
 //! The tree of an interface as adapters for assistive technology read it: states, their nodes and texts, and the changes
-//! between states.
+//! between states. Each name is passed on from the crate in which it stands.
 #![tactic(auto)]
-
-pub mod text;
 
 /// The filters that all callers share.
 pub mod filters {
-    pub use tree_views::filters::{FilterResult, common_filter, common_filter_with_root_exception};
+    pub use views::filters::{FilterResult, common_filter, common_filter_with_root_exception};
 }
 
 /// Nodes of a state, as they are read.
 pub mod node {
-    pub use tree_views::node::{FullNodeId, NodeRef};
+    pub use views::node::{FullNodeId, NodeRef};
+}
+
+/// Texts that are made of runs: positions in them, and ranges of them.
+pub mod text {
+    pub use texts::{
+        TextIndexes, TextLines, TextPlaces, TextPosition, TextRange, TextRangePropertyValue,
+        TextRoot, TextSelections, WeakTextRange,
+    };
 }
 
 /// Trees and their states, and what a handler is told of their changes.
 pub mod tree {
-    pub use tree_views::tree::{
-        Change, LookUps, Mirror, MirrorRecord, NodeRecord, Plan, PlanEvent, StateRef, Steps, Tree,
-        TreeChangeHandler, TreeRecord, TreeState, UpdateError, plan_update,
-    };
+    pub use model::PlanEvent;
+    pub use tree_changes::{LookUps, NodeRecord, TreeRecord, UpdateError};
+    pub use tree_plan::{Change, Plan, plan_update};
+    pub use tree_store::MirrorRecord;
+    pub use trees::{Mirror, Steps, Tree, TreeChangeHandler, TreeState};
+    pub use views::StateRef;
 }
 
 /// Walks over the nodes of a state: over all of them, or over what a filter shows.
 pub mod walks {
-    pub use tree_views::walks::{
-        ByFn, ChildIds, Children, Controls, Filter, FilterResult, FilteredChildren,
-        FollowingFilteredSiblings, FollowingSiblingNodes, FollowingSiblings, Items, LabelledBy,
-        PrecedingFilteredSiblings, PrecedingSiblingNodes, PrecedingSiblings,
+    pub use views::walks::{
+        ByFn, ChildIds, Children, Controls, Descendants, Filter, FilterResult, FilteredChildren,
+        FilteredDescendants, FollowingFilteredSiblings, FollowingSiblingNodes, FollowingSiblings,
+        Items, LabelledBy, PrecedingFilteredSiblings, PrecedingSiblingNodes, PrecedingSiblings,
     };
 }
 
 pub use filters::{FilterResult, common_filter, common_filter_with_root_exception};
 pub use node::{FullNodeId, NodeRef};
 pub use text::{
-    TextIndexes, TextPlaces, TextPosition, TextRange, TextRangePropertyValue, TextRoot,
+    TextIndexes, TextLines, TextPlaces, TextPosition, TextRange, TextRangePropertyValue, TextRoot,
     TextSelections, WeakTextRange,
 };
 pub use tree::{StateRef, Tree, TreeChangeHandler, TreeState, UpdateError};

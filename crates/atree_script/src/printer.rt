@@ -2,7 +2,7 @@
 ghost use Rattle.std.specs.Prelude.{◌≡◌, Some, None, IfNone, OnOk};
 ghost use Rattle.std.specs.Io.KnownBytes.{Appends};
 ghost use Rattle.atree_script.specs.Printed.{id_text, shown_or_dash, seen_id, focus_line, event_line};
-ghost use Rattle.tree_views.specs.Nodes.{seen_through};
+ghost use Rattle.views.specs.Nodes.{seen_through};
 
 use accesskit_consumer::node::{FullNodeId, NodeRef};
 use accesskit_consumer::tree::TreeChangeHandler;
@@ -120,8 +120,5 @@ impl<W: Write + Drop> TreeChangeHandler for Printer<W> {
 fn id_of(node: Option<&NodeRef>) -> Option<FullNodeId>
     ensures { result ≡ seen_id (seen_through node.entry) }
 {
-    match node {
-        Some(node) => Some(node.id()),
-        None => None,
-    }
+    node.map(|node| node.id())
 }

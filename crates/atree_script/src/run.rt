@@ -34,7 +34,7 @@ pub fn run_script<R: BufRead, O: Write, E: Write>(
     ensures bound { result ≤ 4 }
     ensures not_one { result ≢ 1 }
 {
-    let mut run = Run::new(alloc);
+    let mut run = Interpreter::new(alloc);
     let ended = run.lines(input, output);
     if ended == Err(Stop::WriteFault) || output.flush().is_err() {
         return FAULT;
@@ -71,7 +71,7 @@ pub fn tell_no_memory<E: Write>(errors: &mut E) -> u8
 
 /// A script as far as it has run.
 #[derive(Drop)]
-struct Run {
+struct Interpreter {
     alloc: Global,
     /// The session of the first accepted update.
     session: Option<Session>,
@@ -82,9 +82,9 @@ struct Run {
     number: u64,
 }
 
-impl Run {
-    fn new(alloc: Global) -> Run {
-        Run {
+impl Interpreter {
+    fn new(alloc: Global) -> Interpreter {
+        Interpreter {
             alloc,
             session: None,
             is_host_focused: false,

@@ -5,12 +5,12 @@ use Rattle.std.specs.Iterator.{Yields, Drains}
 use Rattle.model.specs.declared.FullNodeId.{FullNodeId}
 use Rattle.model.specs.declared.filters.FilterResult.{FilterResult}
 use Rattle.model.specs.World.{World}
-use Rattle.tree_views.specs.declared.node.node_ref.NodeRef.{NodeRef}
-use Rattle.tree_views.specs.declared.walks.filter.ByFn.{ByFn}
-use Rattle.tree_views.specs.Nodes.{id_at}
-use Rattle.tree_views.specs.Follows.{Follows}
-use Rattle.tree_views.specs.Walks.{walked_world}
-use Rattle.tree_views.specs.FilteredWalks.{WalkOf, Begins, GivesFirst}
+use Rattle.views.specs.declared.node.node_ref.NodeRef.{NodeRef}
+use Rattle.views.specs.declared.walks.filter.ByFn.{ByFn}
+use Rattle.views.specs.Nodes.{id_at}
+use Rattle.views.specs.Follows.{Follows}
+use Rattle.views.specs.Walks.{walked_world}
+use Rattle.views.specs.FilteredWalks.{WalkOf, BeginsWalk, GivesFirst}
 
 -- a walk in the world w with a function that answers there what f says
 module _ {S K : Type 0} (says : K → NodeRef → FilterResult → Type 0) (walk : WalkOf S (ByFn K)) (k : K) (w : World) (f : FullNodeId → FilterResult) (follows : Follows (says k) w f) where
@@ -30,7 +30,7 @@ module _ {S K : Type 0} (says : K → NodeRef → FilterResult → Type 0) (walk
       ap (λ ids. id_at n ∷ ids) (gives_left j nodes t u (ap (λ filter. filter.f) step.filter ∙ same) (step.goes.world ∙ here) next.0 others last) ∙ sym next.1
 
   -- and one that begins so gives all
-  pub gives_all : (ids : (FullNodeId → FilterResult) → List FullNodeId) (s : S) (nodes : List NodeRef) → (walk.filter s).f ≡ k → Begins (says k) walk w ids s → Drains Gives s nodes → map id_at nodes ≡ ids f
+  pub gives_all : (ids : (FullNodeId → FilterResult) → List FullNodeId) (s : S) (nodes : List NodeRef) → (walk.filter s).f ≡ k → BeginsWalk (says k) walk w ids s → Drains Gives s nodes → map id_at nodes ≡ ids f
   gives_all ids s nodes same begins (u, (t, yielded, last)) =
       let start = begins.list f follows in
       gives_left s nodes t u same begins.world start.0 yielded last ∙ start.1

@@ -8,9 +8,9 @@ use Rattle.model.specs.FlatText.{FlatText, total, start_of, offset, position_cmp
 use Rattle.model.proofs.Forest.PlaceOf.{test_self}
 use Rattle.model.proofs.Text.Indexes.{start_at_end}
 use Rattle.model.proofs.Text.TextFacts.{start_next}
-use Rattle.accesskit_consumer.specs.declared.text.position.TextPosition.{TextPosition}
-use Rattle.tree_views.specs.Nodes.{id_at}
-use Rattle.accesskit_consumer.specs.Positions.{root_at, text_of, text_at, position_at, IsAt}
+use Rattle.texts.specs.declared.position.TextPosition.{TextPosition}
+use Rattle.views.specs.Nodes.{id_at}
+use Rattle.texts.specs.Positions.{root_at, node_text, position_text, flat_position, IsPositionAt}
 
 pub end_is_total : (t : FlatText) → offset t (document_end t) ≡ total t
 end_is_total [] = refl
@@ -35,15 +35,15 @@ pub compared : (p q : TextPosition) (P Q : Type 0) → root_at q ≡ root_at p �
 compared p q P Q same h = subst (λ b. MatchBool b P Q) (ap (λ n. is_same (id_at (root_at p)) (id_at n)) same ∙ test_self (id_at (root_at p))) h
 
 -- before the end there is a character, and nowhere else
-pub before_end : (p e : TextPosition) → IsAt (root_at p) (document_end (text_at p)) e →
-    is_lt (position_cmp (text_at p) (position_at p) (text_at e) (position_at e)) ≡ nat_lt (offset (text_at p) (position_at p)) (total (text_at p))
+pub before_end : (p e : TextPosition) → IsPositionAt (root_at p) (document_end (position_text p)) e →
+    is_lt (position_cmp (position_text p) (flat_position p) (position_text e) (flat_position e)) ≡ nat_lt (offset (position_text p) (flat_position p)) (total (position_text p))
 before_end p e end =
-    cmp-lt (offset (text_at p) (position_at p)) (offset (text_at e) (position_at e))
-    ∙ ap (nat_lt (offset (text_at p) (position_at p))) (ap (λ n. offset (text_of n) (position_at e)) end.same ∙ ap (offset (text_at p)) end.at ∙ end_is_total (text_at p))
+    cmp-lt (offset (position_text p) (flat_position p)) (offset (position_text e) (flat_position e))
+    ∙ ap (nat_lt (offset (position_text p) (flat_position p))) (ap (λ n. offset (node_text n) (flat_position e)) end.same ∙ ap (offset (position_text p)) end.at ∙ end_is_total (position_text p))
 
 -- and after the start there is one
-pub after_start : (p s : TextPosition) → IsAt (root_at p) document_start s →
-    is_lt (position_cmp (text_at s) (position_at s) (text_at p) (position_at p)) ≡ nat_lt 0 (offset (text_at p) (position_at p))
+pub after_start : (p s : TextPosition) → IsPositionAt (root_at p) document_start s →
+    is_lt (position_cmp (position_text s) (flat_position s) (position_text p) (flat_position p)) ≡ nat_lt 0 (offset (position_text p) (flat_position p))
 after_start p s start =
-    cmp-lt (offset (text_at s) (position_at s)) (offset (text_at p) (position_at p))
-    ∙ ap (λ k. nat_lt k (offset (text_at p) (position_at p))) (ap (offset (text_at s)) start.at ∙ start_is_none (text_at s))
+    cmp-lt (offset (position_text s) (flat_position s)) (offset (position_text p) (flat_position p))
+    ∙ ap (λ k. nat_lt k (offset (position_text p) (flat_position p))) (ap (offset (position_text s)) start.at ∙ start_is_none (position_text s))

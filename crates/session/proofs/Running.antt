@@ -10,7 +10,7 @@ use Rattle.model.specs.Run.{ToUpdate, Does, Runs, MayStop, RunsUpTo}
 use Rattle.model.proofs.Alike.Runs.{runs_keep_secret}
 use Rattle.model.proofs.Run.Runs.{runs_one, runs_more, replies_length, after_command}
 use Rattle.tree_changes.specs.declared.error.UpdateError.{UpdateError}
-use Rattle.tree_views.specs.Replies.{reply_of}
+use Rattle.trees.specs.Replies.{reply_of}
 use Rattle.std.specs.Prelude.{Result, Ok, Err, Option, Some, None, slice_get, IfSome, IsSomeAnd, if◌then◌else◌}
 use Rattle.std.specs.declared.alloc.AllocError.{AllocError}
 use Rattle.std.specs.Result.{IsOk, is_ok}
@@ -21,7 +21,7 @@ use Rattle.session.specs.declared.commands.RunStopped.{RunStopped}
 use Rattle.session.specs.declared.commands.Command.{Command}
 use Rattle.session.specs.declared.commands.Command.TheVariants as command
 use Rattle.session.specs.declared.commands.Reply.{Reply}
-use Rattle.session.specs.Replied.{command_said, reply_said, TakesMemory, IsStep, IsAlikeStep, IsRun}
+use Rattle.session.specs.Replied.{command_said, reply_said, TakesMemory, IsStep, IsAlikeStep, RunsAs}
 
 -- one command more
 pub run_more : (w m v : World) (cs : List Command) (c : Command) (first rest : List Event) (rs : List Reply) (r : Reply) → Runs w (map command_said cs) m first (map reply_said rs) → Does m (command_said c) v rest (reply_said r) → Runs w (map command_said (cs ++ c ∷ [])) v (first ++ rest) (map reply_said (rs ++ r ∷ []))
@@ -91,7 +91,7 @@ step_keeps_secret w v c told (Err wanting) h = tt
 
 -- a mirror follows a run, also one that stopped
 pub mirrored : (old new : World) (commands : List Command) (result : Result (Vec Reply) RunStopped) (told : List Event) (m n : Option Records) →
-    IsRun old commands new told result → Told MirrorsWhileKept m told n → IsSomeAnd m (AreRecordsOf old) → IfSome n (AreRecordsOf new)
+    RunsAs old commands new told result → Told MirrorsWhileKept m told n → IsSomeAnd m (AreRecordsOf old) → IfSome n (AreRecordsOf new)
 mirrored old new commands result told None n run heard held = absurd held
 mirrored old new commands (Ok replies) told (Some r) n run heard held = kept_records_follow_run old new (map command_said commands) told (map reply_said replies.items) r n run held heard
 mirrored old new commands (Err stopped) told (Some r) n run heard held = kept_records_follow_run old new (take stopped.done (map command_said commands)) told (map reply_said stopped.replies.items) r n run.1 held heard

@@ -83,9 +83,9 @@ IsStep old c new told (Ok reply) = Does old (command_said c) new told (reply_sai
 IsStep old c new told (Err wanting) = (new ≡ old) × (told ≡ []) × TakesMemory c
 
 -- the commands in turn take one world to another, these events are told, and these are the replies; or memory was wanting, and so did the first of them
-abbrev pub IsRun : World → List Command → World → List Event → Result (Vec Reply) RunStopped → Type 0
-IsRun old commands new told (Ok replies) = Runs old (map command_said commands) new told (map reply_said replies.items)
-IsRun old commands new told (Err stopped) = RunsUpTo stopped.done old (map command_said commands) new told (map reply_said stopped.replies.items)
+abbrev pub RunsAs : World → List Command → World → List Event → Result (Vec Reply) RunStopped → Type 0
+RunsAs old commands new told (Ok replies) = Runs old (map command_said commands) new told (map reply_said replies.items)
+RunsAs old commands new told (Err stopped) = RunsUpTo stopped.done old (map command_said commands) new told (map reply_said stopped.replies.items)
 
 -- each session that is alike to this one, and wasn't stopped, replies alike and tells the same openly
 abbrev pub IsAlike : World → List Command → List Event → Result (Vec Reply) RunStopped → Type 0

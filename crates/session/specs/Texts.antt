@@ -5,14 +5,14 @@ use Rattle.model.specs.declared.queries.At.{At}
 use Rattle.model.specs.World.{World}
 use Rattle.model.specs.TextRuns.{supports_text_ranges}
 use Rattle.model.specs.FlatText.{Position, flat_text, offset}
-use Rattle.model.specs.Queries.{position_at as place_at}
-use Rattle.accesskit_consumer.specs.declared.text.position.TextPosition.{TextPosition}
-use Rattle.accesskit_consumer.specs.Positions.{text_at, position_at}
+use Rattle.model.specs.Queries.{position_at}
+use Rattle.texts.specs.declared.position.TextPosition.{TextPosition}
+use Rattle.texts.specs.Positions.{position_text, flat_position}
 
 -- how many characters are before a position
 abbrev pub offset_at : TextPosition → ℕ
-offset_at p = offset (text_at p) (position_at p)
+offset_at p = offset (position_text p) (flat_position p)
 
 -- the position of a place in the node's text, where there is both
-abbrev pub place_in : World → FullNodeId → At → Option Position
-place_in w id at = if supports_text_ranges w id then place_at (flat_text w id) at else None
+abbrev pub position_in : World → FullNodeId → At → Option Position
+position_in w id at = if supports_text_ranges w id then position_at (flat_text w id) at else None

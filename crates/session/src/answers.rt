@@ -6,13 +6,13 @@ ghost use Rattle.model.specs.Filters.{filter_named};
 ghost use Rattle.model.specs.FocusFound.{shown_focus};
 ghost use Rattle.model.specs.Queries.{node_named, takes_memory};
 ghost use Rattle.model.specs.declared.queries.Query.TheVariants.{Set as ToSet};
-ghost use Rattle.tree_views.specs.Views.{world_of};
-ghost use Rattle.tree_views.specs.Nodes.{world_at, id_at};
+ghost use Rattle.views.specs.ShownWorlds.{world_of};
+ghost use Rattle.views.specs.Nodes.{world_at, id_at};
 ghost use Rattle.session.specs.Replied.{subject, IsAbout, IsAnswer, IsAnswerAt};
 
 use crate::commands::Reply;
 use crate::named::answer_by;
-use crate::texts::{indexes, movement, range_text, text_in_runs};
+use crate::text_answers::{indexes, movement, range_text, text_in_runs};
 use crate::walked::{
     child_ids, filtered_ids, following_filtered_ids, following_ids, preceding_filtered_ids,
     preceding_ids,
@@ -38,10 +38,7 @@ fn focus_id(state: StateRef) -> Option<FullNodeId>
     requires { IsState (world_of state) }
     ensures { result ≡ shown_focus (world_of state.entry) }
 {
-    match state.focus() {
-        Some(node) => Some(node.id()),
-        None => None,
-    }
+    state.focus().map(|node| node.id())
 }
 
 /// The id of what is hit at the point.
@@ -49,10 +46,8 @@ fn hit_id(node: NodeRef, point: Point, filter: NamedFilter) -> Option<FullNodeId
     ensures { let w = world_at node.entry in
         result ≡ hit (filter_named filter w) w (id_at node.entry) point }
 {
-    match node.node_at_point(point, &move |seen: &NodeRef<'_>| answer_by(filter, seen)) {
-        Some(found) => Some(found.id()),
-        None => None,
-    }
+    let found = node.node_at_point(point, &move |seen: &NodeRef<'_>| answer_by(filter, seen))?;
+    Some(found.id())
 }
 
 /// The size of the node's set, and the position in it.
@@ -93,7 +88,7 @@ fn subject_of(query: &Query) -> Option<NodeName>
 ///
 /// # Errors
 ///
-/// Memory was wanting for the answer, which takes some.
+/// There is no memory for the answer, which takes some.
 fn answer_about(alloc: Global, node: NodeRef, query: Query) -> Result<Reply, AllocError>
     requires { IsAbout (world_at node) (id_at node) query }
     ensures ok { IfOk result (IsAnswer (world_at node.entry) query) }
@@ -126,7 +121,7 @@ fn answer_about(alloc: Global, node: NodeRef, query: Query) -> Result<Reply, All
 ///
 /// # Errors
 ///
-/// Memory was wanting for the answer, which takes some.
+/// There is no memory for the answer, which takes some.
 pub(crate) fn answer(alloc: Global, state: StateRef, query: Query) -> Result<Reply, AllocError>
     requires { IsState (world_of state) }
     ensures ok { IfOk result (IsAnswer (world_of state.entry) query) }

@@ -5,7 +5,7 @@ mod answers;
 mod commands;
 mod named;
 mod session;
-mod texts;
+mod text_answers;
 mod walked;
 
 pub use commands::{Command, Reply, RunStopped};

@@ -1,7 +1,7 @@
 //! Filters by their names.
 ghost use Rattle.std.specs.Prelude.{◌≡◌};
 ghost use Rattle.model.specs.Filters.{filter_named};
-ghost use Rattle.tree_views.specs.Nodes.{world_at, id_at};
+ghost use Rattle.views.specs.Nodes.{world_at, id_at};
 
 use accesskit_consumer::NodeRef;
 use accesskit_consumer::filters::{FilterResult, common_filter, common_filter_with_root_exception};

@@ -7,8 +7,8 @@ ghost use Rattle.model.specs.Run.{Begins, Does, ToUpdate, ToHostFocus, Accepted}
 ghost use Rattle.model.specs.State.{empty_world};
 ghost use Rattle.model.specs.Queries.{takes_memory};
 ghost use Rattle.tree_changes.specs.Refusals.{IsRefusal};
-ghost use Rattle.tree_views.specs.Replies.{reply_of};
-ghost use Rattle.session.specs.Replied.{reply_said, IsAnswer, IsRun, IsStep, IsAlike, IsAlikeStep};
+ghost use Rattle.trees.specs.Replies.{reply_of};
+ghost use Rattle.session.specs.Replied.{reply_said, IsAnswer, RunsAs, IsStep, IsAlike, IsAlikeStep};
 
 use crate::answers::answer;
 use crate::commands::{Command, Reply, RunStopped};
@@ -108,7 +108,7 @@ impl Session {
     ///
     /// # Errors
     ///
-    /// Memory was wanting for the answer to a question, which takes some. Nothing has changed, and nothing is told.
+    /// There is no memory for the answer to a question, which takes some. Nothing has changed, and nothing is told.
     pub fn step<H: TreeChangeHandler>(
         &mut self,
         command: Command,
@@ -136,7 +136,7 @@ impl Session {
     ///
     /// # Errors
     ///
-    /// `RunStopped`: memory was wanting for that room, or for the answer to a question. The commands before it stand,
+    /// `RunStopped`: there is no memory for that room, or for the answer to a question. The commands before it stand,
     /// with their replies, and the others didn't run.
     #[tactic(auto, using(model::proofs::Alike::Runs::runs_keep_secret))]
     pub fn run<H: TreeChangeHandler>(
@@ -145,9 +145,9 @@ impl Session {
         handler: &mut H,
     ) -> Result<Vec<Reply>, RunStopped>
         ensures run { (told : List Event)
-            × IsRun self.old commands.items self.new told result
+            × RunsAs self.old commands.items self.new told result
             × Told H.steps handler.old told handler.new }
-        ensures alike { (told : List Event) → IsRun self.old commands.items self.new told result → IsAlike self.old commands.items told result }
+        ensures alike { (told : List Event) → RunsAs self.old commands.items self.new told result → IsAlike self.old commands.items told result }
     {
         let Ok(mut replies) = Vec::with_capacity(self.alloc, commands.len()) else {
             let replies = Vec::new(self.alloc);
@@ -175,9 +175,9 @@ impl Session {
         mirror: &mut Mirror,
     ) -> Result<Vec<Reply>, RunStopped>
         ensures run { (told : List Event)
-            × IsRun self.old commands.items self.new told result
+            × RunsAs self.old commands.items self.new told result
             × Told MirrorsWhileKept mirror.old told mirror.new }
-        ensures alike { (told : List Event) → IsRun self.old commands.items self.new told result → IsAlike self.old commands.items told result }
+        ensures alike { (told : List Event) → RunsAs self.old commands.items self.new told result → IsAlike self.old commands.items told result }
         ensures mirrored { IsSomeAnd mirror.old (AreRecordsOf self.old) → IfSome mirror.new (AreRecordsOf self.new) }
     {
         self.run(commands, mirror)

@@ -6,8 +6,8 @@ ghost use Rattle.model.specs.Lists.{following_siblings, preceding_siblings};
 ghost use Rattle.model.specs.Frontier.{filtered_children};
 ghost use Rattle.model.specs.Covers.{following_filtered_siblings, preceding_filtered_siblings};
 ghost use Rattle.model.specs.Filters.{filter_named};
-ghost use Rattle.tree_views.specs.declared.node.node_ref.NodeRef.{NodeRef as ANode};
-ghost use Rattle.tree_views.specs.Nodes.{world_at, id_at};
+ghost use Rattle.views.specs.declared.node.node_ref.NodeRef.{NodeRef as ANode};
+ghost use Rattle.views.specs.Nodes.{world_at, id_at};
 
 use crate::named::answer_by;
 use accesskit_consumer::NodeRef;

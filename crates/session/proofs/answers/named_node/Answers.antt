@@ -1,6 +1,6 @@
 use Rattle.std.proofs.Common.{option_map}
-use Rattle.tree_views.specs.Views.{world_of}
-use Rattle.tree_views.specs.Nodes.{id_at}
+use Rattle.views.specs.ShownWorlds.{world_of}
+use Rattle.views.specs.Nodes.{id_at}
 use Rattle.session.proofs.Naming.{found_is_named}
 use Rattle.session.proofs.answers.named_node.Goals as goal
 

@@ -1,8 +1,8 @@
 use Rattle.std.proofs.Common.{◌∙◌, rules}
 use Rattle.std.proofs.lemmas.Result.{IfOk-weaker}
 use Rattle.model.specs.Filters.{filter_named}
-use Rattle.tree_views.specs.Nodes.{world_at}
-use Rattle.tree_views.specs.FilteredWalks.{following_walk}
+use Rattle.views.specs.Nodes.{world_at}
+use Rattle.views.specs.FilteredWalks.{following_walk}
 use Rattle.session.proofs.Drained.{gives_all}
 use Rattle.session.proofs.walked.following_filtered_ids.Goals as goal
 

@@ -1,5 +1,5 @@
 use Rattle.std.proofs.Common.{◌≡◌, map}
-use Rattle.tree_views.specs.Nodes.{id_at}
+use Rattle.views.specs.Nodes.{id_at}
 use Rattle.session.proofs.walked.ids_of.Given as goal
 
 abbrev pub invariant-loop-node : goal.invariant-loop-node

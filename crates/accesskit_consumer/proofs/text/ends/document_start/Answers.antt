@@ -1,6 +1,0 @@
-use Rattle.tree_views.specs.Runs.{IsFirstOf}
-use Rattle.accesskit_consumer.proofs.TextEnds.{some_run}
-use Rattle.accesskit_consumer.proofs.text.ends.document_start.Goals as goal
-
-pub unwrap-run-requires : goal.unwrap-run-requires
-unwrap-run-requires c = some_run (IsFirstOf c.args.root) c.args.root c.first.result c.requires c.first.ensures

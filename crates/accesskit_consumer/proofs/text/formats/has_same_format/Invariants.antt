@@ -1,7 +1,0 @@
-use Rattle.std.proofs.Common.{ℕ, ◌<◌}
-use Rattle.accesskit_consumer.proofs.FormatStarts.{IsAlikeAt}
-use Rattle.accesskit_consumer.proofs.text.formats.has_same_format.Given as goal
-
--- the nodes have the same of the looks before this one
-abbrev pub invariant-loop-what : goal.invariant-loop-what
-invariant-loop-what l = (k : ℕ) → k < l.what-index → IsAlikeAt l.fn.a l.fn.b k

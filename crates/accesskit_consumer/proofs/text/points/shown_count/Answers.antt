@@ -1,6 +1,0 @@
-use Rattle.std.proofs.Common.{sym, ◌∙◌}
-use Rattle.accesskit_consumer.proofs.PointPlaces.{count_shown}
-use Rattle.accesskit_consumer.proofs.text.points.shown_count.Goals as goal
-
-pub returns-clause-exact : goal.returns-clause-exact
-returns-clause-exact c = c.character_count.ensures ∙ sym (count_shown c.args.run)

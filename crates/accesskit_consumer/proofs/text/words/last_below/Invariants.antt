@@ -1,5 +1,0 @@
-use Rattle.std.proofs.Common.{◌≡◌, nat_lt, find, reverse, take}
-use Rattle.accesskit_consumer.proofs.text.words.last_below.Given as goal
-
-abbrev pub invariant-loop-number : goal.invariant-loop-number
-invariant-loop-number l = l.found ≡ find (λ k. nat_lt k l.other) (reverse (take l.number-index l.numbers))

@@ -1,0 +1,61 @@
+use Rattle.std.proofs.Common.{◌≡◌, [], Some, sym, ap, subst, ◌∙◌, arith}
+use Rattle.std.specs.Prelude.{MatchOption, slice_get}
+use Rattle.model.specs.TextRuns.{run_ids}
+use Rattle.model.specs.FlatText.{lines, start_at, end_at}
+use Rattle.model.specs.Ranges.{Range}
+use Rattle.views.specs.Nodes.{world_at, id_at}
+use Rattle.views.specs.Runs.{IsFirstOf}
+use Rattle.texts.specs.RunNumbers.{number_in}
+use Rattle.texts.specs.Positions.{node_text}
+use Rattle.texts.proofs.TextEnds.{some_run}
+use Rattle.texts.proofs.LineRanges.{line_is_there}
+use Rattle.texts.proofs.LineSteps.{at_first_line, line_rises, line_there, no_more_lines, last_line, next_at_line, fewer_left}
+use Rattle.texts.proofs.line_ranges.line_range_of.Goals as goal
+
+pub unwrap-first-requires : goal.unwrap-first-requires
+unwrap-first-requires c = some_run (IsFirstOf c.args.root) c.args.root c.first.result c.requires c.first.ensures
+
+pub loop-line-init : goal.loop-line-init
+loop-line-init c =
+    let n = c.args.root in
+    let first : IsFirstOf n c.unwrap-first.result = subst (λ o. MatchOption o (run_ids (world_at n) (id_at n) ≡ []) (IsFirstOf n)) c.unwrap-first.ensures c.first.ensures in
+    record { at = at_first_line n c.requires c.unwrap-first.result first; upto = omega arith }
+
+pub range_to-requires-clause-order : goal.range_to-requires-clause-order
+range_to-requires-clause-order c =
+    line_rises c.args.root c.requires c.loop-line.line c.loop-line.first c.last_of-last.result c.loop-line.invariant.at c.last_of-last.ensures.same c.last_of-last.ensures.found
+
+pub returns-then-line-index : goal.returns-then-line-index
+returns-then-line-index c =
+    let n = c.args.root in
+    let at = c.loop-line.invariant.at in
+    let upto = c.loop-line.invariant.upto in
+    let past = c.if-line-index.true in
+    let here : c.loop-line.line ≡ c.args.index = omega (arith, upto, past) in
+    let there = line_there n c.requires c.loop-line.line c.loop-line.first c.last_of-last.result at c.last_of-last.ensures.same c.last_of-last.ensures.found in
+    let is = line_is_there (node_text n) c.args.index (number_in c.loop-line.first) (number_in c.last_of-last.result) (sym (ap (slice_get (lines (node_text n))) here) ∙ there) in
+    record {
+      world = c.range_to.ensures.world ∙ ap world_at at.same;
+      root = c.range_to.ensures.root ∙ ap id_at at.same;
+      at = ap Some (c.range_to.ensures.at ∙ ap (λ m. let r : Range = record { start = start_at (number_in c.loop-line.first); end = end_at (node_text m) (number_in c.last_of-last.result) } in r) at.same) ∙ is;
+    }
+
+pub range_past-requires-clause-size : goal.range_past-requires-clause-size
+range_past-requires-clause-size c =
+    no_more_lines c.args.root c.requires c.loop-line.line c.loop-line.first c.last_of-last.result c.loop-line.invariant.at c.last_of-last.ensures.same c.last_of-last.ensures.found c.in_default.ensures
+
+pub range_past-requires-clause-last : goal.range_past-requires-clause-last
+range_past-requires-clause-last c =
+    last_line c.args.root c.requires c.loop-line.line c.loop-line.first c.last_of-last.result c.loop-line.invariant.at c.last_of-last.ensures.same c.last_of-last.ensures.found c.in_default.ensures
+
+pub loop-line-smaller : goal.loop-line-smaller
+loop-line-smaller c =
+    fewer_left c.args.root c.requires c.loop-line.line c.loop-line.first c.last_of-last.result c.loop-line.invariant.at c.last_of-last.ensures.same c.last_of-last.ensures.found c.in-Some.next c.in-Some.ensures
+
+pub loop-line-preserved : goal.loop-line-preserved
+loop-line-preserved c =
+    let below = c.if-line-index.false in
+    record {
+      at = next_at_line c.args.root c.requires c.loop-line.line c.loop-line.first c.last_of-last.result c.loop-line.invariant.at c.last_of-last.ensures.same c.last_of-last.ensures.found c.in-Some.next c.in-Some.ensures;
+      upto = omega (arith, below);
+    }

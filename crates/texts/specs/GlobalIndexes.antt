@@ -1,0 +1,24 @@
+-- Indexes in the whole text, by what they count.
+use Rattle.std.specs.Prelude.{◌≡◌, ℕ, Bool, true, List, map, take, sum_by}
+use Rattle.model.specs.TextRuns.{SentRun, run_value, said_count, is_cut_by, sent_characters}
+use Rattle.model.specs.FlatText.{shown_character}
+use Rattle.model.specs.Moves.{scalar_len, utf16_len}
+use Rattle.texts.specs.declared.indexes.Units.{Units}
+use Rattle.texts.specs.declared.indexes.Units.TheVariants.{Scalars, Utf16}
+
+-- how many of them a character has
+abbrev pub unit_len : Units → List ℕ → ℕ
+unit_len Scalars = scalar_len
+unit_len Utf16 = utf16_len
+
+-- the lengths of the run's characters cut its value
+abbrev pub IsCut : SentRun → Type 0
+IsCut r = is_cut_by (run_value r) r.node.character_lengths ≡ true
+
+-- how many the first so many characters of a run have, as they are shown
+abbrev pub length_to : Units → Bool → SentRun → ℕ → ℕ
+length_to units masked r i = sum_by (unit_len units) (take i (map (shown_character masked) (sent_characters r)))
+
+-- how many all of its characters have
+abbrev pub length_of : Units → Bool → SentRun → ℕ
+length_of units masked r = length_to units masked r (said_count r)

@@ -1,0 +1,198 @@
+//! The boxes of a range, one for each run.
+ghost use Rattle.std.specs.Prelude.{◌≡◌, ◌==◌, ◌&&◌, ◌+ℤ◌, ◌-ℤ◌, IfOk};
+ghost use Rattle.model.specs.TextRuns.{said_count};
+ghost use Rattle.model.specs.Geometry.{whole_rect, moved_rect};
+ghost use Rattle.model.specs.Ranges.{cut_along, piece_rect, piece_box, bounding_boxes};
+ghost use Rattle.views.specs.Reach.{IsInReach};
+ghost use Rattle.views.specs.Runs.{sent_of};
+ghost use Rattle.texts.specs.RunNumbers.{text_around};
+ghost use Rattle.texts.specs.TextRanges.{text_in, range_at};
+ghost use Rattle.texts.specs.Pieces.{piece_data};
+ghost use Rattle.texts.specs.Measures.{measures, IsAlong};
+ghost use Rattle.texts.specs.Boxes.{box_of, cut_of, IsOnRun};
+ghost use Rattle.texts.specs.Secrets.{InEachText};
+
+use crate::metrics::{Metrics, metrics_of};
+use crate::pieces::Piece;
+use crate::points::direction_of;
+use crate::range::TextRange;
+use schema::{Rect, TextDirection, WideRect, WideTranslation};
+use std::alloc::{AllocError, Global};
+use views::node::geometry::ordered;
+
+/// A number so far past an edge.
+fn past(edge: i32, reach: i128) -> i128
+    requires { IsAlong 2 reach }
+    ensures exact { result ≡ edge +ℤ reach }
+    ensures along { IsAlong 3 result }
+{
+    i128::from(edge) + reach
+}
+
+/// A number so far before an edge.
+fn before(edge: i32, reach: i128) -> i128
+    requires { IsAlong 2 reach }
+    ensures exact { result ≡ edge -ℤ reach }
+    ensures along { IsAlong 3 result }
+{
+    i128::from(edge) - reach
+}
+
+/// An edge.
+fn wide(edge: i32) -> i128
+    ensures exact { result ≡ edge }
+    ensures along { IsAlong 3 result }
+{
+    i128::from(edge)
+}
+
+/// The whole rectangle.
+fn whole_rect(rect: Rect) -> WideRect
+    ensures exact { result ≡ whole_rect rect }
+    ensures near { IsOnRun result }
+{
+    WideRect {
+        x0: wide(rect.x0),
+        y0: wide(rect.y0),
+        x1: wide(rect.x1),
+        y1: wide(rect.y1),
+    }
+}
+
+/// What lies from one reach to another along the rectangle.
+fn cut_along(direction: TextDirection, rect: Rect, from: i128, to: i128) -> WideRect
+    requires starts { IsAlong 2 from }
+    requires ends { IsAlong 2 to }
+    ensures exact { result ≡ cut_along direction rect from to }
+    ensures near { IsOnRun result }
+{
+    let whole = whole_rect(rect);
+    match direction {
+        TextDirection::LeftToRight => WideRect {
+            x0: past(rect.x0, from),
+            x1: past(rect.x0, to),
+            ..whole
+        },
+        TextDirection::RightToLeft => WideRect {
+            x0: before(rect.x1, to),
+            x1: before(rect.x1, from),
+            ..whole
+        },
+        TextDirection::TopToBottom => WideRect {
+            y0: past(rect.y0, from),
+            y1: past(rect.y0, to),
+            ..whole
+        },
+        TextDirection::BottomToTop => WideRect {
+            y0: before(rect.y1, to),
+            y1: before(rect.y1, from),
+            ..whole
+        },
+    }
+}
+
+/// A number, moved.
+fn plus(number: i128, by: i128) -> i128
+    requires along { IsAlong 3 number }
+    requires moved { IsInReach by }
+    ensures { result ≡ number +ℤ by }
+{
+    number + by
+}
+
+/// The rectangle, moved.
+fn moved(rect: WideRect, by: WideTranslation) -> WideRect
+    requires near { IsOnRun rect }
+    requires across { IsInReach by.x }
+    requires along { IsInReach by.y }
+    ensures { result ≡ moved_rect rect by }
+{
+    WideRect {
+        x0: plus(rect.x0, by.x),
+        y0: plus(rect.y0, by.y),
+        x1: plus(rect.x1, by.x),
+        y1: plus(rect.y1, by.y),
+    }
+}
+
+impl Piece<'_> {
+    /// Whether the piece is the whole run.
+    fn is_whole(self) -> bool
+        ensures { let count = said_count (sent_of self.entry.run) in
+            result ≡ (self.entry.from == 0 && self.entry.to == count) }
+    {
+        self.from == 0 && self.to == self.run.character_count()
+    }
+
+    /// The rectangle of the piece within its run, along which it is cut.
+    fn cut(self, rect: Rect, metrics: Metrics<'_>, direction: TextDirection) -> WideRect
+        ensures exact { result ≡ cut_of self.entry rect (measures metrics.entry) direction }
+        ensures near { IsOnRun result }
+    {
+        let count = self.run.character_count();
+        let from = metrics.reach_from(count, self.from);
+        let to = metrics.reach_to(count, self);
+        cut_along(direction, rect, from, to)
+    }
+
+    /// The rectangle of the piece within its run: all of it where the piece is the whole run.
+    fn rect_in_run(self, rect: Rect, metrics: Metrics<'_>, direction: TextDirection) -> WideRect
+        ensures exact { let count = said_count (sent_of self.entry.run) in
+            let piece = piece_data self.entry in
+            result ≡ piece_rect rect (measures metrics.entry) direction count piece }
+        ensures near { IsOnRun result }
+    {
+        if self.is_whole() {
+            return whole_rect(rect);
+        }
+        self.cut(rect, metrics, direction)
+    }
+
+    /// Where the piece is shown, by what is told of its run.
+    fn placed(self, rect: Rect, metrics: Metrics<'_>, direction: TextDirection) -> WideRect
+        ensures { result ≡ box_of self.entry rect (measures metrics.entry) direction }
+    {
+        let in_run = self.rect_in_run(rect, metrics, direction);
+        ordered(moved(in_run, self.run.whole_move()))
+    }
+
+    /// Where the piece is shown, where its run has a rectangle, metrics and a direction.
+    fn bounding_box(self) -> Option<WideRect>
+        ensures { result ≡ piece_box (text_around self.entry.run) (piece_data self.entry) }
+    {
+        let rect = self.run.node().bounds()?;
+        let metrics = metrics_of(self.run)?;
+        let direction = direction_of(self.run)?;
+        Some(self.placed(rect, metrics, direction))
+    }
+}
+
+impl TextRange<'_> {
+    /// Where the range is shown, in units, as the root of all sees it: one box for each run that it passes, in order;
+    /// of a range with nothing in it one, where its start is. None at all if one of the runs lacks a rectangle, the
+    /// places or widths of its characters, or a direction. It takes memory.
+    ///
+    /// # Errors
+    ///
+    /// `AllocError`: there is no memory for the list.
+    #[tactic(auto, using(model::proofs::Text::Secrets::one_text))]
+    pub fn bounding_boxes(&self, alloc: Global) -> Result<Vec<WideRect>, AllocError>
+        ensures boxes { let all = bounding_boxes (text_in self.now) (range_at self.now) in
+            IfOk result (λ boxes. boxes.items ≡ all) }
+        ensures secret { IfOk result (λ boxes. InEachText self.now.root (λ t. boxes.items ≡ bounding_boxes t (range_at self.now))) }
+    {
+        let range = *self;
+        let mut boxes = Vec::new(alloc);
+        let (mut piece, last) = range.first_and_last();
+        loop {
+            let Some(shown) = piece.bounding_box() else {
+                return Ok(Vec::new(alloc));
+            };
+            boxes.push(shown)?;
+            let Some(next) = range.next_piece(piece.run, last) else {
+                return Ok(boxes);
+            };
+            piece = next;
+        }
+    }
+}

@@ -1,0 +1,39 @@
+//! Texts that are made of runs: positions in them, and ranges of them.
+#![tactic(auto)]
+
+mod boundaries;
+mod boxes;
+mod characters;
+mod edges;
+mod ends;
+mod equality;
+mod formats;
+mod indexes;
+mod line_counts;
+mod line_ranges;
+mod lines;
+mod looks;
+mod metrics;
+mod named;
+mod offsets;
+mod pieces;
+mod points;
+mod position;
+mod predicates;
+mod properties;
+mod range;
+mod range_ends;
+mod range_properties;
+mod selections;
+mod text_lines;
+mod text_root;
+mod traversals;
+mod weak;
+mod words;
+
+pub use position::TextPosition;
+pub use range::TextRange;
+pub use range_properties::TextRangePropertyValue;
+pub use text_lines::TextLines;
+pub use text_root::{TextIndexes, TextPlaces, TextRoot, TextSelections};
+pub use weak::WeakTextRange;

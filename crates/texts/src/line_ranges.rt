@@ -1,0 +1,91 @@
+//! The range of a line.
+ghost use Rattle.std.specs.Prelude.{◌≡◌, ◌≤◌, ◌<◌, ◌+◌, ◌-◌, true, nat_lt, Some, None, length, slice_get, if◌then◌else◌};
+ghost use Rattle.model.specs.TextRuns.{supports_text_ranges};
+ghost use Rattle.model.specs.FlatText.{total, start_of, start_at, end_at, document_end, lines};
+ghost use Rattle.views.specs.Nodes.{world_at, id_at};
+ghost use Rattle.texts.specs.Positions.{node_text};
+ghost use Rattle.views.specs.Runs.{text_root_of, run_world, root_id};
+ghost use Rattle.texts.specs.RunNumbers.{number_in, text_around};
+ghost use Rattle.texts.specs.TextRanges.{IsRangeOf};
+ghost use Rattle.texts.specs.FoundRanges.{IsRangeFound, range_of_line};
+
+use crate::boundaries::{Mark, last_of};
+use crate::ends::document_end;
+use crate::position::TextPosition;
+use crate::range::TextRange;
+use views::NodeRef;
+use views::runs::Run;
+
+/// From the start of the run to the end of another one, which isn't before it.
+pub(crate) fn range_to<'a>(first: Run<'a>, last: Run<'a>) -> TextRange<'a>
+    requires text { supports_text_ranges (run_world first) (root_id first) ≡ true }
+    requires same { text_root_of last ≡ text_root_of first }
+    requires order { number_in first ≤ number_in last }
+    ensures { let start = start_at (number_in first.entry) in
+        let end = end_at (text_around first.entry) (number_in last.entry) in
+        IsRangeOf (run_world first.entry) (root_id first.entry) (record { start = start; end = end }) result }
+{
+    let start = TextPosition {
+        run: first,
+        index: 0,
+    };
+    let end = TextPosition {
+        run: last,
+        index: last.character_count(),
+    };
+    TextRange::over(start, end)
+}
+
+/// The caret past the last line, which begins with the run: there where that line isn't empty.
+fn caret_past<'a>(run: Run<'a>) -> Option<TextRange<'a>>
+    requires text { supports_text_ranges (run_world run) (root_id run) ≡ true }
+    ensures { let t = text_around run.entry in
+        IsRangeFound (run_world run.entry) (root_id run.entry)
+        (if nat_lt (start_of t (number_in run.entry)) (total t)
+        then Some (record { start = document_end t; end = document_end t }) else None) result }
+{
+    if run.character_count() == 0 {
+        return None;
+    }
+    Some(document_end(run.root()).to_degenerate_range())
+}
+
+/// What stands past the last line, which begins with the run: its number, and a number above it.
+pub(crate) fn range_past<'a>(run: Run<'a>, line: usize, index: usize) -> Option<TextRange<'a>>
+    requires text { supports_text_ranges (run_world run) (root_id run) ≡ true }
+    requires size { length (lines (text_around run)) ≡ line + 1 }
+    requires last { let t = text_around run in
+        slice_get (lines t) line ≡ Some (number_in run, length t - 1) }
+    requires past { line < index }
+    ensures { let range = range_of_line (text_around run.entry) index in
+        IsRangeFound (run_world run.entry) (root_id run.entry) range result }
+{
+    if line < 1 {
+        return None;
+    }
+    if line + 1 < index {
+        return None;
+    }
+    caret_past(run)
+}
+
+/// The range of a line of the text of a node, which has text ranges, by its number from 0.
+pub(crate) fn line_range_of<'a>(root: NodeRef<'a>, index: usize) -> Option<TextRange<'a>>
+    requires { supports_text_ranges (world_at root) (id_at root) ≡ true }
+    ensures { let range = range_of_line (node_text root.entry) index in
+        IsRangeFound (world_at root.entry) (id_at root.entry) range result }
+{
+    let mut first = Run::first(root).unwrap();
+    let mut line = 0usize;
+    loop {
+        let last = last_of(first, Mark::Line);
+        if line >= index {
+            return Some(range_to(first, last));
+        }
+        let Some(next) = last.next() else {
+            return range_past(first, line, index);
+        };
+        line += 1;
+        first = next;
+    }
+}

@@ -1,0 +1,57 @@
+//! How a text looks, look by look.
+ghost use Rattle.std.specs.Prelude.{◌≡◌, ◌↔◌, IsTrue, option_copied};
+ghost use Rattle.views.specs.Nodes.{world_at, id_at};
+ghost use Rattle.texts.specs.Looks.{AreSame};
+
+use views::NodeRef;
+
+/// What a run has from itself or from the nodes above it.
+#[derive(Clone, Copy)]
+pub(crate) enum Look {
+    Direction,
+    FontFamily,
+    Language,
+    FontSize,
+    FontWeight,
+    BackgroundColor,
+    ForegroundColor,
+    Overline,
+    Strikethrough,
+    Underline,
+    Alignment,
+    Offset,
+    Italic,
+}
+
+/// Whether both are absent, or are one text.
+fn same_text(a: Option<&str>, b: Option<&str>) -> bool
+    ensures { IsTrue result ↔ (option_copied a.entry ≡ option_copied b.entry) }
+{
+    match (a, b) {
+        (Some(a), Some(b)) => a == b,
+        (None, None) => true,
+        _ => false,
+    }
+}
+
+/// Whether two nodes of one state have the same of it.
+pub(crate) fn are_same(what: Look, a: NodeRef<'_>, b: NodeRef<'_>) -> bool
+    requires { world_at a ≡ world_at b }
+    ensures { IsTrue result ↔ AreSame what (world_at b.entry) (id_at a.entry) (id_at b.entry) }
+{
+    match what {
+        Look::Direction => return a.text_direction() == b.text_direction(),
+        Look::FontFamily => return same_text(a.font_family(), b.font_family()),
+        Look::Language => return same_text(a.language(), b.language()),
+        Look::FontSize => return a.font_size() == b.font_size(),
+        Look::FontWeight => return a.font_weight() == b.font_weight(),
+        Look::BackgroundColor => return a.background_color() == b.background_color(),
+        Look::ForegroundColor => return a.foreground_color() == b.foreground_color(),
+        Look::Overline => return a.overline() == b.overline(),
+        Look::Strikethrough => return a.strikethrough() == b.strikethrough(),
+        Look::Underline => return a.underline() == b.underline(),
+        Look::Alignment => return a.text_align() == b.text_align(),
+        Look::Offset => return a.vertical_offset() == b.vertical_offset(),
+        Look::Italic => return a.is_italic() == b.is_italic(),
+    }
+}

@@ -1,0 +1,150 @@
+//! The lines of a text by their numbers, where each search goes on from the line that was found last.
+ghost use Rattle.std.specs.Prelude.{◌≡◌, ◌+◌, ◌<◌, true, option_map};
+ghost use Rattle.model.specs.TextRuns.{supports_text_ranges};
+ghost use Rattle.views.specs.Nodes.{world_at, id_at};
+ghost use Rattle.views.specs.RunPlaces.{IsRunPlace, IsRunPlace-prop};
+ghost use Rattle.views.specs.Runs.{text_root_of, run_world, root_id};
+ghost use Rattle.texts.specs.TextRoots.{HasText, HasText-prop};
+ghost use Rattle.texts.specs.RunNumbers.{number_in, text_around};
+ghost use Rattle.texts.specs.Positions.{node_text};
+ghost use Rattle.texts.specs.Lines.{number_at, BeginsLine, BeginsLine-prop, EndsLine, EndsLine-prop};
+ghost use Rattle.texts.specs.TextRanges.{range_at};
+ghost use Rattle.texts.specs.FoundRanges.{IsRangeFound, range_of_line};
+ghost use Rattle.texts.specs.Secrets.{InEachText};
+
+use crate::boundaries::{Mark, last_of};
+use crate::line_ranges::{range_past, range_to};
+use crate::range::TextRange;
+use views::NodeRef;
+use views::runs::Run;
+use views::walks::spot::Spot;
+
+/// The lines of a node's text, by their numbers from 0.
+///
+/// A search for a line goes on from the one that was found last, if it isn't before that one. So the ranges of lines that
+/// are asked for one after another take as much time as a walk through the text does.
+#[derive(Clone, Copy)]
+pub struct TextLines<'a> {
+    root: NodeRef<'a>,
+    line: usize,
+    first: Spot<'a>,
+    last: Spot<'a>,
+    ghost text: { HasText root } by { HasText-prop root },
+    ghost starts: { IsRunPlace (world_at root) (id_at root) first } by { IsRunPlace-prop (world_at root) (id_at root) first },
+    ghost ends: { IsRunPlace (world_at root) (id_at root) last } by { IsRunPlace-prop (world_at root) (id_at root) last },
+    ghost begins_line: { BeginsLine (node_text root) line (number_at root first) } by { BeginsLine-prop (node_text root) line (number_at root first) },
+    ghost ends_line: { EndsLine (node_text root) (number_at root first) (number_at root last) } by { EndsLine-prop (node_text root) (number_at root first) (number_at root last) },
+}
+
+impl<'a> TextLines<'a> {
+    ghost use Rattle.texts.specs.LineWalks.{lines_root, IsAtLastLine, IsNearest};
+
+    /// The lines of the text of a node, which has text ranges. The first search begins at the first line.
+    pub fn new(root: NodeRef<'a>) -> TextLines<'a>
+        requires { supports_text_ranges (world_at root) (id_at root) ≡ true }
+        ensures { lines_root result ≡ root.entry }
+    {
+        TextLines::first_line(root)
+    }
+
+    /// The node whose lines they are.
+    pub fn node(&self) -> NodeRef<'a>
+        ensures { result ≡ lines_root self.now }
+    {
+        self.root
+    }
+
+    /// The range of a line by its number.
+    ///
+    /// Past the last of several lines there is one more, where a caret can be, if that last line isn't empty. It is what
+    /// [`crate::TextPlaces::line_range_from_index`] gives of the node.
+    #[tactic(auto, using(model::proofs::Text::Secrets::one_text))]
+    pub fn line(&mut self, index: usize) -> Option<TextRange<'a>>
+        ensures same { lines_root self.new ≡ lines_root self.old }
+        ensures found { let root = lines_root self.old in let range = range_of_line (node_text root) index in
+            IsRangeFound (world_at root) (id_at root) range result }
+        ensures secret { InEachText (lines_root self.old) (λ t. option_map range_at result ≡ range_of_line t index) }
+    {
+        let found = self.nearest(index);
+        *self = found;
+        found.range(index)
+    }
+
+    /// The first line of the text of a node, which has text ranges.
+    fn first_line(root: NodeRef<'a>) -> TextLines<'a>
+        requires { supports_text_ranges (world_at root) (id_at root) ≡ true }
+        ensures root { lines_root result ≡ root.entry }
+        ensures line { result.line ≡ 0 }
+    {
+        TextLines::beginning(Run::first(root).unwrap(), 0)
+    }
+
+    /// The line of the number that begins with the run.
+    fn beginning(first: Run<'a>, line: usize) -> TextLines<'a>
+        requires text { supports_text_ranges (run_world first) (root_id first) ≡ true }
+        requires begins { BeginsLine (text_around first) line (number_in first) }
+        ensures root { lines_root result ≡ text_root_of first.entry }
+        ensures line { result.line ≡ line }
+    {
+        let last = last_of(first, Mark::Line);
+        TextLines {
+            root: first.root,
+            line,
+            first: first.spot,
+            last: last.spot,
+        }
+    }
+
+    /// The first run of the line that was found.
+    fn first_run(self) -> Run<'a>
+        ensures root { text_root_of result ≡ self.entry.root }
+        ensures spot { result.spot ≡ self.entry.first }
+    {
+        Run {
+            root: self.root,
+            spot: self.first,
+        }
+    }
+
+    /// The last run of the line that was found.
+    fn last_run(self) -> Run<'a>
+        ensures root { text_root_of result ≡ self.entry.root }
+        ensures spot { result.spot ≡ self.entry.last }
+    {
+        Run {
+            root: self.root,
+            spot: self.last,
+        }
+    }
+
+    /// The line of the number, or the last one if there are fewer.
+    fn nearest(self, index: usize) -> TextLines<'a>
+        ensures same { lines_root result ≡ lines_root self.entry }
+        ensures near { IsNearest index result }
+    {
+        let mut found = if index < self.line {
+            TextLines::first_line(self.root)
+        } else {
+            self
+        };
+        while found.line < index {
+            let Some(next) = found.last_run().next() else {
+                return found;
+            };
+            found = TextLines::beginning(next, found.line + 1);
+        }
+        found
+    }
+
+    /// The range of the line of the number, which is the one that was found, or past it and it the last one.
+    fn range(self, index: usize) -> Option<TextRange<'a>>
+        requires { IsNearest index self }
+        ensures { let root = lines_root self.entry in let range = range_of_line (node_text root) index in
+            IsRangeFound (world_at root) (id_at root) range result }
+    {
+        if self.line < index {
+            return range_past(self.first_run(), self.line, index);
+        }
+        Some(range_to(self.first_run(), self.last_run()))
+    }
+}

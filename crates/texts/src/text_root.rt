@@ -1,0 +1,208 @@
+//! What is asked of a node as the root of a text: positions in the text, and ranges of it.
+ghost use Rattle.std.specs.Prelude.{◌≡◌, true, IfSome, option_map};
+ghost use Rattle.model.specs.TextRuns.{supports_text_ranges};
+ghost use Rattle.model.specs.FlatText.{document_start, document_end};
+ghost use Rattle.model.specs.Moves.{position_from_usv, position_from_utf16};
+ghost use Rattle.model.specs.Points.{position_at_point};
+ghost use Rattle.model.specs.Ranges.{document_range, selection, selection_anchor, selection_focus};
+ghost use Rattle.views.specs.Nodes.{world_at, id_at};
+ghost use Rattle.texts.specs.TextRoots.{HasText};
+ghost use Rattle.texts.specs.Positions.{IsPositionAt, root_at, node_text, flat_position};
+ghost use Rattle.texts.specs.TextRanges.{IsRangeOf, range_at};
+ghost use Rattle.texts.specs.FoundRanges.{IsAtFound, IsRangeFound, range_of_line};
+ghost use Rattle.texts.specs.Secrets.{InEachText};
+
+use crate::ends::{document_end, document_start};
+use crate::indexes::{Units, position_from};
+use crate::line_ranges::line_range_of;
+use crate::named::nearest_named;
+use crate::points::position_at;
+use crate::position::TextPosition;
+use crate::range::TextRange;
+use crate::selections::selection_sent;
+use schema::Point;
+use views::NodeRef;
+
+/// A node that may be the root of a text. `NodeRef` is the one that is.
+pub trait TextRoot<'a> {
+    ghost may_ask: { Self → Type 0 };
+
+    /// The start of the node's text, which has text ranges.
+    fn document_start(&self) -> TextPosition<'a>
+        requires { may_ask self.now };
+
+    /// The end of the node's text, which has text ranges.
+    fn document_end(&self) -> TextPosition<'a>
+        requires { may_ask self.now };
+
+    /// The range of the node's whole text, which has text ranges.
+    fn document_range(&self) -> TextRange<'a>
+        requires { may_ask self.now };
+}
+
+/// A node that may be asked for positions by an index of its whole text.
+pub trait TextIndexes<'a> {
+    ghost may_ask: { Self → Type 0 };
+
+    /// The position of an index that counts the scalars of the whole text: before the character in which it lies, at
+    /// the start of a run where two runs meet. At the length of the text it is its end, and past that there is none. The
+    /// node has text ranges.
+    fn text_position_from_global_usv_index(&self, index: usize) -> Option<TextPosition<'a>>
+        requires { may_ask self.now };
+
+    /// The position of an index that counts the units of UTF-16 of the whole text: before the character in which it
+    /// lies, at the start of a run where two runs meet. At the length of the text it is its end, and past that there is
+    /// none. The node has text ranges.
+    fn text_position_from_global_utf16_index(&self, index: usize) -> Option<TextPosition<'a>>
+        requires { may_ask self.now };
+}
+
+/// A node that may be asked where a line or a point of its text is.
+pub trait TextPlaces<'a> {
+    ghost may_ask: { Self → Type 0 };
+
+    /// The range of a line of the node's text, which has text ranges, by its number from 0.
+    ///
+    /// Past the last of several lines there is one more, where a caret can be, if that last line isn't empty.
+    fn line_range_from_index(&self, index: usize) -> Option<TextRange<'a>>
+        requires { may_ask self.now };
+
+    /// The position at a point of the node's text, which has text ranges. The point is given as the node sees it.
+    ///
+    /// It is in the last run whose own rectangle has the point: before the last character that lies there, or at the
+    /// run's end. Else it is the start of the text if the point is left of the first run or above it, else the end of
+    /// the last run that the point is past along its line, and else the end of the text.
+    fn text_position_at_point(&self, point: Point) -> TextPosition<'a>
+        requires { may_ask self.now };
+}
+
+/// A node that may be asked what is selected in its text.
+pub trait TextSelections<'a> {
+    /// The range that is selected: none without a selection, without text ranges, or where an end names none of the
+    /// node's own runs. An index past the end of its run is cut to it.
+    fn text_selection(&self) -> Option<TextRange<'a>>;
+
+    /// Where the selection was begun: none without a selection, without text ranges, or where it names none of the
+    /// node's own runs. An index past the end of its run is cut to it.
+    fn text_selection_anchor(&self) -> Option<TextPosition<'a>>;
+
+    /// The end of the selection that moves: none without a selection, without text ranges, or where it names none of
+    /// the node's own runs. An index past the end of its run is cut to it.
+    fn text_selection_focus(&self) -> Option<TextPosition<'a>>;
+}
+
+impl<'a> TextRoot<'a> for NodeRef<'a> {
+    ghost may_ask = { HasText };
+
+    fn document_start(&self) -> TextPosition<'a>
+        requires { supports_text_ranges (world_at self.now) (id_at self.now) ≡ true }
+        ensures { IsPositionAt self.now document_start result }
+    {
+        document_start(*self)
+    }
+
+    #[tactic(auto, using(model::proofs::Text::Secrets::one_text))]
+    fn document_end(&self) -> TextPosition<'a>
+        requires { supports_text_ranges (world_at self.now) (id_at self.now) ≡ true }
+        ensures at { IsPositionAt self.now (document_end (node_text self.now)) result }
+        ensures secret { InEachText self.now (λ t. flat_position result ≡ document_end t) }
+    {
+        document_end(*self)
+    }
+
+    fn document_range(&self) -> TextRange<'a>
+        requires { supports_text_ranges (world_at self.now) (id_at self.now) ≡ true }
+        ensures { let range = document_range (node_text self.now) in
+            IsRangeOf (world_at self.now) (id_at self.now) range result }
+    {
+        TextRange::over(document_start(*self), document_end(*self))
+    }
+}
+
+impl<'a> TextIndexes<'a> for NodeRef<'a> {
+    ghost may_ask = { HasText };
+
+    #[tactic(auto, using(model::proofs::Text::Secrets::one_text))]
+    fn text_position_from_global_usv_index(&self, index: usize) -> Option<TextPosition<'a>>
+        requires { supports_text_ranges (world_at self.now) (id_at self.now) ≡ true }
+        ensures at { option_map flat_position result ≡ position_from_usv (node_text self.now) index }
+        ensures same { IfSome result (λ p. root_at p ≡ self.now) }
+        ensures secret { InEachText self.now (λ t. option_map flat_position result ≡ position_from_usv t index) }
+    {
+        position_from(*self, Units::Scalars, index)
+    }
+
+    #[tactic(auto, using(model::proofs::Text::Secrets::one_text))]
+    fn text_position_from_global_utf16_index(&self, index: usize) -> Option<TextPosition<'a>>
+        requires { supports_text_ranges (world_at self.now) (id_at self.now) ≡ true }
+        ensures at { option_map flat_position result ≡ position_from_utf16 (node_text self.now) index }
+        ensures same { IfSome result (λ p. root_at p ≡ self.now) }
+        ensures secret { InEachText self.now (λ t. option_map flat_position result ≡ position_from_utf16 t index) }
+    {
+        position_from(*self, Units::Utf16, index)
+    }
+}
+
+impl<'a> TextPlaces<'a> for NodeRef<'a> {
+    ghost may_ask = { HasText };
+
+    #[tactic(auto, using(model::proofs::Text::Secrets::one_text))]
+    fn line_range_from_index(&self, index: usize) -> Option<TextRange<'a>>
+        requires { supports_text_ranges (world_at self.now) (id_at self.now) ≡ true }
+        ensures found { let range = range_of_line (node_text self.now) index in
+            IsRangeFound (world_at self.now) (id_at self.now) range result }
+        ensures secret { InEachText self.now (λ t. option_map range_at result ≡ range_of_line t index) }
+    {
+        line_range_of(*self, index)
+    }
+
+    #[tactic(auto, using(model::proofs::Text::Secrets::one_text))]
+    fn text_position_at_point(&self, point: Point) -> TextPosition<'a>
+        requires { supports_text_ranges (world_at self.now) (id_at self.now) ≡ true }
+        ensures at { IsPositionAt self.now (position_at_point (node_text self.now) point) result }
+        ensures secret { InEachText self.now (λ t. flat_position result ≡ position_at_point t point) }
+    {
+        position_at(*self, point)
+    }
+}
+
+impl<'a> TextSelections<'a> for NodeRef<'a> {
+    fn text_selection(&self) -> Option<TextRange<'a>>
+        ensures { let w = world_at self.now in
+            IsRangeFound w (id_at self.now) (selection w (id_at self.now)) result }
+    {
+        let node = *self;
+        let Some(selection) = selection_sent(node) else {
+            return None;
+        };
+        let Some(anchor) = nearest_named(node, selection.anchor) else {
+            return None;
+        };
+        let Some(focus) = nearest_named(node, selection.focus) else {
+            return None;
+        };
+        Some(TextRange::between(anchor, focus))
+    }
+
+    fn text_selection_anchor(&self) -> Option<TextPosition<'a>>
+        ensures { let anchor = selection_anchor (world_at self.now) (id_at self.now) in
+            IsAtFound self.now anchor result }
+    {
+        let node = *self;
+        let Some(selection) = selection_sent(node) else {
+            return None;
+        };
+        nearest_named(node, selection.anchor)
+    }
+
+    fn text_selection_focus(&self) -> Option<TextPosition<'a>>
+        ensures { let focus = selection_focus (world_at self.now) (id_at self.now) in
+            IsAtFound self.now focus result }
+    {
+        let node = *self;
+        let Some(selection) = selection_sent(node) else {
+            return None;
+        };
+        nearest_named(node, selection.focus)
+    }
+}

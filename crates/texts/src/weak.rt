@@ -1,0 +1,193 @@
+//! Ranges that outlive a state.
+ghost use Rattle.std.specs.Prelude.{◌≡◌, ◌↔◌, IsTrue, IfSome, IfOk, Some, None, option_map, if◌then◌else◌};
+ghost use Rattle.model.specs.TextRuns.{supports_text_ranges};
+ghost use Rattle.model.specs.Ranges.{comparable, IsWeak, upgraded_range};
+ghost use Rattle.views.specs.ShownWorlds.{world_of};
+ghost use Rattle.views.specs.Nodes.{world_at, id_at};
+ghost use Rattle.texts.specs.Positions.{root_at, flat_position};
+ghost use Rattle.texts.specs.TextRanges.{world_in, root_in, range_at};
+ghost use Rattle.texts.specs.FoundRanges.{IsRangeFound};
+ghost use Rattle.texts.specs.WeakRanges.{kept_of, same_weak, same_weak_laws, same_weak_equivalence};
+
+use crate::named::position_named;
+use crate::position::TextPosition;
+use crate::range::TextRange;
+use model::FullNodeId;
+use std::alloc::{AllocError, Global};
+use std::marker::Model;
+use views::node::same::is_same;
+use views::{NodeRef, StateRef};
+
+/// A range of a text without the state: it can be kept, compared, and looked for in a later state.
+#[derive(Drop)]
+pub struct WeakTextRange {
+    root: FullNodeId,
+    start: schema::TextPosition,
+    end: schema::TextPosition,
+    start_comparable: (Vec<usize>, usize),
+    end_comparable: (Vec<usize>, usize),
+}
+
+impl Model for WeakTextRange {
+    ghost use Rattle.model.specs.Ranges.{WeakRange};
+
+    ghost Value = { WeakRange };
+
+    ghost view = { λ a. record {
+      root = a.root;
+      start = a.start;
+      end = a.end;
+      start_comparable = (a.start_comparable.0.items, a.start_comparable.1);
+      end_comparable = (a.end_comparable.0.items, a.end_comparable.1);
+    } };
+}
+
+impl TextPosition<'_> {
+    /// What is kept of the position for comparing: the index of each child on the way from the root to its run, on
+    /// the start side, and the index there.
+    fn comparable(self, alloc: Global) -> Result<(Vec<usize>, usize), AllocError>
+        ensures { let n = root_at self.entry in IfOk result (λ kept.
+            comparable (world_at n) (id_at n) (flat_position self.entry) ≡ Some (kept_of kept)) }
+    {
+        let side = self.biased_to_start();
+        let node = side.inner_node();
+        let path = node.relative_index_path(alloc, side.run.root().id())?;
+        Ok((path, side.index))
+    }
+}
+
+impl TextRange<'_> {
+    /// The range without its state.
+    ///
+    /// # Errors
+    ///
+    /// `AllocError`: there is no memory for what is kept of its ends.
+    pub fn downgrade(&self, alloc: Global) -> Result<WeakTextRange, AllocError>
+        ensures { IfOk result (IsWeak (world_in self.now) (root_in self.now) (range_at self.now)) }
+    {
+        let range = *self;
+        let (start, end) = (range.start(), range.end());
+        let start_comparable = start.comparable(alloc)?;
+        let end_comparable = end.comparable(alloc)?;
+        Ok(WeakTextRange {
+            root: range.root.id(),
+            start: start.to_raw(),
+            end: end.to_raw(),
+            start_comparable,
+            end_comparable,
+        })
+    }
+}
+
+impl WeakTextRange {
+    /// The node whose text it was a range of.
+    pub fn node_id(&self) -> FullNodeId
+        ensures { result ≡ self.now.root }
+    {
+        self.root
+    }
+
+    /// The path of the start's run from the root, and the index in it, on the start side: they compare as positions do.
+    pub fn start_comparable(&self) -> &(Vec<usize>, usize)
+        ensures { kept_of result.now ≡ self.now.start_comparable }
+    {
+        &self.start_comparable
+    }
+
+    /// The same of the end.
+    pub fn end_comparable(&self) -> &(Vec<usize>, usize)
+        ensures { kept_of result.now ≡ self.now.end_comparable }
+    {
+        &self.end_comparable
+    }
+
+    /// The node in a later state, where it is there and has text ranges.
+    pub fn upgrade_node<'a>(&self, state: StateRef<'a>) -> Option<NodeRef<'a>>
+        ensures world { IfSome result (λ node. world_at node ≡ world_of state.entry) }
+        ensures node { option_map id_at result
+            ≡ (if supports_text_ranges (world_of state.entry) self.now.root
+            then Some self.now.root else None) }
+    {
+        let Some(node) = state.node_by_id(self.root) else {
+            return None;
+        };
+        if !node.supports_text_ranges() {
+            return None;
+        }
+        Some(node)
+    }
+
+    /// The range in a later state: none where the node isn't there or has no text ranges, or where an end names none of
+    /// its runs or an index past the end of its run.
+    pub fn upgrade<'a>(&self, state: StateRef<'a>) -> Option<TextRange<'a>>
+        ensures { let w = world_of state.entry in
+            IsRangeFound w self.now.root (upgraded_range w self.now) result }
+    {
+        let Some(node) = self.upgrade_node(state) else {
+            return None;
+        };
+        let Some(start) = position_named(node, self.start) else {
+            return None;
+        };
+        let Some(end) = position_named(node, self.end) else {
+            return None;
+        };
+        Some(TextRange::between(start, end))
+    }
+
+    /// A copy, whose lists are kept in memory from `alloc`.
+    ///
+    /// # Errors
+    ///
+    /// `AllocError`: there is no memory for the lists.
+    pub fn clone(&self, alloc: Global) -> Result<WeakTextRange, AllocError>
+        ensures { IfOk result (λ copy. copy ≡ self.now) }
+    {
+        let start = Vec::from_slice(alloc, self.start_comparable.0.as_slice())?;
+        let end = Vec::from_slice(alloc, self.end_comparable.0.as_slice())?;
+        Ok(WeakTextRange {
+            root: self.root,
+            start: self.start,
+            end: self.end,
+            start_comparable: (start, self.start_comparable.1),
+            end_comparable: (end, self.end_comparable.1),
+        })
+    }
+}
+
+/// Whether both say one place.
+fn is_same_place(a: &(Vec<usize>, usize), b: &(Vec<usize>, usize)) -> bool
+    ensures { IsTrue result ↔ (kept_of a.now ≡ kept_of b.now) }
+{
+    a.0.as_slice() == b.0.as_slice() && a.1 == b.1
+}
+
+impl WeakTextRange {
+    /// Whether all that is kept agrees.
+    fn same(&self, other: &WeakTextRange) -> bool
+        ensures { IsTrue result ↔ (self.now ≡ other.now) }
+    {
+        is_same(self.root, other.root)
+            && self.start == other.start
+            && self.end == other.end
+            && is_same_place(&self.start_comparable, &other.start_comparable)
+            && is_same_place(&self.end_comparable, &other.end_comparable)
+    }
+}
+
+impl PartialEq for WeakTextRange {
+    ghost eq = { same_weak };
+
+    ghost laws = { same_weak_laws };
+
+    fn eq(&self, other: &WeakTextRange) -> bool
+        ensures value { result ≡ same_weak self.now other.now }
+        ensures exact { IsTrue result ↔ (self.now ≡ other.now) }
+    {
+        self.same(other)
+    }
+}
+
+impl Eq for WeakTextRange {
+    ghost laws = { same_weak_equivalence };
+}

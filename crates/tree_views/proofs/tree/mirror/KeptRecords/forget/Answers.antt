@@ -1,5 +1,0 @@
-use Rattle.tree_views.proofs.Mirroring.{kept_without}
-use Rattle.tree_views.proofs.tree.mirror.KeptRecords.forget.Goals as goal
-
-pub returns-clause-nodes : goal.returns-clause-nodes
-returns-clause-nodes c = kept_without c.args.self.now.nodes c.remove.new.self c.args.id (λ q. c.remove.ensures.updates.0 q)

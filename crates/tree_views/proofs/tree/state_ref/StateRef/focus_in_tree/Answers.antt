@@ -1,7 +1,0 @@
-use Rattle.tree_views.specs.Views.{world_of}
-use Rattle.tree_views.specs.Nodes.{id_at}
-use Rattle.tree_views.proofs.Focusing.{focus_moved}
-use Rattle.tree_views.proofs.tree.state_ref.StateRef.focus_in_tree.Goals as goal
-
-pub returns-clause-node : goal.returns-clause-node
-returns-clause-node c = focus_moved (world_of c.args.self.now) c.checked_focus.result (id_at c.node.result) c.checked_focus.ensures.focus c.node.ensures.is

@@ -1,8 +1,0 @@
-use Rattle.tree_views.proofs.Overlaid.{focus_shown}
-use Rattle.tree_views.proofs.tree.state_ref.StateRef.known_focus.Goals as goal
-
-pub returns-in-Some : goal.returns-in-Some
-returns-in-Some c = focus_shown c.args.self.base.now.world c.args.self.overlay _ c.args.self.is_host_focused c.in-Some.is c.focus.result c.focus.ensures
-
-pub returns-in-None : goal.returns-in-None
-returns-in-None c = focus_shown c.args.self.base.now.world c.args.self.overlay _ c.args.self.is_host_focused c.in-None.is c.focus-in-None.result c.focus-in-None.ensures

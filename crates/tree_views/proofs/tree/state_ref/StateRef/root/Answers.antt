@@ -1,5 +1,0 @@
-use Rattle.std.proofs.Common.{◌∙◌, sym, ap, Some}
-use Rattle.tree_views.proofs.tree.state_ref.StateRef.root.Goals as goal
-
-pub returns-clause-node : goal.returns-clause-node
-returns-clause-node c = c.checked_root.ensures.root ∙ ap Some (sym c.node.ensures.is)

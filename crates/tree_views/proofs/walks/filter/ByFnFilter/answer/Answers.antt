@@ -1,6 +1,0 @@
-use Rattle.std.proofs.Common.{refl}
-use Rattle.std.proofs.lemmas.Fn.{says_at}
-use Rattle.tree_views.proofs.walks.filter.ByFnFilter.answer.Goals as goal
-
-pub returns : goal.returns
-returns g c = says_at g.F.Fn c.f.ensures refl

@@ -1,0 +1,4 @@
+pub mod Deciding
+pub mod PlanEvents
+pub mod Refocused
+pub mod Mirroring

@@ -1,0 +1,4 @@
+pub mod Telling
+pub mod Replies
+pub mod Counts
+pub mod Mirrored

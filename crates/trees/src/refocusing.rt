@@ -1,0 +1,60 @@
+//! Tells a handler that the focus is on another node.
+ghost use Rattle.std.specs.Prelude.{◌≡◌, ◌↔◌, List, [], map, IsTrue};
+ghost use Rattle.model.specs.declared.FullNodeId.{FullNodeId};
+ghost use Rattle.model.specs.Events.{Told};
+ghost use Rattle.model.specs.declared.events.PlanEvent.{PlanEvent};
+ghost use Rattle.model.specs.declared.events.PlanEvent.TheVariants.{Updated};
+ghost use Rattle.model.specs.Differences.{AreOfFocus, IsToldForFocus, events};
+ghost use Rattle.views.specs.ShownWorlds.{world_of};
+
+use crate::TreeChangeHandler;
+use crate::telling::tell;
+use model::{FullNodeId, PlanEvent};
+use views::StateRef;
+
+/// Whether both are one id, or none.
+fn is_same_focus(before: Option<FullNodeId>, after: Option<FullNodeId>) -> bool
+    ensures { IsTrue result ↔ (before ≡ after) }
+{
+    before == after
+}
+
+/// Tells that the node was updated, where it is in both states.
+fn tell_in_both<H: TreeChangeHandler>(
+    old: StateRef,
+    new: StateRef,
+    id: Option<FullNodeId>,
+    handler: &mut H,
+)
+    ensures { let before = world_of old.entry in
+        let after = world_of new.entry in
+        (ids : List FullNodeId) × IsToldForFocus before after [] id ids
+        × Told H.steps handler.old (events before after (map Updated ids)) handler.new }
+{
+    let Some(id) = id else {
+        return;
+    };
+    if !old.has_node(id) {
+        return;
+    }
+    if new.has_node(id) {
+        tell(old, new, PlanEvent::Updated(id), handler);
+    }
+}
+
+/// Tells of the focus alone. Where it is on another node, its old node and its new node were updated, and it moved.
+pub(crate) fn tell_focus<H: TreeChangeHandler>(old: StateRef, new: StateRef, handler: &mut H)
+    ensures { let before = world_of old.entry in
+        let after = world_of new.entry in
+        (differences : List PlanEvent) × AreOfFocus before after [] differences
+        × Told H.steps handler.old (events before after differences) handler.new }
+{
+    let before = old.shown_focus();
+    let after = new.shown_focus();
+    if is_same_focus(before, after) {
+        return;
+    }
+    tell_in_both(old, new, before, handler);
+    tell_in_both(old, new, after, handler);
+    tell(old, new, PlanEvent::FocusMoved(before, after), handler);
+}

@@ -1,0 +1,250 @@
+//! A state, and how changes come into it.
+ghost use Rattle.std.specs.Prelude.{◌≡◌, ◌<◌, ◌^◌, ◌*◌, ◌↔◌, List, [], length, IsTrue, Some, IfSome, IfOk, IfErr, OnOk, OnErr, option_copied, option_map};
+ghost use Rattle.schema.specs.UpdateData.{update_data};
+ghost use Rattle.model.specs.declared.events.PlanEvent.{PlanEvent};
+ghost use Rattle.model.specs.World.{World, IsNode, root_of, root_named, local_id_of, toolkit_name, toolkit_version};
+ghost use Rattle.model.specs.Focus.{IsEffectiveFocus, IsFocusId, IsFocus, IsActiveDialog};
+ghost use Rattle.model.specs.State.{with_host};
+ghost use Rattle.model.specs.Events.{Event, Told};
+ghost use Rattle.model.specs.Differences.{AreOfFocus, events};
+ghost use Rattle.model.specs.Run.{ToUpdate, Accepted, Does};
+ghost use Rattle.tree_changes.specs.Changes.{overlaid_world};
+ghost use Rattle.tree_changes.specs.Decisions.{IsDecision, IsWithinWork};
+ghost use Rattle.tree_changes.specs.LookUps.{IsRaisedAtLeast, IsRaisedBy};
+ghost use Rattle.tree_changes.specs.Refusals.{IsRefusal};
+ghost use Rattle.trees.specs.Counts.{change_count, CountsEvents};
+ghost use Rattle.views.specs.ShownWorlds.{world_of};
+ghost use Rattle.views.specs.Nodes.{world_at, id_at, ShowsThe};
+
+use crate::refocusing::tell_focus;
+use crate::telling::tell_all;
+use crate::{Steps, TreeChangeHandler};
+use model::FullNodeId;
+use schema::{NodeId, TreeId, TreeUpdate};
+use std::alloc::{AllocError, Global};
+use std::marker::Model;
+use tree_changes::{Decision, LookUps, UpdateError};
+use tree_plan::decide;
+use tree_store::{Overlay, Store, StoreLookUps};
+use views::{NodeRef, StateRef};
+
+/// The nodes and trees of a tree, with its focus.
+#[derive(Drop)]
+pub struct TreeState {
+    pub(crate) store: Store,
+}
+
+impl Model for TreeState {
+    ghost use Rattle.model.specs.World.{World};
+    ghost use Rattle.model.specs.Codes.{coded_world};
+
+    ghost Value = { World };
+
+    ghost coded = { coded_world };
+
+    ghost view = { λ a. a.store.world };
+
+    ghost use Rattle.tree_store.specs.StoreViews.{IsTight};
+
+    ghost invariant = { λ a. IsTight a.store };
+}
+
+impl TreeState {
+    /// A view of the state.
+    pub fn view(&self) -> StateRef<'_>
+        ensures { world_of result ≡ self.now }
+    {
+        StateRef::new(&self.store)
+    }
+
+    /// Whether the node is in the state.
+    pub fn has_node(&self, id: FullNodeId) -> bool
+        ensures { IsTrue result ↔ IsNode self.now id }
+    {
+        self.view().has_node(id)
+    }
+
+    /// The node with this id, if it is in the state.
+    pub fn node_by_id(&self, id: FullNodeId) -> Option<NodeRef<'_>>
+        ensures { ShowsThe self.now (λ it. (it ≡ id) × IsNode self.now it) result }
+    {
+        self.view().node_by_id(id)
+    }
+
+    /// The node with this id within the tree of this name, if it is in the state.
+    pub fn node_by_tree_local_id(&self, node: NodeId, tree: TreeId) -> Option<NodeRef<'_>>
+        ensures { ShowsThe self.now (λ it. local_id_of self.now it ≡ Some (node, tree)) result }
+    {
+        self.view().node_by_tree_local_id(node, tree)
+    }
+
+    /// The id of the root tree's root.
+    pub fn root_id(&self) -> FullNodeId
+        ensures { root_of self.now 0 ≡ Some result }
+    {
+        self.view().root_id()
+    }
+
+    /// The root tree's root.
+    pub fn root(&self) -> NodeRef<'_>
+        ensures world { world_at result ≡ self.now }
+        ensures node { root_of self.now 0 ≡ Some (id_at result) }
+    {
+        self.view().root()
+    }
+
+    /// The effective focus, whether or not the host is focused: the root tree's declared focus, or behind a graft the
+    /// declared focus of the tree that it names.
+    pub fn focus_id_in_tree(&self) -> FullNodeId
+        ensures { IsEffectiveFocus self.now result }
+    {
+        self.view().focus_id_in_tree()
+    }
+
+    /// The effective focus, whether or not the host is focused.
+    pub fn focus_in_tree(&self) -> NodeRef<'_>
+        ensures world { world_at result ≡ self.now }
+        ensures node { IsEffectiveFocus self.now (id_at result) }
+    {
+        self.view().focus_in_tree()
+    }
+
+    /// The effective focus while the host is focused.
+    pub fn focus_id(&self) -> Option<FullNodeId>
+        ensures { IsFocusId self.now result }
+    {
+        self.view().focus_id()
+    }
+
+    /// While the host is focused the effective focus, or in its place the node that it names as its active
+    /// descendant, if that is a node of its tree.
+    pub fn focus(&self) -> Option<NodeRef<'_>>
+        ensures world { IfSome result (λ node. world_at node ≡ self.now) }
+        ensures node { IsFocus self.now (option_map id_at result) }
+    {
+        self.view().focus()
+    }
+
+    /// The nearest dialog to the focus: the focus itself, or the nearest of its ancestors. The focus is that of
+    /// [`TreeState::focus`].
+    pub fn active_dialog(&self) -> Option<NodeRef<'_>>
+        ensures world { IfSome result (λ node. world_at node ≡ self.now) }
+        ensures node { IsActiveDialog self.now (option_map id_at result) }
+    {
+        self.view().active_dialog()
+    }
+
+    /// The root of the tree of this name, where it is present.
+    pub fn subtree_root(&self, name: TreeId) -> Option<FullNodeId>
+        ensures { result ≡ root_named self.now name }
+    {
+        self.view().subtree_root(name)
+    }
+
+    /// The toolkit's name: `AccessKit` if none was given.
+    pub fn toolkit_name(&self) -> &str
+        ensures { result.now ≡ toolkit_name self.now }
+    {
+        self.view().toolkit_name()
+    }
+
+    /// The toolkit's version, given only together with a name.
+    pub fn toolkit_version(&self) -> Option<&str>
+        ensures { option_copied result ≡ toolkit_version self.now }
+    {
+        self.view().toolkit_version()
+    }
+
+    /// The id within its tree, and the tree's name, of a node that is in the state.
+    pub fn locate_node(&self, id: FullNodeId) -> Option<(NodeId, TreeId)>
+        ensures { result ≡ local_id_of self.now id }
+    {
+        self.view().locate_node(id)
+    }
+
+    /// Whether the host is focused.
+    pub fn is_host_focused(&self) -> bool
+        ensures { result ≡ self.now.host_focused }
+    {
+        self.store.is_host_focused()
+    }
+
+    /// The decision on an update. The look-ups for it are counted: as many as the decision says, at least one for each node
+    /// that the update names.
+    pub(crate) fn decide(
+        &self,
+        alloc: Global,
+        update: &TreeUpdate,
+        steps: &mut Steps,
+    ) -> Result<Decision, UpdateError>
+        ensures err { IfErr result (λ e. IsRefusal self.now (update_data update.now) e) }
+        ensures ok { IfOk result (IsDecision self.now (update_data update.now)) }
+        ensures counted { IfOk result (λ decision. IsRaisedBy steps.old decision.looked steps.new) }
+        ensures named { let u = update_data update.now in
+            IfOk result (λ decision. IsRaisedAtLeast 0 (length u.nodes) decision.looked) }
+        ensures work { let u = update_data update.now in
+            IfOk result (λ decision. IsWithinWork self.now u decision 0 decision.looked) }
+    {
+        let mut look_ups = StoreLookUps::new(&self.store, 0);
+        let decided = decide(alloc, &mut look_ups, update);
+        steps.add(look_ups.count());
+        decided
+    }
+
+    /// Carries a decision on an update out. Room is made for its changes; then they are laid over the state, the handler is
+    /// told, and they are written. Only what comes before the telling takes memory. Two records are looked up for each
+    /// event and each change.
+    pub(crate) fn apply<H: TreeChangeHandler>(
+        &mut self,
+        update: TreeUpdate,
+        decision: Decision,
+        handler: &mut H,
+        steps: &mut Steps,
+    ) -> Result<(), AllocError>
+        requires { IsDecision self.old (update_data update) decision }
+        ensures state { let u = update_data update in
+            OnOk result (self.new ≡ overlaid_world self.old u decision) }
+        ensures does { OnOk result ((told : List Event)
+            × Does self.old (ToUpdate (update_data update)) self.new told Accepted
+            × Told H.steps handler.old told handler.new) }
+        ensures steps { OnOk result (IsRaisedBy steps.old (2 * change_count decision) steps.new) }
+        ensures counted { let u = update_data update in
+            OnOk result (CountsEvents self.old u self.new steps.old steps.new) }
+        ensures err { OnErr result ((self.new ≡ self.old) × (handler.new ≡ handler.old)) }
+    {
+        self.store.reserve(&update, &decision)?;
+        let overlay = Overlay {
+            update: &update,
+            decision: &decision,
+        };
+        let old = StateRef::new(&self.store);
+        let new = StateRef::over(&self.store, overlay);
+        old.know();
+        tell_all(old, new, decision.events.as_slice(), handler);
+        steps.add(2 * change_count(&decision));
+        self.store.commit(update, decision);
+        Ok(())
+    }
+
+    /// Sets whether the host is focused, and tells the handler where the focus is another one then.
+    pub(crate) fn refocus<H: TreeChangeHandler>(&mut self, is_host_focused: bool, handler: &mut H)
+        ensures state { self.new ≡ with_host self.old is_host_focused }
+        ensures told { (differences : List PlanEvent) × AreOfFocus self.old self.new [] differences
+            × Told H.steps handler.old (events self.old self.new differences) handler.new }
+    {
+        tell_focus(
+            StateRef::new(&self.store),
+            StateRef::with_host_focused(&self.store, is_host_focused),
+            handler,
+        );
+        self.store.set_host_focused(is_host_focused);
+    }
+}
+
+/// How many events and changes there are.
+fn change_count(decision: &Decision) -> u128
+    ensures is { result ≡ change_count decision.now }
+    ensures fits { result < 2 ^ 66 }
+{
+    decision.events.len() as u128 + decision.nodes.len() as u128 + decision.trees.len() as u128
+}

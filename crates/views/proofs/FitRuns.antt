@@ -1,0 +1,281 @@
+-- Well-formed text, run by run.
+use Rattle.std.proofs.Common.{◌≡◌, ℕ, suc, ◌+◌, ◌-◌, ◌^◌, ◌<◌, Bool, true, false, List, [], ◌∷◌, length, ◌++◌, map, refl, sym, ap, subst, ◌∙◌, arith}
+use Rattle.std.specs.Prelude.{◌&&◌, ◌==◌, nat_lt, unwrap_or, not, Option, Some, None, is_some, is_none, slice_get, sum_by}
+use Rattle.std.specs.Option.{option_map_or}
+use Rattle.std.specs.List.{list_all}
+use Rattle.std.proofs.lemmas.Bool.{ltb-true, lt-ltb}
+use Rattle.std.proofs.lemmas.List.Sums.{sum_by-cons}
+use Rattle.schema.specs.NodeData.{NodeData, empty_node}
+use Rattle.schema.specs.declared.NodeId.{NodeId}
+use Rattle.schema.specs.declared.Role.TheVariants.{TextRun}
+use Rattle.model.specs.declared.FullNodeId.{FullNodeId}
+use Rattle.model.specs.World.{World}
+use Rattle.model.specs.RoleClasses.{is_password_input, holds_text}
+use Rattle.model.specs.Upward.{says}
+use Rattle.model.specs.TextRuns.{SentRun, run_ids, sent_run, sent_runs, run_value, said_count, neighbours, links_agree, is_cut_by, has_rising_words, is_measured, is_password, lie_in_tree, are_cut, have_rising_words, are_empty_last, are_linked_in_order, have_size, are_measured, make_text, supports_text_ranges}
+use Rattle.model.proofs.Text.TextFacts.{both}
+use Rattle.views.specs.declared.runs.Run.{Run}
+use Rattle.views.specs.declared.node.node_ref.NodeRef.{NodeRef}
+use Rattle.views.specs.Nodes.{world_at, id_at, data_at}
+use Rattle.views.specs.Runs.{run_world, root_id, run_id, sent_of, ids_after, ids_before, sents_after, IsFirstOf, IsAfter}
+use Rattle.views.specs.WellFormed.{is_fit, is_small, is_followed_by, are_fit_from}
+
+-- ---- tests
+
+together : (a b : Bool) → a ≡ true → b ≡ true → (a && b) ≡ true
+together true b e f = f
+together false b e f = e
+
+all_four : (a b c d : Bool) → a ≡ true → b ≡ true → c ≡ true → d ≡ true → (a && (b && (c && d))) ≡ true
+all_four a b c d e f g h = together a (b && (c && d)) e (together b (c && d) f (together c d g h))
+
+same_tests : (a b : Bool) → (a ≡ true → b ≡ true) → (b ≡ true → a ≡ true) → a ≡ b
+same_tests true b f g = sym (f refl)
+same_tests false true f g = g refl
+same_tests false false f g = refl
+
+pub third_fails : (a b c d : Bool) → c ≡ false → false ≡ (a && (b && (c && d)))
+third_fails true true true d e = cc
+third_fails true true false d e = refl
+third_fails true false c d e = refl
+third_fails false b c d e = refl
+
+pub fourth_counts : (a b c d : Bool) → a ≡ true → b ≡ true → c ≡ true → d ≡ (a && (b && (c && d)))
+fourth_counts true true true d e f g = refl
+fourth_counts true true false d e f g = cc
+fourth_counts true false c d e f g = cc
+fourth_counts false b c d e f g = cc
+
+second_fails : (a b c : Bool) → b ≡ false → (a && (b && c)) ≡ false
+second_fails true true c e = cc
+second_fails true false c e = refl
+second_fails false b c e = refl
+
+third_left : (a b c : Bool) → a ≡ true → b ≡ true → (a && (b && c)) ≡ c
+third_left true true c e f = refl
+third_left true false c e f = cc
+third_left false b c e f = cc
+
+-- ---- runs as views show them
+
+-- what was sent of a run is what it shows
+pub sent_known : (r : Run) → sent_run (run_world r) (run_id r) ≡ sent_of r
+sent_known r = ap (λ o. let s : SentRun = record { id = run_id r; node = unwrap_or o (empty_node TextRun) } in s) r.known.spot.member
+
+pub sents_next : (r s : Run) → IsAfter r s → sents_after r ≡ sent_of s ∷ sents_after s
+sents_next r s after =
+    ap (map (sent_run (run_world r))) after.after ∙ ap (λ n. map (sent_run (world_at n)) (run_id s ∷ ids_after s)) (sym after.root) ∙ ap (λ x. x ∷ sents_after s) (sent_known s)
+
+module _ (tree : ℕ) (password : Bool) (size : ℕ) where
+  pub unfit : (a : SentRun) (rest : List SentRun) → is_fit tree password a ≡ false → are_fit_from tree password size a rest ≡ false
+  unfit a [] e = ap (λ t. t && (is_small size a && is_none a.node.next_on_line)) e
+  unfit a (b ∷ rest) e = ap (λ t. t && (is_small size a && (is_followed_by a b && are_fit_from tree password (size + length (run_value a)) b rest))) e
+
+  pub too_big : (a : SentRun) (rest : List SentRun) → is_small size a ≡ false → are_fit_from tree password size a rest ≡ false
+  too_big a [] e = second_fails (is_fit tree password a) (is_small size a) (is_none a.node.next_on_line) e
+  too_big a (b ∷ rest) e = second_fails (is_fit tree password a) (is_small size a) (is_followed_by a b && are_fit_from tree password (size + length (run_value a)) b rest) e
+
+  pub fit_last : (r : Run) → ids_after r ≡ [] → is_fit tree password (sent_of r) ≡ true → is_small size (sent_of r) ≡ true →
+      are_fit_from tree password size (sent_of r) (sents_after r) ≡ is_none (sent_of r).node.next_on_line
+  fit_last r last fit small =
+      ap (λ ids. are_fit_from tree password size (sent_of r) (map (sent_run (run_world r)) ids)) last
+      ∙ third_left (is_fit tree password (sent_of r)) (is_small size (sent_of r)) (is_none (sent_of r).node.next_on_line) fit small
+
+  pub fit_next : (r s : Run) → IsAfter r s → is_fit tree password (sent_of r) ≡ true → is_small size (sent_of r) ≡ true →
+      are_fit_from tree password size (sent_of r) (sents_after r) ≡ (is_followed_by (sent_of r) (sent_of s) && are_fit_from tree password (size + length (run_value (sent_of r))) (sent_of s) (sents_after s))
+  fit_next r s after fit small =
+      ap (are_fit_from tree password size (sent_of r)) (sents_next r s after)
+      ∙ third_left (is_fit tree password (sent_of r)) (is_small size (sent_of r)) (is_followed_by (sent_of r) (sent_of s) && are_fit_from tree password (size + length (run_value (sent_of r))) (sent_of s) (sents_after s)) fit small
+
+-- ---- the same of all runs at once
+
+abbrev bytes : SentRun → ℕ
+bytes r = length (run_value r)
+
+abbrev are_linked : List SentRun → Bool
+are_linked runs = list_all (λ (p : SentRun × SentRun). links_agree p.0 p.1) (neighbours runs)
+
+abbrev last_ends : List SentRun → Bool
+last_ends runs = option_map_or (λ (r : SentRun). is_none r.node.next_on_line) (slice_get runs (length runs - 1)) true
+
+-- what is asked of runs with so many bytes before them
+record AllFit (tree : ℕ) (password : Bool) (size : ℕ) (runs : List SentRun) : Type 0 where
+  trees : lie_in_tree tree runs ≡ true
+  cut : are_cut runs ≡ true
+  words : have_rising_words runs ≡ true
+  metrics : are_measured password runs ≡ true
+  filled : are_empty_last runs ≡ true
+  links : are_linked runs ≡ true
+  last : last_ends runs ≡ true
+  small : size + sum_by bytes runs < 2 ^ 64
+
+last_of_more : (a b : SentRun) (runs : List SentRun) → last_ends (a ∷ b ∷ runs) ≡ last_ends (b ∷ runs)
+last_of_more a b runs =
+    let at : length (a ∷ b ∷ runs) - 1 ≡ suc (length (b ∷ runs) - 1) = omega arith in
+    ap (λ k. option_map_or (λ (r : SentRun). is_none r.node.next_on_line) (slice_get (a ∷ b ∷ runs) k) true) at
+
+module _ (tree : ℕ) (password : Bool) where
+  one_fit : (size : ℕ) (a : SentRun) (rest : List SentRun) → AllFit tree password size (a ∷ rest) → (is_fit tree password a ≡ true) × (is_small size a ≡ true)
+  one_fit size a rest all = (
+    all_four (a.id.tree == tree) (is_cut_by (run_value a) a.node.character_lengths) (has_rising_words a) (is_measured password a)
+        (both (a.id.tree == tree) _ all.trees).0 (both (is_cut_by (run_value a) a.node.character_lengths) _ all.cut).0 (both (has_rising_words a) _ all.words).0 (both (is_measured password a) _ all.metrics).0,
+    lt-ltb (size + bytes a) (2 ^ 64) (let s = all.small in omega (arith, s, sum_by-cons bytes a rest)),
+  )
+
+  fit_from : (size : ℕ) (a : SentRun) (rest : List SentRun) → AllFit tree password size (a ∷ rest) → are_fit_from tree password size a rest ≡ true
+  fit_from size a [] all =
+      let one = one_fit size a [] all in
+      together (is_fit tree password a) (is_small size a && is_none a.node.next_on_line) one.0 (together (is_small size a) (is_none a.node.next_on_line) one.1 all.last)
+  fit_from size a (b ∷ rest) all =
+      let one = one_fit size a (b ∷ rest) all in
+      let more : AllFit tree password (size + bytes a) (b ∷ rest) = record {
+        trees = (both (a.id.tree == tree) _ all.trees).1;
+        cut = (both (is_cut_by (run_value a) a.node.character_lengths) _ all.cut).1;
+        words = (both (has_rising_words a) _ all.words).1;
+        metrics = (both (is_measured password a) _ all.metrics).1;
+        filled = (both (nat_lt 0 (said_count a)) _ all.filled).1;
+        links = (both (links_agree a b) _ all.links).1;
+        last = sym (last_of_more a b rest) ∙ all.last;
+        small = let s = all.small in omega (arith, s, sum_by-cons bytes a (b ∷ rest));
+      } in
+      let beside : is_followed_by a b ≡ true = together (nat_lt 0 (said_count a)) (links_agree a b) (both (nat_lt 0 (said_count a)) _ all.filled).0 (both (links_agree a b) _ all.links).0 in
+      all_four (is_fit tree password a) (is_small size a) (is_followed_by a b) (are_fit_from tree password (size + bytes a) b rest) one.0 one.1 beside (fit_from (size + bytes a) b rest more)
+
+  all_from : (size : ℕ) (a : SentRun) (rest : List SentRun) → are_fit_from tree password size a rest ≡ true → AllFit tree password size (a ∷ rest)
+  all_from size a [] e =
+      let fit = both (is_fit tree password a) _ e in
+      let small = both (is_small size a) _ fit.1 in
+      let t = both (a.id.tree == tree) _ fit.0 in
+      let c = both (is_cut_by (run_value a) a.node.character_lengths) _ t.1 in
+      let w = both (has_rising_words a) _ c.1 in
+      record {
+        trees = together _ _ t.0 refl;
+        cut = together _ _ c.0 refl;
+        words = together _ _ w.0 refl;
+        metrics = together _ _ w.1 refl;
+        filled = refl;
+        links = refl;
+        last = small.1;
+        small = let s = ltb-true _ _ small.0 in omega (arith, s, sum_by-cons bytes a []);
+      }
+  all_from size a (b ∷ rest) e =
+      let fit = both (is_fit tree password a) _ e in
+      let small = both (is_small size a) _ fit.1 in
+      let next = both (is_followed_by a b) _ small.1 in
+      let beside = both (nat_lt 0 (said_count a)) _ next.0 in
+      let t = both (a.id.tree == tree) _ fit.0 in
+      let c = both (is_cut_by (run_value a) a.node.character_lengths) _ t.1 in
+      let w = both (has_rising_words a) _ c.1 in
+      let more = all_from (size + bytes a) b rest next.1 in
+      record {
+        trees = together _ _ t.0 more.trees;
+        cut = together _ _ c.0 more.cut;
+        words = together _ _ w.0 more.words;
+        metrics = together _ _ w.1 more.metrics;
+        filled = together _ _ beside.0 more.filled;
+        links = together _ _ beside.1 more.links;
+        last = last_of_more a b rest ∙ more.last;
+        small = let s = more.small in omega (arith, s, sum_by-cons bytes a (b ∷ rest));
+      }
+
+-- of some runs: the role, the first run's link back, and the rest run by run
+pub text_of_runs : (w : World) (root : FullNodeId) (a : SentRun) (rest : List SentRun) →
+    make_text w root (a ∷ rest) ≡ (says (λ d. holds_text d.role) w root && (is_none a.node.previous_on_line && are_fit_from root.tree (is_password w root) 0 a rest))
+text_of_runs w root a rest = same_tests _ _ there back
+  where
+    there : make_text w root (a ∷ rest) ≡ true → (says (λ d. holds_text d.role) w root && (is_none a.node.previous_on_line && are_fit_from root.tree (is_password w root) 0 a rest)) ≡ true
+    there e =
+        let runs : List SentRun = a ∷ rest in
+        let r = both (says (λ d. holds_text d.role) w root && nat_lt 0 (length runs)) _ e in
+        let t = both (lie_in_tree root.tree runs) _ r.1 in
+        let c = both (are_cut runs) _ t.1 in
+        let d = both (have_rising_words runs) _ c.1 in
+        let f = both (are_empty_last runs) _ d.1 in
+        let l = both (are_linked runs && (is_none a.node.previous_on_line && last_ends runs)) _ f.1 in
+        let ends = both (are_linked runs) _ l.0 in
+        let outer = both (is_none a.node.previous_on_line) _ ends.1 in
+        let s = both (have_size runs) _ l.1 in
+        together _ _ (both _ _ r.0).0 (together _ _ outer.0 (fit_from root.tree (is_password w root) 0 a rest (record {
+          trees = t.0;
+          cut = c.0;
+          words = d.0;
+          metrics = s.1;
+          filled = f.0;
+          links = ends.0;
+          last = outer.1;
+          small = let lt = ltb-true _ _ s.0 in omega (arith, lt);
+        })))
+
+    back : (says (λ d. holds_text d.role) w root && (is_none a.node.previous_on_line && are_fit_from root.tree (is_password w root) 0 a rest)) ≡ true → make_text w root (a ∷ rest) ≡ true
+    back e =
+        let role = both (says (λ d. holds_text d.role) w root) _ e in
+        let first = both (is_none a.node.previous_on_line) _ role.1 in
+        let all = all_from root.tree (is_password w root) 0 a rest first.1 in
+        together _ _ (together _ _ role.0 (lt-ltb 0 (length (a ∷ rest)) (omega arith)))
+        (together _ _ all.trees (together _ _ all.cut (together _ _ all.words (together _ _ all.filled (together _ _ (together _ _ all.links (together _ _ first.0 all.last))
+        (together _ _ (lt-ltb _ _ (let s = all.small in omega (arith, s))) all.metrics))))))
+
+-- of none, and where the role holds no text
+both_fail : (a b : Bool) → ((a && false) && b) ≡ false
+both_fail true b = refl
+both_fail false b = refl
+
+pub no_runs_no_text : (w : World) (root : FullNodeId) → run_ids w root ≡ [] → supports_text_ranges w root ≡ false
+unfolding supports_text_ranges
+no_runs_no_text w root none = ap (λ ids. make_text w root (map (sent_run w) ids)) none ∙ both_fail (says (λ d. holds_text d.role) w root) _
+
+pub unheld_no_text : (n : NodeRef) → holds_text (data_at n).role ≡ false → supports_text_ranges (world_at n) (id_at n) ≡ false
+unfolding supports_text_ranges
+unheld_no_text n e =
+    let w = world_at n in
+    let runs = sent_runs w (id_at n) in
+    let says_not : says (λ d. holds_text d.role) w (id_at n) ≡ false = ap (λ o. option_map_or (λ (d : NodeData). holds_text d.role) o false) n.known ∙ e in
+    ap (λ b. (b && nat_lt 0 (length runs)) && (lie_in_tree (id_at n).tree runs && (are_cut runs && (have_rising_words runs && (are_empty_last runs && (are_linked_in_order runs && (have_size runs && are_measured (is_password w (id_at n)) runs))))))) says_not
+
+-- the first run, and those after it, are all
+pub first_sents : (r : Run) → ids_before r ≡ [] → sent_runs (run_world r) (root_id r) ≡ sent_of r ∷ sents_after r
+first_sents r first =
+    let all : run_ids (run_world r) (root_id r) ≡ run_id r ∷ ids_after r = sym r.known.among ∙ ap (λ ids. ids ++ run_id r ∷ ids_after r) first in
+    ap (map (sent_run (run_world r))) all ∙ ap (λ x. x ∷ sents_after r) (sent_known r)
+
+abbrev fits_from_first : NodeRef → Run → Bool
+fits_from_first n r =
+    holds_text (data_at n).role && (is_none (sent_of r).node.previous_on_line && are_fit_from (id_at n).tree (is_password_input (data_at n).role) 0 (sent_of r) (sents_after r))
+
+text_from_root : (r : Run) → ids_before r ≡ [] → supports_text_ranges (run_world r) (root_id r) ≡ fits_from_first r.root r
+unfolding supports_text_ranges
+text_from_root r first =
+    ap (make_text (run_world r) (root_id r)) (first_sents r first) ∙ text_of_runs (run_world r) (root_id r) (sent_of r) (sents_after r)
+    ∙ ap (λ o. option_map_or (λ (d : NodeData). holds_text d.role) o false
+    && (is_none (sent_of r).node.previous_on_line && are_fit_from (root_id r).tree (option_map_or (λ (d : NodeData). is_password_input d.role) o false) 0 (sent_of r) (sents_after r))) r.root.known
+
+pub text_from_first : (n : NodeRef) (r : Run) → IsFirstOf n r → supports_text_ranges (world_at n) (id_at n) ≡ fits_from_first n r
+text_from_first n r first = subst (λ m. supports_text_ranges (world_at m) (id_at m) ≡ fits_from_first m r) first.root (text_from_root r first.order)
+
+none_is_not_some : {A : Type 0} (o : Option A) (b : Bool) → is_some o ≡ b → is_none o ≡ not b
+none_is_not_some None b e = ap not e
+none_is_not_some (Some x) b e = ap not e
+
+pub linked_back_no_text : (n : NodeRef) (r : Run) (link : Option NodeId) → IsFirstOf n r → link ≡ (sent_of r).node.previous_on_line → is_some link ≡ true → supports_text_ranges (world_at n) (id_at n) ≡ false
+linked_back_no_text n r link first is linked =
+    text_from_first n r first
+    ∙ second_fails (holds_text (data_at n).role) (is_none (sent_of r).node.previous_on_line) (are_fit_from (id_at n).tree (is_password_input (data_at n).role) 0 (sent_of r) (sents_after r)) (ap is_none (sym is) ∙ none_is_not_some link true linked)
+
+pub text_if_fit : (n : NodeRef) (r : Run) (link : Option NodeId) → IsFirstOf n r → link ≡ (sent_of r).node.previous_on_line → is_some link ≡ false → holds_text (data_at n).role ≡ true →
+    are_fit_from (id_at n).tree (is_password_input (data_at n).role) 0 (sent_of r) (sents_after r) ≡ supports_text_ranges (world_at n) (id_at n)
+text_if_fit n r link first is linked held =
+    sym (text_from_first n r first
+    ∙ third_left (holds_text (data_at n).role) (is_none (sent_of r).node.previous_on_line) (are_fit_from (id_at n).tree (is_password_input (data_at n).role) 0 (sent_of r) (sents_after r)) held (ap is_none (sym is) ∙ none_is_not_some link false linked))
+
+pub rising_same : (r : SentRun) (starts : List ℕ) (count : ℕ) → starts ≡ r.node.word_starts → count ≡ said_count r →
+    (list_all (λ (p : ℕ × ℕ). nat_lt p.0 p.1) (neighbours starts) && list_all (λ k. nat_lt k count) starts) ≡ has_rising_words r
+rising_same r starts count e f =
+    ap (λ ks. list_all (λ (p : ℕ × ℕ). nat_lt p.0 p.1) (neighbours ks) && list_all (λ k. nat_lt k count) ks) e
+    ∙ ap (λ n. list_all (λ (p : ℕ × ℕ). nat_lt p.0 p.1) (neighbours r.node.word_starts) && list_all (λ k. nat_lt k n) r.node.word_starts) f
+
+pub not_small : (size : ℕ) (r : SentRun) → (size + length (run_value r) < 2 ^ 64 → ⊥) → is_small size r ≡ false
+not_small size r big = go (is_small size r) refl
+  where
+    go : (b : Bool) → is_small size r ≡ b → is_small size r ≡ false
+    go true e = absurd (big (ltb-true _ _ e))
+    go false e = e

@@ -1,0 +1,31 @@
+use Rattle.std.proofs.Common.{[], ◌∷◌, sym, ap}
+use Rattle.std.specs.Prelude.{unwrap_or}
+use Rattle.model.specs.Labels.{label_part}
+use Rattle.views.specs.Nodes.{world_at, id_at}
+use Rattle.views.specs.LabelTexts.{spaced}
+use Rattle.views.proofs.Writing.{starts, goes_on, stops, err_with, cut_is, all_taken, none_taken, written_as, cut_short_as, last_written, last_cut_short}
+use Rattle.views.proofs.node.node_ref.NodeRef.write_part.Goals as goal
+
+pub returns-in_err-write_char-clause-err : goal.returns-in_err-write_char-clause-err
+unfolding lib.Utf8.encode
+returns-in_err-write_char-clause-err g c =
+    let n = c.args.self.now in
+    let part = unwrap_or (label_part (world_at n) (id_at n)) [] in
+    err_with c.from_residual.result
+    (cut_is (sym (ap (λ b. spaced b part) c.if-not-is_later.false)) (stops (32 ∷ []) part (starts (32 ∷ part) c.args.writer.now) (none_taken c.in_err-write_char.ensures.err)))
+
+pub returns-clause-ok : goal.returns-clause-ok
+unfolding lib.Utf8.encode
+returns-clause-ok g c =
+    let n = c.args.self.now in
+    let part = unwrap_or (label_part (world_at n) (id_at n)) [] in
+    written_as g.W.TextWrite.received g.W.TextWrite.faults c.args.writer.now c.write_bare_part-2.new.writer c.write_bare_part-2.result (sym (ap (λ b. spaced b part) c.if-not-is_later.false))
+    (last_written (goes_on {rest = part} {part = 32 ∷ []} (starts (32 ∷ part) c.args.writer.now) (all_taken c.in_ok-write_char.ensures.ok)) c.write_bare_part-2.result c.write_bare_part-2.new.writer c.write_bare_part-2.ensures.ok)
+
+pub returns-clause-err : goal.returns-clause-err
+unfolding lib.Utf8.encode
+returns-clause-err g c =
+    let n = c.args.self.now in
+    let part = unwrap_or (label_part (world_at n) (id_at n)) [] in
+    cut_short_as g.W.TextWrite.received g.W.TextWrite.faults c.args.writer.now c.write_bare_part-2.new.writer c.write_bare_part-2.result (sym (ap (λ b. spaced b part) c.if-not-is_later.false))
+    (last_cut_short (goes_on {rest = part} {part = 32 ∷ []} (starts (32 ∷ part) c.args.writer.now) (all_taken c.in_ok-write_char.ensures.ok)) c.write_bare_part-2.result c.write_bare_part-2.new.writer c.write_bare_part-2.ensures.err)

@@ -1,0 +1,134 @@
+//! The text of a root's runs, as a value shows it. Nothing takes memory.
+ghost use Rattle.std.specs.Prelude.{◌≡◌, ◌+◌, ◌<◌, ◌^◌, true, OnOk, OnErr, slice_get, option_copied, bytes_eq};
+ghost use Rattle.std.specs.Option.{option_or};
+ghost use Rattle.std.specs.List.{flat_map, list_all};
+ghost use Rattle.model.specs.TextRuns.{sent_runs, sent_characters, cut_by, supports_text_ranges};
+ghost use Rattle.model.specs.FlatText.{are_alike, needs_masking};
+ghost use Rattle.model.specs.Values.{document_text};
+ghost use Rattle.views.specs.Nodes.{world_at, id_at};
+ghost use Rattle.views.specs.Runs.{sent_of};
+ghost use Rattle.views.specs.RunTexts.{shown_of, shown_text, are_all};
+ghost use Rattle.views.specs.Writes.{IsWritten, IsCutShort};
+
+use crate::node::NodeRef;
+use crate::node::masking::write_bullets;
+use crate::runs::Run;
+use schema::{TextFault, TextWrite};
+
+/// Writes what is shown of a run.
+fn write_run<W: TextWrite>(run: Run<'_>, masked: bool, writer: &mut W) -> Result<(), TextFault>
+    requires { W.faults writer.old + 1 < 2 ^ 128 }
+    ensures ok { OnOk result (IsWritten W.received W.faults (shown_of masked (sent_of run.entry)) writer.old writer.new) }
+    ensures err { OnErr result (IsCutShort W.received W.faults (shown_of masked (sent_of run.entry)) writer.old writer.new) }
+{
+    if masked {
+        return write_bullets(run.character_count(), writer);
+    }
+    writer.write_str(run.value())
+}
+
+/// Writes what is shown of all runs.
+fn write_runs<W: TextWrite>(
+    root: NodeRef<'_>,
+    masked: bool,
+    writer: &mut W,
+) -> Result<(), TextFault>
+    requires { W.faults writer.old + 1 < 2 ^ 128 }
+    ensures ok { let text = shown_text masked (world_at root.entry) (id_at root.entry) in
+        OnOk result (IsWritten W.received W.faults text writer.old writer.new) }
+    ensures err { let text = shown_text masked (world_at root.entry) (id_at root.entry) in
+        OnErr result (IsCutShort W.received W.faults text writer.old writer.new) }
+{
+    let mut rest = Run::first(root);
+    while let Some(run) = rest {
+        write_run(run, masked, writer)?;
+        rest = run.next();
+    }
+    Ok(())
+}
+
+/// Whether all characters that the lengths cut off the text are this one.
+fn has_only(text: &[u8], lengths: &[u16], character: &[u8]) -> bool
+    ensures { result ≡ list_all (bytes_eq character.now) (cut_by text.now lengths.now) }
+{
+    let mut rest = text;
+    for length in lengths {
+        let (piece, after) = rest.split_at(rest.len().min(usize::from(*length)));
+        if character != piece {
+            return false;
+        }
+        rest = after;
+    }
+    true
+}
+
+/// The first character of a run, where it has one.
+fn first_character<'a>(run: Run<'a>) -> Option<&'a [u8]>
+    ensures { option_copied result ≡ slice_get (sent_characters (sent_of run.entry)) 0 }
+{
+    let text = run.value().as_bytes();
+    let length = run.node().character_lengths().first()?;
+    Some(text.split_at(text.len().min(usize::from(*length))).0)
+}
+
+/// The character that the ones of a run are compared with: the one that was seen, or else the run's first.
+fn seen_first<'a>(seen: Option<&'a [u8]>, run: Run<'a>) -> Option<&'a [u8]>
+    ensures { option_copied result ≡ option_or (option_copied seen.entry) (slice_get (sent_characters (sent_of run.entry)) 0) }
+{
+    match seen {
+        Some(character) => Some(character),
+        None => first_character(run),
+    }
+}
+
+/// Whether all characters of a run are the one that was seen, where one was.
+fn is_like(run: Run<'_>, seen: Option<&[u8]>) -> bool
+    ensures { result ≡ are_all (option_copied seen.entry) (sent_characters (sent_of run.entry)) }
+{
+    match seen {
+        Some(character) => has_only(
+            run.value().as_bytes(),
+            run.node().character_lengths(),
+            character,
+        ),
+        None => true,
+    }
+}
+
+/// Whether no two characters of the runs differ.
+fn has_one_character(root: NodeRef<'_>) -> bool
+    ensures { result ≡ are_alike bytes_eq (flat_map sent_characters (sent_runs (world_at root.entry) (id_at root.entry))) }
+{
+    let mut seen = None;
+    let mut rest = Run::first(root);
+    while let Some(run) = rest {
+        seen = seen_first(seen, run);
+        if !is_like(run, seen) {
+            return false;
+        }
+        rest = run.next();
+    }
+    true
+}
+
+/// Whether the runs are those of a password of which two characters differ.
+pub fn needs_masking(root: NodeRef<'_>) -> bool
+    ensures { result ≡ needs_masking (world_at root.entry) (id_at root.entry) }
+{
+    root.is_password_input() && !has_one_character(root)
+}
+
+/// Writes what is shown of all runs of a text, which are masked where they need it.
+pub(crate) fn write_document<W: TextWrite>(
+    root: NodeRef<'_>,
+    writer: &mut W,
+) -> Result<(), TextFault>
+    requires room { W.faults writer.old + 1 < 2 ^ 128 }
+    requires text { supports_text_ranges (world_at root) (id_at root) ≡ true }
+    ensures ok { let text = document_text (world_at root.entry) (id_at root.entry) in
+        OnOk result (IsWritten W.received W.faults text writer.old writer.new) }
+    ensures err { let text = document_text (world_at root.entry) (id_at root.entry) in
+        OnErr result (IsCutShort W.received W.faults text writer.old writer.new) }
+{
+    write_runs(root, needs_masking(root), writer)
+}

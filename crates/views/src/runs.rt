@@ -1,0 +1,184 @@
+//! The runs of a text: a walk over them in order, and steps from a run to the ones beside it. They take no memory.
+mod parts;
+mod well_formed;
+
+ghost use Rattle.std.specs.Prelude.{◌≡◌};
+ghost use Rattle.model.specs.TextRuns.{run_filter};
+ghost use Rattle.views.specs.Nodes.{world_at, id_at};
+ghost use Rattle.views.specs.RunPlaces.{IsRunPlace, IsRunPlace-prop};
+
+use crate::node::NodeRef;
+use crate::node::same::is_same;
+use crate::walks::ends::{following, preceding};
+use crate::walks::filter::Filter;
+use crate::walks::searches::{next_shown, previous_shown};
+use crate::walks::spot::{Member, Spot};
+use model::FullNodeId;
+use model::filters::FilterResult;
+use schema::{Node, Role, WideTranslation};
+
+/// The filter that shows the runs of a root: runs aren't looked into, and all else is.
+#[derive(Clone, Copy)]
+struct RunFilter {
+    root: FullNodeId,
+}
+
+impl Filter for RunFilter {
+    ghost can_answer = { λ s. Unit {0} };
+
+    ghost answers = { λ s n r. r ≡ run_filter (world_at n) s.root (id_at n) };
+
+    fn answer(&self, node: &NodeRef<'_>) -> FilterResult {
+        if is_same(node.id, self.root) {
+            return FilterResult::Include;
+        }
+        if node.role() == Role::TextRun {
+            return FilterResult::Include;
+        }
+        FilterResult::ExcludeNode
+    }
+}
+
+/// A run of a root, at its place.
+#[derive(Clone, Copy)]
+pub struct Run<'a> {
+    pub root: NodeRef<'a>,
+    pub spot: Spot<'a>,
+    ghost known: { IsRunPlace (world_at root) (id_at root) spot } by { IsRunPlace-prop (world_at root) (id_at root) spot },
+}
+
+impl<'a> Run<'a> {
+    ghost use Rattle.std.specs.Prelude.{[], MatchOption};
+    ghost use Rattle.model.specs.TextRuns.{run_ids, run_value, said_count, ends_with_newline};
+    ghost use Rattle.model.specs.Geometry.{transform, transform_within};
+    ghost use Rattle.views.specs.Reach.{IsInReach};
+    ghost use Rattle.views.specs.Runs.{text_root_of, root_id, run_world, run_id, run_of, sent_of, IsFirstOf, IsLastOf, IsAfter, IsPreviousRun, ids_after, ids_before};
+
+    /// The first run of a root, where there is one.
+    pub fn first(root: NodeRef<'a>) -> Option<Run<'a>>
+        ensures { let ids = run_ids (world_at root.entry) (id_at root.entry) in
+            MatchOption result (ids ≡ []) (IsFirstOf root.entry) }
+    {
+        let state = root.state;
+        state.know();
+        let top = Member {
+            id: root.id,
+            node: root.node,
+        };
+        match next_shown(state, root.id, top, 0, &RunFilter { root: root.id }) {
+            Some(spot) => Some(Run { root, spot }),
+            None => None,
+        }
+    }
+
+    /// The last run of a root, where there is one.
+    pub fn last(root: NodeRef<'a>) -> Option<Run<'a>>
+        ensures { let ids = run_ids (world_at root.entry) (id_at root.entry) in
+            MatchOption result (ids ≡ []) (IsLastOf root.entry) }
+    {
+        let state = root.state;
+        state.know();
+        let top = Member {
+            id: root.id,
+            node: root.node,
+        };
+        let count = state.child_count(top);
+        match previous_shown(state, root.id, top, count, &RunFilter { root: root.id }) {
+            Some(spot) => Some(Run { root, spot }),
+            None => None,
+        }
+    }
+
+    /// The run after this one, where there is one.
+    pub fn next(self) -> Option<Run<'a>>
+        ensures { MatchOption result (ids_after self.entry ≡ []) (IsAfter self.entry) }
+    {
+        let root = self.root;
+        root.state.know();
+        match following(root.state, root.id, self.spot, &RunFilter { root: root.id }) {
+            Some(spot) => Some(Run { root, spot }),
+            None => None,
+        }
+    }
+
+    /// The run before this one, where there is one.
+    pub fn previous(self) -> Option<Run<'a>>
+        ensures { MatchOption result (ids_before self.entry ≡ []) (IsPreviousRun self.entry) }
+    {
+        let root = self.root;
+        root.state.know();
+        match preceding(root.state, root.id, self.spot, &RunFilter { root: root.id }) {
+            Some(spot) => Some(Run { root, spot }),
+            None => None,
+        }
+    }
+
+    /// The node whose run it is.
+    pub fn root(self) -> NodeRef<'a>
+        ensures { result ≡ text_root_of self.entry }
+    {
+        self.root
+    }
+
+    /// The id of the run's node.
+    pub fn id(self) -> FullNodeId
+        ensures { result ≡ run_id self.entry }
+    {
+        self.spot.member.id
+    }
+
+    /// What was sent of the run.
+    pub fn node(self) -> &'a Node
+        ensures { result.now ≡ (sent_of self.entry).node }
+    {
+        self.spot.member.node
+    }
+
+    /// The text of the run: an absent one reads as empty.
+    pub fn value(self) -> &'a str
+        ensures { result.now ≡ run_value (sent_of self.entry) }
+    {
+        self.node().value().unwrap_or("")
+    }
+
+    /// How many characters the run says that it has.
+    pub fn character_count(self) -> usize
+        ensures { result ≡ said_count (sent_of self.entry) }
+    {
+        self.node().character_lengths().len()
+    }
+
+    /// Whether the run's text ends with a newline.
+    pub fn ends_with_newline(self) -> bool
+        ensures { result ≡ ends_with_newline (sent_of self.entry) }
+    {
+        self.value().as_bytes().ends_with(b"\n")
+    }
+
+    /// The run as a node.
+    pub fn view(self) -> NodeRef<'a>
+        ensures world { world_at result ≡ world_at (text_root_of self.entry) }
+        ensures is { run_of result ≡ sent_of self.entry }
+    {
+        self.root.state.view(self.spot.member)
+    }
+
+    /// By how much the run and all above it move it. It leaves room for a rectangle.
+    pub fn whole_move(self) -> WideTranslation
+        ensures exact { result ≡ transform (run_world self.entry) (run_id self.entry) }
+        ensures across { IsInReach result.x }
+        ensures along { IsInReach result.y }
+    {
+        self.view().whole_move()
+    }
+
+    /// By how much the run and the nodes between it and the root move it. It leaves room for a rectangle.
+    pub fn move_in_root(self) -> WideTranslation
+        ensures exact { result ≡
+            transform_within (run_world self.entry) (root_id self.entry) (run_id self.entry) }
+        ensures across { IsInReach result.x }
+        ensures along { IsInReach result.y }
+    {
+        self.view().move_to_top(Some(self.root.id))
+    }
+}

@@ -1,0 +1,62 @@
+//! What a run says of its characters.
+ghost use Rattle.std.specs.Prelude.{◌≡◌, ◌==◌, ◌&&◌, nat_lt, length};
+ghost use Rattle.std.specs.List.{list_all};
+ghost use Rattle.model.specs.TextRuns.{neighbours, is_cut_by as is_cut};
+
+/// Whether all lengths are 1. Each is looked at, so that many are at once.
+fn are_ones(lengths: &[u16]) -> bool
+    ensures { result ≡ list_all (λ n. n == 1) lengths.now }
+{
+    let mut are_ones = true;
+    for length in lengths {
+        are_ones &= *length == 1;
+    }
+    are_ones
+}
+
+/// Whether all bytes are those of ASCII. Each is looked at, so that many are at once.
+fn are_ascii(bytes: &[u8]) -> bool
+    ensures { result ≡ list_all (λ b. nat_lt b 128) bytes.now }
+{
+    let mut are_ascii = true;
+    for byte in bytes {
+        are_ascii &= *byte < 128;
+    }
+    are_ascii
+}
+
+/// Whether lengths of at least 1 cut a text into whole texts that make it up.
+pub(crate) fn is_cut_by(value: &str, lengths: &[u16]) -> bool
+    ensures { result ≡ is_cut value.now lengths.now }
+{
+    if value.len() == lengths.len() && are_ones(lengths) && are_ascii(value.as_bytes()) {
+        return true;
+    }
+    let mut rest = value;
+    for length in lengths {
+        if *length == 0 {
+            return false;
+        }
+        let Some((_, after)) = rest.split_at_checked(usize::from(*length)) else {
+            return false;
+        };
+        rest = after;
+    }
+    rest.is_empty()
+}
+
+/// Whether the numbers rise, and are below the count.
+pub(crate) fn rise_below(numbers: &[u16], count: usize) -> bool
+    ensures { result ≡ (list_all (λ p. nat_lt p.0 p.1) (neighbours numbers.now)
+        && list_all (λ k. nat_lt k count) numbers.now) }
+{
+    let mut least = 0usize;
+    for number in numbers {
+        let number = usize::from(*number);
+        if number < least || number >= count {
+            return false;
+        }
+        least = number + 1;
+    }
+    true
+}

@@ -1,0 +1,123 @@
+//! Whether a root has a text that can be walked by characters.
+ghost use Rattle.std.specs.Prelude.{◌≡◌};
+ghost use Rattle.model.specs.TextRuns.{is_enough as is_enough_for, is_measured as are_metrics_right, leads_to as leads_to_run, links_agree as agree, supports_text_ranges};
+ghost use Rattle.model.specs.RoleClasses.{holds_text};
+ghost use Rattle.views.specs.Nodes.{world_at, id_at, data_at};
+ghost use Rattle.views.specs.Runs.{sent_of, sents_after};
+ghost use Rattle.views.specs.WellFormed.{is_fit as is_fit_run, are_fit_from};
+
+use crate::node::NodeRef;
+use crate::runs::Run;
+use crate::runs::parts::{is_cut_by, rise_below};
+use schema::NodeId;
+
+/// Whether so many numbers are enough for the characters: one for each, or of a password one at least.
+fn is_enough(password: bool, count: usize, given: usize) -> bool
+    ensures { result ≡ is_enough_for password count given }
+{
+    let least = if password { count.min(1) } else { count };
+    given <= count && least <= given
+}
+
+/// Whether the positions and the widths of a run's characters, where given, are enough.
+fn is_measured(run: Run<'_>, password: bool) -> bool
+    ensures { result ≡ are_metrics_right password (sent_of run.entry) }
+{
+    let count = run.character_count();
+    if let Some(positions) = run.node().character_positions() {
+        if !is_enough(password, count, positions.len()) {
+            return false;
+        }
+    }
+    match run.node().character_widths() {
+        Some(widths) => is_enough(password, count, widths.len()),
+        None => true,
+    }
+}
+
+/// Whether the run is right by itself.
+fn is_fit(run: Run<'_>, tree: u32, password: bool) -> bool
+    ensures { result ≡ is_fit_run tree password (sent_of run.entry) }
+{
+    if run.id().tree != tree {
+        return false;
+    }
+    if !is_cut_by(run.value(), run.node().character_lengths()) {
+        return false;
+    }
+    if !rise_below(run.node().word_starts(), run.character_count()) {
+        return false;
+    }
+    is_measured(run, password)
+}
+
+/// Whether the link names the run.
+fn leads_to(link: Option<NodeId>, run: Run<'_>) -> bool
+    ensures { result ≡ leads_to_run link (sent_of run.entry) }
+{
+    match link {
+        Some(node) => node.0 == run.id().node.0,
+        None => false,
+    }
+}
+
+/// Whether two neighbours are linked both ways or not at all.
+fn links_agree(a: Run<'_>, b: Run<'_>) -> bool
+    ensures { result ≡ agree (sent_of a.entry) (sent_of b.entry) }
+{
+    let next = a.node().next_on_line();
+    let previous = b.node().previous_on_line();
+    (next.is_none() && previous.is_none()) || (leads_to(next, b) && leads_to(previous, a))
+}
+
+/// Whether a first run and those after it are right, each by itself and beside the next one.
+fn are_fit(first: Run<'_>, tree: u32, password: bool) -> bool
+    ensures { result ≡
+        are_fit_from tree password 0 (sent_of first.entry) (sents_after first.entry) }
+{
+    let mut run = first;
+    let mut size = 0usize;
+    loop {
+        if !is_fit(run, tree, password) {
+            return false;
+        }
+        let Some(sum) = size.checked_add(run.value().len()) else {
+            return false;
+        };
+        let Some(next) = run.next() else {
+            return run.node().next_on_line().is_none();
+        };
+        if run.character_count() == 0 || !links_agree(run, next) {
+            return false;
+        }
+        size = sum;
+        run = next;
+    }
+}
+
+/// Whether the runs of the node can make a text, by its role.
+fn holds_text(node: NodeRef<'_>) -> bool
+    ensures { result ≡ holds_text (data_at node.entry).role }
+{
+    node.is_text_input() || node.is_document() || node.label_comes_from_value()
+}
+
+impl NodeRef<'_> {
+    /// Whether the node has a text of runs that can be walked by characters: its role holds text, there is a run, all
+    /// runs lie in its own tree, each value is made up of the characters that its lengths cut, word starts rise and are
+    /// below the count, no run but the last is empty, neighbours are linked both ways or not at all and no other run is,
+    /// all values together have fewer bytes than a `usize` counts, and positions and widths, where given, are one for each
+    /// character (of a password one at least).
+    pub fn supports_text_ranges(&self) -> bool
+        ensures { result ≡ supports_text_ranges (world_at self.now) (id_at self.now) }
+    {
+        if !holds_text(*self) {
+            return false;
+        }
+        let Some(first) = Run::first(*self) else {
+            return false;
+        };
+        first.node().previous_on_line().is_none()
+            && are_fit(first, self.id.tree, self.is_password_input())
+    }
+}

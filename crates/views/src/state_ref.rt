@@ -1,0 +1,375 @@
+//! A view of a state.
+ghost use Rattle.views.specs.Sound.{IsSound, IsSound-prop, HasRoom, HasRoom-prop};
+
+use crate::node::NodeRef;
+use model::{FullNodeId, Place};
+use schema::{Node, NodeId, TreeId};
+use tree_changes::NodeRecord;
+use tree_store::{Overlay, Store};
+
+/// A state, as it is read: the one that is kept, with the changes of an update laid over it where there are any.
+#[derive(Clone, Copy)]
+pub struct StateRef<'a> {
+    base: &'a Store,
+    overlay: Option<Overlay<'a>>,
+    is_host_focused: bool,
+    ghost sound: { IsSound base.now.world overlay } by { IsSound-prop base.now.world overlay },
+    ghost room: { HasRoom base.now overlay } by { HasRoom-prop base.now overlay },
+}
+
+impl<'a> StateRef<'a> {
+    ghost use Rattle.std.specs.Prelude.{◌≡◌, ◌↔◌, ◌<◌, ◌^◌, IsTrue, true, false, Some, MatchOption, IfSome, IsSome, option_copied, option_map};
+    ghost use Rattle.std.specs.FinMap.{len};
+    ghost use Rattle.model.specs.World.{IsNode, data_of, index_of, name_of, root_of, root_named, local_id_of, toolkit_name, toolkit_version};
+    ghost use Rattle.model.specs.Forest.{place_of, IsFormed};
+    ghost use Rattle.model.specs.Focus.{IsEffectiveFocus, IsFocusId, IsFocus};
+    ghost use Rattle.model.specs.State.{IsState, with_host};
+    ghost use Rattle.tree_store.specs.Commits.{HasSlots};
+    ghost use Rattle.tree_store.specs.Overlays.{laid_over, IsLaidOver};
+    ghost use Rattle.views.specs.ShownWorlds.{world_of};
+    ghost use Rattle.views.specs.Nodes.{world_at, id_at, ShowsThe, IsView};
+
+    /// The state as it is kept.
+    pub fn new(base: &'a Store) -> StateRef<'a>
+        ensures { world_of result ≡ base.now.world }
+    {
+        StateRef::with_host_focused(base, base.is_host_focused())
+    }
+
+    /// The state as it is kept, but for the host's focus.
+    pub fn with_host_focused(base: &'a Store, is_host_focused: bool) -> StateRef<'a>
+        ensures { world_of result ≡ with_host base.now.world is_host_focused }
+    {
+        StateRef {
+            base,
+            overlay: None,
+            is_host_focused,
+        }
+    }
+
+    /// The state with the changes over it.
+    pub fn over(base: &'a Store, overlay: Overlay<'a>) -> StateRef<'a>
+        requires laid { IsLaidOver base.now.world overlay }
+        requires slots { HasSlots base.now overlay.decision.now }
+        ensures { world_of result ≡ laid_over base.now.world overlay.entry }
+    {
+        StateRef {
+            base,
+            overlay: Some(overlay),
+            is_host_focused: base.is_host_focused(),
+        }
+    }
+
+    /// What is known of the world that is shown: it is a state. Nothing is computed.
+    pub fn know(self)
+        ensures state { IsState (world_of self.entry) }
+        ensures formed { IsFormed (world_of self.entry) }
+    {
+        let Some(overlay) = self.overlay else {
+            self.base.know();
+            return;
+        };
+        overlay.know(self.base);
+    }
+
+    /// The nodes are fewer than a `usize` counts. Nothing is computed.
+    pub(crate) fn know_count(self)
+        ensures { len (world_of self.entry).nodes < 2 ^ 64 }
+    {
+        match self.overlay {
+            Some(overlay) => overlay.know_count(self.base),
+            None => self.base.know_count(),
+        }
+    }
+
+    /// The data of a node.
+    pub(crate) fn data(self, id: FullNodeId) -> Option<&'a Node>
+        ensures { option_copied result ≡ data_of (world_of self.entry) id }
+    {
+        match self.overlay {
+            Some(overlay) => overlay.data(self.base, id),
+            None => self.base.get(id),
+        }
+    }
+
+    /// Where a node that is there stands: its parent, and its index among the parent's children.
+    pub(crate) fn place(self, id: FullNodeId) -> Option<Place>
+        requires { IsNode (world_of self) id }
+        ensures { result ≡ place_of (world_of self.entry) id }
+    {
+        match self.overlay {
+            Some(overlay) => overlay.place(self.base, id),
+            None => self.base.place(id),
+        }
+    }
+
+    /// A node's place and data.
+    pub(crate) fn node_record(self, id: FullNodeId) -> Option<NodeRecord<'a>>
+        ensures data { option_map (λ r. r.node.now) result ≡ data_of (world_of self.entry) id }
+        ensures place { IfSome result (λ r. r.place ≡ place_of (world_of self.entry) id) }
+    {
+        match self.overlay {
+            Some(overlay) => {
+                let node = overlay.data(self.base, id)?;
+                Some(NodeRecord {
+                    place: overlay.place(self.base, id),
+                    node,
+                })
+            }
+            None => self.base.record(id),
+        }
+    }
+
+    /// The effective focus.
+    pub(crate) fn known_focus(self) -> FullNodeId
+        ensures { IsEffectiveFocus (world_of self.entry) result }
+    {
+        match self.overlay {
+            Some(overlay) => overlay.focus(self.base),
+            None => self.base.focus(),
+        }
+    }
+
+    /// The root tree's root.
+    pub(crate) fn known_root(self) -> FullNodeId
+        ensures { root_of (world_of self.entry) 0 ≡ Some result }
+    {
+        match self.overlay {
+            Some(overlay) => overlay.root(self.base),
+            None => self.base.root(),
+        }
+    }
+
+    /// The index of the tree of this name, where it was ever known.
+    pub(crate) fn tree_index(self, name: TreeId) -> Option<u32>
+        ensures { result ≡ index_of (world_of self.entry) name }
+    {
+        match self.overlay {
+            Some(overlay) => overlay.tree_index(self.base, name),
+            None => self.base.tree_index(name),
+        }
+    }
+
+    /// The name of the tree with this index.
+    pub(crate) fn tree_id(self, index: u32) -> Option<TreeId>
+        ensures { result ≡ name_of (world_of self.entry) index }
+    {
+        match self.overlay {
+            Some(overlay) => overlay.tree_id(self.base, index),
+            None => self.base.tree_id(index),
+        }
+    }
+
+    /// Whether the host is focused.
+    pub fn is_host_focused(&self) -> bool
+        ensures { result ≡ (world_of self.now).host_focused }
+    {
+        self.is_host_focused
+    }
+
+    /// The toolkit's name as it was sent.
+    pub(crate) fn given_toolkit_name(self) -> Option<&'a str>
+        ensures { option_copied result ≡ (world_of self.entry).toolkit.0 }
+    {
+        match self.overlay {
+            Some(overlay) => overlay.toolkit_name(self.base),
+            None => self.base.toolkit_name(),
+        }
+    }
+
+    /// The toolkit's version as it was sent.
+    pub(crate) fn given_toolkit_version(self) -> Option<&'a str>
+        ensures { option_copied result ≡ (world_of self.entry).toolkit.1 }
+    {
+        match self.overlay {
+            Some(overlay) => overlay.toolkit_version(self.base),
+            None => self.base.toolkit_version(),
+        }
+    }
+
+    /// The view of a node that is there.
+    pub fn node(self, id: FullNodeId) -> NodeRef<'a>
+        requires { IsNode (world_of self) id }
+        ensures { IsView (world_of self.entry) id result }
+    {
+        let found = self.node_record(id).unwrap();
+        NodeRef {
+            state: self,
+            id,
+            node: found.node,
+            place: found.place,
+        }
+    }
+
+    /// The view of the node that is named, where one is.
+    pub fn optional_node(self, id: Option<FullNodeId>) -> Option<NodeRef<'a>>
+        requires { IfSome id (IsNode (world_of self)) }
+        ensures world { IfSome result (λ node. world_at node ≡ world_of self.entry) }
+        ensures node { option_map id_at result ≡ id }
+    {
+        let id = id?;
+        Some(self.node(id))
+    }
+
+    /// The root tree's root, which is there.
+    pub(crate) fn checked_root(self) -> FullNodeId
+        ensures root { root_of (world_of self.entry) 0 ≡ Some result }
+        ensures there { IsNode (world_of self.entry) result }
+    {
+        self.know();
+        self.known_root()
+    }
+
+    /// The effective focus, which is there.
+    pub(crate) fn checked_focus(self) -> FullNodeId
+        ensures focus { IsEffectiveFocus (world_of self.entry) result }
+        ensures there { IsNode (world_of self.entry) result }
+    {
+        self.know();
+        self.known_focus()
+    }
+
+    /// The name of the tree of a node that is there.
+    pub(crate) fn tree_of(self, id: FullNodeId) -> TreeId
+        requires { IsNode (world_of self) id }
+        ensures { name_of (world_of self.entry) id.tree ≡ Some result }
+    {
+        self.know();
+        self.tree_id(id.tree).unwrap()
+    }
+
+    /// Whether the node is in the state.
+    pub fn has_node(&self, id: FullNodeId) -> bool
+        ensures { IsTrue result ↔ IsNode (world_of self.now) id }
+    {
+        self.data(id).is_some()
+    }
+
+    /// The node with this id, if it is in the state.
+    pub fn node_by_id(&self, id: FullNodeId) -> Option<NodeRef<'a>>
+        ensures { let w = world_of self.now in
+            ShowsThe w (λ it. (it ≡ id) × IsNode w it) result }
+    {
+        let state = *self;
+        let found = state.node_record(id)?;
+        Some(NodeRef {
+            state,
+            id,
+            node: found.node,
+            place: found.place,
+        })
+    }
+
+    /// The node with this id within the tree of this name, if it is in the state.
+    pub fn node_by_tree_local_id(&self, node: NodeId, tree: TreeId) -> Option<NodeRef<'a>>
+        ensures { let w = world_of self.now in
+            ShowsThe w (λ it. local_id_of w it ≡ Some (node, tree)) result }
+    {
+        self.know();
+        let tree = self.tree_index(tree)?;
+        self.node_by_id(FullNodeId { tree, node })
+    }
+
+    /// The id of the root tree's root.
+    pub fn root_id(&self) -> FullNodeId
+        ensures { root_of (world_of self.now) 0 ≡ Some result }
+    {
+        self.checked_root()
+    }
+
+    /// The root tree's root.
+    pub fn root(&self) -> NodeRef<'a>
+        ensures world { world_at result ≡ world_of self.now }
+        ensures node { root_of (world_of self.now) 0 ≡ Some (id_at result) }
+    {
+        self.node(self.checked_root())
+    }
+
+    /// The effective focus, whether or not the host is focused: the root tree's declared focus, or behind a graft the
+    /// declared focus of the tree that it names.
+    pub fn focus_id_in_tree(&self) -> FullNodeId
+        ensures { IsEffectiveFocus (world_of self.now) result }
+    {
+        self.checked_focus()
+    }
+
+    /// The effective focus, whether or not the host is focused.
+    pub fn focus_in_tree(&self) -> NodeRef<'a>
+        ensures world { world_at result ≡ world_of self.now }
+        ensures node { IsEffectiveFocus (world_of self.now) (id_at result) }
+    {
+        self.node(self.checked_focus())
+    }
+
+    /// The effective focus while the host is focused.
+    pub fn focus_id(&self) -> Option<FullNodeId>
+        ensures { IsFocusId (world_of self.now) result }
+    {
+        if self.is_host_focused() {
+            Some(self.focus_id_in_tree())
+        } else {
+            None
+        }
+    }
+
+    /// While the host is focused the effective focus, or in its place the node that it names as its active
+    /// descendant, if that is a node of its tree.
+    pub fn focus(&self) -> Option<NodeRef<'a>>
+        ensures world { IfSome result (λ node. world_at node ≡ world_of self.now) }
+        ensures node { IsFocus (world_of self.now) (option_map id_at result) }
+    {
+        if !self.is_host_focused() {
+            return None;
+        }
+        let focus = self.focus_in_tree();
+        match focus.active_descendant() {
+            Some(active) => Some(active),
+            None => Some(focus),
+        }
+    }
+
+    /// The id of what `focus` answers.
+    pub fn shown_focus(self) -> Option<FullNodeId>
+        ensures { IsFocus (world_of self.entry) result }
+    {
+        self.focus().map(|node| node.id)
+    }
+
+    /// The toolkit's name: `AccessKit` if none was given.
+    pub fn toolkit_name(&self) -> &'a str
+        ensures { result.now ≡ toolkit_name (world_of self.now) }
+    {
+        self.given_toolkit_name().unwrap_or("AccessKit")
+    }
+
+    /// The toolkit's version, given only together with a name.
+    pub fn toolkit_version(&self) -> Option<&'a str>
+        ensures { option_copied result ≡ toolkit_version (world_of self.now) }
+    {
+        if self.given_toolkit_name().is_none() {
+            return None;
+        }
+        self.given_toolkit_version()
+    }
+
+    /// The id within its tree, and the tree's name, of a node that is in the state.
+    pub fn locate_node(&self, id: FullNodeId) -> Option<(NodeId, TreeId)>
+        ensures { result ≡ local_id_of (world_of self.now) id }
+    {
+        if self.has_node(id) {
+            Some((id.node, self.tree_of(id)))
+        } else {
+            None
+        }
+    }
+
+    /// The root of the tree of this name, where it is present.
+    pub fn subtree_root(&self, name: TreeId) -> Option<FullNodeId>
+        ensures { result ≡ root_named (world_of self.now) name }
+    {
+        match self.overlay {
+            Some(overlay) => overlay.subtree_root(self.base, name),
+            None => self.base.subtree_root(name),
+        }
+    }
+}

@@ -1,0 +1,149 @@
+//! Nodes at their places, and steps from place to place.
+ghost use Rattle.std.specs.Prelude.{◌≡◌, ◌+◌, ◌<◌, ◌^◌, Some, IfSome, length, map, slice_get, option_map};
+ghost use Rattle.model.specs.World.{IsNode, in_tree, children, child_at};
+ghost use Rattle.model.specs.Forest.{place_of};
+ghost use Rattle.views.specs.ShownWorlds.{world_of};
+ghost use Rattle.views.specs.Nodes.{world_at, id_at};
+ghost use Rattle.views.specs.Spots.{IsMember, IsSpot, place_at};
+
+use crate::StateRef;
+use crate::node::NodeRef;
+use model::FullNodeId;
+use schema::Node;
+
+/// A node, without the state in which it is seen.
+#[derive(Clone, Copy)]
+pub struct Member<'a> {
+    pub id: FullNodeId,
+    pub node: &'a Node,
+}
+
+/// A node, its parent, and its index among the parent's children.
+#[derive(Clone, Copy)]
+pub struct Spot<'a> {
+    pub parent: Member<'a>,
+    pub index: usize,
+    pub member: Member<'a>,
+}
+
+impl<'a> StateRef<'a> {
+    /// A node that is there.
+    pub(crate) fn member(self, id: FullNodeId) -> Member<'a>
+        requires { IsNode (world_of self) id }
+        ensures is { result.id ≡ id }
+        ensures known { IsMember (world_of self.entry) result }
+    {
+        let node = self.data(id).unwrap();
+        Member { id, node }
+    }
+
+    /// The view of a node.
+    pub(crate) fn view(self, member: Member<'a>) -> NodeRef<'a>
+        requires { IsMember (world_of self) member }
+        ensures world { world_at result ≡ world_of self.entry }
+        ensures id { id_at result ≡ member.entry.id }
+    {
+        NodeRef {
+            state: self,
+            id: member.id,
+            node: member.node,
+            place: self.place(member.id),
+        }
+    }
+
+    /// How many children a node has: a graft has the root of its tree, where that is present.
+    pub(crate) fn child_count(self, parent: Member<'a>) -> usize
+        requires { IsMember (world_of self) parent }
+        ensures { result ≡ length (children (world_of self.entry) parent.entry.id) }
+    {
+        let Some(name) = parent.node.tree_id() else {
+            return parent.node.children().len();
+        };
+        match self.subtree_root(name) {
+            Some(_) => 1,
+            None => 0,
+        }
+    }
+
+    /// The child with this index, where the node has so many.
+    pub(crate) fn child_id(self, parent: Member<'a>, index: usize) -> Option<FullNodeId>
+        requires { IsMember (world_of self) parent }
+        ensures is { result ≡ child_at (world_of self.entry) (parent.entry.id, index) }
+        ensures fits { IfSome result (λ _. index + 1 < 2 ^ 64) }
+    {
+        let Some(name) = parent.node.tree_id() else {
+            return listed_child(parent, index);
+        };
+        if index > 0 {
+            return None;
+        }
+        self.subtree_root(name)
+    }
+
+    /// The child with this index at its place, where the node has so many.
+    pub(crate) fn child(self, parent: Member<'a>, index: usize) -> Option<Spot<'a>>
+        requires { IsMember (world_of self) parent }
+        ensures none { let w = world_of self.entry in
+            option_map (λ s. s.member.id) result ≡ child_at w (parent.entry.id, index) }
+        ensures there { let w = world_of self.entry in
+            IfSome result (λ s. IsSpot w s × (place_at s ≡ (parent.entry.id, index))) }
+        ensures fits { IfSome result (λ _. index + 1 < 2 ^ 64) }
+    {
+        self.know();
+        let id = self.child_id(parent, index)?;
+        Some(Spot {
+            parent,
+            index,
+            member: self.member(id),
+        })
+    }
+
+    /// A node at its place, where it has one.
+    pub(crate) fn spot(self, member: Member<'a>) -> Option<Spot<'a>>
+        requires { IsMember (world_of self) member }
+        ensures place { let w = world_of self.entry in
+            option_map place_at result ≡ place_of w member.entry.id }
+        ensures there { let w = world_of self.entry in
+            IfSome result (λ s. IsSpot w s × (s.member.id ≡ member.entry.id)) }
+        ensures fits { IfSome result (λ s. s.index + 1 < 2 ^ 64) }
+    {
+        let (parent, index) = self.place(member.id)?;
+        let parent = self.member(parent);
+        let _count = self.child_count(parent);
+        Some(Spot {
+            parent,
+            index,
+            member,
+        })
+    }
+}
+
+impl<'a> Spot<'a> {
+    /// The view of the node.
+    pub(crate) fn view(self, state: StateRef<'a>) -> NodeRef<'a>
+        requires { IsSpot (world_of state) self }
+        ensures world { world_at result ≡ world_of state.entry }
+        ensures id { id_at result ≡ self.entry.member.id }
+    {
+        state.know();
+        NodeRef {
+            state,
+            id: self.member.id,
+            node: self.member.node,
+            place: Some((self.parent.id, self.index)),
+        }
+    }
+}
+
+/// The child that a node lists with this index, where it lists so many.
+fn listed_child(parent: Member<'_>, index: usize) -> Option<FullNodeId>
+    ensures is { let ids = map (in_tree parent.entry.id.tree) parent.entry.node.now.children in
+        result ≡ slice_get ids index }
+    ensures fits { IfSome result (λ _. index + 1 < 2 ^ 64) }
+{
+    let node = *parent.node.children().get(index)?;
+    Some(FullNodeId {
+        tree: parent.id.tree,
+        node,
+    })
+}
