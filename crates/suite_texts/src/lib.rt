@@ -1,24 +1,25 @@
-//! Tests of texts: positions, moves, indexes, ranges, points and selections.
+//! Tests of texts and of sessions: what no script can say of them.
 #![tactic(auto)]
 
 #[cfg(test)]
 mod asking;
 #[cfg(test)]
-mod ill_formed;
+mod flat;
+#[cfg(test)]
+mod flat_texts;
 #[cfg(test)]
 mod looks;
 #[cfg(test)]
-mod made_up;
+mod mirrored;
 #[cfg(test)]
-mod plain;
+mod numbered;
 #[cfg(test)]
-mod planting;
+mod replayed;
 #[cfg(test)]
-mod rows;
+mod sent;
+#[cfg(test)]
+mod tables;
 #[cfg(test)]
 mod weak;
 #[cfg(test)]
 mod writers;
-
-#[cfg(test)]
-use plain_worlds::{sketches, texts};

@@ -1,18 +1,17 @@
 //! Ranges that are kept over an update, selections as they are sent, and what is equal to what.
 
-use crate::asking::Place::{At, EndSideOf};
+use crate::asking::Place::At;
 use crate::asking::Span::{Between, Selection};
-use crate::asking::{both_ends, placed, range};
-use crate::sketches::Has::{Children, Lengths, Value, Words};
-use crate::sketches::{Sketch, Spot, nodes_of, planted, root_of, selected};
-use crate::texts::{EMPTY_LAST, LETTERS, LETTERS_IN_BYTES, THIRD};
+use crate::asking::{both_ends, range};
 use accesskit_consumer::WeakTextRange;
 use accesskit_consumer::node::NodeRef;
 use accesskit_consumer::tree::{StateRef, Tree};
-use plain_worlds::recorder::Recorder;
 use schema::{NodeId, Role, TreeId, TreeUpdate};
+use sketches::Has::{Children, Lengths, Value, Words};
+use sketches::recorder::Recorder;
+use sketches::small_texts::{LETTERS, LETTERS_IN_BYTES, THIRD};
+use sketches::{Sketch, Spot, nodes_of, planted, root_of, selected};
 use std::alloc::{AllocError, Global};
-use std::cmp::Ordering;
 use std::test::Fail;
 
 /// Three letters.
@@ -98,16 +97,6 @@ fn selections_are_sent_as_they_came(rt: HostRuntime) -> Result<(), Fail> {
     let tree = planted(rt.alloc(), THIRD)?;
     let range = range(&root_of(&tree), Selection)?;
     assert!(rt; range.to_text_selection() == selected((1, 2), (2, 1)));
-    Ok(())
-}
-
-#[test]
-fn two_positions_are_at_one_place(rt: HostRuntime) -> Result<(), Fail> {
-    let tree = planted(rt.alloc(), EMPTY_LAST)?;
-    let before = placed(&root_of(&tree), EndSideOf(3))?;
-    let last = placed(&root_of(&tree), At(3))?;
-    assert!(rt; before.compare(&last) == Some(Ordering::Equal));
-    assert!(rt; before != last);
     Ok(())
 }
 

@@ -6,13 +6,13 @@ ghost use Rattle.std.specs.String.{string_bytes};
 use crate::asking::Place::At;
 use crate::asking::Span::{self, Between};
 use crate::asking::range;
-use crate::sketches::{planted, root_of};
-use crate::texts::{
-    ALIKE, BULLETS, LABELLED, MEETING, OWN_VALUE, SECRET, SECRET_WITHOUT_RUNS, Text,
-};
 use Writing::{Label, Value};
 use accesskit_consumer::node::NodeRef;
-use schema::{TextBuffer, TextFault, TextWrite};
+use schema::{TextFault, TextWrite};
+use sketches::small_texts::{
+    ALIKE, BULLETS, LABELLED, MEETING, OWN_VALUE, SECRET, SECRET_WITHOUT_RUNS, Text,
+};
+use sketches::{planted, root_of};
 use std::alloc::Global;
 use std::process::Abort;
 use std::test::Fail;
@@ -103,25 +103,7 @@ static WRITINGS: [(Text, Writing, &str, Option<usize>); 9] = [
     (MEETING, Writing::Text(ALL), "abcd", Some(2)),
 ];
 
-/// Writes it. The answer says whether it is there.
-fn write<W: TextWrite>(
-    root: &NodeRef,
-    writing: Writing,
-    writer: &mut W,
-) -> Result<Result<bool, TextFault>, Fail>
-    requires { W.faults writer.old + 1 < 2 ^ 128 }
-{
-    match writing {
-        Label => Ok(root.write_label(writer)),
-        Value => Ok(root.write_value(writer)),
-        Writing::Text(span) => match range(root, span)?.write_text(writer) {
-            Ok(()) => Ok(Ok(true)),
-            Err(fault) => Ok(Err(fault)),
-        },
-    }
-}
-
-/// Writes it to a writer that fails at this call: what it has then, and the answer.
+/// Writes it to a writer that fails at this call: what it has then, and the answer, which says whether it is there.
 fn written(
     alloc: Global,
     root: &NodeRef,
@@ -129,7 +111,11 @@ fn written(
     fails_at: u32,
 ) -> Result<(Failing, Result<bool, TextFault>), Fail> {
     let mut writer = Failing::new(alloc, fails_at);
-    let answer = write(root, writing, &mut writer)?;
+    let answer = match writing {
+        Label => root.write_label(&mut writer),
+        Value => root.write_value(&mut writer),
+        Writing::Text(span) => range(root, span)?.write_text(&mut writer).map(|()| true),
+    };
     Ok((writer, answer))
 }
 
@@ -168,17 +154,6 @@ fn writers_that_fail_have_a_beginning(rt: HostRuntime) -> Result<(), Fail> {
             );
         }
         assert!(rt; has_ended, "{text}");
-    }
-    Ok(())
-}
-
-#[test]
-fn buffers_take_the_whole_text(rt: HostRuntime) -> Result<(), Fail> {
-    for (root, writing, text, _) in &WRITINGS {
-        let tree = planted(rt.alloc(), root)?;
-        let mut buffer = TextBuffer::new(rt.alloc());
-        let answer = write(&root_of(&tree), *writing, &mut buffer)?;
-        assert!(rt; answer == Ok(true) && buffer.as_str() == *text, "{text}");
     }
     Ok(())
 }

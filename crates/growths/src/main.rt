@@ -1,0 +1,46 @@
+//! What takes memory, to be run with each growth refused in turn. With the argument `session` it runs six commands in one run
+//! with a mirror beside it; with `calls` it makes the calls that take memory, one after the other; with none it does both.
+#![tactic(auto)]
+
+mod calls;
+mod mirrored_run;
+mod planning;
+mod planting;
+mod reading;
+mod setting;
+
+use anyhow::anyhow;
+use std::env::{Env, FillError};
+
+/// What is run.
+#[derive(Clone, Copy)]
+enum Wanted {
+    Session,
+    Calls,
+    Both,
+    Unknown,
+}
+
+/// What the first argument asks for. Reading it takes no memory.
+fn asked_for(rt: &impl Env) -> Wanted {
+    let mut word = [0u8; 16];
+    match rt.arg(1, &mut word) {
+        Ok(7) if word.starts_with(b"session") => Wanted::Session,
+        Ok(5) if word.starts_with(b"calls") => Wanted::Calls,
+        Err(FillError::NotPresent) => Wanted::Both,
+        _ => Wanted::Unknown,
+    }
+}
+
+fn main(rt: HostRuntime) -> anyhow::Result<()> {
+    let alloc = rt.alloc();
+    match asked_for(&rt) {
+        Wanted::Session => mirrored_run::run(&rt, alloc),
+        Wanted::Calls => calls::run(&rt, alloc),
+        Wanted::Both => {
+            mirrored_run::run(&rt, alloc)?;
+            calls::run(&rt, alloc)
+        }
+        Wanted::Unknown => Err(anyhow!("`session`, `calls`, or no argument")),
+    }
+}

@@ -1,0 +1,115 @@
+//! Small trees as plain data.
+
+use crate::fields::{Has, node_of};
+use crate::ids::{id, tree_id};
+use crate::recorder::Recorder;
+use accesskit_consumer::node::NodeRef;
+use accesskit_consumer::tree::Tree;
+use schema::{Node, NodeId, Role, TreeInfo, TreeUpdate};
+use std::alloc::{AllocError, Global};
+use std::test::Fail;
+
+/// A node: its id, its role, and what else is sent of it.
+#[derive(Clone, Copy)]
+pub struct Sketch(pub u64, pub Role, pub &'static [Has]);
+
+/// An update of the tree with the name of this number, with the root that its tree info names. The root tree's number is 0.
+#[derive(Clone, Copy)]
+pub struct Sent {
+    pub tree: u128,
+    pub root: Option<u64>,
+    pub focus: u64,
+    pub nodes: &'static [Sketch],
+}
+
+/// An update that brings a tree, here the root tree, whose root is 0 and has the focus;
+pub const BROUGHT: Sent = Sent {
+    tree: 0,
+    root: Some(0),
+    focus: 0,
+    nodes: &[],
+};
+
+/// one that has no tree info.
+pub const CHANGED: Sent = Sent {
+    root: None,
+    ..BROUGHT
+};
+
+impl Sent {
+    /// The update as it is sent.
+    pub fn update(&self, alloc: Global) -> Result<TreeUpdate, AllocError> {
+        Ok(TreeUpdate {
+            nodes: nodes_of(alloc, self.nodes)?,
+            tree: match self.root {
+                Some(root) => Some(TreeInfo::new(NodeId(root))),
+                None => None,
+            },
+            tree_id: tree_id(self.tree),
+            focus: NodeId(self.focus),
+        })
+    }
+}
+
+/// The nodes as they are sent.
+pub fn nodes_of(alloc: Global, sketches: &[Sketch]) -> Result<Vec<(NodeId, Node)>, AllocError> {
+    let mut nodes = Vec::new(alloc);
+    for Sketch(id, role, having) in sketches {
+        nodes.push((NodeId(*id), node_of(alloc, *role, having)?))?;
+    }
+    Ok(nodes)
+}
+
+/// The update that brings in the tree of this number with these nodes, whose root is 0 and has the focus.
+pub fn first_update(tree: u128, nodes: Vec<(NodeId, Node)>) -> TreeUpdate {
+    TreeUpdate {
+        nodes,
+        tree: Some(TreeInfo::new(NodeId(0))),
+        tree_id: tree_id(tree),
+        focus: NodeId(0),
+    }
+}
+
+/// The root tree of these nodes, whose root is 0.
+pub fn grown(alloc: Global, nodes: Vec<(NodeId, Node)>) -> Result<Tree, Fail> {
+    Ok(Tree::new(alloc, first_update(0, nodes), false)?)
+}
+
+/// The root tree of these nodes, whose root is 0.
+pub fn planted(alloc: Global, sketches: &[Sketch]) -> Result<Tree, Fail> {
+    grown(alloc, nodes_of(alloc, sketches)?)
+}
+
+/// The tree that the first update brings, after the others, each of which is accepted.
+pub fn grown_by(alloc: Global, sent: &[Sent], is_host_focused: bool) -> Result<Tree, Fail> {
+    let (first, others) = sent.split_first().ok_or("no update")?;
+    let mut tree = Tree::new(alloc, first.update(alloc)?, is_host_focused)?;
+    for other in others {
+        let mut recorder = Recorder::new(alloc);
+        tree.update_and_process_changes(other.update(alloc)?, &mut recorder)?;
+    }
+    Ok(tree)
+}
+
+/// A window with these nodes as its children, whose ids count from 1.
+pub fn row_of(alloc: Global, children: Vec<Node>) -> Result<Tree, Fail> {
+    let mut window = Node::new(alloc, Role::Window);
+    let mut nodes = Vec::new(alloc);
+    for (id, child) in (1u64..).zip(children) {
+        window.push_child(NodeId(id))?;
+        nodes.push((NodeId(id), child))?;
+    }
+    nodes.push((NodeId(0), window))?;
+    grown(alloc, nodes)
+}
+
+/// The root of the root tree.
+pub fn root_of<'a>(tree: &'a Tree) -> NodeRef<'a> {
+    tree.state().view().root()
+}
+
+/// The node of the tree with this index, which is there.
+pub fn shown<'a>(tree: &'a Tree, index: u32, node: u64) -> Result<NodeRef<'a>, Fail> {
+    let found = tree.state().view().node_by_id(id(index, node));
+    Ok(found.ok_or("no such node")?)
+}

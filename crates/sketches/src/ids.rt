@@ -1,0 +1,24 @@
+//! Ids by their numbers.
+
+use accesskit_consumer::node::FullNodeId;
+use schema::{NodeId, TreeId};
+use std::alloc::{AllocError, Global};
+use uuid::Uuid;
+
+/// The tree's name of this number.
+pub fn tree_id(tree: u128) -> TreeId {
+    TreeId(Uuid::from_u128(tree))
+}
+
+/// The id of a node in the tree with this index.
+pub fn id(tree: u32, node: u64) -> FullNodeId {
+    FullNodeId {
+        tree,
+        node: NodeId(node),
+    }
+}
+
+/// Node ids of these numbers.
+pub fn node_ids(alloc: Global, numbers: &[u64]) -> Result<Vec<NodeId>, AllocError> {
+    numbers.iter().map(|number| NodeId(*number)).collect(alloc)
+}

@@ -1,0 +1,277 @@
+//! Small texts.
+
+use crate::Has::{
+    Bounds, Children, Direction, LabelledBy, Lengths, Letters, LettersInBytes, Move, Positions,
+    Selection, Value, Widths, Words, WordsInBytes,
+};
+use crate::Sketch;
+use schema::{Role, TextDirection};
+
+/// What is shown of four characters of a password.
+pub const BULLETS: &str = "\u{2022}\u{2022}\u{2022}\u{2022}";
+
+/// A root with its runs.
+pub type Text = &'static [Sketch];
+
+const INPUT: Sketch = Sketch(0, Role::TextInput, &[Children(&[1])]);
+
+const LINES_INPUT: Sketch = Sketch(0, Role::MultilineTextInput, &[Children(&[1, 2])]);
+
+const PASSWORD: Sketch = Sketch(0, Role::PasswordInput, &[Children(&[1, 2])]);
+
+/// 300 letters; words start at 0 and at 44.
+pub const LETTERS: Text = &[
+    INPUT,
+    Sketch(1, Role::TextRun, &[Letters(300), Words(&[0, 44])]),
+];
+
+/// The same, set by bytes.
+pub const LETTERS_IN_BYTES: Text = &[
+    INPUT,
+    Sketch(
+        1,
+        Role::TextRun,
+        &[LettersInBytes(300), WordsInBytes(&[0, 44])],
+    ),
+];
+
+/// 400 letters; words start at 0 and at 300, which is 44 when it is cut to a byte.
+pub const MORE_LETTERS: Text = &[
+    INPUT,
+    Sketch(1, Role::TextRun, &[Letters(400), Words(&[0, 300])]),
+];
+
+/// A run of no characters, of which nothing is sent.
+pub const NOTHING: Text = &[INPUT, Sketch(1, Role::TextRun, &[])];
+
+/// A paragraph, and an empty run after it.
+pub const EMPTY_LAST: Text = &[
+    LINES_INPUT,
+    Sketch(
+        1,
+        Role::TextRun,
+        &[Value("ab\n"), Lengths(&[1, 1, 1]), Words(&[])],
+    ),
+    Sketch(2, Role::TextRun, &[Value(""), Lengths(&[]), Words(&[])]),
+];
+
+/// Two paragraphs, each with one word.
+pub const PARAGRAPHS: Text = &[
+    LINES_INPUT,
+    Sketch(
+        1,
+        Role::TextRun,
+        &[Value("ab\n"), Lengths(&[1, 1, 1]), Words(&[0])],
+    ),
+    Sketch(
+        2,
+        Role::TextRun,
+        &[Value("cd"), Lengths(&[1, 1]), Words(&[0])],
+    ),
+];
+
+/// A character of four bytes between two of one.
+pub const WIDE: Text = &[
+    INPUT,
+    Sketch(
+        1,
+        Role::TextRun,
+        &[Value("a\u{1f44d}b"), Lengths(&[1, 4, 1]), Words(&[])],
+    ),
+];
+
+const AB: Sketch = Sketch(
+    1,
+    Role::TextRun,
+    &[Value("ab"), Lengths(&[1, 1]), Words(&[])],
+);
+
+const CD: Sketch = Sketch(
+    2,
+    Role::TextRun,
+    &[Value("cd"), Lengths(&[1, 1]), Words(&[])],
+);
+
+/// Two runs of two characters each; the place where they meet is selected, from the second run to the first.
+pub const MEETING: Text = &[
+    Sketch(
+        0,
+        Role::TextInput,
+        &[Children(&[1, 2]), Selection((2, 0), (1, 2))],
+    ),
+    AB,
+    CD,
+];
+
+/// The same runs; the third character is selected, from the end of the first run.
+pub const THIRD: Text = &[
+    Sketch(
+        0,
+        Role::TextInput,
+        &[Children(&[1, 2]), Selection((1, 2), (2, 1))],
+    ),
+    AB,
+    CD,
+];
+
+/// The same runs; a selection begins in another node, and ends past the end of a run.
+pub const ELSEWHERE: Text = &[
+    Sketch(
+        0,
+        Role::TextInput,
+        &[Children(&[1, 2]), Selection((9, 0), (1, 7))],
+    ),
+    AB,
+    CD,
+];
+
+/// A run that is measured, and moved.
+const MEASURED: Sketch = Sketch(
+    1,
+    Role::TextRun,
+    &[
+        Value("abc"),
+        Lengths(&[1, 1, 1]),
+        Words(&[]),
+        Move(100, 200),
+        Bounds(0, 0, 30, 10),
+        Positions(&[0, 10, 20]),
+        Widths(&[10, 10, 10]),
+    ],
+);
+
+/// Its root is moved, too, and says the direction of its text.
+pub const RIGHTWARD: Text = &[
+    Sketch(
+        0,
+        Role::TextInput,
+        &[
+            Children(&[1]),
+            Move(5, 0),
+            Direction(TextDirection::LeftToRight),
+        ],
+    ),
+    MEASURED,
+];
+
+/// The same, from right to left.
+pub const LEFTWARD: Text = &[
+    Sketch(
+        0,
+        Role::TextInput,
+        &[
+            Children(&[1]),
+            Move(5, 0),
+            Direction(TextDirection::RightToLeft),
+        ],
+    ),
+    MEASURED,
+];
+
+const P_AND_UMLAUT: Sketch = Sketch(
+    1,
+    Role::TextRun,
+    &[Value("p\u{e4}"), Lengths(&[1, 2]), Words(&[])],
+);
+
+const SS: Sketch = Sketch(
+    2,
+    Role::TextRun,
+    &[Value("ss"), Lengths(&[1, 1]), Words(&[])],
+);
+
+const XY: Sketch = Sketch(
+    1,
+    Role::TextRun,
+    &[Value("xy"), Lengths(&[1, 1]), Words(&[])],
+);
+
+const ZW: Sketch = Sketch(
+    2,
+    Role::TextRun,
+    &[Value("zw"), Lengths(&[1, 1]), Words(&[])],
+);
+
+/// A password of four characters, of which one has two bytes,
+pub const SECRET: Text = &[PASSWORD, P_AND_UMLAUT, SS];
+
+/// another one of its shape,
+pub const OTHER_RUNS: Text = &[PASSWORD, XY, ZW];
+
+/// and one more, of which a character has two scalars, and another one two units of UTF-16.
+pub const WIDE_SECRET: Text = &[
+    PASSWORD,
+    Sketch(
+        1,
+        Role::TextRun,
+        &[Value("e\u{301}\u{1f44d}"), Lengths(&[3, 4]), Words(&[])],
+    ),
+    SS,
+];
+
+/// A password of two paragraphs.
+pub const SECRET_LINES: Text = &[
+    PASSWORD,
+    Sketch(
+        1,
+        Role::TextRun,
+        &[Value("a\n"), Lengths(&[1, 1]), Words(&[])],
+    ),
+    Sketch(2, Role::TextRun, &[Value("b"), Lengths(&[1]), Words(&[])]),
+];
+
+/// Another one of its shape.
+pub const OTHER_SECRET_LINES: Text = &[
+    PASSWORD,
+    Sketch(
+        1,
+        Role::TextRun,
+        &[Value("\u{e4}\n"), Lengths(&[2, 1]), Words(&[])],
+    ),
+    Sketch(2, Role::TextRun, &[Value("c"), Lengths(&[1]), Words(&[])]),
+];
+
+/// A password that says where words start.
+pub const SECRET_WORDS: Text = &[
+    PASSWORD,
+    Sketch(
+        1,
+        Role::TextRun,
+        &[Value("p\u{e4}"), Lengths(&[1, 2]), Words(&[0, 1])],
+    ),
+    SS,
+];
+
+/// Another one of its shape.
+pub const OTHER_SECRET_WORDS: Text = &[
+    PASSWORD,
+    Sketch(
+        1,
+        Role::TextRun,
+        &[Value("xy"), Lengths(&[1, 1]), Words(&[0, 1])],
+    ),
+    ZW,
+];
+
+/// A password of one character again and again.
+pub const ALIKE: Text = &[
+    Sketch(0, Role::PasswordInput, &[Children(&[1])]),
+    Sketch(
+        1,
+        Role::TextRun,
+        &[Value("aaaa"), Lengths(&[1, 1, 1, 1]), Words(&[])],
+    ),
+];
+
+/// A value of its own, and no run.
+pub const OWN_VALUE: Text = &[Sketch(0, Role::MultilineTextInput, &[Value("x")])];
+
+/// The same of a password.
+pub const SECRET_WITHOUT_RUNS: Text = &[Sketch(0, Role::PasswordInput, &[Value("ab")])];
+
+/// A check box that two labels name.
+pub const LABELLED: Text = &[
+    Sketch(0, Role::CheckBox, &[Children(&[1, 2]), LabelledBy(&[1, 2])]),
+    Sketch(1, Role::Label, &[Value("Check email every")]),
+    Sketch(2, Role::Label, &[Value("minutes")]),
+];
