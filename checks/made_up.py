@@ -1,6 +1,5 @@
 """What makes scripts up by dice: lines of updates and questions, with what the model says of each, and what is met."""
 
-import os
 import random
 import uuid
 from collections import Counter, namedtuple
@@ -36,12 +35,6 @@ QUESTIONS = sorted({*QUESTIONS_OF_NODES, *QUESTIONS_OF_FILTERS, *QUESTIONS_OF_TE
 
 # A line that is said, how it ends, what the model says of it, and the worlds before and after it.
 Step = namedtuple("Step", "line end told old new")
-
-# Until the program knows these words, none of them is said.
-if os.environ.get("ATREE_OLD_WORDS"):
-    QUESTIONS_OF_NODES = ["children", "label", "value", "set", "hit"]
-    QUESTIONS_OF_FILTERS = ["filtered"]
-    QUESTIONS_OF_TEXTS = ["text", "value"]
 
 
 class Dice(random.Random):
@@ -113,13 +106,13 @@ class Maker:
         """Has the host window get the focus, or lose it."""
         self.say(self.dice.choice(["host on", "host on", "host off"]))
 
-    def script(self):
-        """The script."""
-        return "".join(step.line + step.end for step in self.steps).encode()
+    def script(self, count=None):
+        """The script, or its first so many lines."""
+        return "".join(step.line + step.end for step in self.steps[:count]).encode()
 
-    def told(self):
+    def told(self, count=None):
         """What the model says of it."""
-        return [line for step in self.steps for line in step.told]
+        return [line for step in self.steps[:count] for line in step.told]
 
 
 # ---- lines
@@ -251,6 +244,7 @@ def kinds_of_outcome(last):
     if last == "ok":
         yield "accepted"
         return
+    yield "refused"
     names = sorted({fault.split(" ")[0] for fault in last[8:].split(" or ")})
     yield from ("fault " + name for name in names)
     if len(names) == 1:

@@ -67,17 +67,43 @@ def difference(ran, told, bad=None):
     return None
 
 
+def built(source, folder):
+    """A library that is made of a source in C, to be put before the C library."""
+    library = os.path.join(folder, source.replace(".c", ".so"))
+    subprocess.run(["cc", "-shared", "-fPIC", "-O1", "-o", library, os.path.join(HERE, source)], check=True)
+    return library
+
+
+def read_number(path):
+    """The number in a file."""
+    with open(path) as file:
+        return int(file.read())
+
+
 class Refusing:
     """Runs a program with one growth of its memory refused, by a malloc and a realloc that are put before the C library's."""
 
     def __init__(self, program, folder):
-        self.program = program
-        self.library, self.count = os.path.join(folder, "refusing.so"), os.path.join(folder, "growths")
-        source = os.path.join(HERE, "refusing.c")
-        subprocess.run(["cc", "-shared", "-fPIC", "-O1", "-o", self.library, source], check=True)
+        self.program, self.count = program, os.path.join(folder, "growths")
+        self.library = built("refusing.c", folder)
 
     def run(self, script, refused):
         """Runs the program on a script with the growth of this number refused: what it gave, and how many growths it made."""
         ran = self.program.run(script, {"LD_PRELOAD": self.library, "REFUSED": str(refused), "GROWTHS": self.count})
-        with open(self.count) as file:
-            return ran, int(file.read())
+        return ran, read_number(self.count)
+
+
+class Failing:
+    """Runs a program with a stream that moves three bytes a call, and of which one call fails, by a read and a write that are
+    put before the C library's."""
+
+    def __init__(self, program, folder):
+        self.program, self.count = program, os.path.join(folder, "calls")
+        self.library = built("failing.c", folder)
+
+    def run(self, script, stream, failed):
+        """Runs the program on a script with the stream's call of this number failing: what it gave, and how many calls it
+        made."""
+        environment = {"LD_PRELOAD": self.library, "STREAM": str(stream), "FAILED": str(failed), "CALLS": self.count}
+        ran = self.program.run(script, environment)
+        return ran, read_number(self.count)
