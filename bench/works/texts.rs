@@ -1,25 +1,19 @@
-//! Makes a text and reads it, as often as it is told, with no printing between. What one reading costs is the difference of
-//! two runs of other counts, over the difference of the counts.
+//! Readings of a text, which has so many runs of so many characters each; each run is a line, and a word starts with it.
 //!
-//!     texts WORK RUNS CHARACTERS COUNT [SHAPE]
-//!
-//! The text has so many runs of so many characters each; each run is a line, and a word starts with it. `words` goes from
-//! word start to word start through the text; `text` makes the text of the whole document; `lines` goes over the ranges of
-//! all lines; `lines-by-index` asks for the range of each line by its number; `units` asks for a hundred positions by their
-//! indexes in UTF-16; `label` writes a label of ten parts into a buffer. `pieces` passes the pieces of the whole document to
-//! a function, and `masked-pieces` those of a password; `boxes` asks for the document's boxes, and `properties` for the size
-//! of its font. With the shape `images` as many images follow the runs, with `chain` the runs stand at the end of a chain of
-//! as many groups; such runs have rectangles, places and widths of characters, a direction and a size. It prints a sum of
-//! what it met.
-#![tactic(auto)]
+//! `support` asks whether it is a text, and so does each of the others first, but for `label`. `words` goes from word start to
+//! word start through the text; `text` makes the text of the whole document; `lines` goes over the ranges of all lines;
+//! `lines-by-index` asks for the range of each line by its number, and `lines-onwards` does so of lines where each search
+//! goes on from the one that was found last; `units` asks for a hundred positions by their indexes in
+//! UTF-16; `label` makes a label of ten parts. `pieces` passes the pieces of the whole document to a function, and
+//! `masked-pieces` those of a password; `boxes` asks for the document's boxes, and `properties` for the size of its font. With
+//! the shape `images` as many images follow the runs, with `chain` the runs stand at the end of a chain of as many groups; such
+//! runs have rectangles, places and widths of characters, and a size.
 
 use accesskit_consumer::{
-    NodeRef, TextIndexes, TextPlaces, TextRangePropertyValue, TextRoot, Tree,
+    NodeRef, TextIndexes, TextLines, TextPlaces, TextRangePropertyValue, TextRoot, Tree,
 };
-use anyhow::Context;
-use schema::{Node, NodeId, Rect, Role, TextBuffer, TextDirection, TreeId, TreeInfo, TreeUpdate};
+use schema::{Node, NodeId, Rect, Role, TextDirection, TreeId, TreeInfo, TreeUpdate};
 use std::alloc::{AllocError, Global};
-use std::env;
 
 /// How many parts the label has.
 const PARTS: u64 = 10;
@@ -29,12 +23,20 @@ const SIZE: u32 = 1600;
 
 /// What stands beside the runs.
 #[derive(Clone, Copy)]
-enum Shape {
+pub enum Shape {
     Alone,
     /// As many images follow them.
     Images,
     /// They stand at the end of a chain of as many groups.
     Chain,
+}
+
+/// A text, or a password, of so many runs of so many characters each.
+#[derive(Clone, Copy)]
+pub struct Text {
+    pub runs: u64,
+    pub characters: usize,
+    pub shape: Shape,
 }
 
 /// A run of so many characters of one byte.
@@ -53,6 +55,7 @@ fn run(alloc: Global, characters: usize) -> Result<Node, AllocError> {
     node.set_value(&value)?;
     node.set_character_lengths(&lengths)?;
     node.set_word_starts(&[0])?;
+    node.set_text_direction(TextDirection::LeftToRight);
     Ok(node)
 }
 
@@ -68,7 +71,6 @@ fn laid_out(alloc: Global, characters: usize) -> Result<Node, AllocError> {
     node.set_character_positions(&places)?;
     node.set_character_widths(&widths)?;
     node.set_bounds(Rect::new(0, 0, 100, 10));
-    node.set_text_direction(TextDirection::LeftToRight);
     node.set_font_size(SIZE);
     Ok(node)
 }
@@ -113,13 +115,12 @@ fn named(alloc: Global) -> anyhow::Result<Tree> {
 }
 
 /// The tree of a text.
-fn text_tree(
-    alloc: Global,
-    role: Role,
-    shape: Shape,
-    count: u64,
-    characters: usize,
-) -> anyhow::Result<Tree> {
+fn text_tree(alloc: Global, role: Role, text: Text) -> anyhow::Result<Tree> {
+    let Text {
+        runs: count,
+        characters,
+        shape,
+    } = text;
     let mut nodes = Vec::new(alloc);
     let mut runs = Vec::new(alloc);
     let mut images = Vec::new(alloc);
@@ -179,7 +180,7 @@ fn words(root: &NodeRef) -> u64 {
 }
 
 /// How many bytes the text of the document has.
-fn text(alloc: Global, root: &NodeRef) -> Result<u64, AllocError> {
+fn whole_text(alloc: Global, root: &NodeRef) -> Result<u64, AllocError> {
     if !root.supports_text_ranges() {
         return Ok(0);
     }
@@ -260,6 +261,22 @@ fn lines_by_index(root: &NodeRef) -> u64 {
     count
 }
 
+/// The same, where each search goes on from the line that was found last.
+fn lines_onwards(root: &NodeRef) -> u64 {
+    if !root.supports_text_ranges() {
+        return 0;
+    }
+    let mut lines = TextLines::new(*root);
+    let mut count = 0u64;
+    for index in 0..usize::MAX {
+        match lines.line(index) {
+            Some(range) if !range.is_degenerate() => count = count.saturating_add(1),
+            _ => break,
+        }
+    }
+    count
+}
+
 /// The sum of the indexes, in their runs, of a hundred positions.
 fn units(root: &NodeRef, total: usize) -> u64 {
     if !root.supports_text_ranges() {
@@ -276,22 +293,13 @@ fn units(root: &NodeRef, total: usize) -> u64 {
 }
 
 /// How many bytes the label has.
-fn label(alloc: Global, root: &NodeRef) -> u64 {
-    let mut buffer = TextBuffer::new(alloc);
-    match root.write_label(&mut buffer) {
-        Ok(true) => buffer.as_str().len() as u64,
-        _ => 0,
-    }
+fn label(alloc: Global, root: &NodeRef) -> Result<u64, AllocError> {
+    let label = root.label(alloc)?;
+    Ok(label.map_or(0, |label| label.len() as u64))
 }
 
-const USAGE: &str = "texts WORK RUNS CHARACTERS COUNT [SHAPE]";
-
-fn number(text: Option<String>) -> anyhow::Result<u64> {
-    let text = text.context(USAGE)?;
-    Ok(text.parse::<u64>()?)
-}
-
-fn shape_of(word: Option<String>) -> anyhow::Result<Shape> {
+/// The shape that a word of the command line names: the runs stand alone where there is none.
+pub fn shape_of(word: Option<String>) -> anyhow::Result<Shape> {
     let Some(word) = word else {
         return Ok(Shape::Alone);
     };
@@ -302,38 +310,32 @@ fn shape_of(word: Option<String>) -> anyhow::Result<Shape> {
     }
 }
 
-fn main(rt: HostRuntime) -> anyhow::Result<()> {
-    let alloc = rt.alloc();
-    let mut args = env::args(&rt)?;
-    drop(args.next());
-    let work = args.next().context(USAGE)?;
-    let runs = number(args.next())?;
-    let characters = number(args.next())? as usize;
-    let count = number(args.next())?;
-    let shape = shape_of(args.next())?;
-    let tree = match work.as_str() {
+/// Makes the tree of the work, and reads it so many times.
+pub fn sum(alloc: Global, work: &str, text: Text, count: u64) -> anyhow::Result<u64> {
+    let tree = match work {
         "label" => named(alloc)?,
-        "masked-pieces" => text_tree(alloc, Role::PasswordInput, shape, runs, characters)?,
-        _ => text_tree(alloc, Role::Document, shape, runs, characters)?,
+        "masked-pieces" => text_tree(alloc, Role::PasswordInput, text)?,
+        _ => text_tree(alloc, Role::Document, text)?,
     };
     let root = tree.state().view().root();
-    let total = characters.saturating_mul(runs as usize);
+    let total = text.characters.saturating_mul(text.runs as usize);
     let mut sum: u64 = 0;
     for _ in 0..count {
-        let met = match work.as_str() {
+        let met = match work {
+            "support" => u64::from(root.supports_text_ranges()),
             "words" => words(&root),
-            "text" => text(alloc, &root)?,
+            "text" => whole_text(alloc, &root)?,
             "pieces" | "masked-pieces" => pieces(alloc, &root)?,
             "boxes" => boxes(alloc, &root)?,
             "properties" => properties(&root),
             "lines" => lines(&root),
             "lines-by-index" => lines_by_index(&root),
+            "lines-onwards" => lines_onwards(&root),
             "units" => units(&root, total),
-            "label" => label(alloc, &root),
+            "label" => label(alloc, &root)?,
             _ => anyhow::bail!("there is no such work"),
         };
         sum = sum.saturating_add(met);
     }
-    println!(rt; "{sum}")?;
-    Ok(())
+    Ok(sum)
 }

@@ -1,20 +1,12 @@
-//! Makes a tree and walks over it, as often as it is told, with no reading or printing between. What one walk costs is the
-//! difference of two runs of other counts, over the difference of the counts.
-//!
-//!     walks WORK NODES COUNT
-//!
-//! `filtered` walks over what the common filter shows of a tree in which each node has ten children. `clipped` does so of
-//! a list whose root clips all but the first ten children. `hit` looks for what lies at a point of a list, of which only
-//! the first child is there, and `hit-tree` of a tree of ten children each. `preorder` goes over all nodes of a tree of
-//! ten children each, and `chain` over a tree in which each node has one. It prints how many nodes it met.
-#![tactic(auto)]
+//! Walks over a tree. `filtered` walks over what the common filter shows of a tree in which each node has ten children.
+//! `clipped` does so of a list whose root clips all but the first ten children. `hit` looks for what lies at a point of a
+//! list, of which only the first child is there, and `hit-tree` of a tree of ten children each. `preorder` goes over all nodes
+//! of a tree of ten children each, and `chain` over a tree in which each node has one. How many nodes were met is the sum.
 
 use accesskit_consumer::filters::common_filter;
 use accesskit_consumer::{NodeRef, Tree};
-use anyhow::Context;
 use schema::{Node, NodeId, Point, Rect, Role, TreeId, TreeInfo, TreeUpdate};
 use std::alloc::{AllocError, Global};
-use std::env;
 
 const FAN_OUT: u64 = 10;
 
@@ -34,13 +26,7 @@ impl Shape {
     fn child_count(self, id: u64, nodes: u64) -> u64 {
         match self {
             Shape::Fan => FAN_OUT,
-            Shape::List => {
-                if id == 0 {
-                    nodes
-                } else {
-                    0
-                }
-            }
+            Shape::List => { if id == 0 { nodes } else { 0 } }
             Shape::Chain => 1,
         }
     }
@@ -156,19 +142,9 @@ fn hit(tree: &Tree) -> u64 {
     }
 }
 
-fn number(text: Option<String>) -> anyhow::Result<u64> {
-    let text = text.context("walks WORK NODES COUNT")?;
-    Ok(text.parse::<u64>()?)
-}
-
-fn main(rt: HostRuntime) -> anyhow::Result<()> {
-    let alloc = rt.alloc();
-    let mut words = env::args(&rt)?;
-    drop(words.next());
-    let work = words.next().context("walks WORK NODES COUNT")?;
-    let nodes = number(words.next())?;
-    let count = number(words.next())?;
-    let (shape, is_clipping) = match work.as_str() {
+/// Makes the tree of the work, and walks over it so many times.
+pub fn sum(alloc: Global, work: &str, nodes: u64, count: u64) -> anyhow::Result<u64> {
+    let (shape, is_clipping) = match work {
         "clipped" => (Shape::List, true),
         "hit" => (Shape::List, false),
         "chain" => (Shape::Chain, false),
@@ -177,14 +153,13 @@ fn main(rt: HostRuntime) -> anyhow::Result<()> {
     let tree = tree(alloc, shape, nodes, is_clipping)?;
     let mut sum: u64 = 0;
     for _ in 0..count {
-        let met = match work.as_str() {
+        let met = match work {
             "filtered" | "clipped" => shown(alloc, &tree, nodes)?,
             "hit" | "hit-tree" => hit(&tree),
             "preorder" | "chain" => preorder(alloc, &tree, nodes)?,
-            _ => anyhow::bail!("the work is filtered, clipped, hit, hit-tree, preorder or chain"),
+            _ => anyhow::bail!("there is no such work"),
         };
         sum = sum.saturating_add(met);
     }
-    println!(rt; "{sum}")?;
-    Ok(())
+    Ok(sum)
 }

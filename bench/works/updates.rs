@@ -1,23 +1,14 @@
-//! Makes a tree and sends updates to it, as often as it is told, with no reading or printing between. What one update
-//! costs is the difference of two runs of other counts, over the difference of the counts.
-//!
-//!     updates WORK NODES COUNT
-//!
-//! `relabel` gives a leaf of a flat tree another label while the host is focused, `relabel-unfocused` while it isn't, and
-//! `relabel-made` only makes those updates. `move` moves a subtree of 1,000 nodes to and fro between two parents, and
-//! `move-made` only makes those updates. `build` makes a flat tree of its update and drops it, and `build-made` only makes
-//! and drops that update. NODES are the leaves of the tree. It prints the look-ups of the updates, and how many events
-//! there were.
-#![tactic(auto)]
+//! Updates of a tree. `relabel` gives a leaf of a flat tree another label, and `move` moves a subtree of 1,000 nodes to and fro
+//! between two parents: how many events there were is the sum. `look-ups` relabels, and its sum is the look-ups. `build` makes
+//! a flat tree of its update, and drops it. `relabel-made`, `move-made` and `build-made` only make and drop those updates. The
+//! host is focused, and the focus is on the root.
 
 ghost use Rattle.std.specs.Prelude.{⊤};
 
 use accesskit_consumer::node::NodeRef;
 use accesskit_consumer::tree::{Steps, Tree, TreeChangeHandler};
-use anyhow::Context;
 use schema::{Node, NodeId, Role, TreeId, TreeInfo, TreeUpdate};
 use std::alloc::{AllocError, Global};
-use std::env;
 
 const ROOT: NodeId = NodeId(0);
 
@@ -170,29 +161,39 @@ impl Work {
     }
 }
 
-/// Makes the tree, and sends its updates, or only makes them.
-fn send(
-    alloc: Global,
-    work: Work,
-    leaves: u64,
-    count: u64,
-    is_host_focused: bool,
-    is_sent: bool,
-) -> anyhow::Result<(u128, u64)> {
-    let mut tree = Tree::new(alloc, work.first(alloc, leaves)?, is_host_focused)?;
+/// Makes the tree, sends its updates, and says how many events were told.
+fn send(alloc: Global, work: Work, leaves: u64, count: u64) -> anyhow::Result<u64> {
+    let mut tree = Tree::new(alloc, work.first(alloc, leaves)?, true)?;
+    let mut events = Events { count: 0 };
+    for turn in 1..=count {
+        let update = work.update(alloc, leaves, turn)?;
+        tree.update_and_process_changes(update, &mut events)?;
+    }
+    Ok(events.count)
+}
+
+/// Makes the updates alone.
+fn make(alloc: Global, work: Work, leaves: u64, count: u64) -> Result<u64, AllocError> {
+    for turn in 1..=count {
+        drop(work.update(alloc, leaves, turn)?);
+    }
+    Ok(0)
+}
+
+/// How many look-ups the updates take.
+fn look_ups(alloc: Global, leaves: u64, count: u64) -> anyhow::Result<u64> {
+    let mut tree = Tree::new(alloc, flat(alloc, leaves)?, true)?;
     let mut events = Events { count: 0 };
     let mut steps = Steps::new();
-    for turn in 0..count {
-        let update = work.update(alloc, leaves, turn.saturating_add(1))?;
-        if is_sent {
-            tree.update_and_process_changes_counted(update, &mut events, &mut steps)?;
-        }
+    for turn in 1..=count {
+        let update = relabelled(alloc, leaves, turn)?;
+        tree.update_and_process_changes_counted(update, &mut events, &mut steps)?;
     }
-    Ok((steps.count(), events.count))
+    Ok(u64::try_from(steps.count()).unwrap_or(u64::MAX))
 }
 
 /// Makes the tree so many times, or only its update.
-fn build(alloc: Global, leaves: u64, count: u64, is_sent: bool) -> anyhow::Result<(u128, u64)> {
+fn build(alloc: Global, leaves: u64, count: u64, is_sent: bool) -> anyhow::Result<u64> {
     for _ in 0..count {
         let update = flat(alloc, leaves)?;
         if is_sent {
@@ -200,31 +201,19 @@ fn build(alloc: Global, leaves: u64, count: u64, is_sent: bool) -> anyhow::Resul
             drop(tree);
         }
     }
-    Ok((0, 0))
+    Ok(0)
 }
 
-fn number(text: Option<String>) -> anyhow::Result<u64> {
-    let text = text.context("updates WORK NODES COUNT")?;
-    Ok(text.parse::<u64>()?)
-}
-
-fn main(rt: HostRuntime) -> anyhow::Result<()> {
-    let alloc = rt.alloc();
-    let mut words = env::args(&rt)?;
-    drop(words.next());
-    let work = words.next().context("updates WORK NODES COUNT")?;
-    let leaves = number(words.next())?;
-    let count = number(words.next())?;
-    let (steps, events) = match work.as_str() {
-        "relabel" => send(alloc, Work::Relabel, leaves, count, true, true)?,
-        "relabel-unfocused" => send(alloc, Work::Relabel, leaves, count, false, true)?,
-        "relabel-made" => send(alloc, Work::Relabel, leaves, count, true, false)?,
-        "move" => send(alloc, Work::Move, leaves, count, true, true)?,
-        "move-made" => send(alloc, Work::Move, leaves, count, true, false)?,
-        "build" => build(alloc, leaves, count, true)?,
-        "build-made" => build(alloc, leaves, count, false)?,
-        _ => anyhow::bail!("the work is relabel, move or build"),
-    };
-    println!(rt; "{steps} look-ups, {events} events")?;
-    Ok(())
+/// Does the work so many times.
+pub fn sum(alloc: Global, work: &str, leaves: u64, count: u64) -> anyhow::Result<u64> {
+    match work {
+        "relabel" => send(alloc, Work::Relabel, leaves, count),
+        "relabel-made" => Ok(make(alloc, Work::Relabel, leaves, count)?),
+        "move" => send(alloc, Work::Move, leaves, count),
+        "move-made" => Ok(make(alloc, Work::Move, leaves, count)?),
+        "look-ups" => look_ups(alloc, leaves, count),
+        "build" => build(alloc, leaves, count, true),
+        "build-made" => build(alloc, leaves, count, false),
+        _ => anyhow::bail!("there is no such work"),
+    }
 }

@@ -1,0 +1,51 @@
+"""Builds the programs that are measured, with proof, over what the gate or a check has kept of the crates."""
+
+import os
+import shutil
+import subprocess
+
+HERE = os.path.dirname(os.path.abspath(__file__))
+ATREE = os.path.join(HERE, "..", "crates", "atree")
+
+# The crate of the works is there for as long as it is built: the gate doesn't know it.
+MADE = os.path.join(HERE, "made")
+
+BUILD_FILE = """rattle_crate(
+    name = "works",
+    deps = [
+        "//crates/accesskit_consumer",
+        "//crates/schema",
+        "@rattle//anyhow",
+    ],
+)
+"""
+
+
+def proved(crate, name, *words):
+    """The path of a crate's program, proved, built, and run on these words and no input."""
+    command = ["rt", "run", "--jobs", "2", "--", *words]
+    ran = subprocess.run(command, cwd=crate, stdin=subprocess.DEVNULL, capture_output=True, text=True)
+    if ran.returncode != 0:
+        raise SystemExit(f"{name} isn't built:\n{ran.stdout}{ran.stderr}")
+    return os.path.join(crate, "out", name)
+
+
+def build_works(folder):
+    """The path of the program of the works, in the folder."""
+    try:
+        os.makedirs(os.path.join(MADE, "src"))
+    except FileExistsError:
+        raise SystemExit(f"{MADE} is there already: remove it") from None
+    try:
+        for name in os.listdir(os.path.join(HERE, "works")):
+            shutil.copy(os.path.join(HERE, "works", name), os.path.join(MADE, "src", name.replace(".rs", ".rt")))
+        with open(os.path.join(MADE, "BUILD.bazel"), "w", encoding="utf-8") as file:
+            file.write(BUILD_FILE)
+        return shutil.copy(proved(MADE, "works", "build", "1", "1"), folder)
+    finally:
+        shutil.rmtree(MADE)
+
+
+def build_atree():
+    """The path of the program that reads scripts."""
+    return proved(ATREE, "atree")
