@@ -3,7 +3,7 @@
 ghost use Rattle.std.specs.Prelude.{◌≡◌, ℕ, ◌+◌, ◌<◌, ◌^◌, ⊤, Bool, List, [], ◌++◌, Some, OnOk, OnErr, is_ok, codes, encode_utf8, string_bytes};
 ghost use Rattle.schema.specs.TextCalls.{TextCall, WithText, WithCharacter};
 
-use std::alloc::Global;
+use std::alloc::{AllocError, Global};
 use std::error::Error;
 use std::fmt;
 use std::marker::Model;
@@ -104,13 +104,18 @@ impl TextBuffer {
     }
 
     /// Makes room for the first text and for some that may follow it, so that a text of several parts isn't moved at each of
-    /// them. Where there is no memory for so much, the write asks for as much as it needs.
-    fn make_room(&mut self, text: &str)
+    /// them.
+    ///
+    /// # Errors
+    ///
+    /// There is no memory for so much.
+    fn make_room(&mut self, text: &str) -> Result<(), AllocError>
         ensures { self.new ≡ self.old }
     {
         if self.text.capacity() == 0 && !text.is_empty() {
-            let _ = self.text.reserve(text.len().max(FIRST_ROOM));
+            self.text.reserve(text.len().max(FIRST_ROOM))?;
         }
+        Ok(())
     }
 
     /// The text received.
@@ -138,8 +143,7 @@ impl TextWrite for TextBuffer {
     }
 
     fn write_str(&mut self, text: &str) -> Result<(), TextFault> {
-        self.make_room(text);
-        if self.text.push_str(text).is_err() {
+        if self.make_room(text).is_err() || self.text.push_str(text).is_err() {
             self.failures += 1;
             return Err(TextFault);
         }
