@@ -1,0 +1,96 @@
+//! Finds a button by its role and label as a test harness does, and reads the text of an input by lines and words as a text
+//! reader does.
+#![tactic(auto)]
+
+mod form;
+
+use accesskit_consumer::text::{TextLines, TextRoot};
+use accesskit_consumer::{NodeRef, StateRef, Tree, common_filter};
+use schema::{Action, Role};
+use std::alloc::{AllocError, Global};
+
+/// The first node with this role and label among those that are shown.
+fn find<'a>(
+    alloc: Global,
+    state: StateRef<'a>,
+    role: Role,
+    label: &str,
+) -> Result<Option<NodeRef<'a>>, AllocError> {
+    for node in state.root().filtered_descendants(common_filter) {
+        if node.role() == role && node.label(alloc)?.as_deref() == Some(label) {
+            return Ok(Some(node));
+        }
+    }
+    Ok(None)
+}
+
+/// Prints whether there is a button with this label, and whether it can be clicked.
+fn print_button(
+    rt: &impl Print,
+    alloc: Global,
+    state: StateRef,
+    label: &str,
+) -> anyhow::Result<()> {
+    let Some(button) = find(alloc, state, Role::Button, label)? else {
+        println!(rt; "no button {label:?}")?;
+        return Ok(());
+    };
+    let id = button.id().node;
+    println!(rt;
+        "button {label:?}: node {id}, clickable {}",
+        button.is_clickable(&common_filter)
+    )?;
+    Ok(())
+}
+
+/// Prints each line of the node's text, with the index in UTF-16 at which it starts.
+fn print_lines(rt: &impl Print, alloc: Global, field: NodeRef) -> anyhow::Result<()> {
+    if !field.supports_text_ranges() {
+        println!(rt; "no text")?;
+        return Ok(());
+    }
+    let mut lines = TextLines::new(field);
+    for number in 0..usize::MAX {
+        let Some(line) = lines.line(number) else {
+            break;
+        };
+        let start = line.start().to_global_utf16_index();
+        println!(rt; "line {number} at {start}: {:?}", line.text(alloc)?)?;
+    }
+    Ok(())
+}
+
+/// Prints the index in UTF-16 of each place at which a word or a line of the node's text starts.
+fn print_words(rt: &impl Print, field: NodeRef) -> anyhow::Result<()> {
+    if !field.supports_text_ranges() {
+        return Ok(());
+    }
+    print!(rt; "words at")?;
+    let mut at = field.document_start();
+    for _ in 0..usize::MAX {
+        print!(rt; " {}", at.to_global_utf16_index())?;
+        at = at.forward_to_word_start();
+        if at.is_document_end() {
+            break;
+        }
+    }
+    println!(rt)?;
+    Ok(())
+}
+
+fn main(rt: HostRuntime) -> anyhow::Result<()> {
+    let alloc = rt.alloc();
+    let tree = Tree::new(alloc, form::update(alloc)?, true)?;
+    let state = tree.state().view();
+    print_button(&rt, alloc, state, "Send")?;
+    print_button(&rt, alloc, state, "Discard")?;
+    if let Some(field) = find(alloc, state, Role::MultilineTextInput, "Message")? {
+        print_lines(&rt, alloc, field)?;
+        print_words(&rt, field)?;
+        println!(rt;
+            "supports focus {}",
+            field.supports_action(Action::Focus, &common_filter)
+        )?;
+    }
+    Ok(())
+}
