@@ -3,11 +3,11 @@
 use crate::fields::{Has, node_of};
 use crate::ids::{id, tree_id};
 use crate::recorder::Recorder;
-use accesskit_consumer::node::NodeRef;
-use accesskit_consumer::tree::Tree;
 use schema::{Node, NodeId, Role, TreeInfo, TreeUpdate};
 use std::alloc::{AllocError, Global};
 use std::test::Fail;
+use trees::Tree;
+use views::NodeRef;
 
 /// A node: its id, its role, and what else is sent of it.
 #[derive(Clone, Copy)]

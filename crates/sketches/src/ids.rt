@@ -1,9 +1,9 @@
 //! Ids by their numbers.
 
-use accesskit_consumer::node::FullNodeId;
 use schema::{NodeId, TreeId};
 use std::alloc::{AllocError, Global};
 use uuid::Uuid;
+use views::FullNodeId;
 
 /// The tree's name of this number.
 pub fn tree_id(tree: u128) -> TreeId {

@@ -2,9 +2,9 @@
 
 ghost use Rattle.std.specs.Prelude.{⊤};
 
-use accesskit_consumer::node::{FullNodeId, NodeRef};
-use accesskit_consumer::tree::TreeChangeHandler;
 use std::alloc::Global;
+use trees::TreeChangeHandler;
+use views::{FullNodeId, NodeRef};
 
 /// Names a node: the index of its tree, and its id in the tree.
 pub type Id = (u32, u64);

@@ -1,13 +1,13 @@
 //! What can be done with a node.
 
-use accesskit_consumer::filters::common_filter;
-use accesskit_consumer::node::NodeRef;
-use accesskit_consumer::walks::FilterResult;
 use schema::{Action, HasPopup, Role, Toggled};
 use sketches::Has::{self, ChildAction, Children};
 use sketches::ids::id;
 use sketches::{Sketch, node_of, planted, root_of, row_of, shown};
 use std::test::Fail;
+use views::NodeRef;
+use views::filters::common_filter;
+use views::walks::FilterResult;
 
 /// What is asked of a node.
 #[derive(Clone, Copy, Debug)]

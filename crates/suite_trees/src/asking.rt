@@ -3,14 +3,14 @@
 ghost use Rattle.std.specs.Prelude.{⊤};
 
 use crate::updates::{CHILD_MOVED, FAMILY, INNER_DOCUMENT, INNER_MOVED, OUTER_DOCUMENT, WINDOW};
-use accesskit_consumer::node::NodeRef;
-use accesskit_consumer::tree::{StateRef, TreeChangeHandler};
 use sketches::ids::{id, tree_id};
 use sketches::recorder::Told::{Added, FocusMoved, Removed, Updated};
 use sketches::recorder::{Id, Told, id_of, pair};
 use sketches::{Sent, grown_by};
 use std::alloc::Global;
 use std::test::Fail;
+use trees::TreeChangeHandler;
+use views::{NodeRef, StateRef};
 
 /// Where a state has a node: its parent and its first child.
 #[derive(Clone, Copy, Debug, PartialEq, Eq)]

@@ -1,7 +1,6 @@
 //! How many look-ups an update makes.
 
 use crate::updates::{INNER_DOCUMENT, INNER_MOVED, OUTER_DOCUMENT, WINDOW};
-use accesskit_consumer::tree::{Steps, Tree};
 use schema::{Node, NodeId, Role, TreeId, TreeUpdate};
 use sketches::ids::id;
 use sketches::recorder::{Recorder, Told};
@@ -9,6 +8,7 @@ use sketches::{Has, first_update, grown_by, node_of};
 use std::alloc::{AllocError, Global};
 use std::process::Abort;
 use std::test::Fail;
+use trees::{Steps, Tree};
 
 /// A node that has the ids from `first` on below `end` as its children.
 fn over(alloc: Global, id: u64, first: u64, end: u64) -> Result<(NodeId, Node), AllocError> {

@@ -2,15 +2,15 @@
 
 use crate::mirrors::made_up;
 use crate::mixtures::{Walk, assert_mixture};
-use accesskit_consumer::node::{FullNodeId, NodeRef};
-use accesskit_consumer::tree::Tree;
-use accesskit_consumer::walks::FilterResult::{self, ExcludeNode, ExcludeSubtree, Include};
 use sketches::dice::Dice;
 use sketches::ids::tree_id;
 use sketches::recorder::Recorder;
 use sketches::root_of;
 use std::alloc::Global;
 use std::test::Fail;
+use trees::Tree;
+use views::walks::FilterResult::{self, ExcludeNode, ExcludeSubtree, Include};
+use views::{FullNodeId, NodeRef};
 
 /// No made-up tree has more nodes, its grafted tree's with them.
 const MOST: usize = 16;

@@ -4,7 +4,6 @@ use crate::updates::{
     BUTTON_DROPPED, CHILD_AS_ROOT, CHILD_MOVED, DOCUMENT, FAMILY, FOCUS_ON_CHILD, GRAFT_RENAMED,
     INNER_DOCUMENT, INNER_MOVED, OUTER_DOCUMENT, PLAIN, WINDOW,
 };
-use accesskit_consumer::tree::{Mirror, Tree};
 use schema::{Node, NodeId, Role, TreeId, TreeInfo, TreeUpdate};
 use sketches::Sent;
 use sketches::dice::Dice;
@@ -13,6 +12,7 @@ use sketches::recorder::{Id, Recorder, Told, pair};
 use std::alloc::Global;
 use std::process::Abort;
 use std::test::Fail;
+use trees::{Mirror, Tree};
 
 /// Asserts that both mirrors hold the same records and the same focus.
 fn assert_same(rt: &impl Abort, told: &Mirror, made: &Mirror) -> Result<(), Fail> {

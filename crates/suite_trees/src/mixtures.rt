@@ -1,9 +1,5 @@
 //! Walks taken from both ends in any mixture, also by filters that change their mind.
 
-use accesskit_consumer::filters::common_filter;
-use accesskit_consumer::node::{FullNodeId, NodeRef};
-use accesskit_consumer::tree::Tree;
-use accesskit_consumer::walks::FilterResult;
 use schema::Point;
 use schema::Role::{CheckBox, GenericContainer, Label, ListItem, Window};
 use sketches::Has::{Children, Controls, LabelledBy};
@@ -13,6 +9,10 @@ use std::alloc::{AllocError, Global};
 use std::cell::Cell;
 use std::process::Abort;
 use std::test::Fail;
+use trees::Tree;
+use views::filters::common_filter;
+use views::walks::FilterResult;
+use views::{FullNodeId, NodeRef};
 
 /// The number after the last mixture of up to six calls; the first, which has no calls, is 1. Below a mixture's leading 1
 /// each bit is a call: 1 from the back, 0 from the front.

@@ -1,13 +1,13 @@
 //! Where a node is: its boxes, and the way to it.
 
-use accesskit_consumer::filters::common_filter;
-use accesskit_consumer::node::{FullNodeId, NodeRef};
 use schema::{NodeId, Point, Role, Translation, WideRect, WideTranslation};
 use sketches::Has::{Bounds, Children, Graft, Move};
 use sketches::ids::{id, tree_id};
 use sketches::{BROUGHT, Sent, Sketch, grown_by, planted, shown};
 use std::alloc::Global;
 use std::test::Fail;
+use views::filters::common_filter;
+use views::{FullNodeId, NodeRef};
 
 /// A label that is moved with its container, and once more.
 static MOVED: [Sketch; 3] = [

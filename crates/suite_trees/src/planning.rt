@@ -3,9 +3,7 @@
 use crate::updates::{
     BUTTON_DROPPED, CHILD_AS_ROOT, DOCUMENT, FOCUS_ON_CHILD, GRAFT_RENAMED, PLAIN, WINDOW,
 };
-use accesskit_consumer::tree::{
-    Change, LookUps, NodeRecord, Plan, PlanEvent, TreeRecord, UpdateError, plan_update,
-};
+use model::PlanEvent;
 use schema::{NodeId, TreeId, TreeUpdate};
 use sketches::Sent;
 use sketches::ids::{id, tree_id};
@@ -13,7 +11,8 @@ use sketches::recorder::{Id, Told, pair};
 use std::alloc::Global;
 use std::process::Abort;
 use std::test::Fail;
-use tree_plan::decide;
+use tree_changes::{LookUps, NodeRecord, TreeRecord, UpdateError};
+use tree_plan::{Change, Plan, decide, plan_update};
 use tree_store::{NoRecords, Store, StoreLookUps};
 
 /// A change, without the data of a node. A tree goes by the number of its name.

@@ -1,10 +1,10 @@
 //! What a node says by its role.
 
-use accesskit_consumer::node::NodeRef;
 use schema::{Node, Orientation, Role, named_roles};
 use sketches::{Has, node_of, root_of, row_of};
 use std::process::Abort;
 use std::test::Fail;
+use views::NodeRef;
 
 /// A class of roles.
 #[derive(Clone, Copy, Debug)]

@@ -1,6 +1,5 @@
 //! Fields: each is given as it was set, by its node alone; and nodes are equal where each field is.
 
-use accesskit_consumer::node::NodeRef;
 use schema::{
     Action, AriaCurrent, Color, HasPopup, Live, Node, NodeId, Orientation, Rect, Role,
     SortDirection, TextAlign, TextDecoration, TextDecorationStyle, TextDirection, Toggled,
@@ -10,6 +9,7 @@ use sketches::ids::tree_id;
 use sketches::{Has, node_of, root_of, row_of, selected, shown};
 use std::process::Abort;
 use std::test::Fail;
+use views::NodeRef;
 
 pub const RED: Color = Color {
     red: 255,

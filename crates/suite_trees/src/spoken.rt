@@ -1,11 +1,11 @@
 //! Labels, values and placeholders, as they are asked for and as they are written.
 
-use accesskit_consumer::node::NodeRef;
 use schema::{Role, TextBuffer};
 use sketches::Has::{Children, Label, LabelledBy, Lengths, Placeholder, Value};
 use sketches::{Sketch, planted, root_of, shown};
 use std::alloc::Global;
 use std::test::Fail;
+use views::NodeRef;
 
 /// A check box that two labels name, inputs with a text and without one, a button with a value and an image, inputs of many
 /// lines and of a password, and a button whose label is in a paragraph.

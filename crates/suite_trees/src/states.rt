@@ -1,6 +1,5 @@
 //! What a state answers of roots, names, focus and dialogs.
 
-use accesskit_consumer::tree::{StateRef, Tree};
 use schema::{NodeId, Role, TreeId, TreeInfo, TreeUpdate};
 use sketches::Has::{Active, Children, Graft};
 use sketches::ids::{id, tree_id};
@@ -8,6 +7,8 @@ use sketches::recorder::{Id, Recorder, id_of, pair};
 use sketches::{BROUGHT, CHANGED, Sent, Sketch, grown_by};
 use std::alloc::Global;
 use std::test::Fail;
+use trees::Tree;
+use views::StateRef;
 
 /// A window has a dialog, with a graft in it, and a button, of which the dialog is the active descendant.
 const WINDOW: Sent = Sent {

@@ -2,10 +2,6 @@
 
 ghost use Rattle.std.specs.Prelude.{⊤};
 
-use accesskit_consumer::filters::common_filter;
-use accesskit_consumer::node::{FullNodeId, NodeRef};
-use accesskit_consumer::tree::Tree;
-use accesskit_consumer::walks::{ByFn, Filter, FilterResult};
 use schema::Point;
 use schema::Role::{GenericContainer, Label, ListBox, ListBoxOption, Window};
 use sketches::Has::{Bounds, Children, Controls, PositionInSet, SizeOfSet};
@@ -14,6 +10,10 @@ use sketches::{Sketch, planted, shown};
 use std::alloc::Global;
 use std::process::Abort;
 use std::test::Fail;
+use trees::Tree;
+use views::filters::common_filter;
+use views::walks::{ByFn, Filter, FilterResult};
+use views::{FullNodeId, NodeRef};
 
 /// A window with five labels, of which the third controls two others and a node that isn't there.
 fn row(alloc: Global) -> Result<Tree, Fail> {
