@@ -43,31 +43,44 @@ fn button(alloc: Global, label: &str) -> Result<Node, AllocError> {
     Ok(button)
 }
 
+/// A button that is there, and isn't shown.
+fn hidden_button(alloc: Global, label: &str) -> Result<Node, AllocError> {
+    let mut button = button(alloc, label)?;
+    button.set_hidden();
+    Ok(button)
+}
+
+/// The input, which can take the focus.
+fn message(alloc: Global) -> Result<Node, AllocError> {
+    let lines = &[FIRST_LINE, SECOND_LINE];
+    let mut message = labelled(alloc, Role::MultilineTextInput, "Message", lines)?;
+    message.add_action(Action::Focus);
+    Ok(message)
+}
+
+/// The nodes of the text.
+fn push_lines(nodes: &mut Vec<(NodeId, Node)>, alloc: Global) -> Result<(), AllocError> {
+    let first = run(alloc, "à demain\n", &[2, 1, 1, 1, 1, 1, 1, 1, 1], &[0, 2])?;
+    nodes.push((FIRST_LINE, first))?;
+    let second = run(alloc, "Zoë", &[1, 1, 2], &[0])?;
+    nodes.push((SECOND_LINE, second))?;
+    Ok(())
+}
+
+/// The nodes of the buttons.
+fn push_buttons(nodes: &mut Vec<(NodeId, Node)>, alloc: Global) -> Result<(), AllocError> {
+    nodes.push((SEND, button(alloc, "Send")?))?;
+    nodes.push((DISCARD, hidden_button(alloc, "Discard")?))?;
+    Ok(())
+}
+
 /// The form, with the focus on the message.
 pub fn update(alloc: Global) -> Result<TreeUpdate, AllocError> {
-    let mut message = labelled(
-        alloc,
-        Role::MultilineTextInput,
-        "Message",
-        &[FIRST_LINE, SECOND_LINE],
-    )?;
-    message.add_action(Action::Focus);
-    let mut discard = button(alloc, "Discard")?;
-    discard.set_hidden();
-    let nodes = vec![in alloc;
-        (
-            WINDOW,
-            labelled(alloc, Role::Window, "Mail", &[MESSAGE, SEND, DISCARD])?
-        ),
-        (MESSAGE, message),
-        (
-            FIRST_LINE,
-            run(alloc, "à demain\n", &[2, 1, 1, 1, 1, 1, 1, 1, 1], &[0, 2])?
-        ),
-        (SECOND_LINE, run(alloc, "Zoë", &[1, 1, 2], &[0])?),
-        (SEND, button(alloc, "Send")?),
-        (DISCARD, discard),
-    ]?;
+    let window = labelled(alloc, Role::Window, "Mail", &[MESSAGE, SEND, DISCARD])?;
+    let mut nodes = vec![in alloc; (WINDOW, window)]?;
+    nodes.push((MESSAGE, message(alloc)?))?;
+    push_lines(&mut nodes, alloc)?;
+    push_buttons(&mut nodes, alloc)?;
     Ok(TreeUpdate {
         nodes,
         tree: Some(TreeInfo::new(WINDOW)),
