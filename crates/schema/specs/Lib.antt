@@ -1,4 +1,6 @@
 pub mod Actions
+pub mod Boxes
+pub mod Drafts
 pub mod NodeData
 pub mod Parts
 pub mod RareTexts

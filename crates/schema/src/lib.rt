@@ -11,6 +11,7 @@ ghost use Rattle.schema.specs.NodeData.{empty_node};
 ghost use Rattle.schema.specs.TreeIds.{root_tree_id};
 
 mod actions;
+mod builder;
 mod copies;
 mod equality;
 mod flags;
@@ -30,6 +31,7 @@ mod values;
 
 pub use actions::Action;
 use actions::ActionSet;
+pub use builder::NodeBuilder;
 pub use geometry::{Point, Rect, Translation, WideRect, WideTranslation};
 use plain_fields::PlainFields;
 use rare_texts::RareTexts;
@@ -57,6 +59,24 @@ impl fmt::Display for NodeId {
     fn fmt<W: fmt::Write>(&self, f: &mut fmt::Formatter<W>) -> fmt::Result {
         let number = self.0;
         write!(f, "{number}")
+    }
+}
+
+/// The id with this number.
+impl From<u64> for NodeId {
+    ghost from_gives = { λ number id. id ≡ record { 0 = number } };
+
+    fn from(number: u64) -> NodeId {
+        NodeId(number)
+    }
+}
+
+/// The id's number.
+impl From<NodeId> for u64 {
+    ghost from_gives = { λ id number. number ≡ id.0 };
+
+    fn from(id: NodeId) -> u64 {
+        id.0
     }
 }
 

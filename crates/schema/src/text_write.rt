@@ -1,6 +1,6 @@
 //! Writers of text, which count the calls that fail.
 
-ghost use Rattle.std.specs.Prelude.{◌≡◌, ℕ, ◌+◌, ◌<◌, ◌^◌, ⊤, Bool, List, [], ◌++◌, Some, OnOk, OnErr, is_ok, codes, encode_utf8, string_bytes};
+ghost use Rattle.std.specs.Prelude.{◌≡◌, ◌≢◌, ℕ, ◌+◌, ◌<◌, ◌^◌, ⊤, Bool, List, [], ◌++◌, Some, OnOk, OnErr, is_ok, MatchResult, codes, encode_utf8, string_bytes};
 ghost use Rattle.schema.specs.TextCalls.{TextCall, WithText, WithCharacter};
 
 use std::alloc::{AllocError, Global};
@@ -130,6 +130,23 @@ impl TextBuffer {
         ensures { string_bytes result ≡ self.text }
     {
         self.text
+    }
+
+    /// The text received, if it is all that was to be written.
+    ///
+    /// # Errors
+    ///
+    /// `TextFault`: a write failed, so that something may be missing.
+    pub fn finish(self) -> Result<String, TextFault>
+        ensures { MatchResult result
+            (λ text. (self.failures ≡ 0) × (string_bytes text ≡ self.text))
+            (λ _. self.failures ≢ 0) }
+    {
+        if self.failures == 0 {
+            Ok(self.text)
+        } else {
+            Err(TextFault)
+        }
     }
 }
 
