@@ -19,7 +19,7 @@ by_test false d = inr (λ p. let e : false ≡ true = d.1 p in cc)
 pub same_or_not : {A : Type 0} (c : Coded A) (x y : A) → (x ≡ y) ⊎ (x ≢ y)
 same_or_not c x y = by_test (same_by c x y) (same_by-decides c x y)
 
-same_inside : {A : Type 0} (x y : A) → Some x ≡ Some y → x ≡ y
+pub same_inside : {A : Type 0} (x y : A) → Some x ≡ Some y → x ≡ y
 same_inside x y e = cc
 
 option_same_or_not : {A : Type 0} → ((x y : A) → (x ≡ y) ⊎ (x ≢ y)) → (o p : Option A) → (o ≡ p) ⊎ (o ≢ p)

@@ -1,5 +1,5 @@
 -- What is proved of events and differences.
-use Rattle.std.specs.Prelude.{◌≡◌, ◌≢◌, ℕ, Bool, List, [], ◌∷◌, ◌++◌, take, Contains, Option, Some, None, IfSome, ◌↔◌, ◌⊎◌}
+use Rattle.std.specs.Prelude.{◌≡◌, ◌≢◌, ℕ, Bool, List, [], ◌∷◌, ◌++◌, take, slice_get, Contains, Option, Some, None, IfSome, ◌↔◌, ◌⊎◌}
 use Rattle.std.specs.List.{AllZip, AllPairs}
 use Rattle.model.specs.declared.FullNodeId.{FullNodeId}
 use Rattle.model.specs.World.{World, IsNode, in_tree}
@@ -119,6 +119,12 @@ abbrev pub StoppedRunBegins : Type 0
 StoppedRunBegins =
     (old new : World) (commands : List CommandData) (done : ℕ) (told : List Event) (replies : List ReplyData) → Runs old commands new told replies → MayStop done commands
     → (at : World) × (first rest : List Event) × RunsUpTo done old commands at first (take done replies) × (told ≡ first ++ rest)
+
+-- Where a run stops after its start, no change is lost: the next command would have left the world as it is, and told nothing.
+abbrev pub StopLosesNoChange : Type 0
+StopLosesNoChange =
+    (old at new : World) (commands : List CommandData) (done : ℕ) (told heard : List Event) (replies : List ReplyData) (next : CommandData) (reply : ReplyData)
+    → RunsUpTo done old commands at told replies → done ≢ 0 → slice_get commands done ≡ Some next → Does at next new heard reply → (new ≡ at) × (heard ≡ [])
 
 -- there is only one set of records of a world
 abbrev pub RecordsAreOne : Type 0

@@ -7,6 +7,7 @@ use Rattle.model.specs.World.{World, Tree, IsNode, graft_name, index_of, name_of
 use Rattle.model.specs.Focus.{IsEffectiveFocus, IsFocusId, IsFocus, IsFocusedNode, IsActiveDialog}
 use Rattle.model.specs.Update.{UpdateData, InfoData, Fault, Stands, KeepsRules, IsRebuild, IsAccepted, index_for, merged_world}
 use Rattle.model.specs.State.{IsState, IsLater, empty_world, with_host, idle_update}
+use Rattle.model.specs.Run.{Begins}
 
 -- a merged world has one rebuild
 abbrev pub RebuildIsOne : Type 0
@@ -34,7 +35,7 @@ UpdateLeavesState = (old : World) (u : UpdateData) (new : World) → IsState old
 
 -- and so does a first update
 abbrev pub FirstLeavesState : Type 0
-FirstLeavesState = (host_focused : Bool) (u : UpdateData) (new : World) → IsAccepted (empty_world host_focused) u new → IsState new
+FirstLeavesState = (host_focused : Bool) (u : UpdateData) (new : World) → Begins host_focused u new → IsState new
 
 -- and a change of the host's focus
 abbrev pub HostFocusLeavesState : Type 0

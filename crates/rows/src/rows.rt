@@ -54,6 +54,14 @@ impl<V: Copy + Drop> Rows<V> {
         &self.items
     }
 
+    /// The entries themselves, in the order of their ids.
+    pub fn into_entries(self) -> Vec<(FullNodeId, V)>
+        ensures all { result.items ≡ self }
+        ensures ascends { Ascends self }
+    {
+        self.items
+    }
+
     /// The value at an id. It is looked for where the last search ended, as `near` says, and then everywhere.
     #[tactic(auto, using(crate::proofs::Places::at_end, crate::proofs::Places::found_here, crate::proofs::Places::not_here))]
     pub fn get_near(&self, id: FullNodeId, near: &mut usize) -> Option<V>

@@ -57,11 +57,11 @@ pub same_nodes : (es fs : Slots) → ((id : FullNodeId) → record_at fs id ≡ 
 same_nodes es fs same = same_map full_total exact_full _ _ (λ q. get-nodes_shown fs q ∙ ap node_in (same q) ∙ sym (get-nodes_shown es q))
 
 -- a store with room shows what it showed, and keeps what it kept
-module _ (a b : Inside) (stored : IsStored a (world_shown a)) (nodes : (id : FullNodeId) → record_at b.tables.nodes.entries id ≡ record_at a.tables.nodes.entries id)
+module _ (a b : Inside) (stored : IsStored a (world_shown a)) (nodes : (id : FullNodeId) → record_at b.tables.nodes id ≡ record_at a.tables.nodes id)
     (names : (name : TreeId) → kept_in (name_at b.tables.names name) ≡ kept_in (name_at a.tables.names name)) (known : b.tables.known.items ≡ a.tables.known.items)
     (texts : texts_shown b.tables.toolkit ≡ texts_shown a.tables.toolkit) (host : b.host_focused ≡ a.host_focused) (focus : b.focus ≡ a.focus) where
   pub world_same : world_shown b ≡ world_shown a
-  world_same = λ i. record { known = names_shown (known i); trees = trees_shown 0 (known i); nodes = same_nodes a.tables.nodes.entries b.tables.nodes.entries nodes i; toolkit = texts i; host_focused = host i }
+  world_same = λ i. record { known = names_shown (known i); trees = trees_shown 0 (known i); nodes = same_nodes a.tables.nodes b.tables.nodes nodes i; toolkit = texts i; host_focused = host i }
 
   stored_by : (v : World) → v ≡ world_shown a → IsStored b v
   stored_by v e = subst (IsStored b) (sym e) (record {
@@ -145,24 +145,24 @@ pub record_of_name : (a : Inside) (name : TreeId) → NamesAreTrue a.tables.name
 record_of_name a name stored = (_, stored_record a name (name_at a.tables.names name) _ _ _ stored refl refl refl refl)
 
 -- a store whose changes are written shows the world with the changes, and keeps what that asks
-module _ (a b : Inside) (u : UpdateData) (d : Decision) (old_places : HasTruePlaces a.tables.nodes.entries (world_shown a)) (old_names : NamesAreTrue a.tables.names (world_shown a)) (leaves : IsState (overlaid_world (world_shown a) u d)) (decided : IsDecision (world_shown a) u d)
-    (records : (id : FullNodeId) → record_at b.tables.nodes.entries id ≡ changed_record u.nodes (change_at d.nodes.items id) (record_at a.tables.nodes.entries id))
+module _ (a b : Inside) (u : UpdateData) (d : Decision) (old_places : HasTruePlaces a.tables.nodes (world_shown a)) (old_names : NamesAreTrue a.tables.names (world_shown a)) (leaves : IsState (overlaid_world (world_shown a) u d)) (decided : IsDecision (world_shown a) u d)
+    (records : (id : FullNodeId) → record_at b.tables.nodes id ≡ changed_record u.nodes (change_at d.nodes.items id) (record_at a.tables.nodes id))
     (known : names_shown b.tables.known.items ≡ known_after (world_shown a) u.name) (trees : trees_shown 0 b.tables.known.items ≡ put_trees (trees_shown 0 a.tables.known.items) d.trees.items)
     (names : (name : TreeId) → name_at b.tables.names name ≡ name_after (tree_change d.trees.items name) (name_at a.tables.names name))
     (texts : texts_shown b.tables.toolkit ≡ toolkit_after (world_shown a) u) (host : b.host_focused ≡ a.host_focused) (focus : b.focus ≡ d.focus) where
-  nodes_written : nodes_shown b.tables.nodes.entries ≡ put_all u.nodes (nodes_shown a.tables.nodes.entries) d.nodes.items
+  nodes_written : nodes_shown b.tables.nodes ≡ put_all u.nodes (nodes_shown a.tables.nodes) d.nodes.items
   nodes_written = same_map full_total exact_full _ _ (λ q.
-      get-nodes_shown b.tables.nodes.entries q ∙ ap node_in (records q) ∙ node_after u.nodes (change_at d.nodes.items q) (record_at a.tables.nodes.entries q)
-      ∙ ap (effect u.nodes (change_at d.nodes.items q)) (sym (get-nodes_shown a.tables.nodes.entries q)) ∙ sym (get-put_all u.nodes (nodes_shown a.tables.nodes.entries) d.nodes.items q))
+      get-nodes_shown b.tables.nodes q ∙ ap node_in (records q) ∙ node_after u.nodes (change_at d.nodes.items q) (record_at a.tables.nodes q)
+      ∙ ap (effect u.nodes (change_at d.nodes.items q)) (sym (get-nodes_shown a.tables.nodes q)) ∙ sym (get-put_all u.nodes (nodes_shown a.tables.nodes) d.nodes.items q))
 
   pub world_written : world_shown b ≡ overlaid_world (world_shown a) u d
   world_written = λ i. record { known = known i; trees = trees i; nodes = nodes_written i; toolkit = texts i; host_focused = host i }
 
-  place_by : (id : FullNodeId) (r : Record) (o : Option NodeChange) → change_at d.nodes.items id ≡ o → changed_record u.nodes o (record_at a.tables.nodes.entries id) ≡ Some r → IsPlaceOf (overlaid_world (world_shown a) u d) id r.place
+  place_by : (id : FullNodeId) (r : Record) (o : Option NodeChange) → change_at d.nodes.items id ≡ o → changed_record u.nodes o (record_at a.tables.nodes id) ≡ Some r → IsPlaceOf (overlaid_world (world_shown a) u d) id r.place
   place_by id r None is e p =
       let here = old_places id r e p in
       ((λ at. decided.others id p is (here.0 at)), (λ at. here.1 (decided.others_back id p is at)))
-  place_by id r (Some c) is e p = subst (IsPlaceOf (overlaid_world (world_shown a) u d) id) (sym (place_after u.nodes c (record_at a.tables.nodes.entries id) r e)) (decided.changes id c is).place p
+  place_by id r (Some c) is e p = subst (IsPlaceOf (overlaid_world (world_shown a) u d) id) (sym (place_after u.nodes c (record_at a.tables.nodes id) r e)) (decided.changes id c is).place p
 
   record_before : (name : TreeId) → (t : Option PresentTree) × IsTreeRecord (world_shown a) name (record_of name (option_and_then (λ r. r.index) (name_at a.tables.names name)) (option_and_then (λ r. r.graft) (name_at a.tables.names name)) t)
   record_before name = (_, stored_record a name (name_at a.tables.names name) _ _ _ old_names refl refl refl refl)
@@ -191,18 +191,18 @@ module _ (a b : Inside) (u : UpdateData) (d : Decision) (old_places : HasTruePla
   stored_written = written_by (world_shown b) world_written
 
 -- before anything is written a store of no record shows the empty world, and keeps what that asks
-module _ (a : Inside) (host : Bool) (known : a.tables.known.items ≡ []) (nodes : (id : FullNodeId) → record_at a.tables.nodes.entries id ≡ None)
+module _ (a : Inside) (host : Bool) (known : a.tables.known.items ≡ []) (nodes : (id : FullNodeId) → record_at a.tables.nodes id ≡ None)
     (names : (name : TreeId) → kept_in (name_at a.tables.names name) ≡ (None, None)) (texts : texts_shown a.tables.toolkit ≡ (None, None)) (told : a.host_focused ≡ host) where
   pub blank_world : world_shown a ≡ empty_world host
   blank_world = λ i. record {
     known = names_shown (known i);
     trees = trees_shown 0 (known i);
-    nodes = same_map full_total exact_full (nodes_shown a.tables.nodes.entries) empty (λ q. get-nodes_shown a.tables.nodes.entries q ∙ ap node_in (nodes q) ∙ sym (get-empty full_cmp q)) i;
+    nodes = same_map full_total exact_full (nodes_shown a.tables.nodes) empty (λ q. get-nodes_shown a.tables.nodes q ∙ ap node_in (nodes q) ∙ sym (get-empty full_cmp q)) i;
     toolkit = texts i;
     host_focused = told i;
   }
 
-  pub blank_places : HasTruePlaces a.tables.nodes.entries (world_shown a)
+  pub blank_places : HasTruePlaces a.tables.nodes (world_shown a)
   blank_places id r e = let none : None ≡ Some r = sym (nodes id) ∙ e in cc
 
   ungrafted : (g : FullNodeId) (name : TreeId) → graft_name (world_shown a) g ≡ Some name → ⊥

@@ -32,8 +32,8 @@ module _ (a : Inside) (v : World) (shows : world_shown a ≡ v) (old_names : Nam
   pub indexes_within : All (λ r. IfSome r.index (λ i. i < length (with_name is_new (names_shown a.tables.known.items) u.name))) d.trees.items
   indexes_within = subst (λ l. All (λ r. IfSome r.index (λ i. i < length l)) d.trees.items) (sym names_known) (indexes_known (world_shown a) u d decided (λ name. record_of_name a name old_names))
 
-  module _ (b : Inside) (old_places : HasTruePlaces a.tables.nodes.entries (world_shown a)) (leaves : IsState (overlaid_world v u d)) (is_root : Bool) (root : is_root ≡ (index_for v u.name == 0))
-      (records : (id : FullNodeId) → record_at b.tables.nodes.entries id ≡ changed_record u.nodes (change_at d.nodes.items id) (record_at a.tables.nodes.entries id))
+  module _ (b : Inside) (old_places : HasTruePlaces a.tables.nodes (world_shown a)) (leaves : IsState (overlaid_world v u d)) (is_root : Bool) (root : is_root ≡ (index_for v u.name == 0))
+      (records : (id : FullNodeId) → record_at b.tables.nodes id ≡ changed_record u.nodes (change_at d.nodes.items id) (record_at a.tables.nodes id))
       (known : names_shown b.tables.known.items ≡ with_name is_new (names_shown a.tables.known.items) u.name) (trees : trees_shown 0 b.tables.known.items ≡ put_trees (trees_shown 0 a.tables.known.items) d.trees.items)
       (names : (name : TreeId) → name_at b.tables.names name ≡ name_after (tree_change d.trees.items name) (name_at a.tables.names name))
       (texts : texts_shown b.tables.toolkit ≡ texts_after (if is_root then u.info else None) (texts_shown a.tables.toolkit)) (host : b.host_focused ≡ a.host_focused) (focus : b.focus ≡ d.focus) where

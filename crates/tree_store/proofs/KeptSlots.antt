@@ -1,16 +1,17 @@
 -- Slots that are made, filled and taken away.
 use Rattle.std.proofs.Common.{◌≡◌, Bool, true, false, cond, Option, Some, None, refl, sym, ap, subst, ◌∙◌}
-use Rattle.std.specs.Prelude.{is_some}
+use Rattle.std.specs.Prelude.{is_some, IsSome, OnSome}
 use Rattle.std.specs.BTreeMap.{is_at}
 use Rattle.std.specs.Cmp.{Equal-is, eq_by_cmp_equiv}
-use Rattle.std.specs.Map.{lookup}
+use Rattle.std.specs.Map.{lookup, set_value}
+use Rattle.std.proofs.lemmas.Map.{lookup-set_value}
 use Rattle.std.specs.Ordering.{eq_by_cmp}
 use Rattle.std.specs.declared.boxed.Box.{Box}
 use Rattle.std.specs.declared.alloc.Global.{Global}
 use Rattle.model.specs.declared.FullNodeId.{FullNodeId}
 use Rattle.model.specs.FullIds.{full_cmp, full_total, exact_full}
 use Rattle.tree_store.specs.declared.records.Record.{Record}
-use Rattle.tree_store.specs.Stored.{Slots, record_at, record_in}
+use Rattle.tree_store.specs.Stored.{Slots, slot_at, record_at, record_in}
 use Rattle.tree_store.proofs.Maps.{held}
 
 pub same_id : (k q : FullNodeId) → is_at (full_cmp k) q ≡ true → k ≡ q
@@ -36,3 +37,20 @@ record_none es k e = ap (λ o. record_in (held o)) (none_from_false (lookup (is_
 
 pub symmetric : (k q : FullNodeId) → eq_by_cmp full_cmp q k ≡ is_at (full_cmp k) q
 symmetric k q = (eq_by_cmp_equiv full_total).symm q k
+
+pub from_some : {A : Type 0} (r : Option A) (x : A) (P : Type 0) → r ≡ Some x → OnSome r P → P
+from_some None x P e h = cc
+from_some (Some y) x P e h = h
+
+held-cond : (b : Bool) (w : Box (Option Record) Global) (o : Option (Box (Option Record) Global)) → held (cond b (Some w) o) ≡ cond b (Some w.value) (held o)
+held-cond true w o = refl
+held-cond false w o = refl
+
+-- what there is at each id once a slot has been written
+pub written : (es n : Slots) (id : FullNodeId) (b w : Box (Option Record) Global) (r : Option Record) → n ≡ set_value (is_at (full_cmp id)) es w → Some b ≡ lookup (is_at (full_cmp id)) es → w.value ≡ r
+    → (q : FullNodeId) → slot_at n q ≡ cond (is_at (full_cmp id) q) (Some r) (slot_at es q)
+written es n id b w r e there v q =
+    ap (λ (l : Slots). slot_at l q) e
+    ∙ ap held (lookup-set_value (eq_by_cmp_equiv full_total) (is_at (full_cmp id)) (λ x y s. ap (λ k. is_at (full_cmp k) y) (same_id id x s)) q w es (subst IsSome there refl))
+    ∙ held-cond (is_at (full_cmp id) q) w (lookup (is_at (full_cmp q)) es)
+    ∙ ap (λ x. cond (is_at (full_cmp id) q) (Some x) (slot_at es q)) v

@@ -15,7 +15,7 @@ abbrev pub world_shown : Inside → World
 world_shown a = record {
   known = names_shown a.tables.known.items;
   trees = trees_shown 0 a.tables.known.items;
-  nodes = nodes_shown a.tables.nodes.entries;
+  nodes = nodes_shown a.tables.nodes;
   toolkit = texts_shown a.tables.toolkit;
   host_focused = a.host_focused;
 }
@@ -28,6 +28,6 @@ pub record NamesAreTrue (m : BTreeMap TreeId NameRecord) (w : World) : Type 0 wh
 -- a store's records are those of the world that it shows, which is a state
 pub record IsStored (a : Inside) (w : World) : Type 0 where
   pub state : IsState w
-  pub places : HasTruePlaces a.tables.nodes.entries w
+  pub places : HasTruePlaces a.tables.nodes w
   pub names : NamesAreTrue a.tables.names w
   pub focus : IsEffectiveFocus w a.focus

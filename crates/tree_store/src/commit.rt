@@ -20,6 +20,7 @@ use crate::overlay::is_root_index;
 use crate::records::{KnownTree, Tables};
 use crate::slots::{make_room, take_back, write_all};
 use crate::store::Store;
+use id_index::IdIndex;
 use schema::{TreeInfo, TreeUpdate};
 use std::alloc::{AllocError, Global};
 use std::collections::BTreeMap;
@@ -75,7 +76,7 @@ impl Store {
     {
         let mut tables = Tables {
             alloc,
-            nodes: BTreeMap::new(alloc),
+            nodes: IdIndex::new(alloc),
             known: Vec::new(alloc),
             names: BTreeMap::new(alloc),
             toolkit: (None, None),
@@ -99,7 +100,7 @@ impl Tables {
         is_new: bool,
         is_root: bool,
     )
-        requires room { HasRoomFor self.old.nodes.entries decision.now.nodes.items }
+        requires room { HasRoomFor self.old.nodes decision.now.nodes.items }
         requires ascending { IsStrictlySortedBy full_cmp (map (λ e. e.0) decision.now.nodes.items) }
         requires entries { HasEntries update.nodes.items decision.now.nodes.items }
         requires apart { AreEntriesApart decision.now.nodes.items }
@@ -107,8 +108,8 @@ impl Tables {
         requires once { AllPairs (λ a b. a.id ≢ b.id) decision.now.trees.items }
         requires spare { is_new ≡ true → vec_len self.old.known < vec_capacity self.old.known }
         requires indexes { All (λ r. IfSome r.index (λ i. i < length (with_name is_new (names_shown self.old.known.items) update.tree_id))) decision.now.trees.items }
-        ensures records { (id : FullNodeId) → record_at self.new.nodes.entries id ≡ changed_record update.nodes.items (change_at decision.now.nodes.items id) (record_at self.old.nodes.entries id) }
-        ensures tight { HasNoSpare self.new.nodes.entries }
+        ensures records { (id : FullNodeId) → record_at self.new.nodes id ≡ changed_record update.nodes.items (change_at decision.now.nodes.items id) (record_at self.old.nodes id) }
+        ensures tight { HasNoSpare self.new.nodes }
         ensures kept { (name : TreeId) → name_at self.new.names name ≡ name_after (tree_change decision.now.trees.items name) (name_at self.old.names name) }
         ensures names { names_shown self.new.known.items ≡ with_name is_new (names_shown self.old.known.items) update.tree_id }
         ensures trees { trees_shown 0 self.new.known.items ≡ put_trees (trees_shown 0 self.old.known.items) decision.now.trees.items }
@@ -134,15 +135,15 @@ impl Tables {
     /// Makes a slot for each changed node, a record for each changed name, and room for a new one. Where memory is refused all is
     /// taken back.
     fn make_all(&mut self, is_new: bool, decision: &Decision) -> Result<(), AllocError>
-        requires { HasNoSpare self.old.nodes.entries }
-        ensures nodes { (id : FullNodeId) → record_at self.new.nodes.entries id ≡ record_at self.old.nodes.entries id }
+        requires { HasNoSpare self.old.nodes }
+        ensures nodes { (id : FullNodeId) → record_at self.new.nodes id ≡ record_at self.old.nodes id }
         ensures names { (name : TreeId) → kept_in (name_at self.new.names name) ≡ kept_in (name_at self.old.names name) }
         ensures known { self.new.known.items ≡ self.old.known.items }
         ensures texts { self.new.toolkit ≡ self.old.toolkit }
-        ensures room { OnOk result (HasRoomFor self.new.nodes.entries decision.now.nodes.items) }
+        ensures room { OnOk result (HasRoomFor self.new.nodes decision.now.nodes.items) }
         ensures there { OnOk result (HasNames self.new.names decision.now.trees.items) }
         ensures spare { OnOk result (is_new ≡ true → vec_len self.new.known < vec_capacity self.new.known) }
-        ensures err { OnErr result (HasNoSpare self.new.nodes.entries) }
+        ensures err { OnErr result (HasNoSpare self.new.nodes) }
         ensures fewer { OnErr result (HasNoMore self.old.names self.new.names) }
     {
         make_room(self.alloc, &mut self.nodes, decision.nodes.as_slice())?;

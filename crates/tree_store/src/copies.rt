@@ -5,7 +5,7 @@ ghost use Rattle.tree_store.specs.Copied.{IsCopyOf, copy_at, copy_of};
 ghost use Rattle.tree_store.specs.Stored.{record_at};
 
 use crate::records::Record;
-use crate::slots::Slots;
+use crate::slots::{Slots, record};
 use crate::store::Store;
 use model::{FullNodeId, Place};
 use schema::Node;
@@ -37,11 +37,12 @@ impl Store {
 
 // a copy of each filled slot
 fn copy_all(alloc: Global, slots: &Slots) -> Result<BTreeMap<FullNodeId, MirrorRecord>, AllocError>
-    ensures { IfOk result (λ copies. (id : FullNodeId) → copy_at copies.entries id ≡ option_map copy_of (record_at slots.now.entries id)) }
+    ensures { IfOk result (λ copies. (id : FullNodeId) → copy_at copies.entries id ≡ option_map copy_of (record_at slots.now id)) }
 {
+    let ids = slots.ids(alloc)?;
     let mut copies = BTreeMap::new(alloc);
-    for (id, slot) in slots.iter() {
-        if let Some(record) = &**slot {
+    for id in &ids {
+        if let Some(record) = record(slots, *id) {
             let copy = copy_record(record)?;
             drop(copies.insert(*id, copy)?);
         }

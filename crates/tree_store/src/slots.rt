@@ -11,19 +11,19 @@ ghost use Rattle.tree_changes.specs.declared.decision.NodeChange.TheVariants.{Pu
 ghost use Rattle.tree_store.specs.declared.records.Record.{Record};
 
 use crate::records::Record;
+use id_index::IdIndex;
 use model::{FullNodeId, Place};
 use schema::{Node, NodeId, Role};
 use std::alloc::{AllocError, Global};
-use std::collections::BTreeMap;
 use std::mem;
 use tree_changes::NodeChange;
 
 /// An empty slot is one that a commit fills.
-pub(crate) type Slots = BTreeMap<FullNodeId, Box<Option<Record>>>;
+pub(crate) type Slots = IdIndex<Box<Option<Record>>>;
 
 /// The record of an id, where there is one.
 pub(crate) fn record(slots: &Slots, id: FullNodeId) -> Option<&Record>
-    ensures { option_copied result ≡ record_at slots.now.entries id }
+    ensures { option_copied result ≡ record_at slots.now id }
 {
     filled(slots.get(&id)?)
 }
@@ -40,10 +40,10 @@ pub(crate) fn make_room(
     slots: &mut Slots,
     changes: &[(FullNodeId, NodeChange)],
 ) -> Result<(), AllocError>
-    requires { HasNoSpare slots.old.entries }
-    ensures same { (id : FullNodeId) → record_at slots.new.entries id ≡ record_at slots.old.entries id }
-    ensures ok { OnOk result (HasRoomFor slots.new.entries changes.now) }
-    ensures err { OnErr result (HasNoSpare slots.new.entries) }
+    requires { HasNoSpare slots.old }
+    ensures same { (id : FullNodeId) → record_at slots.new id ≡ record_at slots.old id }
+    ensures ok { OnOk result (HasRoomFor slots.new changes.now) }
+    ensures err { OnErr result (HasNoSpare slots.new) }
 {
     for change in changes {
         if add_slot(alloc, slots, change.0).is_err() {
@@ -55,9 +55,9 @@ pub(crate) fn make_room(
 }
 
 fn add_slot(alloc: Global, slots: &mut Slots, id: FullNodeId) -> Result<(), AllocError>
-    ensures same { (q : FullNodeId) → record_at slots.new.entries q ≡ record_at slots.old.entries q }
-    ensures ok { OnOk result ((q : FullNodeId) → is_some (slot_at slots.new.entries q) ≡ (is_at (full_cmp id) q || is_some (slot_at slots.old.entries q))) }
-    ensures err { OnErr result ((q : FullNodeId) → is_some (slot_at slots.new.entries q) ≡ is_some (slot_at slots.old.entries q)) }
+    ensures same { (q : FullNodeId) → record_at slots.new q ≡ record_at slots.old q }
+    ensures ok { OnOk result ((q : FullNodeId) → is_some (slot_at slots.new q) ≡ (is_at (full_cmp id) q || is_some (slot_at slots.old q))) }
+    ensures err { OnErr result ((q : FullNodeId) → is_some (slot_at slots.new q) ≡ is_some (slot_at slots.old q)) }
 {
     if slots.contains_key(&id) {
         return Ok(());
@@ -69,9 +69,9 @@ fn add_slot(alloc: Global, slots: &mut Slots, id: FullNodeId) -> Result<(), Allo
 
 /// Takes away the empty slots of changes.
 pub(crate) fn take_back(slots: &mut Slots, changes: &[(FullNodeId, NodeChange)])
-    requires { (id : FullNodeId) → IsTrue (is_some (slot_at slots.old.entries id)) → IsTrue (is_some (record_at slots.old.entries id) || is_some (change_at changes.now id)) }
-    ensures same { (id : FullNodeId) → record_at slots.new.entries id ≡ record_at slots.old.entries id }
-    ensures tight { HasNoSpare slots.new.entries }
+    requires { (id : FullNodeId) → IsTrue (is_some (slot_at slots.old id)) → IsTrue (is_some (record_at slots.old id) || is_some (change_at changes.now id)) }
+    ensures same { (id : FullNodeId) → record_at slots.new id ≡ record_at slots.old id }
+    ensures tight { HasNoSpare slots.new }
 {
     for change in changes {
         remove_empty(slots, change.0);
@@ -79,8 +79,8 @@ pub(crate) fn take_back(slots: &mut Slots, changes: &[(FullNodeId, NodeChange)])
 }
 
 fn remove_empty(slots: &mut Slots, id: FullNodeId)
-    ensures same { (q : FullNodeId) → record_at slots.new.entries q ≡ record_at slots.old.entries q }
-    ensures tight { (q : FullNodeId) → is_some (slot_at slots.new.entries q) ≡ cond (is_at (full_cmp id) q) (is_some (record_at slots.old.entries q)) (is_some (slot_at slots.old.entries q)) }
+    ensures same { (q : FullNodeId) → record_at slots.new q ≡ record_at slots.old q }
+    ensures tight { (q : FullNodeId) → is_some (slot_at slots.new q) ≡ cond (is_at (full_cmp id) q) (is_some (record_at slots.old q)) (is_some (slot_at slots.old q)) }
 {
     if !has_record(slots, id) {
         drop(slots.remove(&id));
@@ -88,7 +88,7 @@ fn remove_empty(slots: &mut Slots, id: FullNodeId)
 }
 
 fn has_record(slots: &Slots, id: FullNodeId) -> bool
-    ensures { result ≡ is_some (record_at slots.now.entries id) }
+    ensures { result ≡ is_some (record_at slots.now id) }
 {
     record(slots, id).is_some()
 }
@@ -112,9 +112,9 @@ fn put_node(
     place: Option<Place>,
     entry: usize,
 )
-    requires slot { IsSome (slot_at slots.old.entries id) }
+    requires slot { IsSome (slot_at slots.old id) }
     requires entry { entry < length nodes.old.items }
-    ensures slots { (q : FullNodeId) → slot_at slots.new.entries q ≡ cond (is_at (full_cmp id) q) (Some (record_after nodes.old.items (Put place (Some entry)) (record_at slots.old.entries id))) (slot_at slots.old.entries q) }
+    ensures slots { (q : FullNodeId) → slot_at slots.new q ≡ cond (is_at (full_cmp id) q) (Some (record_after nodes.old.items (Put place (Some entry)) (record_at slots.old id))) (slot_at slots.old q) }
     ensures nodes { (k : ℕ) → k ≢ entry → slice_get nodes.new.items k ≡ slice_get nodes.old.items k }
     ensures count { length nodes.new.items ≡ length nodes.old.items }
 {
@@ -151,9 +151,9 @@ fn put_record(
 
 // gives a node this place
 fn put_place(slots: &mut Slots, id: FullNodeId, place: Option<Place>)
-    requires { IsSome (slot_at slots.old.entries id) }
-    ensures records { (q : FullNodeId) → record_at slots.new.entries q ≡ cond (is_at (full_cmp id) q) (record_moved_to place (record_at slots.old.entries id)) (record_at slots.old.entries q) }
-    ensures tight { (q : FullNodeId) → is_some (slot_at slots.new.entries q) ≡ cond (is_at (full_cmp id) q) (is_some (record_at slots.new.entries q)) (is_some (slot_at slots.old.entries q)) }
+    requires { IsSome (slot_at slots.old id) }
+    ensures records { (q : FullNodeId) → record_at slots.new q ≡ cond (is_at (full_cmp id) q) (record_moved_to place (record_at slots.old id)) (record_at slots.old q) }
+    ensures tight { (q : FullNodeId) → is_some (slot_at slots.new q) ≡ cond (is_at (full_cmp id) q) (is_some (record_at slots.new q)) (is_some (slot_at slots.old q)) }
 {
     if !set_place(slots, id, place) {
         drop(slots.remove(&id));
@@ -162,9 +162,9 @@ fn put_place(slots: &mut Slots, id: FullNodeId, place: Option<Place>)
 
 // gives the record in a slot that is there this place, and answers whether there is one
 fn set_place(slots: &mut Slots, id: FullNodeId, place: Option<Place>) -> bool
-    requires { IsSome (slot_at slots.old.entries id) }
-    ensures there { result ≡ is_some (record_at slots.old.entries id) }
-    ensures after { (q : FullNodeId) → slot_at slots.new.entries q ≡ cond (is_at (full_cmp id) q) (Some (record_moved_to place (record_at slots.old.entries id))) (slot_at slots.old.entries q) }
+    requires { IsSome (slot_at slots.old id) }
+    ensures there { result ≡ is_some (record_at slots.old id) }
+    ensures after { (q : FullNodeId) → slot_at slots.new q ≡ cond (is_at (full_cmp id) q) (Some (record_moved_to place (record_at slots.old id))) (slot_at slots.old q) }
 {
     match slots.get_mut(&id) {
         Some(slot) => move_record(&mut **slot, place),
@@ -193,10 +193,10 @@ fn write(
     id: FullNodeId,
     change: NodeChange,
 )
-    requires slot { IsSome (slot_at slots.old.entries id) }
+    requires slot { IsSome (slot_at slots.old id) }
     requires entry { IfSome (entry_of change) (λ k. k < length nodes.old.items) }
-    ensures records { (q : FullNodeId) → record_at slots.new.entries q ≡ cond (is_at (full_cmp id) q) (record_after nodes.old.items change (record_at slots.old.entries id)) (record_at slots.old.entries q) }
-    ensures tight { (q : FullNodeId) → is_some (slot_at slots.new.entries q) ≡ cond (is_at (full_cmp id) q) (is_some (record_at slots.new.entries q)) (is_some (slot_at slots.old.entries q)) }
+    ensures records { (q : FullNodeId) → record_at slots.new q ≡ cond (is_at (full_cmp id) q) (record_after nodes.old.items change (record_at slots.old id)) (record_at slots.old q) }
+    ensures tight { (q : FullNodeId) → is_some (slot_at slots.new q) ≡ cond (is_at (full_cmp id) q) (is_some (record_at slots.new q)) (is_some (slot_at slots.old q)) }
     ensures nodes { (k : ℕ) → entry_of change ≢ Some k → slice_get nodes.new.items k ≡ slice_get nodes.old.items k }
     ensures count { length nodes.new.items ≡ length nodes.old.items }
 {
@@ -217,12 +217,12 @@ pub(crate) fn write_all(
     nodes: &mut Vec<(NodeId, Node)>,
     changes: &[(FullNodeId, NodeChange)],
 )
-    requires room { HasRoomFor slots.old.entries changes.now }
+    requires room { HasRoomFor slots.old changes.now }
     requires ascending { IsStrictlySortedBy full_cmp (map (λ e. e.0) changes.now) }
     requires entries { HasEntries nodes.old.items changes.now }
     requires apart { AreEntriesApart changes.now }
-    ensures records { (id : FullNodeId) → record_at slots.new.entries id ≡ changed_record nodes.old.items (change_at changes.now id) (record_at slots.old.entries id) }
-    ensures tight { HasNoSpare slots.new.entries }
+    ensures records { (id : FullNodeId) → record_at slots.new id ≡ changed_record nodes.old.items (change_at changes.now id) (record_at slots.old id) }
+    ensures tight { HasNoSpare slots.new }
 {
     for change in changes {
         write(alloc, slots, nodes, change.0, change.1);

@@ -10,6 +10,7 @@ use Rattle.model.specs.Focus.{IsFocus}
 use Rattle.model.specs.Differences.{Added, Updated, Removed, IsAscendingListOf, IsAdded, IsUpdated, AreDifferences, told_root}
 use Rattle.model.proofs.Differences.HostChanges.{none_ascend}
 use Rattle.model.proofs.Members.{contains_cases, contains_first, contains_none}
+use Rattle.model.proofs.Decisions.{same_inside}
 
 -- where the focus stays, what is told is what is added, updated and removed
 pub with_same_focus : (old new : World) (root focus : Option FullNodeId) → IsFocus old focus → IsFocus new focus → {added updated removed : List FullNodeId}
@@ -36,9 +37,6 @@ module _ (w : World) where
 
   none_updated : (id : FullNodeId) → ¬ (IsUpdated w w None id)
   none_updated id h = let e : None ≡ Some id = root_alone None id h in cc
-
-  same_inside : (a b : FullNodeId) → Some a ≡ Some b → a ≡ b
-  same_inside a b e = cc
 
   one_updated : (id : FullNodeId) → IsNode w id → IsAscendingListOf (IsUpdated w w (Some id)) (id ∷ [])
   unfolding IsStrictlySortedBy

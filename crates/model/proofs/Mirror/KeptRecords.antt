@@ -6,6 +6,7 @@ use Rattle.model.specs.Events.{Event, Told}
 use Rattle.model.specs.Mirror.{Records, Mirrors, MirrorsWhileKept, AreRecordsOf}
 use Rattle.model.specs.Run.{CommandData, ReplyData, Runs}
 use Rattle.model.proofs.Run.Runs.{records_follow_run}
+use Rattle.model.proofs.Decisions.{same_inside}
 
 some_and : {A : Type 0} (o : Option A) (P : A → Type 0) → IsSomeAnd o P → (x : A) × (o ≡ Some x) × P x
 some_and None P h = absurd h
@@ -19,9 +20,6 @@ kept_throughout view s t (x ∷ es) h after e =
     let step : IsSomeAnd (view s) (λ r. Mirrors r x rest.0) = rw rest.1 at h.1.0 in
     let first = some_and (view s) (λ r. Mirrors r x rest.0) step in
     (first.0, first.1, (rest.0, (first.2, rest.2)))
-
-same_inside : (a b : Records) → Some a ≡ Some b → a ≡ b
-same_inside a b e = cc
 
 pub kept_records_follow_run : (w v : World) (cs : List CommandData) (told : List Event) (replies : List ReplyData) (r : Records) (o : Option Records) → Runs w cs v told replies → AreRecordsOf w r → Told MirrorsWhileKept (Some r) told o → IfSome o (AreRecordsOf v)
 kept_records_follow_run w v cs told replies r None h are t = tt

@@ -8,9 +8,7 @@ use Rattle.model.specs.FullIds.{full_total, exact_full}
 use Rattle.model.specs.World.{World}
 use Rattle.model.specs.Mirror.{Mirrored, Records, IsRecordOf, AreRecordsOf}
 use Rattle.model.proofs.Focus.FocusIsOne.{focus_unique}
-
-same_inside : (a b : NodeData) → Some a ≡ Some b → a ≡ b
-same_inside a b e = cc
+use Rattle.model.proofs.Decisions.{same_inside}
 
 record_unique : (w : World) (id : FullNodeId) (o p : Option Mirrored) → IsRecordOf w id o → IsRecordOf w id p → o ≡ p
 record_unique w id None None h g = refl

@@ -1,5 +1,5 @@
 //! Laws of events and of the differences of two worlds.
-ghost use Rattle.model.specs.EventLaws.{DifferencesAreOne, DifferencesExist, EachHasAReason, EachIsToldInOrder, HostChangeTellsFocus, KeptRecordsFollowRun, NothingToTell, RepeatTellsNothing, RepeatTellsRoot, RootIsTold, RecordsAreThere, RecordsGoOn, RecordsGoOnOverRun, CommandIsDone, RunIsThere, RunLeavesState, RecordsAreOne, RecordsFollow, RecordsFollowRun, RunsAreOne, StoppedRunBegins, WorkIsOne, WorkIsThere};
+ghost use Rattle.model.specs.EventLaws.{DifferencesAreOne, DifferencesExist, EachHasAReason, EachIsToldInOrder, HostChangeTellsFocus, KeptRecordsFollowRun, NothingToTell, RepeatTellsNothing, RepeatTellsRoot, RootIsTold, RecordsAreThere, RecordsGoOn, RecordsGoOnOverRun, CommandIsDone, RunIsThere, RunLeavesState, RecordsAreOne, RecordsFollow, RecordsFollowRun, RunsAreOne, StopLosesNoChange, StoppedRunBegins, WorkIsOne, WorkIsThere};
 ghost use Rattle.model.specs.ToldExamples.{ButtonMoves, GraftMovesOut, GraftedTreeComes, GraftedRootIsLabelled, FocusGoesInside, FocusComesBack, InnerLabelWork, GraftMovesOutWork};
 ghost use Rattle.model.specs.EventExamples.{ButtonGoes, FocusGoesToButton, FocusedButtonGoes, ButtonsChangePlaces, HostLosesFocus, LabelIsLittleWork, PicturedChange};
 
@@ -113,6 +113,11 @@ pub fn repeat_tells_root()
 /// What a stopped run has done is the beginning of what the whole run does.
 pub fn stopped_run_begins()
     ensures { StoppedRunBegins }
+{}
+
+/// A run that stops after its start loses no change: the next command would have made none, and would have told nothing.
+pub fn stop_loses_no_change()
+    ensures { StopLosesNoChange }
 {}
 
 /// The numbers of an update's work are fixed by it.

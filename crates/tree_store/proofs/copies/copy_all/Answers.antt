@@ -1,29 +1,30 @@
-use Rattle.std.proofs.Common.{◌≡◌, Some, sym, ap, subst, ◌∙◌}
-use Rattle.std.specs.Prelude.{cond}
-use Rattle.std.specs.Option.{option_map}
-use Rattle.model.specs.Forest.{is_same}
-use Rattle.tree_store.specs.Copied.{copy_at, copy_of}
-use Rattle.tree_store.proofs.CopiedSlots.{IsCopied, slot_in, none_copied, one_copied, skipped}
+use Rattle.std.proofs.Common.{drop, ◌+◌, get_or, sym, ap, subst, ◌∙◌}
+use Rattle.std.specs.BTreeMap.{BTreeMap}
+use Rattle.std.specs.Option.{option_copied}
+use Rattle.model.specs.declared.FullNodeId.{FullNodeId}
+use Rattle.tree_store.specs.declared.copies.MirrorRecord.{MirrorRecord}
+use Rattle.tree_store.specs.Copied.{copy_at}
+use Rattle.tree_store.proofs.WrittenSlots.{step_at}
+use Rattle.tree_store.proofs.CopiedSlots.{IsCopied, none_copied, one_copied, skipped}
 use Rattle.tree_store.proofs.copies.copy_all.Goals as goal
+use Rattle.tree_store.proofs.copies.copy_all.Goals.{in-Some+in_ok-copy+in_ok-insert, in_default}
 
 pub loop-id-init : goal.loop-id-init
 loop-id-init c =
-    subst (λ rest. IsCopied c.args.slots.now.entries rest c.new-copies.result.entries) (sym (c.into_iter-id-iterator.ensures.into_iter_gives ∙ c.iter-id-items.ensures.rest))
-    (none_copied c.args.slots.now.entries c.iter-id-items.ensures.ordered c.new-copies.result.entries (λ q. ap (λ es. copy_at es q) c.new-copies.ensures.empty))
-
-pub loop-id-preserved-in-Some-deref : goal.loop-id-preserved-in-Some-deref
-loop-id-preserved-in-Some-deref c =
-    let slot = c.in-Some.slot.now in
-    let copied : Some c.in_ok-copy.copy ≡ option_map copy_of slot.value = ap Some c.in_ok-copy.ensures ∙ ap (option_map copy_of) (sym c.in-Some-deref.is ∙ c.deref.ensures) in
-    one_copied c.args.slots.now.entries c.next.new.self c.in-Some.id.now slot c.loop-id.copies.entries
-    (subst (λ rest. IsCopied c.args.slots.now.entries rest c.loop-id.copies.entries) c.in-Some.ensures.steps c.loop-id.invariant)
-    c.insert.new.self.entries (λ q. c.in_ok-insert.ensures.updates.0 q ∙ ap (λ o. cond (is_same c.in-Some.id.now q) o (copy_at c.loop-id.copies.entries q)) copied)
+    subst (λ rest. IsCopied c.args.slots.now rest c.new-copies.result.entries) (sym (c.deref-id-items.ensures.value ∙ c.in_ok-ids.ensures))
+    (none_copied c.args.slots.now c.new-copies.result.entries (λ q. ap (λ es. copy_at es q) c.new-copies.ensures.empty))
 
 pub loop-id-preserved : goal.loop-id-preserved
 loop-id-preserved c =
-    let invariant = subst (λ rest. IsCopied c.args.slots.now.entries rest c.loop-id.copies.entries) c.in-Some.ensures.steps c.loop-id.invariant in
-    one_copied c.args.slots.now.entries c.next.new.self c.in-Some.id.now c.in-Some.slot.now c.loop-id.copies.entries invariant c.loop-id.copies.entries
-    (skipped c.args.slots.now.entries c.next.new.self c.in-Some.id.now c.in-Some.slot.now c.loop-id.copies.entries invariant (sym c.deref.ensures ∙ c.in_default.is))
-
-pub returns : goal.returns
-returns c = λ id. c.loop-id.invariant.copied id (ap (λ rest. slot_in rest id) c.in-None.ensures.steps.0)
+    let d : FullNodeId = record { tree = 0; node = record { 0 = 0 } } in
+    let ids = c.deref-id-items.result.now in
+    let k = c.loop-id.id-index in
+    let slots = c.args.slots.now in
+    let left = subst (λ rest. IsCopied slots rest c.loop-id.copies.entries) (step_at ids k d c.loop-id-test.true) c.loop-id.invariant in
+    elim c.match-record.branch [
+      | in-Some+in_ok-copy+in_ok-insert w ↦ one_copied slots (get_or ids k d) (drop (k + 1) ids) c.loop-id.copies.entries left
+          w.in-Some.record.now w.in_ok-copy.copy c.match-record.copies.entries (sym w.in-Some.ensures) w.in_ok-copy.ensures
+          (λ q. ap (λ (m : BTreeMap FullNodeId MirrorRecord). copy_at m.entries q) w.copies-is ∙ w.in_ok-insert.ensures.updates.0 q)
+      | in_default w ↦ subst (λ (m : BTreeMap FullNodeId MirrorRecord). IsCopied slots (drop (k + 1) ids) m.entries) (sym w.copies-is)
+          (skipped slots (get_or ids k d) (drop (k + 1) ids) c.loop-id.copies.entries left (sym c.record.ensures ∙ ap option_copied w.in_default.is))
+    ]

@@ -5,5 +5,5 @@ use Rattle.tree_store.proofs.slots.add_slot.Goals as goal
 
 pub returns-clause-same : goal.returns-clause-same
 returns-clause-same c =
-    blank_same c.args.slots.now.entries c.insert.new.self.entries c.args.id (Some c.in_ok-slot.slot) (ap (λ v. record_in (Some v)) c.in_ok-slot.ensures.ok) c.in_ok-insert.ensures.updates.0
-    (record_none c.args.slots.now.entries c.args.id (sym c.contains_key.ensures ∙ c.if-contains_key.false))
+    blank_same c.args.slots.now c.insert.new.self c.args.id (Some c.in_ok-slot.slot) (ap (λ v. record_in (Some v)) c.in_ok-slot.ensures.ok) c.in_ok-insert.ensures.updates
+    (record_none c.args.slots.now c.args.id (sym c.contains_key.ensures ∙ c.if-contains_key.false))

@@ -16,8 +16,8 @@ write-requires-clause-slot c =
     let d : FullNodeId × NodeChange = (record { tree = 0; node = record { 0 = 0 } }, Put None None) in
     let step = step_at c.args.changes.now c.loop-change.change-index d c.loop-change-test.true in
     let i = c.loop-change.invariant in
-    slot_here c.args.nodes.now.items c.loop-change.nodes.items c.loop-change.nodes.items c.loop-change.slots.entries c.loop-change.slots.entries (get_or c.args.changes.now c.loop-change.change-index d) _
-    (subst (HasRoomFor c.loop-change.slots.entries) step i.room) (subst (λ (cs : NodeChanges). IsStrictlySortedBy full_cmp (keys_of cs)) step i.sorted)
+    slot_here c.args.nodes.now.items c.loop-change.nodes.items c.loop-change.nodes.items c.loop-change.slots c.loop-change.slots (get_or c.args.changes.now c.loop-change.change-index d) _
+    (subst (HasRoomFor c.loop-change.slots) step i.room) (subst (λ (cs : NodeChanges). IsStrictlySortedBy full_cmp (keys_of cs)) step i.sorted)
     (subst (HasEntriesOf c.args.nodes.now.items c.loop-change.nodes.items) step i.entries) (subst AreEntriesApart step i.apart)
 
 pub loop-change-preserved : goal.loop-change-preserved
@@ -28,8 +28,8 @@ loop-change-preserved c =
     let first = c.args.nodes.now.items in
     let now = c.loop-change.nodes.items in
     let later = c.write.new.nodes.items in
-    let es = c.loop-change.slots.entries in
-    let fs = c.write.new.slots.entries in
+    let es = c.loop-change.slots in
+    let fs = c.write.new.slots in
     let e = get_or c.args.changes.now c.loop-change.change-index d in
     let rest = drop (c.loop-change.change-index + 1) c.args.changes.now in
     let room = subst (HasRoomFor es) step i.room in

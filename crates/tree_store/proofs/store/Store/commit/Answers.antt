@@ -16,7 +16,7 @@ use Rattle.tree_store.proofs.store.Store.commit.Goals as goal
 pub write_decision-requires-clause-room : goal.write_decision-requires-clause-room
 write_decision-requires-clause-room c =
     let r = subst (λ (k : StoreView). IsReadyFor k (update_data c.args.update) c.args.decision) (sym c.self.view_is) c.requires.ready in
-    room_for c.self.inside.tables.nodes.entries c.args.decision.nodes.items r.slots
+    room_for c.self.inside.tables.nodes c.args.decision.nodes.items r.slots
 
 pub write_decision-requires-clause-entries : goal.write_decision-requires-clause-entries
 write_decision-requires-clause-entries c =
@@ -60,4 +60,4 @@ returns-clause-world c =
     b c.self.invariant.places leaves c.is_root_index-is_root.result c.is_root_index-is_root.ensures w.records w.names w.trees w.kept w.texts refl refl
 
 pub returns-clause-tight : goal.returns-clause-tight
-returns-clause-tight c = tight c.write_decision.new.self.nodes.entries c.write_decision.ensures.tight
+returns-clause-tight c = tight c.write_decision.new.self.nodes c.write_decision.ensures.tight

@@ -15,7 +15,7 @@ pub returns : goal.returns
 returns c = go c.copy_all.result c.copy_all.ensures
   where
     go : (r : Result (BTreeMap FullNodeId MirrorRecord) AllocError)
-        → IfOk r (λ copies. (id : FullNodeId) → copy_at copies.entries id ≡ option_map copy_of (record_at c.self.inside.tables.nodes.entries id))
+        → IfOk r (λ copies. (id : FullNodeId) → copy_at copies.entries id ≡ option_map copy_of (record_at c.self.inside.tables.nodes id))
         → IfOk r (λ copies. (id : FullNodeId) → IsCopyOf c.args.self.now.world id (copy_at copies.entries id))
-    go (Ok copies) copied = λ id. subst (λ (k : StoreView). IsCopyOf k.world id (copy_at copies.entries id)) c.self.view_is (copy_is c.self.inside.tables.nodes.entries (world_shown c.self.inside) c.self.invariant.places refl id (copy_at copies.entries id) (copied id))
+    go (Ok copies) copied = λ id. subst (λ (k : StoreView). IsCopyOf k.world id (copy_at copies.entries id)) c.self.view_is (copy_is c.self.inside.tables.nodes (world_shown c.self.inside) c.self.invariant.places refl id (copy_at copies.entries id) (copied id))
     go (Err e) copied = tt

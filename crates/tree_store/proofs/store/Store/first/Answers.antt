@@ -27,7 +27,7 @@ write_decision-requires-clause-indexes c =
     let made = c.in_ok-make_all in
     let a : Inside = record { tables = c.make_all.new.self; host_focused = host; focus = c.args.decision.focus } in
     let known = made.ensures.known ∙ c.new-2.ensures.items in
-    let nodes : (id : FullNodeId) → record_at a.tables.nodes.entries id ≡ None = λ id. made.ensures.nodes id ∙ ap (λ es. record_at es id) c.new.ensures.empty in
+    let nodes : (id : FullNodeId) → record_at a.tables.nodes id ≡ None = λ id. made.ensures.nodes id ∙ ap (λ es. record_at es id) c.new.ensures in
     let names : (name : TreeId) → kept_in (name_at a.tables.names name) ≡ (None, None) = λ name. made.ensures.names name ∙ ap (λ es. kept_in (lookup (is_at (name_cmp name)) es)) c.new-3.ensures.empty in
     indexes_within a (empty_world host) (blank_world a host known nodes names (ap texts_shown made.ensures.texts) refl) (blank_names a host known nodes names (ap texts_shown made.ensures.texts) refl) (update_data c.args.update) c.args.decision c.requires true refl
 
@@ -38,7 +38,7 @@ invariant_of-result c =
     let a : Inside = record { tables = c.make_all.new.self; host_focused = host; focus = c.args.decision.focus } in
     let b : Inside = record { tables = c.write_decision.new.self; host_focused = host; focus = c.args.decision.focus } in
     let known = made.ensures.known ∙ c.new-2.ensures.items in
-    let nodes : (id : FullNodeId) → record_at a.tables.nodes.entries id ≡ None = λ id. made.ensures.nodes id ∙ ap (λ es. record_at es id) c.new.ensures.empty in
+    let nodes : (id : FullNodeId) → record_at a.tables.nodes id ≡ None = λ id. made.ensures.nodes id ∙ ap (λ es. record_at es id) c.new.ensures in
     let names : (name : TreeId) → kept_in (name_at a.tables.names name) ≡ (None, None) = λ name. made.ensures.names name ∙ ap (λ es. kept_in (lookup (is_at (name_cmp name)) es)) c.new-3.ensures.empty in
     let w = c.write_decision.ensures in
     stored_after a (empty_world host) (blank_world a host known nodes names (ap texts_shown made.ensures.texts) refl) (blank_names a host known nodes names (ap texts_shown made.ensures.texts) refl) (update_data c.args.update) c.args.decision c.requires true refl
@@ -51,11 +51,11 @@ returns-clause-world c =
     let a : Inside = record { tables = c.make_all.new.self; host_focused = host; focus = c.args.decision.focus } in
     let b : Inside = record { tables = c.write_decision.new.self; host_focused = host; focus = c.args.decision.focus } in
     let known = made.ensures.known ∙ c.new-2.ensures.items in
-    let nodes : (id : FullNodeId) → record_at a.tables.nodes.entries id ≡ None = λ id. made.ensures.nodes id ∙ ap (λ es. record_at es id) c.new.ensures.empty in
+    let nodes : (id : FullNodeId) → record_at a.tables.nodes id ≡ None = λ id. made.ensures.nodes id ∙ ap (λ es. record_at es id) c.new.ensures in
     let names : (name : TreeId) → kept_in (name_at a.tables.names name) ≡ (None, None) = λ name. made.ensures.names name ∙ ap (λ es. kept_in (lookup (is_at (name_cmp name)) es)) c.new-3.ensures.empty in
     let w = c.write_decision.ensures in
     world_after a (empty_world host) (blank_world a host known nodes names (ap texts_shown made.ensures.texts) refl) (blank_names a host known nodes names (ap texts_shown made.ensures.texts) refl) (update_data c.args.update) c.args.decision c.requires true refl
     b (blank_places a host known nodes names (ap texts_shown made.ensures.texts) refl) (first_leaves_state host (update_data c.args.update) _ c.requires.accepted) true refl w.records w.names w.trees w.kept w.texts refl refl
 
 pub returns-clause-tight : goal.returns-clause-tight
-returns-clause-tight c = tight c.write_decision.new.self.nodes.entries c.write_decision.ensures.tight
+returns-clause-tight c = tight c.write_decision.new.self.nodes c.write_decision.ensures.tight

@@ -6,7 +6,7 @@ use Rattle.tree_store.proofs.SlotCounts.{slots_fit, nodes_fit}
 use Rattle.tree_store.proofs.store.Store.know_count.Goals as goal
 
 pub returns-clause-slots : goal.returns-clause-slots
-returns-clause-slots c = omega (arith, slots_fit c.self.inside.tables.nodes.entries, ap (λ (k : StoreView). set.len k.slots) c.self.view_is, c.len-count.ensures.small, c.len-count.ensures.len)
+returns-clause-slots c = omega (arith, slots_fit c.self.inside.tables.nodes, ap (λ (k : StoreView). set.len k.slots) c.self.view_is, c.len-count.ensures.bound, c.len-count.ensures.count)
 
 pub returns-clause-nodes : goal.returns-clause-nodes
-returns-clause-nodes c = omega (arith, nodes_fit c.self.inside.tables.nodes.entries, ap (λ (k : StoreView). map.len k.world.nodes) c.self.view_is, c.len-count.ensures.small, c.len-count.ensures.len)
+returns-clause-nodes c = omega (arith, nodes_fit c.self.inside.tables.nodes, ap (λ (k : StoreView). map.len k.world.nodes) c.self.view_is, c.len-count.ensures.bound, c.len-count.ensures.count)

@@ -22,7 +22,7 @@ lt_true : (a b : ℕ) → a < b → nat_lt a b ≡ true
 lt_true a b less = search rules
 
 pub make_all-requires : goal.make_all-requires
-make_all-requires c = no_spare c.self.inside.tables.nodes.entries (subst IsTight (sym c.self.view_is) c.requires.tight)
+make_all-requires c = no_spare c.self.inside.tables.nodes (subst IsTight (sym c.self.view_is) c.requires.tight)
 
 pub invariant_of-self : goal.invariant_of-self
 invariant_of-self c = stored_same c.self.inside _ c.self.invariant c.make_all.ensures.nodes c.make_all.ensures.names c.make_all.ensures.known (ap texts_shown c.make_all.ensures.texts) refl refl
@@ -40,13 +40,13 @@ returns-clause-ok c =
     world_same c.self.inside b c.self.invariant c.make_all.ensures.nodes c.make_all.ensures.names c.make_all.ensures.known (ap texts_shown c.make_all.ensures.texts) refl refl
     ∙ ap (λ (k : StoreView). k.world) c.self.view_is in
     on_ok c.make_all.result _ _ _ _ (λ room there spare. record {
-      slots = ready c.make_all.new.self.nodes.entries c.args.decision.now.nodes.items room;
+      slots = ready c.make_all.new.self.nodes c.args.decision.now.nodes.items room;
       names = λ k d less. kept_is_key c.make_all.new.self.names.entries (slice_index_or c.args.decision.now.trees.items k d).id (there k d less);
       room = λ e. lt_true (vec_len c.make_all.new.self.known) (vec_capacity c.make_all.new.self.known) (spare (none_is c.is_none-is_new.result c.tree_index.result c.is_none-is_new.ensures ∙ ap is_none (c.tree_index.ensures ∙ ap (λ w. index_of w c.args.update.now.tree_id) (sym same) ∙ e)));
     }) c.make_all.ensures.room c.make_all.ensures.there c.make_all.ensures.spare
 
 pub returns-clause-err : goal.returns-clause-err
-returns-clause-err c = on_err c.make_all.result _ _ (λ spare. tight c.make_all.new.self.nodes.entries spare) c.make_all.ensures.err
+returns-clause-err c = on_err c.make_all.result _ _ (λ spare. tight c.make_all.new.self.nodes spare) c.make_all.ensures.err
 
 pub returns-clause-names : goal.returns-clause-names
 returns-clause-names c =

@@ -1,0 +1,165 @@
+//! Values by id.
+ghost use Rattle.std.specs.Prelude.{◌≡◌, ◌<◌, ◌+◌, ◌^◌, [], length, cond, option_copied, is_some, Some, None, OnOk, OnErr, IfOk};
+ghost use Rattle.std.specs.Option.{option_copied_mut};
+ghost use Rattle.std.specs.Map.{keys_of};
+ghost use Rattle.model.specs.declared.FullNodeId.{FullNodeId};
+ghost use Rattle.std.specs.Borrow.{sem};
+ghost use Rattle.std.specs.BTreeMap.{is_at};
+ghost use Rattle.model.specs.FullIds.{full_cmp};
+ghost use Rattle.id_index.specs.Cells.{value_at, size};
+ghost use Rattle.id_index.specs.Lends.{lends_get};
+
+use crate::rows::Rows;
+use model::FullNodeId;
+use std::alloc::{AllocError, Global};
+use std::collections::BTreeMap;
+use std::marker::Model;
+
+/// As many values as an index keeps, far beyond any memory.
+const MOST: usize = isize::MAX as usize;
+
+/// Values by id.
+#[derive(Drop)]
+pub struct IdIndex<V: Drop> {
+    alloc: Global,
+    rows: Rows<V>,
+    others: BTreeMap<FullNodeId, V>,
+    len: usize,
+}
+
+impl<V: Drop> Model for IdIndex<V> {
+    ghost use Rattle.std.specs.Prelude.{List};
+    ghost use Rattle.model.specs.declared.FullNodeId.{FullNodeId};
+
+    ghost Value = { List (FullNodeId × V) };
+
+    ghost use Rattle.id_index.specs.Index.{entries_of, IsKept};
+
+    ghost view = { entries_of };
+
+    ghost invariant = { IsKept };
+}
+
+impl<V: Drop> IdIndex<V> {
+    pub fn new(alloc: Global) -> IdIndex<V>
+        ensures { result ≡ [] }
+    {
+        IdIndex {
+            alloc,
+            rows: Rows::new(alloc),
+            others: BTreeMap::new(alloc),
+            len: 0,
+        }
+    }
+
+    pub fn len(&self) -> usize
+        ensures count { result ≡ length self.now }
+        ensures bound { result < 2 ^ 63 }
+    {
+        self.len
+    }
+
+    /// The value at an id.
+    pub fn get(&self, id: &FullNodeId) -> Option<&V>
+        ensures { option_copied result ≡ value_at self.now id.now }
+    {
+        match self.rows.get(*id) {
+            Some(value) => Some(value),
+            None => self.others.get(id),
+        }
+    }
+
+    /// Whether an id has a value.
+    pub fn contains_key(&self, id: &FullNodeId) -> bool
+        ensures { result ≡ is_some (value_at self.now id.now) }
+    {
+        self.get(id).is_some()
+    }
+
+    /// The value at an id, for writing.
+    pub fn get_mut(&mut self, id: &FullNodeId) -> Option<&mut V>
+        ensures* writes_back { sem 𝓛 (lends_get V.row self.entry id.now result) }
+        ensures value { option_copied_mut result ≡ value_at self.old id.now }
+    {
+        if self.rows.get(*id).is_some() {
+            return Some(self.rows.value_mut(*id));
+        }
+        self.others.get_mut(id)
+    }
+
+    /// Gives an id this value, and answers the one that it had.
+    ///
+    /// # Errors
+    ///
+    /// `AllocError`: memory was wanting. Each id has the value that it had.
+    pub fn insert(&mut self, id: FullNodeId, value: V) -> Result<Option<V>, AllocError>
+        ensures old { IfOk result (λ old. old ≡ value_at self.old id) }
+        ensures updates { OnOk result ((q : FullNodeId) → value_at self.new q ≡ cond (is_at (full_cmp id) q) (Some value) (value_at self.old q)) }
+        ensures err { OnErr result (self.new ≡ self.old) }
+    {
+        if self.len >= MOST {
+            return Err(AllocError);
+        }
+        self.make_place(id)?;
+        if self.others.contains_key(&id) {
+            return Ok(self.others.insert(id, value)?);
+        }
+        if self.rows.has_cell(id) {
+            let old = self.rows.put(id, Some(value));
+            self.len += missing(&old);
+            return Ok(old);
+        }
+        drop(self.others.insert(id, value)?);
+        self.len += 1;
+        Ok(None)
+    }
+
+    // makes a cell for an id that is to have one
+    fn make_place(&mut self, id: FullNodeId) -> Result<(), AllocError>
+        ensures { self.new ≡ self.old }
+    {
+        if self.rows.has_cell(id) || !self.rows.takes(id) {
+            return Ok(());
+        }
+        self.rows.make_cell(self.alloc, id)
+    }
+
+    /// Takes away the value of an id.
+    pub fn remove(&mut self, id: &FullNodeId) -> Option<V>
+        ensures old { result ≡ value_at self.old id.now }
+        ensures updates { (q : FullNodeId) → value_at self.new q ≡ cond (is_at (full_cmp id.now) q) None (value_at self.old q) }
+    {
+        if let Some(value) = self.rows.take(*id) {
+            self.len -= 1;
+            return Some(value);
+        }
+        let value = self.others.remove(id)?;
+        self.len -= 1;
+        Some(value)
+    }
+
+    /// The ids that have a value.
+    ///
+    /// # Errors
+    ///
+    /// `AllocError`: memory was wanting.
+    pub fn ids(&self, alloc: Global) -> Result<Vec<FullNodeId>, AllocError>
+        ensures { IfOk result (λ ids. ids.items ≡ keys_of self.now) }
+    {
+        let mut ids = self.rows.ids(alloc)?;
+        for (id, _) in self.others.iter() {
+            ids.push(*id)?;
+        }
+        Ok(ids)
+    }
+}
+
+// one where there is no value
+fn missing<V>(old: &Option<V>) -> usize
+    ensures { result + size old.now ≡ 1 }
+{
+    match old {
+        Some(_) => 0,
+        None => 1,
+    }
+}
