@@ -160,16 +160,17 @@ module _ (s : Transition) where
   pub adds_shown : (xs : List (Bor FullNodeId)) (x : Bor FullNodeId) (a b c : Verdicts) → Adds s (map deref xs) a b → Adds s (x.now ∷ []) b c → Adds s (map deref (xs ++ x ∷ [])) a c
   adds_shown xs x a b c f g = adds_next (map deref xs) (map deref (xs ++ x ∷ [])) x.now a b c (map-append deref xs (x ∷ [])) f g
 
-  -- the next row
-  pub adds_row : (es xs : List (FullNodeId × Named)) → xs ≡ es → (k : ℕ) (d : FullNodeId × Named) (a b c : Verdicts) → k < length xs → Adds s (take k (keys_of es)) a b → Adds s ((get_or xs k d).0 ∷ []) b c → Adds s (take (k + 1) (keys_of es)) a c
-  adds_row es xs all k d a b c inside f g =
-      let lt : k < length es = subst (λ (ys : List (FullNodeId × Named)). k < length ys) all inside in
-      let long = length-keys_of es in
-      let here : get_or (keys_of es) k d.0 ≡ (get_or xs k d).0 = key_at es k d lt ∙ ap (λ (ys : List (FullNodeId × Named)). (get_or ys k d).0) (sym all) in
-      adds_next (take k (keys_of es)) (take (k + 1) (keys_of es)) (get_or xs k d).0 a b c (take_more (keys_of es) k d.0 (omega arith) ∙ ap (λ x. take k (keys_of es) ++ x ∷ []) here) f g
+  module _ {X : Type 0} (es : List (FullNodeId × X)) where
+    -- the next row
+    pub adds_row : (xs : List (FullNodeId × X)) → xs ≡ es → (k : ℕ) (d : FullNodeId × X) (a b c : Verdicts) → k < length xs → Adds s (take k (keys_of es)) a b → Adds s ((get_or xs k d).0 ∷ []) b c → Adds s (take (k + 1) (keys_of es)) a c
+    adds_row xs all k d a b c inside f g =
+        let lt : k < length es = subst (λ (ys : List (FullNodeId × X)). k < length ys) all inside in
+        let long = length-keys_of es in
+        let here : get_or (keys_of es) k d.0 ≡ (get_or xs k d).0 = key_at es k d lt ∙ ap (λ (ys : List (FullNodeId × X)). (get_or ys k d).0) (sym all) in
+        adds_next (take k (keys_of es)) (take (k + 1) (keys_of es)) (get_or xs k d).0 a b c (take_more (keys_of es) k d.0 (omega arith) ∙ ap (λ x. take k (keys_of es) ++ x ∷ []) here) f g
 
-  pub all_rows : (es : List (FullNodeId × Named)) (k : ℕ) (a b : Verdicts) → length es ≤ k → Adds s (take k (keys_of es)) a b → Adds s (keys_of es) a b
-  all_rows es k a b fits h = let long = length-keys_of es in subst (λ l. Adds s l a b) (take_all k (keys_of es) (omega arith)) h
+    pub all_rows : (k : ℕ) (a b : Verdicts) → length es ≤ k → Adds s (take k (keys_of es)) a b → Adds s (keys_of es) a b
+    all_rows k a b fits h = let long = length-keys_of es in subst (λ l. Adds s l a b) (take_all k (keys_of es) (omega arith)) h
 
   -- what is said of the verdicts once they are sorted
   pub settled : (vs rows : Verdicts) → AreSound s vs → ((id : FullNodeId) (v : Verdict) → at rows id ≡ Some v → Contains vs (id, v)) → ((id : FullNodeId) (v : Verdict) → Contains vs (id, v) → IsSome (at rows id))
@@ -188,37 +189,37 @@ module _ (s : Transition) where
   module _ (f : Found) (h : IsFound s f) where
     pub all_judged : (vs : Verdicts) → AreSound s vs
         → ((id : FullNodeId) → Contains (keys_of f.compared.named) id → Becomes s id (at vs id))
-        → ((id : FullNodeId) → Contains (keys f.compared.entered) id → Becomes s id (at vs id))
+        → ((id : FullNodeId) → Contains (keys_of f.compared.entered) id → Becomes s id (at vs id))
         → ((id : FullNodeId) → Contains (keys f.regrafted.moved_in) id → Becomes s id (at vs id))
         → ((id : FullNodeId) → Contains f.removed.gone.keys id → Becomes s id (at vs id))
         → ((id : FullNodeId) → f.told ≡ Some id → Becomes s id (at vs id))
         → (id : FullNodeId) → Becomes s id (at vs id)
     all_judged vs sound named entered moved gone told id = by_named (at f.compared.named id) refl
       where
-        by_told : ¬ (has f.removed.gone id) → at f.compared.named id ≡ None → at f.compared.entered.entries id ≡ None → at f.regrafted.moved_in.entries id ≡ None → IsDecided (f.told ≡ Some id) → Becomes s id (at vs id)
+        by_told : ¬ (has f.removed.gone id) → at f.compared.named id ≡ None → at f.compared.entered id ≡ None → at f.regrafted.moved_in.entries id ≡ None → IsDecided (f.told ≡ Some id) → Becomes s id (at vs id)
         by_told d a b c (inl e) = told id e
         by_told d a b c (inr e) = by_sound vs sound id (untouched s f h id d a b c e)
 
-        by_gone : at f.compared.named id ≡ None → at f.compared.entered.entries id ≡ None → at f.regrafted.moved_in.entries id ≡ None → (t : Bool) → contains full_cmp f.removed.gone id ≡ t → Becomes s id (at vs id)
+        by_gone : at f.compared.named id ≡ None → at f.compared.entered id ≡ None → at f.regrafted.moved_in.entries id ≡ None → (t : Bool) → contains full_cmp f.removed.gone id ≡ t → Becomes s id (at vs id)
         by_gone a b c true e = gone id (is_member f.removed.gone.keys id e)
         by_gone a b c false e = by_told (λ yes. let clash : false ≡ true = sym e ∙ yes in cc) a b c (decide_id f.told id)
 
-        by_moved : at f.compared.named id ≡ None → at f.compared.entered.entries id ≡ None → (o : Option FullNodeId) → at f.regrafted.moved_in.entries id ≡ o → Becomes s id (at vs id)
+        by_moved : at f.compared.named id ≡ None → at f.compared.entered id ≡ None → (o : Option FullNodeId) → at f.regrafted.moved_in.entries id ≡ o → Becomes s id (at vs id)
         by_moved a b None e = by_gone a b e (contains full_cmp f.removed.gone id) refl
         by_moved a b (Some g) e = moved id (is_among f.regrafted.moved_in.entries id g e)
 
-        by_entered : at f.compared.named id ≡ None → (o : Option (Option Place)) → at f.compared.entered.entries id ≡ o → Becomes s id (at vs id)
+        by_entered : at f.compared.named id ≡ None → (o : Option (Option Place)) → at f.compared.entered id ≡ o → Becomes s id (at vs id)
         by_entered a None e = by_moved a e (at f.regrafted.moved_in.entries id) refl
-        by_entered a (Some x) e = entered id (is_among f.compared.entered.entries id x e)
+        by_entered a (Some x) e = entered id (is_among f.compared.entered id x e)
 
         by_named : (o : Option Named) → at f.compared.named id ≡ o → Becomes s id (at vs id)
-        by_named None e = by_entered e (at f.compared.entered.entries id) refl
+        by_named None e = by_entered e (at f.compared.entered id) refl
         by_named (Some n) e = named id (is_among f.compared.named id n e)
 
     pub named_judged : (v0 v1 : Verdicts) → Adds s (keys_of f.compared.named) v0 v1 → (id : FullNodeId) → IsSome (at f.compared.named id) → Becomes s id (at v1 id)
     named_judged v0 v1 a id there = let n = value_of (at f.compared.named id) there in a.judged id (is_among f.compared.named id n.0 n.1)
 
-    pub all_added : (v0 v1 v2 v3 v4 v5 : Verdicts) → Adds s (keys_of f.compared.named) v0 v1 → Adds s (keys f.compared.entered) v1 v2 → Adds s (keys f.regrafted.moved_in) v2 v3
+    pub all_added : (v0 v1 v2 v3 v4 v5 : Verdicts) → Adds s (keys_of f.compared.named) v0 v1 → Adds s (keys_of f.compared.entered) v1 v2 → Adds s (keys f.regrafted.moved_in) v2 v3
         → Adds s f.removed.gone.keys v3 v4 → Adds s (at_most_one f.told) v4 v5 → (id : FullNodeId) → Becomes s id (at v5 id)
     all_added v0 v1 v2 v3 v4 v5 a b c d e = all_judged v5 e.sound
         (λ id x. e.kept id (d.kept id (c.kept id (b.kept id (a.judged id x)))))

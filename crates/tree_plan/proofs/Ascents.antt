@@ -148,8 +148,8 @@ module _ {w : World} {u : UpdateData} {op : Opened} {c : Compared} {s : Settled}
   old_spot id (world.Reached.root j t is) = (None, ap (option_map (λ t. in_tree j t.root)) is)
   old_spot id (world.Reached.child parent id' k reached at) = (Some (parent, k), at)
 
-  not_entered : (id : FullNodeId) → at c.entered.entries id ≡ None → ¬ (HasEntered w u id)
-  not_entered id none e = let is : at c.entered.entries id ≡ Some e.0 = (known.comparison.entered id e.0).1 e.1 in let no : None ≡ Some e.0 = sym none ∙ is in cc
+  not_entered : (id : FullNodeId) → at c.entered id ≡ None → ¬ (HasEntered w u id)
+  not_entered id none e = let is : at c.entered id ≡ Some e.0 = (known.comparison.entered id e.0).1 e.1 in let no : None ≡ Some e.0 = sym none ∙ is in cc
 
   lists_stands : (p : Place) (id : FullNodeId) → Lists w p id → StandsAt w p id
   lists_stands p id at = stands_listed w p id (ungrafted (graft_name w p.0) refl) at
@@ -159,15 +159,15 @@ module _ {w : World} {u : UpdateData} {op : Opened} {c : Compared} {s : Settled}
       ungrafted (Some name) e = let no : slice_get [] p.1 ≡ Some id = subst (λ xs. slice_get xs p.1 ≡ Some id) (known.old.graft_childless p.0 name e) at in cc
 
   pub next_there : (id : FullNodeId) → IsFound w u id → ¬ (Gone w u id) → root_of m id.tree ≢ Some id → (p : FullNodeId) × IsNext w c id p
-  next_there id spotted stays below = go (at c.entered.entries id) refl
+  next_there id spotted stays below = go (at c.entered id) refl
     where
-      from_old : at c.entered.entries id ≡ None → IsNode w id → (p : FullNodeId) × IsNext w c id p
+      from_old : at c.entered id ≡ None → IsNode w id → (p : FullNodeId) × IsNext w c id p
       from_old e there =
           let s = old_spot id (known.old.node_reached id there) in
           let f = old_up w u known.old s.0 id s.1 (not_entered id e) stays below in
           (f.0.0, (f.0.1, inr (e, lists_stands f.0 id (subst (λ t. IsAt w t id) f.1 s.1))))
 
-      go : (x : Option (Option Place)) → at c.entered.entries id ≡ x → (p : FullNodeId) × IsNext w c id p
+      go : (x : Option (Option Place)) → at c.entered id ≡ x → (p : FullNodeId) × IsNext w c id p
       go (Some (Some p)) e = (p.0, (p.1, inl e))
       go (Some None) e = absurd (below ((known.comparison.entered id None).0 e).0)
       go None e = ⊎_elim (from_old e) (λ entered. absurd (not_entered id e entered)) spotted
@@ -178,18 +178,18 @@ module _ {w : World} {u : UpdateData} {op : Opened} {c : Compared} {s : Settled}
       k : ℕ
       k = next.0
 
-      entered : at c.entered.entries id ≡ Some (Some (parent, k)) → (k : ℕ) × Lists m (parent, k) id × ¬ (Gone w u parent) × IsFound w u parent
+      entered : at c.entered id ≡ Some (Some (parent, k)) → (k : ℕ) × Lists m (parent, k) id × ¬ (Gone w u parent) × IsFound w u parent
       entered e =
           let f = entered_up w u known.old known.refined.removed (parent, k) id ((known.comparison.entered id (Some (parent, k))).0 e) in
           (k, f.1, f.2, named_spotted w u known.old known.refined parent f.0 (cases_some (data_of w parent)))
 
-      listed_there : at c.entered.entries id ≡ None → Lists w (parent, k) id → (k : ℕ) × Lists m (parent, k) id × ¬ (Gone w u parent) × IsFound w u parent
+      listed_there : at c.entered id ≡ None → Lists w (parent, k) id → (k : ℕ) × Lists m (parent, k) id × ¬ (Gone w u parent) × IsFound w u parent
       listed_there none at =
           let f = old_up w u known.old (Some (parent, k)) id at (not_entered id none) stays below in
           let same : f.0 ≡ (parent, k) = sym (same_Some (parent, k) f.0 f.1) in
           (k, subst (λ p. Lists m p id) same f.2, subst (λ p. ¬ (Gone w u p.0)) same f.3, inl (subst (λ p. IsNode w p.0) same f.4))
 
-      old : (at c.entered.entries id ≡ None) × StandsAt w (parent, k) id → (k : ℕ) × Lists m (parent, k) id × ¬ (Gone w u parent) × IsFound w u parent
+      old : (at c.entered id ≡ None) × StandsAt w (parent, k) id → (k : ℕ) × Lists m (parent, k) id × ¬ (Gone w u parent) × IsFound w u parent
       old h = ⊎_elim (λ l. listed_there h.0 l.1)
           (λ g. let f = old_up w u known.old None id (root_named_parts w g.0 id g.2).1 (not_entered id h.0) stays below in let no : None ≡ Some f.0 = f.1 in cc)
           (by_place w (parent, k) id h.1)

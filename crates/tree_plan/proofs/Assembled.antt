@@ -4,7 +4,6 @@ use Rattle.std.specs.Prelude.{AllPairs, is_some, if◌then◌else◌, ◌||◌}
 use Rattle.std.specs.Option.{option_map_or}
 use Rattle.std.specs.Cmp.{nat_cmp_total}
 use Rattle.std.specs.FinMap.{get, same_map, nat_cmp-IsAntisymmetric}
-use Rattle.std.specs.BTreeMap.{IsOrdered}
 use Rattle.std.specs.List.Sorted.{IsStrictlySortedBy}
 use Rattle.std.proofs.lemmas.Option.{same_Some, slice_get-get_or}
 use Rattle.schema.specs.NodeData.{NodeData}
@@ -15,7 +14,7 @@ use Rattle.model.specs.World.{ROOT_NAME, World, Tree, Place, IsNode, StandsAt, d
 use Rattle.model.specs.Forest.{place_of}
 use Rattle.model.specs.Focus.{IsFocus, IsEffectiveFocus, Resolves}
 use Rattle.model.specs.Surgery.{IsOld}
-use Rattle.model.specs.Update.{IsFirst, IsAccepted, index_for, merged_world}
+use Rattle.model.specs.Update.{IsFirst, IsAccepted, IsRebuild, KeepsRules, index_for, merged_world}
 use Rattle.model.specs.State.{IsState}
 use Rattle.model.specs.Differences.{IsAdded, IsInBoth, IsUpdated, IsAscendingListOf, IsToldForFocus, AreOfFocus, told_root}
 use Rattle.model.specs.declared.events.PlanEvent.{PlanEvent}
@@ -40,14 +39,12 @@ use Rattle.tree_changes.specs.Changes.{change_at, put_all, put_trees, tree_from,
 use Rattle.tree_changes.specs.Decisions.{IsChangeOf, Differs, TreeDiffers, listed_nodes, names_of, IsDecision}
 use Rattle.tree_changes.proofs.Overlays.{effect, get-put_all, get-put_trees, tree_at, tree_at_same, tree_at_some, find_index, tree_change_in}
 use Rattle.rows.specs.Rows.{Ascends}
-use Rattle.tree_plan.specs.declared.passes.Focused.{Focused}
 use Rattle.tree_plan.specs.declared.verdicts.Verdict.{Verdict}
 use Rattle.tree_plan.specs.declared.verdicts.Verdict.TheVariants.{Added, Renewed, Moved, Told, Removed}
-use Rattle.tree_plan.specs.declared.verdicts.Found.{Found}
 use Rattle.tree_plan.specs.declared.writing.Group.{Group}
 use Rattle.tree_plan.specs.declared.writing.Group.TheVariants as group
-use Rattle.tree_plan.specs.Passes.{at, IsOfName, IsFocusing}
-use Rattle.tree_plan.specs.Verdicts.{Transition, IsFound, Becomes, Verdicts}
+use Rattle.tree_plan.specs.Passes.{at, IsOfName}
+use Rattle.tree_plan.specs.Verdicts.{Transition, Becomes, Verdicts}
 use Rattle.tree_plan.specs.Writing.{change_of, untold_updates, IsMove}
 use Rattle.tree_plan.proofs.Adding.{is_among, has_entry}
 use Rattle.tree_plan.proofs.Becoming.{standing_is_node, no_other}
@@ -325,7 +322,13 @@ not_there : {A : Type 0} (o : Option A) → (IsSome o → ⊥) → o ≡ None
 not_there None h = refl
 not_there (Some x) h = absurd (h refl)
 
-module _ (s : Transition) (f : Found) (h : IsFound s f) (rs : List TreeRecord) (after : AreAfter s.old s.update h.old h.kept s.new h.rebuilt rs) where
+-- an update that keeps the rules
+pub record IsKept (s : Transition) : Type 0 where
+  pub old : IsOld s.old
+  pub kept : KeepsRules s.old s.update
+  pub rebuilt : IsRebuild (merged_world s.old s.update) s.new
+
+module _ (s : Transition) (h : IsKept s) (rs : List TreeRecord) (after : AreAfter s.old s.update h.old h.kept s.new h.rebuilt rs) where
   state : IsState s.new
   state = old_leaves_state s.old s.update h.old h.kept s.new h.rebuilt
 
@@ -395,7 +398,7 @@ listed_names (r ∷ rs) t c = ⊎_elim
     (contains_cases r t rs c)
 
 -- the world without a change of places: a node stands where it stood
-module _ (s : Transition) (f : Found) (h : IsFound s f) (vs : Verdicts) (sorted : Ascends vs) (becomes : (id : FullNodeId) → Becomes s id (at vs id)) (rs : List TreeRecord) (after : AreAfter s.old s.update h.old h.kept s.new h.rebuilt rs) where
+module _ (s : Transition) (h : IsKept s) (vs : Verdicts) (sorted : Ascends vs) (becomes : (id : FullNodeId) → Becomes s id (at vs id)) (rs : List TreeRecord) (after : AreAfter s.old s.update h.old h.kept s.new h.rebuilt rs) where
   state_new : IsState s.new
   state_new = old_leaves_state s.old s.update h.old h.kept s.new h.rebuilt
 
@@ -451,7 +454,7 @@ module _ (s : Transition) (f : Found) (h : IsFound s f) (vs : Verdicts) (sorted 
     overlaid_is =
         let known : (overlaid_world s.old s.update d).known ≡ s.new.known = sym h.rebuilt.known in
         let trees : (overlaid_world s.old s.update d).trees ≡ s.new.trees = same_map nat_cmp_total nat_cmp-IsAntisymmetric (put_trees s.old.trees d.trees.items) s.new.trees
-        (λ q. ap (λ xs. get (put_trees s.old.trees xs) q) trees ∙ trees_after s f h rs after q) in
+        (λ q. ap (λ xs. get (put_trees s.old.trees xs) q) trees ∙ trees_after s h rs after q) in
         let nodes : (overlaid_world s.old s.update d).nodes ≡ s.new.nodes = same_map full_total exact_full (put_all s.update.nodes s.old.nodes d.nodes.items) s.new.nodes
         (λ id. ap (λ xs. get (put_all s.update.nodes s.old.nodes xs) id) nodes ∙ nodes_after id) in
         let toolkit : (overlaid_world s.old s.update d).toolkit ≡ s.new.toolkit = sym h.rebuilt.toolkit in
@@ -461,10 +464,10 @@ module _ (s : Transition) (f : Found) (h : IsFound s f) (vs : Verdicts) (sorted 
     by_new : (P : World → Type 0) → P s.new → P (overlaid_world s.old s.update d)
     by_new P x = subst P (sym overlaid_is) x
 
-    pub decision_is : (focused : Focused) → IsFocusing s.old s.update focused → d.focus ≡ focused.effective
+    pub decision_is : IsEffectiveFocus s.new d.focus
         → AllPairs (λ a b. a.id ≢ b.id) d.trees.items
         → (¬ (IsFirst s.old) → AreToldBy s.old s.update s.new d.events.items) → (IsFirst s.old → d.events.items ≡ []) → IsDecision s.old s.update d
-    decision_is focused focusing focus once told quiet = record {
+    decision_is focus once told quiet = record {
       accepted = by_new (IsAccepted s.old s.update) ((rules_or_fault s.old s.update).0 h.kept, h.rebuilt);
       ascending = subst (IsStrictlySortedBy full_cmp) (sym (ap (map (λ (c : FullNodeId × NodeChange). c.0)) nodes ∙ changed_ids vs)) (sorted_where has_change vs sorted);
       nodes_listed = λ id. by_new (λ v. Contains (listed_nodes d) id ↔ Differs s.old v id)
@@ -474,11 +477,11 @@ module _ (s : Transition) (f : Found) (h : IsFound s f) (vs : Verdicts) (sorted 
       others = λ id p e stands. by_new (λ v. StandsAt v p id) (stays_there id p (sym (ap (λ xs. change_at xs id) nodes) ∙ e) stands);
       others_back = λ id p e stands. stood_there id p (sym (ap (λ xs. change_at xs id) nodes) ∙ e) (subst (λ v. StandsAt v p id) overlaid_is stands);
       trees = λ name r is. by_new (λ v. IsTreeRecord v name (tree_after d.trees.items name r))
-          (subst (λ xs. IsTreeRecord s.new name (tree_after xs name r)) (sym trees) (records_after s f h rs after name r is));
+          (subst (λ xs. IsTreeRecord s.new name (tree_after xs name r)) (sym trees) (records_after s h rs after name r is));
       trees_once = once;
       trees_listed = λ name. by_new (λ v. Contains (names_of d.trees.items) name ↔ TreeDiffers s.old v name)
           (subst (λ xs. Contains (names_of xs) name ↔ TreeDiffers s.old s.new name) (sym trees) (named_differ name));
-      focus = by_new (λ v. IsEffectiveFocus v d.focus) (subst (IsEffectiveFocus s.new) (sym focus) (focusing.effective s.new h.rebuilt));
+      focus = by_new (λ v. IsEffectiveFocus v d.focus) focus;
       told = λ later. by_new (λ v. AreToldBy s.old s.update v d.events.items) (told later);
       quiet = quiet;
     }

@@ -218,23 +218,23 @@ module _ (s : Transition) (f : Found) (h : IsFound s f) where
   abbrev u : UpdateData
   u = s.update
 
-  pub by_spot : (id : FullNodeId) (p : Place) → at f.compared.entered.entries id ≡ Some (Some p) → Moves s id (Some (Some p))
+  pub by_spot : (id : FullNodeId) (p : Place) → at f.compared.entered id ≡ Some (Some p) → Moves s id (Some (Some p))
   by_spot id p at_id = entered_place w u h.old h.kept s.new h.rebuilt id p ((h.comparison.entered id (Some p)).0 at_id)
 
-  pub by_root : (id : FullNodeId) (place : Option Place) → place ≡ option_map (λ g. (g, 0)) f.opened.record.graft → at f.compared.entered.entries id ≡ Some None → Moves s id (Some place)
+  pub by_root : (id : FullNodeId) (place : Option Place) → place ≡ option_map (λ g. (g, 0)) f.opened.record.graft → at f.compared.entered id ≡ Some None → Moves s id (Some place)
   by_root id place same at_id =
       subst (λ x. Moves s id (Some x)) (sym same) (entered_root w u h.old h.kept s.new h.rebuilt id f.opened.record h.opening.record_of ((h.comparison.entered id None).0 at_id))
 
   pub by_graft : (id g : FullNodeId) → at f.regrafted.moved_in.entries id ≡ Some g → Moves s id (Some (Some (g, 0)))
   by_graft id g at_id = let m = (h.regrafting.moved_in id g).0 at_id in moved_in_place w u h.old h.kept s.new h.rebuilt id g m.0 m.1 m.2
 
-  unentered : (id : FullNodeId) → at f.compared.entered.entries id ≡ None → ¬ (HasEntered w u id)
-  unentered id none e = nothing_at (at f.compared.entered.entries id) e.0 none ((h.comparison.entered id e.0).1 e.1)
+  unentered : (id : FullNodeId) → at f.compared.entered id ≡ None → ¬ (HasEntered w u id)
+  unentered id none e = nothing_at (at f.compared.entered id) e.0 none ((h.comparison.entered id e.0).1 e.1)
 
   unmoved : (id : FullNodeId) → at f.regrafted.moved_in.entries id ≡ None → ¬ (IsMovedIn w u id)
   unmoved id none m = nothing_at (at f.regrafted.moved_in.entries id) m.0 none ((h.regrafting.moved_in id m.0).1 (m.1, (m.2, m.3, m.4), m.5))
 
-  pub by_none : (id : FullNodeId) → ¬ (Gone w u id) → at f.compared.entered.entries id ≡ None → at f.regrafted.moved_in.entries id ≡ None → Moves s id None
+  pub by_none : (id : FullNodeId) → ¬ (Gone w u id) → at f.compared.entered id ≡ None → at f.regrafted.moved_in.entries id ≡ None → Moves s id None
   by_none id stays none none' = unmoved_place w u h.old h.kept s.new h.rebuilt id (unentered id none) stays (unmoved id none')
 
   pub unnamed_by : (id : FullNodeId) → at f.compared.named id ≡ None → ¬ (IsNamed w u id)
@@ -247,7 +247,7 @@ module _ (s : Transition) (f : Found) (h : IsFound s f) where
   untold_by id other same moves = ((same, moves), λ told. other (h.told ∙ told))
 
   -- what is in none of the maps, and isn't told, is as it was
-  pub untouched : (id : FullNodeId) → ¬ (has f.removed.gone id) → at f.compared.named id ≡ None → at f.compared.entered.entries id ≡ None → at f.regrafted.moved_in.entries id ≡ None → f.told ≢ Some id → Becomes s id None
+  pub untouched : (id : FullNodeId) → ¬ (has f.removed.gone id) → at f.compared.named id ≡ None → at f.compared.entered id ≡ None → at f.regrafted.moved_in.entries id ≡ None → f.told ≢ Some id → Becomes s id None
   untouched id stays unnamed none none' other =
       let stays' : ¬ (Gone w u id) = λ gone. stays ((h.removal.gone id).1 gone) in
       untold_by id other (unnamed_same w u h.old h.kept s.new h.rebuilt id (unnamed_by id unnamed) stays') (by_none id stays' none none')

@@ -3,7 +3,7 @@ use Rattle.std.proofs.Common.{Contains, ◌≡◌, ◌+◌, ◌*◌, ◌≤◌, 
 use Rattle.std.specs.Prelude.{is_some, if◌then◌else◌}
 use Rattle.std.specs.List.{flat_map}
 use Rattle.std.specs.List.Sorted.{IsStrictlySortedBy}
-use Rattle.std.specs.BTreeMap.{IsOrdered, keys}
+use Rattle.std.specs.Map.{keys_of}
 use Rattle.rows.specs.Rows.{Ascends}
 use Rattle.std.proofs.lemmas.List.{length-map}
 use Rattle.std.proofs.lemmas.Option.{same_Some}
@@ -39,12 +39,12 @@ module _ (s : Transition) (f : Found) (h : IsFound s f) (work : Work) (is : IsWo
   passed = rules_passed s.old s.update h.old h.kept
 
   -- what entered: children of named nodes, and the root
-  pub entered_small : IsOrdered full_cmp f.compared.entered → length f.compared.entered.entries ≤ work.children + 1
+  pub entered_small : Ascends f.compared.entered → length f.compared.entered ≤ work.children + 1
   entered_small sorted =
-      let some : length (keys f.compared.entered) ≤ length (is.children ++ root.0 ∷ []) = no_more (keys f.compared.entered) (is.children ++ root.0 ∷ []) sorted (λ id has. let e = has_entry f.compared.entered.entries id has in among id e.0 ((h.comparison.entered id e.0).0 e.1)) in
+      let some : length (keys_of f.compared.entered) ≤ length (is.children ++ root.0 ∷ []) = no_more (keys_of f.compared.entered) (is.children ++ root.0 ∷ []) sorted (λ id has. let e = has_entry f.compared.entered id has in among id e.0 ((h.comparison.entered id e.0).0 e.1)) in
       let a : length (is.children ++ root.0 ∷ []) ≡ length is.children + 1 = length-append is.children (root.0 ∷ []) in
       let b : work.children ≡ length is.children = is.count_children in
-      let c : length (keys f.compared.entered) ≡ length f.compared.entered.entries = length-map f.compared.entered.entries (λ e. e.0) in
+      let c : length (keys_of f.compared.entered) ≡ length f.compared.entered = length-map f.compared.entered (λ e. e.0) in
       omega arith
     where
       root : (root : FullNodeId) × (root_of (merged_world s.old s.update) (index_for s.old s.update.name) ≡ Some root)

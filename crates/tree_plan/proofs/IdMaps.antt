@@ -125,6 +125,12 @@ module _ {X : Type 0} (es : List (FullNodeId × X)) (D : FullNodeId → X → Ty
       let lt : n < length es = subst (λ (ys : List (FullNodeId × X)). n < length ys) all inside in
       done_next n (get_or es n d) (slice_get-get_or es n d lt) done (subst (λ (ys : List (FullNodeId × X)). D (get_or ys n d).0 (get_or ys n d).1) all now)
 
+  pub none_done : AreDone 0
+  none_done k e lt = absurd (omega (arith, lt))
+
+  pub done_weaker : (n : ℕ) → AreDone n → (E : FullNodeId → X → Type 0) → ((c : FullNodeId) (x : X) → D c x → E c x) → (k : ℕ) (e : FullNodeId × X) → k < n → slice_get es k ≡ Some e → E e.0 e.1
+  done_weaker n done E more k e lt is = more e.0 e.1 (done k e lt is)
+
   pub done_all : (n : ℕ) → length es ≤ n → AreDone n → (id : FullNodeId) (x : X) → at es id ≡ Some x → D id x
   done_all n fits done id x is =
       let f = at_contains es (id, x) (contains_from_row_at es id x is) in

@@ -25,3 +25,8 @@ pub mod Ascents
 pub mod Ways
 pub mod Moving
 pub mod Plans
+pub mod Forests
+pub mod OtherData
+pub mod NewsSteps
+pub mod Renewed
+pub mod NewsOnce

@@ -8,7 +8,7 @@ use Rattle.std.specs.Map.{lookup}
 use Rattle.std.proofs.Math.Seq.{get_or-append_seam}
 use Rattle.std.proofs.lemmas.List.{append-nil, length-map, get_or_append_left}
 use Rattle.std.proofs.lemmas.List.Elements.{Contains-append_left, Contains-append_right, Contains-append_cases}
-use Rattle.std.proofs.lemmas.Option.{same_Some, slice_get_within, slice_get-get_or}
+use Rattle.std.proofs.lemmas.Option.{same_Some, slice_get_within, slice_get-get_or, get_or_from_slice_get}
 use Rattle.schema.specs.NodeData.{NodeData}
 use Rattle.schema.specs.declared.NodeId.{NodeId}
 use Rattle.schema.specs.declared.TreeId.{TreeId}
@@ -25,15 +25,17 @@ use Rattle.tree_changes.specs.declared.error.UpdateError.TheVariants as error
 use Rattle.tree_changes.specs.Refusals.{IsRefusal}
 use Rattle.tree_plan.specs.declared.passes.Opened.{Opened}
 use Rattle.tree_plan.specs.declared.passes.Named.{Named}
+use Rattle.tree_plan.specs.declared.passes.Comparing.{Comparing}
 use Rattle.tree_plan.specs.declared.passes.Compared.{Compared}
-use Rattle.tree_plan.specs.Passes.{at, at_name, IsNamedAs, HoldsOpened, HoldsCompared}
-use Rattle.tree_plan.specs.Comparisons.{IsNamedBefore, AreEntriesTaken, Gathers, GathersNew, OnlyAt, OnlyIn, child_ids, ChangesGraft, ComparesNode, BeginsComparing, IsNodeFault, IsDone, AreCompared}
+use Rattle.tree_plan.specs.Passes.{at, at_name, IsNamedAs, LosesGraft, GainsGraft, HoldsOpened, HoldsCompared}
+use Rattle.tree_plan.specs.Comparisons.{IsNamedBefore, AreEntriesTaken, Spots, AreApart, Gathers, OnlyAt, OnlyIn, child_ids, IsGraftFault, ChangesGraft, ComparesNode, BeginsComparing, IsDone, AreCompared, SettlesLists, IsEnteredTwice}
+use Rattle.tree_plan.proofs.Gathering.{apart_both}
 use Rattle.tree_plan.proofs.Entries.{AreNamedOnce, entry_named}
 use Rattle.model.proofs.Update.RulesOrFault.{no_some}
 use Rattle.model.specs.FullIds.{name_cmp}
 use Rattle.tree_plan.proofs.IdMaps.{contains_at, at_contains, put_here, put_apart, some_is}
 use Rattle.tree_plan.proofs.Opens.{tree_is}
-use Rattle.tree_plan.proofs.Taking.{entry_id, last_or_before}
+use Rattle.tree_plan.proofs.Taking.{entry_id, last_or_before, value_at}
 
 -- ---- elements of lists
 
@@ -131,7 +133,7 @@ module _ (w : World) (u : UpdateData) (o : IsOld w) where
     named_here = (refl, k, omega arith, here)
 
     -- the node is among the named ones
-    pub named_known : (a : Compared) → AreCompared w u k a → IsSome (at a.named id)
+    pub named_known : (a : Comparing) → AreCompared w u k a → IsSome (at a.named id)
     named_known a h = (h.has_named id).1 (named_is (k + 1) id named_here)
 
     first_named : ¬ (IsNamedBefore w u k id)
@@ -176,7 +178,7 @@ module _ (w : World) (u : UpdateData) (o : IsOld w) where
         let at_w : slice_get (listed_ids w id) p.1 ≢ Some c = subst (λ x. slice_get (listed_ids w x) p.1 ≢ Some c) (sym same) l.1 in
         (p.1, (spot_of p same, (subst (λ xs. slice_get xs p.1 ≡ Some c) lists_here at_m, at_w)))
 
-    module _ (a b : Compared) (h : AreCompared w u k a) (s : ComparesNode w id k e.1 a b) where
+    module _ (a b : Comparing) (h : AreCompared w u k a) (s : ComparesNode w id k e.1 a b) where
       -- the node's entry
       named_as : IsNamedAs w u id s.n
       named_as = record {
@@ -202,46 +204,46 @@ module _ (w : World) (u : UpdateData) (o : IsOld w) where
           (λ ne. subst (λ x. IsSome x ↔ IsNamed w u q) (sym (put_apart id (Some s.n) (at a.named) (at b.named) s.compares.named q ne)) (h.has_named q))
           (cases_id id q)
 
-      left_to : (c : FullNodeId) (t : Seat) → at b.left.entries c ≡ Some t → Left w u t c × IsDone w u (k + 1) t
+      left_to : (c : FullNodeId) (t : Seat) → Contains b.left (c, t) → Left w u t c × IsDone w u (k + 1) t
       left_to c t is = ⊎_elim
-          (λ same. let f = (h.left c t).0 (sym same ∙ is) in (f.0, later_done k t f.1))
-          (λ g.
-          let e' : g.0 ≡ t = same_Some g.0 t (sym g.2 ∙ is) in
-          subst (λ x. Left w u x c × IsDone w u (k + 1) x) e' (was_left c g.0 g.1, here_done g.0 g.1.0 g.1.1.0))
-          (s.compares.left.others c)
+          (λ earlier. let f = (h.left c t).0 earlier in (f.0, later_done k t f.1))
+          (λ now. let f = (s.compares.left.found c t).0 now in (was_left c t f, here_done t f.0 f.1.0))
+          (Contains-append_cases a.left s.compares.left.added (c, t) (subst (λ (xs : Spots). Contains xs (c, t)) s.compares.left.is is))
 
-      left_from : (c : FullNodeId) (t : Seat) → Left w u t c → IsDone w u (k + 1) t → at b.left.entries c ≡ Some t
-      left_from c t l done = there (value_of (at b.left.entries c) (found t l done))
+      left_from : (c : FullNodeId) (t : Seat) → Left w u t c → IsDone w u (k + 1) t → Contains b.left (c, t)
+      left_from c t l done = subst (λ (xs : Spots). Contains xs (c, t)) (sym s.compares.left.is) (go t l done)
         where
-          there : (x : Seat) × (at b.left.entries c ≡ Some x) → at b.left.entries c ≡ Some t
-          there f = f.1 ∙ ap Some (spot_once w u o f.0 t c (left_to c f.0 f.1).0.0 l.0)
+          before : (t : Seat) → Left w u t c → IsDone w u k t → Contains (a.left ++ s.compares.left.added) (c, t)
+          before t l done = Contains-append_left a.left s.compares.left.added (c, t) ((h.left c t).1 (l, done))
 
-          before : (t : Seat) → Left w u t c → IsDone w u k t → IsSome (at b.left.entries c)
-          before t l done = ⊎_elim (λ same. some_is (at b.left.entries c) t (same ∙ (h.left c t).1 (l, done))) (λ g. some_is (at b.left.entries c) g.0 g.2) (s.compares.left.others c)
-
-          found : (t : Seat) → Left w u t c → IsDone w u (k + 1) t → IsSome (at b.left.entries c)
-          found None l done = before None l done
-          found (Some p) l done = ⊎_elim (λ earlier. before (Some p) l earlier) (λ same. s.compares.left.found c (Some p) (left_was c p same l)) (last_named p.0 done)
-
-      entered_to : (c : FullNodeId) (t : Seat) → at b.entered.entries c ≡ Some t → Entered w u t c × IsDone w u (k + 1) t
-      entered_to c t is = ⊎_elim
-          (λ same. let f = (h.entered c t).0 (sym same ∙ is) in (f.0, later_done k t f.1))
-          (λ g.
-          let e' : g.0 ≡ t = same_Some g.0 t (sym g.2 ∙ is) in
-          subst (λ x. Entered w u x c × IsDone w u (k + 1) x) e' (is_entered c g.0 g.1, here_done g.0 g.1.0 g.1.1.0))
-          (s.compares.entered.others c)
-
-      entered_from : (c : FullNodeId) (t : Seat) → Entered w u t c → IsDone w u (k + 1) t → at b.entered.entries c ≡ Some t
-      entered_from c t l done = go t l done
-        where
-          before : (t : Seat) → Entered w u t c → IsDone w u k t → at b.entered.entries c ≡ Some t
-          before t l done =
-              let was : at a.entered.entries c ≡ Some t = (h.entered c t).1 (l, done) in
-              ⊎_elim (λ same. same ∙ was) (λ g. absurd (no_some (at a.entered.entries c) (s.compares.entered.found c g.0 g.1).0 (some_is (at a.entered.entries c) t was))) (s.compares.entered.others c)
-
-          go : (t : Seat) → Entered w u t c → IsDone w u (k + 1) t → at b.entered.entries c ≡ Some t
+          go : (t : Seat) → Left w u t c → IsDone w u (k + 1) t → Contains (a.left ++ s.compares.left.added) (c, t)
           go None l done = before None l done
-          go (Some p) l done = ⊎_elim (λ earlier. before (Some p) l earlier) (λ same. (s.compares.entered.found c (Some p) (entered_is c p same l)).1) (last_named p.0 done)
+          go (Some p) l done = ⊎_elim (λ earlier. before (Some p) l earlier) (λ same. Contains-append_right a.left s.compares.left.added (c, Some p) ((s.compares.left.found c (Some p)).1 (left_was c p same l))) (last_named p.0 done)
+
+      entered_to : (c : FullNodeId) (t : Seat) → Contains b.entered (c, t) → Entered w u t c × IsDone w u (k + 1) t
+      entered_to c t is = ⊎_elim
+          (λ earlier. let f = (h.entered c t).0 earlier in (f.0, later_done k t f.1))
+          (λ now. let f = (s.compares.entered.found c t).0 now in (is_entered c t f, here_done t f.0 f.1.0))
+          (Contains-append_cases a.entered s.compares.entered.added (c, t) (subst (λ (xs : Spots). Contains xs (c, t)) s.compares.entered.is is))
+
+      entered_from : (c : FullNodeId) (t : Seat) → Entered w u t c → IsDone w u (k + 1) t → Contains b.entered (c, t)
+      entered_from c t l done = subst (λ (xs : Spots). Contains xs (c, t)) (sym s.compares.entered.is) (go t l done)
+        where
+          before : (t : Seat) → Entered w u t c → IsDone w u k t → Contains (a.entered ++ s.compares.entered.added) (c, t)
+          before t l done = Contains-append_left a.entered s.compares.entered.added (c, t) ((h.entered c t).1 (l, done))
+
+          go : (t : Seat) → Entered w u t c → IsDone w u (k + 1) t → Contains (a.entered ++ s.compares.entered.added) (c, t)
+          go None l done = before None l done
+          go (Some p) l done = ⊎_elim (λ earlier. before (Some p) l earlier) (λ same. Contains-append_right a.entered s.compares.entered.added (c, Some p) ((s.compares.entered.found c (Some p)).1 (entered_is c p same l))) (last_named p.0 done)
+
+      -- the node's spots are others than those of the nodes before it
+      entered_across : (x y : FullNodeId × Seat) → Contains a.entered x → Contains s.compares.entered.added y → x.1 ≢ y.1
+      entered_across x y before now same =
+          let f = (s.compares.entered.found y.0 y.1).0 now in
+          first_named (subst (IsDone w u k) (same ∙ f.1.0) ((h.entered x.0 x.1).0 before).1)
+
+      entered_apart : AreApart b.entered
+      entered_apart = subst AreApart (sym s.compares.entered.is) (apart_both a.entered s.compares.entered.added h.entered_apart s.compares.entered.once entered_across)
 
       grafted_to : (name : TreeId) (n : FullNodeId) → at_name b.grafted name ≡ Some n → IsNamedBefore w u (k + 1) n × (graft_name m n ≡ Some name)
       grafted_to name n is = ⊎_elim
@@ -357,6 +359,7 @@ module _ (w : World) (u : UpdateData) (o : IsOld w) where
         has_named = next_has_named;
         left = λ c t. (left_to c t, λ f. left_from c t f.0 f.1);
         entered = λ c t. (entered_to c t, λ f. entered_from c t f.0 f.1);
+        entered_apart = entered_apart;
         grafted = λ name n. (grafted_to name n, λ f. grafted_from name n f.0 f.1);
         lost = lost_next;
         gained = gained_next;
@@ -368,7 +371,7 @@ module _ (w : World) (u : UpdateData) (o : IsOld w) where
       }
 
     -- what is wrong with the node is a fault that stands
-    pub node_refused : (a : Compared) → AreCompared w u k a → (f : UpdateError) → IsNodeFault w id e.1 a f → IsRefusal w u f
+    pub node_refused : (a : Comparing) → AreCompared w u k a → (f : UpdateError) → IsGraftFault id e.1 (at_name a.grafted) f → IsRefusal w u f
     node_refused a h error.Memory x = x
     node_refused a h (error.RootTreeGrafted n) x = subst (λ y. IsRefusal w u (error.RootTreeGrafted y)) x.0 (named_root_graft_stands w u o id (named_is (k + 1) id named_here) (graft_here ∙ x.1))
     node_refused a h (error.GraftWithChildren n) x =
@@ -377,15 +380,6 @@ module _ (w : World) (u : UpdateData) (o : IsOld w) where
     node_refused a h (error.GraftedTwice name) x =
         let f = (h.grafted name x.1).0 x.2 in
         named_grafts_stand w u o id x.1 name (apart x.1 f.0) (named_is (k + 1) id named_here) (named_is k x.1 f.0) (graft_here ∙ x.0) f.1
-    node_refused a h (error.ListedTwice n) x =
-        subst (λ y. IsRefusal w u (error.ListedTwice y)) x.1 (⊎_elim
-        (λ there.
-        let t = value_of (at a.entered.entries x.0) there in
-        let f = (h.entered x.0 t.0).0 t.1 in
-        let ne : x.2 ≢ t.0 = λ same. first_named (subst (IsDone w u k) (sym same ∙ x.3.1.0) f.1) in
-        entered_twice_stands w u o x.2 t.0 x.0 ne (is_entered x.0 x.2 x.3) f.0)
-        (λ g. entered_twice_stands w u o x.2 g.0 x.0 g.1 (is_entered x.0 x.2 x.3) (is_entered x.0 g.0 g.2))
-        x.4)
     node_refused a h f x = absurd x
 
   -- ---- before the first entry
@@ -409,45 +403,38 @@ module _ (w : World) (u : UpdateData) (o : IsOld w) where
     new_root : Some (in_tree opened.index opened.root) ≡ root_of m i
     new_root = sym op.root ∙ ap (root_of m) op.index
 
-    module _ (c : Compared) (b : BeginsComparing opened named c) where
-      left_roots : Gathers (OnlyAt None (root_of w i) (root_of m i)) (λ _. None) (at c.left.entries)
-      left_roots = subst (λ x. Gathers (OnlyAt None (root_of w i) x) (λ _. None) (at c.left.entries)) new_root (subst (λ x. Gathers (OnlyAt None x (Some (in_tree opened.index opened.root))) (λ _. None) (at c.left.entries)) old_root b.left)
+    module _ (c : Comparing) (b : BeginsComparing opened named c) where
+      left_roots : Gathers (OnlyAt None (root_of w i) (root_of m i)) [] c.left
+      left_roots = subst (λ x. Gathers (OnlyAt None (root_of w i) x) [] c.left) new_root (subst (λ x. Gathers (OnlyAt None x (Some (in_tree opened.index opened.root))) [] c.left) old_root b.left)
 
-      entered_roots : GathersNew (OnlyAt None (root_of m i) (root_of w i)) (λ _. None) (at c.entered.entries)
-      entered_roots = subst (λ x. GathersNew (OnlyAt None x (root_of w i)) (λ _. None) (at c.entered.entries)) new_root (subst (λ x. GathersNew (OnlyAt None (Some (in_tree opened.index opened.root)) x) (λ _. None) (at c.entered.entries)) old_root b.entered)
+      entered_roots : Gathers (OnlyAt None (root_of m i) (root_of w i)) [] c.entered
+      entered_roots = subst (λ x. Gathers (OnlyAt None x (root_of w i)) [] c.entered) new_root (subst (λ x. Gathers (OnlyAt None (Some (in_tree opened.index opened.root)) x) [] c.entered) old_root b.entered)
 
       -- what is the root of the one and not of the other
       root_only : (v v' : World) (x : FullNodeId) → root_of v i ≡ Some x → root_of v' i ≢ Some x → IsAt v None x × ¬ (IsAt v' None x)
       root_only v v' x is other = let tree : i ≡ x.tree = root_of-tree v i x is in (subst (λ j. root_of v j ≡ Some x) tree is, subst (λ j. root_of v' j ≢ Some x) tree other)
 
-      root_first : (x : FullNodeId) (s : Seat) → at c.left.entries x ≡ Some s → Left w u s x × IsDone w u 0 s
-      root_first x s is = ⊎_elim
-          (λ none. absurd (no_some (at c.left.entries x) none (some_is (at c.left.entries x) s is)))
-          (λ g.
-          let e' : None ≡ s = sym g.1.0 ∙ same_Some g.0 s (sym g.2 ∙ is) in
-          subst (λ y. Left w u y x × IsDone w u 0 y) e' (root_only w m x g.1.1.0 g.1.1.1, tt))
-          (left_roots.others x)
+      root_first : (x : FullNodeId) (s : Seat) → Contains c.left (x, s) → Left w u s x × IsDone w u 0 s
+      root_first x s is =
+          let g = (left_roots.found x s).0 (subst (λ (xs : Spots). Contains xs (x, s)) left_roots.is is) in
+          subst (λ y. Left w u y x × IsDone w u 0 y) (sym g.0) (root_only w m x g.1.0 g.1.1, tt)
 
-      root_last : (x : FullNodeId) (s : Seat) → Left w u s x → IsDone w u 0 s → at c.left.entries x ≡ Some s
+      root_last : (x : FullNodeId) (s : Seat) → Left w u s x → IsDone w u 0 s → Contains c.left (x, s)
       root_last x (Some p) l done = absurd (none_named p.0 done)
       root_last x None l done =
           let tree : x.tree ≡ i = left_tree w u None x l in
-          let f = value_of (at c.left.entries x) (left_roots.found x None (refl, (subst (λ j. root_of w j ≡ Some x) tree l.0, subst (λ j. root_of m j ≢ Some x) tree l.1))) in
-          f.1 ∙ ap Some (spot_once w u o f.0 None x (root_first x f.0 f.1).0.0 l.0)
+          subst (λ (xs : Spots). Contains xs (x, None)) (sym left_roots.is) ((left_roots.found x None).1 (refl, (subst (λ j. root_of w j ≡ Some x) tree l.0, subst (λ j. root_of m j ≢ Some x) tree l.1)))
 
-      root_first_entered : (x : FullNodeId) (s : Seat) → at c.entered.entries x ≡ Some s → Entered w u s x × IsDone w u 0 s
-      root_first_entered x s is = ⊎_elim
-          (λ none. absurd (no_some (at c.entered.entries x) none (some_is (at c.entered.entries x) s is)))
-          (λ g.
-          let e' : None ≡ s = sym g.1.0 ∙ same_Some g.0 s (sym g.2 ∙ is) in
-          subst (λ y. Entered w u y x × IsDone w u 0 y) e' (root_only m w x g.1.1.0 g.1.1.1, tt))
-          (entered_roots.others x)
+      root_first_entered : (x : FullNodeId) (s : Seat) → Contains c.entered (x, s) → Entered w u s x × IsDone w u 0 s
+      root_first_entered x s is =
+          let g = (entered_roots.found x s).0 (subst (λ (xs : Spots). Contains xs (x, s)) entered_roots.is is) in
+          subst (λ y. Entered w u y x × IsDone w u 0 y) (sym g.0) (root_only m w x g.1.0 g.1.1, tt)
 
-      root_last_entered : (x : FullNodeId) (s : Seat) → Entered w u s x → IsDone w u 0 s → at c.entered.entries x ≡ Some s
+      root_last_entered : (x : FullNodeId) (s : Seat) → Entered w u s x → IsDone w u 0 s → Contains c.entered (x, s)
       root_last_entered x (Some p) l done = absurd (none_named p.0 done)
       root_last_entered x None l done =
           let tree : x.tree ≡ i = entered_tree w u None x l in
-          (entered_roots.found x None (refl, (subst (λ j. root_of m j ≡ Some x) tree l.0, subst (λ j. root_of w j ≢ Some x) tree l.1))).1
+          subst (λ (xs : Spots). Contains xs (x, None)) (sym entered_roots.is) ((entered_roots.found x None).1 (refl, (subst (λ j. root_of m j ≡ Some x) tree l.0, subst (λ j. root_of w j ≢ Some x) tree l.1)))
 
       none_grafted : (name : TreeId) (n : FullNodeId) → at_name c.grafted name ≢ Some n
       none_grafted name n is = no_some (at_name c.grafted name) (ap (lookup (is_at (name_cmp name))) b.grafted) (some_is (at_name c.grafted name) n is)
@@ -469,6 +456,7 @@ module _ (w : World) (u : UpdateData) (o : IsOld w) where
         );
         left = λ x s. (root_first x s, λ f. root_last x s f.0 f.1);
         entered = λ x s. (root_first_entered x s, λ f. root_last_entered x s f.0 f.1);
+        entered_apart = subst AreApart (sym entered_roots.is) entered_roots.once;
         grafted = λ name n. ((λ is. absurd (none_grafted name n is)), λ f. absurd (none_named n f.0));
         lost = λ name. ((λ x. absurd (none_in c.lost.items b.lost name x)), λ f. absurd (none_named f.0 f.1));
         gained = λ name. ((λ x. absurd (none_in c.gained.items b.gained name x)), λ f. absurd (none_named f.0 f.1));
@@ -480,7 +468,7 @@ module _ (w : World) (u : UpdateData) (o : IsOld w) where
       }
 
   -- ---- after the last entry
-  module _ (opened : IsOpened w u) (once : AreNamedOnce u.nodes) (c : Compared) (h : AreCompared w u (length u.nodes) c) where
+  module _ (a : Comparing) (h : AreCompared w u (length u.nodes) a) where
     done_left : (s : Seat) (x : FullNodeId) → Left w u s x → IsDone w u (length u.nodes) s
     done_left None x l = tt
     done_left (Some p) x l = (all_named p.0).1 (leaver_named w u p x l.0 l.1)
@@ -489,26 +477,59 @@ module _ (w : World) (u : UpdateData) (o : IsOld w) where
     done_entered None x l = tt
     done_entered (Some p) x l = (all_named p.0).1 (lister_named w u p x l.0 l.1)
 
-    pub compared_all : HoldsCompared w u c
-    compared_all = record {
-      compared = record {
-        opened = opened;
-        named_once = once;
-        named_ungrafting = λ n named. h.ungrafting n ((all_named n).1 named);
-        named_childless = λ n name named. h.childless n name ((all_named n).1 named);
-        named_apart = λ n k name a b f g. same_Some n k (sym ((h.grafted name n).1 ((all_named n).1 a, f)) ∙ (h.grafted name k).1 ((all_named k).1 b, g));
-        entered_once = λ s t x a b. same_Some s t (sym ((h.entered x s).1 (a, done_entered s x a)) ∙ (h.entered x t).1 (b, done_entered t x b));
-      };
-      is_named = λ id n is. h.is_named id n ((all_named id).1 ((h.has_named id).0 (some_is (at c.named id) n is))) is;
-      has_named = λ id named. (h.has_named id).1 named;
-      left = λ id s. ((λ is. ((h.left id s).0 is).0), λ l. (h.left id s).1 (l, done_left s id l));
-      entered = λ id s. ((λ is. ((h.entered id s).0 is).0), λ l. (h.entered id s).1 (l, done_entered s id l));
-      grafted = λ name n. ((λ is. let f = (h.grafted name n).0 is in ((all_named n).0 f.0, f.1)), λ f. (h.grafted name n).1 ((all_named n).1 f.0, f.1));
-      lost = λ name. ((λ x. let f = (h.lost name).0 x in (f.0, (all_named f.0).0 f.1, f.2, f.3)), λ f. (h.lost name).1 (f.0, (all_named f.0).1 f.1, f.2, f.3));
-      gained = λ name. ((λ x. let f = (h.gained name).0 x in (f.0, ((all_named f.0).0 f.1, f.2, f.3))), λ f. (h.gained name).1 (f.0, (all_named f.0).1 f.1.0, f.1.1, f.1.2));
-      lost_once = h.lost_once;
-      gained_once = h.gained_once;
-      named_count = h.named_count;
-      lost_count = h.lost_count;
-      gained_count = h.gained_count;
-    }
+    -- what entered twice is listed twice
+    pub twice_refused : (e : UpdateError) → IsEnteredTwice a e → IsRefusal w u e
+    twice_refused (error.ListedTwice n) x =
+        let t = x.2 in
+        let f = value_at a.entered t.0 x.0 t.3 in
+        let g = value_at a.entered t.1 x.0 t.4 in
+        let d : FullNodeId × Seat = (x.0, f.0) in
+        let e : FullNodeId × Seat = (x.0, g.0) in
+        let first : get_or a.entered t.0 d ≡ d = get_or_from_slice_get a.entered t.0 d d f.1 in
+        let second : get_or a.entered t.1 d ≡ e = get_or_from_slice_get a.entered t.1 e d g.1 in
+        let ne : f.0 ≢ g.0 = λ same. h.entered_apart t.0 t.1 d t.2 (slice_get_within a.entered t.1 e g.1) (ap (λ (y : FullNodeId × Seat). y.1) first ∙ same ∙ sym (ap (λ (y : FullNodeId × Seat). y.1) second)) in
+        subst (λ y. IsRefusal w u (error.ListedTwice y)) x.1
+        (entered_twice_stands w u o f.0 g.0 x.0 ne ((h.entered x.0 f.0).0 (contains_at a.entered t.0 d f.1)).0 ((h.entered x.0 g.0).0 (contains_at a.entered t.1 e g.1)).0)
+    twice_refused e x = absurd x
+
+    module _ (opened : IsOpened w u) (once : AreNamedOnce u.nodes) (c : Compared) (l : SettlesLists a c) where
+      left_here : (id : FullNodeId) (s : Seat) → (at c.left id ≡ Some s) ↔ Left w u s id
+      left_here id s = (
+        (λ is. ((h.left id s).0 (l.left_found id s is)).0),
+        (λ was.
+            let f = value_of (at c.left id) (l.left_each id s ((h.left id s).1 (was, done_left s id was))) in
+            f.1 ∙ ap Some (spot_once w u o f.0 s id ((h.left id f.0).0 (l.left_found id f.0 f.1)).0.0 was.0)),
+      )
+
+      entered_here : (id : FullNodeId) (s : Seat) → (at c.entered id ≡ Some s) ↔ Entered w u s id
+      entered_here id s = ((λ is. ((h.entered id s).0 ((l.entered id s).0 is)).0), λ is. (l.entered id s).1 ((h.entered id s).1 (is, done_entered s id is)))
+
+      named_here' : (id : FullNodeId) (n : Named) → at c.named id ≡ Some n → at a.named id ≡ Some n
+      named_here' id n = subst (λ xs. at xs id ≡ Some n) l.named
+
+      pub compared_all : HoldsCompared w u c
+      compared_all = record {
+        compared = record {
+          opened = opened;
+          named_once = once;
+          named_ungrafting = λ n named. h.ungrafting n ((all_named n).1 named);
+          named_childless = λ n name named. h.childless n name ((all_named n).1 named);
+          named_apart = λ n k name x y f g. same_Some n k (sym ((h.grafted name n).1 ((all_named n).1 x, f)) ∙ (h.grafted name k).1 ((all_named k).1 y, g));
+          entered_once = λ s t x f g. same_Some s t (sym ((entered_here x s).1 f) ∙ (entered_here x t).1 g);
+        };
+        is_named = λ id n is. let there = named_here' id n is in h.is_named id n ((all_named id).1 ((h.has_named id).0 (some_is (at a.named id) n there))) there;
+        has_named = λ id named. subst (λ xs. IsSome (at xs id)) (sym l.named) ((h.has_named id).1 named);
+        left = left_here;
+        entered = entered_here;
+        grafted = λ name n. subst (λ x. (at_name x name ≡ Some n) ↔ (IsNamed w u n × (graft_name m n ≡ Some name))) (sym l.grafted)
+            ((λ is. let f = (h.grafted name n).0 is in ((all_named n).0 f.0, f.1)), λ f. (h.grafted name n).1 ((all_named n).1 f.0, f.1));
+        lost = λ name. subst (λ x. Contains x.items name ↔ LosesGraft w u name) (sym l.lost)
+            ((λ x. let f = (h.lost name).0 x in (f.0, (all_named f.0).0 f.1, f.2, f.3)), λ f. (h.lost name).1 (f.0, (all_named f.0).1 f.1, f.2, f.3));
+        gained = λ name. subst (λ x. Contains x.items name ↔ ((n : FullNodeId) × GainsGraft w u n name)) (sym l.gained)
+            ((λ x. let f = (h.gained name).0 x in (f.0, ((all_named f.0).0 f.1, f.2, f.3))), λ f. (h.gained name).1 (f.0, (all_named f.0).1 f.1.0, f.1.1, f.1.2));
+        lost_once = subst (λ x. AllPairs (λ a b. a ≢ b) x.items) (sym l.lost) h.lost_once;
+        gained_once = subst (λ x. AllPairs (λ a b. a ≢ b) x.items) (sym l.gained) h.gained_once;
+        named_count = subst (λ xs. length xs ≡ length u.nodes) (sym l.named) h.named_count;
+        lost_count = subst (λ x. length x.items ≤ length u.nodes) (sym l.lost) h.lost_count;
+        gained_count = subst (λ x. length x.items ≤ length u.nodes) (sym l.gained) h.gained_count;
+      }

@@ -1,6 +1,6 @@
 -- A named node's data, compared with its old record.
-use Rattle.std.proofs.Common.{◌≡◌, ◌≢◌, ◌↔◌, ℕ, ◌+◌, Bool, true, List, [], ◌++◌, length, Option, Some, None, IsSome, inl, inr, refl, sym, ap, subst, ◌∙◌, arith}
-use Rattle.std.specs.Prelude.{IsTrue, is_some, if◌then◌else◌}
+use Rattle.std.proofs.Common.{◌≡◌, ◌≢◌, ◌↔◌, ℕ, Bool, true, List, [], ◌++◌, length, Option, Some, None, IsSome, inl, inr, refl, sym, ap, subst, ◌∙◌}
+use Rattle.std.specs.Prelude.{IsTrue}
 use Rattle.std.specs.Option.{option_to_list}
 use Rattle.std.proofs.lemmas.Option.{same_Some}
 use Rattle.schema.specs.NodeData.{NodeData}
@@ -8,38 +8,36 @@ use Rattle.schema.specs.declared.TreeId.{TreeId}
 use Rattle.model.specs.declared.FullNodeId.{FullNodeId}
 use Rattle.model.specs.World.{World, Place, data_of, listed_ids, graft_name}
 use Rattle.tree_changes.specs.LookUps.{IsPlaceOf}
-use Rattle.tree_changes.specs.declared.error.UpdateError.{UpdateError}
-use Rattle.tree_changes.specs.declared.error.UpdateError.TheVariants as error
 use Rattle.tree_plan.specs.declared.passes.Named.{Named}
-use Rattle.tree_plan.specs.declared.passes.Compared.{Compared}
+use Rattle.tree_plan.specs.declared.passes.Comparing.{Comparing}
 use Rattle.tree_plan.specs.Passes.{at, at_name}
-use Rattle.tree_plan.specs.Comparisons.{Gathers, GathersNew, IsFoundTwice, OnlyIn, child_ids, TakesGraft, ChangesGraft, IsEntryOf, ComparesData, ComparesNode, IsNodeFault}
+use Rattle.tree_plan.specs.Comparisons.{Gathers, OnlyIn, child_ids, TakesGraft, ChangesGraft, IsEntryOf, ComparesData, ComparesNode}
 use Rattle.model.proofs.Update.RulesOrFault.{no_some}
 use Rattle.tree_plan.proofs.IdMaps.{Put, some_is}
 
 -- what compared data are, in three steps: the entry, the lists, the grafts
-pub data_compared : (id : FullNodeId) (n : Named) (xs : List FullNodeId) (graft now : Option TreeId) (d : NodeData) (a b c : Compared) (entries : List (FullNodeId × Named))
+pub data_compared : (id : FullNodeId) (n : Named) (xs : List FullNodeId) (graft now : Option TreeId) (d : NodeData) (a b c : Comparing) (entries : List (FullNodeId × Named))
     → now ≡ d.tree_id → Put id (Some n) (at a.named) (at entries) → (IsSome (at a.named id) → length entries ≡ length a.named)
-    → Gathers (OnlyIn id xs (child_ids id d)) (at a.left.entries) (at b.left.entries) → GathersNew (OnlyIn id (child_ids id d) xs) (at a.entered.entries) (at b.entered.entries)
+    → Gathers (OnlyIn id xs (child_ids id d)) a.left b.left → Gathers (OnlyIn id (child_ids id d) xs) a.entered b.entered
     → b ≡ record { named = entries; left = b.left; entered = b.entered; grafted = a.grafted; lost = a.lost; gained = a.gained }
     → c ≡ record { named = b.named; left = b.left; entered = b.entered; grafted = b.grafted; lost = c.lost; gained = c.gained }
     → ChangesGraft graft now b c → ComparesData id n xs graft d a c
 data_compared id n xs graft now d a b c entries is put count left entered first second grafts = record {
   named = subst (λ m. Put id (Some n) (at a.named) (at m)) (sym map_is) put;
   count_of = λ there. ap (λ (m : List (FullNodeId × Named)). length m) map_is ∙ count there;
-  left = subst (λ m. Gathers (OnlyIn id xs (child_ids id d)) (at a.left.entries) (at m.entries)) (ap (λ (x : Compared). x.left) (sym second)) left;
-  entered = subst (λ m. GathersNew (OnlyIn id (child_ids id d) xs) (at a.entered.entries) (at m.entries)) (ap (λ (x : Compared). x.entered) (sym second)) entered;
+  left = subst (λ m. Gathers (OnlyIn id xs (child_ids id d)) a.left m) (ap (λ (x : Comparing). x.left) (sym second)) left;
+  entered = subst (λ m. Gathers (OnlyIn id (child_ids id d) xs) a.entered m) (ap (λ (x : Comparing). x.entered) (sym second)) entered;
   regrafted = go grafts;
 }
   where
     map_is : c.named ≡ entries
-    map_is = ap (λ (x : Compared). x.named) second ∙ ap (λ (x : Compared). x.named) first
+    map_is = ap (λ (x : Comparing). x.named) second ∙ ap (λ (x : Comparing). x.named) first
 
     lost_is : b.lost ≡ a.lost
-    lost_is = ap (λ (x : Compared). x.lost) first
+    lost_is = ap (λ (x : Comparing). x.lost) first
 
     gained_is : b.gained ≡ a.gained
-    gained_is = ap (λ (x : Compared). x.gained) first
+    gained_is = ap (λ (x : Comparing). x.gained) first
 
     go : ChangesGraft graft now b c → ChangesGraft graft d.tree_id a c
     go g = subst (λ x. ChangesGraft graft x a c) is (elim g [
@@ -48,7 +46,7 @@ data_compared id n xs graft now d a b c entries is put count left entered first 
     ])
 
 -- a node is compared: its graft first, and then its data
-pub node_compared : (w : World) (id : FullNodeId) (entry : ℕ) (d : NodeData) (a b c : Compared) (n : Named) (xs : List FullNodeId) (graft : Option TreeId)
+pub node_compared : (w : World) (id : FullNodeId) (entry : ℕ) (d : NodeData) (a b c : Comparing) (n : Named) (xs : List FullNodeId) (graft : Option TreeId)
     → TakesGraft id d (at_name a.grafted) (at_name b.grafted)
     → b ≡ record { named = a.named; left = a.left; entered = a.entered; grafted = b.grafted; lost = a.lost; gained = a.gained }
     → c.grafted ≡ b.grafted → IsEntryOf w id entry d n → xs ≡ listed_ids w id → graft ≡ graft_name w id → ComparesData id n xs graft d b c → ComparesNode w id entry d a c
@@ -57,19 +55,19 @@ node_compared w id entry d a b c n xs graft takes first stays is lists grafts h 
   n = n;
   is_entry = is;
   compares = subst (λ x. ComparesData id n (listed_ids w id) x d a c) grafts (subst (λ x. ComparesData id n x graft d a c) lists (record {
-    named = subst (λ m. Put id (Some n) (at m) (at c.named)) (ap (λ (x : Compared). x.named) first) h.named;
-    count_of = subst (λ (m : List (FullNodeId × Named)). IsSome (at m id) → length c.named ≡ length m) (ap (λ (x : Compared). x.named) first) h.count_of;
-    left = subst (λ m. Gathers (OnlyIn id xs (child_ids id d)) (at m.entries) (at c.left.entries)) (ap (λ (x : Compared). x.left) first) h.left;
-    entered = subst (λ m. GathersNew (OnlyIn id (child_ids id d) xs) (at m.entries) (at c.entered.entries)) (ap (λ (x : Compared). x.entered) first) h.entered;
+    named = subst (λ m. Put id (Some n) (at m) (at c.named)) (ap (λ (x : Comparing). x.named) first) h.named;
+    count_of = subst (λ (m : List (FullNodeId × Named)). IsSome (at m id) → length c.named ≡ length m) (ap (λ (x : Comparing). x.named) first) h.count_of;
+    left = subst (λ m. Gathers (OnlyIn id xs (child_ids id d)) m c.left) (ap (λ (x : Comparing). x.left) first) h.left;
+    entered = subst (λ m. Gathers (OnlyIn id (child_ids id d) xs) m c.entered) (ap (λ (x : Comparing). x.entered) first) h.entered;
     regrafted = go h.regrafted;
   }));
 }
   where
     lost_is : b.lost ≡ a.lost
-    lost_is = ap (λ (x : Compared). x.lost) first
+    lost_is = ap (λ (x : Comparing). x.lost) first
 
     gained_is : b.gained ≡ a.gained
-    gained_is = ap (λ (x : Compared). x.gained) first
+    gained_is = ap (λ (x : Comparing). x.gained) first
 
     go : ChangesGraft graft d.tree_id b c → ChangesGraft graft d.tree_id a c
     go (inl f) = inl (f.0, f.1 ∙ ap (λ x. x.items) lost_is, f.2 ∙ ap (λ x. x.items) gained_is)
@@ -105,13 +103,3 @@ new_lists w id none = rw none refl
 
 pub new_graft : (w : World) (id : FullNodeId) → data_of w id ≡ None → None ≡ graft_name w id
 new_graft w id none = rw none refl
-
--- what is wrong with the data is wrong with the node
-pub data_fault : (w : World) (id : FullNodeId) (d : NodeData) (a b : Compared) (xs : List FullNodeId) → xs ≡ listed_ids w id
-    → b ≡ record { named = a.named; left = a.left; entered = a.entered; grafted = b.grafted; lost = a.lost; gained = a.gained }
-    → (e : UpdateError) → IsFoundTwice (OnlyIn id (child_ids id d) xs) (at b.entered.entries) e → IsNodeFault w id d a e
-data_fault w id d a b xs lists first error.Memory h = h
-data_fault w id d a b xs lists first (error.ListedTwice n) h =
-    subst (λ x. IsFoundTwice (OnlyIn id (child_ids id d) x) (at a.entered.entries) (error.ListedTwice n)) lists
-    (subst (λ m. IsFoundTwice (OnlyIn id (child_ids id d) xs) (at m.entries) (error.ListedTwice n)) (ap (λ (x : Compared). x.entered) first) h)
-data_fault w id d a b xs lists first e h = absurd h

@@ -173,7 +173,7 @@ module _ (w : World) (u : UpdateData) where
     pub unlisted_refused : (e : UpdateError) → IsOfUnlisted d e → IsRefusal w u e
     unlisted_refused e f =
         let n = k.is_named f.0 f.1.0 f.1.1 in
-        let none : ¬ (HasEntered w u f.0) = λ h. no_some (at d.entered.entries f.0) f.1.2.1 (some_is (at d.entered.entries f.0) h.0 ((k.entered f.0 h.0).1 h.1)) in
+        let none : ¬ (HasEntered w u f.0) = λ h. no_some (at d.entered f.0) f.1.2.1 (some_is (at d.entered f.0) h.0 ((k.entered f.0 h.0).1 h.1)) in
         subst (IsRefusal w u) (sym f.2) (unentered_stands w u o f.0 n.named (n.new f.1.2.0) none)
 
     pub explained : (r : Removed) → HoldsRemoved w u r → (reached : BTreeSet FullNodeId) → HasReached w u reached → (c : FullNodeId) → IsListedStill w u c → (e : UpdateError) → Explains d reached c e → IsRefusal w u e
@@ -206,11 +206,11 @@ module _ (w : World) (u : UpdateData) where
               go None e = refl
               go (Some p) e = absurd (absent ((k.is_named n x is).old p e).0)
 
-          no_entry : (n : FullNodeId) → ¬ (HasEntered w u n) → at d.entered.entries n ≡ None
-          no_entry n none = ⊎_elim (λ h. h) (λ s. absurd (none (s.0, (k.entered n s.0).0 s.1))) (none_or_some (at d.entered.entries n))
+          no_entry : (n : FullNodeId) → ¬ (HasEntered w u n) → at d.entered n ≡ None
+          no_entry n none = ⊎_elim (λ h. h) (λ s. absurd (none (s.0, (k.entered n s.0).0 s.1))) (none_or_some (at d.entered n))
 
-          not_left : (q : Place) (c : FullNodeId) → Lists w q c → Lists m q c → at d.left.entries c ≡ None
-          not_left q c was still = ⊎_elim (λ h. h) (λ s. let l = (k.left c s.0).0 s.1 in absurd (l.1 (subst (λ t. IsAt m t c) (spot_once w u o (Some q) s.0 c was l.0) still))) (none_or_some (at d.left.entries c))
+          not_left : (q : Place) (c : FullNodeId) → Lists w q c → Lists m q c → at d.left c ≡ None
+          not_left q c was still = ⊎_elim (λ h. h) (λ s. let l = (k.left c s.0).0 s.1 in absurd (l.1 (subst (λ t. IsAt m t c) (spot_once w u o (Some q) s.0 c was l.0) still))) (none_or_some (at d.left c))
 
           certain_gone : (q : Place) → (¬ (has r.gone q.0) → ⊥) → Gone w u q.0
           certain_gone q h = go (contains full_cmp r.gone q.0) refl

@@ -73,11 +73,11 @@ pairs_none R i j d lt within = absurd (omega arith)
 -- ---- what the named nodes' maps say
 
 module _ (w : World) (u : UpdateData) (d : Compared) (k : HoldsCompared w u d) where
-  pub entered_has : (id : FullNodeId) → true ≡ is_some (at d.entered.entries id) → HasEntered w u id
-  entered_has id is = let f = value_of (at d.entered.entries id) (sym is) in (f.0, (k.entered id f.0).0 f.1)
+  pub entered_has : (id : FullNodeId) → true ≡ is_some (at d.entered id) → HasEntered w u id
+  entered_has id is = let f = value_of (at d.entered id) (sym is) in (f.0, (k.entered id f.0).0 f.1)
 
-  pub entered_not : (id : FullNodeId) → false ≡ is_some (at d.entered.entries id) → ¬ (HasEntered w u id)
-  entered_not id is h = no_some (at d.entered.entries id) (none_if_not (at d.entered.entries id) is) (some_is (at d.entered.entries id) h.0 ((k.entered id h.0).1 h.1))
+  pub entered_not : (id : FullNodeId) → false ≡ is_some (at d.entered id) → ¬ (HasEntered w u id)
+  entered_not id is h = no_some (at d.entered id) (none_if_not (at d.entered id) is) (some_is (at d.entered id) h.0 ((k.entered id h.0).1 h.1))
 
   pub named_has : (id : FullNodeId) → true ≡ is_some (at d.named id) → IsNamed w u id
   named_has id is = let f = value_of (at d.named id) (sym is) in (k.is_named id f.0 f.1).named
@@ -491,10 +491,10 @@ module _ (w : World) (u : UpdateData) where
 -- ---- what left
 
 module _ (w : World) (u : UpdateData) (d : Compared) (k : HoldsCompared w u d) where
-  pub left_goes : (s : Seat) (id : FullNodeId) → at d.left.entries id ≡ Some s → ¬ (HasEntered w u id) → Gone w u id
+  pub left_goes : (s : Seat) (id : FullNodeId) → at d.left id ≡ Some s → ¬ (HasEntered w u id) → Gone w u id
   left_goes s id is none = surgery.Gone.left s id ((k.left id s).0 is) none
 
-  pub left_end : (a b : Removing) → FindsGone w u b → b.trees ≡ a.trees → ((id : FullNodeId) (s : Seat) → at d.left.entries id ≡ Some s → IsPlacedOrFound w u b id) → LosesLeft w u a b
+  pub left_end : (a b : Removing) → FindsGone w u b → b.trees ≡ a.trees → ((id : FullNodeId) (s : Seat) → at d.left id ≡ Some s → IsPlacedOrFound w u b id) → LosesLeft w u a b
   left_end a b found trees all = record {
     found = found;
     trees = trees;

@@ -100,10 +100,10 @@ module _ (w : World) (u : UpdateData) (o : IsOld w) where
       ungrafting p lists = ⊎_elim (λ none. none) (λ f. let none : None ≡ Some c = ap (λ xs. slice_get xs p.1) (sym (o.graft_childless p.0 f.0 f.1)) ∙ lists in absurd cc) (none_or_some (graft_name w p.0))
 
   module _ (d : Compared) (k : HoldsCompared w u d) where
-    pub where_left : (c : FullNodeId) → at d.left.entries c ≡ None → (s : Seat) → ¬ (Left w u s c)
+    pub where_left : (c : FullNodeId) → at d.left c ≡ None → (s : Seat) → ¬ (Left w u s c)
     where_left c none s l = let f : None ≡ Some s = sym none ∙ (k.left c s).1 l in cc
 
-    pub stood_named : (c : FullNodeId) (n : Named) → Comes w u c → at d.left.entries c ≡ None → at d.named c ≡ Some n → StoodAt w c n.was
+    pub stood_named : (c : FullNodeId) (n : Named) → Comes w u c → at d.left c ≡ None → at d.named c ≡ Some n → StoodAt w c n.was
     stood_named c n comes none is = go n.was refl
       where
         entry : IsNamedAs w u c n
@@ -317,7 +317,7 @@ settled_stays w u a b keeps c s h = record {
   unmoved = λ still. h.unmoved (keeps.moved still);
 }
 
-pub settlement : (w : World) (u : UpdateData) (d : Compared) (a : Settled) → HoldsCompared w u d → IsSettledSoFar w u a → ((c : FullNodeId) (s : Seat) → at d.entered.entries c ≡ Some s → IsSettledAt w u c s a) → HoldsSettled w u a
+pub settlement : (w : World) (u : UpdateData) (d : Compared) (a : Settled) → HoldsCompared w u d → IsSettledSoFar w u a → ((c : FullNodeId) (s : Seat) → at d.entered c ≡ Some s → IsSettledAt w u c s a) → HoldsSettled w u a
 settlement w u d a k so_far all = record {
   settled = record {
     compared = k.compared;

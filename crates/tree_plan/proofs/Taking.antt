@@ -1,5 +1,5 @@
 -- The named nodes, entry by entry.
-use Rattle.std.proofs.Common.{◌≡◌, ◌≢◌, ◌⊎◌, ⊎_elim, ◌↔◌, ℕ, zero, suc, ◌+◌, ◌<◌, ◌≤◌, List, [], ◌∷◌, ◌++◌, length, map, take, slice_get, Contains, Option, Some, None, IsSome, option_map, inl, inr, refl, sym, ap, subst, ◌∙◌, arith}
+use Rattle.std.proofs.Common.{◌≡◌, ◌≢◌, ◌⊎◌, ⊎_elim, ◌↔◌, ℕ, zero, suc, ◌+◌, ◌<◌, List, [], ◌∷◌, ◌++◌, length, map, take, slice_get, Contains, Some, IsSome, option_map, inl, inr, refl, sym, ap, subst, ◌∙◌, arith}
 use Rattle.std.specs.Map.{keys_of}
 use Rattle.std.specs.List.Sorted.{IsPermutation}
 use Rattle.std.proofs.lemmas.Bool.{cases_lt}
@@ -33,7 +33,7 @@ key_of [] j e is = cc
 key_of {X} (f ∷ es) zero e is = ap (λ (x : FullNodeId × X). Some x.0) (same_Some f e is)
 key_of (f ∷ es) (suc j) e is = key_of es j e is
 
-value_at : {X : Type 0} (es : List (FullNodeId × X)) (j : ℕ) (id : FullNodeId) → slice_get (keys_of es) j ≡ Some id → (v : X) × (slice_get es j ≡ Some (id, v))
+pub value_at : {X : Type 0} (es : List (FullNodeId × X)) (j : ℕ) (id : FullNodeId) → slice_get (keys_of es) j ≡ Some id → (v : X) × (slice_get es j ≡ Some (id, v))
 value_at [] j id is = cc
 value_at {X} (f ∷ es) zero id is = let pair : FullNodeId → FullNodeId × X = λ k. (k, f.1) in (f.1, ap (λ k. Some (pair k)) (same_Some f.0 id is))
 value_at (f ∷ es) (suc j) id is = value_at es j id is

@@ -7,6 +7,7 @@ use Rattle.model.specs.World.{World}
 use Rattle.model.specs.Update.{UpdateData, IsFirst, IsRebuild, KeepsRules, merged_world}
 use Rattle.model.specs.Work.{Work, IsWorkOf}
 use Rattle.model.specs.Surgery.{IsOld}
+use Rattle.model.proofs.Update.Merges.{length_stays}
 use Rattle.model.proofs.Surgery.Counts.{climbs_counted}
 use Rattle.model.proofs.Surgery.RulesArePassed.{rules_passed}
 use Rattle.model.proofs.Surgery.OldUpdates.{old_leaves_state}
@@ -16,8 +17,9 @@ use Rattle.tree_changes.specs.LookUps.{IsRaisedUpTo}
 use Rattle.tree_changes.specs.Changes.{overlaid_world}
 use Rattle.tree_changes.specs.Decisions.{IsWithinWork}
 use Rattle.tree_plan.specs.declared.verdicts.Found.{Found}
-use Rattle.tree_plan.specs.Deciding.{AreFindings, IsCount}
+use Rattle.tree_plan.specs.Deciding.{AreFindings, HasBegun, IsCount}
 use Rattle.tree_plan.specs.Writing.{IsSmall}
+use Rattle.tree_plan.specs.News.{IsBrief}
 
 -- where a name is known, the root tree is present
 pub root_tree_there : (w : World) → IsOld w → ¬ (IsFirst w) → IsSome (get w.trees 0)
@@ -27,7 +29,16 @@ root_tree_there w o later = go w.known refl
     go [] e = absurd (later e)
     go (x ∷ xs) e = o.root_present x (ap (λ k. slice_get k 0) e)
 
-module _ (w : World) (u : UpdateData) (new : World) (before middle after : ℕ) (f : Found) (found : AreFindings w u f) (rebuilt : IsRebuild (merged_world w u) new) (counted : IsCount w u f before middle) where
+-- a decision with a change and an event for each named node alone
+pub brief_within : (w : World) (u : UpdateData) (d : Decision) (before after : ℕ) → IsBrief u d → HasBegun w u before after → IsWithinWork w u d before after
+brief_within w u d before after brief begun work is =
+    let named : work.named ≡ length u.nodes = is.count_named in
+    let known : work.known ≡ length (merged_world w u).known = is.count_known in
+    let grown : length w.known ≤ length (merged_world w u).known = length_stays w u in
+    let trees : length d.trees.items ≡ 0 = ap length brief.trees in
+    omega (arith, begun, brief.nodes, brief.events)
+
+module _ (w : World) (u : UpdateData) (new : World) (before start middle after : ℕ) (f : Found) (found : AreFindings w u f) (rebuilt : IsRebuild (merged_world w u) new) (begun : HasBegun w u before start) (counted : IsCount w u f start middle) where
   within : (d : Decision) → KeepsRules w u → overlaid_world w u d ≡ new
       → ((work : Work) → IsWorkOf w u new work → IsSmall f.compared f.removed f.regrafted d work)
       → IsRaisedUpTo middle (4 * length (merged_world w u).known + 2) after → IsWithinWork w u d before after
@@ -36,10 +47,11 @@ module _ (w : World) (u : UpdateData) (new : World) (before middle after : ℕ) 
       let short : IsSmall f.compared f.removed f.regrafted d work = small work at in
       let named : work.named ≡ length u.nodes = at.count_named in
       let known : work.known ≡ length (merged_world w u).known = at.count_known ∙ ap length rebuilt.known in
+      let grown : length w.known ≤ length (merged_world w u).known = length_stays w u in
       let lost : length f.compared.lost.items ≤ length u.nodes = found.comparison.lost_count in
       let gained : length f.compared.gained.items ≤ length u.nodes = found.comparison.gained_count in
       let climbed : counted.steps ≤ work.depths = climbs_counted w u found.old (rules_passed w u found.old kept) rebuilt work at (old_leaves_state w u found.old kept new rebuilt) counted.steps counted.are_steps in
-      omega (arith, asked.0, counted.asked, counted.cut, counted.gained, short.entered, short.gone, short.nodes, short.trees, short.events)
+      omega (arith, begun, asked.0, counted.asked, counted.cut, counted.gained, short.entered, short.gone, short.nodes, short.trees, short.events)
 
   -- by what a call has answered
   pub within_by : (r : Result Decision UpdateError) → OnOk r (KeepsRules w u) → IfOk r (λ d. overlaid_world w u d ≡ new)

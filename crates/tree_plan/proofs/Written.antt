@@ -1,13 +1,13 @@
 -- What is written is the decision, and its lists are short.
 use Rattle.std.proofs.Common.{◌≡◌, ◌≢◌, ◌+◌, ◌*◌, ◌≤◌, Bool, true, false, List, [], ◌++◌, map, length, IsTrue, inl, inr, refl, sym, ap, ◌∙◌, subst, arith, length-append}
 use Rattle.std.specs.Prelude.{AllPairs}
-use Rattle.std.specs.BTreeMap.{IsOrdered}
 use Rattle.rows.specs.Rows.{Ascends}
 use Rattle.std.specs.List.Sorted.{IsStrictlySortedBy}
 use Rattle.model.specs.declared.FullNodeId.{FullNodeId}
 use Rattle.model.specs.FullIds.{full_cmp}
 use Rattle.model.specs.declared.events.PlanEvent.{PlanEvent}
 use Rattle.model.specs.declared.events.PlanEvent.TheVariants as told
+use Rattle.model.specs.Focus.{IsEffectiveFocus}
 use Rattle.model.specs.Update.{IsFirst}
 use Rattle.model.specs.Run.{AreToldBy}
 use Rattle.model.specs.Work.{Work, IsWorkOf}
@@ -23,7 +23,7 @@ use Rattle.tree_plan.specs.Verdicts.{Transition, IsFound, Becomes, Verdicts}
 use Rattle.tree_plan.specs.Writing.{own_record, IsOwnPart, AreEvents, AreTrees, IsSmall}
 use Rattle.tree_plan.proofs.Listed.{ids_where, is_in, told-where, changes_in}
 use Rattle.tree_plan.proofs.Trees.{AreAfter, all_after, all_once}
-use Rattle.tree_plan.proofs.Assembled.{all_told, overlaid_is, decision_is}
+use Rattle.tree_plan.proofs.Assembled.{IsKept, all_told, overlaid_is, decision_is}
 use Rattle.tree_plan.proofs.Counts.{entered_small, gone_small, changes_small, events_small}
 
 module _ (s : Transition) (f : Found) (h : IsFound s f) (vs : Verdicts) (sorted : Ascends vs) (becomes : (id : FullNodeId) → Becomes s id (at vs id)) where
@@ -34,8 +34,11 @@ module _ (s : Transition) (f : Found) (h : IsFound s f) (vs : Verdicts) (sorted 
     after : AreAfter s.old s.update h.old h.kept s.new h.rebuilt (f.removed.trees.items ++ f.regrafted.trees.items ++ trees.0)
     after = all_after s.old s.update h.old h.kept s.new h.rebuilt f.opened f.removed.trees.items f.regrafted.trees.items trees.0 h.opening h.removal.trees h.regrafting.gained own_part
 
+    abbrev kept : IsKept s
+    kept = record { old = h.old; kept = h.kept; rebuilt = h.rebuilt }
+
     pub written_new : overlaid_world s.old s.update d ≡ s.new
-    written_new = overlaid_is s f h vs sorted becomes (f.removed.trees.items ++ f.regrafted.trees.items ++ trees.0) after d nodes trees.1
+    written_new = overlaid_is s kept vs sorted becomes (f.removed.trees.items ++ f.regrafted.trees.items ++ trees.0) after d nodes trees.1
 
     module _ (focused : Focused) (focusing : IsFocusing s.old s.update focused) (quiet : IsTrue f.opened.is_first → d.events.items ≡ []) (tell : ¬ (IsTrue f.opened.is_first) → AreEvents vs focused d.events.items) where
       groups_told : (events : List PlanEvent) (all : AreEvents vs focused events)
@@ -53,7 +56,8 @@ module _ (s : Transition) (f : Found) (h : IsFound s f) (vs : Verdicts) (sorted 
 
       pub written_decision : d.focus ≡ focused.effective → IsDecision s.old s.update d
       written_decision focus =
-          decision_is s f h vs sorted becomes (f.removed.trees.items ++ f.regrafted.trees.items ++ trees.0) after d nodes trees.1 focused focusing focus
+          decision_is s kept vs sorted becomes (f.removed.trees.items ++ f.regrafted.trees.items ++ trees.0) after d nodes trees.1
+          (subst (IsEffectiveFocus s.new) (sym focus) (focusing.effective s.new h.rebuilt))
           (subst (AllPairs (λ a b. a.id ≢ b.id)) (sym trees.1)
           (all_once s.old s.update h.old h.kept s.new h.rebuilt f.opened f.removed.trees.items f.regrafted.trees.items trees.0 h.removal.trees h.regrafting.gained own_part h.removal.trees_once h.regrafting.gained_once))
           differences (λ first. quiet (h.opening.first.1 first))
@@ -66,7 +70,7 @@ module _ (s : Transition) (f : Found) (h : IsFound s f) (vs : Verdicts) (sorted 
       own_short (inl x) = let e = ap length x.1 in omega arith
       own_short (inr x) = let e = ap length x.1 in omega arith
 
-      pub written_small : IsOrdered full_cmp f.compared.entered → IsStrictlySortedBy full_cmp f.removed.gone.keys → (work : Work) → IsWorkOf s.old s.update s.new work → IsSmall f.compared f.removed f.regrafted d work
+      pub written_small : Ascends f.compared.entered → IsStrictlySortedBy full_cmp f.removed.gone.keys → (work : Work) → IsWorkOf s.old s.update s.new work → IsSmall f.compared f.removed f.regrafted d work
       written_small entered gone work is = record {
         entered = entered_small s f h work is entered;
         gone = gone_small s f h work is gone;

@@ -15,7 +15,7 @@ use Rattle.tree_plan.specs.Passes.{at}
 
 -- the parent of the spot that the node entered, or, where it entered none, of its old place
 abbrev pub IsNext : World → Compared → FullNodeId → FullNodeId → Type 0
-IsNext w c id parent = (k : ℕ) × ((at c.entered.entries id ≡ Some (Some (parent, k))) ⊎ ((at c.entered.entries id ≡ None) × StandsAt w (parent, k) id))
+IsNext w c id parent = (k : ℕ) × ((at c.entered id ≡ Some (Some (parent, k))) ⊎ ((at c.entered id ≡ None) × StandsAt w (parent, k) id))
 
 -- the old place of a named node, if it is an old node
 abbrev pub IsOldPlace : World → FullNodeId → Named → Type 0

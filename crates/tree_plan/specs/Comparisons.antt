@@ -1,7 +1,8 @@
 -- How far the named nodes have been compared with their old records.
 use Rattle.std.specs.Prelude.{◌≡◌, ◌≢◌, ℕ, ◌<◌, ◌≤◌, List, [], ◌++◌, length, map, slice_get, AllPairs, Contains, Option, Some, None, IsSome, IsTrue, ⊤, ◌⊎◌, ◌↔◌, if◌then◌else◌}
 use Rattle.std.specs.Option.{option_map, option_to_list}
-use Rattle.std.specs.BTreeMap.{BTreeMap, is_at}
+use Rattle.std.specs.BTreeMap.{is_at}
+use Rattle.rows.specs.Rows.{IsTwice}
 use Rattle.schema.specs.NodeData.{NodeData}
 use Rattle.schema.specs.declared.NodeId.{NodeId}
 use Rattle.schema.specs.declared.TreeId.{TreeId}
@@ -15,6 +16,7 @@ use Rattle.tree_changes.specs.declared.error.UpdateError.{UpdateError}
 use Rattle.tree_changes.specs.declared.error.UpdateError.TheVariants as error
 use Rattle.tree_plan.specs.declared.passes.Opened.{Opened}
 use Rattle.tree_plan.specs.declared.passes.Named.{Named}
+use Rattle.tree_plan.specs.declared.passes.Comparing.{Comparing}
 use Rattle.tree_plan.specs.declared.passes.Compared.{Compared}
 use Rattle.tree_plan.specs.Passes.{at, at_name, IsNamedAs}
 
@@ -35,25 +37,20 @@ IsNamedTwice u error.Memory = ⊤
 IsNamedTwice u (error.NamedTwice n) = (i j : ℕ) × (i ≢ j) × (named_at u i ≡ Some n) × (named_at u j ≡ Some n)
 IsNamedTwice u e = ⊥
 
-abbrev pub SpotMap : Type 0
-SpotMap = FullNodeId → Option Seat
+-- nodes at spots
+abbrev pub Spots : Type 0
+Spots = List (FullNodeId × Seat)
 
--- what P finds at spots has got such a spot, and nothing else has changed
-pub record Gathers (P : FullNodeId → Seat → Type 0) (before after : SpotMap) : Type 0 where
-  pub found : (c : FullNodeId) (s : Seat) → P c s → IsSome (after c)
-  pub others : (c : FullNodeId) → (after c ≡ before c) ⊎ ((s : Seat) × P c s × (after c ≡ Some s))
+-- no two are of one spot
+abbrev pub AreApart : Spots → Type 0
+AreApart es = AllPairs (λ a b. a.1 ≢ b.1) es
 
--- and what P finds had none before
-pub record GathersNew (P : FullNodeId → Seat → Type 0) (before after : SpotMap) : Type 0 where
-  pub found : (c : FullNodeId) (s : Seat) → P c s → (before c ≡ None) × (after c ≡ Some s)
-  pub others : (c : FullNodeId) → (after c ≡ before c) ⊎ ((s : Seat) × P c s × (after c ≡ Some s))
-
--- P finds what had a spot before, or has two, or memory is wanting
-abbrev pub IsFoundTwice : (FullNodeId → Seat → Type 0) → SpotMap → UpdateError → Type 0
-IsFoundTwice P before error.Memory = ⊤
-IsFoundTwice P before (error.ListedTwice n) =
-    (c : FullNodeId) × (c.node ≡ n) × (s : Seat) × P c s × (IsSome (before c) ⊎ ((t : Seat) × (s ≢ t) × P c t))
-IsFoundTwice P before e = ⊥
+-- what P finds at spots has come to the list, each once, and nothing else
+pub record Gathers (P : FullNodeId → Seat → Type 0) (before after : Spots) : Type 0 where
+  pub added : Spots
+  pub is : after ≡ before ++ added
+  pub found : (c : FullNodeId) (s : Seat) → Contains added (c, s) ↔ P c s
+  pub once : AreApart added
 
 -- it is the one and not the other
 abbrev pub IsOnly : Option FullNodeId → Option FullNodeId → FullNodeId → Type 0
@@ -91,7 +88,7 @@ IsGraftFault id d before (error.GraftedTwice name) = (d.tree_id ≡ Some name) �
 IsGraftFault id d before e = ⊥
 
 -- the tree that is grafted no more comes to the lost ones, and the one that is grafted now to the gained ones
-abbrev pub ChangesGraft : Option TreeId → Option TreeId → Compared → Compared → Type 0
+abbrev pub ChangesGraft : Option TreeId → Option TreeId → Comparing → Comparing → Type 0
 ChangesGraft old new a b =
     ((old ≡ new) × (b.lost.items ≡ a.lost.items) × (b.gained.items ≡ a.gained.items))
     ⊎ ((old ≢ new) × (b.lost.items ≡ a.lost.items ++ option_to_list old) × (b.gained.items ≡ a.gained.items ++ option_to_list new))
@@ -104,33 +101,28 @@ pub record IsEntryOf (w : World) (id : FullNodeId) (entry : ℕ) (d : NodeData) 
   pub news : IsTrue n.is_news ↔ (data_of w id ≢ Some d)
 
 -- A node's data are compared with what it listed and grafted before.
-pub record ComparesData (id : FullNodeId) (n : Named) (children : List FullNodeId) (graft : Option TreeId) (d : NodeData) (a b : Compared) : Type 0 where
+pub record ComparesData (id : FullNodeId) (n : Named) (children : List FullNodeId) (graft : Option TreeId) (d : NodeData) (a b : Comparing) : Type 0 where
   pub named : (q : FullNodeId) → at b.named q ≡ (if is_at (full_cmp id) q then Some n else at a.named q)
   pub count_of : IsSome (at a.named id) → length b.named ≡ length a.named
-  pub left : Gathers (OnlyIn id children (child_ids id d)) (at a.left.entries) (at b.left.entries)
-  pub entered : GathersNew (OnlyIn id (child_ids id d) children) (at a.entered.entries) (at b.entered.entries)
+  pub left : Gathers (OnlyIn id children (child_ids id d)) a.left b.left
+  pub entered : Gathers (OnlyIn id (child_ids id d) children) a.entered b.entered
   pub regrafted : ChangesGraft graft d.tree_id a b
 
 -- a named node is compared with its old record
-pub record ComparesNode (w : World) (id : FullNodeId) (entry : ℕ) (d : NodeData) (a b : Compared) : Type 0 where
+pub record ComparesNode (w : World) (id : FullNodeId) (entry : ℕ) (d : NodeData) (a b : Comparing) : Type 0 where
   pub grafted : TakesGraft id d (at_name a.grafted) (at_name b.grafted)
   pub n : Named
   pub is_entry : IsEntryOf w id entry d n
   pub compares : ComparesData id n (listed_ids w id) (graft_name w id) d a b
 
 -- the root is compared with the one before, and nothing else
-pub record BeginsComparing (o : Opened) (named : List (FullNodeId × Named)) (c : Compared) : Type 0 where
+pub record BeginsComparing (o : Opened) (named : List (FullNodeId × Named)) (c : Comparing) : Type 0 where
   pub named_is : c.named ≡ named
-  pub left : Gathers (OnlyAt None (option_map (in_tree o.index) o.record.root) (Some (in_tree o.index o.root))) (λ _. None) (at c.left.entries)
-  pub entered : GathersNew (OnlyAt None (Some (in_tree o.index o.root)) (option_map (in_tree o.index) o.record.root)) (λ _. None) (at c.entered.entries)
+  pub left : Gathers (OnlyAt None (option_map (in_tree o.index) o.record.root) (Some (in_tree o.index o.root))) [] c.left
+  pub entered : Gathers (OnlyAt None (Some (in_tree o.index o.root)) (option_map (in_tree o.index) o.record.root)) [] c.entered
   pub grafted : c.grafted.entries ≡ []
   pub lost : c.lost.items ≡ []
   pub gained : c.gained.items ≡ []
-
--- what can be wrong with it
-abbrev pub IsNodeFault : World → FullNodeId → NodeData → Compared → UpdateError → Type 0
-IsNodeFault w id d a (error.ListedTwice n) = IsFoundTwice (OnlyIn id (child_ids id d) (listed_ids w id)) (at a.entered.entries) (error.ListedTwice n)
-IsNodeFault w id d a e = IsGraftFault id d (at_name a.grafted) e
 
 -- the root's spot, and those in the lists of the nodes that the first so many entries name
 abbrev pub IsDone : World → UpdateData → ℕ → Seat → Type 0
@@ -138,13 +130,14 @@ IsDone w u count None = ⊤
 IsDone w u count (Some p) = IsNamedBefore w u count p.0
 
 -- the root and the nodes that the first so many entries name have been compared
-pub record AreCompared (w : World) (u : UpdateData) (count : ℕ) (c : Compared) : Type 0 where
+pub record AreCompared (w : World) (u : UpdateData) (count : ℕ) (c : Comparing) : Type 0 where
   pub ungrafting : (n : FullNodeId) → IsNamedBefore w u count n → graft_name (merged_world w u) n ≢ Some ROOT_NAME
   pub childless : (n : FullNodeId) (name : TreeId) → IsNamedBefore w u count n → graft_name (merged_world w u) n ≡ Some name → listed_ids (merged_world w u) n ≡ []
   pub is_named : (id : FullNodeId) (n : Named) → IsNamedBefore w u count id → at c.named id ≡ Some n → IsNamedAs w u id n
   pub has_named : (id : FullNodeId) → IsSome (at c.named id) ↔ IsNamed w u id
-  pub left : (id : FullNodeId) (s : Seat) → (at c.left.entries id ≡ Some s) ↔ (Left w u s id × IsDone w u count s)
-  pub entered : (id : FullNodeId) (s : Seat) → (at c.entered.entries id ≡ Some s) ↔ (Entered w u s id × IsDone w u count s)
+  pub left : (id : FullNodeId) (s : Seat) → Contains c.left (id, s) ↔ (Left w u s id × IsDone w u count s)
+  pub entered : (id : FullNodeId) (s : Seat) → Contains c.entered (id, s) ↔ (Entered w u s id × IsDone w u count s)
+  pub entered_apart : AreApart c.entered
   pub grafted : (name : TreeId) (n : FullNodeId) → (at_name c.grafted name ≡ Some n) ↔ (IsNamedBefore w u count n × (graft_name (merged_world w u) n ≡ Some name))
   pub lost : (name : TreeId) → Contains c.lost.items name ↔ ((n : FullNodeId) × IsNamedBefore w u count n × (graft_name w n ≡ Some name) × (graft_name (merged_world w u) n ≢ Some name))
   pub gained : (name : TreeId) → Contains c.gained.items name ↔ ((n : FullNodeId) × IsNamedBefore w u count n × (graft_name (merged_world w u) n ≡ Some name) × (graft_name w n ≢ Some name))
@@ -153,3 +146,18 @@ pub record AreCompared (w : World) (u : UpdateData) (count : ℕ) (c : Compared)
   pub named_count : length c.named ≡ length u.nodes
   pub lost_count : length c.lost.items ≤ count
   pub gained_count : length c.gained.items ≤ count
+
+-- the lists are sorted: what left has one of its spots, and what entered its only one
+pub record SettlesLists (a : Comparing) (c : Compared) : Type 0 where
+  pub named : c.named ≡ a.named
+  pub left_found : (id : FullNodeId) (s : Seat) → at c.left id ≡ Some s → Contains a.left (id, s)
+  pub left_each : (id : FullNodeId) (s : Seat) → Contains a.left (id, s) → IsSome (at c.left id)
+  pub entered : (id : FullNodeId) (s : Seat) → (at c.entered id ≡ Some s) ↔ Contains a.entered (id, s)
+  pub grafted : c.grafted ≡ a.grafted
+  pub lost : c.lost ≡ a.lost
+  pub gained : c.gained ≡ a.gained
+
+-- a node entered twice
+abbrev pub IsEnteredTwice : Comparing → UpdateError → Type 0
+IsEnteredTwice a (error.ListedTwice n) = (id : FullNodeId) × (id.node ≡ n) × IsTwice a.entered id
+IsEnteredTwice a e = ⊥

@@ -18,7 +18,11 @@ pub record AreFindings (w : World) (u : UpdateData) (f : Found) : Type 0 where
   pub regrafting : HoldsRegrafted w u f.regrafted.trees.items f.regrafted.moved_in
   pub told : f.told ≡ told_root (index_for w u.name) u.info
 
--- the look-ups of these passes, one after another, at least one for each named node, and how many trees they change
+-- before the passes the tree was looked up, and at most each named node, and twice for each known name where the focus is
+abbrev pub HasBegun : World → UpdateData → ℕ → ℕ → Type 0
+HasBegun w u before start = start ≤ before + (1 + (length u.nodes + 2 * length w.known))
+
+-- the look-ups of these passes after the first, one after another, at least one for each named node, and how many trees they change
 pub record IsCount (w : World) (u : UpdateData) (f : Found) (before after : ℕ) : Type 0 where
   pub steps : ℕ
   pub are_steps : AreSteps w u (named_ids w u) steps
@@ -26,6 +30,6 @@ pub record IsCount (w : World) (u : UpdateData) (f : Found) (before after : ℕ)
   pub gained : length f.regrafted.trees.items ≤ length f.compared.gained.items
   pub named : IsRaisedAtLeast before (length u.nodes) after
   pub asked : after ≤ before
-      + (1 + length u.nodes) + length f.compared.entered.entries
+      + length u.nodes + length f.compared.entered
       + (2 * length f.removed.gone.keys + length f.compared.lost.items) + steps
       + length f.compared.gained.items

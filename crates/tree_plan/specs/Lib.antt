@@ -8,6 +8,7 @@ pub mod Removing
 pub mod Refusing
 pub mod Regrafts
 pub mod Aims
+pub mod News
 pub mod Climbs
 pub mod Plans
 pub mod Planned

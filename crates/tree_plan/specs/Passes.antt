@@ -67,8 +67,8 @@ pub record HoldsCompared (w : World) (u : UpdateData) (c : Compared) : Type 0 wh
   pub compared : IsCompared w u
   pub is_named : (id : FullNodeId) (n : Named) → at c.named id ≡ Some n → IsNamedAs w u id n
   pub has_named : (id : FullNodeId) → IsNamed w u id → IsSome (at c.named id)
-  pub left : (id : FullNodeId) (s : Option Place) → (at c.left.entries id ≡ Some s) ↔ Left w u s id
-  pub entered : (id : FullNodeId) (s : Option Place) → (at c.entered.entries id ≡ Some s) ↔ Entered w u s id
+  pub left : (id : FullNodeId) (s : Option Place) → (at c.left id ≡ Some s) ↔ Left w u s id
+  pub entered : (id : FullNodeId) (s : Option Place) → (at c.entered id ≡ Some s) ↔ Entered w u s id
   pub grafted : (name : TreeId) (n : FullNodeId) → (at_name c.grafted name ≡ Some n) ↔ (IsNamed w u n × (graft_name (merged_world w u) n ≡ Some name))
   pub lost : (name : TreeId) → Contains c.lost.items name ↔ LosesGraft w u name
   pub gained : (name : TreeId) → Contains c.gained.items name ↔ ((n : FullNodeId) × GainsGraft w u n name)

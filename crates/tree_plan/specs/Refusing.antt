@@ -16,7 +16,7 @@ use Rattle.tree_plan.specs.Passes.{at, has}
 
 -- it is new and entered no spot
 abbrev pub IsNowhere : Compared → FullNodeId → Named → Type 0
-IsNowhere c id n = (n.was ≡ None) × (at c.entered.entries id ≡ None)
+IsNowhere c id n = (n.was ≡ None) × (at c.entered id ≡ None)
 
 -- a new named node that entered no spot
 abbrev pub IsUnlisted : Compared → FullNodeId → Type 0
@@ -31,7 +31,7 @@ IsOfUnlisted c e = (id : FullNodeId) × IsUnlisted c id × (e ≡ error.NotReach
 
 -- a node that entered, and stood at this place, hasn't left it, and its parent there doesn't go
 abbrev pub IsDoubled : Compared → Removed → FullNodeId → Option Place → Type 0
-IsDoubled c r id place = (at c.left.entries id ≡ None) × (p : Place) × (place ≡ Some p) × ¬ (has r.gone p.0)
+IsDoubled c r id place = (at c.left id ≡ None) × (p : Place) × (place ≡ Some p) × ¬ (has r.gone p.0)
 
 -- a node that entered is still listed where it was, by a node that doesn't go
 abbrev pub IsListedStill : World → UpdateData → FullNodeId → Type 0

@@ -92,7 +92,7 @@ AreTrees f own trees =
 
 -- The lengths of lists against the numbers that bound the look-ups.
 pub record IsSmall (c : Compared) (r : Removed) (g : Regrafted) (d : Decision) (work : Work) : Type 0 where
-  pub entered : length c.entered.entries ≤ work.children + 1
+  pub entered : length c.entered ≤ work.children + 1
   pub gone : length r.gone.keys ≤ work.removed
   pub nodes : length d.nodes.items ≤ 2 * work.named + work.children + work.removed + 1
   pub trees : length d.trees.items ≤ length r.trees.items + length g.trees.items + 1

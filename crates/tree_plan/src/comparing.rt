@@ -1,5 +1,5 @@
 //! The named nodes against their old records.
-ghost use Rattle.std.specs.Prelude.{◌≡◌, ◌≢◌, ◌<◌, ◌↔◌, IsTrue, IfOk, IfErr, OnOk, Some, None, IsSome, length, map, slice_get};
+ghost use Rattle.std.specs.Prelude.{◌≡◌, ◌≢◌, ◌<◌, ◌↔◌, IsTrue, IfOk, IfErr, OnOk, Some, None, IsSome, ◌++◌, length, map, option_map, option_to_list, slice_get};
 ghost use Rattle.schema.specs.UpdateData.{update_data};
 ghost use Rattle.model.specs.World.{in_tree};
 ghost use Rattle.model.specs.Surgery.{IsOld};
@@ -7,10 +7,10 @@ ghost use Rattle.tree_changes.specs.LookUps.{IsRaisedBy};
 ghost use Rattle.tree_changes.specs.declared.error.UpdateError.TheVariants.{Memory};
 ghost use Rattle.tree_changes.specs.Refusals.{IsRefusal};
 ghost use Rattle.tree_plan.specs.Passes.{at, at_name, HoldsOpened, HoldsCompared};
-ghost use Rattle.tree_plan.specs.Comparisons.{AreEntriesTaken, IsNamedTwice, Gathers, GathersNew, IsFoundTwice, OnlyAt, OnlyIn, child_ids, TakesGraft, IsGraftFault, ChangesGraft, ComparesData, ComparesNode, BeginsComparing, IsNodeFault};
+ghost use Rattle.tree_plan.specs.Comparisons.{AreEntriesTaken, IsNamedTwice, Gathers, OnlyAt, OnlyIn, TakesGraft, IsGraftFault, ChangesGraft, ComparesData, ComparesNode, BeginsComparing, SettlesLists, IsEnteredTwice};
 
 use crate::opening::is_root_tree;
-use crate::passes::{Compared, Named, Opened};
+use crate::passes::{Compared, Comparing, Named, Opened};
 use model::{FullNodeId, Place};
 use rows::{RowList, Rows};
 use schema::{Node, NodeId, TreeId, TreeUpdate};
@@ -26,7 +26,11 @@ pub(crate) fn full_id(index: u32, node: NodeId) -> FullNodeId
 }
 
 /// The named nodes, each by its entry, and as if it were new.
-fn take(alloc: Global, index: u32, update: &TreeUpdate) -> Result<Rows<Named>, UpdateError>
+pub(crate) fn take(
+    alloc: Global,
+    index: u32,
+    update: &TreeUpdate,
+) -> Result<Rows<Named>, UpdateError>
     ensures ok { IfOk result (λ named.
         AreEntriesTaken index (update_data update.now) (length update.now.nodes.items) named) }
     ensures err { IfErr result (λ e. IsNamedTwice (update_data update.now) e) }
@@ -63,7 +67,22 @@ fn is_news(old: &Node, node: &Node) -> bool
     !(*old == *node)
 }
 
-impl Compared {
+/// Adds a node at a spot, where there is one.
+fn push_spot(
+    list: &mut RowList<Option<Place>>,
+    node: Option<FullNodeId>,
+    spot: Option<Place>,
+) -> Result<(), UpdateError>
+    ensures ok { OnOk result (list.new ≡ list.old ++ option_to_list (option_map (λ id. (id, spot)) node)) }
+    ensures err { IfErr result (λ e. e ≡ Memory) }
+{
+    if let Some(id) = node {
+        list.push(id, spot)?;
+    }
+    Ok(())
+}
+
+impl Comparing {
     /// Compares what was at a spot with what is there now.
     fn compare_spot(
         &mut self,
@@ -71,30 +90,19 @@ impl Compared {
         old: Option<FullNodeId>,
         new: Option<FullNodeId>,
     ) -> Result<(), UpdateError>
-        ensures left { OnOk result
-            (Gathers (OnlyAt spot old new) (at self.old.left.entries) (at self.new.left.entries)) }
-        ensures entered { OnOk result
-            (GathersNew (OnlyAt spot new old) (at self.old.entered.entries) (at self.new.entered.entries)) }
+        ensures left { OnOk result (Gathers (OnlyAt spot old new) self.old.left self.new.left) }
+        ensures entered { OnOk result (Gathers (OnlyAt spot new old) self.old.entered self.new.entered) }
         ensures rest { self.new ≡ record self.old {
           left = self.new.left;
           entered = self.new.entered;
         } }
-        ensures err { IfErr result (λ e.
-            IsFoundTwice (OnlyAt spot new old) (at self.old.entered.entries) e) }
+        ensures err { IfErr result (λ e. e ≡ Memory) }
     {
         if old == new {
             return Ok(());
         }
-        if let Some(child) = old {
-            self.left.insert(child, spot)?;
-        }
-        let Some(child) = new else {
-            return Ok(());
-        };
-        let earlier = self.entered.insert(child, spot)?;
-        if earlier.is_some() {
-            return Err(UpdateError::ListedTwice(child.node));
-        }
+        push_spot(&mut self.left, old, spot)?;
+        push_spot(&mut self.entered, new, spot)?;
         Ok(())
     }
 
@@ -107,17 +115,15 @@ impl Compared {
     ) -> Result<(), UpdateError>
         ensures left { OnOk result (Gathers
             (OnlyIn parent (map (in_tree parent.tree) old.now) (map (in_tree parent.tree) new.now))
-            (at self.old.left.entries) (at self.new.left.entries)) }
-        ensures entered { OnOk result (GathersNew
+            self.old.left self.new.left) }
+        ensures entered { OnOk result (Gathers
             (OnlyIn parent (map (in_tree parent.tree) new.now) (map (in_tree parent.tree) old.now))
-            (at self.old.entered.entries) (at self.new.entered.entries)) }
+            self.old.entered self.new.entered) }
         ensures rest { self.new ≡ record self.old {
           left = self.new.left;
           entered = self.new.entered;
         } }
-        ensures err { IfErr result (λ e. IsFoundTwice
-            (OnlyIn parent (map (in_tree parent.tree) new.now) (map (in_tree parent.tree) old.now))
-            (at self.old.entered.entries) e) }
+        ensures err { IfErr result (λ e. e ≡ Memory) }
     {
         for index in 0..old.len().max(new.len()) {
             let was = child_at(parent, old, index);
@@ -188,9 +194,7 @@ impl Compared {
         ensures ok { OnOk result (ComparesData id named
             (map (in_tree id.tree) children.now) graft node.now self.old self.new) }
         ensures rest { self.new.grafted ≡ self.old.grafted }
-        ensures err { IfErr result (λ e. IsFoundTwice
-            (OnlyIn id (child_ids id node.now) (map (in_tree id.tree) children.now))
-            (at self.old.entered.entries) e) }
+        ensures err { IfErr result (λ e. e ≡ Memory) }
     {
         let mut near = named.entry;
         self.named.change_near(id, named, &mut near);
@@ -211,8 +215,7 @@ impl Compared {
         ensures count { OnOk result (IsRaisedBy (L.asked look_ups.old) 1 (L.asked look_ups.new)) }
         ensures ok { OnOk result
             (ComparesNode (L.world look_ups.old) id entry node.now self.old self.new) }
-        ensures err { IfErr result (λ e.
-            IsNodeFault (L.world look_ups.old) id node.now self.old e) }
+        ensures err { IfErr result (λ e. IsGraftFault id node.now (at_name self.old.grafted) e) }
     {
         self.take_graft(id, node)?;
         let Some(old) = look_ups.node(id) else {
@@ -232,22 +235,48 @@ impl Compared {
     }
 
     /// Compares the root with the one before.
-    fn begin(alloc: Global, named: Rows<Named>, opened: &Opened) -> Result<Compared, UpdateError>
+    fn begin(alloc: Global, named: Rows<Named>, opened: &Opened) -> Result<Comparing, UpdateError>
         ensures ok { IfOk result (λ c. BeginsComparing opened.now named c) }
         ensures err { IfErr result (λ e. e ≡ Memory) }
     {
-        let mut compared = Compared {
+        let mut comparing = Comparing {
             named,
-            left: BTreeMap::new(alloc),
-            entered: BTreeMap::new(alloc),
+            left: RowList::new(alloc),
+            entered: RowList::new(alloc),
             grafted: BTreeMap::new(alloc),
             lost: Vec::new(alloc),
             gained: Vec::new(alloc),
         };
         let root = full_id(opened.index, opened.root);
         let old_root = opened.record.root.map(|root| full_id(opened.index, root));
-        compared.compare_spot(None, old_root, Some(root))?;
-        Ok(compared)
+        comparing.compare_spot(None, old_root, Some(root))?;
+        Ok(comparing)
+    }
+
+    /// Sorts the lists, and refuses a node that entered twice.
+    fn settle_lists(self) -> Result<Compared, UpdateError>
+        ensures ok { IfOk result (λ c. SettlesLists self c) }
+        ensures err { IfErr result (λ e. IsEnteredTwice self e) }
+    {
+        let Comparing {
+            named,
+            left,
+            entered,
+            grafted,
+            lost,
+            gained,
+        } = self;
+        match entered.settle() {
+            Ok(entered) => Ok(Compared {
+                named,
+                left: left.settle_each(),
+                entered,
+                grafted,
+                lost,
+                gained,
+            }),
+            Err(id) => Err(UpdateError::ListedTwice(id.node)),
+        }
     }
 }
 
@@ -267,10 +296,11 @@ pub(crate) fn compare<L: LookUps>(
     ensures err { IfErr result (λ e. IsRefusal (L.world look_ups.old) (update_data update.now) e) }
 {
     let named = take(alloc, opened.index, update)?;
-    let mut compared = Compared::begin(alloc, named, opened)?;
+    let mut comparing = Comparing::begin(alloc, named, opened)?;
     for (entry, item) in update.nodes.iter().enumerate() {
         let id = full_id(opened.index, item.0);
-        compared.compare_node(look_ups, id, entry, &item.1)?;
+        comparing.compare_node(look_ups, id, entry, &item.1)?;
     }
+    let compared = comparing.settle_lists()?;
     Ok(compared)
 }

@@ -8,14 +8,17 @@ ghost use Rattle.tree_changes.specs.LookUps.{IsRaisedAtLeast, IsRaisedUpTo};
 ghost use Rattle.tree_changes.specs.Changes.{overlaid_world};
 ghost use Rattle.tree_changes.specs.Decisions.{IsDecision, IsWithinWork};
 ghost use Rattle.tree_changes.specs.Refusals.{IsRefusal};
-ghost use Rattle.tree_plan.specs.Deciding.{AreFindings, IsCount};
+ghost use Rattle.tree_plan.specs.Passes.{HoldsOpened};
+ghost use Rattle.tree_plan.specs.Deciding.{AreFindings, HasBegun, IsCount};
 ghost use Rattle.tree_plan.specs.Verdicts.{Transition};
 ghost use Rattle.tree_plan.specs.Writing.{IsSmall};
 
 use crate::climbing::climb_all;
 use crate::comparing::compare;
 use crate::focusing::find_focus;
+use crate::news::decide_news;
 use crate::opening::open_tree;
+use crate::passes::Opened;
 use crate::refusing::refuse_misplaced;
 use crate::regrafting::regraft;
 use crate::removing::remove;
@@ -31,15 +34,16 @@ fn find<L: LookUps>(
     alloc: Global,
     look_ups: &mut L,
     update: &TreeUpdate,
+    opened: Opened,
 ) -> Result<Found, UpdateError>
+    requires old { IsOld (L.world look_ups.old) }
+    requires opening { HoldsOpened (L.world look_ups.old) (update_data update.now) opened }
     ensures world { L.world look_ups.new ≡ L.world look_ups.old }
-    ensures old { IsOld (L.world look_ups.old) }
     ensures err { IfErr result (λ e. IsRefusal (L.world look_ups.old) (update_data update.now) e) }
     ensures ok { IfOk result (AreFindings (L.world look_ups.old) (update_data update.now)) }
     ensures count { IfOk result (λ f.
         IsCount (L.world look_ups.old) (update_data update.now) f (L.asked look_ups.old) (L.asked look_ups.new)) }
 {
-    let opened = open_tree(look_ups, update)?;
     let told = told_root(&opened, update);
     let compared = compare(alloc, look_ups, update, &opened)?;
     let settled = settle(alloc, look_ups, update, &opened, &compared)?;
@@ -93,6 +97,30 @@ fn conclude<L: LookUps>(
     write(alloc, update, findings, &focused, looked)
 }
 
+/// The decision by the passes, where the tree and, it may be, the named nodes were looked up before.
+fn decide_by_passes<L: LookUps>(
+    alloc: Global,
+    look_ups: &mut L,
+    update: &TreeUpdate,
+    opened: Opened,
+    before: u128,
+) -> Result<Decision, UpdateError>
+    requires old { IsOld (L.world look_ups.old) }
+    requires opening { HoldsOpened (L.world look_ups.old) (update_data update.now) opened }
+    requires begun { HasBegun (L.world look_ups.old) (update_data update.now) before (L.asked look_ups.old) }
+    ensures world { L.world look_ups.new ≡ L.world look_ups.old }
+    ensures err { IfErr result (λ e. IsRefusal (L.world look_ups.old) (update_data update.now) e) }
+    ensures ok { IfOk result (IsDecision (L.world look_ups.old) (update_data update.now)) }
+    ensures work { IfOk result (λ d.
+        IsWithinWork (L.world look_ups.old) (update_data update.now) d before (L.asked look_ups.new)) }
+    ensures looked { IfOk result (λ d. d.looked ≡ L.asked look_ups.new - before) }
+    ensures named { OnOk result
+        (IsRaisedAtLeast (L.asked look_ups.old) (length update.now.nodes.items) (L.asked look_ups.new)) }
+{
+    let findings = find(alloc, look_ups, update, opened)?;
+    conclude(alloc, look_ups, update, &findings, before)
+}
+
 /// The decision on an update. At least one record is looked up for each node that the update names.
 ///
 /// # Errors
@@ -115,6 +143,9 @@ pub fn decide<L: LookUps>(
         (IsRaisedAtLeast (L.asked look_ups.old) (length update.now.nodes.items) (L.asked look_ups.new)) }
 {
     let before = look_ups.count();
-    let findings = find(alloc, look_ups, update)?;
-    conclude(alloc, look_ups, update, &findings, before)
+    let opened = open_tree(look_ups, update)?;
+    if let Some(decision) = decide_news(alloc, look_ups, update, &opened, before)? {
+        return Ok(decision);
+    }
+    decide_by_passes(alloc, look_ups, update, opened, before)
 }

@@ -29,8 +29,8 @@ struct Aim {
 
 /// The node to which the focus comes, and its active descendant.
 #[derive(Clone, Copy)]
-struct End {
-    id: FullNodeId,
+pub(crate) struct End {
+    pub(crate) id: FullNodeId,
     active: Option<FullNodeId>,
 }
 
@@ -86,7 +86,7 @@ fn focus_before<L: LookUps>(look_ups: &mut L, opened: &Opened) -> Option<FullNod
 }
 
 /// Where the focus comes to before the update.
-fn end_before<L: LookUps>(look_ups: &mut L) -> End
+pub(crate) fn end_before<L: LookUps>(look_ups: &mut L) -> End
     requires old { IsOld (L.world look_ups.old) }
     requires present { IsSome (get (L.world look_ups.old).trees 0) }
     ensures world { L.world look_ups.new ≡ L.world look_ups.old }

@@ -6,6 +6,7 @@ mod climbing;
 mod comparing;
 mod deciding;
 mod focusing;
+mod news;
 mod opening;
 mod passes;
 mod plan;

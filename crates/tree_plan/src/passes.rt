@@ -1,6 +1,6 @@
 //! What each pass finds.
 use model::{FullNodeId, Place};
-use rows::Rows;
+use rows::{RowList, Rows};
 use schema::{NodeId, TreeId};
 use std::collections::{BTreeMap, BTreeSet};
 use tree_changes::TreeRecord;
@@ -24,14 +24,31 @@ pub(crate) struct Named {
     pub(crate) is_news: bool,
 }
 
-/// The named nodes against their old records. A spot is a place in a list, or `None`, where a tree's root stands.
+/// The named nodes against their old records, as far as they are compared. A spot is a place in a list, or `None`, where a
+/// tree's root stands.
+#[derive(Drop)]
+pub(crate) struct Comparing {
+    pub(crate) named: Rows<Named>,
+    /// What was at a spot and is there no more, with the spot.
+    pub(crate) left: RowList<Option<Place>>,
+    /// What is at a spot and wasn't there, with the spot.
+    pub(crate) entered: RowList<Option<Place>>,
+    /// Each tree that a named node grafts, with this node.
+    pub(crate) grafted: BTreeMap<TreeId, FullNodeId>,
+    /// The trees that a named node grafted and doesn't now.
+    pub(crate) lost: Vec<TreeId>,
+    /// The trees that a named node grafts and didn't before.
+    pub(crate) gained: Vec<TreeId>,
+}
+
+/// The named nodes against their old records.
 #[derive(Drop)]
 pub(crate) struct Compared {
     pub(crate) named: Rows<Named>,
     /// What was at a spot and is there no more, with the spot.
-    pub(crate) left: BTreeMap<FullNodeId, Option<Place>>,
+    pub(crate) left: Rows<Option<Place>>,
     /// What is at a spot and wasn't there, with the spot.
-    pub(crate) entered: BTreeMap<FullNodeId, Option<Place>>,
+    pub(crate) entered: Rows<Option<Place>>,
     /// Each tree that a named node grafts, with this node.
     pub(crate) grafted: BTreeMap<TreeId, FullNodeId>,
     /// The trees that a named node grafted and doesn't now.

@@ -163,8 +163,8 @@ fn lose_left(removing: &mut Removing, compared: &Compared) -> Result<(), UpdateE
     ensures ok { OnOk result (LosesLeft setting.0 setting.1 removing.old removing.new) }
     ensures err { IfErr result (λ e. IsRefusal setting.0 setting.1 e) }
 {
-    for (id, _) in &compared.left {
-        lose(removing, compared, *id)?;
+    for item in compared.left.entries() {
+        lose(removing, compared, item.0)?;
     }
     Ok(())
 }

@@ -146,7 +146,7 @@ pub(crate) fn settle<L: LookUps>(
     ensures world { L.world look_ups.new ≡ L.world look_ups.old }
     ensures ok { IfOk result (HoldsSettled (L.world look_ups.old) (update_data update.now)) }
     ensures count { OnOk result
-        (IsRaisedUpTo (L.asked look_ups.old) (length compared.now.entered.entries) (L.asked look_ups.new)) }
+        (IsRaisedUpTo (L.asked look_ups.old) (length compared.now.entered) (L.asked look_ups.new)) }
     ensures err { IfErr result (λ e. IsRefusal (L.world look_ups.old) (update_data update.now) e) }
 {
     let mut settled = Settled {
@@ -154,8 +154,16 @@ pub(crate) fn settle<L: LookUps>(
         adopters: BTreeSet::new(alloc),
         has_moved: false,
     };
-    for (id, spot) in &compared.entered {
-        settle_one(&mut settled, look_ups, update, opened, compared, *id, *spot)?;
+    for item in compared.entered.entries() {
+        settle_one(
+            &mut settled,
+            look_ups,
+            update,
+            opened,
+            compared,
+            item.0,
+            item.1,
+        )?;
     }
     Ok(settled)
 }

@@ -1,6 +1,7 @@
 //! What an update makes of the nodes that it touches.
 ghost use Rattle.std.specs.Prelude.{◌≡◌, ◌↔◌, ◌∷◌, [], option_map, IfOk, IfErr, OnOk, IsTrue, IsSome, Some, None, false};
-ghost use Rattle.std.specs.BTreeMap.{keys, IsOrdered};
+ghost use Rattle.std.specs.BTreeMap.{keys};
+ghost use Rattle.rows.specs.Rows.{Ascends};
 ghost use Rattle.std.specs.Map.{keys_of};
 ghost use Rattle.std.specs.List.Sorted.{IsStrictlySortedBy};
 ghost use Rattle.model.specs.FullIds.{full_cmp};
@@ -194,13 +195,13 @@ impl Found {
         requires found { IsFound step self.now }
         requires sound { AreSound step verdicts.old }
         requires judged { (id : FullNodeId) → IsSome (at self.now.compared.named id) → Becomes step id (at verdicts.old id) }
-        ensures ok { OnOk result (Adds step (keys self.now.compared.entered) verdicts.old verdicts.new) }
-        ensures ordered { IsOrdered full_cmp self.now.compared.entered }
+        ensures ok { OnOk result (Adds step (keys_of self.now.compared.entered) verdicts.old verdicts.new) }
+        ensures ordered { Ascends self.now.compared.entered }
         ensures err { IfErr result (λ e. e ≡ Memory) }
     {
         let mut near = 0;
-        for id in self.compared.entered.keys() {
-            self.judge_unnamed(*id, &mut near, verdicts)?;
+        for item in self.compared.entered.entries() {
+            self.judge_unnamed(item.0, &mut near, verdicts)?;
         }
         Ok(())
     }
@@ -254,7 +255,7 @@ impl Found {
         ghost step: { Transition }
         requires { IsFound step self.now }
         ensures ok { IfOk result (λ vs. (id : FullNodeId) → Becomes step id (at vs id)) }
-        ensures entered { OnOk result (IsOrdered full_cmp self.now.compared.entered) }
+        ensures entered { OnOk result (Ascends self.now.compared.entered) }
         ensures gone { OnOk result (IsStrictlySortedBy full_cmp self.now.removed.gone.keys) }
         ensures err { IfErr result (λ e. e ≡ Memory) }
     {

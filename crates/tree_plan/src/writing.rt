@@ -178,7 +178,7 @@ fn told_events(
 }
 
 /// The record of the named tree afterwards.
-fn own_record(opened: &Opened, update: &TreeUpdate) -> TreeRecord
+pub(crate) fn own_record(opened: &Opened, update: &TreeUpdate) -> TreeRecord
     ensures { result ≡ own_record update.now.tree_id update.now.focus opened.now }
 {
     TreeRecord {
@@ -191,7 +191,7 @@ fn own_record(opened: &Opened, update: &TreeUpdate) -> TreeRecord
 }
 
 /// Whether two records say the same.
-fn is_same_record(a: &TreeRecord, b: &TreeRecord) -> bool
+pub(crate) fn is_same_record(a: &TreeRecord, b: &TreeRecord) -> bool
     ensures { IsTrue result ↔ (a.now ≡ b.now) }
 {
     a.index == b.index

@@ -49,6 +49,15 @@ impl Model for TreeState {
     ghost invariant = { λ a. IsTight a.store };
 }
 
+/// A view of the state, where a call takes what a view can be made of.
+impl<'a> From<&'a TreeState> for StateRef<'a> {
+    ghost from_gives = { λ state view. world_of view ≡ state.now };
+
+    fn from(state: &'a TreeState) -> StateRef<'a> {
+        state.view()
+    }
+}
+
 impl TreeState {
     /// A view of the state.
     pub fn view(&self) -> StateRef<'_>

@@ -8,5 +8,5 @@ abbrev pub invariant-loop-entry : goal.invariant-loop-entry
 invariant-loop-entry g l = record {
   world : g.L.LookUps.world l.look_ups ≡ g.L.LookUps.world l.fn.look_ups;
   count : IsRaisedBy (g.L.LookUps.asked l.fn.look_ups) l.entry (g.L.LookUps.asked l.look_ups);
-  compared : AreCompared (g.L.LookUps.world l.fn.look_ups) (update_data l.update) l.entry l.compared;
+  compared : AreCompared (g.L.LookUps.world l.fn.look_ups) (update_data l.update) l.entry l.comparing;
 }

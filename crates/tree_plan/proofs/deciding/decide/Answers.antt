@@ -1,38 +1,23 @@
-use Rattle.std.proofs.Common.{refl, sym, subst}
+use Rattle.std.proofs.Common.{◌≡◌, ◌∙◌, ℕ, length, sym, ap, subst, arith}
 use Rattle.std.specs.Prelude.{IfOk}
 use Rattle.schema.specs.UpdateData.{update_data}
-use Rattle.model.specs.Update.{merged_world}
-use Rattle.model.proofs.Update.RebuildIsThere.{rebuild_exists}
+use Rattle.model.specs.World.{World}
 use Rattle.tree_changes.specs.Decisions.{IsWithinWork}
-use Rattle.tree_plan.specs.Deciding.{AreFindings, IsCount}
-use Rattle.tree_plan.proofs.Within.{within_by}
+use Rattle.tree_plan.specs.Deciding.{HasBegun}
 use Rattle.tree_plan.proofs.deciding.decide.Goals as goal
 
-pub conclude-requires : goal.conclude-requires
-conclude-requires g c κs within = (
-  within,
-  (
-    refl,
-    (
-      refl,
-      (
-        (rebuild_exists (merged_world (g.L.LookUps.world c.find.new.look_ups) (update_data c.args.update.now))).1,
-        subst (λ w. AreFindings w (update_data c.args.update.now) c.in_ok-findings.findings) (sym c.find.ensures.world) c.in_ok-findings.ensures.ok,
-      ),
-    ),
-  ),
-)
+pub decide_by_passes-requires-clause-begun : goal.decide_by_passes-requires-clause-begun
+decide_by_passes-requires-clause-begun g c =
+    let w : World = g.L.LookUps.world c.args.look_ups.now in
+    let u = update_data c.args.update.now in
+    let known : length (g.L.LookUps.world c.open_tree.new.look_ups).known ≡ length w.known = ap (λ (x : World). length x.known) c.open_tree.ensures.world in
+    let begun : HasBegun w u c.count-before.result (g.L.LookUps.asked c.decide_news.new.look_ups) = omega (arith, known, c.count-before.ensures, c.in_ok-opened.ensures.count.0, c.in_ok-decision.ensures.count.0) in
+    subst (λ (x : World). HasBegun x u c.count-before.result (g.L.LookUps.asked c.decide_news.new.look_ups)) (sym (c.decide_news.ensures.world ∙ c.open_tree.ensures.world)) begun
 
 pub returns-clause-work : goal.returns-clause-work
 returns-clause-work g c =
     let u = update_data c.args.update.now in
-    let w = g.L.LookUps.world c.find.new.look_ups in
-    let rebuilt = rebuild_exists (merged_world w u) in
-    let before = g.L.LookUps.asked c.args.look_ups.now in
-    let middle = g.L.LookUps.asked c.find.new.look_ups in
-    let after = g.L.LookUps.asked c.conclude.new.look_ups in
-    let found = c.in_ok-findings.findings in
-    subst (λ v. IfOk c.conclude.result (λ d. IsWithinWork v u d before after)) c.find.ensures.world
-    (within_by w u rebuilt.0 before middle after found (subst (λ v. AreFindings v u found) (sym c.find.ensures.world) c.in_ok-findings.ensures.ok) rebuilt.1
-    (subst (λ v. IsCount v u found before middle) (sym c.find.ensures.world) c.in_ok-findings.ensures.count)
-    c.conclude.result c.conclude.ensures.kept c.conclude.ensures.new c.conclude.ensures.small c.conclude.ensures.count)
+    let v : World = g.L.LookUps.world c.decide_news.new.look_ups in
+    let after = g.L.LookUps.asked c.decide_by_passes.new.look_ups in
+    subst (λ (x : World). IfOk c.decide_by_passes.result (λ d. IsWithinWork x u d (g.L.LookUps.asked c.args.look_ups.now) after)) (c.decide_news.ensures.world ∙ c.open_tree.ensures.world)
+    (subst (λ (n : ℕ). IfOk c.decide_by_passes.result (λ d. IsWithinWork v u d n after)) c.count-before.ensures c.decide_by_passes.ensures.work)

@@ -1,4 +1,4 @@
-use Rattle.std.proofs.Common.{◌≡◌, ◌≤◌, false, true, ap, arith, inl, inr, length, refl, sym, ◌∙◌}
+use Rattle.std.proofs.Common.{◌≡◌, false, true, ap, arith, inl, inr, length, refl, sym, ◌∙◌}
 use Rattle.model.proofs.State.StatePlaces.{value_of}
 use Rattle.tree_plan.specs.Passes.{has}
 use Rattle.tree_plan.proofs.IdMaps.{some_is, read_step, done_step, done_all}

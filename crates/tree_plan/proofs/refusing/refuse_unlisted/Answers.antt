@@ -1,4 +1,4 @@
-use Rattle.std.proofs.Common.{◌≡◌, ◌≤◌, ap, arith, length, refl, ◌∙◌}
+use Rattle.std.proofs.Common.{◌≡◌, ap, arith, length, refl}
 use Rattle.tree_plan.specs.Refusing.{IsNowhere}
 use Rattle.tree_plan.proofs.IdMaps.{read_step, done_step, done_all}
 use Rattle.tree_plan.proofs.refusing.refuse_unlisted.Goals as goal

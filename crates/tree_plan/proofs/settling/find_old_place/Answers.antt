@@ -13,13 +13,13 @@ use Rattle.tree_plan.proofs.settling.find_old_place.Goals as goal
 pub returns-in-Some-clause-ok : goal.returns-in-Some-clause-ok
 returns-in-Some-clause-ok g c =
     let w = g.L.LookUps.world c.args.look_ups.now in
-    let is : at c.args.compared.now.left.entries c.args.id ≡ Some c.in-Some.spot = sym c.get.ensures.value ∙ sym c.copied.ensures ∙ c.in-Some.is in
+    let is : at c.args.compared.now.left c.args.id ≡ Some c.in-Some.spot = sym c.get.ensures.value ∙ sym c.copied.ensures ∙ c.in-Some.is in
     stood_left w (update_data c.args.update.now) c.requires.old c.in-Some.spot c.args.id ((c.requires.compared.left c.args.id c.in-Some.spot).0 is)
 
 pub returns-in-Some-clause-there : goal.returns-in-Some-clause-there
 returns-in-Some-clause-there g c =
     let w = g.L.LookUps.world c.args.look_ups.now in
-    let is : at c.args.compared.now.left.entries c.args.id ≡ Some c.in-Some.spot = sym c.get.ensures.value ∙ sym c.copied.ensures ∙ c.in-Some.is in
+    let is : at c.args.compared.now.left c.args.id ≡ Some c.in-Some.spot = sym c.get.ensures.value ∙ sym c.copied.ensures ∙ c.in-Some.is in
     let u = update_data c.args.update.now in
     node_stays w u c.args.id (at_is_node w u c.requires.old c.in-Some.spot c.args.id ((c.requires.compared.left c.args.id c.in-Some.spot).0 is).0)
 
@@ -27,7 +27,7 @@ pub returns-in-Some-get-clause-ok : goal.returns-in-Some-get-clause-ok
 returns-in-Some-get-clause-ok g c =
     let w = g.L.LookUps.world c.args.look_ups.now in
     let n = c.in-Some-get.named.now in
-    let none : at c.args.compared.now.left.entries c.args.id ≡ None = sym c.get.ensures.value ∙ sym c.copied.ensures ∙ c.in_default.is in
+    let none : at c.args.compared.now.left c.args.id ≡ None = sym c.get.ensures.value ∙ sym c.copied.ensures ∙ c.in_default.is in
     let is : at c.args.compared.now.named c.args.id ≡ Some n = sym c.get-2.ensures.value ∙ ap option_copied c.in-Some-get.is in
     let stood : StoodAt w c.args.id n.was = stood_named w (update_data c.args.update.now) c.requires.old c.args.compared.now c.requires.compared c.args.id n c.requires.comes none is in
     stood
@@ -48,7 +48,7 @@ pub returns-clause-ok : goal.returns-clause-ok
 returns-clause-ok g c =
     let w = g.L.LookUps.world c.args.look_ups.now in
     let u = update_data c.args.update.now in
-    let none : at c.args.compared.now.left.entries c.args.id ≡ None = sym c.get.ensures.value ∙ sym c.copied.ensures ∙ c.in_default.is in
+    let none : at c.args.compared.now.left c.args.id ≡ None = sym c.get.ensures.value ∙ sym c.copied.ensures ∙ c.in_default.is in
     stood_stays w u c.requires.old c.args.id c.in-Some-node.record.place c.requires.comes (where_left w u c.requires.old c.args.compared.now c.requires.compared c.args.id none) (some_is _ _ c.in-Some-node.ensures.given.node) c.in-Some-node.ensures.given.place
 
 pub returns-clause-there : goal.returns-clause-there

@@ -1,4 +1,4 @@
-use Rattle.std.proofs.Common.{◌≡◌, ◌≤◌, ap, arith, length, sym, ◌∙◌}
+use Rattle.std.proofs.Common.{◌≡◌, ap, arith, length, sym}
 use Rattle.tree_plan.proofs.IdMaps.{read_step}
 use Rattle.tree_plan.proofs.Adding.{adds_nothing, adds_row, all_rows}
 use Rattle.tree_plan.proofs.verdicts.Found.judge_named.Goals as goal

@@ -1,4 +1,3 @@
-use Rattle.tree_plan.specs.Verdicts.{Becomes}
 use Rattle.tree_plan.proofs.Adding.{named_judged, all_added, settled}
 use Rattle.tree_plan.proofs.verdicts.Found.verdicts.Goals as goal
 

@@ -1,10 +1,12 @@
-use Rattle.std.proofs.Common.{◌≡◌, None, [], map, ap, ◌∙◌}
+use Rattle.std.proofs.Common.{◌≡◌, None, [], map, sym, ap, subst, ◌∙◌}
 use Rattle.std.proofs.lemmas.Result.{on_ok_weaker, IfErr-weaker}
 use Rattle.schema.specs.NodeData.{NodeData}
 use Rattle.model.specs.World.{World, data_of, in_tree, listed_ids, graft_name}
+use Rattle.tree_plan.specs.Passes.{at_name}
+use Rattle.tree_plan.specs.Comparisons.{IsGraftFault}
 use Rattle.tree_plan.proofs.IdMaps.{none_if_not}
-use Rattle.tree_plan.proofs.NodeSteps.{node_compared, new_entry, old_entry, old_lists, old_graft, new_lists, new_graft, data_fault}
-use Rattle.tree_plan.proofs.passes.Compared.compare_node.Goals as goal
+use Rattle.tree_plan.proofs.NodeSteps.{node_compared, new_entry, old_entry, old_lists, old_graft, new_lists, new_graft}
+use Rattle.tree_plan.proofs.passes.Comparing.compare_node.Goals as goal
 
 pub returns-in_default-clause-ok : goal.returns-in_default-clause-ok
 returns-in_default-clause-ok g c =
@@ -30,9 +32,4 @@ returns-clause-ok g c =
     c.in_ok-take_graft.ensures.ok c.take_graft.ensures.rest c.compare_data-2.ensures.rest (old_entry w id c.args.entry d before c.in-Some.old.place c.is_news.result r.node r.place c.is_news.ensures) lists graft h) c.compare_data-2.ensures.ok
 
 pub returns-clause-err : goal.returns-clause-err
-returns-clause-err g c =
-    let w : World = g.L.LookUps.world c.args.look_ups.now in
-    let id = c.args.id in
-    let r = c.in-Some.ensures.given in
-    let lists : map (in_tree id.tree) c.children.result.now ≡ listed_ids w id = ap (map (in_tree id.tree)) c.children.ensures ∙ old_lists w id c.in-Some.old.node.now r.node in
-    IfErr-weaker c.compare_data-2.result _ _ (data_fault w id c.args.node.now c.args.self.now c.take_graft.new.self (map (in_tree id.tree) c.children.result.now) lists c.take_graft.ensures.rest) c.compare_data-2.ensures.err
+returns-clause-err g c = IfErr-weaker c.compare_data-2.result _ _ (λ e same. subst (IsGraftFault c.args.id c.args.node.now (at_name c.args.self.now.grafted)) (sym same) tt) c.compare_data-2.ensures.err

@@ -1,7 +1,7 @@
 use Rattle.schema.specs.UpdateData.{update_data}
 use Rattle.model.specs.Update.{merged_world}
 use Rattle.model.proofs.Update.RebuildIsThere.{rebuild_exists}
-use Rattle.tree_plan.proofs.deciding.decide.Given as goal
+use Rattle.tree_plan.proofs.deciding.decide_by_passes.Given as goal
 
 abbrev pub ghost-conclude : goal.ghost-conclude
 ghost-conclude g a = record {

@@ -7,24 +7,24 @@ use Rattle.schema.specs.declared.NodeId.{NodeId}
 use Rattle.model.specs.declared.FullNodeId.{FullNodeId}
 use Rattle.model.specs.FullIds.{full_cmp}
 use Rattle.model.specs.World.{in_tree}
-use Rattle.tree_plan.specs.declared.passes.Compared.{Compared}
+use Rattle.tree_plan.specs.declared.passes.Comparing.{Comparing}
 use Rattle.tree_plan.specs.Passes.{at}
-use Rattle.tree_plan.specs.Comparisons.{Gathers, GathersNew, OnlyIn}
+use Rattle.tree_plan.specs.Comparisons.{Gathers, OnlyIn}
 use Rattle.tree_plan.proofs.IdMaps.{Put, put_changed}
 use Rattle.tree_plan.proofs.NodeSteps.{data_compared}
-use Rattle.tree_plan.proofs.passes.Compared.compare_data.Goals as goal
+use Rattle.tree_plan.proofs.passes.Comparing.compare_data.Goals as goal
 
 pub returns-clause-ok : goal.returns-clause-ok
 returns-clause-ok c =
     let id = c.args.id in
-    let a : Compared = c.args.self.now in
-    let b : Compared = c.compare_lists.new.self in
+    let a : Comparing = c.args.self.now in
+    let b : Comparing = c.compare_lists.new.self in
     let xs : List FullNodeId = map (in_tree id.tree) c.args.children.now in
     let is : c.change_near.new.self ≡ set_value (is_at (full_cmp id)) a.named c.args.named = c.change_near.ensures in
     let put : Put id (Some c.args.named) (at a.named) (at c.change_near.new.self) = subst (λ es. Put id (Some c.args.named) (at a.named) (at es)) (sym is) (put_changed a.named id c.args.named c.requires.there) in
     let same : c.children.result.now ≡ c.args.node.now.children = c.children.ensures in
-    let left = subst (λ (ys : List NodeId). Gathers (OnlyIn id xs (map (in_tree id.tree) ys)) (at a.left.entries) (at b.left.entries)) same c.in_ok-compare_lists.ensures.left in
-    let entered = subst (λ (ys : List NodeId). GathersNew (OnlyIn id (map (in_tree id.tree) ys) xs) (at a.entered.entries) (at b.entered.entries)) same c.in_ok-compare_lists.ensures.entered in
+    let left = subst (λ (ys : List NodeId). Gathers (OnlyIn id xs (map (in_tree id.tree) ys)) a.left b.left) same c.in_ok-compare_lists.ensures.left in
+    let entered = subst (λ (ys : List NodeId). Gathers (OnlyIn id (map (in_tree id.tree) ys) xs) a.entered b.entered) same c.in_ok-compare_lists.ensures.entered in
     on_ok_weaker c.compare_grafts.result (λ grafts.
     data_compared id c.args.named xs c.args.graft c.tree_id.result c.args.node.now a b c.compare_grafts.new.self c.change_near.new.self
     c.tree_id.ensures put (λ there. ap length is ∙ length-set_value (is_at (full_cmp id)) a.named c.args.named)

@@ -7,7 +7,7 @@ use Rattle.tree_plan.specs.Passes.{at_name}
 use Rattle.model.proofs.State.StatePlaces.{value_of}
 use Rattle.tree_plan.proofs.IdMaps.{none_if_not}
 use Rattle.tree_plan.proofs.NameMaps.{put_name_here, put_name_apart}
-use Rattle.tree_plan.proofs.passes.Compared.take_graft.Goals as goal
+use Rattle.tree_plan.proofs.passes.Comparing.take_graft.Goals as goal
 
 nil_if : (xs : List NodeId) → (length xs == 0) ≡ true → xs ≡ []
 nil_if [] e = refl

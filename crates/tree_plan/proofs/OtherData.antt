@@ -1,0 +1,227 @@
+-- Other data that keep the forest: no rule is broken, and the merged world is its own rebuild.
+use Rattle.std.proofs.Common.{◌≡◌, ℕ, ◌<◌, [], map, position, slice_get, Option, Some, None, IsSome, option_map, option_and_then, ◌⊎◌, inl, inr, ⊎_elim, refl, sym, ap, ◌∙◌, subst, arith}
+use Rattle.std.specs.Option.{option_map_or}
+use Rattle.std.specs.Ordering.{nat_cmp, is_eq}
+use Rattle.std.specs.Cmp.Lexicographic.{slice_cmp}
+use Rattle.std.specs.FinMap.{get}
+use Rattle.std.proofs.lemmas.Bool.{cases_eq}
+use Rattle.std.proofs.lemmas.Option.{same_Some, slice_get-map}
+use Rattle.schema.specs.NodeData.{NodeData}
+use Rattle.schema.specs.declared.NodeId.{NodeId}
+use Rattle.schema.specs.declared.TreeId.{TreeId}
+use Rattle.model.specs.declared.FullNodeId.{FullNodeId}
+use Rattle.model.specs.World.{World, Tree, Place, IsNode, HasData, data_of, in_tree, index_of, listed_ids, graft_name, root_of, Kept}
+use Rattle.model.specs.Forest.{place_of}
+use Rattle.model.specs.Focus.{IsFocus, IsEffectiveFocus, Resolves}
+use Rattle.model.specs.Surgery.{IsOld}
+use Rattle.model.specs.State.{IsState}
+use Rattle.model.specs.Update.{UpdateData, IsFirst, IsNamed, IsRebuild, KeepsRules, index_for, root_after, merged_world}
+use Rattle.model.proofs.Worlds.Names.{same_id}
+use Rattle.model.proofs.Closure.{IsDecided}
+use Rattle.model.proofs.State.StatePlaces.{IsSome_is, value_of, map_some}
+use Rattle.model.proofs.Forest.PlaceOf.{stands_at_place, place_is}
+use Rattle.model.proofs.Forest.Rooted.{state_formed}
+use Rattle.model.proofs.Update.AcceptedOrFault.{decide_named}
+use Rattle.model.proofs.Update.Merges.{tree_named, tree_elsewhere, root_stays, known_stays}
+use Rattle.model.proofs.Surgery.Spots.{unnamed_data}
+use Rattle.model.proofs.Surgery.OldWorlds.{old_state}
+use Rattle.model.proofs.Surgery.OldUpdates.{old_leaves_state}
+use Rattle.tree_changes.specs.LookUps.{IsPlaceOf}
+use Rattle.tree_changes.specs.LookUps as look
+use Rattle.tree_plan.specs.declared.passes.Opened.{Opened}
+use Rattle.tree_plan.specs.Passes.{HoldsOpened}
+use Rattle.tree_plan.specs.Writing.{own_record}
+use Rattle.tree_plan.specs.News.{KeepsForest, IsNamedOnce}
+use Rattle.tree_plan.proofs.Entries.{entry_named}
+use Rattle.tree_plan.proofs.IdMaps.{at_contains}
+use Rattle.tree_plan.proofs.Opens.{tree_is}
+use Rattle.tree_plan.proofs.Trees.{KnownAlike, AreAfter, same_option}
+use Rattle.tree_plan.proofs.Forests.{HaveOneForest, root_same, root_named_same, tree_named_same, lists_same, grafts_same, stands_same, reached_same, kept_same, chain_same}
+
+-- each entry names an old node, whose forest it keeps
+abbrev pub AllKeep : World → UpdateData → Type 0
+AllKeep w u = (k : ℕ) (e : NodeId × NodeData) → slice_get u.nodes k ≡ Some e → (old : NodeData) × HasData w (in_tree (index_for w u.name) e.0) old × KeepsForest old e.1
+
+pub same_data : (d : NodeData) → KeepsForest d d
+same_data d = record { children = refl; graft = refl; active = refl }
+
+-- the named tree is known where its record stays
+module _ (w : World) (u : UpdateData) (op : Opened) (opening : HoldsOpened w u op) (same : own_record u.name u.focus op ≡ op.record) where
+  known_here : index_of w u.name ≡ Some op.index
+  known_here = sym opening.record_of.index ∙ sym (ap (λ r. r.index) same)
+
+  pub later : ¬ (IsFirst w)
+  later none = let unknown : index_of w u.name ≡ None = rw none refl in let clash : None ≡ Some op.index = sym unknown ∙ known_here in cc
+
+module _ (w : World) (u : UpdateData) (o : IsOld w) (op : Opened) (opening : HoldsOpened w u op) (same : own_record u.name u.focus op ≡ op.record) (once : IsNamedOnce u) (keep : AllKeep w u) where
+  abbrev m : World
+  m = merged_world w u
+
+  abbrev i : ℕ
+  i = index_for w u.name
+
+  -- ---- the head
+
+  both_parts : (x : Option Tree) (a b : NodeId) → option_map (λ t. t.root) x ≡ Some a → option_map (λ t. t.focus) x ≡ Some b → x ≡ Some (record { root = a; focus = b })
+  both_parts None a b e f = cc
+  both_parts (Some t) a b e f =
+      let root : t.root ≡ a = same_Some t.root a e in
+      let focus : t.focus ≡ b = same_Some t.focus b f in
+      ap Some (λ j. record { root = root j; focus = focus j })
+
+  tree_before : get w.trees i ≡ Some (record { root = op.root; focus = u.focus })
+  tree_before = tree_is w o u.name ∙ both_parts (look.tree_named w u.name) op.root u.focus (sym opening.record_of.root ∙ sym (ap (λ r. r.root) same)) (sym opening.record_of.focus ∙ sym (ap (λ r. r.focus) same))
+
+  tree_after : get m.trees i ≡ Some (record { root = op.root; focus = u.focus })
+  tree_after =
+      let root = value_of (root_after w u) (root_stays w u (IsSome_is (record { root = op.root; focus = u.focus }) tree_before)) in
+      let is : get m.trees i ≡ Some (record { root = root.0; focus = u.focus }) = tree_named w u root.0 root.1 in
+      let at : root_of m i ≡ Some (in_tree i op.root) = subst (λ j. root_of m j ≡ Some (in_tree j op.root)) opening.index opening.root in
+      let one : in_tree i root.0 ≡ in_tree i op.root = same_Some (in_tree i root.0) (in_tree i op.root) (sym (ap (option_map (λ (t : Tree). in_tree i t.root)) is) ∙ at) in
+      let here : root.0 ≡ op.root = ap (λ x. x.node) one in
+      is ∙ ap (λ (n : NodeId). Some (record { root = n; focus = u.focus })) here
+
+  trees_same : (q : ℕ) → get m.trees q ≡ get w.trees q
+  trees_same q = ⊎_elim (λ here. ap (get m.trees) here ∙ tree_after ∙ sym tree_before ∙ ap (get w.trees) (sym here)) (λ other. tree_elsewhere w u q other) (cases_eq q i)
+
+  index_same : (name : TreeId) → index_of m name ≡ index_of w name
+  index_same name = ap (position (λ k. is_eq (slice_cmp nat_cmp k.0 name.0))) (known_stays w u op.index (known_here w u op opening same))
+
+  -- ---- the nodes
+
+  pub named_data : (id : FullNodeId) → IsNamed w u id → (old d : NodeData) × HasData w id old × HasData m id d × KeepsForest old d
+  named_data id named =
+      let k = at_contains (map (λ (e : NodeId × NodeData). e.0) u.nodes) id.node named.1 in
+      let e = map_some (λ (e : NodeId × NodeData). e.0) (slice_get u.nodes k.0) id.node (sym (slice_get-map (λ (e : NodeId × NodeData). e.0) u.nodes k.0) ∙ k.1) in
+      let here : in_tree i e.0.0 ≡ id = same_id (in_tree i e.0.0) id (sym named.0) e.2 in
+      let old = keep k.0 e.0 e.1 in
+      (old.0, e.0.1, subst (λ x. HasData w x old.0) here old.1, entry_named w u id k.0 once named.0 k.1 ∙ ap (option_map (λ (e : NodeId × NodeData). e.1)) e.1, old.2)
+
+  any_data : (id : FullNodeId) → (data_of m id ≡ data_of w id) ⊎ ((old d : NodeData) × HasData w id old × HasData m id d × KeepsForest old d)
+  any_data id = go (decide_named w u id)
+    where
+      go : IsDecided (IsNamed w u id) → (data_of m id ≡ data_of w id) ⊎ ((old d : NodeData) × HasData w id old × HasData m id d × KeepsForest old d)
+      go (inl named) = inr (named_data id named)
+      go (inr other) = inl (unnamed_data w u id other)
+
+  pub data_now : (id : FullNodeId) (old : NodeData) → HasData w id old → (d : NodeData) × HasData m id d × KeepsForest old d
+  data_now id old was = ⊎_elim
+      (λ same. (old, same ∙ was, same_data old))
+      (λ x. (x.1, x.3, subst (λ y. KeepsForest y x.1) (same_Some x.0 old (sym x.2 ∙ was)) x.4))
+      (any_data id)
+
+  data_then : (id : FullNodeId) (d : NodeData) → HasData m id d → (old : NodeData) × HasData w id old × KeepsForest old d
+  data_then id d now = ⊎_elim
+      (λ same. (d, sym same ∙ now, same_data d))
+      (λ x. (x.0, x.2, subst (KeepsForest x.0) (same_Some x.1 d (sym x.3 ∙ now)) x.4))
+      (any_data id)
+
+  pub node_now : (id : FullNodeId) → IsNode w id → IsNode m id
+  node_now id there = let d = value_of (data_of w id) there in let x = data_now id d.0 d.1 in IsSome_is x.0 x.1
+
+  pub node_then : (id : FullNodeId) → IsNode m id → IsNode w id
+  node_then id there = let d = value_of (data_of m id) there in let x = data_then id d.0 d.1 in IsSome_is x.0 x.1
+
+  lists_alike : (id : FullNodeId) → listed_ids m id ≡ listed_ids w id
+  lists_alike id = ⊎_elim
+      (λ same. ap (λ x. option_map_or (λ (d : NodeData). map (in_tree id.tree) d.children) x []) same)
+      (λ x. ap (λ y. option_map_or (λ (d : NodeData). map (in_tree id.tree) d.children) y []) x.3 ∙ ap (map (in_tree id.tree)) (sym x.4.children) ∙ sym (ap (λ y. option_map_or (λ (d : NodeData). map (in_tree id.tree) d.children) y []) x.2))
+      (any_data id)
+
+  grafts_alike : (id : FullNodeId) → graft_name m id ≡ graft_name w id
+  grafts_alike id = ⊎_elim
+      (λ same. ap (option_and_then (λ (d : NodeData). d.tree_id)) same)
+      (λ x. ap (option_and_then (λ (d : NodeData). d.tree_id)) x.3 ∙ sym x.4.graft ∙ sym (ap (option_and_then (λ (d : NodeData). d.tree_id)) x.2))
+      (any_data id)
+
+  pub forward : HaveOneForest w m
+  forward = record { trees = λ q. sym (trees_same q); index = λ name. sym (index_same name); lists = λ id. sym (lists_alike id); grafts = λ id. sym (grafts_alike id) }
+
+  pub back : HaveOneForest m w
+  back = record { trees = trees_same; index = index_same; lists = lists_alike; grafts = grafts_alike }
+
+  -- ---- the rules
+
+  pub rules : KeepsRules w u
+  rules = record {
+    first_has_info = λ none. absurd (later w u op opening same none);
+    first_for_root = λ none. absurd (later w u op opening same none);
+    root_is_node = λ id is. node_now id (o.root_is_node i id (sym (root_same m w back i) ∙ is));
+    listed_is_node = λ p c at. node_now c (o.listed_is_node p c (lists_same m w back p c at.1));
+    named_reached = λ id named. let d = named_data id named in reached_same w m forward id (o.node_reached id (IsSome_is d.0 d.2));
+    named_once = once;
+    listed_once = λ p q c a b. o.listed_once p q c (lists_same m w back p c a.1) (lists_same m w back q c b.1);
+    root_unlisted = λ p id at root. o.root_unlisted p id.tree id (sym (root_same m w back id.tree) ∙ root) (lists_same m w back p id at.1);
+    root_ungrafted = λ id at. o.root_ungrafted id (grafts_same m w back id _ at.1);
+    graft_childless = λ id name at. lists_alike id ∙ o.graft_childless id name (grafts_same m w back id name at.1);
+    grafted_once = λ id other name a b. o.grafted_once id other name (grafts_same m w back id name a.1) (grafts_same m w back other name b.1);
+    later_grafted = opening.opened.later_grafted;
+    later_has_info = opening.opened.later_has_info;
+    later_has_index = opening.opened.later_has_index;
+    focus_reached = λ id on. reached_same w m forward id (o.node_reached id (o.focus_is_node id (chain_same m w back id on)));
+    focus_goes_on = λ id name on grafts. subst IsSome (root_named_same w m forward name) (o.focus_goes_on id name (chain_same m w back id on) (grafts_same m w back id name grafts));
+  }
+
+  kept_now : (q : ℕ) → IsSome (get w.trees q) → Kept m q
+  kept_now q there = kept_same w m forward q (o.present_kept q there)
+
+  -- nothing goes
+  pub rebuilt : IsRebuild m m
+  rebuilt = record {
+    known = refl;
+    toolkit = refl;
+    host = refl;
+    trees = λ q t. (λ is. (kept_now q (IsSome_is t (sym (trees_same q) ∙ is)), is), λ x. x.1);
+    nodes = λ id d. (λ has. let there = node_then id (IsSome_is d has) in (kept_now id.tree (o.node_present id there), reached_same w m forward id (o.node_reached id there), has), λ x. x.2);
+  }
+
+  root_there : IsNode w (in_tree i op.root)
+  root_there = o.root_is_node i (in_tree i op.root) (ap (option_map (λ (t : Tree). in_tree i t.root)) tree_before)
+
+  pub state_before : IsState w
+  state_before = old_state o (in_tree i op.root) root_there
+
+  state_after : IsState m
+  state_after = old_leaves_state w u o rules m rebuilt
+
+  -- ---- places, trees and the focus
+
+  pub place_same : (id : FullNodeId) → place_of w id ≡ place_of m id
+  place_same id = same_option (place_of w id) (place_of m id)
+      (λ p e. (place_is m (state_formed state_after) id p).1 (stands_same w m forward p id (stands_at_place w id p e)))
+      (λ p e. (place_is w (state_formed state_before) id p).1 (stands_same m w back p id (stands_at_place m id p e)))
+
+  pub place_now : (id : FullNodeId) (place : Option Place) → IsPlaceOf w id place → IsPlaceOf m id place
+  place_now id place is p = (λ e. stands_same w m forward p id ((is p).0 e), λ at. (is p).1 (stands_same m w back p id at))
+
+  pub alike : (name : TreeId) → KnownAlike w m name
+  alike name = record {
+    index = sym (index_same name);
+    graft = λ g. (λ e. grafts_same w m forward g name e, λ e. grafts_same m w back g name e);
+    tree = tree_named_same w m forward name;
+  }
+
+  pub none_after : AreAfter w u o rules m rebuilt []
+  none_after = record {
+    each = λ t c. absurd (let lt : c.0 < 0 = c.1 in omega arith);
+    differ = λ t c. absurd (let lt : c.0 < 0 = c.1 in omega arith);
+    others = λ name none. alike name;
+  }
+
+  pub effective_now : (e : FullNodeId) → IsEffectiveFocus w e → IsEffectiveFocus m e
+  effective_now e f = let d = data_now e f.1 f.2 in (chain_same w m forward e f.0, d.0, d.1, sym d.2.graft ∙ f.3)
+
+  resolves_now : (e a : FullNodeId) → Resolves w e a → Resolves m e a
+  resolves_now e a r = let d = data_now e r.0 r.1 in (d.0, d.1, sym d.2.active ∙ r.2, r.3, node_now a r.4)
+
+  resolves_then : (e a : FullNodeId) → Resolves m e a → Resolves w e a
+  resolves_then e a r = let d = data_then e r.0 r.1 in (d.0, d.1, d.2.active ∙ r.2, r.3, node_then a r.4)
+
+  pub focus_now : (answer : Option FullNodeId) → IsFocus w answer → IsFocus m answer
+  focus_now None f = f
+  focus_now (Some id) f = (
+    f.0,
+    f.1,
+    effective_now f.1 f.2,
+    ⊎_elim (λ r. inl (resolves_now f.1 id r)) (λ x. inr (x.0, λ a r. x.1 a (resolves_then f.1 a r))) f.3,
+  )
