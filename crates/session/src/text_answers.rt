@@ -1,21 +1,18 @@
 //! Answers to questions about the text of a node.
-ghost use Rattle.std.specs.Prelude.{◌≡◌, nat_lt, true, Some, IsSome, IfOk, IfSome, option_and_then, option_map, string_bytes};
-ghost use Rattle.std.specs.Ordering.{nat_cmp};
+ghost use Rattle.std.specs.Prelude.{◌≡◌, true, Some, IsSome, IfOk, IfSome, option_and_then, option_map, string_bytes};
 ghost use Rattle.model.specs.declared.queries.Query.TheVariants.{Move as ToMove, Indexes as ToIndexes, RangeText as ToRangeText};
 ghost use Rattle.model.specs.TextRuns.{supports_text_ranges};
-ghost use Rattle.model.specs.FlatText.{total};
 ghost use Rattle.model.specs.Queries.{position_at, moved as place_after, raw_of, text_between as between, text_in_runs as text_if_any};
 ghost use Rattle.views.specs.Nodes.{world_at, id_at};
 ghost use Rattle.texts.specs.Positions.{root_at, node_text, position_text, flat_position};
 ghost use Rattle.session.specs.Replied.{IsAnswerAt};
-ghost use Rattle.session.specs.Texts.{offset_at, position_in};
+ghost use Rattle.session.specs.Texts.{position_in};
 
 use crate::commands::Reply;
 use accesskit_consumer::text::TextPosition;
 use accesskit_consumer::{NodeRef, TextIndexes, TextRoot};
 use model::{At, Move, Side};
 use std::alloc::{AllocError, Global};
-use std::cmp::Ordering;
 
 /// The position with this index in the node's text, on this side.
 fn position_within<'a>(node: NodeRef<'a>, at: At) -> Option<TextPosition<'a>>
@@ -44,30 +41,6 @@ fn position_of<'a>(node: NodeRef<'a>, at: At) -> Option<TextPosition<'a>>
     position_within(node, at)
 }
 
-/// How two positions of one text compare.
-#[tactic(auto, using(crate::proofs::Ends::compared))]
-fn order(position: TextPosition<'_>, other: TextPosition<'_>) -> Ordering
-    requires { root_at other ≡ root_at position }
-    ensures { result ≡ nat_cmp (offset_at position.entry) (offset_at other.entry) }
-{
-    position.compare(&other).unwrap()
-}
-
-/// Whether there is a character after the position.
-fn has_next(position: TextPosition<'_>) -> bool
-    ensures { result ≡ nat_lt (offset_at position.entry) (total (position_text position.entry)) }
-{
-    order(position, position.forward_to_page_end()).is_lt()
-}
-
-/// Whether there is a character before the position.
-#[tactic(auto, using(crate::proofs::Ends::after_start))]
-fn has_previous(position: TextPosition<'_>) -> bool
-    ensures { result ≡ nat_lt 0 (offset_at position.entry) }
-{
-    order(position.backward_to_page_start(), position).is_lt()
-}
-
 /// Where a move leads. There is no such place for a move by a character past an end of the text.
 fn moved<'a>(position: TextPosition<'a>, by: Move) -> Option<TextPosition<'a>>
     ensures at { let p = position.entry in
@@ -75,8 +48,9 @@ fn moved<'a>(position: TextPosition<'a>, by: Move) -> Option<TextPosition<'a>>
     ensures same { IfSome result (λ p. root_at p ≡ root_at position.entry) }
 {
     match by {
-        Move::ForwardToCharacterStart | Move::ForwardToCharacterEnd if !has_next(position) => None,
-        Move::BackwardToCharacterStart if !has_previous(position) => None,
+        Move::ForwardToCharacterStart | Move::ForwardToCharacterEnd
+            if !position.has_character_after() => None,
+        Move::BackwardToCharacterStart if !position.has_character_before() => None,
         Move::ForwardToCharacterStart => Some(position.forward_to_character_start()),
         Move::ForwardToCharacterEnd => Some(position.forward_to_character_end()),
         Move::BackwardToCharacterStart => Some(position.backward_to_character_start()),

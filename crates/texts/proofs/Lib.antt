@@ -31,3 +31,10 @@ pub mod FoundSteps
 pub mod WeakSteps
 pub mod Passing
 pub mod Secrecy
+pub mod CutPlaces
+pub mod NextCuts
+pub mod CharacterTests
+pub mod BetweenNames
+pub mod RangeEndTests
+pub mod RangeSplits
+pub mod RangeTakes

@@ -24,3 +24,8 @@ pub mod WeakRanges
 pub mod Traversals
 pub mod Secrets
 pub mod LineWalks
+pub mod Characters
+pub mod NodeTexts
+pub mod Betweens
+pub mod Cuts
+pub mod RangeCuts

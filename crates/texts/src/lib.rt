@@ -1,6 +1,7 @@
 //! Texts that are made of runs: positions in them, and ranges of them.
 #![tactic(auto)]
 
+mod betweens;
 mod boundaries;
 mod boxes;
 mod characters;
@@ -15,6 +16,7 @@ mod lines;
 mod looks;
 mod metrics;
 mod named;
+mod node_texts;
 mod offsets;
 mod pieces;
 mod points;
@@ -24,16 +26,18 @@ mod properties;
 mod range;
 mod range_ends;
 mod range_properties;
-mod selections;
+mod range_walks;
 mod text_lines;
 mod text_root;
 mod traversals;
 mod weak;
 mod words;
 
+pub use node_texts::{NodeText, Text};
 pub use position::TextPosition;
 pub use range::TextRange;
 pub use range_properties::TextRangePropertyValue;
+pub use range_walks::{RangeCharacters, RangeLines, RangeWords};
 pub use text_lines::TextLines;
 pub use text_root::{TextIndexes, TextPlaces, TextRoot, TextSelections};
 pub use weak::WeakTextRange;

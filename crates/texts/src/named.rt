@@ -20,7 +20,7 @@ fn is_named(run: Run<'_>, raw: schema::TextPosition) -> bool
 }
 
 /// The first of the node's runs that has this id in its tree, where there is one.
-fn run_named<'a>(root: NodeRef<'a>, raw: schema::TextPosition) -> Option<Run<'a>>
+pub(crate) fn run_named<'a>(root: NodeRef<'a>, raw: schema::TextPosition) -> Option<Run<'a>>
     ensures same { IfSome result (λ r. text_root_of r ≡ root.entry) }
     ensures named { option_map number_in result ≡ run_named (node_text root.entry) raw }
 {

@@ -30,8 +30,8 @@ impl<'a> TextRange<'a> {
         }
     }
 
-    /// The range of two positions of one root: it begins with the one of lesser offset.
-    pub(crate) fn between(first: TextPosition<'a>, second: TextPosition<'a>) -> TextRange<'a>
+    /// The range of two positions of one root, in one state: it begins with the one of lesser offset.
+    pub(crate) fn in_order(first: TextPosition<'a>, second: TextPosition<'a>) -> TextRange<'a>
         requires world { world_at (root_at second) ≡ world_at (root_at first) }
         requires root { id_at (root_at second) ≡ id_at (root_at first) }
         ensures range { let root = root_at first.entry in

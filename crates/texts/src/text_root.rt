@@ -15,11 +15,10 @@ ghost use Rattle.texts.specs.Secrets.{InEachText};
 use crate::ends::{document_end, document_start};
 use crate::indexes::{Units, position_from};
 use crate::line_ranges::line_range_of;
-use crate::named::nearest_named;
+use crate::node_texts::NodeText;
 use crate::points::position_at;
 use crate::position::TextPosition;
 use crate::range::TextRange;
-use crate::selections::selection_sent;
 use schema::Point;
 use views::NodeRef;
 
@@ -171,38 +170,29 @@ impl<'a> TextSelections<'a> for NodeRef<'a> {
         ensures { let w = world_at self.now in
             IsRangeFound w (id_at self.now) (selection w (id_at self.now)) result }
     {
-        let node = *self;
-        let Some(selection) = selection_sent(node) else {
+        let Some(text) = self.text() else {
             return None;
         };
-        let Some(anchor) = nearest_named(node, selection.anchor) else {
-            return None;
-        };
-        let Some(focus) = nearest_named(node, selection.focus) else {
-            return None;
-        };
-        Some(TextRange::between(anchor, focus))
+        text.selection()
     }
 
     fn text_selection_anchor(&self) -> Option<TextPosition<'a>>
         ensures { let anchor = selection_anchor (world_at self.now) (id_at self.now) in
             IsAtFound self.now anchor result }
     {
-        let node = *self;
-        let Some(selection) = selection_sent(node) else {
+        let Some(text) = self.text() else {
             return None;
         };
-        nearest_named(node, selection.anchor)
+        text.selection_anchor()
     }
 
     fn text_selection_focus(&self) -> Option<TextPosition<'a>>
         ensures { let focus = selection_focus (world_at self.now) (id_at self.now) in
             IsAtFound self.now focus result }
     {
-        let node = *self;
-        let Some(selection) = selection_sent(node) else {
+        let Some(text) = self.text() else {
             return None;
         };
-        nearest_named(node, selection.focus)
+        text.selection_focus()
     }
 }

@@ -7,7 +7,7 @@ ghost use Rattle.views.specs.Nodes.{world_at, id_at};
 ghost use Rattle.texts.specs.Positions.{root_at, flat_position};
 ghost use Rattle.texts.specs.TextRanges.{world_in, root_in, range_at};
 ghost use Rattle.texts.specs.FoundRanges.{IsRangeFound};
-ghost use Rattle.texts.specs.WeakRanges.{kept_of, same_weak, same_weak_laws, same_weak_equivalence};
+ghost use Rattle.texts.specs.WeakRanges.{IsNodeFound, IsInView, kept_of, same_weak, same_weak_laws, same_weak_equivalence};
 
 use crate::named::position_named;
 use crate::position::TextPosition;
@@ -101,8 +101,8 @@ impl WeakTextRange {
         &self.end_comparable
     }
 
-    /// The node in a later state, where it is there and has text ranges.
-    pub fn upgrade_node<'a>(&self, state: StateRef<'a>) -> Option<NodeRef<'a>>
+    /// The node in this state, where it is there and has text ranges.
+    fn node_in<'a>(&self, state: StateRef<'a>) -> Option<NodeRef<'a>>
         ensures world { IfSome result (λ node. world_at node ≡ world_of state.entry) }
         ensures node { option_map id_at result
             ≡ (if supports_text_ranges (world_of state.entry) self.now.root
@@ -117,13 +117,12 @@ impl WeakTextRange {
         Some(node)
     }
 
-    /// The range in a later state: none where the node isn't there or has no text ranges, or where an end names none of
-    /// its runs or an index past the end of its run.
-    pub fn upgrade<'a>(&self, state: StateRef<'a>) -> Option<TextRange<'a>>
+    /// The range in this state, where it is there.
+    fn range_in<'a>(&self, state: StateRef<'a>) -> Option<TextRange<'a>>
         ensures { let w = world_of state.entry in
             IsRangeFound w self.now.root (upgraded_range w self.now) result }
     {
-        let Some(node) = self.upgrade_node(state) else {
+        let Some(node) = self.node_in(state) else {
             return None;
         };
         let Some(start) = position_named(node, self.start) else {
@@ -132,7 +131,23 @@ impl WeakTextRange {
         let Some(end) = position_named(node, self.end) else {
             return None;
         };
-        Some(TextRange::between(start, end))
+        Some(TextRange::in_order(start, end))
+    }
+
+    /// The node in a later state, where it is there and has text ranges. The state is given as itself, by reference, or
+    /// as a view of it.
+    pub fn upgrade_node<'a, S: Into<StateRef<'a>>>(&self, state: S) -> Option<NodeRef<'a>>
+        ensures { IsInView S.converts state (λ w. IsNodeFound w self.now.root result) }
+    {
+        self.node_in(state.into())
+    }
+
+    /// The range in a later state: none where the node isn't there or has no text ranges, or where an end names none of
+    /// its runs or an index past the end of its run. The state is given as itself, by reference, or as a view of it.
+    pub fn upgrade<'a, S: Into<StateRef<'a>>>(&self, state: S) -> Option<TextRange<'a>>
+        ensures { IsInView S.converts state (λ w. IsRangeFound w self.now.root (upgraded_range w self.now) result) }
+    {
+        self.range_in(state.into())
     }
 
     /// A copy, whose lists are kept in memory from `alloc`.

@@ -119,7 +119,8 @@ impl<'a> NodeRef<'a> {
         Some(count_shown(self.state.view(top), self.node.role(), &filter))
     }
 
-    /// The position that was sent, or else how many nodes of its set come before it.
+    /// The position that was sent, or else how many nodes of its set come before it: both count from 0, so that the first of a
+    /// set has the position 0.
     pub fn computed_position_in_set<F: Fn(&NodeRef<'_>) -> FilterResult>(
         &self,
         filter: &F,

@@ -4,7 +4,7 @@ use Rattle.model.specs.TextRuns.{supports_text_ranges}
 use Rattle.model.specs.Ranges.{WeakRange}
 use Rattle.views.specs.ShownWorlds.{world_of}
 use Rattle.texts.proofs.WeakSteps.{absent_no_text}
-use Rattle.texts.proofs.weak.WeakTextRange.upgrade_node.Goals as goal
+use Rattle.texts.proofs.weak.WeakTextRange.node_in.Goals as goal
 
 pub returns-in_default-clause-node : goal.returns-in_default-clause-node
 returns-in_default-clause-node c =
