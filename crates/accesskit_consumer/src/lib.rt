@@ -15,8 +15,9 @@ pub mod node {
 /// Texts that are made of runs: positions in them, and ranges of them.
 pub mod text {
     pub use texts::{
-        TextIndexes, TextLines, TextPlaces, TextPosition, TextRange, TextRangePropertyValue,
-        TextRoot, TextSelections, WeakTextRange,
+        NodeText, RangeCharacters, RangeLines, RangeWords, Text, TextIndexes, TextLines,
+        TextPlaces, TextPosition, TextRange, TextRangePropertyValue, TextRoot, TextSelections,
+        WeakTextRange,
     };
 }
 
@@ -42,7 +43,7 @@ pub mod walks {
 pub use filters::{FilterResult, common_filter, common_filter_with_root_exception};
 pub use node::{FullNodeId, NodeRef};
 pub use text::{
-    TextIndexes, TextLines, TextPlaces, TextPosition, TextRange, TextRangePropertyValue, TextRoot,
-    TextSelections, WeakTextRange,
+    NodeText, RangeCharacters, RangeLines, RangeWords, Text, TextIndexes, TextLines, TextPlaces,
+    TextPosition, TextRange, TextRangePropertyValue, TextRoot, TextSelections, WeakTextRange,
 };
 pub use tree::{StateRef, Tree, TreeChangeHandler, TreeState, UpdateError};

@@ -1,10 +1,10 @@
-//! Finds a button by its role and label as a test harness does, and reads the text of an input by lines and words as a text
-//! reader does.
+//! Finds a button by its role and label as a test harness does, and reads the text of an input by lines, words and characters as
+//! a text reader does.
 #![tactic(auto)]
 
 mod form;
 
-use accesskit_consumer::text::{TextLines, TextRoot};
+use accesskit_consumer::text::{NodeText, Text};
 use accesskit_consumer::{NodeRef, StateRef, Tree, common_filter};
 use schema::{Action, Role};
 use std::alloc::{AllocError, Global};
@@ -43,13 +43,9 @@ fn print_button(
     Ok(())
 }
 
-/// Prints each line of the node's text, with the index in UTF-16 at which it starts.
-fn print_lines(rt: &impl Print, alloc: Global, field: NodeRef) -> anyhow::Result<()> {
-    if !field.supports_text_ranges() {
-        println!(rt; "no text")?;
-        return Ok(());
-    }
-    let mut lines = TextLines::new(field);
+/// Prints each line of the text, with the index in UTF-16 at which it starts.
+fn print_lines(rt: &impl Print, alloc: Global, text: Text) -> anyhow::Result<()> {
+    let mut lines = text.lines();
     for number in 0..usize::MAX {
         let Some(line) = lines.line(number) else {
             break;
@@ -60,21 +56,24 @@ fn print_lines(rt: &impl Print, alloc: Global, field: NodeRef) -> anyhow::Result
     Ok(())
 }
 
-/// Prints the index in UTF-16 of each place at which a word or a line of the node's text starts.
-fn print_words(rt: &impl Print, field: NodeRef) -> anyhow::Result<()> {
-    if !field.supports_text_ranges() {
-        return Ok(());
+/// Prints the words of the text, each with what follows it up to the next one.
+fn print_words(rt: &impl Print, alloc: Global, text: Text) -> anyhow::Result<()> {
+    for word in text.range().words() {
+        println!(rt; "word {:?}", word.text(alloc)?)?;
     }
-    print!(rt; "words at")?;
-    let mut at = field.document_start();
-    for _ in 0..usize::MAX {
-        print!(rt; " {}", at.to_global_utf16_index())?;
-        at = at.forward_to_word_start();
-        if at.is_document_end() {
+    Ok(())
+}
+
+/// Prints how many characters the text has, as a caret goes through it.
+fn print_count(rt: &impl Print, text: Text) -> anyhow::Result<()> {
+    let mut at = text.start();
+    for count in 0..usize::MAX {
+        let Some(next) = at.next_character() else {
+            println!(rt; "characters {count}")?;
             break;
-        }
+        };
+        at = next;
     }
-    println!(rt)?;
     Ok(())
 }
 
@@ -85,8 +84,11 @@ fn main(rt: HostRuntime) -> anyhow::Result<()> {
     print_button(&rt, alloc, state, "Send")?;
     print_button(&rt, alloc, state, "Discard")?;
     if let Some(field) = find(alloc, state, Role::MultilineTextInput, "Message")? {
-        print_lines(&rt, alloc, field)?;
-        print_words(&rt, field)?;
+        if let Some(text) = field.text() {
+            print_lines(&rt, alloc, text)?;
+            print_words(&rt, alloc, text)?;
+            print_count(&rt, text)?;
+        }
         println!(rt;
             "supports focus {}",
             field.supports_action(Action::Focus, &common_filter)

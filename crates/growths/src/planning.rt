@@ -1,7 +1,7 @@
 //! A plan of an update, by look-ups in a small state.
 
 use accesskit_consumer::tree::{Plan, UpdateError, plan_update};
-use schema::{Node, NodeId, Role, TreeId, TreeInfo, TreeUpdate};
+use schema::{Node, NodeBuilder, NodeId, Role, TreeId, TreeInfo, TreeUpdate};
 use std::alloc::{AllocError, Global};
 use tree_plan::decide;
 use tree_store::{NoRecords, Store, StoreLookUps};
@@ -18,9 +18,7 @@ const BUTTON: NodeId = NodeId(3);
 const NEW_TOOLBAR: NodeId = NodeId(4);
 
 fn parent(alloc: Global, role: Role, children: &[NodeId]) -> Result<Node, AllocError> {
-    let mut node = Node::new(alloc, role);
-    node.set_children(children)?;
-    Ok(node)
+    NodeBuilder::new(alloc, role).children(children).build()
 }
 
 /// A node that grafts the tree of this number.

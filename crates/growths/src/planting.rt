@@ -1,7 +1,7 @@
 //! The tree that is read.
 
 use accesskit_consumer::tree::{Tree, UpdateError};
-use schema::{Node, NodeId, Rect, Role, TextDirection, TreeId, TreeInfo, TreeUpdate};
+use schema::{Node, NodeBuilder, NodeId, Rect, Role, TextDirection, TreeId, TreeInfo, TreeUpdate};
 use std::alloc::{AllocError, Global};
 
 /// A window with a description, a check box that a label names, and a password.
@@ -17,40 +17,40 @@ pub const PASSWORD: NodeId = NodeId(3);
 pub const RUN: NodeId = NodeId(4);
 
 fn window(alloc: Global) -> Result<Node, AllocError> {
-    let mut window = Node::new(alloc, Role::Window);
-    window.set_description("a window")?;
-    window.set_children(&[CHECK_BOX, LABEL, PASSWORD])?;
-    Ok(window)
+    NodeBuilder::new(alloc, Role::Window)
+        .description("a window")
+        .children(&[CHECK_BOX, LABEL, PASSWORD])
+        .build()
 }
 
 fn check_box(alloc: Global) -> Result<Node, AllocError> {
-    let mut check_box = Node::new(alloc, Role::CheckBox);
-    check_box.set_labelled_by(&[LABEL])?;
-    Ok(check_box)
+    NodeBuilder::new(alloc, Role::CheckBox)
+        .labelled_by(&[LABEL])
+        .build()
 }
 
 fn label(alloc: Global) -> Result<Node, AllocError> {
-    let mut label = Node::new(alloc, Role::Label);
-    label.set_value("Check email")?;
-    Ok(label)
+    NodeBuilder::new(alloc, Role::Label)
+        .value("Check email")
+        .build()
 }
 
 fn password(alloc: Global) -> Result<Node, AllocError> {
-    let mut password = Node::new(alloc, Role::PasswordInput);
-    password.set_children(&[RUN])?;
-    Ok(password)
+    NodeBuilder::new(alloc, Role::PasswordInput)
+        .children(&[RUN])
+        .build()
 }
 
 /// The run, with a box for each of its characters.
 fn run(alloc: Global) -> Result<Node, AllocError> {
-    let mut run = Node::new(alloc, Role::TextRun);
-    run.set_value("ab")?;
-    run.set_character_lengths(&[1, 1])?;
-    run.set_character_positions(&[0, 10])?;
-    run.set_character_widths(&[10, 10])?;
-    run.set_text_direction(TextDirection::LeftToRight);
-    run.set_bounds(Rect::new(0, 0, 20, 10));
-    Ok(run)
+    NodeBuilder::new(alloc, Role::TextRun)
+        .value("ab")
+        .character_lengths(&[1, 1])
+        .character_positions(&[0, 10])
+        .character_widths(&[10, 10])
+        .text_direction(TextDirection::LeftToRight)
+        .bounds(Rect::new(0, 0, 20, 10))
+        .build()
 }
 
 pub fn update(alloc: Global) -> Result<TreeUpdate, AllocError> {

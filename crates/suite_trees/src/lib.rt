@@ -6,6 +6,8 @@ mod abilities;
 #[cfg(test)]
 mod asking;
 #[cfg(test)]
+mod built;
+#[cfg(test)]
 mod counted;
 #[cfg(test)]
 mod looks;
