@@ -1,21 +1,26 @@
 //! Runs a script of updates from standard input, and prints the tree and its events.
 #![tactic(auto)]
 
-use atree_script::{run_script, tell_no_memory};
-use std::io::{self, BufReader, BufWriter};
+use atree_script::{Program, run_program, run_script};
+use std::alloc::Global;
+use std::io::{BufRead, Write};
 use std::process::ExitCode;
 
+/// Prints what a script does. It has no arguments.
+struct Atree;
+
+impl Program for Atree {
+    fn run<R: BufRead, O: Write, E: Write>(
+        &self,
+        alloc: Global,
+        input: &mut R,
+        output: &mut O,
+        errors: &mut E,
+    ) -> u8 {
+        run_script(alloc, input, output, errors)
+    }
+}
+
 fn main(rt: HostRuntime) -> ExitCode {
-    let alloc = rt.alloc();
-    let mut errors = rt.stderr();
-    let Ok(mut input) = BufReader::new(alloc, rt.reader()) else {
-        return ExitCode::from(tell_no_memory(&mut errors));
-    };
-    let Ok(mut output) = BufWriter::new(alloc, io::writer(&rt)) else {
-        return ExitCode::from(tell_no_memory(&mut errors));
-    };
-    let status = run_script(alloc, &mut input, &mut output, &mut errors);
-    // What a failed write left in the buffer is not written again.
-    let _ = output.into_parts();
-    ExitCode::from(status)
+    run_program(&rt, &Atree)
 }

@@ -1,12 +1,12 @@
 //! The lines of a script.
 
-ghost use Rattle.std.specs.Prelude.{◌≡◌, ◌<◌, OnOk, option_copied};
+ghost use Rattle.std.specs.Prelude.{◌≡◌};
 ghost use Rattle.atree_script.specs.declared.lines.Stop.TheVariants.{Memory, WriteFault};
-ghost use Rattle.atree_script.specs.Words.{left};
 
+use crate::fields::flag;
 use crate::names::role_named;
 use crate::questions::question;
-use crate::words::{Words, ids, numbers, rect, translation, tree_named};
+use crate::words::{Words, tree_named};
 use schema::{Node, NodeId, TreeInfo, TreeUpdate};
 use session::Query;
 use std::alloc::{AllocError, AllocFailed, Global};
@@ -33,7 +33,7 @@ pub(crate) enum Line {
 
 /// Why a run stops before the end of its input.
 #[derive(Clone, Copy, Debug, PartialEq, Eq)]
-pub(crate) enum Stop {
+pub enum Stop {
     /// The line is not a line of a script, or is out of place.
     BadLine,
     /// The input gave an error.
@@ -136,60 +136,8 @@ fn node_line(alloc: Global, mut words: Words) -> Result<(NodeId, Node), Stop> {
     while words.rest.is_some() {
         match words.field()? {
             (name, true) => words.valued_field(alloc, name, &mut node)?,
-            ("hidden", false) if !node.is_hidden() => node.set_hidden(),
-            ("clips", false) if !node.clips_children() => node.set_clips_children(),
-            _ => return Err(Stop::BadLine),
+            (name, false) => flag(name, &mut node)?,
         }
     }
     Ok((id, node))
-}
-
-impl Words<'_> {
-    /// The value of a field of a node, which the node doesn't have yet: a text, a place, or a list or an id of nodes.
-    fn valued_field(&mut self, alloc: Global, name: &str, node: &mut Node) -> Result<(), Stop>
-        ensures { OnOk result (left (option_copied self.new.rest) < left (option_copied self.old.rest)) }
-    {
-        match name {
-            "label" if node.label().is_none() => node.set_label(&self.text(alloc)?)?,
-            "value" if node.value().is_none() => node.set_value(&self.text(alloc)?)?,
-            "bounds" if node.bounds().is_none() => {
-                node.set_bounds(rect(self.word()?).ok_or(Stop::BadLine)?);
-            }
-            "move" if node.transform().is_none() => {
-                node.set_transform(translation(self.word()?).ok_or(Stop::BadLine)?);
-            }
-            "chars" if node.character_lengths().is_empty() => {
-                node.set_character_lengths(&numbers(alloc, self.word()?)?)?;
-            }
-            "words" if node.word_starts().is_empty() => {
-                node.set_word_starts(&numbers(alloc, self.word()?)?)?;
-            }
-            _ => self.kin_field(alloc, name, node)?,
-        }
-        Ok(())
-    }
-
-    /// The value of a field that names nodes or a tree, which the node doesn't have yet.
-    fn kin_field(&mut self, alloc: Global, name: &str, node: &mut Node) -> Result<(), Stop>
-        ensures { OnOk result (left (option_copied self.new.rest) < left (option_copied self.old.rest)) }
-    {
-        match name {
-            "children" if node.children().is_empty() => {
-                node.set_children(&ids(alloc, self.word()?)?)?;
-            }
-            "labelled" if node.labelled_by().is_empty() => {
-                node.set_labelled_by(&ids(alloc, self.word()?)?)?;
-            }
-            "tree" if node.tree_id().is_none() => {
-                node.set_tree_id(tree_named(self.word()?).ok_or(Stop::BadLine)?);
-            }
-            "active" if node.active_descendant().is_none() => {
-                node.set_active_descendant(self.id()?);
-            }
-            "prev" if node.previous_on_line().is_none() => node.set_previous_on_line(self.id()?),
-            "next" if node.next_on_line().is_none() => node.set_next_on_line(self.id()?),
-            _ => return Err(Stop::BadLine),
-        }
-        Ok(())
-    }
 }

@@ -1,8 +1,31 @@
 //! What roles, filters, the sides of a place and moves are called.
 
 use crate::words::number;
-use schema::{Role, named_roles};
+use schema::{Live, Orientation, Role, Toggled, named_roles};
 use session::{Move, NamedFilter, Side};
+
+/// What is said of a control that can be toggled.
+static TOGGLED: [(&str, Toggled); 3] = [
+    ("true", Toggled::True),
+    ("false", Toggled::False),
+    ("mixed", Toggled::Mixed),
+];
+
+/// What truth is called.
+static TRUTH: [(&str, bool); 2] = [("true", true), ("false", false)];
+
+/// How a change of a node is told.
+static LIVE: [(&str, Live); 3] = [
+    ("off", Live::Off),
+    ("polite", Live::Polite),
+    ("assertive", Live::Assertive),
+];
+
+/// What the axes are called.
+static ORIENTATIONS: [(&str, Orientation); 2] = [
+    ("horizontal", Orientation::Horizontal),
+    ("vertical", Orientation::Vertical),
+];
 
 /// What filters are called.
 static FILTERS: [(&str, NamedFilter); 3] = [
@@ -77,4 +100,24 @@ pub(crate) fn side_named(word: &str) -> Option<Side> {
 /// The move of this name.
 pub(crate) fn move_named(word: &str) -> Option<Move> {
     named(&MOVES, word)
+}
+
+/// What is said of a control that can be toggled, by this name.
+pub(crate) fn toggled_named(word: &str) -> Option<Toggled> {
+    named(&TOGGLED, word)
+}
+
+/// What `true` and `false` say.
+pub(crate) fn truth_named(word: &str) -> Option<bool> {
+    named(&TRUTH, word)
+}
+
+/// How a change is told, by this name.
+pub(crate) fn live_named(word: &str) -> Option<Live> {
+    named(&LIVE, word)
+}
+
+/// The axis of this name.
+pub(crate) fn orientation_named(word: &str) -> Option<Orientation> {
+    named(&ORIENTATIONS, word)
 }

@@ -11,7 +11,7 @@ use std::io::{self, Write};
 
 /// A node's id, printed as `1:2`: the index of its tree, and its id in the tree.
 #[derive(Clone, Copy)]
-pub(crate) struct ShownId(pub FullNodeId);
+pub struct ShownId(pub FullNodeId);
 
 impl fmt::Display for ShownId {
     ghost output = { λ s. Some (id_text s.0) };

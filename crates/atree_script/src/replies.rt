@@ -77,7 +77,7 @@ fn write_set<O: Write>(size: Option<usize>, position: Option<usize>, out: &mut O
 }
 
 /// Writes a text in quotes, or `none`. In it a quote, a backslash and a newline are `\"`, `\\` and `\n`.
-fn write_text<O: Write>(text: Option<&str>, out: &mut O) -> io::Result<()>
+pub fn write_text<O: Write>(text: Option<&str>, out: &mut O) -> io::Result<()>
     ensures { OnOk result (Appends (O.contents out.old) (O.contents out.new) (text_line (option_copied text.entry))) }
 {
     let Some(text) = text else {
@@ -89,7 +89,7 @@ fn write_text<O: Write>(text: Option<&str>, out: &mut O) -> io::Result<()>
 }
 
 /// Writes what stands between the quotes.
-fn write_quoted<O: Write>(text: &[u8], out: &mut O) -> io::Result<()>
+pub fn write_quoted<O: Write>(text: &[u8], out: &mut O) -> io::Result<()>
     ensures { OnOk result (Appends (O.contents out.old) (O.contents out.new) (flat_map quoted_byte text.now)) }
 {
     for byte in text {

@@ -8,7 +8,7 @@ ghost use Rattle.atree_script.specs.Words.{left};
 
 use crate::lines::Stop;
 use crate::names::{filter_named, move_named, side_named};
-use schema::{NodeId, Point, Rect, Translation, TreeId};
+use schema::{NodeId, Point, Rect, TextPosition, TextSelection, Translation, TreeId};
 use session::{At, Move, NamedFilter, NodeName};
 use std::alloc::Global;
 use uuid::Uuid;
@@ -165,7 +165,7 @@ fn escaped(c: char) -> Result<char, Stop> {
 }
 
 /// A decimal number without a sign.
-pub(crate) fn number(word: &str) -> Option<u64> {
+pub fn number(word: &str) -> Option<u64> {
     if word.starts_with('+') {
         return None;
     }
@@ -173,15 +173,15 @@ pub(crate) fn number(word: &str) -> Option<u64> {
 }
 
 /// A decimal number, with a minus sign before a negative one.
-fn signed(word: &str) -> Option<i64> {
+pub(crate) fn signed(word: &str) -> Option<i64> {
     if word.starts_with('+') {
         return None;
     }
     word.parse().ok()
 }
 
-/// An index of a text.
-fn index(word: &str) -> Option<usize> {
+/// An index, or a count.
+pub(crate) fn index(word: &str) -> Option<usize> {
     usize::try_from(number(word)?).ok()
 }
 
@@ -214,6 +214,24 @@ pub(crate) fn translation(word: &str) -> Option<Translation> {
     })
 }
 
+/// A selection: `ID:INDEX,ID:INDEX`, from where it was begun to the end that moves.
+pub(crate) fn selection(word: &str) -> Option<TextSelection> {
+    let (anchor, focus) = word.split_once(',')?;
+    Some(TextSelection {
+        anchor: place(anchor)?,
+        focus: place(focus)?,
+    })
+}
+
+/// A place in a text run: `ID:INDEX`.
+fn place(word: &str) -> Option<TextPosition> {
+    let (node, character_index) = word.split_once(':')?;
+    Some(TextPosition {
+        node: NodeId(number(node)?),
+        character_index: index(character_index)?,
+    })
+}
+
 /// Node ids with one comma between them.
 pub(crate) fn ids(alloc: Global, word: &str) -> Result<Vec<NodeId>, Stop> {
     let mut ids = Vec::new(alloc);
@@ -236,7 +254,7 @@ pub(crate) fn numbers(alloc: Global, word: &str) -> Result<Vec<u16>, Stop> {
 }
 
 /// The tree that a word names: `root`, or a UUID in any form that `uuid` reads.
-pub(crate) fn tree_named(word: &str) -> Option<TreeId> {
+pub fn tree_named(word: &str) -> Option<TreeId> {
     if word == "root" {
         return Some(TreeId::root());
     }

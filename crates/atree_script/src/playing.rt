@@ -1,0 +1,167 @@
+//! Plays a script for someone who carries out its commands.
+
+use crate::lines::Stop;
+use crate::reader::{ScriptCommand, ScriptReader};
+use accesskit_consumer::tree::{TreeChangeHandler, UpdateError};
+use schema::TreeUpdate;
+use session::{Command, Query, Reply, Session};
+use std::alloc::Global;
+use std::io::BufRead;
+
+/// Carries out a script's commands.
+pub trait Player {
+    /// The first accepted update has made the tree.
+    ///
+    /// # Errors
+    ///
+    /// Why the script stops there.
+    fn begin(&mut self, session: &Session) -> Result<(), Stop>;
+
+    /// An update would have made the tree, and was refused. Where nothing else is done of it, the script goes on, but not past
+    /// want of memory.
+    ///
+    /// # Errors
+    ///
+    /// Why the script stops there.
+    fn refuse(&mut self, refusal: UpdateError) -> Result<(), Stop> {
+        match refusal {
+            UpdateError::Memory => Err(Stop::Memory),
+            _ => Ok(()),
+        }
+    }
+
+    /// Runs an update or a change of the host's focus.
+    ///
+    /// # Errors
+    ///
+    /// Why the script stops there.
+    fn run(&mut self, session: &mut Session, command: Command) -> Result<(), Stop>;
+
+    /// Answers a question, perhaps before there is a tree. Where nothing else is done, it is passed over.
+    ///
+    /// # Errors
+    ///
+    /// Why the script stops there.
+    fn ask(&mut self, _session: &mut Option<Session>, _query: Query) -> Result<(), Stop> {
+        Ok(())
+    }
+
+    /// Prints the tree, if there is one. Where nothing else is done, this is passed over.
+    ///
+    /// # Errors
+    ///
+    /// Why the script stops there.
+    fn print(&mut self, _session: &Option<Session>) -> Result<(), Stop> {
+        Ok(())
+    }
+}
+
+/// What a script has left.
+#[derive(Drop)]
+pub struct Played {
+    /// The session of the first accepted update, if there was one.
+    pub session: Option<Session>,
+    /// What stopped the script before its end.
+    pub ended: Result<(), Stop>,
+    /// The number of the last line that was read, from 1.
+    pub number: u64,
+}
+
+/// Plays a script to its end, or to what stops it. An update that is refused changes nothing.
+pub fn play<R: BufRead, P: Player>(alloc: Global, input: &mut R, player: &mut P) -> Played {
+    let mut play = Playing {
+        alloc,
+        session: None,
+        is_host_focused: false,
+    };
+    let mut script = ScriptReader::new(alloc);
+    let ended = play.commands(&mut script, input, player);
+    Played {
+        session: play.session,
+        ended,
+        number: script.line_number(),
+    }
+}
+
+/// Runs a command, whose events the handler is told.
+///
+/// # Errors
+///
+/// `Stop::Memory`: the command found no memory, and did nothing.
+pub fn run_told<H: TreeChangeHandler>(
+    session: &mut Session,
+    command: Command,
+    handler: &mut H,
+) -> Result<(), Stop> {
+    match session.step(command, handler)? {
+        Reply::Refused(UpdateError::Memory) => Err(Stop::Memory),
+        _ => Ok(()),
+    }
+}
+
+/// A session as far as a script has played it.
+#[derive(Drop)]
+struct Playing {
+    alloc: Global,
+    /// The session of the first accepted update.
+    session: Option<Session>,
+    is_host_focused: bool,
+}
+
+impl Playing {
+    /// Carries out all commands.
+    fn commands<R: BufRead, P: Player>(
+        &mut self,
+        script: &mut ScriptReader,
+        input: &mut R,
+        player: &mut P,
+    ) -> Result<(), Stop> {
+        for _ in 0..u64::MAX {
+            let Some(command) = script.next_command(input)? else {
+                break;
+            };
+            self.carry_out(command, player)?;
+        }
+        Ok(())
+    }
+
+    /// Carries out a command.
+    fn carry_out<P: Player>(&mut self, command: ScriptCommand, player: &mut P) -> Result<(), Stop> {
+        match command {
+            ScriptCommand::Update(update) => self.send(update, player),
+            ScriptCommand::HostFocus(is_host_focused) => {
+                self.set_host_focus(is_host_focused, player)
+            }
+            ScriptCommand::Print => player.print(&self.session),
+            ScriptCommand::Query(query) => player.ask(&mut self.session, query),
+        }
+    }
+
+    /// Sends an update: the first one makes the tree.
+    fn send<P: Player>(&mut self, update: TreeUpdate, player: &mut P) -> Result<(), Stop> {
+        if let Some(session) = &mut self.session {
+            return player.run(session, Command::Update(update));
+        }
+        match Session::new(self.alloc, update, self.is_host_focused) {
+            Ok(session) => {
+                let begun = player.begin(&session);
+                self.session = Some(session);
+                begun
+            }
+            Err(refusal) => player.refuse(refusal),
+        }
+    }
+
+    /// Tells of the host's focus. Before there is a tree the focus is kept for it.
+    fn set_host_focus<P: Player>(
+        &mut self,
+        is_host_focused: bool,
+        player: &mut P,
+    ) -> Result<(), Stop> {
+        self.is_host_focused = is_host_focused;
+        match &mut self.session {
+            Some(session) => player.run(session, Command::HostFocus(is_host_focused)),
+            None => Ok(()),
+        }
+    }
+}

@@ -1,0 +1,107 @@
+//! Searches the tree that a script leaves.
+ghost use Rattle.std.specs.Prelude.{◌≡◌, ◌==◌, length, IfOk, option_map, string_bytes};
+ghost use Rattle.model.specs.Filters.{common_filter as common};
+ghost use Rattle.views.specs.Descendants.{filtered_descendants};
+ghost use Rattle.views.specs.Nodes.{world_at, id_at};
+ghost use Rattle.views.specs.ShownWorlds.{world_of};
+ghost use Rattle.find.specs.Found.{shown_from, is_labelled, is_wanted, found};
+
+use crate::report::report;
+use crate::wanted::Wanted;
+use accesskit_consumer::filters::{FilterResult, common_filter};
+use accesskit_consumer::node::{FullNodeId, NodeRef};
+use accesskit_consumer::tree::StateRef;
+use atree_script::Stop;
+use session::ids_of;
+use std::alloc::{AllocError, Global};
+use std::io::Write;
+
+/// Tells of each node that is wanted from the top on, and answers whether there is exactly one.
+pub(crate) fn tell_found<O: Write>(
+    alloc: Global,
+    top: NodeRef,
+    wanted: &Wanted,
+    output: &mut O,
+) -> Result<bool, Stop>
+    ensures { let label = option_map string_bytes wanted.now.label in
+        IfOk result (λ is_one. is_one ≡ (length (found wanted.now.role label (world_at top.entry) (id_at top.entry)) == 1)) }
+{
+    let ids = found_ids(alloc, top, wanted)?;
+    for id in &ids {
+        if let Some(node) = top.tree_state().node_by_id(*id) {
+            report(alloc, node, output)?;
+        }
+    }
+    if ids.is_empty() {
+        output.write_all(b"none\n")?;
+    }
+    Ok(ids.len() == 1)
+}
+
+/// The ids of the nodes that are wanted, from the top on.
+fn found_ids(alloc: Global, top: NodeRef, wanted: &Wanted) -> Result<Vec<FullNodeId>, AllocError>
+    ensures { let label = option_map string_bytes wanted.now.label in
+        IfOk result (λ ids. ids.items ≡ found wanted.now.role label (world_at top.entry) (id_at top.entry)) }
+{
+    let shown = shown_ids(alloc, top)?;
+    let mut ids = Vec::new(alloc);
+    for id in &shown {
+        if is_wanted(alloc, top.tree_state(), *id, wanted)? {
+            ids.push(*id)?;
+        }
+    }
+    Ok(ids)
+}
+
+/// The ids of what the common filter shows, from the top on.
+fn shown_ids(alloc: Global, top: NodeRef) -> Result<Vec<FullNodeId>, AllocError>
+    ensures { IfOk result (λ ids. ids.items ≡ shown_from (world_at top.entry) (id_at top.entry)) }
+{
+    let mut ids = ids_below(alloc, top)?;
+    if common_filter(&top) == FilterResult::Include {
+        ids.insert(0, top.id())?;
+    }
+    Ok(ids)
+}
+
+/// The ids of what the common filter shows below the top.
+fn ids_below(alloc: Global, top: NodeRef) -> Result<Vec<FullNodeId>, AllocError>
+    ensures { let w = world_at top.entry in
+        IfOk result (λ ids. ids.items ≡ filtered_descendants (common w) w (id_at top.entry)) }
+{
+    let shown = move |shown: &NodeRef<'_>| common_filter(shown);
+    ids_of(alloc, top.filtered_descendants(shown))
+}
+
+/// Whether the node is there, with the role, and with the label where one is sought.
+fn is_wanted(
+    alloc: Global,
+    state: StateRef,
+    id: FullNodeId,
+    wanted: &Wanted,
+) -> Result<bool, AllocError>
+    ensures { let label = option_map string_bytes wanted.now.label in
+        IfOk result (λ is. is ≡ is_wanted wanted.now.role label (world_of state.entry) id) }
+{
+    let Some(node) = state.node_by_id(id) else {
+        return Ok(false);
+    };
+    if node.role() != wanted.role {
+        return Ok(false);
+    }
+    is_labelled(alloc, node, wanted)
+}
+
+/// Whether the node has the label, where one is sought.
+fn is_labelled(alloc: Global, node: NodeRef, wanted: &Wanted) -> Result<bool, AllocError>
+    ensures { let label = option_map string_bytes wanted.now.label in
+        IfOk result (λ is. is ≡ is_labelled label (world_at node.entry) (id_at node.entry)) }
+{
+    let Some(sought) = &wanted.label else {
+        return Ok(true);
+    };
+    let Some(own) = node.label(alloc)? else {
+        return Ok(false);
+    };
+    Ok(sought.as_str() == own.as_str())
+}
