@@ -1,0 +1,11 @@
+pub mod Differences
+pub mod Focus
+pub mod News
+pub mod Numbers
+pub mod Quoted
+pub mod Roles
+pub mod Sayings
+pub mod StateTexts
+pub mod States
+pub mod Tellings
+pub mod Voices

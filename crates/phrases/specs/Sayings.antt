@@ -1,0 +1,53 @@
+-- What is said, line by line.
+use Rattle.std.specs.Prelude.{ℕ, List, ◌++◌, Option, Some, None, codes, option_copied, length, ◌==◌, if◌then◌else◌}
+use Rattle.schema.specs.declared.values.Live.{Live}
+use Rattle.phrases.specs.declared.differences.Change.{Change}
+use Rattle.phrases.specs.declared.sayings.Dialog.{Dialog}
+use Rattle.phrases.specs.declared.sayings.Saying.{Saying}
+use Rattle.phrases.specs.declared.sayings.Saying.TheVariants.{Focused, InDialog, Told, Named, Valued, Is, Changed, OnLine}
+use Rattle.phrases.specs.Quoted.{quoted}
+use Rattle.phrases.specs.Focus.{focus_text}
+use Rattle.phrases.specs.States.{after_comma, where_it_is, live_word}
+
+-- a title, or that there is none
+abbrev pub titled : Option (List ℕ) → List ℕ
+titled None = codes "no name"
+titled (Some title) = quoted title
+
+abbrev pub dialog_text : Dialog → List ℕ
+dialog_text d = d.role.now ++ codes ": " ++ titled (option_copied d.label) ++ after_comma (where_it_is d.is_modal (codes "modal"))
+
+-- what was removed, and what was typed
+abbrev pub change_text : Change → List ℕ
+change_text c =
+    if length c.removed.now == 0 then codes "typed " ++ quoted c.typed.now
+    else if length c.typed.now == 0 then codes "removed " ++ quoted c.removed.now
+    else codes "removed " ++ quoted c.removed.now ++ codes ", typed " ++ quoted c.typed.now
+
+-- a line that tells a text of a live region
+abbrev pub live_line : Live → List ℕ → List ℕ
+live_line live text = codes "live (" ++ live_word live ++ codes "): " ++ quoted text ++ codes "\n"
+
+-- a line of the new label, of the new value, of a word for the state, and of the line on which the caret is
+abbrev pub label_line : List ℕ → List ℕ
+label_line label = codes "label: " ++ quoted label ++ codes "\n"
+
+abbrev pub value_line : List ℕ → List ℕ
+value_line value = codes "value: " ++ quoted value ++ codes "\n"
+
+abbrev pub state_line : List ℕ → List ℕ
+state_line word = codes "state: " ++ word ++ codes "\n"
+
+abbrev pub caret_line : List ℕ → List ℕ
+caret_line line = codes "line: " ++ quoted line ++ codes "\n"
+
+-- a line of what is said
+abbrev pub saying : Saying → List ℕ
+saying (Focused focus) = codes "focus: " ++ focus_text focus ++ codes "\n"
+saying (InDialog dialog) = dialog_text dialog ++ codes "\n"
+saying (Told live text) = live_line live text.now
+saying (Named label) = label_line label.now
+saying (Valued value) = value_line value.now
+saying (Is word) = state_line word.now
+saying (Changed change) = codes "text: " ++ change_text change ++ codes "\n"
+saying (OnLine line) = caret_line line.now

@@ -1,0 +1,72 @@
+//! What is said of the focus.
+ghost use Rattle.std.specs.Prelude.{Some};
+
+use crate::quoted::{Named, Part};
+use crate::states::State;
+use std::fmt;
+
+/// A node's place in its set.
+#[derive(Clone, Copy)]
+pub struct Place {
+    /// From 0.
+    pub position: usize,
+    pub size: usize,
+}
+
+/// A node's place, after a comma, where it has one.
+#[derive(Clone, Copy)]
+struct AtPlace(Option<Place>);
+
+impl fmt::Display for AtPlace {
+    ghost use Rattle.phrases.specs.Focus.{place_text};
+
+    ghost output = { λ s. Some (place_text s.0) };
+
+    fn fmt<W: fmt::Write>(&self, f: &mut fmt::Formatter<W>) -> fmt::Result {
+        match self.0 {
+            Some(place) => {
+                let number = place.position as u128 + 1;
+                let size = place.size;
+                write!(f, ", {number} of {size}")
+            }
+            None => Ok(()),
+        }
+    }
+}
+
+/// What is said of a node that has the focus.
+#[derive(Clone, Copy)]
+pub struct Focus<'a> {
+    /// The role's word.
+    pub role: &'a str,
+    pub label: Option<&'a str>,
+    /// The value as it is shown.
+    pub value: Option<&'a str>,
+    /// What stands in the node while nothing is filled in.
+    pub placeholder: Option<&'a str>,
+    pub state: State,
+    pub place: Option<Place>,
+}
+
+/// As `check box "Send copies", checked, 2 of 5`.
+impl fmt::Display for Focus<'_> {
+    ghost use Rattle.phrases.specs.Focus.{focus_text};
+
+    ghost output = { λ s. Some (focus_text s) };
+
+    fn fmt<W: fmt::Write>(&self, f: &mut fmt::Formatter<W>) -> fmt::Result {
+        let role = self.role;
+        let label = Named(self.label);
+        let value = Part {
+            what: "value",
+            text: self.value,
+        };
+        let placeholder = Part {
+            what: "placeholder",
+            text: self.placeholder,
+        };
+        let state = self.state;
+        let place = AtPlace(self.place);
+        write!(f, "{role}{label}{value}{placeholder}{state}{place}")
+    }
+}

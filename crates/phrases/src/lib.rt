@@ -1,0 +1,24 @@
+//! What is said of an interface, in words: roles, states, numbers, what has become of a text, and in what order it is said.
+#![tactic(auto)]
+
+mod again;
+mod differences;
+mod edits;
+mod focus;
+mod numbers;
+mod quoted;
+mod roles;
+mod sayings;
+mod states;
+mod voice;
+
+pub use again::news;
+pub use differences::{Change, difference};
+pub use edits::edit;
+pub use focus::{Focus, Place};
+pub use numbers::Thousandths;
+pub use quoted::Quoted;
+pub use roles::{role_word, toggling_of};
+pub use sayings::{Dialog, Saying};
+pub use states::{State, Toggling, expanded_change, flag_change, selected_change, toggled_change};
+pub use voice::Voice;

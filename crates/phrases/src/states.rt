@@ -1,0 +1,236 @@
+//! The state of a node in words.
+ghost use Rattle.std.specs.Prelude.{◌≡◌, Some, option_copied, option_map};
+ghost use Rattle.phrases.specs.States.{checked_word, pressed_word, switched_word, toggled_word, expanded_word, selected_word, after_comma, where_it_is, new_word, same_flag, same_toggle, flag_word, live_word};
+
+use schema::{Live, Toggled};
+use std::fmt;
+
+/// What is said of a control that can be toggled.
+#[derive(Clone, Copy)]
+pub enum Toggling {
+    /// That it is checked.
+    Checks,
+    /// That it is pressed.
+    Presses,
+    /// That it is on.
+    Switches,
+}
+
+/// The state of a node, as far as it is said.
+#[derive(Clone, Copy)]
+pub struct State {
+    pub toggling: Toggling,
+    pub toggled: Option<Toggled>,
+    pub expanded: Option<bool>,
+    pub selected: Option<bool>,
+    pub is_disabled: bool,
+    pub is_read_only: bool,
+    pub is_required: bool,
+}
+
+/// Whether a control is checked.
+fn checked_word(toggled: Toggled) -> &'static str
+    ensures { result.now ≡ checked_word toggled }
+{
+    match toggled {
+        Toggled::False => "not checked",
+        Toggled::True => "checked",
+        Toggled::Mixed => "partly checked",
+    }
+}
+
+/// Whether a control is pressed.
+fn pressed_word(toggled: Toggled) -> &'static str
+    ensures { result.now ≡ pressed_word toggled }
+{
+    match toggled {
+        Toggled::False => "not pressed",
+        Toggled::True => "pressed",
+        Toggled::Mixed => "partly pressed",
+    }
+}
+
+/// Whether a control is on.
+fn switched_word(toggled: Toggled) -> &'static str
+    ensures { result.now ≡ switched_word toggled }
+{
+    match toggled {
+        Toggled::False => "off",
+        Toggled::True => "on",
+        Toggled::Mixed => "partly on",
+    }
+}
+
+/// To what a control is set that can be toggled.
+fn toggled_word(toggling: Toggling, toggled: Toggled) -> &'static str
+    ensures { result.now ≡ toggled_word toggling toggled }
+{
+    match toggling {
+        Toggling::Checks => checked_word(toggled),
+        Toggling::Presses => pressed_word(toggled),
+        Toggling::Switches => switched_word(toggled),
+    }
+}
+
+/// What something that can be expanded is called.
+fn expanded_word(is_expanded: bool) -> &'static str
+    ensures { result.now ≡ expanded_word is_expanded }
+{
+    if is_expanded { "expanded" } else { "collapsed" }
+}
+
+/// What something that can be selected is called.
+fn selected_word(is_selected: bool) -> &'static str
+    ensures { result.now ≡ selected_word is_selected }
+{
+    if is_selected {
+        "selected"
+    } else {
+        "not selected"
+    }
+}
+
+/// A word where it applies.
+fn where_it_is(is: bool, word: &'static str) -> Option<&'static str>
+    ensures { option_copied result ≡ where_it_is is word.now }
+{
+    if is { Some(word) } else { None }
+}
+
+/// A word after a comma, where there is one.
+#[derive(Clone, Copy)]
+pub(crate) struct AfterComma(pub Option<&'static str>);
+
+impl fmt::Display for AfterComma {
+    ghost output = { λ s. Some (after_comma (option_copied s.0)) };
+
+    fn fmt<W: fmt::Write>(&self, f: &mut fmt::Formatter<W>) -> fmt::Result {
+        match self.0 {
+            Some(word) => write!(f, ", {word}"),
+            None => Ok(()),
+        }
+    }
+}
+
+/// A flag's word after a comma, where it applies.
+pub(crate) fn flag(is: bool, word: &'static str) -> AfterComma
+    ensures { option_copied result.0 ≡ where_it_is is word.now }
+{
+    AfterComma(where_it_is(is, word))
+}
+
+impl State {
+    fn toggled(self) -> AfterComma
+        ensures { option_copied result.0 ≡ option_map (toggled_word self.toggling) self.toggled }
+    {
+        match self.toggled {
+            Some(toggled) => AfterComma(Some(toggled_word(self.toggling, toggled))),
+            None => AfterComma(None),
+        }
+    }
+
+    fn expanded(self) -> AfterComma
+        ensures { option_copied result.0 ≡ option_map expanded_word self.expanded }
+    {
+        match self.expanded {
+            Some(is_expanded) => AfterComma(Some(expanded_word(is_expanded))),
+            None => AfterComma(None),
+        }
+    }
+
+    fn selected(self) -> AfterComma
+        ensures { option_copied result.0 ≡ option_map selected_word self.selected }
+    {
+        match self.selected {
+            Some(is_selected) => AfterComma(Some(selected_word(is_selected))),
+            None => AfterComma(None),
+        }
+    }
+}
+
+/// Each word of the state, after a comma.
+impl fmt::Display for State {
+    ghost use Rattle.phrases.specs.StateTexts.{state_text};
+
+    ghost output = { λ s. Some (state_text s) };
+
+    fn fmt<W: fmt::Write>(&self, f: &mut fmt::Formatter<W>) -> fmt::Result {
+        let toggled = self.toggled();
+        let expanded = self.expanded();
+        let selected = self.selected();
+        let disabled = flag(self.is_disabled, "disabled");
+        let read_only = flag(self.is_read_only, "read-only");
+        let required = flag(self.is_required, "required");
+        write!(
+            f,
+            "{toggled}{expanded}{selected}{disabled}{read_only}{required}"
+        )
+    }
+}
+
+/// What is said where something was toggled.
+pub fn toggled_change(
+    toggling: Toggling,
+    old: Option<Toggled>,
+    new: Option<Toggled>,
+) -> Option<&'static str>
+    ensures { option_copied result ≡ new_word same_toggle (toggled_word toggling) old new }
+{
+    match (old, new) {
+        (_, None) => None,
+        (None, Some(toggled)) => Some(toggled_word(toggling, toggled)),
+        (Some(old), Some(new)) if old == new => None,
+        (Some(_), Some(new)) => Some(toggled_word(toggling, new)),
+    }
+}
+
+/// What is said where something was expanded or collapsed.
+pub fn expanded_change(old: Option<bool>, new: Option<bool>) -> Option<&'static str>
+    ensures { option_copied result ≡ new_word same_flag expanded_word old new }
+{
+    match (old, new) {
+        (_, None) => None,
+        (None, Some(is_expanded)) => Some(expanded_word(is_expanded)),
+        (Some(old), Some(new)) if old == new => None,
+        (Some(_), Some(new)) => Some(expanded_word(new)),
+    }
+}
+
+/// What is said where something was selected, or is no more.
+pub fn selected_change(old: Option<bool>, new: Option<bool>) -> Option<&'static str>
+    ensures { option_copied result ≡ new_word same_flag selected_word old new }
+{
+    match (old, new) {
+        (_, None) => None,
+        (None, Some(is_selected)) => Some(selected_word(is_selected)),
+        (Some(old), Some(new)) if old == new => None,
+        (Some(_), Some(new)) => Some(selected_word(new)),
+    }
+}
+
+/// What is said of a flag that has changed: one word where it is set, and another where it is no more.
+pub fn flag_change(
+    old: bool,
+    new: bool,
+    on: &'static str,
+    off: &'static str,
+) -> Option<&'static str>
+    ensures { option_copied result ≡ flag_word on.now off.now old new }
+{
+    match (old, new) {
+        (false, true) => Some(on),
+        (true, false) => Some(off),
+        _ => None,
+    }
+}
+
+/// How a change of a live region is told.
+pub(crate) fn live_word(live: Live) -> &'static str
+    ensures { result.now ≡ live_word live }
+{
+    match live {
+        Live::Off => "off",
+        Live::Polite => "polite",
+        Live::Assertive => "assertive",
+    }
+}

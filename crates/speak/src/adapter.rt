@@ -1,0 +1,133 @@
+//! Keeps a speaker beside a tree, and a mirror that knows where the focus is.
+ghost use Rattle.std.specs.Prelude.{◌≡◌, ◌≤◌, ◌≢◌, IfSome, IsSomeAnd, IfOk, OnOk};
+ghost use Rattle.model.specs.Mirror.{AreRecordsOf};
+ghost use Rattle.views.specs.ShownWorlds.{world_of};
+ghost use Rattle.speak.specs.Steps.{IsBegun, StepsHeard, SaysAtEnd, SpokenStep};
+
+use accesskit_consumer::StateRef;
+use accesskit_consumer::tree::{Mirror, UpdateError};
+use atree_script::{Player, Stop, end_run, play};
+use session::{Command, Reply, Session};
+use speaking::Speaker;
+use std::alloc::Global;
+use std::io::{BufRead, Write};
+
+/// Runs a script to its end, or to what stops it, and writes what a screen reader would say of it. Answers the exit status, as
+/// [`atree_script::run_script`] has it; an update that finds no memory is an end too, since what it would have said is lost.
+/// What is asked and printed in the script says nothing.
+pub(crate) fn speak<R: BufRead, O: Write, E: Write>(
+    alloc: Global,
+    input: &mut R,
+    output: &mut O,
+    errors: &mut E,
+) -> u8
+    ensures bound { result ≤ 4 }
+    ensures not_one { result ≢ 1 }
+{
+    let (ended, number) = play_aloud(alloc, input, output);
+    end_run(ended, number, output, errors)
+}
+
+/// Runs a script, and writes what a screen reader would say of it. Answers how the run ended, and the number of the last line that
+/// was read.
+fn play_aloud<R: BufRead, O: Write>(
+    alloc: Global,
+    input: &mut R,
+    output: &mut O,
+) -> (Result<(), Stop>, u64) {
+    let mut adapter = Adapter {
+        alloc,
+        told: None,
+        output: &mut *output,
+    };
+    let played = play(alloc, input, &mut adapter);
+    (played.ended, played.number)
+}
+
+/// A speaker and a mirror beside a tree, and where what is said is written.
+#[derive(Drop)]
+struct Adapter<'a, O> {
+    alloc: Global,
+    /// Once there is a tree.
+    told: Option<(Speaker, Mirror)>,
+    output: &'a mut O,
+}
+
+impl<'a, O: Write> Player for Adapter<'a, O> {
+    fn begin(&mut self, session: &Session) -> Result<(), Stop> {
+        let mut told = begun(self.alloc, session)?;
+        let written = write_said(&mut told, session.tree().state().view(), self.output);
+        self.told = Some(told);
+        written
+    }
+
+    fn run(&mut self, session: &mut Session, command: Command) -> Result<(), Stop> {
+        match &mut self.told {
+            Some(told) => speak_step(session, command, told, self.output),
+            None => Ok(()),
+        }
+    }
+}
+
+/// A speaker that has said where the focus is as a tree begins, and a mirror that has the records of that tree.
+fn begun(alloc: Global, session: &Session) -> Result<(Speaker, Mirror), Stop>
+    ensures speaker { IfOk result (λ told. IsBegun session.now told.0) }
+    ensures mirror { IfOk result (λ told. IsSomeAnd told.1 (AreRecordsOf session.now)) }
+{
+    let mirror = Mirror::new(alloc, session.tree())?;
+    let mut speaker = Speaker::new(alloc);
+    speaker.begin(session.tree().state().view());
+    Ok((speaker, mirror))
+}
+
+/// Runs a command, of whose events the speaker and the mirror are told, and writes what is said of it. A mirror that has the records
+/// of the session's tree has them afterwards too.
+fn speak_step<O: Write>(
+    session: &mut Session,
+    command: Command,
+    told: &mut (Speaker, Mirror),
+    output: &mut O,
+) -> Result<(), Stop>
+    ensures spoken { let before = O.contents output.old in let after = O.contents output.new in
+        OnOk result (SpokenStep session.old command session.new told.old told.new before after) }
+    ensures mirrored { OnOk result (IsSomeAnd told.old.1 (AreRecordsOf session.old) → IfSome told.new.1 (AreRecordsOf session.new)) }
+{
+    step(session, command, told)?;
+    write_said(told, session.tree().state().view(), output)
+}
+
+/// Runs a command, of whose events the speaker and the mirror are told. A mirror that has the records of the session's tree has
+/// them afterwards too, while it finds memory.
+fn step(session: &mut Session, command: Command, told: &mut (Speaker, Mirror)) -> Result<(), Stop>
+    ensures heard { StepsHeard session.old command session.new told.old told.new }
+    ensures mirrored { IsSomeAnd told.old.1 (AreRecordsOf session.old) → IfSome told.new.1 (AreRecordsOf session.new) }
+{
+    match session.step(command, told)? {
+        Reply::Refused(UpdateError::Memory) => Err(Stop::Memory),
+        _ => Ok(()),
+    }
+}
+
+/// Writes what was said at a step, after what is said at its end. Where no memory was found, what was said before that is
+/// written, and the run stops.
+fn write_said<O: Write>(
+    told: &mut (Speaker, Mirror),
+    view: StateRef,
+    output: &mut O,
+) -> Result<(), Stop>
+    ensures said { let before = O.contents output.old in let after = O.contents output.new in
+        OnOk result (SaysAtEnd (world_of view.entry) told.old.1 told.old.0 told.new.0 before after) }
+    ensures mirror { told.new.1 ≡ told.old.1 }
+{
+    let Some(focus) = told.1.focus() else {
+        output.write_all(told.0.said().as_bytes())?;
+        return Err(Stop::Memory);
+    };
+    told.0.settle(view, focus);
+    output.write_all(told.0.said().as_bytes())?;
+    told.0.clear_said();
+    if told.0.is_silent() {
+        return Err(Stop::Memory);
+    }
+    Ok(())
+}

@@ -1,0 +1,108 @@
+-- What is said of the text that has the focus, once all events are told.
+use Rattle.std.specs.Prelude.{◌≡◌, ◌≢◌, ℕ, List, [], ◌∷◌, ◌++◌, true, false, IsTrue, Option, Some, None, IfSome, IsSome, option_map, option_and_then, unwrap_or, ◌⊎◌, if◌then◌else◌}
+use Rattle.std.specs.String.{string_bytes}
+use Rattle.schema.specs.NodeData.{NodeData}
+use Rattle.model.specs.declared.FullNodeId.{FullNodeId}
+use Rattle.model.specs.FlatText.{flat_text}
+use Rattle.model.specs.Forest.{is_same}
+use Rattle.model.specs.Moves.{to_line_index}
+use Rattle.model.specs.Ranges.{text_of, selection_focus}
+use Rattle.model.specs.RoleClasses.{is_multiline}
+use Rattle.model.specs.TextRuns.{supports_text_ranges}
+use Rattle.model.specs.Upward.{says}
+use Rattle.model.specs.Values.{document_text, value_of}
+use Rattle.model.specs.World.{World, HasData}
+use Rattle.phrases.specs.declared.differences.Change.{Change}
+use Rattle.phrases.specs.declared.sayings.Saying.TheVariants.{Changed}
+use Rattle.phrases.specs.Differences.{IsDifference}
+use Rattle.phrases.specs.Sayings.{saying, caret_line}
+use Rattle.phrases.specs.Voices.{Speech, said_too, all_said}
+use Rattle.texts.specs.FoundRanges.{range_of_line}
+use Rattle.speaking.specs.declared.edits.FocusedText.{FocusedText}
+use Rattle.speaking.specs.declared.speaker.Speaker.{Speaker}
+use Rattle.speaking.specs.NodeTexts.{is_edited}
+
+-- the text of the runs, or else the value
+abbrev pub edited_text : World → FullNodeId → List ℕ
+edited_text w id = if supports_text_ranges w id then document_text w id else unwrap_or (value_of w id) []
+
+-- the number of the line on which the caret is
+abbrev pub caret_index : World → FullNodeId → Option ℕ
+caret_index w id = option_map (to_line_index (flat_text w id)) (selection_focus w id)
+
+-- the text of a line, by its number
+abbrev pub text_of_line : World → FullNodeId → ℕ → Option (List ℕ)
+text_of_line w id k = if supports_text_ranges w id then option_map (text_of (flat_text w id)) (range_of_line (flat_text w id) k) else None
+
+-- a line of a text, without the newline at its end
+abbrev pub IsWithoutNewline : List ℕ → List ℕ → Type 0
+IsWithoutNewline text line = (text ≡ line ++ 10 ∷ []) ⊎ ((text ≡ line) × ((front : List ℕ) → text ≢ front ++ 10 ∷ []))
+
+abbrev pub SaysText : Option (List ℕ) → Speech → Speech → Type 0
+SaysText None v u = u ≡ v
+SaysText (Some text) v u = (line : List ℕ) × IsWithoutNewline text line × (u ≡ said_too v (caret_line line))
+
+abbrev pub SaysLine : World → FullNodeId → Option ℕ → Speech → Speech → Type 0
+SaysLine w id None v u = u ≡ v
+SaysLine w id (Some k) v u = SaysText (text_of_line w id k) v u
+
+-- the text as it is, and where its caret is
+pub record IsReadOf (w : World) (id : FullNodeId) (t : FocusedText) : Type 0 where
+  pub node : t.id ≡ id
+  pub text : string_bytes t.text ≡ edited_text w id
+  pub line : t.line ≡ caret_index w id
+
+-- the line to which the caret has come, where it was on another one
+pub record SaysCaret (w : World) (id : FullNodeId) (before now : Option ℕ) (v u : Speech) : Type 0 where
+  pub moved : before ≢ now → SaysLine w id now v u
+  pub stayed : before ≡ now → u ≡ v
+
+-- a text that has the focus as before: what was removed and typed, or else the line to which the caret has come
+pub record SaysEdit (w : World) (id : FullNodeId) (before now : FocusedText) (v u : Speech) : Type 0 where
+  pub typed : string_bytes before.text ≢ string_bytes now.text →
+      (c : Change) × IsDifference (string_bytes before.text) (string_bytes now.text) c.removed.now c.typed.now × (u ≡ said_too v (saying (Changed c)))
+  pub same : string_bytes before.text ≡ string_bytes now.text → SaysCaret w id before.line now.line v u
+
+-- a text to which the focus has come: the line of the caret, where it can have several
+abbrev pub SaysArrival : World → FullNodeId → FocusedText → Speech → Speech → Type 0
+SaysArrival w id now v u = (says (λ d. is_multiline d.role) w id ≡ true → SaysLine w id now.line v u) × (says (λ d. is_multiline d.role) w id ≡ false → u ≡ v)
+
+-- what is held of a text, where that is the node's
+abbrev pub held_of : FullNodeId → Option FocusedText → Option FocusedText
+held_of id held = option_and_then (λ t. if is_same t.id id then Some t else None) held
+
+abbrev pub SaysTextOf : World → FullNodeId → Option FocusedText → FocusedText → Speech → Speech → Type 0
+SaysTextOf w id None now v u = SaysArrival w id now v u
+SaysTextOf w id (Some before) now v u = SaysEdit w id before now v u
+
+-- what is new of the node's text, of which something else may be held
+abbrev pub SaysEdited : World → FullNodeId → Option FocusedText → FocusedText → Speech → Speech → Type 0
+SaysEdited w id held now v u = IsReadOf w id now × SaysTextOf w id (held_of id held) now v u
+
+-- of no text nothing is said or held
+abbrev pub SaysOf : World → Option FullNodeId → Option FocusedText → Option FocusedText → Speech → Speech → Type 0
+SaysOf w None held now v u = (now ≡ None) × (u ≡ v)
+SaysOf w (Some id) held now v u = IfSome now (λ t. SaysEdited w id held t v u) × IsSome now
+
+-- what is typed into the focus is said of its text
+abbrev pub IsEdited : World → Option FullNodeId → Option FullNodeId → Type 0
+IsEdited w focus None = (id : FullNodeId) (d : NodeData) → focus ≡ Some id → HasData w id d → is_edited d ≡ false
+IsEdited w focus (Some id) = (focus ≡ Some id) × ((d : NodeData) × HasData w id d × (is_edited d ≡ true))
+
+-- what is said of the text that has the focus, where what is typed into it is said of that
+pub record SaysFocused (w : World) (focus : Option FullNodeId) (held now : Option FocusedText) (v u : Speech) : Type 0 where
+  pub node : Option FullNodeId
+  pub edited : IsEdited w focus node
+  pub says : SaysOf w node held now v u
+
+-- that, and then what has waited
+pub record SaysEnd (w : World) (focus : Option FullNodeId) (held now : Option FocusedText) (v u : Speech) : Type 0 where
+  pub between : Speech
+  pub text : SaysFocused w focus held now v between
+  pub waited : u ≡ all_said between
+
+-- What is said at the end of a step, where this one has the focus. A speaker that finds no memory falls silent, and one that is
+-- silent does nothing.
+pub record Settles (w : World) (focus : Option FullNodeId) (s t : Speaker) : Type 0 where
+  pub silent : IsTrue s.is_silent → t ≡ s
+  pub says : t.is_silent ≡ false → SaysEnd w focus s.text t.text s.voice t.voice

@@ -1,0 +1,103 @@
+//! What has changed on the node that has the focus.
+ghost use Rattle.std.specs.Prelude.{◌≡◌, ℕ, List, OnOk, option_copied};
+ghost use Rattle.phrases.specs.Sayings.{state_line};
+ghost use Rattle.views.specs.Nodes.{data_at, seen_node};
+ghost use Rattle.speaking.specs.Changes.{said_if, label_said, value_change, toggles_said, flags_said, SaysChange};
+
+use crate::reading::{is_edited, shown_value, state_of};
+use accesskit_consumer::NodeRef;
+use phrases::{
+    Saying, State, Voice, expanded_change, flag_change, news, selected_change, toggled_change,
+};
+use std::alloc::{AllocError, Global};
+
+/// Says the label where it is new.
+fn say_label(alloc: Global, voice: &mut Voice, old: NodeRef, new: NodeRef) -> Result<(), AllocError>
+    ensures { OnOk result (voice.new ≡ label_said (seen_node old.entry) (seen_node new.entry) voice.old) }
+{
+    let before = old.label(alloc)?;
+    let now = new.label(alloc)?;
+    match news(before.as_deref(), now.as_deref()) {
+        Some(label) => voice.say(Saying::Named(label)),
+        None => Ok(()),
+    }
+}
+
+/// Says the value where it is new, unless what is typed is said.
+fn say_value(alloc: Global, voice: &mut Voice, old: NodeRef, new: NodeRef) -> Result<(), AllocError>
+    ensures { let o = old.entry in let n = new.entry in
+        OnOk result (voice.new ≡ value_change (seen_node o) (data_at o) (seen_node n) (data_at n) voice.old) }
+{
+    if is_edited(new) {
+        return Ok(());
+    }
+    let before = shown_value(alloc, old)?;
+    let now = shown_value(alloc, new)?;
+    match news(before.as_deref(), now.as_deref()) {
+        Some(value) => voice.say(Saying::Valued(value)),
+        None => Ok(()),
+    }
+}
+
+/// Says a word of the state, where there is one to say.
+fn say_word(voice: &mut Voice, word: Option<&str>) -> Result<(), AllocError>
+    ensures { OnOk result (voice.new ≡ said_if state_line (option_copied word.entry) voice.old) }
+{
+    match word {
+        Some(word) => voice.say(Saying::Is(word)),
+        None => Ok(()),
+    }
+}
+
+/// Says what was toggled, expanded or selected.
+fn say_toggles(voice: &mut Voice, before: State, now: State) -> Result<(), AllocError>
+    ensures { OnOk result (voice.new ≡ toggles_said before now voice.old) }
+{
+    let toggled = toggled_change(now.toggling, before.toggled, now.toggled);
+    say_word(voice, toggled)?;
+    say_word(voice, expanded_change(before.expanded, now.expanded))?;
+    say_word(voice, selected_change(before.selected, now.selected))
+}
+
+/// Says which flags are another way.
+fn say_flags(voice: &mut Voice, before: State, now: State) -> Result<(), AllocError>
+    ensures { OnOk result (voice.new ≡ flags_said before now voice.old) }
+{
+    let disabled = flag_change(before.is_disabled, now.is_disabled, "disabled", "enabled");
+    say_word(voice, disabled)?;
+    let read_only = flag_change(
+        before.is_read_only,
+        now.is_read_only,
+        "read-only",
+        "editable",
+    );
+    say_word(voice, read_only)?;
+    let required = flag_change(
+        before.is_required,
+        now.is_required,
+        "required",
+        "not required",
+    );
+    say_word(voice, required)
+}
+
+/// Says what is new of the node that had the focus and has it.
+///
+/// # Errors
+///
+/// `AllocError`: there is no memory for what is said.
+pub(crate) fn say_change(
+    alloc: Global,
+    voice: &mut Voice,
+    old: NodeRef,
+    new: NodeRef,
+) -> Result<(), AllocError>
+    ensures { OnOk result (SaysChange (seen_node old.entry) (seen_node new.entry) voice.old voice.new) }
+{
+    say_label(alloc, voice, old, new)?;
+    say_value(alloc, voice, old, new)?;
+    let before = state_of(old);
+    let now = state_of(new);
+    say_toggles(voice, before, now)?;
+    say_flags(voice, before, now)
+}

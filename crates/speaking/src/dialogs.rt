@@ -1,0 +1,126 @@
+//! Where the focus comes to: the dialog that it enters, and the node.
+ghost use Rattle.std.specs.Prelude.{◌≡◌, ◌↔◌, true, false, IsTrue, IfSome, OnOk, option_map, option_copied};
+ghost use Rattle.model.specs.Focus.{IsActiveDialog};
+ghost use Rattle.model.specs.Labels.{label_of};
+ghost use Rattle.views.specs.Nodes.{world_at, id_at, data_at, seen_node, seen_through};
+ghost use Rattle.speaking.specs.Dialogs.{WasInside, WasOutside, Enters, ShowsDialog, SaysDialog, SaysEntered, SaysMove, SaysMoved};
+
+use crate::focus::say_focus;
+use accesskit_consumer::{FullNodeId, NodeRef};
+use phrases::{Dialog, Saying, Voice, news, role_word};
+use std::alloc::{AllocError, Global};
+
+/// Whether the ids name one node.
+pub(crate) fn is_same(a: FullNodeId, b: FullNodeId) -> bool
+    ensures { IsTrue result ↔ (a ≡ b) }
+{
+    a == b
+}
+
+/// The dialog in which the focus is, in the state of a node.
+fn dialog_around<'a>(node: NodeRef<'a>) -> Option<NodeRef<'a>>
+    ensures world { IfSome result (λ dialog. world_at dialog ≡ world_at node.entry) }
+    ensures dialog { IsActiveDialog (world_at node.entry) (option_map id_at result) }
+{
+    node.tree_state().active_dialog()
+}
+
+/// Whether this was the dialog of the old focus.
+fn was_inside(old: Option<&NodeRef<'_>>, dialog: FullNodeId) -> bool
+    ensures inside { result ≡ true → WasInside (seen_through old.entry) dialog }
+    ensures outside { result ≡ false → WasOutside (seen_through old.entry) dialog }
+{
+    let Some(node) = old else {
+        return false;
+    };
+    let Some(before) = dialog_around(*node) else {
+        return false;
+    };
+    is_same(before.id(), dialog)
+}
+
+/// The dialog that the focus has entered. One that has the focus itself is said as that.
+fn entered<'a>(old: Option<&NodeRef<'_>>, new: NodeRef<'a>) -> Option<NodeRef<'a>>
+    ensures world { IfSome result (λ dialog. world_at dialog ≡ world_at new.entry) }
+    ensures enters { Enters (seen_through old.entry) (seen_node new.entry) (option_map id_at result) }
+{
+    let Some(dialog) = dialog_around(new) else {
+        return None;
+    };
+    if is_same(dialog.id(), new.id()) {
+        return None;
+    }
+    if was_inside(old, dialog.id()) {
+        return None;
+    }
+    Some(dialog)
+}
+
+/// What is said of a dialog with this label, which may be empty.
+fn dialog_of<'a>(node: NodeRef, label: Option<&'a str>) -> Dialog<'a>
+    requires { option_copied label ≡ label_of (world_at node) (id_at node) }
+    ensures { ShowsDialog (world_at node.entry) (id_at node.entry) (data_at node.entry) result }
+{
+    Dialog {
+        role: role_word(node.role()),
+        label: news(None, label),
+        is_modal: node.is_modal(),
+    }
+}
+
+/// Names a dialog.
+fn say_dialog(alloc: Global, voice: &mut Voice, node: NodeRef) -> Result<(), AllocError>
+    ensures { OnOk result (SaysDialog (world_at node.entry) (id_at node.entry) voice.old voice.new) }
+{
+    let label = node.label(alloc)?;
+    voice.say(Saying::InDialog(dialog_of(node, label.as_deref())))
+}
+
+/// Names the dialog that was entered, where one was.
+fn say_entered(
+    alloc: Global,
+    voice: &mut Voice,
+    entered: Option<NodeRef>,
+    new: NodeRef,
+) -> Result<(), AllocError>
+    requires { IfSome entered (λ dialog. world_at dialog ≡ world_at new) }
+    ensures { let w = world_at new.entry in
+        OnOk result (SaysEntered w (option_map id_at entered.entry) voice.old voice.new) }
+{
+    match entered {
+        Some(dialog) => say_dialog(alloc, voice, dialog),
+        None => Ok(()),
+    }
+}
+
+/// Says where the focus has come to: the dialog that it has entered, and the node.
+fn say_come(
+    alloc: Global,
+    voice: &mut Voice,
+    old: Option<&NodeRef>,
+    new: NodeRef,
+) -> Result<(), AllocError>
+    ensures { OnOk result (SaysMove (seen_through old.entry) (seen_node new.entry) voice.old voice.new) }
+{
+    say_entered(alloc, voice, entered(old, new), new)?;
+    say_focus(alloc, voice, new)
+}
+
+/// Says where the focus is now, if it is anywhere.
+///
+/// # Errors
+///
+/// `AllocError`: there is no memory for what is said.
+pub(crate) fn say_move(
+    alloc: Global,
+    voice: &mut Voice,
+    old: Option<&NodeRef>,
+    new: Option<&NodeRef>,
+) -> Result<(), AllocError>
+    ensures { OnOk result (SaysMoved (seen_through old.entry) (seen_through new.entry) voice.old voice.new) }
+{
+    match new {
+        Some(node) => say_come(alloc, voice, old, *node),
+        None => Ok(()),
+    }
+}

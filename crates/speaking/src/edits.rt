@@ -1,0 +1,267 @@
+//! The text that has the focus: what is typed into it, and where its caret is.
+ghost use Rattle.std.specs.Prelude.{◌≡◌, ◌↔◌, [], IsTrue, IfOk, IfSome, OnOk, unwrap_or, option_map, option_copied, string_bytes};
+ghost use Rattle.model.specs.Values.{document_text, value_of};
+ghost use Rattle.texts.specs.NodeTexts.{root_of};
+ghost use Rattle.views.specs.ShownWorlds.{world_of};
+ghost use Rattle.views.specs.Nodes.{world_at, id_at};
+ghost use Rattle.speaking.specs.Edits.{edited_text, caret_index, text_of_line, IsWithoutNewline, SaysText, SaysLine, SaysCaret, IsReadOf, SaysEdit, SaysArrival, held_of, SaysTextOf, SaysEdited, IsEdited, SaysFocused, SaysEnd};
+
+use crate::dialogs::is_same;
+use crate::reading::is_edited;
+use accesskit_consumer::text::{NodeText, Text, TextSelections};
+use accesskit_consumer::{FullNodeId, NodeRef, StateRef};
+use phrases::{Saying, Voice, edit};
+use std::alloc::{AllocError, Global};
+
+/// A text that has the focus, as far as it was said.
+#[derive(Drop)]
+pub(crate) struct FocusedText {
+    id: FullNodeId,
+    text: String,
+    /// The line on which the caret is, from 0.
+    line: Option<usize>,
+}
+
+/// The value, and an empty text where there is none.
+fn value_or_empty(alloc: Global, node: NodeRef) -> Result<String, AllocError>
+    ensures { IfOk result (λ text. string_bytes text ≡ unwrap_or (value_of (world_at node.entry) (id_at node.entry)) []) }
+{
+    match node.value(alloc)? {
+        Some(value) => Ok(value),
+        None => Ok(String::new(alloc)),
+    }
+}
+
+/// The whole text of runs. That of a password is masked.
+fn document_text(alloc: Global, text: Text) -> Result<String, AllocError>
+    ensures { let n = root_of text.entry in
+        IfOk result (λ it. string_bytes it ≡ document_text (world_at n) (id_at n)) }
+{
+    text.range().text(alloc)
+}
+
+/// The text that is typed into: that of the runs, or else the value.
+fn edited_text(alloc: Global, node: NodeRef) -> Result<String, AllocError>
+    ensures { IfOk result (λ text. string_bytes text ≡ edited_text (world_at node.entry) (id_at node.entry)) }
+{
+    match node.text() {
+        Some(text) => document_text(alloc, text),
+        None => value_or_empty(alloc, node),
+    }
+}
+
+/// The line on which the caret is, from 0.
+fn caret_index(node: NodeRef) -> Option<usize>
+    ensures { result ≡ caret_index (world_at node.entry) (id_at node.entry) }
+{
+    let caret = node.text_selection_focus()?;
+    Some(caret.to_line_index())
+}
+
+/// The text of a line, by its number from 0.
+fn text_of_line(alloc: Global, node: NodeRef, line: usize) -> Result<Option<String>, AllocError>
+    ensures { let n = node.entry in
+        IfOk result (λ text. option_map string_bytes text ≡ text_of_line (world_at n) (id_at n) line) }
+{
+    let Some(text) = node.text() else {
+        return Ok(None);
+    };
+    match text.line(line) {
+        Some(range) => Ok(Some(range.text(alloc)?)),
+        None => Ok(None),
+    }
+}
+
+/// The text without the newline at its end.
+fn without_newline(text: &str) -> &str
+    ensures { IsWithoutNewline text.now result.now }
+{
+    match text.strip_suffix('\n') {
+        Some(line) => line,
+        None => text,
+    }
+}
+
+/// Says the text of a line, where there is one.
+fn say_text(voice: &mut Voice, text: Option<&str>) -> Result<(), AllocError>
+    ensures { OnOk result (SaysText (option_copied text.entry) voice.old voice.new) }
+{
+    match text {
+        Some(text) => voice.say(Saying::OnLine(without_newline(text))),
+        None => Ok(()),
+    }
+}
+
+/// Says the line of this number.
+fn say_line(
+    alloc: Global,
+    voice: &mut Voice,
+    node: NodeRef,
+    line: Option<usize>,
+) -> Result<(), AllocError>
+    ensures { let n = node.entry in OnOk result (SaysLine (world_at n) (id_at n) line voice.old voice.new) }
+{
+    let Some(line) = line else {
+        return Ok(());
+    };
+    let text = text_of_line(alloc, node, line)?;
+    say_text(voice, text.as_deref())
+}
+
+/// The text of a node as it is, and where its caret is.
+fn read(alloc: Global, node: NodeRef) -> Result<FocusedText, AllocError>
+    ensures { IfOk result (IsReadOf (world_at node.entry) (id_at node.entry)) }
+{
+    Ok(FocusedText {
+        id: node.id(),
+        text: edited_text(alloc, node)?,
+        line: caret_index(node),
+    })
+}
+
+/// Whether the carets are on one line.
+fn is_same_line(before: Option<usize>, now: Option<usize>) -> bool
+    ensures { IsTrue result ↔ (before ≡ now) }
+{
+    before == now
+}
+
+/// Says the line to which the caret has come, where it was on another one.
+fn say_caret(
+    alloc: Global,
+    voice: &mut Voice,
+    node: NodeRef,
+    before: Option<usize>,
+    now: Option<usize>,
+) -> Result<(), AllocError>
+    ensures { let n = node.entry in
+        OnOk result (SaysCaret (world_at n) (id_at n) before now voice.old voice.new) }
+{
+    if is_same_line(before, now) {
+        return Ok(());
+    }
+    say_line(alloc, voice, node, now)
+}
+
+/// Says what was removed and typed, or else the line to which the caret has come.
+fn say_edit(
+    alloc: Global,
+    voice: &mut Voice,
+    node: NodeRef,
+    before: &FocusedText,
+    now: &FocusedText,
+) -> Result<(), AllocError>
+    ensures { let n = node.entry in
+        OnOk result (SaysEdit (world_at n) (id_at n) before.now now.now voice.old voice.new) }
+{
+    match edit(before.text.as_str(), now.text.as_str()) {
+        Some(change) => voice.say(Saying::Changed(change)),
+        None => say_caret(alloc, voice, node, before.line, now.line),
+    }
+}
+
+/// Says the line of the caret in a text to which the focus has come, where it can have several.
+fn say_arrival(
+    alloc: Global,
+    voice: &mut Voice,
+    node: NodeRef,
+    now: &FocusedText,
+) -> Result<(), AllocError>
+    ensures { let n = node.entry in
+        OnOk result (SaysArrival (world_at n) (id_at n) now.now voice.old voice.new) }
+{
+    if !node.is_multiline() {
+        return Ok(());
+    }
+    say_line(alloc, voice, node, now.line)
+}
+
+/// The text, where it is that of the node.
+fn of_node(held: Option<FocusedText>, id: FullNodeId) -> Option<FocusedText>
+    ensures { result ≡ held_of id held }
+{
+    let held = held?;
+    if is_same(held.id, id) {
+        Some(held)
+    } else {
+        None
+    }
+}
+
+/// Says what is new of a text, of which this was said before.
+fn say_text_of(
+    alloc: Global,
+    voice: &mut Voice,
+    node: NodeRef,
+    before: Option<FocusedText>,
+    now: &FocusedText,
+) -> Result<(), AllocError>
+    ensures { let n = node.entry in
+        OnOk result (SaysTextOf (world_at n) (id_at n) before now.now voice.old voice.new) }
+{
+    match before {
+        Some(before) => say_edit(alloc, voice, node, &before, now),
+        None => say_arrival(alloc, voice, node, now),
+    }
+}
+
+/// Reads the text of a node, and says what is new of it.
+fn say_edited(
+    alloc: Global,
+    voice: &mut Voice,
+    held: Option<FocusedText>,
+    node: NodeRef,
+) -> Result<FocusedText, AllocError>
+    ensures { let n = node.entry in
+        IfOk result (λ now. SaysEdited (world_at n) (id_at n) held now voice.old voice.new) }
+{
+    let now = read(alloc, node)?;
+    say_text_of(alloc, voice, node, of_node(held, now.id), &now)?;
+    Ok(now)
+}
+
+/// The node that has the focus, where what is typed into it is said of its text.
+fn edited_node<'a>(state: StateRef<'a>, focus: Option<FullNodeId>) -> Option<NodeRef<'a>>
+    ensures world { IfSome result (λ node. world_at node ≡ world_of state.entry) }
+    ensures node { IsEdited (world_of state.entry) focus (option_map id_at result) }
+{
+    let node = state.node_by_id(focus?)?;
+    if is_edited(node) { Some(node) } else { None }
+}
+
+/// Says what is new of the text that has the focus, if it is one, and gives it.
+fn say_focused(
+    alloc: Global,
+    voice: &mut Voice,
+    held: Option<FocusedText>,
+    state: StateRef,
+    focus: Option<FullNodeId>,
+) -> Result<Option<FocusedText>, AllocError>
+    ensures { let w = world_of state.entry in
+        IfOk result (λ now. SaysFocused w focus held now voice.old voice.new) }
+{
+    let Some(node) = edited_node(state, focus) else {
+        return Ok(None);
+    };
+    Ok(Some(say_edited(alloc, voice, held, node)?))
+}
+
+/// Says what is new of the text that has the focus, and then what has waited, and gives the text.
+///
+/// # Errors
+///
+/// `AllocError`: there is no memory for what is said.
+pub(crate) fn say_end(
+    alloc: Global,
+    voice: &mut Voice,
+    held: Option<FocusedText>,
+    state: StateRef,
+    focus: Option<FullNodeId>,
+) -> Result<Option<FocusedText>, AllocError>
+    ensures { let w = world_of state.entry in
+        IfOk result (λ now. SaysEnd w focus held now voice.old voice.new) }
+{
+    let now = say_focused(alloc, voice, held, state, focus)?;
+    voice.say_waiting()?;
+    Ok(now)
+}
