@@ -1,0 +1,4 @@
+pub mod Carrying
+pub mod Focused
+pub mod Secrets
+pub mod Viewed

@@ -1,0 +1,67 @@
+-- What is known of a node, and what follows from it below.
+use Rattle.std.specs.Prelude.{◌≡◌, ◌+ℤ◌, Bool, true, false, Option, Some, None, IfSome, option_map, option_and_then, find, if◌then◌else◌}
+use Rattle.std.specs.List.{list_any}
+use Rattle.schema.specs.declared.geometry.Translation.{Translation}
+use Rattle.schema.specs.declared.geometry.WideTranslation.{WideTranslation}
+use Rattle.schema.specs.declared.geometry.WideRect.{WideRect}
+use Rattle.model.specs.declared.FullNodeId.{FullNodeId}
+use Rattle.model.specs.declared.filters.FilterResult.{FilterResult}
+use Rattle.model.specs.declared.filters.FilterResult.TheVariants.{Include, ExcludeNode}
+use Rattle.model.specs.World.{World}
+use Rattle.model.specs.Forest.{place_of}
+use Rattle.model.specs.Lists.{ancestors}
+use Rattle.model.specs.Upward.{says, says_upward, upward}
+use Rattle.model.specs.RoleClasses.{is_password_input}
+use Rattle.model.specs.Geometry.{transform, bounding_box, meets}
+use Rattle.model.specs.Covers.{is_included}
+use Rattle.model.specs.Filters.{is_hidden, base_filter, common_filter}
+use Rattle.page.specs.declared.carried.Known.{Known}
+use Rattle.page.specs.declared.carried.Step.{Step}
+
+-- a node's own move, and how far those above it move it
+abbrev pub sum_of : Translation → WideTranslation → WideTranslation
+sum_of own above = record { x = own.x +ℤ above.x; y = own.y +ℤ above.y }
+
+-- the box by which a node clips the nodes below it
+abbrev pub clip_frame : World → FullNodeId → Option WideRect
+clip_frame w id = if says (λ d. d.clips_children) w id then bounding_box w id else None
+
+-- what clips the nodes right below a node, or those that it passes on
+abbrev pub frame_below : World → FullNodeId → Option WideRect
+frame_below w id = option_and_then (clip_frame w) (find (λ a. is_included (base_filter w a)) (upward w id))
+
+-- a node with this box isn't clipped by this frame, so far as that is known
+abbrev pub is_clear : Option (Option WideRect) → Option WideRect → Bool
+is_clear None rect = false
+is_clear (Some None) rect = true
+is_clear (Some (Some frame)) None = true
+is_clear (Some (Some frame)) (Some rect) = meets rect frame
+
+-- includes password inputs alone
+abbrev pub secrets : World → FullNodeId → FilterResult
+secrets w id = if says (λ d. is_password_input d.role) w id then Include else ExcludeNode
+
+-- a password input is above the node
+abbrev pub is_in_secret : World → FullNodeId → Bool
+is_in_secret w id = list_any (says (λ d. is_password_input d.role) w) (ancestors w id)
+
+-- the node is one, or one is above it
+abbrev pub is_secret : World → FullNodeId → Bool
+is_secret w id = says_upward (λ d. is_password_input d.role) w id
+
+-- it is known of this node
+pub record IsKnown (w : World) (id : FullNodeId) (known : Known) : Type 0 where
+  pub shift : known.shift ≡ transform w id
+  pub rect : known.rect ≡ bounding_box w id
+  pub hidden : known.is_hidden ≡ is_hidden w id
+  pub in_secret : known.is_in_password ≡ is_in_secret w id
+  pub secret : known.is_secret ≡ is_secret w id
+  pub answer : known.answer ≡ common_filter w id
+  pub frame : IfSome known.frame (λ frame. frame ≡ frame_below w id)
+
+abbrev pub IsStep : World → Step → Type 0
+IsStep w step = IsKnown w step.id step.known
+
+-- the step is to the node's parent, where there is one
+abbrev pub IsStepAbove : World → FullNodeId → Option Step → Type 0
+IsStepAbove w id above = IfSome above (λ step. (Some step.id ≡ option_map (λ p. p.0) (place_of w id)) × IsStep w step)

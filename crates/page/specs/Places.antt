@@ -1,0 +1,38 @@
+-- The nodes of a state as a page shows them.
+use Rattle.std.specs.Prelude.{◌≡◌, List, [], ◌∷◌, map, All, Option, Some, None}
+use Rattle.model.specs.declared.FullNodeId.{FullNodeId}
+use Rattle.model.specs.World.{World, root_of}
+use Rattle.model.specs.Filters.{is_hidden, common_filter}
+use Rattle.model.specs.Geometry.{bounding_box}
+use Rattle.views.specs.declared.node.node_ref.NodeRef.{NodeRef}
+use Rattle.views.specs.Nodes.{world_at, id_at}
+use Rattle.views.specs.Descendants.{descendants}
+use Rattle.page.specs.declared.places.Place.{Place}
+use Rattle.page.specs.Known.{is_in_secret}
+
+abbrev pub node_at : Place → NodeRef
+node_at place = place.node
+
+-- what a place says is so of its node
+pub record IsPlace (place : Place) : Type 0 where
+  pub answer : place.answer ≡ common_filter (world_at place.node) (id_at place.node)
+  pub hidden : place.is_hidden ≡ is_hidden (world_at place.node) (id_at place.node)
+  pub in_secret : place.is_in_password ≡ is_in_secret (world_at place.node) (id_at place.node)
+  pub box : place.rect ≡ bounding_box (world_at place.node) (id_at place.node)
+
+-- views of these nodes of the world, in their order
+pub record AreNodes (w : World) (ids : List FullNodeId) (nodes : List NodeRef) : Type 0 where
+  pub same : map id_at nodes ≡ ids
+  pub world : All (λ node. world_at node ≡ w) nodes
+
+-- a node and all below it, a parent before its children
+abbrev pub from_node : World → FullNodeId → List FullNodeId
+from_node w top = top ∷ descendants w top
+
+abbrev pub from_root : World → Option FullNodeId → List FullNodeId
+from_root w None = []
+from_root w (Some root) = from_node w root
+
+-- the nodes that a page shows: all
+abbrev pub shown_nodes : World → List FullNodeId
+shown_nodes w = from_root w (root_of w 0)

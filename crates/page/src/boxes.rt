@@ -1,0 +1,137 @@
+//! Rectangles of a picture.
+
+use crate::places::Place;
+use accesskit_consumer::FilterResult;
+use schema::WideRect;
+
+/// A rectangle in units, each axis from the lesser to the greater.
+#[derive(Clone, Copy, Debug, PartialEq, Eq)]
+pub(crate) struct Frame {
+    pub x0: i64,
+    pub y0: i64,
+    pub x1: i64,
+    pub y1: i64,
+}
+
+impl Frame {
+    /// The rectangle of a node. What lies past 64 bits is drawn at their end.
+    pub(crate) fn of(rect: WideRect) -> Frame {
+        Frame {
+            x0: near(rect.x0),
+            y0: near(rect.y0),
+            x1: near(rect.x1),
+            y1: near(rect.y1),
+        }
+    }
+
+    /// How wide it is; 1 at least, so that it is seen.
+    pub(crate) fn width(self) -> u64 {
+        self.x1.abs_diff(self.x0).max(1)
+    }
+
+    /// How high it is; 1 at least, so that it is seen.
+    pub(crate) fn height(self) -> u64 {
+        self.y1.abs_diff(self.y0).max(1)
+    }
+
+    /// The least one that has both in it.
+    fn around(self, other: Frame) -> Frame {
+        Frame {
+            x0: self.x0.min(other.x0),
+            y0: self.y0.min(other.y0),
+            x1: self.x1.max(other.x1),
+            y1: self.y1.max(other.y1),
+        }
+    }
+
+    /// What both have in them.
+    fn within(self, other: Frame) -> Frame {
+        Frame {
+            x0: self.x0.max(other.x0),
+            y0: self.y0.max(other.y0),
+            x1: self.x1.min(other.x1),
+            y1: self.y1.min(other.y1),
+        }
+    }
+
+    /// The same with so much more on each side.
+    pub(crate) fn widened(self, by: u64) -> Frame {
+        let by = i64::try_from(by).unwrap_or(i64::MAX);
+        Frame {
+            x0: self.x0.saturating_sub(by),
+            y0: self.y0.saturating_sub(by),
+            x1: self.x1.saturating_add(by),
+            y1: self.y1.saturating_add(by),
+        }
+    }
+
+    /// The longer side.
+    pub(crate) fn longer_side(self) -> u64 {
+        self.width().max(self.height())
+    }
+}
+
+/// The number, or the end of 64 bits that is nearest to it.
+fn near(number: i128) -> i64 {
+    match i64::try_from(number) {
+        Ok(number) => number,
+        Err(_) if number < 0 => i64::MIN,
+        Err(_) => i64::MAX,
+    }
+}
+
+/// The rectangles that have boxes of nodes in them.
+#[derive(Clone, Copy, Debug, PartialEq, Eq)]
+struct Extent {
+    /// All boxes of nodes that the common filter includes.
+    shown: Option<Frame>,
+    /// All boxes.
+    all: Option<Frame>,
+}
+
+impl Extent {
+    /// The extent with another node's box.
+    fn with(self, place: Place) -> Extent {
+        let Some(rect) = place.rect else {
+            return self;
+        };
+        let frame = Frame::of(rect);
+        let shown = match place.answer {
+            FilterResult::Include => Some(around(self.shown, frame)),
+            _ => self.shown,
+        };
+        Extent {
+            shown,
+            all: Some(around(self.all, frame)),
+        }
+    }
+
+    /// What a picture shows: all boxes that are included, and others as far as they are near to those.
+    fn picture(self) -> Option<Frame> {
+        let all = self.all?;
+        let Some(shown) = self.shown else {
+            return Some(all);
+        };
+        Some(all.within(shown.widened(shown.longer_side() / 8)))
+    }
+}
+
+/// The least rectangle that has both in it, where there is a first one.
+fn around(frame: Option<Frame>, other: Frame) -> Frame {
+    match frame {
+        Some(frame) => frame.around(other),
+        None => other,
+    }
+}
+
+/// What a picture of these nodes shows, where one has a box.
+pub(crate) fn picture_frame(places: &[Place]) -> Option<Frame> {
+    let mut extent = Extent {
+        shown: None,
+        all: None,
+    };
+    for place in places {
+        extent = extent.with(*place);
+    }
+    extent.picture()
+}

@@ -1,0 +1,273 @@
+//! What is known of a node from what is known of its parent, so that a walk down a tree needn't climb from each node.
+ghost use Rattle.std.specs.Prelude.{◌≡◌, ◌+ℤ◌, int_lt, None, Some, IfSome};
+ghost use Rattle.std.specs.Int.{int_min, int_max};
+ghost use Rattle.model.specs.Geometry.{transform, bounding_box, whole_rect, moved_rect};
+ghost use Rattle.model.specs.Filters.{is_hidden as is_hidden_in, is_transparent, first_answer, base_filter, common_filter};
+ghost use Rattle.model.specs.FocusFound.{is_focused};
+ghost use Rattle.model.specs.Covers.{is_included, is_cut_off};
+ghost use Rattle.views.specs.Nodes.{world_at, id_at};
+ghost use Rattle.page.specs.Known.{clip_frame, frame_below, is_clear, is_in_secret, IsKnown, IsStepAbove, sum_of};
+
+use crate::words::is_in_password;
+use accesskit_consumer::{FilterResult, FullNodeId, NodeRef, common_filter};
+use schema::{Rect, Role, Translation, WideRect, WideTranslation};
+use views::node::geometry::ordered;
+
+/// What is known of a node, and what the nodes below it need of that.
+#[derive(Clone, Copy)]
+pub(crate) struct Known {
+    /// By how much it is moved.
+    pub shift: WideTranslation,
+    /// Its box, if it has one.
+    pub rect: Option<WideRect>,
+    /// Whether it or a node above it is hidden.
+    pub is_hidden: bool,
+    /// Whether a password input is above it.
+    pub is_in_password: bool,
+    /// Whether it is one, or one is above it.
+    pub is_secret: bool,
+    /// What the common filter says of it.
+    pub answer: FilterResult,
+    /// What clips the nodes below it, where that is known: the box of the nearest node, from this one upwards, that the base
+    /// rule includes, if it clips its children.
+    pub frame: Option<Option<WideRect>>,
+}
+
+/// A node, and what is known of it.
+#[derive(Clone, Copy)]
+pub(crate) struct Step {
+    pub id: FullNodeId,
+    pub known: Known,
+}
+
+/// What is known of a node, by its parent where that is given.
+pub(crate) fn known_of(node: NodeRef, above: Option<Step>) -> Known
+    requires { IsStepAbove (world_at node) (id_at node) above }
+    ensures { IsKnown (world_at node.entry) (id_at node.entry) result }
+{
+    let shift = shift_of(node, above);
+    let rect = rect_of(node, shift);
+    let is_hidden = is_hidden_at(node, above);
+    let is_in_password = is_in_password_at(node, above);
+    Known {
+        shift,
+        rect,
+        is_hidden,
+        is_in_password,
+        is_secret: node.is_password_input() || is_in_password,
+        answer: answer_of(node, is_hidden, rect, above),
+        frame: frame_of(node, is_hidden, rect, above),
+    }
+}
+
+/// By how much the node is moved.
+fn shift_of(node: NodeRef, above: Option<Step>) -> WideTranslation
+    requires { IsStepAbove (world_at node) (id_at node) above }
+    ensures { result ≡ transform (world_at node.entry) (id_at node.entry) }
+{
+    node.tree_state().know();
+    let Some(step) = above else {
+        return node.transform();
+    };
+    match sum_of(node.direct_transform(), step.known.shift) {
+        Some(shift) => shift,
+        None => node.transform(),
+    }
+}
+
+/// Both moves together, where they fit.
+fn sum_of(own: Translation, above: WideTranslation) -> Option<WideTranslation>
+    ensures { IfSome result (λ sum. sum ≡ sum_of own above) }
+{
+    let x = plus(own.x, above.x)?;
+    let y = plus(own.y, above.y)?;
+    Some(WideTranslation { x, y })
+}
+
+/// The sum, where it fits.
+fn plus(edge: i32, by: i128) -> Option<i128>
+    ensures { IfSome result (λ sum. sum ≡ edge +ℤ by) }
+{
+    i128::from(edge).checked_add(by)
+}
+
+/// The node's box, where it is moved by this much.
+fn rect_of(node: NodeRef, shift: WideTranslation) -> Option<WideRect>
+    requires { shift ≡ transform (world_at node) (id_at node) }
+    ensures { result ≡ bounding_box (world_at node.entry) (id_at node.entry) }
+{
+    match moved(node.raw_bounds()?, shift) {
+        Some(rect) => Some(ordered(rect)),
+        None => node.bounding_box(),
+    }
+}
+
+/// The rectangle, moved by this much, where it fits.
+fn moved(rect: Rect, by: WideTranslation) -> Option<WideRect>
+    ensures { IfSome result (λ it. it ≡ moved_rect (whole_rect rect) by) }
+{
+    let x0 = plus(rect.x0, by.x)?;
+    let y0 = plus(rect.y0, by.y)?;
+    let x1 = plus(rect.x1, by.x)?;
+    let y1 = plus(rect.y1, by.y)?;
+    Some(WideRect { x0, y0, x1, y1 })
+}
+
+/// Whether the node or one above it is hidden.
+fn is_hidden_at(node: NodeRef, above: Option<Step>) -> bool
+    requires { IsStepAbove (world_at node) (id_at node) above }
+    ensures { result ≡ is_hidden_in (world_at node.entry) (id_at node.entry) }
+{
+    node.tree_state().know();
+    match above {
+        Some(step) => node.data().is_hidden() || step.known.is_hidden,
+        None => node.is_hidden(),
+    }
+}
+
+/// Whether a password input is above the node.
+fn is_in_password_at(node: NodeRef, above: Option<Step>) -> bool
+    requires { IsStepAbove (world_at node) (id_at node) above }
+    ensures { result ≡ is_in_secret (world_at node.entry) (id_at node.entry) }
+{
+    node.tree_state().know();
+    match above {
+        Some(step) => step.known.is_secret,
+        None => is_in_password(&node),
+    }
+}
+
+/// Whether the node is focused, as the common filter takes it.
+fn is_focused(node: NodeRef) -> bool
+    ensures { result ≡ is_focused (world_at node.entry) (id_at node.entry) }
+{
+    node.tree_state().know();
+    node.is_focused()
+}
+
+/// Whether the node is a graft, a container or a text run.
+fn is_transparent(node: NodeRef) -> bool
+    ensures { result ≡ is_transparent (world_at node.entry) (id_at node.entry) }
+{
+    node.is_graft() || matches!(node.role(), Role::GenericContainer | Role::TextRun)
+}
+
+/// What the common filter says of the node, which goes by its parent: by what it says of that, and what clips the nodes below it.
+fn answer_of(
+    node: NodeRef,
+    is_hidden: bool,
+    rect: Option<WideRect>,
+    above: Option<Step>,
+) -> FilterResult
+    requires hidden { is_hidden ≡ is_hidden_in (world_at node) (id_at node) }
+    requires rect { rect ≡ bounding_box (world_at node) (id_at node) }
+    requires above { IsStepAbove (world_at node) (id_at node) above }
+    ensures { result ≡ common_filter (world_at node.entry) (id_at node.entry) }
+{
+    if is_focused(node) {
+        return FilterResult::Include;
+    }
+    if is_hidden {
+        return FilterResult::ExcludeSubtree;
+    }
+    if is_transparent(node) {
+        return FilterResult::ExcludeNode;
+    }
+    match above {
+        Some(step) => answer_below(node, rect, step),
+        None => common_filter(&node),
+    }
+}
+
+/// What the common filter says of a node of which nothing is settled by itself, by its parent.
+fn answer_below(node: NodeRef, rect: Option<WideRect>, above: Step) -> FilterResult
+    requires open { first_answer (world_at node) (id_at node) ≡ None }
+    requires rect { rect ≡ bounding_box (world_at node) (id_at node) }
+    requires above { IsStepAbove (world_at node) (id_at node) (Some above) }
+    ensures { result ≡ common_filter (world_at node.entry) (id_at node.entry) }
+{
+    node.tree_state().know();
+    if is_cut_off(above.known.answer) {
+        return FilterResult::ExcludeSubtree;
+    }
+    if is_clear(above.known.frame, rect) {
+        return FilterResult::Include;
+    }
+    common_filter(&node)
+}
+
+/// Whether a node that is answered so is left out with all below it.
+pub(crate) fn is_cut_off(answer: FilterResult) -> bool
+    ensures { result ≡ is_cut_off answer }
+{
+    match answer {
+        FilterResult::Include => false,
+        FilterResult::ExcludeNode => false,
+        FilterResult::ExcludeSubtree => true,
+    }
+}
+
+/// Whether it is known that a node with this box isn't clipped by what clips the nodes below its parent.
+fn is_clear(frame: Option<Option<WideRect>>, rect: Option<WideRect>) -> bool
+    ensures { result ≡ is_clear frame rect }
+{
+    match (frame, rect) {
+        (None, _) => false,
+        (Some(None), _) => true,
+        (Some(Some(_)), None) => true,
+        (Some(Some(frame)), Some(rect)) => meets_across(rect, frame) && meets_along(rect, frame),
+    }
+}
+
+/// Whether the rectangles share a part of the first axis.
+fn meets_across(a: WideRect, b: WideRect) -> bool
+    ensures { result ≡ int_lt (int_max a.x0 b.x0) (int_min a.x1 b.x1) }
+{
+    a.x0.max(b.x0) < a.x1.min(b.x1)
+}
+
+/// Whether they share a part of the second.
+fn meets_along(a: WideRect, b: WideRect) -> bool
+    ensures { result ≡ int_lt (int_max a.y0 b.y0) (int_min a.y1 b.y1) }
+{
+    a.y0.max(b.y0) < a.y1.min(b.y1)
+}
+
+/// What clips the nodes below a node, where that is known.
+fn frame_of(
+    node: NodeRef,
+    is_hidden: bool,
+    rect: Option<WideRect>,
+    above: Option<Step>,
+) -> Option<Option<WideRect>>
+    requires hidden { is_hidden ≡ is_hidden_in (world_at node) (id_at node) }
+    requires rect { rect ≡ bounding_box (world_at node) (id_at node) }
+    requires above { IsStepAbove (world_at node) (id_at node) above }
+    ensures { IfSome result (λ frame. frame ≡ frame_below (world_at node.entry) (id_at node.entry)) }
+{
+    node.tree_state().know();
+    if is_shown(node, is_hidden) {
+        return Some(clip_frame(node, rect));
+    }
+    match above {
+        Some(step) => step.known.frame,
+        None if node.parent_id().is_none() => Some(None),
+        None => None,
+    }
+}
+
+/// Whether the base rule includes the node.
+fn is_shown(node: NodeRef, is_hidden: bool) -> bool
+    requires { is_hidden ≡ is_hidden_in (world_at node) (id_at node) }
+    ensures { result ≡ is_included (base_filter (world_at node.entry) (id_at node.entry)) }
+{
+    is_focused(node) || (!is_hidden && !is_transparent(node))
+}
+
+/// The box by which the node clips the nodes below it.
+fn clip_frame(node: NodeRef, rect: Option<WideRect>) -> Option<WideRect>
+    requires { rect ≡ bounding_box (world_at node) (id_at node) }
+    ensures { result ≡ clip_frame (world_at node.entry) (id_at node.entry) }
+{
+    if node.clips_children() { rect } else { None }
+}

@@ -1,0 +1,48 @@
+//! What an update did to nodes.
+
+use accesskit_consumer::FullNodeId;
+use std::collections::BTreeMap;
+
+/// What an update did to a node of the new state.
+#[derive(Clone, Copy, Debug, PartialEq, Eq)]
+pub(crate) enum Mark {
+    Added,
+    Updated,
+}
+
+/// The nodes that an update added or updated.
+pub(crate) type Marks = BTreeMap<FullNodeId, Mark>;
+
+impl Mark {
+    /// The class of what shows the node.
+    pub(crate) fn class(self) -> &'static str {
+        match self {
+            Mark::Added => "a",
+            Mark::Updated => "u",
+        }
+    }
+
+    /// What is said of the node.
+    pub(crate) fn word(self) -> &'static str {
+        match self {
+            Mark::Added => "added",
+            Mark::Updated => "updated",
+        }
+    }
+}
+
+/// How many nodes an update added, updated and removed, and how often the focus moved.
+#[derive(Clone, Copy, Debug, Default, PartialEq, Eq)]
+pub(crate) struct Tally {
+    pub added: u64,
+    pub updated: u64,
+    pub moved: u64,
+    pub removed: u64,
+}
+
+impl Tally {
+    /// Whether nothing was told.
+    pub(crate) fn is_empty(self) -> bool {
+        self.added == 0 && self.updated == 0 && self.moved == 0 && self.removed == 0
+    }
+}

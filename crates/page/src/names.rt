@@ -1,0 +1,83 @@
+//! Writes what names a node.
+ghost use Rattle.std.specs.Prelude.{OnOk, option_copied};
+ghost use Rattle.std.specs.Io.KnownBytes.{Appends};
+ghost use Rattle.page.specs.Written.{anchor_text, small_id, word_text};
+
+use crate::words::{caption, is_in_password};
+use accesskit_consumer::{FullNodeId, NodeRef};
+use atree_script::Stop;
+use html::write_element;
+use std::alloc::Global;
+use std::io::{self, Write};
+
+/// Writes the node's role, its label or else its value, and its id.
+pub(crate) fn write_name<O: Write>(alloc: Global, node: &NodeRef, out: &mut O) -> Result<(), Stop> {
+    write_role_and_text(alloc, node, out)?;
+    out.write_all(b" ")?;
+    write_id(node.id(), out)?;
+    Ok(())
+}
+
+/// Writes the same, with the id as a link to the place at which a state shows the node.
+pub(crate) fn write_linked_name<O: Write>(
+    alloc: Global,
+    state: u64,
+    node: &NodeRef,
+    out: &mut O,
+) -> Result<(), Stop> {
+    write_role_and_text(alloc, node, out)?;
+    out.write_all(b" <a href=\"#")?;
+    write_anchor(state, node.id(), out)?;
+    out.write_all(b"\">")?;
+    write_id(node.id(), out)?;
+    out.write_all(b"</a>")?;
+    Ok(())
+}
+
+/// Writes the node's role, and its label or else its value, where it has one.
+fn write_role_and_text<O: Write>(alloc: Global, node: &NodeRef, out: &mut O) -> Result<(), Stop> {
+    write_role(node, out)?;
+    let text = caption(alloc, node, is_in_password(node))?;
+    write_word("q", "l", text.as_deref(), out)?;
+    Ok(())
+}
+
+/// Writes the node's role.
+pub(crate) fn write_role<O: Write>(node: &NodeRef, out: &mut O) -> io::Result<()> {
+    let role = node.role();
+    write!(out, "<b>{role}</b>")
+}
+
+/// Writes a space and a text in an element, where there is one.
+pub(crate) fn write_word<O: Write>(
+    name: &str,
+    class: &str,
+    word: Option<&str>,
+    out: &mut O,
+) -> io::Result<()>
+    ensures { OnOk result (Appends (O.contents out.old) (O.contents out.new) (word_text name.now class.now (option_copied word.entry))) }
+{
+    let Some(word) = word else {
+        return Ok(());
+    };
+    out.write_all(b" ")?;
+    write_element(name, class, word, out)
+}
+
+/// Writes a node's id as `1:2`: the index of its tree, and its id in the tree.
+pub(crate) fn write_id<O: Write>(id: FullNodeId, out: &mut O) -> io::Result<()>
+    ensures { OnOk result (Appends (O.contents out.old) (O.contents out.new) (small_id id)) }
+{
+    let tree = id.tree;
+    let node = id.node.0;
+    write!(out, "<small>{tree}:{node}</small>")
+}
+
+/// Writes the name of the place at which a state shows a node, which stands once in a page.
+pub(crate) fn write_anchor<O: Write>(state: u64, id: FullNodeId, out: &mut O) -> io::Result<()>
+    ensures { OnOk result (Appends (O.contents out.old) (O.contents out.new) (anchor_text state id)) }
+{
+    let tree = id.tree;
+    let node = id.node.0;
+    write!(out, "s{state}-{tree}-{node}")
+}

@@ -1,0 +1,118 @@
+//! Writes a tree as an outline.
+
+use crate::marks::Mark;
+use crate::names::{write_anchor, write_id, write_role, write_word};
+use crate::places::Place;
+use crate::words::{shown_label, shown_value, state_words};
+use accesskit_consumer::NodeRef;
+use atree_script::Stop;
+use std::alloc::Global;
+use std::io::{self, Write};
+
+/// Writes each node as an item of a list, in their order.
+pub(crate) fn write_outline<O: Write>(
+    alloc: Global,
+    number: u64,
+    places: &[Place],
+    out: &mut O,
+) -> Result<(), Stop> {
+    out.write_all(b"<ul class=\"outline\">\n")?;
+    for place in places {
+        write_row(alloc, number, place, out)?;
+    }
+    out.write_all(b"</ul>\n")?;
+    Ok(())
+}
+
+/// Writes a row: the role, label, value and state of its node, its marks, and its id.
+fn write_row<O: Write>(alloc: Global, number: u64, place: &Place, out: &mut O) -> Result<(), Stop> {
+    begin_row(number, place, out)?;
+    write_texts(alloc, place, out)?;
+    end_row(place, out)?;
+    Ok(())
+}
+
+/// Begins a row's item with its node's role.
+fn begin_row<O: Write>(number: u64, place: &Place, out: &mut O) -> io::Result<()> {
+    out.write_all(b"<li id=\"")?;
+    write_anchor(number, place.node.id(), out)?;
+    write_level(row_class(place), place.depth, out)?;
+    write_role(&place.node, out)
+}
+
+/// Ends the tag of a row's item with its classes, its depth and its level, which counts from 1.
+fn write_level<O: Write>(class: &str, depth: usize, out: &mut O) -> io::Result<()> {
+    let level = depth.saturating_add(1);
+    write!(
+        out,
+        "\" class=\"{class}\" style=\"--d:{depth}\" aria-level=\"{level}\">"
+    )
+}
+
+/// The classes of a row.
+fn row_class(place: &Place) -> &'static str {
+    match (place.is_left_out(), place.mark) {
+        (false, None) => "n",
+        (false, Some(mark)) => mark.class(),
+        (true, None) => "x",
+        (true, Some(Mark::Added)) => "x a",
+        (true, Some(Mark::Updated)) => "x u",
+    }
+}
+
+/// Writes a node's label and value, where it has them.
+fn write_texts<O: Write>(alloc: Global, place: &Place, out: &mut O) -> Result<(), Stop> {
+    let label = shown_label(alloc, &place.node, place.is_in_password)?;
+    write_word("q", "l", label.as_deref(), out)?;
+    let value = shown_value(alloc, &place.node, place.is_in_password)?;
+    write_word("q", "v", value.as_deref(), out)?;
+    Ok(())
+}
+
+/// Ends a row: writes the words of its node's state, its marks and its id.
+fn end_row<O: Write>(place: &Place, out: &mut O) -> io::Result<()> {
+    write_words(&state_words(&place.node), out)?;
+    write_marks(place, out)?;
+    out.write_all(b" ")?;
+    write_id(place.node.id(), out)?;
+    out.write_all(b"</li>\n")
+}
+
+/// Writes each word that is there.
+fn write_words<O: Write>(words: &[Option<&'static str>], out: &mut O) -> io::Result<()> {
+    for word in words {
+        write_word("i", "w", *word, out)?;
+    }
+    Ok(())
+}
+
+/// Writes what is marked at a node: that it was added or updated, that it has the focus, or that it isn't shown.
+fn write_marks<O: Write>(place: &Place, out: &mut O) -> io::Result<()> {
+    if let Some(mark) = place.mark {
+        write_word("em", mark.class(), Some(mark.word()), out)?;
+    }
+    write_word("em", "f", focus_word(&place.node), out)?;
+    write_word("em", "h", left_out_word(place), out)
+}
+
+/// What is said of a node that the common filter leaves out with all below it.
+fn left_out_word(place: &Place) -> Option<&'static str> {
+    if !place.is_left_out() {
+        return None;
+    }
+    if place.is_hidden {
+        return Some("hidden");
+    }
+    Some("clipped")
+}
+
+/// What is said of a node that has the focus, or on which the tree has put it while the host window doesn't have it.
+fn focus_word(node: &NodeRef) -> Option<&'static str> {
+    if node.is_focused() {
+        return Some("focus");
+    }
+    if node.is_focused_in_tree() && !node.tree_state().is_host_focused() {
+        return Some("focus in the tree");
+    }
+    None
+}

@@ -1,0 +1,173 @@
+//! Draws the boxes of a state as they lie.
+
+use crate::boxes::{Frame, picture_frame};
+use crate::marks::Mark;
+use crate::names::write_anchor;
+use crate::places::Place;
+use crate::words::caption;
+use accesskit_consumer::{FilterResult, NodeRef};
+use atree_script::Stop;
+use html::write_escaped;
+use std::alloc::Global;
+use std::io::{self, Write};
+
+/// Draws the box of each node that has one, in their order, and a ring around the focus. So a box lies under those of later
+/// nodes, as a hit test sees them.
+pub(crate) fn write_picture<O: Write>(
+    alloc: Global,
+    number: u64,
+    places: &[Place],
+    focus: Option<NodeRef>,
+    out: &mut O,
+) -> Result<(), Stop> {
+    let Some(shown) = picture_frame(places) else {
+        out.write_all(b"<p class=\"note\">No node has a box.</p>\n")?;
+        return Ok(());
+    };
+    let frame = shown.widened((shown.longer_side() / 40).saturating_add(1));
+    begin_picture(number, frame, out)?;
+    write_boxes(alloc, number, frame, places, out)?;
+    write_ring(focus, frame, out)?;
+    out.write_all(b"</svg></figure>\n")?;
+    Ok(())
+}
+
+/// Draws the box of each node that has one.
+fn write_boxes<O: Write>(
+    alloc: Global,
+    number: u64,
+    frame: Frame,
+    places: &[Place],
+    out: &mut O,
+) -> Result<(), Stop> {
+    for place in places {
+        if let Some(rect) = place.rect {
+            write_box(alloc, number, frame, Frame::of(rect), place, out)?;
+        }
+    }
+    Ok(())
+}
+
+/// Begins a picture that shows this frame.
+fn begin_picture<O: Write>(number: u64, frame: Frame, out: &mut O) -> io::Result<()> {
+    let x = frame.x0;
+    let y = frame.y0;
+    let width = frame.width();
+    let height = frame.height();
+    write!(
+        out,
+        "<figure><figcaption>Boxes of state {number}</figcaption>\n<svg viewBox=\"{x} {y} {width} {height}\">\n"
+    )
+}
+
+/// Draws a node's box as a link to its row of the outline. In the box of a node without children stands its label or value.
+fn write_box<O: Write>(
+    alloc: Global,
+    number: u64,
+    frame: Frame,
+    rect: Frame,
+    place: &Place,
+    out: &mut O,
+) -> Result<(), Stop> {
+    begin_box(number, rect, place, out)?;
+    if !place.is_left_out() && place.node.child_ids().next().is_none() {
+        write_caption(alloc, frame, rect, place, out)?;
+    }
+    out.write_all(b"</a>\n")?;
+    Ok(())
+}
+
+/// Begins the link, and draws the box.
+fn begin_box<O: Write>(number: u64, rect: Frame, place: &Place, out: &mut O) -> io::Result<()> {
+    out.write_all(b"<a tabindex=\"-1\" href=\"#")?;
+    write_anchor(number, place.node.id(), out)?;
+    out.write_all(b"\">")?;
+    write_rect(box_class(place.answer, place.mark), rect, out)
+}
+
+/// The classes of a box.
+fn box_class(answer: FilterResult, mark: Option<Mark>) -> &'static str {
+    match (answer, mark) {
+        (FilterResult::Include, None) => "n",
+        (FilterResult::Include, Some(mark)) => mark.class(),
+        (FilterResult::ExcludeNode, None) => "t",
+        (FilterResult::ExcludeNode, Some(Mark::Added)) => "t a",
+        (FilterResult::ExcludeNode, Some(Mark::Updated)) => "t u",
+        (FilterResult::ExcludeSubtree, None) => "x",
+        (FilterResult::ExcludeSubtree, Some(Mark::Added)) => "x a",
+        (FilterResult::ExcludeSubtree, Some(Mark::Updated)) => "x u",
+    }
+}
+
+/// Draws a rectangle.
+fn write_rect<O: Write>(class: &str, rect: Frame, out: &mut O) -> io::Result<()> {
+    let x = rect.x0;
+    let y = rect.y0;
+    let width = rect.width();
+    let height = rect.height();
+    write!(
+        out,
+        "<rect class=\"{class}\" x=\"{x}\" y=\"{y}\" width=\"{width}\" height=\"{height}\"/>"
+    )
+}
+
+/// Writes a node's label, or else its value, into its box.
+fn write_caption<O: Write>(
+    alloc: Global,
+    frame: Frame,
+    rect: Frame,
+    place: &Place,
+    out: &mut O,
+) -> Result<(), Stop> {
+    let Some(text) = caption(alloc, &place.node, place.is_in_password)? else {
+        return Ok(());
+    };
+    begin_caption(frame, rect, text.len(), out)?;
+    write_escaped(&text, out)?;
+    out.write_all(b"</text></svg>")?;
+    Ok(())
+}
+
+/// Begins a text of this length in its box, which cuts it off: in the middle, or at the left where it is too long.
+fn begin_caption<O: Write>(
+    frame: Frame,
+    rect: Frame,
+    length: usize,
+    out: &mut O,
+) -> io::Result<()> {
+    let x = rect.x0;
+    let y = rect.y0;
+    let width = rect.width();
+    let height = rect.height();
+    let fitting = fitting_size(rect, length);
+    let least = frame.width() / 60;
+    let most = (height / 2).min(frame.width() / 26);
+    let size = fitting.max(least).min(most).max(1);
+    let place = if fitting < size {
+        "class=\"l\" x=\"1%\""
+    } else {
+        "x=\"50%\""
+    };
+    write!(
+        out,
+        "<svg x=\"{x}\" y=\"{y}\" width=\"{width}\" height=\"{height}\"><text {place} y=\"50%\" font-size=\"{size}\">"
+    )
+}
+
+/// How high letters are where a text of this length just fits into its box.
+fn fitting_size(rect: Frame, length: usize) -> u64 {
+    let letters = u64::try_from(length).unwrap_or(u64::MAX);
+    match rect.width().saturating_mul(5).checked_div(letters) {
+        Some(thirds) => thirds / 3,
+        None => u64::MAX,
+    }
+}
+
+/// Draws a ring around the focus, where it has a box.
+fn write_ring<O: Write>(focus: Option<NodeRef>, frame: Frame, out: &mut O) -> io::Result<()> {
+    let Some(rect) = focus.and_then(|node| node.bounding_box()) else {
+        return Ok(());
+    };
+    let ring = Frame::of(rect).widened(frame.longer_side() / 150);
+    write_rect("ring", ring, out)
+}

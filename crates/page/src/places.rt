@@ -1,0 +1,148 @@
+//! The nodes of a state, in the order in which a page shows them.
+ghost use Rattle.std.specs.Prelude.{◌≡◌, All, IfOk, map};
+ghost use Rattle.model.specs.World.{World};
+ghost use Rattle.views.specs.Nodes.{world_at, id_at};
+ghost use Rattle.views.specs.PlainWalks.{node_in, node_of};
+ghost use Rattle.views.specs.Descendants.{descendants};
+ghost use Rattle.views.specs.ShownWorlds.{world_of};
+ghost use Rattle.page.specs.Known.{IsStep, IsStepAbove};
+ghost use Rattle.page.specs.Places.{node_at, IsPlace, AreNodes, from_node, shown_nodes};
+
+use crate::carried::{Step, is_cut_off, known_of};
+use crate::marks::{Mark, Marks};
+use accesskit_consumer::{FilterResult, NodeRef, StateRef};
+use schema::WideRect;
+use std::alloc::{AllocError, Global};
+
+/// A node as a page shows it.
+#[derive(Clone, Copy)]
+pub(crate) struct Place<'a> {
+    pub node: NodeRef<'a>,
+    /// How many nodes are above it.
+    pub depth: usize,
+    /// What the common filter says of it.
+    pub answer: FilterResult,
+    /// Whether it or a node above it is hidden.
+    pub is_hidden: bool,
+    /// Whether a password input is above it.
+    pub is_in_password: bool,
+    /// Its box, if it has one.
+    pub rect: Option<WideRect>,
+    /// What the update did to it.
+    pub mark: Option<Mark>,
+}
+
+impl Place<'_> {
+    /// Whether the common filter leaves the node out with all below it.
+    pub(crate) fn is_left_out(&self) -> bool {
+        is_cut_off(self.answer)
+    }
+}
+
+/// The place of each node of the state: the root's, and then each child's and those below it.
+pub(crate) fn places<'a>(
+    alloc: Global,
+    state: StateRef<'a>,
+    marks: &Marks,
+) -> Result<Vec<Place<'a>>, AllocError>
+    ensures nodes { let w = world_of state.entry in
+        IfOk result (λ places. AreNodes w (shown_nodes w) (map node_at places.items)) }
+    ensures each { IfOk result (λ places. All IsPlace places.items) }
+{
+    let nodes = nodes_from(alloc, state.root())?;
+    places_of(alloc, state, &nodes, marks)
+}
+
+/// A node and all below it, a parent before its children.
+fn nodes_from<'a>(alloc: Global, top: NodeRef<'a>) -> Result<Vec<NodeRef<'a>>, AllocError>
+    ensures { let w = world_at top.entry in
+        IfOk result (λ nodes. AreNodes w (from_node w (id_at top.entry)) nodes.items) }
+{
+    let mut nodes = nodes_below(alloc, top)?;
+    nodes.insert(0, top)?;
+    Ok(nodes)
+}
+
+/// All nodes below a node, a parent before its children.
+fn nodes_below<'a>(alloc: Global, top: NodeRef<'a>) -> Result<Vec<NodeRef<'a>>, AllocError>
+    ensures { let w = world_at top.entry in
+        IfOk result (λ nodes. map node_of nodes.items ≡ map (node_in w) (descendants w (id_at top.entry))) }
+{
+    let nodes: Vec<NodeRef<'a>> = top.descendants().collect(alloc)?;
+    Ok(nodes)
+}
+
+/// The place of each of these nodes of the state, each after its parent.
+fn places_of<'a>(
+    alloc: Global,
+    state: StateRef<'a>,
+    nodes: &[NodeRef<'a>],
+    marks: &Marks,
+) -> Result<Vec<Place<'a>>, AllocError>
+    requires { All (λ node. world_at node ≡ world_of state) nodes.now }
+    ensures nodes { IfOk result (λ places. map node_at places.items ≡ nodes.now) }
+    ensures each { IfOk result (λ places. All IsPlace places.items) }
+{
+    let mut path = Vec::new(alloc);
+    let mut places = Vec::new(alloc);
+    for node in nodes {
+        places.push(next_place(*node, marks, &mut path)?)?;
+    }
+    Ok(places)
+}
+
+/// The place of the next node. The path has the nodes above the one before it, and that node.
+fn next_place<'a>(
+    node: NodeRef<'a>,
+    marks: &Marks,
+    path: &mut Vec<Step>,
+) -> Result<Place<'a>, AllocError>
+    requires { All (IsStep (world_at node)) path.old.items }
+    ensures path { All (IsStep (world_at node.entry)) path.new.items }
+    ensures place { IfOk result IsPlace }
+    ensures node { IfOk result (λ place. node_at place ≡ node.entry) }
+{
+    let above = step_above(node, path);
+    let depth = path.len();
+    let step = Step {
+        id: node.id(),
+        known: known_of(node, above),
+    };
+    path.push(step)?;
+    Ok(place_at(node, depth, step, marks))
+}
+
+/// The last step of the path that is to the node's parent, where there is one, which then ends the path.
+fn step_above(node: NodeRef, path: &mut Vec<Step>) -> Option<Step>
+    requires { All (IsStep (world_at node)) path.old.items }
+    ensures path { All (IsStep (world_at node.entry)) path.new.items }
+    ensures step { IsStepAbove (world_at node.entry) (id_at node.entry) result }
+{
+    let parent = node.parent_id()?;
+    for _ in 0..path.len() {
+        let step = *path.last()?;
+        if step.id == parent {
+            return Some(step);
+        }
+        path.pop();
+    }
+    None
+}
+
+/// The place of a node of which this is known.
+fn place_at<'a>(node: NodeRef<'a>, depth: usize, step: Step, marks: &Marks) -> Place<'a>
+    requires step { IsStep (world_at node) step }
+    requires id { step.id ≡ id_at node }
+    ensures place { IsPlace result }
+    ensures node { node_at result ≡ node.entry }
+{
+    Place {
+        node,
+        depth,
+        answer: step.known.answer,
+        is_hidden: step.known.is_hidden,
+        is_in_password: step.known.is_in_password,
+        rect: step.known.rect,
+        mark: marks.get(&step.id).copied(),
+    }
+}
