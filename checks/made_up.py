@@ -33,6 +33,23 @@ QUESTIONS_OF_FILTERS = ["filtered", "following_filtered", "preceding_filtered"]
 QUESTIONS_OF_TEXTS = ["text", "value", "indexes", "between", "move", "move", "move"]
 QUESTIONS = sorted({*QUESTIONS_OF_NODES, *QUESTIONS_OF_FILTERS, *QUESTIONS_OF_TEXTS})
 
+# What may be said of a control besides. Of a set's size and a position questions tell, of the others whether they changed.
+TRUTH = ["true", "false"]
+NUMBERS = [0, 1, -1, 2**63 - 1, -(2**63)]
+COUNTS = [0, 1, 2, 2**64 - 1]
+CONTROLS = {
+    "toggled": [*TRUTH, "mixed"],
+    **dict.fromkeys(["expanded", "selected"], TRUTH),
+    "live": ["off", "polite", "assertive"],
+    "orientation": ["horizontal", "vertical"],
+    **dict.fromkeys(["number", "min", "max", "step"], NUMBERS),
+    **dict.fromkeys(["level", "set_size", "position"], COUNTS),
+    **dict.fromkeys(["description", "placeholder"], ["", "a", '\n"\\']),
+    "controls": [(0,), (1, 2**64 - 1)],
+    "selection": [((0, 0), (0, 1)), ((2**64 - 1, 2**64 - 1), (0, 0))],
+    **dict.fromkeys("disabled read_only required modal busy multiselectable italic".split(), [True]),
+}
+
 # A line that is said, how it ends, what the model says of it, and the worlds before and after it.
 Step = namedtuple("Step", "line end told old new")
 
@@ -60,6 +77,9 @@ class Maker:
         self.play = Play()
         self.steps = []
         self.met = Counter()
+        # By dice of their own, so that all else is as it is without them.
+        self.controls = Dice(f"controls {seed}")
+        self.has_controls = self.controls.one_in(4)
 
     @property
     def world(self):
@@ -81,7 +101,10 @@ class Maker:
         self.met.update(kinds_of_step(self.steps[-1]))
 
     def send(self, update):
-        """Adds an update's lines."""
+        """Adds an update's lines, in some scripts with what is said of controls."""
+        if self.has_controls:
+            nodes = ((number, with_control(node, self.controls)) for number, node in update.nodes)
+            update = update._replace(nodes=tuple(nodes))
         for line in update_lines(update, self.dice):
             self.say(line)
 
@@ -115,6 +138,14 @@ class Maker:
         return [line for step in self.steps[:count] for line in step.told]
 
 
+def with_control(node, dice):
+    """The node, often with something that is said of a control."""
+    if dice.one_in(3):
+        return node
+    name = dice.choice(list(CONTROLS))
+    return node._replace(**{name: dice.choice(CONTROLS[name])})
+
+
 # ---- lines
 
 
@@ -135,6 +166,8 @@ def field_words(fields, dice):
             words.append(name)
         elif NODE_FIELDS.get(name) is str and value is not None:
             words.append(f"{name}={text_line(value)}")
+        elif name == "selection" and value:
+            words.append(f"{name}={','.join(f'{node}:{index}' for node, index in value)}")
         elif isinstance(value, tuple) and value:
             words.append(f"{name}={','.join(map(str, value))}")
         elif not isinstance(value, (tuple, bool)) and value is not None:

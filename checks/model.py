@@ -30,6 +30,29 @@ class Node(NamedTuple):
     words: tuple = ()
     prev: Optional[int] = None
     next: Optional[int] = None
+    description: Optional[str] = None
+    placeholder: Optional[str] = None
+    controls: tuple = ()
+    selection: tuple = ()
+    toggled: Optional[str] = None
+    expanded: Optional[str] = None
+    selected: Optional[str] = None
+    live: Optional[str] = None
+    orientation: Optional[str] = None
+    number: Optional[int] = None
+    min: Optional[int] = None
+    max: Optional[int] = None
+    step: Optional[int] = None
+    level: Optional[int] = None
+    set_size: Optional[int] = None
+    position: Optional[int] = None
+    disabled: bool = False
+    read_only: bool = False
+    required: bool = False
+    modal: bool = False
+    busy: bool = False
+    multiselectable: bool = False
+    italic: bool = False
 
 
 class Tree(NamedTuple):

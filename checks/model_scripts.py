@@ -67,7 +67,7 @@ def number(word, least=0, end=2**64):
 
 
 def coordinate(word):
-    """A coordinate of a point."""
+    """A coordinate of a point, or a number of a value."""
     return number(word, -(2**63), 2**63)
 
 
@@ -90,6 +90,13 @@ def unit(word):
 def short(word):
     """A number of two bytes."""
     return number(word, 0, 2**16)
+
+
+def place(word):
+    """A place in a text run: its node and an index."""
+    parts = word.split(":")
+    need(len(parts) == 2)
+    return tuple(number(part) for part in parts)
 
 
 DIGITS = ["([0-9a-f]{%d})" % count for count in (8, 4, 4, 4, 12)]
@@ -185,6 +192,29 @@ NODE_FIELDS = {
     "words": all_of(short),
     "prev": number,
     "next": number,
+    "description": str,
+    "placeholder": str,
+    "controls": all_of(number),
+    "selection": all_of(place, 2),
+    "toggled": one_of(["true", "false", "mixed"]),
+    "expanded": one_of(["true", "false"]),
+    "selected": one_of(["true", "false"]),
+    "live": one_of(["off", "polite", "assertive"]),
+    "orientation": one_of(["horizontal", "vertical"]),
+    "number": coordinate,
+    "min": coordinate,
+    "max": coordinate,
+    "step": coordinate,
+    "level": number,
+    "set_size": number,
+    "position": number,
+    "disabled": bool,
+    "read_only": bool,
+    "required": bool,
+    "modal": bool,
+    "busy": bool,
+    "multiselectable": bool,
+    "italic": bool,
 }
 
 

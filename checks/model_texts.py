@@ -1,7 +1,7 @@
 """Texts, values and labels: docs/MODEL-VIEWS-AND-TEXT.md as one flat list of characters for each text, with marks in it.
 
 A position is the number of a run, and how many of its characters are before it. Its offset counts the characters before it
-in all runs. A script can give no style, so that a text has one format.
+in all runs. A script can give no style but italics, by which no format begins, so that a text has one format.
 """
 
 from typing import NamedTuple
@@ -15,10 +15,19 @@ TEXT_INPUTS = set(
     "TextInput MultilineTextInput SearchInput DateInput DateTimeInput WeekInput MonthInput TimeInput EmailInput NumberInput"
     " PasswordInput PhoneNumberInput UrlInput EditableComboBox SpinButton".split()
 )
+MAY_BE_READ_ONLY = TEXT_INPUTS | set(
+    "CheckBox ColorWell ComboBox Grid ListBox MenuItemCheckBox MenuItemRadio MenuListPopup RadioButton RadioGroup Slider Switch"
+    " TreeGrid".split()
+)
 HOLDS_TEXT = TEXT_INPUTS | {"Label", "Document", "Terminal"}
 LABELLED_FROM_WITHIN = set(
     "Button CheckBox DefaultButton Link MenuItem MenuItemCheckBox MenuItemRadio RadioButton".split()
 )
+
+
+def is_read_only(node):
+    """Whether it is read-only, where that makes a difference."""
+    return node.read_only and node.role in MAY_BE_READ_ONLY
 
 
 # ---- runs as they were sent

@@ -244,8 +244,8 @@ def set_of(world, filter, id):
 
 
 def size_and_position(world, filter, id):
-    """The size of the node's set, and how many of the set come before it."""
+    """The size of the node's set, and how many of the set come before it, where they aren't given."""
     items = set_of(world, filter, id)
-    if items is None:
-        return None, None
-    return len(items), sum(is_before(world, item, id) for item in items)
+    size, position = (None, None) if items is None else (len(items), sum(is_before(world, item, id) for item in items))
+    given = world.nodes[id]
+    return size if given.set_size is None else given.set_size, position if given.position is None else given.position

@@ -1,4 +1,4 @@
-"""Runs the program `atree` on a script, and compares what it gives with what is told."""
+"""Runs a program, `atree` if no other one, on a script, and compares what it gives with what is told."""
 
 import itertools
 import os
@@ -22,10 +22,11 @@ Ran = namedtuple("Ran", "status output errors")
 
 
 class Program:
-    """The program, with a file for each of its streams, which all its runs share."""
+    """The program with its arguments, and a file for each of its streams, which all its runs share."""
 
-    def __init__(self, path=None):
+    def __init__(self, path=None, arguments=()):
         self.path = os.path.abspath(path or BUILT)
+        self.arguments = arguments
         if not os.access(self.path, os.X_OK):
             raise SystemExit(f"there is no program at {self.path}: rt ci builds it, or name another one")
         self.streams = [tempfile.TemporaryFile() for _ in range(3)]
@@ -40,7 +41,7 @@ class Program:
             stream.seek(0)
         files = {**dict(enumerate(stream.fileno() for stream in self.streams)), **(instead or {})}
         shown = [(os.POSIX_SPAWN_DUP2, file, number) for number, file in files.items()]
-        child = os.posix_spawn(self.path, [self.path], environment or {}, file_actions=shown)
+        child = os.posix_spawn(self.path, [self.path, *self.arguments], environment or {}, file_actions=shown)
         resource.prlimit(child, resource.RLIMIT_CPU, (SECONDS, SECONDS))
         ended = os.waitpid(child, 0)[1]
         status = os.WEXITSTATUS(ended) if os.WIFEXITED(ended) else -os.WTERMSIG(ended)
