@@ -12,7 +12,7 @@ use std::alloc::{AllocError, Global};
 pub type Spot = (u64, usize);
 
 /// What is sent of a node beside its role.
-#[derive(Clone, Copy, Debug)]
+#[derive(Clone, Copy)]
 pub enum Has {
     // the tree
     Children(&'static [u64]),

@@ -3,7 +3,7 @@
 use crate::fields::{Has, node_of};
 use crate::ids::{id, tree_id};
 use crate::recorder::Recorder;
-use schema::{Node, NodeId, Role, TreeInfo, TreeUpdate};
+use schema::{Node, NodeBuilder, NodeId, Role, TreeInfo, TreeUpdate};
 use std::alloc::{AllocError, Global};
 use std::test::Fail;
 use trees::Tree;
@@ -93,13 +93,13 @@ pub fn grown_by(alloc: Global, sent: &[Sent], is_host_focused: bool) -> Result<T
 
 /// A window with these nodes as its children, whose ids count from 1.
 pub fn row_of(alloc: Global, children: Vec<Node>) -> Result<Tree, Fail> {
-    let mut window = Node::new(alloc, Role::Window);
+    let mut window = NodeBuilder::new(alloc, Role::Window);
     let mut nodes = Vec::new(alloc);
     for (id, child) in (1u64..).zip(children) {
-        window.push_child(NodeId(id))?;
+        window = window.child(NodeId(id));
         nodes.push((NodeId(id), child))?;
     }
-    nodes.push((NodeId(0), window))?;
+    nodes.push((NodeId(0), window.build()?))?;
     grown(alloc, nodes)
 }
 

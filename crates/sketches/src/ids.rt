@@ -3,7 +3,7 @@
 use schema::{NodeId, TreeId};
 use std::alloc::{AllocError, Global};
 use uuid::Uuid;
-use views::FullNodeId;
+use views::{FullNodeId, NodeRef};
 
 /// The tree's name of this number.
 pub fn tree_id(tree: u128) -> TreeId {
@@ -18,7 +18,19 @@ pub fn id(tree: u32, node: u64) -> FullNodeId {
     }
 }
 
+/// The id of a node, if there is one.
+pub fn id_of(node: Option<NodeRef>) -> Option<FullNodeId> {
+    match node {
+        Some(node) => Some(node.id()),
+        None => None,
+    }
+}
+
 /// Node ids of these numbers.
 pub fn node_ids(alloc: Global, numbers: &[u64]) -> Result<Vec<NodeId>, AllocError> {
-    numbers.iter().map(|number| NodeId(*number)).collect(alloc)
+    let mut ids = Vec::new(alloc);
+    for number in numbers {
+        ids.push(NodeId(*number))?;
+    }
+    Ok(ids)
 }

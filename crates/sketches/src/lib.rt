@@ -5,8 +5,10 @@ pub mod dice;
 mod fields;
 mod growing;
 pub mod ids;
+pub mod made_up;
 pub mod recorder;
 pub mod small_texts;
+pub mod updates;
 
 pub use fields::{Has, Spot, give, node_of, selected};
 pub use growing::{

@@ -10,7 +10,7 @@ use views::{FullNodeId, NodeRef};
 pub type Id = (u32, u64);
 
 /// One call of a handler.
-#[derive(Clone, Copy, Debug, PartialEq, Eq)]
+#[derive(Clone, Copy, PartialEq, Eq)]
 pub enum Told {
     Added(u32, u64),
     Updated(u32, u64),

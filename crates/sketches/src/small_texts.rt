@@ -1,8 +1,8 @@
 //! Small texts.
 
 use crate::Has::{
-    Bounds, Children, Direction, LabelledBy, Lengths, Letters, LettersInBytes, Move, Positions,
-    Selection, Value, Widths, Words, WordsInBytes,
+    Bounds, Children, Direction, FontSize, LabelledBy, Lengths, Letters, LettersInBytes, Move,
+    Positions, Selection, Value, Widths, Words, WordsInBytes,
 };
 use crate::Sketch;
 use schema::{Role, TextDirection};
@@ -274,4 +274,35 @@ pub const LABELLED: Text = &[
     Sketch(0, Role::CheckBox, &[Children(&[1, 2]), LabelledBy(&[1, 2])]),
     Sketch(1, Role::Label, &[Value("Check email every")]),
     Sketch(2, Role::Label, &[Value("minutes")]),
+];
+
+/// Two runs that look alike, and one of letters of another size.
+pub const SIZES: Text = &[
+    Sketch(0, Role::TextInput, &[Children(&[1, 2, 3])]),
+    Sketch(1, Role::TextRun, &[Value("ab"), Lengths(&[1, 1])]),
+    Sketch(2, Role::TextRun, &[Value("cd"), Lengths(&[1, 1])]),
+    Sketch(
+        3,
+        Role::TextRun,
+        &[Value("ef"), Lengths(&[1, 1]), FontSize(12)],
+    ),
+];
+
+/// A run with two positions and widths for three characters, and a selection of the first.
+pub const UNMEASURED: Text = &[
+    Sketch(
+        0,
+        Role::TextInput,
+        &[Children(&[1]), Selection((1, 0), (1, 1))],
+    ),
+    Sketch(
+        1,
+        Role::TextRun,
+        &[
+            Value("abc"),
+            Lengths(&[1, 1, 1]),
+            Positions(&[0, 10]),
+            Widths(&[0, 10]),
+        ],
+    ),
 ];

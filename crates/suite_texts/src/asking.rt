@@ -101,38 +101,67 @@ fn between<'a>(root: &NodeRef<'a>, from: Place, to: Place) -> Result<TextRange<'
     Ok(range)
 }
 
-/// The range. There is a text.
-pub fn ranged<'a>(root: &NodeRef<'a>, span: Span) -> Result<Option<TextRange<'a>>, Fail> {
+/// The range from the second position, with its start set to the first one.
+fn up_to<'a>(root: &NodeRef<'a>, from: Place, to: Place) -> Result<TextRange<'a>, Fail> {
+    let mut range = placed(root, to)?.to_degenerate_range();
+    range.set_start(placed(root, from)?);
+    Ok(range)
+}
+
+/// The range between the first two positions, with its start set to the third one,
+fn with_start<'a>(
+    root: &NodeRef<'a>,
+    from: Place,
+    to: Place,
+    start: Place,
+) -> Result<TextRange<'a>, Fail> {
+    let mut range = between(root, from, to)?;
+    range.set_start(placed(root, start)?);
+    Ok(range)
+}
+
+/// or its end.
+fn with_end<'a>(
+    root: &NodeRef<'a>,
+    from: Place,
+    to: Place,
+    end: Place,
+) -> Result<TextRange<'a>, Fail> {
+    let mut range = between(root, from, to)?;
+    range.set_end(placed(root, end)?);
+    Ok(range)
+}
+
+/// A line, what is selected, or the whole text.
+fn known<'a>(root: &NodeRef<'a>, span: Span) -> Result<Option<TextRange<'a>>, Fail> {
     if !root.supports_text_ranges() {
         return Err("no text".into());
     }
+    Ok(match span {
+        Span::Line(index) => root.line_range_from_index(index),
+        Span::Selection => root.text_selection(),
+        _ => Some(root.document_range()),
+    })
+}
+
+/// The range. There is a text.
+pub fn ranged<'a>(root: &NodeRef<'a>, span: Span) -> Result<Option<TextRange<'a>>, Fail> {
     let range = match span {
-        Span::Between(from, to) => between(root, from, to)?,
-        Span::UpTo(from, to) => {
-            let mut range = placed(root, to)?.to_degenerate_range();
-            range.set_start(placed(root, from)?);
-            range
-        }
-        Span::WithStart(from, to, start) => {
-            let mut range = between(root, from, to)?;
-            range.set_start(placed(root, start)?);
-            range
-        }
-        Span::WithEnd(from, to, end) => {
-            let mut range = between(root, from, to)?;
-            range.set_end(placed(root, end)?);
-            range
-        }
-        Span::Line(index) => return Ok(root.line_range_from_index(index)),
-        Span::Selection => return Ok(root.text_selection()),
-        Span::Document => root.document_range(),
+        Span::Between(from, to) => between(root, from, to),
+        Span::UpTo(from, to) => up_to(root, from, to),
+        Span::WithStart(from, to, start) => with_start(root, from, to, start),
+        Span::WithEnd(from, to, end) => with_end(root, from, to, end),
+        Span::Line(_) | Span::Selection | Span::Document => return known(root, span),
     };
-    Ok(Some(range))
+    Ok(Some(range?))
 }
 
 /// The range, which is there.
 pub fn range<'a>(root: &NodeRef<'a>, span: Span) -> Result<TextRange<'a>, Fail> {
-    Ok(ranged(root, span)?.ok_or("no range")?)
+    match ranged(root, span)? {
+        Some(range) => Ok(range),
+        None => Err("no range".into()),
+    }
 }
 
 /// The ends of the range, if it is there.
@@ -141,4 +170,21 @@ pub fn ends(root: &NodeRef, span: Span) -> Result<Option<(Spot, Spot)>, Fail> {
         Some(range) => Ok(Some(both_ends(&range))),
         None => Ok(None),
     }
+}
+
+/// Where the moves by format lead: forwards to a start and to an end, and back.
+pub fn moved_by_format(position: &TextPosition) -> (Spot, Spot, Spot) {
+    (
+        named(position.forward_to_format_start()),
+        named(position.forward_to_format_end()),
+        named(position.backward_to_format_start()),
+    )
+}
+
+/// Whether the runs make no text, and nothing is selected.
+pub fn is_spoilt(root: &NodeRef) -> bool {
+    !root.supports_text_ranges()
+        && root.text_selection().is_none()
+        && root.text_selection_anchor().is_none()
+        && root.text_selection_focus().is_none()
 }

@@ -1,8 +1,12 @@
-//! Tests of texts and of sessions: what no script can say of them.
+//! Tests of texts: of what no script can say.
 #![tactic(auto)]
 
 #[cfg(test)]
 mod asking;
+#[cfg(test)]
+mod beside;
+#[cfg(test)]
+mod betweens;
 #[cfg(test)]
 mod flat;
 #[cfg(test)]
@@ -10,13 +14,9 @@ mod flat_texts;
 #[cfg(test)]
 mod looks;
 #[cfg(test)]
-mod mirrored;
-#[cfg(test)]
 mod numbered;
 #[cfg(test)]
-mod replayed;
-#[cfg(test)]
-mod sent;
+mod parts;
 #[cfg(test)]
 mod tables;
 #[cfg(test)]

@@ -2,8 +2,10 @@
 
 use crate::asking::both_ends;
 use accesskit_consumer::TextLines;
+use accesskit_consumer::node::NodeRef;
 use sketches::small_texts::PARAGRAPHS;
 use sketches::{Spot, planted, root_of};
+use std::process::Abort;
 use std::test::Fail;
 
 /// The ends of a line, if it is there.
@@ -14,18 +16,38 @@ fn ends_of(lines: &mut TextLines, index: usize) -> Option<(Spot, Spot)> {
     }
 }
 
+/// The number of a line, and its ends, if it is there. They are looked for in this order.
+static LINES: [(usize, Option<(Spot, Spot)>); 6] = [
+    (0, Some(((1, 0), (1, 3)))),
+    (1, Some(((2, 0), (2, 2)))),
+    (1, Some(((2, 0), (2, 2)))),
+    (3, None),
+    (2, Some(((2, 2), (2, 2)))),
+    (0, Some(((1, 0), (1, 3)))),
+];
+
+/// Asserts the ends of the lines.
+fn assert_lines(rt: &impl Abort, lines: &mut TextLines) {
+    for (row, (number, wanted)) in LINES.iter().enumerate() {
+        assert!(rt; ends_of(lines, *number) == *wanted, "row {row}");
+    }
+}
+
+/// Whether the lines are of this node.
+fn are_of(lines: &TextLines, root: &NodeRef) -> bool {
+    lines.node().id() == root.id()
+}
+
+fn assert_root(rt: &impl Abort, root: NodeRef) {
+    assert!(rt; root.supports_text_ranges());
+    let mut lines = TextLines::new(root);
+    assert!(rt; are_of(&lines, &root));
+    assert_lines(rt, &mut lines);
+}
+
 #[test]
 fn lines_are_found_onwards_and_back(rt: HostRuntime) -> Result<(), Fail> {
     let tree = planted(rt.alloc(), PARAGRAPHS)?;
-    let root = root_of(&tree);
-    assert!(rt; root.supports_text_ranges());
-    let mut lines = TextLines::new(root);
-    assert!(rt; lines.node().id() == root.id());
-    assert!(rt; ends_of(&mut lines, 0) == Some(((1, 0), (1, 3))));
-    assert!(rt; ends_of(&mut lines, 1) == Some(((2, 0), (2, 2))));
-    assert!(rt; ends_of(&mut lines, 1) == Some(((2, 0), (2, 2))));
-    assert!(rt; ends_of(&mut lines, 3).is_none());
-    assert!(rt; ends_of(&mut lines, 2) == Some(((2, 2), (2, 2))));
-    assert!(rt; ends_of(&mut lines, 0) == Some(((1, 0), (1, 3))));
+    assert_root(&rt, root_of(&tree));
     Ok(())
 }

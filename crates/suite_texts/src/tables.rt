@@ -4,19 +4,17 @@ use crate::asking::Place::{
     self, Anchor, At, DocumentEnd, DocumentStart, EndSideOf, Focus, Near, Unit,
 };
 use crate::asking::Span::{self, Between, Document, Line, Selection, WithEnd, WithStart};
-use crate::asking::{ends, found, named, placed, range};
-use accesskit_consumer::{TextPosition, TextRoot, TextSelections};
-use schema::{NodeId, Role, TreeId, WideRect};
-use session::{Command, Move, Query, Reply, Session, Side};
-use sketches::Has::{self, Children, FontSize, Lengths, Positions, Value, Widths};
-use sketches::recorder::Recorder;
+use crate::asking::{ends, found, is_spoilt, moved_by_format, named, placed, range};
+use accesskit_consumer::TextPosition;
+use accesskit_consumer::node::NodeRef;
+use schema::WideRect;
 use sketches::small_texts::{
     BULLETS, ELSEWHERE, EMPTY_LAST, LEFTWARD, LETTERS, MEETING, MORE_LETTERS, NOTHING, OTHER_RUNS,
     OTHER_SECRET_LINES, OTHER_SECRET_WORDS, PARAGRAPHS, RIGHTWARD, SECRET, SECRET_LINES,
-    SECRET_WORDS, THIRD, Text, WIDE, WIDE_SECRET,
+    SECRET_WORDS, SIZES, THIRD, Text, UNMEASURED, WIDE, WIDE_SECRET,
 };
-use sketches::{Sketch, Spot, first_update, nodes_of, planted, root_of, selected};
-use std::alloc::Global;
+use sketches::{Spot, planted, root_of};
+use std::alloc::{AllocError, Global};
 use std::cmp::Ordering;
 use std::test::Fail;
 
@@ -52,11 +50,19 @@ static PLACES: [(Text, Place, Option<Spot>); 28] = [
     (EMPTY_LAST, EndSideOf(3), Some((1, 3))),
 ];
 
+/// The position of a text, if it is there.
+fn position_in(alloc: Global, text: Text, place: Place) -> Result<Option<Spot>, Fail> {
+    let tree = planted(alloc, text)?;
+    Ok(match found(&root_of(&tree), place)? {
+        Some(position) => Some(named(position)),
+        None => None,
+    })
+}
+
 #[test]
 fn places_are_positions(rt: HostRuntime) -> Result<(), Fail> {
     for (number, (text, place, wanted)) in PLACES.iter().enumerate() {
-        let tree = planted(rt.alloc(), text)?;
-        let given = found(&root_of(&tree), *place)?.map(named);
+        let given = position_in(rt.alloc(), text, *place)?;
         assert!(rt; given == *wanted, "row {number}");
     }
     Ok(())
@@ -95,27 +101,20 @@ fn is(position: &TextPosition, kind: Kind) -> bool {
     }
 }
 
+/// Whether the position of a text is of a kind.
+fn is_in(alloc: Global, text: Text, place: Place, kind: Kind) -> Result<bool, Fail> {
+    let tree = planted(alloc, text)?;
+    Ok(is(&placed(&root_of(&tree), place)?, kind))
+}
+
 #[test]
 fn positions_are_of_kinds(rt: HostRuntime) -> Result<(), Fail> {
     for (number, (text, place, kind, wanted)) in KINDS.iter().enumerate() {
-        let tree = planted(rt.alloc(), text)?;
-        let given = is(&placed(&root_of(&tree), *place)?, *kind);
+        let given = is_in(rt.alloc(), text, *place, *kind)?;
         assert!(rt; given == *wanted, "row {number}");
     }
     Ok(())
 }
-
-/// Two runs that look alike, and one of letters of another size.
-const SIZES: Text = &[
-    Sketch(0, Role::TextInput, &[Children(&[1, 2, 3])]),
-    Sketch(1, Role::TextRun, &[Value("ab"), Lengths(&[1, 1])]),
-    Sketch(2, Role::TextRun, &[Value("cd"), Lengths(&[1, 1])]),
-    Sketch(
-        3,
-        Role::TextRun,
-        &[Value("ef"), Lengths(&[1, 1]), FontSize(12)],
-    ),
-];
 
 /// From a place in it: the start of the next format, the end of this one, and the start before.
 static FORMATS: [(Place, (Spot, Spot, Spot)); 5] = [
@@ -126,46 +125,17 @@ static FORMATS: [(Place, (Spot, Spot, Spot)); 5] = [
     (At(5), ((3, 2), (3, 2), (3, 0))),
 ];
 
-/// Where the moves by format lead: forwards to a start and to an end, and back.
-pub fn moved_by_format(position: &TextPosition) -> (Spot, Spot, Spot) {
-    (
-        named(position.forward_to_format_start()),
-        named(position.forward_to_format_end()),
-        named(position.backward_to_format_start()),
-    )
+/// Where the moves by format lead from a place.
+fn moved_in_sizes(alloc: Global, place: Place) -> Result<(Spot, Spot, Spot), Fail> {
+    let tree = planted(alloc, SIZES)?;
+    Ok(moved_by_format(&placed(&root_of(&tree), place)?))
 }
-
-/// What a session of the text replies to a question about it.
-fn replied(alloc: Global, text: Text, query: Query) -> Result<Reply, Fail> {
-    let update = first_update(0, nodes_of(alloc, text)?);
-    let mut session = Session::new(alloc, update, false)?;
-    Ok(session.step(Command::Query(query), &mut Recorder::new(alloc))?)
-}
-
-/// The index 3.
-const AT_THREE: session::At = session::At {
-    index: 3,
-    side: Side::Start,
-};
-
-/// Where a session's moves by format lead from there.
-static MOVES: [(Move, Spot); 3] = [
-    (Move::ForwardToFormatStart, (3, 0)),
-    (Move::ForwardToFormatEnd, (2, 2)),
-    (Move::BackwardToFormatStart, (1, 0)),
-];
 
 #[test]
 fn formats_begin_where_sizes_change(rt: HostRuntime) -> Result<(), Fail> {
-    let tree = planted(rt.alloc(), SIZES)?;
     for (number, (place, wanted)) in FORMATS.iter().enumerate() {
-        let given = moved_by_format(&placed(&root_of(&tree), *place)?);
+        let given = moved_in_sizes(rt.alloc(), *place)?;
         assert!(rt; given == *wanted, "row {number}");
-    }
-    for (by, spot) in MOVES {
-        let query = Query::Move((NodeId(0), TreeId::root()), AT_THREE, by);
-        let wanted = Reply::Position(Some(selected(spot, spot).focus));
-        assert_eq!(rt; replied(rt.alloc(), SIZES, query)?, wanted);
     }
     Ok(())
 }
@@ -196,11 +166,16 @@ static ENDS: [(Text, Span, Option<(Spot, Spot)>); 14] = [
     ),
 ];
 
+/// The ends of a range of a text, if it is there.
+fn ends_in(alloc: Global, text: Text, span: Span) -> Result<Option<(Spot, Spot)>, Fail> {
+    let tree = planted(alloc, text)?;
+    ends(&root_of(&tree), span)
+}
+
 #[test]
 fn ranges_have_ends(rt: HostRuntime) -> Result<(), Fail> {
     for (number, (text, span, wanted)) in ENDS.iter().enumerate() {
-        let tree = planted(rt.alloc(), text)?;
-        let given = ends(&root_of(&tree), *span)?;
+        let given = ends_in(rt.alloc(), text, *span)?;
         assert!(rt; given == *wanted, "row {number}");
     }
     Ok(())
@@ -219,13 +194,19 @@ static TEXTS: [(Text, Span, &str); 9] = [
     (PARAGRAPHS, Document, "ab\ncd"),
 ];
 
+/// The text of a range of a text, and whether the range is degenerate.
+fn text_in(alloc: Global, text: Text, span: Span) -> Result<(String, bool), Fail> {
+    let tree = planted(alloc, text)?;
+    let range = range(&root_of(&tree), span)?;
+    Ok((range.text(alloc)?, range.is_degenerate()))
+}
+
 #[test]
 fn ranges_have_texts(rt: HostRuntime) -> Result<(), Fail> {
     for (number, (text, span, wanted)) in TEXTS.iter().enumerate() {
-        let tree = planted(rt.alloc(), text)?;
-        let given = range(&root_of(&tree), *span)?;
-        assert!(rt; given.text(rt.alloc())?.as_str() == *wanted, "row {number}");
-        assert!(rt; given.is_degenerate() == wanted.is_empty(), "row {number}");
+        let (given, is_degenerate) = text_in(rt.alloc(), text, *span)?;
+        assert!(rt; given.as_str() == *wanted, "row {number}");
+        assert!(rt; is_degenerate == wanted.is_empty(), "row {number}");
     }
     Ok(())
 }
@@ -237,57 +218,38 @@ static BOXES: [(Text, usize, usize, (i128, i128, i128, i128)); 3] = [
     (LEFTWARD, 0, 1, (125, 200, 135, 210)),
 ];
 
+/// The boxes of a range of a text.
+fn boxes_in(alloc: Global, text: Text, span: Span) -> Result<Vec<WideRect>, Fail> {
+    let tree = planted(alloc, text)?;
+    Ok(range(&root_of(&tree), span)?.bounding_boxes(alloc)?)
+}
+
 #[test]
 fn boxes_follow_the_direction(rt: HostRuntime) -> Result<(), Fail> {
     for (number, (text, from, to, corners)) in BOXES.iter().enumerate() {
-        let tree = planted(rt.alloc(), text)?;
-        let range = range(&root_of(&tree), Between(At(*from), At(*to)))?;
         let (x0, y0, x1, y1) = *corners;
         let wanted = [WideRect { x0, y0, x1, y1 }];
-        let given = range.bounding_boxes(rt.alloc())?;
+        let given = boxes_in(rt.alloc(), text, Between(At(*from), At(*to)))?;
         assert!(rt; given.as_slice() == wanted.as_slice(), "row {number}");
     }
     Ok(())
 }
 
-/// A run with two positions and widths for three characters, and a selection of the first.
-const UNMEASURED: Text = &[
-    Sketch(
-        0,
-        Role::TextInput,
-        &[Children(&[1]), Has::Selection((1, 0), (1, 1))],
-    ),
-    Sketch(
-        1,
-        Role::TextRun,
-        &[
-            Value("abc"),
-            Lengths(&[1, 1, 1]),
-            Positions(&[0, 10]),
-            Widths(&[0, 10]),
-        ],
-    ),
-];
+/// Whether a node has no text and no value, and nothing of it is selected.
+fn is_without_text(alloc: Global, root: &NodeRef) -> Result<bool, AllocError> {
+    Ok(!root.has_value() && root.value(alloc)?.is_none() && is_spoilt(root))
+}
 
 #[test]
 fn text_with_too_few_positions_is_none(rt: HostRuntime) -> Result<(), Fail> {
     let tree = planted(rt.alloc(), UNMEASURED)?;
-    let root = root_of(&tree);
-    assert!(rt; !root.supports_text_ranges() && !root.has_value());
-    assert!(rt; root.value(rt.alloc())?.is_none());
-    assert!(rt; root.text_selection().is_none());
-    assert!(rt; root.text_selection_anchor().is_none());
-    assert!(rt; root.text_selection_focus().is_none());
-    let name = (NodeId(0), TreeId::root());
-    for (query, wanted) in [
-        (Query::Value(name), Reply::Text(None)),
-        (Query::Text(name), Reply::Text(None)),
-        (Query::Indexes(name, AT_THREE), Reply::NotText),
-        (Query::RangeText(name, AT_THREE, AT_THREE), Reply::NotText),
-    ] {
-        assert_eq!(rt; replied(rt.alloc(), UNMEASURED, query)?, wanted);
-    }
+    assert!(rt; is_without_text(rt.alloc(), &root_of(&tree))?);
     Ok(())
+}
+
+/// How two positions compare, and whether they are equal.
+fn compared(one: &TextPosition, other: &TextPosition) -> (Option<Ordering>, bool) {
+    (one.compare(other), one == other)
 }
 
 #[test]
@@ -295,8 +257,9 @@ fn positions_of_two_states_compare(rt: HostRuntime) -> Result<(), Fail> {
     let (tree, other) = (planted(rt.alloc(), EMPTY_LAST)?, planted(rt.alloc(), WIDE)?);
     let before = placed(&root_of(&tree), EndSideOf(3))?;
     let last = placed(&root_of(&tree), At(3))?;
-    assert!(rt; before.compare(&last) == Some(Ordering::Equal) && before != last);
+    assert!(rt; compared(&before, &last) == (Some(Ordering::Equal), false));
     let end = placed(&root_of(&other), At(3))?;
-    assert!(rt; end.compare(&last) == Some(Ordering::Equal) && end == before);
+    assert!(rt; compared(&end, &last).0 == Some(Ordering::Equal));
+    assert!(rt; compared(&end, &before).1);
     Ok(())
 }

@@ -9,7 +9,7 @@ use accesskit_consumer::tree::{StateRef, Tree};
 use schema::{NodeId, Role, TreeId, TreeUpdate};
 use sketches::Has::{Children, Lengths, Value, Words};
 use sketches::recorder::Recorder;
-use sketches::small_texts::{LETTERS, LETTERS_IN_BYTES, THIRD};
+use sketches::small_texts::{LETTERS, LETTERS_IN_BYTES, NOTHING, OWN_VALUE, THIRD, Text};
 use sketches::{Sketch, Spot, nodes_of, planted, root_of, selected};
 use std::alloc::{AllocError, Global};
 use std::test::Fail;
@@ -26,6 +26,12 @@ const LONG: &[Sketch] = &[
 
 /// One letter is left.
 const SHORT: &[Sketch] = &[Sketch(1, Role::TextRun, &[Value("a"), Lengths(&[1]), Words(&[])])];
+
+/// A text of that letter alone.
+const SHORT_TEXT: &[Sketch] = &[
+    Sketch(0, Role::TextInput, &[Children(&[1])]),
+    Sketch(1, Role::TextRun, &[Value("a"), Lengths(&[1]), Words(&[])]),
+];
 
 /// The update of the root tree that sends these nodes again.
 fn sent_again(alloc: Global, sketches: &[Sketch]) -> Result<TreeUpdate, AllocError> {
@@ -70,6 +76,42 @@ fn weak_range_past_its_run_is_gone(rt: HostRuntime) -> Result<(), Fail> {
     assert!(rt; shorten(alloc, &mut tree)?);
     assert!(rt; upgraded(&weak, tree.state().view()).is_none());
     assert!(rt; weak.upgrade_node(tree.state().view()).is_some());
+    Ok(())
+}
+
+/// The ends of the range in the state of a tree, which is given as itself.
+fn upgraded_in(weak: &WeakTextRange, tree: &Tree) -> Option<(Spot, Spot)> {
+    match weak.upgrade(tree.state()) {
+        Some(range) => Some(both_ends(&range)),
+        None => None,
+    }
+}
+
+/// The ends of the first two letters in another tree, by its state and by a view of it.
+fn upgraded_elsewhere(alloc: Global, text: Text) -> Result<[Option<(Spot, Spot)>; 2], Fail> {
+    let (tree, other) = (planted(alloc, LONG)?, planted(alloc, text)?);
+    let weak = first_two(alloc, &root_of(&tree))?;
+    Ok([
+        upgraded_in(&weak, &other),
+        upgraded(&weak, other.state().view()),
+    ])
+}
+
+/// Another tree, and where it has the first two letters: by the ids of runs, and not past their ends.
+static ELSEWHERE: [(Text, Option<(Spot, Spot)>); 5] = [
+    (LONG, Some(((1, 0), (1, 2)))),
+    (THIRD, Some(((1, 0), (1, 2)))),
+    (SHORT_TEXT, None),
+    (NOTHING, None),
+    (OWN_VALUE, None),
+];
+
+#[test]
+fn weak_ranges_are_found_in_states_and_in_views(rt: HostRuntime) -> Result<(), Fail> {
+    for (row, (text, wanted)) in ELSEWHERE.iter().enumerate() {
+        let given = upgraded_elsewhere(rt.alloc(), text)?;
+        assert!(rt; given == [*wanted; 2], "row {row}");
+    }
     Ok(())
 }
 

@@ -135,23 +135,39 @@ fn assert_cut(rt: &impl Abort, writer: &Failing, text: &str, length: Option<usiz
     }
 }
 
+/// Asserts what is written of a root to a writer that fails at this call, and says whether the writer was done before.
+fn assert_writing(
+    rt: &impl Abort,
+    alloc: Global,
+    root: &NodeRef,
+    writing: Writing,
+    fails_at: u32,
+    (text, length): (&str, Option<usize>),
+) -> Result<bool, Fail> {
+    let (writer, answer) = written(alloc, root, writing, fails_at)?;
+    match answer {
+        Ok(is_there) => {
+            assert!(rt; is_there && writer.text.as_str() == text, "{text}");
+            Ok(true)
+        }
+        Err(_) => {
+            assert_cut(rt, &writer, text, length);
+            Ok(false)
+        }
+    }
+}
+
 #[test]
 fn writers_that_fail_have_a_beginning(rt: HostRuntime) -> Result<(), Fail> {
     for (root, writing, text, length) in &WRITINGS {
         let tree = planted(rt.alloc(), root)?;
+        let root = root_of(&tree);
         let mut has_ended = false;
         for fails_at in 1..9u32 {
-            let (writer, answer) = written(rt.alloc(), &root_of(&tree), *writing, fails_at)?;
-            if answer.is_err() {
-                assert!(rt; !has_ended, "{text}");
-                assert_cut(&rt, &writer, text, *length);
-                continue;
-            }
-            has_ended = true;
-            assert!(rt;
-                answer == Ok(true) && writer.text.as_str() == *text,
-                "{text}"
-            );
+            let told = (*text, *length);
+            let is_done = assert_writing(&rt, rt.alloc(), &root, *writing, fails_at, told)?;
+            assert!(rt; is_done || !has_ended, "{text}");
+            has_ended = is_done;
         }
         assert!(rt; has_ended, "{text}");
     }

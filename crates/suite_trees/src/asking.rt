@@ -2,10 +2,10 @@
 
 ghost use Rattle.std.specs.Prelude.{⊤};
 
-use crate::updates::{CHILD_MOVED, FAMILY, INNER_DOCUMENT, INNER_MOVED, OUTER_DOCUMENT, WINDOW};
 use sketches::ids::{id, tree_id};
 use sketches::recorder::Told::{Added, FocusMoved, Removed, Updated};
 use sketches::recorder::{Id, Told, id_of, pair};
+use sketches::updates::{CHILD_MOVED, FAMILY, INNER_DOCUMENT, INNER_MOVED, OUTER_DOCUMENT, WINDOW};
 use sketches::{Sent, grown_by};
 use std::alloc::Global;
 use std::test::Fail;
@@ -13,18 +13,18 @@ use trees::TreeChangeHandler;
 use views::{NodeRef, StateRef};
 
 /// Where a state has a node: its parent and its first child.
-#[derive(Clone, Copy, Debug, PartialEq, Eq)]
+#[derive(Clone, Copy, PartialEq, Eq)]
 struct Kin(Option<Id>, Option<Id>);
 
 /// Where a state has the nodes that are asked for and are there, and the root of tree 2.
-#[derive(Clone, Copy, Debug, PartialEq, Eq)]
+#[derive(Clone, Copy, PartialEq, Eq)]
 struct Shown {
     nodes: [Option<Kin>; 4],
     inner_root: Option<Id>,
 }
 
 /// What is told, and what the old and the new state show then.
-#[derive(Clone, Copy, Debug, PartialEq, Eq)]
+#[derive(Clone, Copy, PartialEq, Eq)]
 struct Asked {
     told: Told,
     old: Option<Shown>,
@@ -51,16 +51,47 @@ impl Asker {
     fn shown(&self, node: Option<&NodeRef>) -> Option<Shown> {
         let state = node?.tree_state();
         Some(Shown {
-            nodes: self.ids.map(|id| kin_in(state, id)),
-            inner_root: state.subtree_root(tree_id(2)).map(pair),
+            nodes: kin_of_all(state, self.ids),
+            inner_root: inner_root(state),
         })
     }
 }
 
+fn first_child(node: &NodeRef) -> Option<Id> {
+    match node.child_ids().next() {
+        Some(child) => Some(pair(child)),
+        None => None,
+    }
+}
+
+fn parent(node: &NodeRef) -> Option<Id> {
+    match node.parent_id() {
+        Some(parent) => Some(pair(parent)),
+        None => None,
+    }
+}
+
 fn kin_in(state: StateRef, (tree, node): Id) -> Option<Kin> {
-    let node = state.node_by_id(id(tree, node))?;
-    let child = node.child_ids().next();
-    Some(Kin(node.parent_id().map(pair), child.map(pair)))
+    match state.node_by_id(id(tree, node)) {
+        Some(node) => Some(Kin(parent(&node), first_child(&node))),
+        None => None,
+    }
+}
+
+fn kin_of_all(state: StateRef, [first, second, third, last]: [Id; 4]) -> [Option<Kin>; 4] {
+    [
+        kin_in(state, first),
+        kin_in(state, second),
+        kin_in(state, third),
+        kin_in(state, last),
+    ]
+}
+
+fn inner_root(state: StateRef) -> Option<Id> {
+    match state.subtree_root(tree_id(2)) {
+        Some(root) => Some(pair(root)),
+        None => None,
+    }
 }
 
 impl TreeChangeHandler for Asker {
@@ -171,16 +202,46 @@ static SHOWN: [Both; 2] = [
     },
 ];
 
+/// Sends the update of a case.
+fn tell(alloc: Global, case: &Case, asker: &mut Asker) -> Result<(), Fail> {
+    let mut tree = grown_by(alloc, case.before, false)?;
+    let update = case.sent.update(alloc)?;
+    Ok(tree.update_and_process_changes(update, asker)?)
+}
+
 /// Sends the update of a case, and answers what was asked.
 fn ask_about(alloc: Global, case: &Case) -> Result<Asker, Fail> {
-    let mut tree = grown_by(alloc, case.before, false)?;
     let mut asker = Asker {
         ids: case.ids,
         asked: Vec::new(alloc),
         has_lost: false,
     };
-    tree.update_and_process_changes(case.sent.update(alloc)?, &mut asker)?;
+    tell(alloc, case, &mut asker)?;
     Ok(asker)
+}
+
+/// What is asked of states that show this, and told so.
+fn wanted(told: Told, shown: &Both) -> Asked {
+    let has_old = !matches!(told, Added(..));
+    let has_new = !matches!(told, Removed(..));
+    Asked {
+        told,
+        old: if has_old { Some(shown.old) } else { None },
+        new: if has_new { Some(shown.new) } else { None },
+    }
+}
+
+/// Whether all this was asked, in order.
+fn are_asked(asker: &Asker, told: &[Told], shown: &Both) -> bool {
+    if asker.has_lost || asker.asked.len() != told.len() {
+        return false;
+    }
+    for (asked, told) in asker.asked.iter().zip(told) {
+        if *asked != wanted(*told, shown) {
+            return false;
+        }
+    }
+    true
 }
 
 /// Each view shows its own state, whatever is told.
@@ -188,18 +249,7 @@ fn ask_about(alloc: Global, case: &Case) -> Result<Asker, Fail> {
 fn views_show_their_states_while_told(rt: HostRuntime) -> Result<(), Fail> {
     for (case, shown) in CASES.iter().zip(SHOWN) {
         let asker = ask_about(rt.alloc(), case)?;
-        assert!(rt; !asker.has_lost);
-        assert_eq!(rt; asker.asked.len(), case.told.len());
-        for (asked, told) in asker.asked.iter().zip(case.told) {
-            let has_old = !matches!(told, Added(..));
-            let has_new = !matches!(told, Removed(..));
-            let wanted = Asked {
-                told: *told,
-                old: if has_old { Some(shown.old) } else { None },
-                new: if has_new { Some(shown.new) } else { None },
-            };
-            assert_eq!(rt; *asked, wanted);
-        }
+        assert!(rt; are_asked(&asker, case.told, &shown));
     }
     Ok(())
 }

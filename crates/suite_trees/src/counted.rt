@@ -1,22 +1,21 @@
 //! How many look-ups an update makes.
 
-use crate::updates::{INNER_DOCUMENT, INNER_MOVED, OUTER_DOCUMENT, WINDOW};
-use schema::{Node, NodeId, Role, TreeId, TreeUpdate};
+use schema::{Node, NodeBuilder, NodeId, Role, TreeId, TreeUpdate};
 use sketches::ids::id;
 use sketches::recorder::{Recorder, Told};
+use sketches::updates::{INNER_DOCUMENT, INNER_MOVED, OUTER_DOCUMENT, WINDOW};
 use sketches::{Has, first_update, grown_by, node_of};
 use std::alloc::{AllocError, Global};
-use std::process::Abort;
 use std::test::Fail;
 use trees::{Steps, Tree};
 
 /// A node that has the ids from `first` on below `end` as its children.
 fn over(alloc: Global, id: u64, first: u64, end: u64) -> Result<(NodeId, Node), AllocError> {
-    let mut node = Node::new(alloc, Role::GenericContainer);
+    let mut node = NodeBuilder::new(alloc, Role::GenericContainer);
     for child in first..end {
-        node.push_child(NodeId(child))?;
+        node = node.child(NodeId(child));
     }
-    Ok((NodeId(id), node))
+    Ok((NodeId(id), node.build()?))
 }
 
 /// A tree in which node 0 has one child or more, and the others none or, of a chain, the next.
@@ -43,71 +42,130 @@ fn naming(alloc: Global, id: u64, label: &'static [Has]) -> Result<TreeUpdate, A
 
 const LABEL: &[Has] = &[Has::Label("label")];
 
-/// Sends an update that is accepted, and asserts that it makes some look-ups, and at most so many. Answers what was told.
-fn assert_counted(
-    rt: &impl Abort,
-    alloc: Global,
-    tree: &mut Tree,
-    update: TreeUpdate,
-    most: u128,
-) -> Result<Vec<Told>, Fail> {
+/// What is told of an update, and how many look-ups it makes.
+#[derive(Drop)]
+struct Counted {
+    told: Vec<Told>,
+    count: u128,
+}
+
+/// Sends an update that is accepted.
+fn count_sent(alloc: Global, tree: &mut Tree, update: TreeUpdate) -> Result<Counted, Fail> {
     let mut recorder = Recorder::new(alloc);
     let mut steps = Steps::new();
     tree.update_and_process_changes_counted(update, &mut recorder, &mut steps)?;
-    let count = steps.count();
-    assert!(rt;
-        0 < count && count <= most,
-        "{count} look-ups, at most {most}"
-    );
-    assert!(rt; !recorder.has_lost);
-    Ok(recorder.told)
+    if recorder.has_lost {
+        return Err("no memory".into());
+    }
+    Ok(Counted {
+        told: recorder.told,
+        count: steps.count(),
+    })
+}
+
+/// Whether there are some look-ups, and at most so many.
+fn is_within(count: u128, most: u128) -> bool {
+    0 < count && count <= most
+}
+
+/// Sends a label of a node to a tree of so many nodes.
+fn labelled(alloc: Global, count: u64, is_chain: bool, named: u64) -> Result<Counted, Fail> {
+    let mut tree = tree_of(alloc, count, is_chain)?;
+    count_sent(alloc, &mut tree, naming(alloc, named, LABEL)?)
 }
 
 /// Among ten thousand leaves, and at the end of a chain of a thousand nodes.
 #[test]
 fn label_is_counted(rt: HostRuntime) -> Result<(), Fail> {
-    let alloc = rt.alloc();
     for (count, is_chain, named, most) in [(10_001, false, 5_000, 80), (1_000, true, 999, 16_048)] {
-        let mut tree = tree_of(alloc, count, is_chain)?;
-        let update = naming(alloc, named, LABEL)?;
-        let told = assert_counted(&rt, alloc, &mut tree, update, most)?;
-        assert_eq!(rt; told.as_slice(), [Told::Updated(0, named)].as_slice());
+        let counted = labelled(rt.alloc(), count, is_chain, named)?;
+        assert!(rt; is_within(counted.count, most), "{count}");
+        assert!(rt; counted.told.as_slice() == [Told::Updated(0, named)].as_slice());
     }
     Ok(())
+}
+
+/// Sends a window whose graft moves.
+fn moved(alloc: Global) -> Result<Counted, Fail> {
+    let mut tree = grown_by(alloc, &[WINDOW, OUTER_DOCUMENT, INNER_DOCUMENT], false)?;
+    count_sent(alloc, &mut tree, INNER_MOVED.update(alloc)?)
 }
 
 #[test]
 fn graft_that_moves_is_counted(rt: HostRuntime) -> Result<(), Fail> {
-    let alloc = rt.alloc();
-    let mut tree = grown_by(alloc, &[WINDOW, OUTER_DOCUMENT, INNER_DOCUMENT], false)?;
-    let update = INNER_MOVED.update(alloc)?;
-    let told = assert_counted(&rt, alloc, &mut tree, update, 208)?;
-    assert_eq!(rt; told.len(), 6);
+    let counted = moved(rt.alloc())?;
+    assert!(rt; is_within(counted.count, 208));
+    assert!(rt; counted.told.len() == 6);
     Ok(())
 }
 
-/// All nodes but the root go: five thousand leaves, or a chain of a hundred thousand nodes, of which the last has a path.
+/// Sends a root of a tree of so many nodes with no children.
+fn emptied(alloc: Global, count: u64, is_chain: bool) -> Result<Counted, Fail> {
+    let mut tree = tree_of(alloc, count, is_chain)?;
+    count_sent(alloc, &mut tree, naming(alloc, 0, &[])?)
+}
+
+/// Whether the root is updated, and then all other nodes are removed in order.
+fn are_removed(told: &[Told], count: u64) -> bool {
+    let mut wanted = Told::Updated(0, 0);
+    let mut next = 1u64;
+    for told in told {
+        if *told != wanted {
+            return false;
+        }
+        wanted = Told::Removed(0, next);
+        next = next.saturating_add(1);
+    }
+    told.len() as u64 == count
+}
+
+/// All nodes but the root go: five thousand leaves, or a chain of a hundred thousand nodes.
 #[test]
 fn removal_is_counted(rt: HostRuntime) -> Result<(), Fail> {
-    let alloc = rt.alloc();
     for (count, is_chain) in [(5_002, false), (100_000, true)] {
-        let mut tree = tree_of(alloc, count, is_chain)?;
-        if is_chain {
-            let last = id(0, count.saturating_sub(1));
-            let last = tree.state().node_by_id(last).ok_or("no node")?;
-            let path = last.index_path(alloc)?;
-            assert_eq!(rt; path.len(), 99_999);
-            assert!(rt; path.iter().all(|index| *index == 0));
-        }
+        let counted = emptied(rt.alloc(), count, is_chain)?;
         let most = u128::from(count).saturating_mul(16).saturating_add(64);
-        let told = assert_counted(&rt, alloc, &mut tree, naming(alloc, 0, &[])?, most)?;
-        assert!(rt; told.first().copied() == Some(Told::Updated(0, 0)));
-        for (id, told) in (1..count).zip(told.iter().skip(1)) {
-            assert!(rt; *told == Told::Removed(0, id));
-        }
-        assert_eq!(rt; told.len() as u64, count);
+        assert!(rt; is_within(counted.count, most), "{count}");
+        assert!(rt; are_removed(&counted.told, count), "{count}");
     }
     Ok(())
+}
+
+/// The path to the last node of a chain of so many.
+fn path_to_last(alloc: Global, count: u64) -> Result<Vec<usize>, Fail> {
+    let tree = tree_of(alloc, count, true)?;
+    let last = tree.state().node_by_id(id(0, count.saturating_sub(1)));
+    Ok(last.ok_or("no node")?.index_path(alloc)?)
+}
+
+/// Whether all of them are 0.
+fn are_zero(indexes: &[usize]) -> bool {
+    for index in indexes {
+        if *index != 0 {
+            return false;
+        }
+    }
+    true
+}
+
+#[test]
+fn end_of_a_chain_has_a_path(rt: HostRuntime) -> Result<(), Fail> {
+    let path = path_to_last(rt.alloc(), 100_000)?;
+    assert!(rt; path.len() == 99_999 && are_zero(&path));
+    Ok(())
+}
+
+/// Sends a label of a node, whether or not it is accepted, and says whether it is; and counts on.
+fn sent(alloc: Global, tree: &mut Tree, named: u64, steps: &mut Steps) -> Result<bool, Fail> {
+    let mut recorder = Recorder::new(alloc);
+    let update = naming(alloc, named, LABEL)?;
+    let answer = tree.update_and_process_changes_counted(update, &mut recorder, steps);
+    Ok(answer.is_ok())
+}
+
+/// How many look-ups there were.
+fn count(steps: &Steps) -> u128 {
+    steps.count()
 }
 
 /// The count goes on from where it was, also over an update that is refused.
@@ -115,19 +173,14 @@ fn removal_is_counted(rt: HostRuntime) -> Result<(), Fail> {
 fn steps_add_up(rt: HostRuntime) -> Result<(), Fail> {
     let alloc = rt.alloc();
     let mut tree = tree_of(alloc, 3, true)?;
-    let mut recorder = Recorder::new(alloc);
     let mut steps = Steps::new();
-    assert_eq!(rt; steps.count(), 0);
-    let label = naming(alloc, 2, LABEL)?;
-    tree.update_and_process_changes_counted(label, &mut recorder, &mut steps)?;
-    let first = steps.count();
-    let island = naming(alloc, 7, LABEL)?;
-    let refused = tree.update_and_process_changes_counted(island, &mut recorder, &mut steps);
-    assert!(rt; refused.is_err());
-    let second = steps.count();
-    assert!(rt; first <= second);
-    let label = naming(alloc, 2, LABEL)?;
-    tree.update_and_process_changes_counted(label, &mut recorder, &mut steps)?;
-    assert!(rt; second < steps.count());
+    assert!(rt; count(&steps) == 0);
+    assert!(rt; sent(alloc, &mut tree, 2, &mut steps)?);
+    let first = count(&steps);
+    assert!(rt; !sent(alloc, &mut tree, 7, &mut steps)?);
+    let second = count(&steps);
+    assert!(rt; 0 < first && first <= second);
+    assert!(rt; sent(alloc, &mut tree, 2, &mut steps)?);
+    assert!(rt; second < count(&steps));
     Ok(())
 }

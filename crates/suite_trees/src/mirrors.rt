@@ -1,33 +1,55 @@
 //! Mirrors: one that is told of each update holds what one does that is made of the tree after it.
 
-use crate::updates::{
-    BUTTON_DROPPED, CHILD_AS_ROOT, CHILD_MOVED, DOCUMENT, FAMILY, FOCUS_ON_CHILD, GRAFT_RENAMED,
-    INNER_DOCUMENT, INNER_MOVED, OUTER_DOCUMENT, PLAIN, WINDOW,
-};
-use schema::{Node, NodeId, Role, TreeId, TreeInfo, TreeUpdate};
 use sketches::Sent;
 use sketches::dice::Dice;
 use sketches::ids::{id, tree_id};
+use sketches::made_up::made_up;
 use sketches::recorder::{Id, Recorder, Told, pair};
-use std::alloc::Global;
-use std::process::Abort;
+use sketches::updates::{
+    BUTTON_DROPPED, CHILD_AS_ROOT, CHILD_MOVED, DOCUMENT, FAMILY, FOCUS_ON_CHILD, GRAFT_RENAMED,
+    INNER_DOCUMENT, INNER_MOVED, OUTER_DOCUMENT, PLAIN, WINDOW,
+};
+use std::alloc::{AllocError, Global};
+use std::collections::BTreeMap;
 use std::test::Fail;
+use tree_store::MirrorRecord;
 use trees::{Mirror, Tree};
+use views::FullNodeId;
 
-/// Asserts that both mirrors hold the same records and the same focus.
-fn assert_same(rt: &impl Abort, told: &Mirror, made: &Mirror) -> Result<(), Fail> {
-    assert_eq!(rt; told.focus(), made.focus());
-    let told = told.records().ok_or("the mirror keeps nothing")?;
-    let made = made.records().ok_or("the other mirror keeps nothing")?;
-    assert_eq!(rt; told.len(), made.len());
-    for (id, record) in told {
-        let other = made.get(id).ok_or("a node that isn't there")?;
-        assert!(rt;
-            record.place == other.place && record.node == other.node,
-            "{id:?}"
-        );
+/// The records of a mirror.
+type Records = BTreeMap<FullNodeId, MirrorRecord>;
+
+/// Whether the second records have this one.
+fn has_record(records: &Records, id: &FullNodeId, record: &MirrorRecord) -> bool {
+    match records.get(id) {
+        Some(other) => record.place == other.place && record.node == other.node,
+        None => false,
     }
-    Ok(())
+}
+
+/// Whether both have the same records.
+fn are_same_records(told: &Records, made: &Records) -> bool {
+    for (id, record) in told {
+        if !has_record(made, id, record) {
+            return false;
+        }
+    }
+    told.len() == made.len()
+}
+
+/// Whether both mirrors hold the same records and the same focus.
+fn are_same(told: &Mirror, made: &Mirror) -> bool {
+    match (told.records(), made.records()) {
+        (Some(records), Some(others)) => {
+            told.focus() == made.focus() && are_same_records(records, others)
+        }
+        _ => false,
+    }
+}
+
+/// Whether a mirror holds what one does that is made of the tree.
+fn is_of(alloc: Global, mirror: &Mirror, tree: &Tree) -> Result<bool, AllocError> {
+    Ok(are_same(mirror, &Mirror::new(alloc, tree)?))
 }
 
 /// Updates one after the other, and where the last leaves its nodes.
@@ -63,83 +85,106 @@ static COURSES: [Course; 5] = [
     ),
 ];
 
+/// A tree, what was told of it, and a mirror that was told, too.
+#[derive(Drop)]
+struct Mirrored {
+    tree: Tree,
+    both: (Recorder, Mirror),
+}
+
+/// The tree of a first update. The host is focused.
+fn begun(alloc: Global, first: &Sent) -> Result<Mirrored, Fail> {
+    let tree = Tree::new(alloc, first.update(alloc)?, true)?;
+    let mirror = Mirror::new(alloc, &tree)?;
+    Ok(Mirrored {
+        tree,
+        both: (Recorder::new(alloc), mirror),
+    })
+}
+
+/// Sends an update that is accepted.
+fn send(alloc: Global, mirrored: &mut Mirrored, sent: &Sent) -> Result<(), Fail> {
+    let update = sent.update(alloc)?;
+    Ok(
+        mirrored
+            .tree
+            .update_and_process_changes(update, &mut mirrored.both)?,
+    )
+}
+
+/// Whether the mirror holds what one does that is made of the tree.
+fn is_right(alloc: Global, mirrored: &Mirrored) -> Result<bool, AllocError> {
+    is_of(alloc, &mirrored.both.1, &mirrored.tree)
+}
+
+/// Where a node is, if its record is there.
+fn place_in(records: &Records, id: FullNodeId) -> Option<Option<(Id, usize)>> {
+    match records.get(&id) {
+        Some(record) => Some(match record.place {
+            Some((parent, index)) => Some((pair(parent), index)),
+            None => None,
+        }),
+        None => None,
+    }
+}
+
+/// Whether the mirror has these nodes at their places, and no others.
+fn has_places(mirror: &Mirror, places: &[(Id, Option<(Id, usize)>)]) -> bool {
+    let Some(records) = mirror.records() else {
+        return false;
+    };
+    for ((tree, node), place) in places {
+        if place_in(records, id(*tree, *node)) != Some(*place) {
+            return false;
+        }
+    }
+    records.len() == places.len()
+}
+
+/// Whether the mirror has the focus of the tree, and then none where the host has lost it, and the last that is told is that.
+fn follows_focus(mirrored: &mut Mirrored) -> bool {
+    let focus = mirrored.tree.state().focus_id();
+    if mirrored.both.1.focus() != Some(focus) {
+        return false;
+    }
+    mirrored
+        .tree
+        .update_host_focus_state_and_process_changes(false, &mut mirrored.both);
+    let told = Told::FocusMoved(focus.map(pair), None);
+    mirrored.both.1.focus() == Some(None) && mirrored.both.0.told.as_slice().last() == Some(&told)
+}
+
 #[test]
 fn mirrors_follow_updates(rt: HostRuntime) -> Result<(), Fail> {
     let alloc = rt.alloc();
-    for (sent, places) in &COURSES {
+    for (row, (sent, places)) in COURSES.iter().enumerate() {
         let (first, others) = sent.split_first().ok_or("no update")?;
-        let mut tree = Tree::new(alloc, first.update(alloc)?, true)?;
-        let mut both = (Recorder::new(alloc), Mirror::new(alloc, &tree)?);
+        let mut mirrored = begun(alloc, first)?;
         for other in others {
-            tree.update_and_process_changes(other.update(alloc)?, &mut both)?;
-            assert_same(&rt, &both.1, &Mirror::new(alloc, &tree)?)?;
+            send(alloc, &mut mirrored, other)?;
+            assert!(rt; is_right(alloc, &mirrored)?, "{row}");
         }
-        let records = both.1.records().ok_or("the mirror keeps nothing")?;
-        assert_eq!(rt; records.len(), places.len());
-        for ((tree, node), place) in *places {
-            let record = records.get(&id(*tree, *node)).ok_or("a node is missing")?;
-            let kept = record.place.map(|(parent, index)| (pair(parent), index));
-            assert_eq!(rt; kept, *place, "{tree}:{node}");
-        }
-        let focus = tree.state().focus_id();
-        assert!(rt; both.1.focus() == Some(focus));
-        tree.update_host_focus_state_and_process_changes(false, &mut both);
-        assert_eq!(rt; both.1.focus(), Some(None));
-        let told = Told::FocusMoved(focus.map(pair), None);
-        assert!(rt; both.0.told.as_slice().last() == Some(&told));
+        assert!(rt; has_places(&mirrored.both.1, places), "{row}");
+        assert!(rt; follows_focus(&mut mirrored), "{row}");
     }
     Ok(())
 }
 
-/// Node ids of made-up trees lie below this number.
-const NODES: u64 = 8;
-
-/// A node that lists each other one whose parent it is, and else may graft a tree.
-fn made_up_node(
+/// Sends a made-up update, and says whether it is accepted; now and then the host gets the focus or loses it.
+fn go_on(
     alloc: Global,
-    number: u64,
-    parents: &[Option<u64>],
-    is_grafting: bool,
-) -> Result<(NodeId, Node), Fail> {
-    let mut node = Node::new(alloc, Role::GenericContainer);
-    for (child, parent) in (0u64..).zip(parents) {
-        if *parent == Some(number) {
-            node.push_child(NodeId(child))?;
-        }
+    dice: &mut Dice,
+    tree: &mut Tree,
+    mirror: &mut Mirror,
+) -> Result<bool, Fail> {
+    let name = tree_id(u128::from(dice.below(2)));
+    let update = made_up(alloc, dice, name)?;
+    let is_accepted = tree.update_and_process_changes(update, mirror).is_ok();
+    if dice.is_one_in(8) {
+        let is_host_focused = dice.is_one_in(2);
+        tree.update_host_focus_state_and_process_changes(is_host_focused, mirror);
     }
-    if is_grafting && node.children().is_empty() {
-        node.set_tree_id(tree_id(1));
-    }
-    Ok((NodeId(number), node))
-}
-
-/// An update that brings a tree anew: each of its nodes but the root is below any earlier one, or is left out. In the root
-/// tree one of its leaves may graft another tree. Now and then it breaks a rule.
-pub fn made_up(alloc: Global, dice: &mut Dice, name: TreeId) -> Result<TreeUpdate, Fail> {
-    let mut parents = Vec::new(alloc);
-    let mut named = Vec::new(alloc);
-    parents.push(None)?;
-    named.push(0u64)?;
-    for number in 1..NODES {
-        let parent = dice.of(&named);
-        let is_there = !dice.is_one_in(3);
-        parents.push(if is_there { parent } else { None })?;
-        if is_there {
-            named.push(number)?;
-        }
-    }
-    let mut nodes = Vec::new(alloc);
-    let graft = dice.of(&named).filter(|_| name == TreeId::root());
-    for number in &named {
-        let is_grafting = *number != 0 && graft == Some(*number);
-        nodes.push(made_up_node(alloc, *number, &parents, is_grafting)?)?;
-    }
-    Ok(TreeUpdate {
-        nodes,
-        tree: Some(TreeInfo::new(NodeId(0))),
-        tree_id: name,
-        focus: NodeId(dice.of(&named).unwrap_or(NODES)),
-    })
+    Ok(is_accepted)
 }
 
 /// Updates of two trees and changes of the host's focus; more than a third of the updates is accepted.
@@ -151,16 +196,9 @@ fn mirror_follows_made_up_updates(rt: HostRuntime) -> Result<(), Fail> {
     let mut mirror = Mirror::new(alloc, &tree)?;
     let mut accepted = 0u32;
     for _ in 0..1_000u32 {
-        let name = tree_id(u128::from(dice.below(2)));
-        let update = made_up(alloc, &mut dice, name)?;
-        if tree.update_and_process_changes(update, &mut mirror).is_ok() {
-            accepted = accepted.saturating_add(1);
-        }
-        if dice.is_one_in(8) {
-            let is_host_focused = dice.is_one_in(2);
-            tree.update_host_focus_state_and_process_changes(is_host_focused, &mut mirror);
-        }
-        assert_same(&rt, &mirror, &Mirror::new(alloc, &tree)?)?;
+        let is_accepted = go_on(alloc, &mut dice, &mut tree, &mut mirror)?;
+        accepted = accepted.saturating_add(u32::from(is_accepted));
+        assert!(rt; is_of(alloc, &mirror, &tree)?);
     }
     assert!(rt; 333 < accepted && accepted < 1_000, "{accepted}");
     Ok(())

@@ -1,22 +1,22 @@
 //! Plans of updates, and the look-ups by which they are made.
 
-use crate::updates::{
-    BUTTON_DROPPED, CHILD_AS_ROOT, DOCUMENT, FOCUS_ON_CHILD, GRAFT_RENAMED, PLAIN, WINDOW,
-};
 use model::PlanEvent;
-use schema::{NodeId, TreeId, TreeUpdate};
+use schema::{Node, NodeId, TreeId, TreeUpdate};
 use sketches::Sent;
 use sketches::ids::{id, tree_id};
 use sketches::recorder::{Id, Told, pair};
+use sketches::updates::{
+    BUTTON_DROPPED, CHILD_AS_ROOT, DOCUMENT, FOCUS_ON_CHILD, GRAFT_RENAMED, PLAIN, WINDOW,
+};
 use std::alloc::Global;
-use std::process::Abort;
 use std::test::Fail;
 use tree_changes::{LookUps, NodeRecord, TreeRecord, UpdateError};
 use tree_plan::{Change, Plan, decide, plan_update};
 use tree_store::{NoRecords, Store, StoreLookUps};
+use views::FullNodeId;
 
 /// A change, without the data of a node. A tree goes by the number of its name.
-#[derive(Clone, Copy, Debug, PartialEq, Eq)]
+#[derive(Clone, Copy, PartialEq, Eq)]
 enum Shown {
     /// A node, its place, and whether it has data.
     Put(Id, Option<(Id, usize)>, bool),
@@ -172,82 +172,152 @@ fn is_shown(change: &Change, shown: Shown) -> bool {
     }
 }
 
-/// Asserts that the plan has these changes and no others, and that the data are those that were sent.
-fn assert_changes(
-    rt: &impl Abort,
-    plan: &Plan,
-    planned: &Planned,
-    sent: &TreeUpdate,
-) -> Result<(), Fail> {
-    let name = planned.name;
-    assert_eq!(rt; plan.changes.len(), planned.changes.len(), "{name}");
-    for wanted in planned.changes {
-        let is_there = plan.changes.iter().any(|change| is_shown(change, *wanted));
-        assert!(rt; is_there, "{name}: {wanted:?}");
-    }
-    for change in &plan.changes {
-        if let Change::Put {
-            id,
-            node: Some(node),
-            ..
-        } = change
-        {
-            let named = sent.nodes.iter().find(|(named, _)| *named == id.node);
-            let (_, data) = named.ok_or("data that were not sent")?;
-            assert!(rt; node == data, "{name}");
+/// Whether one of the changes is this one.
+fn has_change(changes: &[Change], wanted: Shown) -> bool {
+    for change in changes {
+        if is_shown(change, wanted) {
+            return true;
         }
     }
-    Ok(())
+    false
+}
+
+/// Whether the changes are these and no others.
+fn are_shown(changes: &[Change], wanted: &[Shown]) -> bool {
+    for wanted in wanted {
+        if !has_change(changes, *wanted) {
+            return false;
+        }
+    }
+    changes.len() == wanted.len()
+}
+
+/// Whether the data of the node were sent.
+fn is_sent(sent: &TreeUpdate, id: NodeId, data: &Node) -> bool {
+    for (named, node) in &sent.nodes {
+        if *named == id {
+            return node == data;
+        }
+    }
+    false
+}
+
+/// Whether the data in the changes are those that were sent.
+fn are_sent(changes: &[Change], sent: &TreeUpdate) -> bool {
+    for change in changes {
+        match change {
+            Change::Put {
+                id,
+                node: Some(node),
+                ..
+            } if !is_sent(sent, id.node, node) => return false,
+            _ => {}
+        }
+    }
+    true
+}
+
+/// Whether the events are these.
+fn are_told(events: &[PlanEvent], wanted: &[Told]) -> bool {
+    for (event, wanted) in events.iter().zip(wanted) {
+        if told(event) != *wanted {
+            return false;
+        }
+    }
+    events.len() == wanted.len()
+}
+
+/// The plan of the update, as it is sent, and how many look-ups were made.
+fn plan_of(
+    alloc: Global,
+    planned: &Planned,
+    sent: &TreeUpdate,
+) -> Result<(Plan, u128), UpdateError> {
+    let store = first_store(alloc, &planned.before, planned.is_host_focused)?;
+    let mut look_ups = StoreLookUps::new(&store, 0);
+    let plan = plan_update(alloc, &mut look_ups, sent.clone(alloc)?)?;
+    Ok((plan, look_ups.count()))
+}
+
+/// How many look-ups there are with those of the events and the changes.
+fn count_of_all(plan: &Plan, count: u128) -> u128 {
+    let pairs = plan.events.len().saturating_add(plan.changes.len());
+    count.saturating_add(2u128.saturating_mul(pairs as u128))
 }
 
 #[test]
 fn updates_are_planned(rt: HostRuntime) -> Result<(), Fail> {
-    let alloc = rt.alloc();
-    for planned in &PLANNED {
-        let name = planned.name;
-        let store = first_store(alloc, &planned.before, planned.is_host_focused)?;
-        let mut look_ups = StoreLookUps::new(&store, 0);
-        let sent = planned.sent.update(alloc)?;
-        let plan = plan_update(alloc, &mut look_ups, sent.clone(alloc)?)?;
-        assert_changes(&rt, &plan, planned, &sent)?;
-        let events: Vec<Told> = plan.events.iter().map(told).collect(alloc)?;
-        assert_eq!(rt; events.as_slice(), planned.events, "{name}");
-        let has_toolkit = planned.sent.root.is_some() && planned.sent.tree == 0;
-        assert_eq!(rt; plan.toolkit.is_some(), has_toolkit, "{name}");
-        assert!(rt; pair(plan.focus) == planned.focus, "{name}");
-        let pairs = plan.events.len().saturating_add(plan.changes.len());
-        let count = look_ups.count();
-        let most = count.saturating_add(2u128.saturating_mul(pairs as u128));
-        assert!(rt; 0 < count && most <= planned.most, "{name}: {most}");
+    for row in &PLANNED {
+        let name = row.name;
+        let sent = row.sent.update(rt.alloc())?;
+        let (plan, count) = plan_of(rt.alloc(), row, &sent)?;
+        assert!(rt; are_shown(&plan.changes, row.changes), "{name}");
+        assert!(rt; are_sent(&plan.changes, &sent), "{name}");
+        assert!(rt; are_told(&plan.events, row.events), "{name}");
+        let has_toolkit = row.sent.root.is_some() && row.sent.tree == 0;
+        assert!(rt; plan.toolkit.is_some() == has_toolkit, "{name}");
+        assert!(rt; pair(plan.focus) == row.focus, "{name}");
+        let all = count_of_all(&plan, count);
+        assert!(rt; 0 < count && all <= row.most, "{name}: {all}");
     }
     Ok(())
 }
 
+/// Why the update of the state after another one is refused, if it is.
+fn refused(alloc: Global, before: &Sent, sent: &Sent) -> Result<Option<UpdateError>, UpdateError> {
+    let store = first_store(alloc, before, true)?;
+    let mut look_ups = StoreLookUps::new(&store, 0);
+    match plan_update(alloc, &mut look_ups, sent.update(alloc)?) {
+        Ok(_) => Ok(None),
+        Err(error) => Ok(Some(error)),
+    }
+}
+
 #[test]
 fn broken_update_is_not_planned(rt: HostRuntime) -> Result<(), Fail> {
-    let store = first_store(rt.alloc(), &WINDOW, true)?;
-    let mut look_ups = StoreLookUps::new(&store, 0);
-    let update = FOCUS_ON_CHILD.update(rt.alloc())?;
-    let refused = plan_update(rt.alloc(), &mut look_ups, update).err();
-    assert_eq!(rt; refused, Some(UpdateError::FocusOnEmptyGraft(tree_id(1))));
+    let refused = refused(rt.alloc(), &WINDOW, &FOCUS_ON_CHILD)?;
+    assert!(rt; refused == Some(UpdateError::FocusOnEmptyGraft(tree_id(1))));
     Ok(())
+}
+
+/// The place of a node, and the tree that it grafts.
+type Found = (Option<(Id, usize)>, Option<TreeId>);
+
+fn node_in(look_ups: &mut StoreLookUps, id: FullNodeId) -> Option<Found> {
+    match look_ups.node(id) {
+        Some(NodeRecord { place, node }) => {
+            let place = place.map(|(parent, index)| (pair(parent), index));
+            Some((place, node.tree_id()))
+        }
+        None => None,
+    }
+}
+
+fn tree_in(look_ups: &mut StoreLookUps, name: u128) -> Option<TreeRecord> {
+    look_ups.tree(tree_id(name))
+}
+
+/// How many look-ups there were, whether the host is focused, and how many trees are known.
+fn numbers_in(look_ups: &StoreLookUps) -> (u128, bool, u32) {
+    (
+        look_ups.count(),
+        look_ups.is_host_focused(),
+        look_ups.known_trees(),
+    )
 }
 
 #[test]
 fn records_are_looked_up_and_counted(rt: HostRuntime) -> Result<(), Fail> {
     let store = first_store(rt.alloc(), &WINDOW, true)?;
     let mut look_ups = StoreLookUps::new(&store, 0);
-    let NodeRecord { place, node } = look_ups.node(id(0, 1)).ok_or("no node")?;
-    assert!(rt; place == Some((id(0, 0), 0)));
-    assert!(rt; node.tree_id() == Some(tree_id(1)));
-    assert!(rt; look_ups.node(id(1, 0)).is_none());
+    let child = node_in(&mut look_ups, id(0, 1));
+    assert!(rt; child == Some((Some(((0, 0), 0)), Some(tree_id(1)))));
+    assert!(rt; node_in(&mut look_ups, id(1, 0)).is_none());
     let root_tree = record(0, Some(0), None, [Some(0), Some(0)]);
-    assert_eq!(rt; look_ups.tree(TreeId::root()), Some(root_tree));
+    assert!(rt; tree_in(&mut look_ups, 0) == Some(root_tree));
     let absent = record(1, None, Some((0, 1)), [None, None]);
-    assert_eq!(rt; look_ups.tree(tree_id(1)), Some(absent));
-    assert_eq!(rt; look_ups.tree(tree_id(2)), None);
-    assert_eq!(rt; look_ups.count(), 5);
-    assert!(rt; look_ups.is_host_focused());
-    assert_eq!(rt; look_ups.known_trees(), 1);
+    assert!(rt; tree_in(&mut look_ups, 1) == Some(absent));
+    assert!(rt; tree_in(&mut look_ups, 2).is_none());
+    assert!(rt; numbers_in(&look_ups) == (5, true, 1));
     Ok(())
 }

@@ -1,6 +1,6 @@
 //! Every run of three of sixteen commands, and a run of each other question, beside its steps one at a time.
 
-use crate::mirrored::mirrors;
+use crate::mirrored::{Beside, begin_beside, is_mirror_of, run_one};
 use crate::sent::{
     DOCUMENT, DROPPED, FIELD, FOCUSED, GRAFTING, HIGHER, LABELLED, NESTING, SHELVES, session,
 };
@@ -9,7 +9,7 @@ use schema::{NodeId, Point, TreeId};
 use session::{At, Command, Move, NamedFilter, Query, Reply, Session, Side};
 use sketches::Sent;
 use sketches::ids::tree_id;
-use sketches::recorder::Recorder;
+use sketches::recorder::{Recorder, Told};
 use std::alloc::{AllocError, Global};
 use std::process::Abort;
 use std::test::Fail;
@@ -67,68 +67,85 @@ fn commands(alloc: Global, numbers: [usize; 3]) -> Result<Vec<Command>, AllocErr
     Ok(commands)
 }
 
-/// Runs commands one at a time with a mirror beside them, and asserts that after each it has what the session's tree has.
-fn mirrored(
-    rt: &impl Abort,
-    alloc: Global,
-    numbers: [usize; 3],
-) -> Result<(Mirror, Vec<Reply>), Fail> {
-    let mut session = session(alloc, SHELVES, false)?;
-    let mut mirror = Mirror::new(alloc, session.tree())?;
-    let mut replies = Vec::new(alloc);
-    for number in numbers {
-        let one = vec![in alloc; command(alloc, number)?]?;
-        let Ok(mut replied) = session.run_mirrored(one, &mut mirror) else {
-            return Err("the run stopped".into());
-        };
-        replies.push(replied.pop().ok_or("no reply")?)?;
-        assert!(rt;
-            mirrors(&mirror, session.tree().state().view()),
-            "{numbers:?}"
-        );
-    }
-    Ok((mirror, replies))
+/// What a run of commands leaves.
+#[derive(Drop)]
+struct Outcome {
+    session: Session,
+    replies: Vec<Reply>,
+    told: Vec<Told>,
 }
 
-/// Steps through commands.
-fn stepped(
-    alloc: Global,
-    session: &mut Session,
-    recorder: &mut Recorder,
-    numbers: [usize; 3],
-) -> Result<Vec<Reply>, AllocError> {
+/// Runs the commands in one run.
+fn ran(alloc: Global, numbers: [usize; 3]) -> Result<Outcome, Fail> {
+    let mut session = session(alloc, SHELVES, false)?;
+    let mut recorder = Recorder::new(alloc);
+    let Ok(replies) = session.run(commands(alloc, numbers)?, &mut recorder) else {
+        return Err("the run stopped".into());
+    };
+    Ok(Outcome {
+        session,
+        replies,
+        told: recorder.told,
+    })
+}
+
+/// Steps through the commands.
+fn stepped(alloc: Global, numbers: [usize; 3]) -> Result<Outcome, Fail> {
+    let mut session = session(alloc, SHELVES, false)?;
+    let mut recorder = Recorder::new(alloc);
     let mut replies = Vec::new(alloc);
     for number in numbers {
-        replies.push(session.step(command(alloc, number)?, recorder)?)?;
+        replies.push(session.step(command(alloc, number)?, &mut recorder)?)?;
     }
-    Ok(replies)
+    Ok(Outcome {
+        session,
+        replies,
+        told: recorder.told,
+    })
+}
+
+/// Runs the command of this number with a mirror beside it, and answers its reply if the mirror has what the session's tree has
+/// then.
+fn mirrored_reply(alloc: Global, both: &mut Beside, number: usize) -> Result<Reply, Fail> {
+    let command = command(alloc, number)?;
+    let reply = run_one(alloc, &mut both.session, &mut both.mirror, command)?;
+    if !is_mirror_of(&both.mirror, &both.session) {
+        return Err("another mirror".into());
+    }
+    Ok(reply)
+}
+
+/// Runs the commands one at a time with a mirror beside them, which has what the session's tree has after each of them.
+fn mirrored(alloc: Global, numbers: [usize; 3]) -> Result<(Mirror, Vec<Reply>), Fail> {
+    let mut both = begin_beside(alloc, SHELVES, false)?;
+    let mut replies = Vec::new(alloc);
+    for number in numbers {
+        replies.push(mirrored_reply(alloc, &mut both, number)?)?;
+    }
+    Ok((both.mirror, replies))
+}
+
+/// Whether both reply the same and tell the same.
+fn are_same(one: &Outcome, other: &Outcome) -> bool {
+    one.replies.as_slice() == other.replies.as_slice()
+        && one.told.as_slice() == other.told.as_slice()
 }
 
 /// Asserts that a run replies and tells what its steps do, and leaves the tree that a mirror of them has.
 fn assert_replayed(rt: &impl Abort, alloc: Global, numbers: [usize; 3]) -> Result<(), Fail> {
-    let mut whole = session(alloc, SHELVES, false)?;
-    let mut told = Recorder::new(alloc);
-    let Ok(replies) = whole.run(commands(alloc, numbers)?, &mut told) else {
-        return Err("the run stopped".into());
-    };
-    let mut again = session(alloc, SHELVES, false)?;
-    let mut told_again = Recorder::new(alloc);
-    let steps = stepped(alloc, &mut again, &mut told_again, numbers)?;
-    assert_eq!(rt; replies.as_slice(), steps.as_slice(), "{numbers:?}");
-    assert_eq!(rt;
-        told.told.as_slice(),
-        told_again.told.as_slice(),
-        "{numbers:?}"
-    );
-    let (mirror, replies_again) = mirrored(rt, alloc, numbers)?;
-    assert_eq!(rt; replies.as_slice(), replies_again.as_slice(), "{numbers:?}");
+    let [first, second, third] = numbers;
+    let (whole, again) = (ran(alloc, numbers)?, stepped(alloc, numbers)?);
+    assert!(rt; are_same(&whole, &again), "{first} {second} {third}");
+    let (mirror, replies) = mirrored(alloc, numbers)?;
+    let are_replies = replies.as_slice() == whole.replies.as_slice();
+    assert!(rt; are_replies, "{first} {second} {third}");
     assert!(rt;
-        mirrors(&mirror, whole.tree().state().view()),
-        "{numbers:?}"
+        is_mirror_of(&mirror, &whole.session),
+        "{first} {second} {third}"
     );
     assert!(rt;
-        mirrors(&mirror, again.tree().state().view()),
-        "{numbers:?}"
+        is_mirror_of(&mirror, &again.session),
+        "{first} {second} {third}"
     );
     Ok(())
 }

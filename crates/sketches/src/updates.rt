@@ -1,8 +1,8 @@
 //! Updates of small interfaces.
 
+use crate::Has::{Children, Graft};
+use crate::{BROUGHT, CHANGED, Sent, Sketch};
 use schema::Role::GenericContainer;
-use sketches::Has::{Children, Graft};
-use sketches::{BROUGHT, CHANGED, Sent, Sketch};
 
 const WITH_CHILD: Sketch = Sketch(0, GenericContainer, &[Children(&[1])]);
 

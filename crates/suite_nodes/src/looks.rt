@@ -6,7 +6,10 @@ use schema::{
 };
 use sketches::Has::{self, Children, Graft, Italic};
 use sketches::{BROUGHT, Sent, Sketch, grown_by, planted, shown};
+use std::process::Abort;
 use std::test::Fail;
+use trees::Tree;
+use views::NodeRef;
 
 const WAVY: TextDecoration = TextDecoration {
     style: TextDecorationStyle::Wavy,
@@ -72,45 +75,63 @@ static LOOKING: [Sent; 2] = [
     },
 ];
 
+/// Whether the window, the group, and the first of the labels give a setting, and the second of them another one.
+fn are_given(tree: &Tree, above: Has, below: Has) -> Result<[bool; 4], Fail> {
+    Ok([
+        gives(&shown(tree, 0, 0)?, above),
+        gives(&shown(tree, 0, 1)?, above),
+        gives(&shown(tree, 1, 1)?, above),
+        gives(&shown(tree, 1, 2)?, below),
+    ])
+}
+
+fn assert_inherited(rt: &impl Abort, tree: &Tree) -> Result<(), Fail> {
+    for (row, (above, below)) in ABOVE.iter().zip(BELOW).enumerate() {
+        let given = are_given(tree, *above, *below)?;
+        assert!(rt; given == [false, true, true, true], "row {row}");
+    }
+    assert!(rt; are_given(tree, Italic, Italic)? == [false, true, true, true]);
+    Ok(())
+}
+
 /// A node looks as the nearest node above it, or itself, that tells anything.
 #[test]
 fn looks_are_inherited_across_grafts(rt: HostRuntime) -> Result<(), Fail> {
     let tree = grown_by(rt.alloc(), &LOOKING, false)?;
-    let (window, group) = (shown(&tree, 0, 0)?, shown(&tree, 0, 1)?);
-    let (first, second) = (shown(&tree, 1, 1)?, shown(&tree, 1, 2)?);
-    for (above, below) in ABOVE.iter().zip(BELOW) {
-        let are_given = [
-            gives(&window, *above),
-            gives(&group, *above),
-            gives(&first, *above),
-            gives(&second, *below),
-        ];
-        assert!(rt; are_given == [false, true, true, true], "{above:?}");
+    assert_inherited(&rt, &tree)
+}
+
+fn live(node: &NodeRef) -> Live {
+    node.live()
+}
+
+fn is_hidden(node: &NodeRef) -> bool {
+    node.is_hidden()
+}
+
+/// A hidden group with a live setting and a label.
+static HIDDEN: [Sketch; 3] = [
+    Sketch(0, Role::Window, &[Children(&[1])]),
+    Sketch(
+        1,
+        Role::GenericContainer,
+        &[Children(&[2]), Has::Live(Live::Polite), Has::Hidden],
+    ),
+    Sketch(2, Role::Label, &[]),
+];
+
+fn assert_live(rt: &impl Abort, tree: &Tree) -> Result<(), Fail> {
+    for (node, wanted) in [(0, Live::Off), (1, Live::Polite), (2, Live::Polite)] {
+        let node = shown(tree, 0, node)?;
+        assert!(rt; live(&node) == wanted);
+        assert!(rt; is_hidden(&node) == (wanted == Live::Polite));
     }
-    let are_italic = [window, group, first, second].map(|node| node.is_italic());
-    assert!(rt; are_italic == [false, true, true, true]);
     Ok(())
 }
 
 /// A live setting holds below the node that has it, and what is below a hidden node is hidden.
 #[test]
 fn live_setting_and_hiding_are_inherited(rt: HostRuntime) -> Result<(), Fail> {
-    let tree = planted(
-        rt.alloc(),
-        &[
-            Sketch(0, Role::Window, &[Children(&[1])]),
-            Sketch(
-                1,
-                Role::GenericContainer,
-                &[Children(&[2]), Has::Live(Live::Polite), Has::Hidden],
-            ),
-            Sketch(2, Role::Label, &[]),
-        ],
-    )?;
-    for (node, live) in [(0, Live::Off), (1, Live::Polite), (2, Live::Polite)] {
-        let node = shown(&tree, 0, node)?;
-        assert_eq!(rt; node.live(), live);
-        assert_eq!(rt; node.is_hidden(), live == Live::Polite);
-    }
-    Ok(())
+    let tree = planted(rt.alloc(), &HIDDEN)?;
+    assert_live(&rt, &tree)
 }

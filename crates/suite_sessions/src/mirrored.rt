@@ -16,6 +16,9 @@ use std::collections::BTreeMap;
 use std::process::Abort;
 use std::test::Fail;
 
+/// The records of a mirror.
+type Records = BTreeMap<FullNodeId, MirrorRecord>;
+
 /// Where a node stands.
 fn place(node: NodeRef) -> Option<Place> {
     let (parent, index) = node.parent_and_index()?;
@@ -23,18 +26,22 @@ fn place(node: NodeRef) -> Option<Place> {
 }
 
 /// Whether a record has the place and the data of a node, and the records those of its children.
-fn is_mirrored(
-    records: &BTreeMap<FullNodeId, MirrorRecord>,
-    record: &MirrorRecord,
-    node: NodeRef,
-) -> bool {
-    record.place == place(node)
-        && record.node == *node.data()
-        && node.child_ids().all(|child| records.contains_key(&child))
+fn is_mirrored(records: &Records, record: &MirrorRecord, node: NodeRef) -> bool {
+    record.place == place(node) && record.node == *node.data() && has_children(records, node)
+}
+
+/// Whether there are records of the node's children.
+fn has_children(records: &Records, node: NodeRef) -> bool {
+    for child in node.child_ids() {
+        if !records.contains_key(&child) {
+            return false;
+        }
+    }
+    true
 }
 
 /// Whether the records are those of a state: the root's, those of all below it, and no others.
-fn are_mirrored(records: &BTreeMap<FullNodeId, MirrorRecord>, state: StateRef) -> bool {
+fn are_mirrored(records: &Records, state: StateRef) -> bool {
     for (id, record) in records {
         match state.node_by_id(*id) {
             Some(node) if is_mirrored(records, record, node) => {}
@@ -125,40 +132,82 @@ static FOLLOWED: [Followed; 5] = [
     },
 ];
 
-/// Sends an update, and asserts that it is accepted, and that the mirror has what the session's tree has.
-fn assert_mirrored(
-    rt: &impl Abort,
+/// Runs one command with a mirror beside the session, and answers its reply, if the run didn't stop.
+pub fn run_one(
     alloc: Global,
     session: &mut Session,
     mirror: &mut Mirror,
-    sent: Sent,
-) -> Result<(), Fail> {
+    command: Command,
+) -> Result<Reply, Fail> {
     let mut commands = Vec::new(alloc);
-    commands.push(Command::Update(sent.update(alloc)?))?;
-    let Ok(replies) = session.run_mirrored(commands, mirror) else {
+    commands.push(command)?;
+    let Ok(mut replies) = session.run_mirrored(commands, mirror) else {
         return Err("the run stopped".into());
     };
-    assert_eq!(rt; replies.as_slice(), [Reply::Accepted].as_slice());
-    assert!(rt; mirrors(mirror, session.tree().state().view()));
-    Ok(())
+    let reply = replies.pop().ok_or("no reply")?;
+    if !replies.is_empty() {
+        return Err("a reply too many".into());
+    }
+    Ok(reply)
 }
 
-/// Asserts that the mirror has these nodes at their places, and no others.
-fn assert_places(
-    rt: &impl Abort,
-    mirror: &Mirror,
-    places: &[(Id, Option<(Id, usize)>)],
-    name: &str,
-) -> Result<(), Fail> {
-    let records = mirror.records().ok_or("no records")?;
-    assert_eq!(rt; records.len(), places.len(), "{name}");
-    for ((tree, node), place) in places {
-        let record = records.get(&id(*tree, *node));
-        let record = record.ok_or("no record")?;
-        let shown = record.place.map(|(parent, index)| (pair(parent), index));
-        assert_eq!(rt; shown, *place, "{name}: {node}");
+/// Whether a mirror has what the session's tree has.
+pub fn is_mirror_of(mirror: &Mirror, session: &Session) -> bool {
+    mirrors(mirror, session.tree().state().view())
+}
+
+/// A session of a first update, with a mirror.
+#[derive(Drop)]
+pub struct Beside {
+    pub session: Session,
+    pub mirror: Mirror,
+}
+
+/// A session of this first update, with a mirror beside it.
+pub fn begin_beside(alloc: Global, first: Sent, is_host_focused: bool) -> Result<Beside, Fail> {
+    let session = session(alloc, first, is_host_focused)?;
+    let mirror = Mirror::new(alloc, session.tree())?;
+    Ok(Beside { session, mirror })
+}
+
+/// Sends an update, and says whether it is accepted and the mirror has what the session's tree has.
+fn is_mirrored_update(alloc: Global, both: &mut Beside, sent: Sent) -> Result<bool, Fail> {
+    let update = Command::Update(sent.update(alloc)?);
+    let reply = run_one(alloc, &mut both.session, &mut both.mirror, update)?;
+    Ok(reply == Reply::Accepted && is_mirror_of(&both.mirror, &both.session))
+}
+
+/// Where a node is, if there is a record of it.
+fn place_in(records: &Records, id: FullNodeId) -> Option<Option<(Id, usize)>> {
+    match records.get(&id) {
+        Some(record) => Some(match record.place {
+            Some((parent, index)) => Some((pair(parent), index)),
+            None => None,
+        }),
+        None => None,
     }
-    Ok(())
+}
+
+/// Whether the mirror has these nodes at their places, and no others.
+fn has_places(mirror: &Mirror, places: &[(Id, Option<(Id, usize)>)]) -> bool {
+    let Some(records) = mirror.records() else {
+        return false;
+    };
+    for ((tree, node), place) in places {
+        if place_in(records, id(*tree, *node)) != Some(*place) {
+            return false;
+        }
+    }
+    records.len() == places.len()
+}
+
+/// Whether the mirror has this focus, if it has any.
+fn has_focus(mirror: &Mirror, focus: Option<Id>) -> bool {
+    match mirror.focus() {
+        Some(Some(id)) => focus == Some(pair(id)),
+        Some(None) => focus.is_none(),
+        None => false,
+    }
 }
 
 /// Sends the updates one at a time to a session with a mirror beside it.
@@ -170,19 +219,19 @@ fn assert_followed(
 ) -> Result<(), Fail> {
     let name = followed.name;
     let first = followed.sent.first().ok_or("no update")?;
-    let mut session = session(alloc, *first, is_host_focused)?;
-    let mut mirror = Mirror::new(alloc, session.tree())?;
-    assert!(rt; mirrors(&mirror, session.tree().state().view()), "{name}");
+    let mut both = begin_beside(alloc, *first, is_host_focused)?;
+    assert!(rt; is_mirror_of(&both.mirror, &both.session), "{name}");
     for sent in followed.sent.iter().skip(1) {
-        assert_mirrored(rt, alloc, &mut session, &mut mirror, *sent)?;
+        assert!(rt; is_mirrored_update(alloc, &mut both, *sent)?, "{name}");
     }
-    let focus = is_host_focused.then_some(followed.focus);
-    assert_eq!(rt;
-        mirror.focus().map(|id| id.map(pair)),
-        Some(focus),
-        "{name}"
-    );
-    assert_places(rt, &mirror, followed.places, name)
+    let focus = if is_host_focused {
+        Some(followed.focus)
+    } else {
+        None
+    };
+    assert!(rt; has_focus(&both.mirror, focus), "{name}");
+    assert!(rt; has_places(&both.mirror, followed.places), "{name}");
+    Ok(())
 }
 
 #[test]
@@ -228,29 +277,44 @@ const WINDOW_TOLD: [Told; 4] = [
     Told::FocusMoved(None, Some((0, 0))),
 ];
 
-#[test]
-fn commands_are_replied_to_in_order(rt: HostRuntime) -> Result<(), Fail> {
-    let alloc = rt.alloc();
+/// Whether these are the replies of the window.
+fn are_window_replies(alloc: Global, replies: &[Reply]) -> Result<bool, AllocError> {
+    Ok(replies == window_replies(alloc)?.as_slice())
+}
+
+/// What the run of a window replies, and what it tells.
+fn window_run(alloc: Global) -> Result<(Vec<Reply>, Recorder), Fail> {
     let mut session = session(alloc, PLAIN, false)?;
     let mut recorder = Recorder::new(alloc);
-    let Ok(replies) = session.run(window_commands(alloc)?, &mut recorder) else {
-        return Err("the run stopped".into());
-    };
-    assert_eq!(rt; replies.as_slice(), window_replies(alloc)?.as_slice());
-    assert_eq!(rt; recorder.told.as_slice(), WINDOW_TOLD.as_slice());
+    match session.run(window_commands(alloc)?, &mut recorder) {
+        Ok(replies) => Ok((replies, recorder)),
+        Err(_) => Err("the run stopped".into()),
+    }
+}
+
+#[test]
+fn commands_are_replied_to_in_order(rt: HostRuntime) -> Result<(), Fail> {
+    let (replies, recorder) = window_run(rt.alloc())?;
+    assert!(rt; are_window_replies(rt.alloc(), &replies)?);
+    assert!(rt; recorder.told.as_slice() == WINDOW_TOLD.as_slice());
     Ok(())
+}
+
+/// What the same run replies with a mirror beside it, and the mirror.
+fn mirrored_run(alloc: Global) -> Result<(Vec<Reply>, Mirror), Fail> {
+    let mut both = begin_beside(alloc, PLAIN, false)?;
+    let commands = window_commands(alloc)?;
+    match both.session.run_mirrored(commands, &mut both.mirror) {
+        Ok(replies) => Ok((replies, both.mirror)),
+        Err(_) => Err("the run stopped".into()),
+    }
 }
 
 #[test]
 fn mirror_follows_a_run(rt: HostRuntime) -> Result<(), Fail> {
-    let alloc = rt.alloc();
-    let mut session = session(alloc, PLAIN, false)?;
-    let mut mirror = Mirror::new(alloc, session.tree())?;
-    let Ok(replies) = session.run_mirrored(window_commands(alloc)?, &mut mirror) else {
-        return Err("the run stopped".into());
-    };
-    assert_eq!(rt; replies.as_slice(), window_replies(alloc)?.as_slice());
-    assert_places(&rt, &mirror, &[((0, 0), None)], "a window alone")?;
-    assert!(rt; mirror.focus() == Some(Some(id(0, 0))));
+    let (replies, mirror) = mirrored_run(rt.alloc())?;
+    assert!(rt; are_window_replies(rt.alloc(), &replies)?);
+    assert!(rt; has_places(&mirror, &[((0, 0), None)]));
+    assert!(rt; has_focus(&mirror, Some((0, 0))));
     Ok(())
 }

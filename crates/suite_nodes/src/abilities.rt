@@ -2,15 +2,18 @@
 
 use schema::{Action, HasPopup, Role, Toggled};
 use sketches::Has::{self, ChildAction, Children};
-use sketches::ids::id;
-use sketches::{Sketch, node_of, planted, root_of, row_of, shown};
+use sketches::ids::{id, id_of};
+use sketches::{Sketch, node_of, planted, row_of, shown};
+use std::alloc::Global;
+use std::process::Abort;
 use std::test::Fail;
-use views::NodeRef;
+use trees::Tree;
 use views::filters::common_filter;
 use views::walks::FilterResult;
+use views::{FullNodeId, NodeRef};
 
 /// What is asked of a node.
-#[derive(Clone, Copy, Debug)]
+#[derive(Clone, Copy)]
 enum Asked {
     CanSelect,
     CanToggle,
@@ -29,18 +32,58 @@ use Asked::{
     CanToggle, IsReadOnly, IsReadOnlyOrDisabled,
 };
 
+fn can_increment(node: &NodeRef) -> bool {
+    node.supports_increment(&common_filter)
+}
+
+fn can_decrement(node: &NodeRef) -> bool {
+    node.supports_decrement(&common_filter)
+}
+
+fn can_focus(node: &NodeRef) -> bool {
+    node.is_focusable(&common_filter)
+}
+
+fn can_by_name(node: &NodeRef, action: Action) -> bool {
+    node.supports_action(action, &common_filter)
+}
+
+fn can_select(node: &NodeRef) -> bool {
+    node.is_selectable()
+}
+
+fn can_toggle(node: &NodeRef) -> bool {
+    node.supports_toggle()
+}
+
+fn can_expand(node: &NodeRef) -> bool {
+    node.supports_expand_collapse()
+}
+
+fn can_follow(node: &NodeRef) -> bool {
+    node.supports_url()
+}
+
+fn is_read_only(node: &NodeRef) -> bool {
+    node.is_read_only()
+}
+
+fn is_read_only_or_disabled(node: &NodeRef) -> bool {
+    node.is_read_only_or_disabled()
+}
+
 fn answer(node: &NodeRef, asked: Asked) -> bool {
     match asked {
-        CanSelect => node.is_selectable(),
-        CanToggle => node.supports_toggle(),
-        CanExpand => node.supports_expand_collapse(),
-        CanFollow => node.supports_url(),
-        CanIncrement => node.supports_increment(&common_filter),
-        CanDecrement => node.supports_decrement(&common_filter),
-        CanFocus => node.is_focusable(&common_filter),
-        CanIncrementByName => node.supports_action(Action::Increment, &common_filter),
-        IsReadOnly => node.is_read_only(),
-        IsReadOnlyOrDisabled => node.is_read_only_or_disabled(),
+        CanSelect => can_select(node),
+        CanToggle => can_toggle(node),
+        CanExpand => can_expand(node),
+        CanFollow => can_follow(node),
+        CanIncrement => can_increment(node),
+        CanDecrement => can_decrement(node),
+        CanFocus => can_focus(node),
+        CanIncrementByName => can_by_name(node, Action::Increment),
+        IsReadOnly => is_read_only(node),
+        IsReadOnlyOrDisabled => is_read_only_or_disabled(node),
     }
 }
 
@@ -116,52 +159,90 @@ static ANSWERS: [(Role, &[Has], Asked, bool); 43] = [
     (Role::Slider, &[], CanIncrement, false),
 ];
 
+/// A window with a node for each row, whose ids count from 1.
+fn planted_rows(alloc: Global) -> Result<Tree, Fail> {
+    let mut nodes = Vec::new(alloc);
+    for (role, having, _, _) in &ANSWERS {
+        nodes.push(node_of(alloc, *role, having)?)?;
+    }
+    row_of(alloc, nodes)
+}
+
+/// What the node with this id answers.
+fn answered(tree: &Tree, id: u64, asked: Asked) -> Result<bool, Fail> {
+    Ok(answer(&shown(tree, 0, id)?, asked))
+}
+
+fn assert_able(rt: &impl Abort, tree: &Tree) -> Result<(), Fail> {
+    for (id, (_, _, asked, wanted)) in (1u64..).zip(&ANSWERS) {
+        assert!(rt; answered(tree, id, *asked)? == *wanted, "node {id}");
+    }
+    assert!(rt; answered(tree, 0, CanFocus)?);
+    Ok(())
+}
+
 #[test]
 fn nodes_are_able(rt: HostRuntime) -> Result<(), Fail> {
-    let mut nodes = Vec::new(rt.alloc());
-    for (role, having, _, _) in &ANSWERS {
-        nodes.push(node_of(rt.alloc(), *role, having)?)?;
-    }
-    let tree = row_of(rt.alloc(), nodes)?;
-    for (node, (role, having, asked, wanted)) in root_of(&tree).children().zip(&ANSWERS) {
-        assert_eq!(rt;
-            answer(&node, *asked),
-            *wanted,
-            "{asked:?} {role:?} {having:?}"
-        );
-    }
-    assert!(rt; answer(&root_of(&tree), CanFocus));
-    Ok(())
+    let tree = planted_rows(rt.alloc())?;
+    assert_able(&rt, &tree)
 }
 
 fn include_all(_node: &NodeRef<'_>) -> FilterResult {
     FilterResult::Include
 }
 
+/// Whether the node can be clicked, and invoked, by the common filter,
+fn is_clickable(node: &NodeRef) -> bool {
+    node.is_clickable(&common_filter)
+}
+
+fn is_invocable(node: &NodeRef) -> bool {
+    node.is_invocable(&common_filter)
+}
+
+/// and by one that includes all.
+fn is_itself_clickable(node: &NodeRef) -> bool {
+    node.is_clickable(&include_all)
+}
+
+fn is_itself_invocable(node: &NodeRef) -> bool {
+    node.is_invocable(&include_all)
+}
+
+fn common_parent(node: &NodeRef) -> Option<FullNodeId> {
+    id_of(node.filtered_parent(&common_filter))
+}
+
+fn included_parent(node: &NodeRef) -> Option<FullNodeId> {
+    id_of(node.filtered_parent(&include_all))
+}
+
+/// A button in a container in a window that lends its click.
+static LENDING: [Sketch; 3] = [
+    Sketch(
+        0,
+        Role::Window,
+        &[Children(&[1]), ChildAction(Action::Click)],
+    ),
+    Sketch(1, Role::GenericContainer, &[Children(&[2])]),
+    Sketch(2, Role::Button, &[]),
+];
+
+fn assert_lent(rt: &impl Abort, tree: &Tree) -> Result<(), Fail> {
+    let button = shown(tree, 0, 2)?;
+    assert!(rt; is_clickable(&button));
+    assert!(rt; is_invocable(&button));
+    assert!(rt; can_by_name(&button, Action::Click));
+    assert!(rt; !is_itself_clickable(&button));
+    assert!(rt; !is_itself_invocable(&button));
+    assert!(rt; common_parent(&button) == Some(id(0, 0)));
+    assert!(rt; included_parent(&button) == Some(id(0, 1)));
+    Ok(())
+}
+
 /// A click on a child is supported by the nearest included ancestor.
 #[test]
 fn filtered_parent_lends_its_click(rt: HostRuntime) -> Result<(), Fail> {
-    let tree = planted(
-        rt.alloc(),
-        &[
-            Sketch(
-                0,
-                Role::Window,
-                &[Children(&[1]), ChildAction(Action::Click)],
-            ),
-            Sketch(1, Role::GenericContainer, &[Children(&[2])]),
-            Sketch(2, Role::Button, &[]),
-        ],
-    )?;
-    let button = shown(&tree, 0, 2)?;
-    assert!(rt; button.is_clickable(&common_filter));
-    assert!(rt; button.is_invocable(&common_filter));
-    assert!(rt; button.supports_action(Action::Click, &common_filter));
-    assert!(rt; !button.is_clickable(&include_all));
-    assert!(rt; !button.is_invocable(&include_all));
-    let parent = button.filtered_parent(&common_filter);
-    assert!(rt; parent.ok_or("no parent")?.id() == id(0, 0));
-    let parent = button.filtered_parent(&include_all);
-    assert!(rt; parent.ok_or("no parent")?.id() == id(0, 1));
-    Ok(())
+    let tree = planted(rt.alloc(), &LENDING)?;
+    assert_lent(&rt, &tree)
 }
