@@ -1,7 +1,7 @@
 //! What a session replies to questions about a text.
 
 use schema::{NodeId, TreeId};
-use session::{At, Command, Move, Query, Reply, Session, Side};
+use session::{At, Command, Move, NodeName, Query, Reply, Session, Side};
 use sketches::recorder::Recorder;
 use sketches::small_texts::{SIZES, Text, UNMEASURED};
 use sketches::{Spot, first_update, nodes_of, selected};
@@ -48,21 +48,25 @@ fn moves_by_format_are_replied(rt: HostRuntime) -> Result<(), Fail> {
     Ok(())
 }
 
-/// A question about a node whose runs make no text, and its reply.
-fn replies_without_text() -> [(Query, Reply); 4] {
-    let name = (NodeId(0), TreeId::root());
-    [
-        (Query::Value(name), Reply::Text(None)),
-        (Query::Text(name), Reply::Text(None)),
-        (Query::Indexes(name, AT_THREE), Reply::NotText),
-        (Query::RangeText(name, AT_THREE, AT_THREE), Reply::NotText),
-    ]
+/// The name of the node whose runs make no text.
+fn unmeasured() -> NodeName {
+    (NodeId(0), TreeId::root())
+}
+
+/// Whether this is the reply where the runs make no text.
+fn is_reply_without_text(alloc: Global, query: Query, wanted: Reply) -> Result<bool, Fail> {
+    is_reply(alloc, UNMEASURED, query, &wanted)
 }
 
 #[test]
 fn questions_are_replied_to_where_there_is_no_text(rt: HostRuntime) -> Result<(), Fail> {
-    for (query, wanted) in replies_without_text() {
-        assert!(rt; is_reply(rt.alloc(), UNMEASURED, query, &wanted)?);
-    }
+    let alloc = rt.alloc();
+    let (value, text) = (Query::Value(unmeasured()), Query::Text(unmeasured()));
+    assert!(rt; is_reply_without_text(alloc, value, Reply::Text(None))?);
+    assert!(rt; is_reply_without_text(alloc, text, Reply::Text(None))?);
+    let indexes = Query::Indexes(unmeasured(), AT_THREE);
+    assert!(rt; is_reply_without_text(alloc, indexes, Reply::NotText)?);
+    let between = Query::RangeText(unmeasured(), AT_THREE, AT_THREE);
+    assert!(rt; is_reply_without_text(alloc, between, Reply::NotText)?);
     Ok(())
 }
