@@ -5,7 +5,7 @@ import uuid
 from collections import Counter, namedtuple
 
 from model import ROOT, children, node_named, places, root_of
-from model_scripts import NODE_FIELDS, Play, text_line
+from model_scripts import NODE_FIELDS, Play, text_line, units
 from model_texts import (
     HOLDS_TEXT,
     LABELLED_FROM_WITHIN,
@@ -47,8 +47,31 @@ CONTROLS = {
     **dict.fromkeys(["description", "placeholder"], ["", "a", '\n"\\']),
     "controls": [(0,), (1, 2**64 - 1)],
     "selection": [((0, 0), (0, 1)), ((2**64 - 1, 2**64 - 1), (0, 0))],
-    **dict.fromkeys("disabled read_only required modal busy multiselectable italic".split(), [True]),
+    **dict.fromkeys("disabled read_only required modal busy multiselectable italic live_atomic touch_transparent".split(), [True]),
+    **dict.fromkeys("role_description url author_id html_id class_name braille_label".split(), ["", "a b", '="']),
+    **dict.fromkeys("braille_role_description column_index_text row_index_text".split(), ["", "x", "\\"]),
+    **dict.fromkeys("jump scroll_x scroll_x_min scroll_x_max scroll_y scroll_y_min scroll_y_max".split(), NUMBERS),
+    **dict.fromkeys(["actions", "child_actions"], [frozenset(["Click"]), frozenset(["Other(255)", "Focus", "Decrement"])]),
+    **dict.fromkeys(["character_positions", "character_widths"], [(), (0,), (-(2**31), 2**31 - 1)]),
+    "sort_direction": ["ascending", "descending", "other"],
+    "aria_current": [*TRUTH, "page", "step", "location", "date", "time"],
+    "has_popup": ["menu", "listbox", "tree", "grid", "dialog"],
+    "text_direction": ["left_to_right", "right_to_left", "top_to_bottom", "bottom_to_top"],
 }
+
+# What may be said of how a text looks. A format begins where one of these changes.
+COLORS = [(0, 0, 0, 255), (255, 128, 0, 0)]
+LINES = [("solid", *COLORS[0]), ("wavy", *COLORS[1]), ("dotted", *COLORS[0])]
+LOOKS = {
+    **dict.fromkeys(["font_family", "language"], ["", "a", "b"]),
+    "font_size": [0, 1, 2**32 - 1],
+    "font_weight": [0, 1, 2**16 - 1],
+    **dict.fromkeys(["background_color", "foreground_color"], COLORS),
+    **dict.fromkeys(["overline", "strikethrough", "underline"], LINES),
+    "text_align": ["left", "right", "center", "justify"],
+    "vertical_offset": ["subscript", "superscript"],
+}
+CONTROLS.update(LOOKS)
 
 # A line that is said, how it ends, what the model says of it, and the worlds before and after it.
 Step = namedtuple("Step", "line end told old new")
@@ -168,9 +191,13 @@ def field_words(fields, dice):
             words.append(f"{name}={text_line(value)}")
         elif name == "selection" and value:
             words.append(f"{name}={','.join(f'{node}:{index}' for node, index in value)}")
+        elif isinstance(value, frozenset) and value:
+            words.append(f"{name}={','.join(dice.sample(sorted(value), len(value)))}")
+        elif value == () and NODE_FIELDS.get(name) is units:
+            words.append(f"{name}=-")
         elif isinstance(value, tuple) and value:
             words.append(f"{name}={','.join(map(str, value))}")
-        elif not isinstance(value, (tuple, bool)) and value is not None:
+        elif not isinstance(value, (tuple, frozenset, bool)) and value is not None:
             words.append(f"{name}={value}")
     dice.shuffle(words)
     return words

@@ -13,7 +13,7 @@ ROOT = "00000000-0000-0000-0000-000000000000"
 
 
 class Node(NamedTuple):
-    """What is said of a node, as far as a script can say it."""
+    """What is said of a node."""
 
     role: str
     children: tuple = ()
@@ -53,6 +53,43 @@ class Node(NamedTuple):
     busy: bool = False
     multiselectable: bool = False
     italic: bool = False
+    live_atomic: bool = False
+    touch_transparent: bool = False
+    role_description: Optional[str] = None
+    url: Optional[str] = None
+    author_id: Optional[str] = None
+    html_id: Optional[str] = None
+    class_name: Optional[str] = None
+    braille_label: Optional[str] = None
+    braille_role_description: Optional[str] = None
+    column_index_text: Optional[str] = None
+    row_index_text: Optional[str] = None
+    font_family: Optional[str] = None
+    language: Optional[str] = None
+    jump: Optional[int] = None
+    scroll_x: Optional[int] = None
+    scroll_x_min: Optional[int] = None
+    scroll_x_max: Optional[int] = None
+    scroll_y: Optional[int] = None
+    scroll_y_min: Optional[int] = None
+    scroll_y_max: Optional[int] = None
+    actions: frozenset = frozenset()
+    child_actions: frozenset = frozenset()
+    character_positions: Optional[tuple] = None
+    character_widths: Optional[tuple] = None
+    font_size: Optional[int] = None
+    font_weight: Optional[int] = None
+    background_color: Optional[tuple] = None
+    foreground_color: Optional[tuple] = None
+    overline: Optional[tuple] = None
+    strikethrough: Optional[tuple] = None
+    underline: Optional[tuple] = None
+    sort_direction: Optional[str] = None
+    aria_current: Optional[str] = None
+    has_popup: Optional[str] = None
+    text_direction: Optional[str] = None
+    text_align: Optional[str] = None
+    vertical_offset: Optional[str] = None
 
 
 class Tree(NamedTuple):

@@ -92,6 +92,42 @@ def short(word):
     return number(word, 0, 2**16)
 
 
+def units(word):
+    """Numbers of units, or `-` for none."""
+    return () if word == "-" else all_of(unit)(word)
+
+
+def byte(word):
+    """A number of one byte."""
+    return number(word, 0, 2**8)
+
+
+def narrow(word):
+    """A number of four bytes."""
+    return number(word, 0, 2**32)
+
+
+def decoration(word):
+    """A line at a text: its style, and a colour."""
+    style, _, color = word.partition(",")
+    need(style in ("solid", "dotted", "dashed", "double", "wavy"))
+    return (style, *all_of(byte, 4)(color))
+
+
+def action(word):
+    """An action by its name, or by its number."""
+    if word in ("Click", "Focus", "Increment", "Decrement"):
+        return word
+    other = re.fullmatch(r"Other\((.*)\)", word, re.S)
+    need(other)
+    return f"Other({byte(other.group(1))})"
+
+
+def actions(word):
+    """A set of actions."""
+    return frozenset(all_of(action)(word))
+
+
 def place(word):
     """A place in a text run: its node and an index."""
     parts = word.split(":")
@@ -215,6 +251,43 @@ NODE_FIELDS = {
     "busy": bool,
     "multiselectable": bool,
     "italic": bool,
+    "live_atomic": bool,
+    "touch_transparent": bool,
+    "role_description": str,
+    "url": str,
+    "author_id": str,
+    "html_id": str,
+    "class_name": str,
+    "braille_label": str,
+    "braille_role_description": str,
+    "column_index_text": str,
+    "row_index_text": str,
+    "font_family": str,
+    "language": str,
+    "jump": coordinate,
+    "scroll_x": coordinate,
+    "scroll_x_min": coordinate,
+    "scroll_x_max": coordinate,
+    "scroll_y": coordinate,
+    "scroll_y_min": coordinate,
+    "scroll_y_max": coordinate,
+    "actions": actions,
+    "child_actions": actions,
+    "character_positions": units,
+    "character_widths": units,
+    "font_size": narrow,
+    "font_weight": short,
+    "background_color": all_of(byte, 4),
+    "foreground_color": all_of(byte, 4),
+    "overline": decoration,
+    "strikethrough": decoration,
+    "underline": decoration,
+    "sort_direction": one_of(["ascending", "descending", "other"]),
+    "aria_current": one_of(["false", "true", "page", "step", "location", "date", "time"]),
+    "has_popup": one_of(["menu", "listbox", "tree", "grid", "dialog"]),
+    "text_direction": one_of(["left_to_right", "right_to_left", "top_to_bottom", "bottom_to_top"]),
+    "text_align": one_of(["left", "right", "center", "justify"]),
+    "vertical_offset": one_of(["subscript", "superscript"]),
 }
 
 

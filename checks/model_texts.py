@@ -1,13 +1,13 @@
 """Texts, values and labels: docs/MODEL-VIEWS-AND-TEXT.md as one flat list of characters for each text, with marks in it.
 
 A position is the number of a run, and how many of its characters are before it. Its offset counts the characters before it
-in all runs. A script can give no style but italics, by which no format begins, so that a text has one format.
+in all runs.
 """
 
 from typing import NamedTuple
 
 from model import once
-from model_views import CUT_OFF, INCLUDED, LEFT_OUT, shown
+from model_views import CUT_OFF, INCLUDED, LEFT_OUT, shown, upward
 
 BULLET = "\u2022"
 
@@ -74,8 +74,18 @@ def are_linked(world, ids):
     return nodes[0].prev is None and nodes[-1].next is None
 
 
-# What a text has to be, by a name of what it is where it isn't so. (That it has 2^64 bytes no script can say, nor where
-# characters stand along their run.)
+def are_measured(world, root, ids):
+    """Whether positions and widths, where they are given, are as many as the characters, or of a password at least one."""
+    is_password = world.nodes[root].role == "PasswordInput"
+    for node in (world.nodes[id] for id in ids):
+        for given in (node.character_positions, node.character_widths):
+            least = min(len(node.chars), 1) if is_password else len(node.chars)
+            if given is not None and not least <= len(given) <= len(node.chars):
+                return False
+    return True
+
+
+# What a text has to be, by a name of what it is where it isn't so. (That it has 2^64 bytes no script can say.)
 RULES = {
     "role": lambda world, root, ids: world.nodes[root].role in HOLDS_TEXT,
     "runs": lambda world, root, ids: ids,
@@ -84,6 +94,7 @@ RULES = {
     "words": lambda world, root, ids: all(has_rising_words(world.nodes[id]) for id in ids),
     "empty runs": lambda world, root, ids: all(world.nodes[id].chars for id in ids[:-1]),
     "links": lambda world, root, ids: not ids or are_linked(world, ids),
+    "measures": are_measured,
 }
 
 
@@ -110,6 +121,7 @@ class Run(NamedTuple):
     is_linked_on: bool
     has_newline: bool
     words: tuple
+    style: tuple
 
 
 def are_alike(things):
@@ -125,6 +137,20 @@ def needs_masking(world, root):
     return is_password and not are_alike(one for id in ids for one in characters_of(world.nodes[id]))
 
 
+# What a format is made of: of a run, or else of the nearest node above it that says it.
+STYLES = (
+    "font_family language font_size font_weight background_color foreground_color overline strikethrough underline text_align"
+    " vertical_offset"
+).split()
+
+
+def style_of(world, id):
+    """The format of a run."""
+    above = [world.nodes[up] for up in upward(world, id)]
+    given = [[getattr(node, name) for node in above if getattr(node, name) is not None] for name in STYLES]
+    return tuple(found[0] if found else None for found in given)
+
+
 def shown_run(world, root, id):
     """The run: in a masked text each character is a bullet, and in a password no word starts."""
     node = world.nodes[id]
@@ -136,6 +162,7 @@ def shown_run(world, root, id):
         is_linked_on=node.next is not None,
         has_newline=(node.value or "").endswith("\n"),
         words=() if world.nodes[root].role == "PasswordInput" else node.words,
+        style=style_of(world, id),
     )
 
 
@@ -157,6 +184,7 @@ class Text:
         closing = [r for r in self.line_ends if runs[r].has_newline]
         self.paragraph_starts = sorted({0, *(r + 1 for r in closing if r < self.last)})
         self.paragraph_ends = sorted({*closing, self.last})
+        self.format_starts = [r for r, run in enumerate(runs) if r == 0 or run.style != runs[r - 1].style]
         words = {(r, word) for r, run in enumerate(runs) for word in run.words}
         self.word_starts = sorted(words | {(r, 0) for r in self.paragraph_starts})
 
@@ -218,6 +246,17 @@ def backward_to_word_start(text, position):
     return next((mark for mark in reversed(text.word_starts) if text.offset(mark) < offset), (0, 0))
 
 
+def forward_to_format_start(text, position):
+    """To the start of the next run with which a format begins, or to the end of the text."""
+    return next(((r, 0) for r in text.format_starts if r > position[0]), text.end)
+
+
+def backward_to_format_start(text, position):
+    """To the start of the last run before the position with which a format begins, or to the start of the text."""
+    before = position[0] + (position[1] > 0)
+    return next(((r, 0) for r in reversed(text.format_starts) if r < before), (0, 0))
+
+
 def forward_to_start(ends):
     """To the start of what comes after the line or paragraph in which the position's run is."""
 
@@ -260,14 +299,14 @@ def at_its_end(move):
     return lambda text, position: text.to_end(move(text, position))
 
 
-# The moves by name. A text has one format and one page.
+# The moves by name. A text has one page.
 MOVES = {
     "forward_to_character_start": by_character(1, -1),
     "forward_to_character_end": by_character(1, 0),
     "backward_to_character_start": by_character(-1, -1),
-    "forward_to_format_start": to_document_end,
-    "forward_to_format_end": at_its_end(to_document_end),
-    "backward_to_format_start": to_document_start,
+    "forward_to_format_start": forward_to_format_start,
+    "forward_to_format_end": at_its_end(forward_to_format_start),
+    "backward_to_format_start": backward_to_format_start,
     "forward_to_word_start": forward_to_word_start,
     "forward_to_word_end": at_its_end(forward_to_word_start),
     "backward_to_word_start": backward_to_word_start,

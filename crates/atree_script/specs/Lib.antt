@@ -1,4 +1,3 @@
 pub mod Replies
 pub mod Printed
 pub mod Refused
-pub mod Words

@@ -1,11 +1,12 @@
 -- What is printed of replies.
-use Rattle.std.specs.Prelude.{ℕ, ◌==◌, List, [], ◌∷◌, ◌++◌, codes, flat_map, Option, Some, None, option_map, if◌then◌else◌}
+use Rattle.std.specs.Prelude.{ℕ, List, [], ◌∷◌, ◌++◌, codes, flat_map, Option, Some, None, option_map}
 use Rattle.std.specs.String.{string_bytes}
 use Rattle.std.specs.Fmt.{decimal}
 use Rattle.model.specs.declared.FullNodeId.{FullNodeId}
 use Rattle.schema.specs.declared.values.TextPosition.{TextPosition}
 use Rattle.session.specs.declared.commands.Reply.{Reply}
 use Rattle.session.specs.declared.commands.Reply.TheVariants.{Accepted, Refused, Ids, Text, Set, Node, Position, Indexes, NoNode, NotText}
+use Rattle.script_lines.specs.Quoted.{quoted_byte}
 use Rattle.atree_script.specs.Printed.{id_text}
 use Rattle.atree_script.specs.Refused.{refusal_line}
 
@@ -31,11 +32,6 @@ count_text (Some count) = decimal count
 -- a size and a position
 abbrev pub set_line : Option ℕ → Option ℕ → List ℕ
 set_line size position = count_text size ++ codes " " ++ count_text position ++ codes "\n"
-
--- a byte of a text in quotes: a quote, a backslash and a newline stand behind a backslash
-abbrev pub quoted_byte : ℕ → List ℕ
-quoted_byte byte =
-    if byte == 34 then codes "\\\"" else if byte == 92 then codes "\\\\" else if byte == 10 then codes "\\n" else byte ∷ []
 
 -- a text in quotes
 abbrev pub text_line : Option (List ℕ) → List ℕ

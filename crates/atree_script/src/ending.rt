@@ -1,12 +1,10 @@
 //! Reads a script for the tree that it leaves, and prints nothing.
 ghost use Rattle.std.specs.Prelude.{◌≡◌, ◌≢◌, ◌≤◌, IfErr};
 
-use crate::lines::Stop;
 use crate::playing::{Player, play, run_told};
-use crate::program::{Arguments, Program, read_arguments, run_program};
-use crate::run::{end_run, tell_stop};
 use accesskit_consumer::node::NodeRef;
 use accesskit_consumer::tree::TreeChangeHandler;
+use script_lines::{Arguments, Program, Stop, end_run, read_arguments, run_program, tell_stop};
 use session::{Command, Session};
 use std::alloc::Global;
 use std::io::{BufRead, Write};

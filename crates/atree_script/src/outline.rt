@@ -1,9 +1,9 @@
 //! Prints a tree as an outline.
 
-use crate::lines::Stop;
 use crate::printer::ShownId;
 use accesskit_consumer::node::{FullNodeId, NodeRef};
 use accesskit_consumer::tree::StateRef;
+use script_lines::Stop;
 use std::alloc::{AllocError, Global};
 use std::io::{self, Write};
 

@@ -1,9 +1,8 @@
 //! Plays a script for someone who carries out its commands.
 
-use crate::lines::Stop;
-use crate::reader::{ScriptCommand, ScriptReader};
 use accesskit_consumer::tree::{TreeChangeHandler, UpdateError};
 use schema::TreeUpdate;
+use script_lines::{ScriptCommand, ScriptReader, Stop};
 use session::{Command, Query, Reply, Session};
 use std::alloc::Global;
 use std::io::BufRead;

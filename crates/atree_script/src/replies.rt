@@ -1,12 +1,14 @@
 //! Prints replies.
 ghost use Rattle.std.specs.Prelude.{◌≡◌, OnOk, Some, flat_map, option_copied};
 ghost use Rattle.std.specs.Io.KnownBytes.{Appends};
-ghost use Rattle.atree_script.specs.Replies.{spaced_id, ids_line, found_line, count_text, set_line, quoted_byte, text_line, position_line, reply_line};
+ghost use Rattle.script_lines.specs.Quoted.{quoted_byte};
+ghost use Rattle.atree_script.specs.Replies.{spaced_id, ids_line, found_line, count_text, set_line, text_line, position_line, reply_line};
 
 use crate::printer::ShownId;
 use crate::refusals::write_refusal;
 use accesskit_consumer::node::FullNodeId;
 use schema::TextPosition;
+use script_lines::write_quoted;
 use session::Reply;
 use std::fmt;
 use std::io::{self, Write};
@@ -86,28 +88,6 @@ pub fn write_text<O: Write>(text: Option<&str>, out: &mut O) -> io::Result<()>
     out.write_all(b"\"")?;
     write_quoted(text.as_bytes(), out)?;
     out.write_all(b"\"\n")
-}
-
-/// Writes what stands between the quotes.
-pub fn write_quoted<O: Write>(text: &[u8], out: &mut O) -> io::Result<()>
-    ensures { OnOk result (Appends (O.contents out.old) (O.contents out.new) (flat_map quoted_byte text.now)) }
-{
-    for byte in text {
-        write_byte(*byte, out)?;
-    }
-    Ok(())
-}
-
-/// Writes a byte of a text that stands in quotes.
-fn write_byte<O: Write>(byte: u8, out: &mut O) -> io::Result<()>
-    ensures { OnOk result (Appends (O.contents out.old) (O.contents out.new) (quoted_byte byte)) }
-{
-    match byte {
-        b'"' => out.write_all(b"\\\""),
-        b'\\' => out.write_all(b"\\\\"),
-        b'\n' => out.write_all(b"\\n"),
-        _ => out.write_all(&[byte]),
-    }
 }
 
 /// Writes a position: the id of its run in its tree, and the index there; `none` for none.

@@ -1,0 +1,43 @@
+-- The name of a tree, read back.
+use Rattle.std.proofs.Common.{◌≡◌, ◌≢◌, ℕ, ◌<◌, List, length, All, codes, bytes_eq, Option, Some, None, ap, sym, refl, ◌∙◌, ⊎_elim, inl, zero, suc, ◌+◌, ◌-◌, [], ◌∷◌, ◌++◌, Bool, true, false, if◌then◌else◌, nat_lt, arith, true≢false}
+use Rattle.std.proofs.lemmas.Bool.{cases_Bool, cond-true, cond-false, cond_both}
+use Rattle.std.proofs.lemmas.Slice.Eq.{bytes_eq-Decides}
+use Rattle.uuid.specs.Text.{hyphenated_text, lower, parsed, by_index, hex_digit, nibble, digit_place, is_hyphen_place}
+use Rattle.uuid.proofs.RoundTrips.{parses_hyphenated}
+use Rattle.uuid.proofs.TextLemmas.{by_index_length}
+use Rattle.schema.specs.TreeIds.{root_tree_id}
+use Rattle.schema.specs.declared.TreeId.{TreeId}
+use Rattle.script_lines.specs.Parts.{tree_text}
+use Rattle.script_lines.specs.Reading.{IsTreeName, Lacks, IsWord}
+use Rattle.script_lines.proofs.Lacking.{lacks_nothing, lacks_cons, lacks_append, lacks_by}
+
+tree_word_at : (tree : TreeId) (text : List ℕ) → IsTreeName tree → text ≡ tree_text tree → (text ≡ codes "root" → tree ≡ root_tree_id) × (text ≢ codes "root" → Some tree.0 ≡ parsed text)
+tree_word_at tree text h e = ⊎_elim
+    (λ t. ((λ _. ap (λ b. record { 0 = b }) ((bytes_eq-Decides tree.0 root_tree_id.0).0 t)), λ n. absurd (n (e ∙ cond-true _ _ _ t))))
+    (λ f. let back : Some tree.0 ≡ parsed text = parses_hyphenated lower tree.0 (inl refl) h.0 h.1 ∙ ap parsed (sym (e ∙ cond-false _ _ _ f)) in ((λ r. let no : Some tree.0 ≡ parsed (codes "root") = back ∙ ap parsed r in cc), λ _. back))
+    (cases_Bool (bytes_eq tree.0 root_tree_id.0))
+
+-- as `==` has it
+pub tree_word : (tree : TreeId) (text : List ℕ) (b : Bool) → IsTreeName tree → text ≡ tree_text tree → b ≡ bytes_eq text (codes "root") → (b ≡ true → tree ≡ root_tree_id) × (b ≡ false → Some tree.0 ≡ parsed text)
+tree_word tree text b h e is = let k = tree_word_at tree text h e in let d = bytes_eq-Decides text (codes "root") in ((λ t. k.0 (d.0 (sym is ∙ t))), λ f. k.1 (λ r. true≢false (sym (d.1 r) ∙ sym is ∙ f)))
+
+by_index_lacks : (c n : ℕ) (f : ℕ → ℕ) → ((k : ℕ) → f k ≢ c) → Lacks c (by_index n f)
+unfolding by_index
+by_index_lacks c zero f other = lacks_nothing c
+by_index_lacks c (suc n) f other = lacks_append c (by_index n f) (f n ∷ []) (by_index_lacks c n f other) (lacks_cons c (f n) [] (other n) (lacks_nothing c))
+
+if_not : (b : Bool) (x y c : ℕ) → x ≢ c → y ≢ c → (if b then x else y) ≢ c
+if_not true x y c p q = p
+if_not false x y c p q = q
+
+no_space : (d : ℕ) → hex_digit lower d ≢ 32
+no_space d = if_not (nat_lt d 10) (48 + d) (97 + d - 10) 32 (λ e. omega (arith, e)) (λ e. omega (arith, e))
+
+uuid_is_word : (xs : List ℕ) → IsWord (hyphenated_text lower xs)
+uuid_is_word xs = (by_index_lacks 32 36 _ (λ k. if_not (is_hyphen_place k) 45 _ 32 (λ e. omega (arith, e)) (no_space (nibble xs (digit_place k)))), omega (arith, by_index_length 36 (λ k. if is_hyphen_place k then 45 else hex_digit lower (nibble xs (digit_place k)))))
+
+root_is_word : IsWord (codes "root")
+root_is_word = (lacks_by 32 (codes "root") refl, omega arith)
+
+pub tree_is_word : (tree : TreeId) → IsWord (tree_text tree)
+tree_is_word tree = cond_both (bytes_eq tree.0 root_tree_id.0) (codes "root") (hyphenated_text lower tree.0) IsWord (λ _. root_is_word) (λ _. uuid_is_word tree.0)

@@ -1,0 +1,15 @@
+use Rattle.std.proofs.Common.{rules, ◌≡◌, Some, IsOk, ap, sym, ◌∙◌}
+use Rattle.uuid.specs.Text.{parsed}
+use Rattle.script_lines.proofs.TreeNames.{tree_word}
+use Rattle.script_lines.proofs.words.tree_named.Goals as goal
+
+pub returns-then-eq : goal.returns-then-eq
+returns-then-eq c = record { reads = λ tree h e. ap Some (c.root.ensures ∙ sym ((tree_word tree c.args.word.now c.eq.result h e c.eq.ensures).0 c.if-eq.true)) }
+
+pub returns-in_err-id : goal.returns-in_err-id
+returns-in_err-id c = record {
+  reads = λ tree h e.
+      let back : Some tree.0 ≡ parsed c.args.word.now = (tree_word tree c.args.word.now c.eq.result h e c.eq.ensures).1 c.if-eq.false in
+      let ok : IsOk c.parse_str.result = c.parse_str.ensures.ok.1 (tree.0, sym back) in
+      search rules;
+}

@@ -1,0 +1,10 @@
+pub mod ActionLists
+pub mod FieldTexts
+pub mod Lines
+pub mod Names
+pub mod NodeText
+pub mod Parts
+pub mod Questions
+pub mod Quoted
+pub mod Words
+pub mod Reading

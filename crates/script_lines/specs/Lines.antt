@@ -1,0 +1,43 @@
+-- What is written of a command: the text of its lines.
+use Rattle.std.specs.Prelude.{ℕ, List, [], ◌++◌, codes, flat_map, Bool, true, false, Option, Some, None}
+use Rattle.std.specs.Fmt.{decimal}
+use Rattle.schema.specs.NodeData.{NodeData}
+use Rattle.schema.specs.UpdateData.{UpdateData, InfoData, update_data}
+use Rattle.schema.specs.declared.NodeId.{NodeId}
+use Rattle.script_lines.specs.declared.reader.ScriptCommand.{ScriptCommand}
+use Rattle.script_lines.specs.declared.reader.ScriptCommand.TheVariants as command
+use Rattle.script_lines.specs.NodeText.{node_line}
+use Rattle.script_lines.specs.Parts.{quoted_field, tree_text}
+use Rattle.script_lines.specs.Questions.{question_line}
+
+-- of a tree as a whole
+abbrev pub info_text : InfoData → List ℕ
+info_text info = codes " root=" ++ decimal info.root.0 ++ quoted_field (codes "toolkit") info.toolkit_name ++ quoted_field (codes "version") info.toolkit_version
+
+abbrev pub info_or_nothing : Option InfoData → List ℕ
+info_or_nothing None = []
+info_or_nothing (Some info) = info_text info
+
+-- the line that begins an update
+abbrev pub update_head : UpdateData → List ℕ
+update_head u = codes "update " ++ tree_text u.name ++ codes " focus=" ++ decimal u.focus.0 ++ info_or_nothing u.info ++ codes "\n"
+
+-- the line of a node of an update
+abbrev pub entry_line : NodeId × NodeData → List ℕ
+entry_line entry = node_line entry.0 entry.1
+
+abbrev pub update_lines : UpdateData → List ℕ
+update_lines u = update_head u ++ flat_map entry_line u.nodes ++ codes "end\n"
+
+abbrev pub host_text : Bool → List ℕ
+host_text true = codes "host on"
+host_text false = codes "host off"
+
+abbrev pub host_line : Bool → List ℕ
+host_line is_focused = host_text is_focused ++ codes "\n"
+
+abbrev pub command_lines : ScriptCommand → List ℕ
+command_lines (command.Update update) = update_lines (update_data update)
+command_lines (command.HostFocus is_host_focused) = host_line is_host_focused
+command_lines command.Print = codes "print\n"
+command_lines (command.Query query) = question_line query

@@ -1,0 +1,72 @@
+//! Ends of runs over a script, and their exit statuses.
+ghost use Rattle.std.specs.Prelude.{◌≤◌, ◌≢◌};
+
+use crate::stops::Stop;
+use std::io::Write;
+
+/// The exit status at the end of the input.
+const DONE: u8 = 0;
+/// The exit status at a bad line.
+pub(crate) const BAD_LINE: u8 = 2;
+/// The exit status where the input or an output gave an error.
+pub(crate) const FAULT: u8 = 3;
+/// The exit status for want of memory while a line is read or carried out.
+const NO_MEMORY: u8 = 4;
+
+/// Ends a run: what was printed leaves its buffer, and what stopped the run before the end of its input is told on
+/// `errors`, a bad line by its number. Answers the exit status: 0 at the end of the input, 2 for a bad line, 3 for an error
+/// of the input or an output, after which nothing more is written, and 4 for want of memory.
+pub fn end_run<O: Write, E: Write>(
+    ended: Result<(), Stop>,
+    number: u64,
+    output: &mut O,
+    errors: &mut E,
+) -> u8
+    ensures bound { result ≤ 4 }
+    ensures not_one { result ≢ 1 }
+{
+    if ended == Err(Stop::WriteFault) || output.flush().is_err() {
+        return FAULT;
+    }
+    match ended {
+        Ok(()) => DONE,
+        Err(stop) => tell_stop(stop, number, errors),
+    }
+}
+
+/// Tells on `errors` of a bad line, by its number, or of want of memory, and answers the exit status.
+pub fn tell_stop<E: Write>(stop: Stop, number: u64, errors: &mut E) -> u8
+    ensures bound { result ≤ 4 }
+    ensures not_one { result ≢ 1 }
+    ensures not_done { result ≢ 0 }
+{
+    match stop {
+        Stop::BadLine => tell_bad_line(number, errors),
+        Stop::Memory => tell_no_memory(errors),
+        Stop::ReadFault | Stop::WriteFault => FAULT,
+    }
+}
+
+/// Tells of a bad line, and answers the exit status.
+fn tell_bad_line<E: Write>(number: u64, errors: &mut E) -> u8
+    ensures bound { result ≤ 4 }
+    ensures not_one { result ≢ 1 }
+    ensures not_done { result ≢ 0 }
+{
+    if writeln!(errors, "line {number}: bad line").is_err() || errors.flush().is_err() {
+        return FAULT;
+    }
+    BAD_LINE
+}
+
+/// Tells of want of memory, and answers the exit status.
+pub fn tell_no_memory<E: Write>(errors: &mut E) -> u8
+    ensures bound { result ≤ 4 }
+    ensures not_one { result ≢ 1 }
+    ensures not_done { result ≢ 0 }
+{
+    if errors.write_all(b"out of memory\n").is_err() || errors.flush().is_err() {
+        return FAULT;
+    }
+    NO_MEMORY
+}

@@ -1,0 +1,80 @@
+//! Programs that read a script from standard input: their streams, and their arguments.
+ghost use Rattle.std.specs.Prelude.{◌≢◌, ◌≤◌, IfErr};
+
+use crate::ends::{BAD_LINE, FAULT, tell_no_memory};
+use std::alloc::Global;
+use std::env::{self, Args};
+use std::io::{self, BufRead, BufReader, BufWriter, ErrorKind, Write};
+use std::process::ExitCode;
+
+/// A program that reads a script.
+pub trait Program {
+    /// Runs it, and answers the exit status, as [`crate::end_run`] has it, or 1 for what isn't there.
+    fn run<R: BufRead, O: Write, E: Write>(
+        &self,
+        alloc: Global,
+        input: &mut R,
+        output: &mut O,
+        errors: &mut E,
+    ) -> u8
+        ensures { result ≤ 4 };
+}
+
+/// What a program's arguments ask for.
+pub trait Arguments: Sized + Drop {
+    /// How the program is called.
+    fn usage() -> &'static str;
+
+    /// What the arguments ask for, if it is something. The first of them is the program's name.
+    fn from_arguments(args: Args) -> Option<Self>;
+}
+
+/// Runs a program on the standard streams.
+pub fn run_program<P: Program>(rt: &HostRuntime, program: &P) -> ExitCode {
+    let alloc = rt.alloc();
+    let mut errors = rt.stderr();
+    let Ok(mut input) = BufReader::new(alloc, rt.reader()) else {
+        return ExitCode::from(tell_no_memory(&mut errors));
+    };
+    let Ok(mut output) = BufWriter::new(alloc, io::writer(rt)) else {
+        return ExitCode::from(tell_no_memory(&mut errors));
+    };
+    let status = program.run(alloc, &mut input, &mut output, &mut errors);
+    // What a failed write left in the buffer is not written again.
+    let _ = output.into_parts();
+    ExitCode::from(status)
+}
+
+/// What the program's arguments ask for. Those that ask for nothing are told on standard error with the way in which the
+/// program is called.
+///
+/// # Errors
+///
+/// The exit status: 2 for such arguments, 3 where they can't be told, and 4 for want of memory.
+pub fn read_arguments<A: Arguments>(rt: &HostRuntime) -> Result<A, u8>
+    ensures { IfErr result (λ status. (status ≤ 4) × (status ≢ 0)) }
+{
+    let mut errors = rt.stderr();
+    let asked: Option<A> = match env::args(rt) {
+        Ok(args) => A::from_arguments(args),
+        Err(error) if error.kind() == ErrorKind::OutOfMemory => {
+            return Err(tell_no_memory(&mut errors));
+        }
+        Err(_) => None,
+    };
+    match asked {
+        Some(asked) => Ok(asked),
+        None => Err(tell_usage(A::usage(), &mut errors)),
+    }
+}
+
+/// Tells how a program is called, and answers the exit status.
+fn tell_usage<E: Write>(usage: &str, errors: &mut E) -> u8
+    ensures bound { result ≤ 4 }
+    ensures not_done { result ≢ 0 }
+{
+    if writeln!(errors, "{usage}").is_err() || errors.flush().is_err() {
+        return FAULT;
+    }
+    BAD_LINE
+}

@@ -1,0 +1,339 @@
+//! Words of a line, and what they stand for.
+//!
+//! Words stand with one space between them. Numbers are decimal, those of units and points with a minus sign where they are
+//! negative; a text stands in double quotes.
+
+ghost use Rattle.std.specs.Prelude.{ℕ, ℤ, ◌^◌, ◌++◌, List, Option, Some, None, Ok, IsOkAnd, FitsSigned};
+ghost use mir.Syntax.{w32, w64};
+ghost use Rattle.schema.specs.declared.NodeId.{NodeId};
+ghost use Rattle.schema.specs.declared.TreeId.{TreeId};
+ghost use Rattle.script_lines.specs.Parts.{tree_text};
+ghost use Rattle.script_lines.specs.Questions.{name_text, at_text, point_text};
+ghost use Rattle.script_lines.specs.Names.{filter_name, move_name, side_name};
+ghost use Rattle.model.specs.declared.queries.Side.{Side};
+ghost use Rattle.model.specs.declared.queries.NamedFilter.{NamedFilter};
+ghost use Rattle.model.specs.declared.queries.Move.{Move};
+ghost use Rattle.model.specs.declared.queries.At.{At};
+ghost use Rattle.schema.specs.declared.geometry.Point.{Point};
+ghost use Rattle.script_lines.specs.Reading.{IsWord, Lacks, Begins, IsTreeName, IsName, IsCount, IsNumber, after};
+ghost use Rattle.std.specs.Fmt.{decimal, signed_decimal};
+ghost use Rattle.std.specs.Prelude.{◌≡◌, ◌<◌, ◌≤◌, length, IfOk, OnOk, option_copied};
+ghost use Rattle.script_lines.specs.Words.{left};
+
+use crate::names::{filter_named, move_named, side_named};
+use crate::stops::Stop;
+use model::{At, Move, NamedFilter, NodeName, Side};
+use schema::{NodeId, Point, Rect, TextPosition, TextSelection, Translation, TreeId};
+use std::alloc::Global;
+use uuid::Uuid;
+
+/// What is left of a line: `None` at its end, and else what comes after a space.
+#[derive(Drop)]
+pub(crate) struct Words<'a> {
+    pub(crate) rest: Option<&'a str>,
+}
+
+impl<'a> Words<'a> {
+    /// The next word.
+    pub(crate) fn word(&mut self) -> Result<&'a str, Stop>
+        ensures reads { (text : List ℕ) (rest : Option (List ℕ)) → IsWord text → Begins (option_copied self.old.rest) text rest → IsOkAnd result (λ word. word.now ≡ text) × (option_copied self.new.rest ≡ rest) }
+        ensures shorter { OnOk result (left (option_copied self.new.rest) < left (option_copied self.old.rest)) }
+    {
+        let rest = self.rest.ok_or(Stop::BadLine)?;
+        let (word, after) = first_word(rest);
+        self.rest = after;
+        if word.is_empty() {
+            return Err(Stop::BadLine);
+        }
+        Ok(word)
+    }
+
+    /// The next word, which is the last.
+    pub(crate) fn last_word(&mut self) -> Result<&'a str, Stop> {
+        let word = self.word()?;
+        self.end()?;
+        Ok(word)
+    }
+
+    /// The next word, which is a node's id.
+    #[tactic(auto, using(crate::proofs::Decimals::decimal_is_word))]
+    pub(crate) fn id(&mut self) -> Result<NodeId, Stop>
+        ensures reads { (id : NodeId) (rest : Option (List ℕ)) → id.0 < 2 ^ 64 → Begins (option_copied self.old.rest) (decimal id.0) rest → (result ≡ Ok id) × (option_copied self.new.rest ≡ rest) }
+        ensures shorter { OnOk result (left (option_copied self.new.rest) < left (option_copied self.old.rest)) }
+    {
+        let number = number(self.word()?).ok_or(Stop::BadLine)?;
+        Ok(NodeId(number))
+    }
+
+    /// The next word, which names a tree.
+    #[tactic(auto, using(crate::proofs::TreeNames::tree_is_word))]
+    pub(crate) fn tree(&mut self) -> Result<TreeId, Stop>
+        ensures reads { (tree : TreeId) (rest : Option (List ℕ)) → IsTreeName tree → Begins (option_copied self.old.rest) (tree_text tree) rest → (result ≡ Ok tree) × (option_copied self.new.rest ≡ rest) }
+    {
+        tree_named(self.word()?).ok_or(Stop::BadLine)
+    }
+
+    /// The next two words: a node's id and its tree's name.
+    #[tactic(auto, using(crate::proofs::Cuts::begins_two))]
+    pub(crate) fn node_name(&mut self) -> Result<NodeName, Stop>
+        ensures reads { (name : NodeId × TreeId) (rest : Option (List ℕ)) → IsName name → Begins (option_copied self.old.rest) (name_text name) rest → (result ≡ Ok name) × (option_copied self.new.rest ≡ rest) }
+    {
+        let node = self.id()?;
+        let tree = self.tree()?;
+        Ok((node, tree))
+    }
+
+    /// The next word, which is the last if there is one, names a filter. It is the common one where there is none.
+    #[tactic(auto, using(crate::proofs::NamedWords::filter_is_word))]
+    pub(crate) fn filter(&mut self) -> Result<NamedFilter, Stop>
+        ensures reads { (filter : NamedFilter) (rest : Option (List ℕ)) → Begins (option_copied self.old.rest) (filter_name filter) rest → (result ≡ Ok filter) × (option_copied self.new.rest ≡ rest) }
+    {
+        if self.rest.is_none() {
+            return Ok(NamedFilter::Common);
+        }
+        filter_named(self.word()?).ok_or(Stop::BadLine)
+    }
+
+    /// The next word, which is a number with a minus sign where it is negative.
+    #[tactic(auto, using(crate::proofs::Decimals::signed_is_word))]
+    pub(crate) fn signed(&mut self) -> Result<i64, Stop>
+        ensures reads { (z : ℤ) (rest : Option (List ℕ)) → IsNumber z → Begins (option_copied self.old.rest) (signed_decimal z) rest → (result ≡ Ok z) × (option_copied self.new.rest ≡ rest) }
+        ensures shorter { OnOk result (left (option_copied self.new.rest) < left (option_copied self.old.rest)) }
+    {
+        signed(self.word()?).ok_or(Stop::BadLine)
+    }
+
+    /// The next word, which is a count.
+    #[tactic(auto, using(crate::proofs::Decimals::decimal_is_word))]
+    pub(crate) fn index(&mut self) -> Result<usize, Stop>
+        ensures reads { (n : ℕ) (rest : Option (List ℕ)) → IsCount n → Begins (option_copied self.old.rest) (decimal n) rest → (result ≡ Ok n) × (option_copied self.new.rest ≡ rest) }
+        ensures shorter { OnOk result (left (option_copied self.new.rest) < left (option_copied self.old.rest)) }
+    {
+        index(self.word()?).ok_or(Stop::BadLine)
+    }
+
+    /// The next word, which is a number of four bytes.
+    #[tactic(auto, using(crate::proofs::Decimals::decimal_is_word))]
+    pub(crate) fn narrow(&mut self) -> Result<u32, Stop>
+        ensures reads { (n : ℕ) (rest : Option (List ℕ)) → n < 2 ^ 32 → Begins (option_copied self.old.rest) (decimal n) rest → (result ≡ Ok n) × (option_copied self.new.rest ≡ rest) }
+        ensures shorter { OnOk result (left (option_copied self.new.rest) < left (option_copied self.old.rest)) }
+    {
+        let number = number(self.word()?).ok_or(Stop::BadLine)?;
+        u32::try_from(number).or(Err(Stop::BadLine))
+    }
+
+    /// The next word, which names a side.
+    #[tactic(auto, using(crate::proofs::NamedWords::side_is_word))]
+    pub(crate) fn side(&mut self) -> Result<Side, Stop>
+        ensures reads { (side : Side) (rest : Option (List ℕ)) → Begins (option_copied self.old.rest) (side_name side) rest → (result ≡ Ok side) × (option_copied self.new.rest ≡ rest) }
+    {
+        side_named(self.word()?).ok_or(Stop::BadLine)
+    }
+
+    /// The next two words: a point, as the node sees it.
+    pub(crate) fn point(&mut self) -> Result<Point, Stop>
+        ensures reads { (point : Point) (rest : Option (List ℕ)) → IsNumber point.x → IsNumber point.y → Begins (option_copied self.old.rest) (point_text point) rest → (result ≡ Ok point) × (option_copied self.new.rest ≡ rest) }
+    {
+        let x = self.signed()?;
+        let y = self.signed()?;
+        Ok(Point { x, y })
+    }
+
+    /// The next two words: an index in a text, and the side on which it is where two runs meet.
+    pub(crate) fn at(&mut self) -> Result<At, Stop>
+        ensures reads { (at : At) (rest : Option (List ℕ)) → IsCount at.index → Begins (option_copied self.old.rest) (at_text at) rest → (result ≡ Ok at) × (option_copied self.new.rest ≡ rest) }
+    {
+        let index = self.index()?;
+        let side = self.side()?;
+        Ok(At { index, side })
+    }
+
+    /// The next word, which names a move.
+    #[tactic(auto, using(crate::proofs::NamedWords::move_is_word))]
+    pub(crate) fn movement(&mut self) -> Result<Move, Stop>
+        ensures reads { (move : Move) (rest : Option (List ℕ)) → Begins (option_copied self.old.rest) (move_name move) rest → (result ≡ Ok move) × (option_copied self.new.rest ≡ rest) }
+    {
+        move_named(self.word()?).ok_or(Stop::BadLine)
+    }
+
+    /// The end of the line.
+    pub(crate) fn end(&self) -> Result<(), Stop>
+        ensures reads { option_copied self.now.rest ≡ None → result ≡ Ok tt }
+    {
+        if self.rest.is_some() {
+            return Err(Stop::BadLine);
+        }
+        Ok(())
+    }
+
+    /// The name of the next field, and whether a value comes next.
+    pub(crate) fn field(&mut self) -> Result<(&'a str, bool), Stop>
+        ensures shorter { OnOk result (left (option_copied self.new.rest) < left (option_copied self.old.rest)) }
+    {
+        let rest = self.rest.ok_or(Stop::BadLine)?;
+        if !has_value(rest) {
+            return Ok((self.word()?, false));
+        }
+        let (name, value) = rest.split_once('=').ok_or(Stop::BadLine)?;
+        self.rest = Some(value);
+        Ok((name, true))
+    }
+
+    /// The next text, which stands in quotes. In it `\"`, `\\` and `\n` are a quote, a backslash and a newline.
+    pub(crate) fn text(&mut self, alloc: Global) -> Result<String, Stop>
+        ensures shorter { OnOk result (left (option_copied self.new.rest) < left (option_copied self.old.rest)) }
+    {
+        let rest = self.rest.ok_or(Stop::BadLine)?;
+        let inner = rest.strip_prefix('"').ok_or(Stop::BadLine)?;
+        let mut chars = inner.chars();
+        let mut text = String::new(alloc);
+        while let Some(c) = chars.next() {
+            match c {
+                '"' => {
+                    self.rest = after_text(chars.as_str())?;
+                    return Ok(text);
+                }
+                '\\' => {
+                    let escape = chars.next().ok_or(Stop::BadLine)?;
+                    text.push(escaped(escape)?)?;
+                }
+                _ => text.push(c)?,
+            }
+        }
+        Err(Stop::BadLine)
+    }
+}
+
+/// What stands before the first space, and what comes after it.
+fn first_word(line: &str) -> (&str, Option<&str>)
+    ensures reads { (text : List ℕ) (rest : Option (List ℕ)) → Lacks 32 text → line.now ≡ text ++ after rest → (result.0.now ≡ text) × (option_copied result.1 ≡ rest) }
+    ensures shorter { (length result.0.now ≤ length line.now) × (left (option_copied result.1) ≤ length line.now) }
+{
+    match line.split_once(' ') {
+        Some((word, after)) => (word, Some(after)),
+        None => (line, None),
+    }
+}
+
+/// Whether a value stands in the next word.
+fn has_value(rest: &str) -> bool {
+    match rest.split_once(' ') {
+        Some((word, _)) => word.contains('='),
+        None => rest.contains('='),
+    }
+}
+
+/// What comes after a text's closing quote: the end of the line, or a space and more.
+fn after_text(rest: &str) -> Result<Option<&str>, Stop>
+    ensures { IfOk result (λ after. left (option_copied after) ≤ length rest.now) }
+{
+    if rest.is_empty() {
+        return Ok(None);
+    }
+    let after = rest.strip_prefix(' ').ok_or(Stop::BadLine)?;
+    Ok(Some(after))
+}
+
+/// What a backslash and this character stand for.
+fn escaped(c: char) -> Result<char, Stop> {
+    match c {
+        'n' => Ok('\n'),
+        '"' | '\\' => Ok(c),
+        _ => Err(Stop::BadLine),
+    }
+}
+
+/// A decimal number without a sign.
+pub fn number(word: &str) -> Option<u64>
+    ensures reads { (n : ℕ) → n < 2 ^ 64 → word.now ≡ decimal n → result ≡ Some n }
+{
+    if word.starts_with('+') {
+        return None;
+    }
+    word.parse().ok()
+}
+
+/// A decimal number, with a minus sign before a negative one.
+pub(crate) fn signed(word: &str) -> Option<i64>
+    ensures reads { (z : ℤ) → FitsSigned w64 z → word.now ≡ signed_decimal z → result ≡ Some z }
+{
+    if word.starts_with('+') {
+        return None;
+    }
+    word.parse().ok()
+}
+
+/// An index, or a count.
+pub(crate) fn index(word: &str) -> Option<usize>
+    ensures reads { (n : ℕ) → n < 2 ^ 64 → word.now ≡ decimal n → result ≡ Some n }
+{
+    usize::try_from(number(word)?).ok()
+}
+
+/// A number of two bytes.
+pub(crate) fn short(word: &str) -> Option<u16>
+    ensures reads { (n : ℕ) → n < 2 ^ 16 → word.now ≡ decimal n → result ≡ Some n }
+{
+    u16::try_from(number(word)?).ok()
+}
+
+/// A number of units.
+pub(crate) fn units(word: &str) -> Option<i32>
+    ensures reads { (z : ℤ) → FitsSigned w32 z → word.now ≡ signed_decimal z → result ≡ Some z }
+{
+    i32::try_from(signed(word)?).ok()
+}
+
+/// A rectangle: `X,Y,X,Y`.
+pub(crate) fn rect(word: &str) -> Option<Rect> {
+    let mut parts = word.split(',');
+    let rect = Rect {
+        x0: units(parts.next()?)?,
+        y0: units(parts.next()?)?,
+        x1: units(parts.next()?)?,
+        y1: units(parts.next()?)?,
+    };
+    if parts.next().is_some() {
+        return None;
+    }
+    Some(rect)
+}
+
+/// A move: `X,Y`.
+pub(crate) fn translation(word: &str) -> Option<Translation> {
+    let (x, y) = word.split_once(',')?;
+    Some(Translation {
+        x: units(x)?,
+        y: units(y)?,
+    })
+}
+
+/// A selection: `ID:INDEX,ID:INDEX`, from where it was begun to the end that moves.
+pub(crate) fn selection(word: &str) -> Option<TextSelection> {
+    let (anchor, focus) = word.split_once(',')?;
+    Some(TextSelection {
+        anchor: place(anchor)?,
+        focus: place(focus)?,
+    })
+}
+
+/// A place in a text run: `ID:INDEX`.
+fn place(word: &str) -> Option<TextPosition> {
+    let (node, character_index) = word.split_once(':')?;
+    Some(TextPosition {
+        node: NodeId(number(node)?),
+        character_index: index(character_index)?,
+    })
+}
+
+/// The tree that a word names: `root`, or a UUID in any form that `uuid` reads.
+#[tactic(auto, using(crate::proofs::TreeNames::tree_word))]
+pub fn tree_named(word: &str) -> Option<TreeId>
+    ensures reads { (tree : TreeId) → IsTreeName tree → word.now ≡ tree_text tree → result ≡ Some tree }
+{
+    if word == "root" {
+        return Some(TreeId::root());
+    }
+    let id = Uuid::parse_str(word).ok()?;
+    Some(TreeId(id))
+}
