@@ -1,0 +1,4 @@
+pub mod Queries
+pub mod Definitions
+pub mod Places
+pub mod Abilities
