@@ -125,9 +125,17 @@ class Maker:
 
     def send(self, update):
         """Adds an update's lines, in some scripts with what is said of controls."""
-        if self.has_controls:
-            nodes = ((number, with_control(node, self.controls)) for number, node in update.nodes)
-            update = update._replace(nodes=tuple(nodes))
+        self.say_update(self.controlled(update))
+
+    def controlled(self, update):
+        """The update, in some scripts with what is said of controls."""
+        if not self.has_controls:
+            return update
+        nodes = ((number, with_control(node, self.controls)) for number, node in update.nodes)
+        return update._replace(nodes=tuple(nodes))
+
+    def say_update(self, update):
+        """Adds an update's lines."""
         for line in update_lines(update, self.dice):
             self.say(line)
 

@@ -70,10 +70,11 @@ class Pair:
     def send(self, update):
         """One sends the update as it is, and the twin with other characters, if the worlds are alike then."""
         other = update._replace(nodes=tuple((number, self.twin_of(update.tree, number, node)) for number, node in update.nodes))
+        update, other = self.one.controlled(update), self.twin.controlled(other)
         worlds = after(self.one.world, update), after(self.twin.world, other)
         if are_alike(*worlds, self.tree, self.number):
-            self.one.send(update)
-            self.twin.send(other)
+            self.one.say_update(update)
+            self.twin.say_update(other)
 
     def twin_of(self, tree, number, node):
         """A node as the twin sends it: the password with another own value, and its runs with other characters."""
