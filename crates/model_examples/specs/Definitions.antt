@@ -5,8 +5,6 @@ use Rattle.schema.specs.declared.Role.TheVariants.{TextRun}
 use Rattle.model.specs.World.{World, data_of}
 use Rattle.model.specs.declared.FullNodeId.{FullNodeId}
 use Rattle.model.specs.declared.filters.FilterResult.TheVariants.{ExcludeSubtree}
-use Rattle.model.specs.Examples.{at}
-use Rattle.model.specs.FullIds.{full_number}
 use Rattle.model.specs.Labels.{label_filter}
 use Rattle.model.specs.FlatText.{are_alike, metrics_of}
 use Rattle.model.specs.TextRuns.{is_enough}
@@ -34,10 +32,6 @@ measured = record (empty_node TextRun) { character_positions = Some (pos 0 ∷ p
 pub record PasswordsAreMeasuredAlike : Type 0 where
   pub password : metrics_of true measured ≡ Some (record { positions = pos 0 ∷ pos 4 ∷ []; widths = pos 4 ∷ pos 6 ∷ []; are_alike = true })
   pub plain : metrics_of false measured ≡ Some (record { positions = pos 0 ∷ pos 4 ∷ []; widths = pos 4 ∷ pos 6 ∷ []; are_alike = false })
-
--- the tree's index stands in the 64 bits below the node's id
-abbrev pub IdIsItsNumber : Type 0
-IdIsItsNumber = full_number (at 1 2) ≡ 36893488147419103233
 
 -- a node that isn't there is cut off from labels
 abbrev pub AbsentNodeIsCutOff : Type 0

@@ -5,7 +5,7 @@
 ghost use Rattle.model_examples.specs.Queries.{TakeMemory, OfWideText, OfTwoLines};
 ghost use Rattle.model_examples.specs.Places.{OfMovedRun, OfWidths, OfLineEnds, OfStarts};
 ghost use Rattle.model_examples.specs.Abilities.{OfButtons, FocusedIsFocusable};
-ghost use Rattle.model_examples.specs.Definitions.{RootIsOfTheRootTree, CountsAreEnough, ListsAreAlike, PasswordsAreMeasuredAlike, IdIsItsNumber, AbsentNodeIsCutOff};
+ghost use Rattle.model_examples.specs.Definitions.{RootIsOfTheRootTree, CountsAreEnough, ListsAreAlike, PasswordsAreMeasuredAlike, AbsentNodeIsCutOff};
 
 /// Questions about lists and texts may find no memory, those about one node don't.
 pub fn questions_take_memory()
@@ -70,11 +70,6 @@ pub fn buttons_are_more_than_clicked()
 /// The node that has the focus can have it.
 pub fn focused_is_focusable()
     ensures { FocusedIsFocusable }
-{}
-
-/// The number of an id has its node's above its tree's index.
-pub fn id_is_its_number()
-    ensures { IdIsItsNumber }
 {}
 
 /// A node that isn't there labels nothing.

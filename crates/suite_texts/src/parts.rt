@@ -104,14 +104,9 @@ fn is_part(alloc: Global, part: Option<TextRange>, text: &str) -> Result<bool, A
     }
 }
 
-/// Whether a walk gives parts with these texts, and then no more.
-fn are_parts<'a, I: Iterator<Item = TextRange<'a>> + Drop>(
-    alloc: Global,
-    mut walk: I,
-    texts: &[&str],
-) -> Result<bool, AllocError>
-    requires { (walk : I) → I.can_next walk }
-{
+/// Whether the range's characters have these texts, and there are no more.
+fn are_characters(alloc: Global, range: &TextRange, texts: &[&str]) -> Result<bool, AllocError> {
+    let mut walk = range.characters();
     for text in texts {
         if !is_part(alloc, walk.next(), text)? {
             return Ok(false);
@@ -120,16 +115,26 @@ fn are_parts<'a, I: Iterator<Item = TextRange<'a>> + Drop>(
     Ok(walk.next().is_none())
 }
 
-fn are_characters(alloc: Global, range: &TextRange, texts: &[&str]) -> Result<bool, AllocError> {
-    are_parts(alloc, range.characters(), texts)
-}
-
+/// Whether the range's words have these texts, and there are no more.
 fn are_words(alloc: Global, range: &TextRange, texts: &[&str]) -> Result<bool, AllocError> {
-    are_parts(alloc, range.words(), texts)
+    let mut walk = range.words();
+    for text in texts {
+        if !is_part(alloc, walk.next(), text)? {
+            return Ok(false);
+        }
+    }
+    Ok(walk.next().is_none())
 }
 
+/// Whether the range's lines have these texts, and there are no more.
 fn are_lines(alloc: Global, range: &TextRange, texts: &[&str]) -> Result<bool, AllocError> {
-    are_parts(alloc, range.lines(), texts)
+    let mut walk = range.lines();
+    for text in texts {
+        if !is_part(alloc, walk.next(), text)? {
+            return Ok(false);
+        }
+    }
+    Ok(walk.next().is_none())
 }
 
 /// Whether the parts of a range of a text have these texts.
