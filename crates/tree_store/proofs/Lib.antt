@@ -11,3 +11,5 @@ pub mod Decided
 pub mod Committed
 pub mod SlotCounts
 pub mod CopiedSlots
+pub mod Boxed
+pub mod Waits

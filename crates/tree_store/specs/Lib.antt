@@ -6,3 +6,4 @@ pub mod Shown
 pub mod Overlays
 pub mod Commits
 pub mod Copied
+pub mod Waiting

@@ -18,10 +18,10 @@ use crate::known::write_known;
 use crate::names::{make_names, take_names_back, write_names};
 use crate::overlay::is_root_index;
 use crate::records::{KnownTree, Tables};
-use crate::slots::{make_room, take_back, write_all};
+use crate::slots::{first_slots, make_room, take_back, write_all};
 use crate::store::Store;
 use id_index::IdIndex;
-use schema::{TreeInfo, TreeUpdate};
+use schema::{TreeId, TreeInfo, TreeUpdate};
 use std::alloc::{AllocError, Global};
 use std::collections::BTreeMap;
 use tree_changes::{Decision, ToolkitTexts};
@@ -74,6 +74,12 @@ impl Store {
         ensures world { IfOk result (λ s. s.world ≡ overlaid_world (empty_world is_host_focused) (update_data update) decision) }
         ensures tight { IfOk result (λ s. IsTight s) }
     {
+        let TreeUpdate {
+            nodes,
+            tree,
+            tree_id,
+            focus: _,
+        } = update;
         let mut tables = Tables {
             alloc,
             nodes: IdIndex::new(alloc),
@@ -81,8 +87,9 @@ impl Store {
             names: BTreeMap::new(alloc),
             toolkit: (None, None),
         };
-        tables.make_all(true, &decision)?;
-        tables.write_decision(update, &decision, true, true);
+        tables.make_trees(&decision)?;
+        tables.nodes = first_slots(alloc, nodes, decision.nodes.as_slice())?;
+        tables.write_trees(tree, tree_id, &decision, true, true);
         Ok(Store {
             tables,
             host_focused: is_host_focused,
@@ -127,9 +134,45 @@ impl Tables {
             &mut entries,
             decision.nodes.as_slice(),
         );
+        self.write_trees(tree, tree_id, decision, is_new, is_root);
+    }
+
+    /// Writes what an update changes of trees, for which there is room.
+    fn write_trees(
+        &mut self,
+        tree: Option<TreeInfo>,
+        tree_id: TreeId,
+        decision: &Decision,
+        is_new: bool,
+        is_root: bool,
+    )
+        requires there { HasNames self.old.names decision.now.trees.items }
+        requires once { AllPairs (λ a b. a.id ≢ b.id) decision.now.trees.items }
+        requires spare { is_new ≡ true → vec_len self.old.known < vec_capacity self.old.known }
+        requires indexes { All (λ r. IfSome r.index (λ i. i < length (with_name is_new (names_shown self.old.known.items) tree_id))) decision.now.trees.items }
+        ensures nodes { self.new.nodes ≡ self.old.nodes }
+        ensures kept { (name : TreeId) → name_at self.new.names name ≡ name_after (tree_change decision.now.trees.items name) (name_at self.old.names name) }
+        ensures names { names_shown self.new.known.items ≡ with_name is_new (names_shown self.old.known.items) tree_id }
+        ensures trees { trees_shown 0 self.new.known.items ≡ put_trees (trees_shown 0 self.old.known.items) decision.now.trees.items }
+        ensures texts { texts_shown self.new.toolkit ≡ texts_after (if is_root then option_map info_data tree else None) (texts_shown self.old.toolkit) }
+    {
         write_known(&mut self.known, is_new, tree_id, decision.trees.as_slice());
         write_names(&mut self.names, decision.trees.as_slice());
         set_texts(&mut self.toolkit, is_root, tree);
+    }
+
+    /// Makes a record for each changed name, and room for a new one.
+    fn make_trees(&mut self, decision: &Decision) -> Result<(), AllocError>
+        ensures nodes { self.new.nodes ≡ self.old.nodes }
+        ensures names { OnOk result ((name : TreeId) → kept_in (name_at self.new.names name) ≡ kept_in (name_at self.old.names name)) }
+        ensures known { OnOk result (self.new.known.items ≡ self.old.known.items) }
+        ensures texts { self.new.toolkit ≡ self.old.toolkit }
+        ensures there { OnOk result (HasNames self.new.names decision.now.trees.items) }
+        ensures spare { OnOk result (vec_len self.new.known < vec_capacity self.new.known) }
+    {
+        make_names(&mut self.names, decision.trees.as_slice())?;
+        make_known(&mut self.known, true)?;
+        Ok(())
     }
 
     /// Makes a slot for each changed node, a record for each changed name, and room for a new one. Where memory is refused all is

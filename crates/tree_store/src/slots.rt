@@ -1,10 +1,11 @@
 //! The slots for records, filled and empty.
-ghost use Rattle.std.specs.Prelude.{◌≡◌, ◌≢◌, ◌<◌, ℕ, length, slice_get, option_copied, option_map, Some, None, is_some, map, IsSome, IfSome, IsTrue, ◌||◌, cond, OnOk, OnErr};
+ghost use Rattle.std.specs.Prelude.{◌≡◌, ◌≢◌, ◌<◌, ℕ, length, slice_get, option_copied, option_map, Some, None, is_some, map, IsSome, IfSome, IsTrue, ◌||◌, cond, IfOk, OnOk, OnErr};
 ghost use Rattle.std.specs.BTreeMap.{is_at};
 ghost use Rattle.model.specs.declared.FullNodeId.{FullNodeId};
 ghost use Rattle.model.specs.FullIds.{full_cmp};
 ghost use Rattle.tree_changes.specs.Changes.{change_at, entry_data, entry_of};
 ghost use Rattle.tree_store.specs.Stored.{slot_at, record_at};
+ghost use Rattle.tree_store.specs.Waiting.{data_waiting, placed_record, record_from};
 ghost use Rattle.tree_store.specs.Commits.{record_moved_to, record_after, changed_record, HasEntries, AreEntriesApart, HasNoSpare, HasRoomFor};
 ghost use Rattle.std.specs.List.Sorted.{IsStrictlySortedBy};
 ghost use Rattle.tree_changes.specs.declared.decision.NodeChange.TheVariants.{Put};
@@ -227,4 +228,92 @@ pub(crate) fn write_all(
     for change in changes {
         write(alloc, slots, nodes, change.0, change.1);
     }
+}
+
+/// Records that wait for their places, by the entries of the update's nodes. Where one was taken there is none.
+type Waiting = Vec<Option<Box<Option<Record>>>>;
+
+/// How much longer than its nodes a list's memory may be before some of it is given back.
+const SPARE: usize = 4096;
+
+/// The slots of a first state: the changes, with the data that they give from the update's nodes.
+///
+/// The nodes are taken from their list's end, and its memory is given back meanwhile, so that the list and the records don't stand
+/// side by side.
+pub(crate) fn first_slots(
+    alloc: Global,
+    nodes: Vec<(NodeId, Node)>,
+    changes: &[(FullNodeId, NodeChange)],
+) -> Result<Slots, AllocError>
+    requires ascending { IsStrictlySortedBy full_cmp (map (λ e. e.0) changes.now) }
+    requires apart { AreEntriesApart changes.now }
+    ensures records { IfOk result (λ slots. (id : FullNodeId) → record_at slots id ≡ changed_record nodes.items (change_at changes.now id) None) }
+    ensures tight { IfOk result HasNoSpare }
+{
+    let mut waiting = boxed(alloc, nodes)?;
+    let mut slots = IdIndex::new(alloc);
+    for change in changes {
+        place_first(&mut slots, &mut waiting, change.0, change.1)?;
+    }
+    Ok(slots)
+}
+
+// a record for each of the nodes
+fn boxed(alloc: Global, mut nodes: Vec<(NodeId, Node)>) -> Result<Waiting, AllocError>
+    ensures { IfOk result (λ waiting. (k : ℕ) → data_waiting waiting.items k ≡ entry_data nodes.items k) }
+{
+    let mut waiting = Vec::new(alloc);
+    waiting.resize_with(nodes.len(), || None)?;
+    while let Some((_, node)) = nodes.pop() {
+        let place = None;
+        waiting[nodes.len()] = Some(Box::new(alloc, Some(Record { place, node }))?);
+        if nodes.capacity() - nodes.len() > SPARE + nodes.len() / 16 {
+            nodes.shrink_to(0);
+        }
+    }
+    Ok(waiting)
+}
+
+// gives a node of a first state this change
+fn place_first(
+    slots: &mut Slots,
+    waiting: &mut Waiting,
+    id: FullNodeId,
+    change: NodeChange,
+) -> Result<(), AllocError>
+    ensures records { OnOk result ((q : FullNodeId) → record_at slots.new q ≡ cond (is_at (full_cmp id) q) (record_from waiting.old.items change (record_at slots.old id)) (record_at slots.old q)) }
+    ensures tight { OnOk result ((q : FullNodeId) → is_some (slot_at slots.new q) ≡ cond (is_at (full_cmp id) q) (is_some (record_at slots.new q)) (is_some (slot_at slots.old q))) }
+    ensures others { (k : ℕ) → entry_of change ≢ Some k → data_waiting waiting.new.items k ≡ data_waiting waiting.old.items k }
+{
+    match change {
+        NodeChange::Put {
+            place,
+            entry: Some(entry),
+        } => {
+            drop(slots.remove(&id));
+            if let Some(slot) = placed(waiting, entry, place) {
+                drop(slots.insert(id, slot)?);
+            }
+        }
+        NodeChange::Put { place, entry: None } => {
+            if slots.contains_key(&id) {
+                put_place(slots, id, place);
+            }
+        }
+        NodeChange::Gone => {
+            drop(slots.remove(&id));
+        }
+    }
+    Ok(())
+}
+
+// takes an entry's record, and gives it this place
+fn placed(waiting: &mut Waiting, entry: usize, place: Option<Place>) -> Option<Box<Option<Record>>>
+    ensures data { option_map (λ b. b.value) result ≡ option_map (λ d. Some (placed_record place d)) (data_waiting waiting.old.items entry) }
+    ensures others { (k : ℕ) → k ≢ entry → data_waiting waiting.new.items k ≡ data_waiting waiting.old.items k }
+{
+    let mut slot = waiting.get_mut(entry)?.take()?;
+    let record = (*slot).as_mut()?;
+    record.place = place;
+    Some(slot)
 }

@@ -1,4 +1,4 @@
-use Rattle.std.proofs.Common.{Some, sym, ap, ◌∙◌}
+use Rattle.std.proofs.Common.{ap, ◌∙◌}
 use Rattle.std.specs.Box.{with_value}
 use Rattle.tree_store.specs.Stored.{record_in}
 use Rattle.tree_store.specs.Commits.{record_moved_to}
