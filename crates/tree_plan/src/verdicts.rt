@@ -54,15 +54,15 @@ impl Found {
         Some((graft, 0))
     }
 
-    /// The place of a node that comes to another.
-    fn other_place(&self, id: FullNodeId) -> Option<Option<Place>>
+    /// The place of a node that comes to another. It is looked for where the last search ended, as `near` says.
+    fn other_place(&self, id: FullNodeId, near: &mut usize) -> Option<Option<Place>>
         ghost step: { Transition }
         requires found { IsFound step self.now }
         requires stays { ¬ (Gone step.old step.update id) }
         ensures { Moves step id result }
     {
-        if let Some(spot) = self.compared.entered.get(&id) {
-            let Some(place) = *spot else {
+        if let Some(spot) = self.compared.entered.get_near(id, near) {
+            let Some(place) = spot else {
                 return Some(self.root_place());
             };
             return Some(Some(place));
@@ -96,7 +96,7 @@ impl Found {
     }
 
     /// What becomes of a node with this entry among the named ones, where it is not as it was or is told all the same.
-    fn verdict(&self, id: FullNodeId, named: Option<Named>) -> Option<Verdict>
+    fn verdict(&self, id: FullNodeId, named: Option<Named>, near: &mut usize) -> Option<Verdict>
         ghost step: { Transition }
         requires found { IsFound step self.now }
         requires named { named ≡ at self.now.compared.named id }
@@ -105,7 +105,7 @@ impl Found {
         if self.removed.gone.contains(&id) {
             return Some(Verdict::Removed);
         }
-        let moved = self.other_place(id);
+        let moved = self.other_place(id, near);
         let Some(named) = named else {
             return self.moved_or_told(id, moved);
         };
@@ -126,6 +126,7 @@ impl Found {
         &self,
         id: FullNodeId,
         named: Option<Named>,
+        near: &mut usize,
         verdicts: &mut RowList<Verdict>,
     ) -> Result<(), UpdateError>
         ghost step: { Transition }
@@ -135,7 +136,7 @@ impl Found {
         ensures ok { OnOk result (Adds step (id ∷ []) verdicts.old verdicts.new) }
         ensures err { IfErr result (λ e. e ≡ Memory) }
     {
-        let Some(verdict) = self.verdict(id, named) else {
+        let Some(verdict) = self.verdict(id, named, near) else {
             return Ok(());
         };
         verdicts.push(id, verdict)?;
@@ -151,7 +152,8 @@ impl Found {
         ensures err { IfErr result (λ e. e ≡ Memory) }
     {
         let named = self.compared.named.get(&id).copied();
-        self.judge_as(id, named, verdicts)
+        let mut near = 0;
+        self.judge_as(id, named, &mut near, verdicts)
     }
 
     /// Adds the verdicts on the named nodes.
@@ -162,8 +164,9 @@ impl Found {
         ensures ok { OnOk result (Adds step (keys_of self.now.compared.named) verdicts.old verdicts.new) }
         ensures err { IfErr result (λ e. e ≡ Memory) }
     {
+        let mut near = 0;
         for item in self.compared.named.entries() {
-            self.judge_as(item.0, Some(item.1), verdicts)?;
+            self.judge_as(item.0, Some(item.1), &mut near, verdicts)?;
         }
         Ok(())
     }
@@ -186,7 +189,8 @@ impl Found {
         if named.is_some() {
             return Ok(());
         }
-        self.judge_as(id, named, verdicts)
+        let mut entered = *near;
+        self.judge_as(id, named, &mut entered, verdicts)
     }
 
     /// Adds the verdicts on the nodes that entered a spot, where the named ones are judged.
