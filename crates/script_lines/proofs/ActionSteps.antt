@@ -1,7 +1,6 @@
 -- The list of actions in a set, one number after another.
-use Rattle.std.proofs.Common.{◌≡◌, ℕ, ◌+◌, List, [], ◌++◌, refl, add-one}
+use Rattle.std.proofs.Common.{◌≡◌, ℕ, ◌+◌, [], ◌++◌, refl, add-one}
 use Rattle.schema.specs.Actions.{has_action}
-use Rattle.schema.specs.declared.actions.Action.{Action}
 use Rattle.script_lines.specs.ActionLists.{action_numbered, actions_among, chosen}
 
 pub no_actions : (set : ℕ) → actions_among set 0 ≡ []

@@ -1,5 +1,5 @@
 -- Numbers as they are written.
-use Rattle.std.proofs.Common.{◌≡◌, ◌≢◌, ℕ, ◌<◌, ◌≤◌, ◌+◌, ◌^◌, List, [], ◌∷◌, length, slice_index_or, arith, ℤ, pos, negsuc, FitsSigned, w64, zero, suc, Bool, true, Some, None, ap, subst, sym, ◌∙◌}
+use Rattle.std.proofs.Common.{◌≡◌, ◌≢◌, ℕ, ◌<◌, ◌≤◌, ◌^◌, List, [], ◌∷◌, slice_index_or, arith, ℤ, pos, negsuc, FitsSigned, w64, zero, suc, Bool, true, Some, None, ap, subst, sym, ◌∙◌}
 use Rattle.std.specs.Bool.{MatchBool}
 use Rattle.std.specs.Char.{digit_value}
 use Rattle.std.specs.Fmt.{decimal, signed_decimal}

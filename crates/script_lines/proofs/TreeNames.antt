@@ -1,5 +1,5 @@
 -- The name of a tree, read back.
-use Rattle.std.proofs.Common.{◌≡◌, ◌≢◌, ℕ, ◌<◌, List, length, All, codes, bytes_eq, Option, Some, None, ap, sym, refl, ◌∙◌, ⊎_elim, inl, zero, suc, ◌+◌, ◌-◌, [], ◌∷◌, ◌++◌, Bool, true, false, if◌then◌else◌, nat_lt, arith, true≢false}
+use Rattle.std.proofs.Common.{◌≡◌, ◌≢◌, ℕ, List, codes, bytes_eq, Some, ap, sym, refl, ◌∙◌, ⊎_elim, inl, zero, suc, ◌+◌, ◌-◌, [], ◌∷◌, Bool, true, false, if◌then◌else◌, nat_lt, arith, true≢false}
 use Rattle.std.proofs.lemmas.Bool.{cases_Bool, cond-true, cond-false, cond_both}
 use Rattle.std.proofs.lemmas.Slice.Eq.{bytes_eq-Decides}
 use Rattle.uuid.specs.Text.{hyphenated_text, lower, parsed, by_index, hex_digit, nibble, digit_place, is_hyphen_place}

@@ -1,6 +1,6 @@
 -- The actions in a set, as a list.
 use Rattle.std.specs.Prelude.{Bool, ℕ, zero, suc, ◌-◌, ◌==◌, List, [], ◌∷◌, ◌++◌, if◌then◌else◌}
-use Rattle.schema.specs.Actions.{has_action}
+use Rattle.schema.specs.Actions.{has_action, with_action}
 use Rattle.schema.specs.declared.actions.Action.{Action}
 use Rattle.schema.specs.declared.actions.Action.TheVariants.{Click, Focus, Increment, Decrement, Other}
 
@@ -25,3 +25,8 @@ actions_among set (suc n) = actions_among set n ++ chosen (has_action set (actio
 -- all actions in the set: four have names, and 256 have numbers
 unfoldable pub actions_in : ℕ → List Action
 actions_in set = actions_among set 260
+
+-- a set with these actions more, one after another
+unfoldable pub with_actions : ℕ → List Action → ℕ
+with_actions set [] = set
+with_actions set (action ∷ others) = with_actions (with_action set action) others

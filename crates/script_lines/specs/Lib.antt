@@ -8,3 +8,8 @@ pub mod Questions
 pub mod Quoted
 pub mod Words
 pub mod Reading
+pub mod FieldKinds
+pub mod NodeReading
+pub mod Commas
+pub mod NamedIn
+pub mod LineReading

@@ -18,9 +18,13 @@ abbrev pub info_or_nothing : Option InfoData → List ℕ
 info_or_nothing None = []
 info_or_nothing (Some info) = info_text info
 
+-- what stands in the line that begins an update, after its first word
+abbrev pub head_args : UpdateData → List ℕ
+head_args u = tree_text u.name ++ codes " focus=" ++ decimal u.focus.0 ++ info_or_nothing u.info
+
 -- the line that begins an update
 abbrev pub update_head : UpdateData → List ℕ
-update_head u = codes "update " ++ tree_text u.name ++ codes " focus=" ++ decimal u.focus.0 ++ info_or_nothing u.info ++ codes "\n"
+update_head u = codes "update " ++ head_args u ++ codes "\n"
 
 -- the line of a node of an update
 abbrev pub entry_line : NodeId × NodeData → List ℕ

@@ -121,6 +121,10 @@ fields_text n = place_and_texts n ++ flags_and_places n ++ run_and_settings n ++
 unfoldable pub node_head : NodeId → Role → List ℕ
 node_head id role = codes "node " ++ decimal id.0 ++ codes " " ++ role_text role
 
+-- a node's line, without its end
+unfoldable pub node_text : NodeId → NodeData → List ℕ
+node_text id n = node_head id n.role ++ fields_text n ++ actions_text n
+
 -- a node's line
 unfoldable pub node_line : NodeId → NodeData → List ℕ
-node_line id n = node_head id n.role ++ fields_text n ++ actions_text n ++ codes "\n"
+node_line id n = node_text id n ++ codes "\n"

@@ -1,8 +1,20 @@
 -- What stands at the beginning of what is left of a line.
 use mir.Syntax.{w32, w64}
-use Rattle.std.specs.Prelude.{ℕ, ℤ, ◌<◌, ◌^◌, All, FitsSigned, List, [], ◌∷◌, ◌++◌, length, slice_index_or, Option, Some, None, ◌≡◌, ◌≢◌}
+use Rattle.std.specs.Prelude.{ℕ, ℤ, ◌<◌, ◌^◌, All, FitsSigned, List, [], ◌∷◌, ◌++◌, length, slice_index_or, Option, Some, None, Result, MatchResult, ◌≡◌, ◌≢◌}
 use Rattle.schema.specs.declared.NodeId.{NodeId}
+use Rattle.schema.specs.declared.Role.{Role}
+use Rattle.schema.specs.declared.Role.TheVariants as role
 use Rattle.schema.specs.declared.TreeId.{TreeId}
+use Rattle.schema.specs.declared.actions.Action.{Action}
+use Rattle.schema.specs.declared.actions.Action.TheVariants as action
+use Rattle.schema.specs.declared.geometry.Rect.{Rect}
+use Rattle.schema.specs.declared.geometry.Translation.{Translation}
+use Rattle.schema.specs.declared.values.Color.{Color}
+use Rattle.schema.specs.declared.values.TextDecoration.{TextDecoration}
+use Rattle.schema.specs.declared.values.TextPosition.{TextPosition}
+use Rattle.schema.specs.declared.values.TextSelection.{TextSelection}
+use Rattle.script_lines.specs.declared.stops.Stop.{Stop}
+use Rattle.script_lines.specs.declared.stops.Stop.TheVariants.{Memory}
 
 -- the text has no such byte
 abbrev pub Lacks : ℕ → List ℕ → Type 0
@@ -35,6 +47,51 @@ IsNumber z = FitsSigned w64 z
 abbrev pub IsUnits : ℤ → Type 0
 IsUnits z = FitsSigned w32 z
 
+-- of 16 bits, and of eight
+abbrev pub IsShort : ℕ → Type 0
+IsShort n = n < 2 ^ 16
+
+abbrev pub IsByte : ℕ → Type 0
+IsByte n = n < 2 ^ 8
+
+-- an id is a number of 64 bits
+abbrev pub IsId : NodeId → Type 0
+IsId id = IsCount id.0
+
+-- ---- values whose numbers are such as their types have them
+
+abbrev pub IsRect : Rect → Type 0
+IsRect r = IsUnits r.x0 × IsUnits r.y0 × IsUnits r.x1 × IsUnits r.y1
+
+abbrev pub IsTranslation : Translation → Type 0
+IsTranslation t = IsUnits t.x × IsUnits t.y
+
+abbrev pub IsPosition : TextPosition → Type 0
+IsPosition p = IsId p.node × IsCount p.character_index
+
+abbrev pub IsSelection : TextSelection → Type 0
+IsSelection s = IsPosition s.anchor × IsPosition s.focus
+
+abbrev pub IsColor : Color → Type 0
+IsColor c = IsByte c.red × IsByte c.green × IsByte c.blue × IsByte c.alpha
+
+abbrev pub IsDecoration : TextDecoration → Type 0
+IsDecoration d = IsColor d.color
+
+abbrev pub IsAction : Action → Type 0
+IsAction a = (code : ℕ) → a ≡ action.Other code → IsByte code
+
+abbrev pub IsRole : Role → Type 0
+IsRole r = (code : ℕ) → r ≡ role.Other code → IsShort code
+
 -- a node's name has them
 abbrev pub IsName : NodeId × TreeId → Type 0
 IsName name = IsCount name.0.0 × IsTreeName name.1
+
+-- a name of a field: a word without an equals sign
+abbrev pub IsFieldName : List ℕ → Type 0
+IsFieldName name = IsWord name × Lacks 61 name
+
+-- what is read is such, want of memory aside
+abbrev pub Reads : {T : Type 0} → Result T Stop → (T → Type 0) → Type 0
+Reads result P = MatchResult result P (λ stop. stop ≡ Memory)

@@ -1,8 +1,14 @@
 //! Sets of actions: their names, and which of them a node has.
 
-ghost use Rattle.std.specs.Prelude.{◌≡◌, ◌<◌, ◌++◌, IfOk, OnOk};
-ghost use Rattle.script_lines.specs.ActionLists.{action_numbered, actions_in, chosen};
+ghost use Rattle.schema.specs.declared.actions.Action.{Action};
+ghost use Rattle.script_lines.specs.ActionLists.{action_numbered, actions_in, chosen, with_actions};
+ghost use Rattle.script_lines.specs.Parts.{action_list_text, action_text};
+ghost use Rattle.script_lines.specs.Reading.{IsAction, IsByte, Lacks, Reads};
+ghost use Rattle.script_lines.specs.Words.{left};
+ghost use Rattle.std.specs.Fmt.{decimal};
+ghost use Rattle.std.specs.Prelude.{ℕ, ◌≡◌, ◌<◌, ◌≤◌, ◌↔◌, [], ◌∷◌, ◌++◌, All, List, IfOk, OnOk, IsOkAnd, IsSomeAnd, Option, Some, codes, false, length, option_copied};
 
+use crate::commas::cut_at_comma;
 use crate::stops::Stop;
 use crate::words::number;
 use schema::{Action, Node};
@@ -27,31 +33,53 @@ fn action_numbered(number: u16) -> Action
 }
 
 /// The action of this name; `Other(7)` is the action `Other` of the number 7.
-fn action_named(word: &str) -> Option<Action> {
+fn action_named(word: &str) -> Option<Action>
+    ensures reads { (action : Action) → IsAction action → word.now ≡ action_text action → result ≡ Some action }
+{
     match word {
         "Click" => Some(Action::Click),
         "Focus" => Some(Action::Focus),
         "Increment" => Some(Action::Increment),
         "Decrement" => Some(Action::Decrement),
-        _ => {
-            let digits = word.strip_prefix("Other(")?.strip_suffix(')')?;
-            let code = u8::try_from(number(digits)?).ok()?;
-            Some(Action::Other(code))
-        }
+        _ => Some(Action::Other(other_code(word)?)),
     }
 }
 
+/// The number of an action without a name: `Other(7)` has the number 7.
+fn other_code(word: &str) -> Option<u8>
+    ensures reads { (code : ℕ) → IsByte code → word.now ≡ codes "Other(" ++ decimal code ++ codes ")" → result ≡ Some code }
+{
+    u8::try_from(number(in_brackets(word)?)?).ok()
+}
+
+/// What stands in the brackets of `Other()`.
+fn in_brackets(word: &str) -> Option<&str>
+    ensures reads { (inner : List ℕ) → word.now ≡ codes "Other(" ++ inner ++ codes ")" → IsSomeAnd result (λ read. read.now ≡ inner) }
+{
+    word.strip_prefix("Other(")?.strip_suffix(')')
+}
+
 /// Actions by their names, with one comma between them.
-pub(crate) fn action_list(alloc: Global, word: &str) -> Result<Vec<Action>, Stop> {
+pub(crate) fn action_list(alloc: Global, word: &str) -> Result<Vec<Action>, Stop>
+    ensures reads { (action : Action) (others : List Action) → IsAction action → All IsAction others → word.now ≡ action_list_text action others → Reads result (λ read. read.items ≡ action ∷ others) }
+{
     let mut actions = Vec::new(alloc);
-    for part in word.split(',') {
-        actions.push(action_named(part).ok_or(Stop::BadLine)?)?;
+    let mut left = Some(word);
+    while let Some(rest) = left {
+        let (part, after) = cut_at_comma(rest);
+        let action = action_named(part).ok_or(Stop::BadLine)?;
+        actions.push(action)?;
+        left = after;
     }
     Ok(actions)
 }
 
 /// Whether the node supports any action.
-pub(crate) fn has_actions(node: &Node) -> bool {
+#[tactic(auto, using(crate::proofs::ActionSteps::no_actions, crate::proofs::ActionSets::none_so_far, crate::proofs::ActionSets::has_none, crate::proofs::ActionSets::nothing_has), unfolding(crate::specs::ActionLists::actions_in))]
+pub(crate) fn has_actions(node: &Node) -> bool
+    ensures none { node.now.actions ≡ 0 → result ≡ false }
+    ensures exact { (result ≡ false) ↔ (actions_in node.now.actions ≡ []) }
+{
     for number in 0..ACTIONS {
         if node.supports_action(action_numbered(number)) {
             return true;
@@ -61,13 +89,37 @@ pub(crate) fn has_actions(node: &Node) -> bool {
 }
 
 /// Whether the node's children support any action.
-pub(crate) fn has_child_actions(node: &Node) -> bool {
+#[tactic(auto, using(crate::proofs::ActionSteps::no_actions, crate::proofs::ActionSets::none_so_far, crate::proofs::ActionSets::has_none, crate::proofs::ActionSets::nothing_has), unfolding(crate::specs::ActionLists::actions_in))]
+pub(crate) fn has_child_actions(node: &Node) -> bool
+    ensures none { node.now.child_actions ≡ 0 → result ≡ false }
+    ensures exact { (result ≡ false) ↔ (actions_in node.now.child_actions ≡ []) }
+{
     for number in 0..ACTIONS {
         if node.child_supports_action(action_numbered(number)) {
             return true;
         }
     }
     false
+}
+
+/// Adds to the actions that the node supports.
+#[tactic(auto, using(crate::proofs::ActionSets::no_more, crate::proofs::ActionSets::one_more))]
+pub(crate) fn add_actions(actions: &[Action], node: &mut Node)
+    ensures { node.new ≡ record node.old { actions = with_actions node.old.actions actions.now } }
+{
+    for action in actions {
+        node.add_action(*action);
+    }
+}
+
+/// Adds to the actions that the node's children support.
+#[tactic(auto, using(crate::proofs::ActionSets::no_more, crate::proofs::ActionSets::one_more))]
+pub(crate) fn add_child_actions(actions: &[Action], node: &mut Node)
+    ensures { node.new ≡ record node.old { child_actions = with_actions node.old.child_actions actions.now } }
+{
+    for action in actions {
+        node.add_child_action(*action);
+    }
 }
 
 /// The actions that the node supports, those with names first.

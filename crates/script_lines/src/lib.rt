@@ -3,16 +3,24 @@
 
 mod actions;
 mod called;
+mod commas;
 mod ends;
+mod field_kinds;
 mod fields;
+mod heads;
+mod kind_values;
 mod line_reader;
 mod lines;
 mod names;
+mod node_fields;
+mod node_lines;
 mod program;
 mod questions;
 mod quoted;
 mod reader;
+mod single_values;
 mod stops;
+mod unquoting;
 mod word_lists;
 mod words;
 mod write_amounts;

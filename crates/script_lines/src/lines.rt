@@ -1,12 +1,25 @@
 //! The lines of a script.
 
-use crate::fields::flag;
-use crate::names::role_named;
+ghost use Rattle.std.specs.Prelude.{ℕ, ◌≡◌, ◌++◌, Bool, List, [], Ok, Option, Some, None, codes, false, option_copied};
+ghost use Rattle.model.specs.declared.queries.Query.{Query};
+ghost use Rattle.schema.specs.NodeData.{NodeData};
+ghost use Rattle.schema.specs.UpdateData.{UpdateData};
+ghost use Rattle.schema.specs.declared.NodeId.{NodeId};
+ghost use Rattle.script_lines.specs.LineReading.{BeginsUpdate, IsHead, IsLineWord, host_word};
+ghost use Rattle.script_lines.specs.Lines.{head_args, host_text};
+ghost use Rattle.script_lines.specs.NodeReading.{IsNode, node_args};
+ghost use Rattle.script_lines.specs.NodeText.{node_text};
+ghost use Rattle.script_lines.specs.Questions.{IsQuery, question_args, question_text, question_word};
+ghost use Rattle.script_lines.specs.Reading.{IsId, Reads, after};
+ghost use Rattle.script_lines.specs.declared.lines.Line.TheVariants as says;
+
+use crate::heads::update_line;
+use crate::node_lines::node_line;
 use crate::questions::question;
 use crate::stops::Stop;
-use crate::words::{Words, tree_named};
+use crate::words::Words;
 use model::Query;
-use schema::{Node, NodeId, TreeInfo, TreeUpdate};
+use schema::{Node, NodeId, TreeUpdate};
 use std::alloc::Global;
 
 /// What a line says.
@@ -29,75 +42,64 @@ pub(crate) enum Line {
 }
 
 /// Reads a line, without its line end.
-pub(crate) fn read_line(alloc: Global, line: &str) -> Result<Line, Stop> {
-    if line.is_empty() || line.starts_with('#') {
+pub(crate) fn read_line(alloc: Global, line: &str) -> Result<Line, Stop>
+    ensures reads_head { (u : UpdateData) → IsHead u → u.nodes ≡ [] → line.now ≡ codes "update " ++ head_args u → Reads result (BeginsUpdate u) }
+    ensures reads_node { (id : NodeId) (n : NodeData) → IsId id → IsNode n → line.now ≡ node_text id n → Reads result (λ read. read ≡ says.Node id n) }
+    ensures reads_end { line.now ≡ codes "end" → result ≡ Ok says.End }
+    ensures reads_host { (is_focused : Bool) → line.now ≡ host_text is_focused → result ≡ Ok (says.HostFocus is_focused) }
+    ensures reads_print { line.now ≡ codes "print" → result ≡ Ok says.Print }
+    ensures reads_query { (q : Query) → IsQuery q → line.now ≡ question_text q → result ≡ Ok (says.Query q) }
+{
+    if says_nothing(line) {
         return Ok(Line::Nothing);
     }
     let mut words = Words { rest: Some(line) };
-    match words.word()? {
+    let word = words.word()?;
+    line_by_word(alloc, word, words)
+}
+
+/// Whether the line is empty or a comment.
+fn says_nothing(line: &str) -> bool
+    ensures { (text : List ℕ) (rest : Option (List ℕ)) → IsLineWord text → line.now ≡ text ++ after rest → result ≡ false }
+{
+    line.is_empty() || line.starts_with('#')
+}
+
+/// The line that begins with this word, from the next word on.
+fn line_by_word(alloc: Global, word: &str, words: Words) -> Result<Line, Stop>
+    ensures reads_head { (u : UpdateData) → IsHead u → u.nodes ≡ [] → word.now ≡ codes "update" → option_copied words.entry.rest ≡ Some (head_args u) → Reads result (BeginsUpdate u) }
+    ensures reads_node { (id : NodeId) (n : NodeData) → IsId id → IsNode n → word.now ≡ codes "node" → option_copied words.entry.rest ≡ Some (node_args id n) → Reads result (λ read. read ≡ says.Node id n) }
+    ensures reads_end { word.now ≡ codes "end" → option_copied words.entry.rest ≡ None → result ≡ Ok says.End }
+    ensures reads_host { (is_focused : Bool) → word.now ≡ codes "host" → option_copied words.entry.rest ≡ Some (host_word is_focused) → result ≡ Ok (says.HostFocus is_focused) }
+    ensures reads_print { word.now ≡ codes "print" → option_copied words.entry.rest ≡ None → result ≡ Ok says.Print }
+    ensures reads_query { (q : Query) → IsQuery q → word.now ≡ question_word q → option_copied words.entry.rest ≡ question_args q → result ≡ Ok (says.Query q) }
+{
+    match word {
         "update" => Ok(Line::Update(update_line(alloc, words)?)),
         "node" => {
             let (id, node) = node_line(alloc, words)?;
             Ok(Line::Node(id, node))
         }
-        "host" => match words.last_word()? {
-            "on" => Ok(Line::HostFocus(true)),
-            "off" => Ok(Line::HostFocus(false)),
-            _ => Err(Stop::BadLine),
-        },
-        "end" if words.rest.is_none() => Ok(Line::End),
-        "print" if words.rest.is_none() => Ok(Line::Print),
+        "host" => host_line(words),
+        "end" => {
+            words.end()?;
+            Ok(Line::End)
+        }
+        "print" => {
+            words.end()?;
+            Ok(Line::Print)
+        }
         asking => Ok(Line::Query(question(asking, words)?)),
     }
 }
 
-/// `update TREE focus=ID [root=ID] [toolkit="t"] [version="t"]`, from `TREE` on. The fields come in any order; those of
-/// the toolkit ask for `root=`.
-fn update_line(alloc: Global, mut words: Words) -> Result<TreeUpdate, Stop> {
-    let tree_id = tree_named(words.word()?).ok_or(Stop::BadLine)?;
-    let mut focus = None;
-    let mut root = None;
-    let mut toolkit_name = None;
-    let mut toolkit_version = None;
-    while words.rest.is_some() {
-        match words.field()? {
-            ("focus", true) if focus.is_none() => focus = Some(words.id()?),
-            ("root", true) if root.is_none() => root = Some(words.id()?),
-            ("toolkit", true) if toolkit_name.is_none() => toolkit_name = Some(words.text(alloc)?),
-            ("version", true) if toolkit_version.is_none() => toolkit_version = Some(words.text(
-                alloc,
-            )?),
-            _ => return Err(Stop::BadLine),
-        }
+/// `host on` or `host off`, from the second word on.
+fn host_line(mut words: Words) -> Result<Line, Stop>
+    ensures reads { (is_focused : Bool) → option_copied words.entry.rest ≡ Some (host_word is_focused) → result ≡ Ok (says.HostFocus is_focused) }
+{
+    match words.last_word()? {
+        "on" => Ok(Line::HostFocus(true)),
+        "off" => Ok(Line::HostFocus(false)),
+        _ => Err(Stop::BadLine),
     }
-    let focus = focus.ok_or(Stop::BadLine)?;
-    let tree = match root {
-        Some(root) => Some(TreeInfo {
-            root,
-            toolkit_name,
-            toolkit_version,
-        }),
-        None if toolkit_name.is_some() || toolkit_version.is_some() => return Err(Stop::BadLine),
-        None => None,
-    };
-    Ok(TreeUpdate {
-        nodes: Vec::new(alloc),
-        tree,
-        tree_id,
-        focus,
-    })
-}
-
-/// `node ID ROLE` and fields, from `ID` on. The fields come in any order.
-fn node_line(alloc: Global, mut words: Words) -> Result<(NodeId, Node), Stop> {
-    let id = words.id()?;
-    let role = role_named(words.word()?).ok_or(Stop::BadLine)?;
-    let mut node = Node::new(alloc, role);
-    while words.rest.is_some() {
-        match words.field()? {
-            (name, true) => words.valued_field(alloc, name, &mut node)?,
-            (name, false) => flag(name, &mut node)?,
-        }
-    }
-    Ok((id, node))
 }

@@ -1,6 +1,11 @@
 //! What roles, filters, the sides of a place and moves are called.
 
-ghost use Rattle.std.specs.Prelude.{◌≡◌, Bool, Some};
+ghost use Rattle.std.specs.Prelude.{ℕ, ◌≡◌, ◌++◌, Bool, Some, codes};
+ghost use Rattle.std.specs.Fmt.{decimal};
+ghost use Rattle.schema.specs.RoleNames.{role_text};
+ghost use Rattle.schema.specs.declared.Role.{Role};
+ghost use Rattle.script_lines.specs.NamedIn.{named_in};
+ghost use Rattle.script_lines.specs.Reading.{IsRole, IsShort};
 ghost use Rattle.schema.specs.declared.values.Toggled.{Toggled};
 ghost use Rattle.schema.specs.declared.values.Live.{Live};
 ghost use Rattle.schema.specs.declared.values.Orientation.{Orientation};
@@ -24,7 +29,9 @@ use schema::{
 };
 
 /// What stands beside the word in the table.
-fn named<T: Copy>(table: &[(&str, T)], word: &str) -> Option<T> {
+fn named<T: Copy>(table: &[(&str, T)], word: &str) -> Option<T>
+    ensures { result ≡ named_in word.now table.now }
+{
     for (name, what) in table {
         if *name == word {
             return Some(*what);
@@ -34,13 +41,21 @@ fn named<T: Copy>(table: &[(&str, T)], word: &str) -> Option<T> {
 }
 
 /// The role of this name; `Other(7)` is the role `Other` of the number 7.
-pub fn role_named(word: &str) -> Option<Role> {
+pub fn role_named(word: &str) -> Option<Role>
+    ensures reads { (role : Role) → IsRole role → word.now ≡ role_text role → result ≡ Some role }
+{
     if let Some(role) = named(named_roles(), word) {
         return Some(role);
     }
+    Some(Role::Other(other_role_number(word)?))
+}
+
+/// The number of the role that `Other(7)` names.
+fn other_role_number(word: &str) -> Option<u16>
+    ensures reads { (n : ℕ) → IsShort n → word.now ≡ codes "Other(" ++ decimal n ++ codes ")" → result ≡ Some n }
+{
     let digits = word.strip_prefix("Other(")?.strip_suffix(')')?;
-    let code = u16::try_from(number(digits)?).ok()?;
-    Some(Role::Other(code))
+    u16::try_from(number(digits)?).ok()
 }
 
 /// The filter of this name.

@@ -3,11 +3,14 @@
 //! Words stand with one space between them. Numbers are decimal, those of units and points with a minus sign where they are
 //! negative; a text stands in double quotes.
 
-ghost use Rattle.std.specs.Prelude.{ℕ, ℤ, ◌^◌, ◌++◌, List, Option, Some, None, Ok, IsOkAnd, FitsSigned};
+ghost use Rattle.std.specs.Prelude.{ℕ, ℤ, ◌^◌, ◌++◌, codes, false, true, List, Option, Some, None, Ok, IsOkAnd, FitsSigned, IsSomeAnd, IfSome};
+ghost use Rattle.std.specs.Str.{IsUtf8};
+ghost use Rattle.std.specs.String.{string_bytes};
+ghost use Rattle.script_lines.specs.Quoted.{quoted};
 ghost use mir.Syntax.{w32, w64};
 ghost use Rattle.schema.specs.declared.NodeId.{NodeId};
 ghost use Rattle.schema.specs.declared.TreeId.{TreeId};
-ghost use Rattle.script_lines.specs.Parts.{tree_text};
+ghost use Rattle.script_lines.specs.Parts.{pair_text, rect_text, translation_text, place_text, selection_text, tree_text};
 ghost use Rattle.script_lines.specs.Questions.{name_text, at_text, point_text};
 ghost use Rattle.script_lines.specs.Names.{filter_name, move_name, side_name};
 ghost use Rattle.model.specs.declared.queries.Side.{Side};
@@ -15,13 +18,22 @@ ghost use Rattle.model.specs.declared.queries.NamedFilter.{NamedFilter};
 ghost use Rattle.model.specs.declared.queries.Move.{Move};
 ghost use Rattle.model.specs.declared.queries.At.{At};
 ghost use Rattle.schema.specs.declared.geometry.Point.{Point};
-ghost use Rattle.script_lines.specs.Reading.{IsWord, Lacks, Begins, IsTreeName, IsName, IsCount, IsNumber, after};
+ghost use Rattle.script_lines.specs.Reading.{IsWord, Lacks, Begins, IsTreeName, IsName, IsCount, IsNumber, IsFieldName, Reads, after, IsUnits, IsRect, IsTranslation, IsPosition, IsSelection};
+ghost use Rattle.schema.specs.declared.geometry.Rect.{Rect};
+ghost use Rattle.schema.specs.declared.geometry.Translation.{Translation};
+ghost use Rattle.schema.specs.declared.values.TextPosition.{TextPosition};
+ghost use Rattle.schema.specs.declared.values.TextSelection.{TextSelection};
+ghost use Rattle.script_lines.specs.Quoted.{quoted};
+ghost use Rattle.std.specs.Str.{IsUtf8};
+ghost use Rattle.std.specs.String.{string_bytes};
 ghost use Rattle.std.specs.Fmt.{decimal, signed_decimal};
-ghost use Rattle.std.specs.Prelude.{◌≡◌, ◌<◌, ◌≤◌, length, IfOk, OnOk, option_copied};
+ghost use Rattle.std.specs.Prelude.{◌≡◌, ◌<◌, ◌≤◌, length, IfOk, OnOk, option_copied, codes, true, false};
 ghost use Rattle.script_lines.specs.Words.{left};
 
+use crate::commas::{colon_parts, comma_parts};
 use crate::names::{filter_named, move_named, side_named};
 use crate::stops::Stop;
+use crate::unquoting::unquoted;
 use model::{At, Move, NamedFilter, NodeName, Side};
 use schema::{NodeId, Point, Rect, TextPosition, TextSelection, Translation, TreeId};
 use std::alloc::Global;
@@ -49,7 +61,9 @@ impl<'a> Words<'a> {
     }
 
     /// The next word, which is the last.
-    pub(crate) fn last_word(&mut self) -> Result<&'a str, Stop> {
+    pub(crate) fn last_word(&mut self) -> Result<&'a str, Stop>
+        ensures reads { (text : List ℕ) → IsWord text → option_copied self.old.rest ≡ Some text → IsOkAnd result (λ word. word.now ≡ text) }
+    {
         let word = self.word()?;
         self.end()?;
         Ok(word)
@@ -69,6 +83,7 @@ impl<'a> Words<'a> {
     #[tactic(auto, using(crate::proofs::TreeNames::tree_is_word))]
     pub(crate) fn tree(&mut self) -> Result<TreeId, Stop>
         ensures reads { (tree : TreeId) (rest : Option (List ℕ)) → IsTreeName tree → Begins (option_copied self.old.rest) (tree_text tree) rest → (result ≡ Ok tree) × (option_copied self.new.rest ≡ rest) }
+        ensures shorter { OnOk result (left (option_copied self.new.rest) < left (option_copied self.old.rest)) }
     {
         tree_named(self.word()?).ok_or(Stop::BadLine)
     }
@@ -168,40 +183,49 @@ impl<'a> Words<'a> {
 
     /// The name of the next field, and whether a value comes next.
     pub(crate) fn field(&mut self) -> Result<(&'a str, bool), Stop>
+        ensures reads_valued { (name more : List ℕ) → IsFieldName name → option_copied self.old.rest ≡ Some (name ++ codes "=" ++ more) → IsOkAnd result (λ field. (field.0.now ≡ name) × (field.1 ≡ true)) × (option_copied self.new.rest ≡ Some more) }
+        ensures reads_flag { (name : List ℕ) (rest : Option (List ℕ)) → IsFieldName name → Begins (option_copied self.old.rest) name rest → IsOkAnd result (λ field. (field.0.now ≡ name) × (field.1 ≡ false)) × (option_copied self.new.rest ≡ rest) }
         ensures shorter { OnOk result (left (option_copied self.new.rest) < left (option_copied self.old.rest)) }
     {
         let rest = self.rest.ok_or(Stop::BadLine)?;
-        if !has_value(rest) {
-            return Ok((self.word()?, false));
+        match valued(rest) {
+            Some((name, value)) => {
+                self.rest = Some(value);
+                Ok((name, true))
+            }
+            None => Ok((self.word()?, false)),
         }
-        let (name, value) = rest.split_once('=').ok_or(Stop::BadLine)?;
-        self.rest = Some(value);
-        Ok((name, true))
     }
 
     /// The next text, which stands in quotes. In it `\"`, `\\` and `\n` are a quote, a backslash and a newline.
     pub(crate) fn text(&mut self, alloc: Global) -> Result<String, Stop>
+        ensures reads { (text : List ℕ) (rest : Option (List ℕ)) → IsUtf8 text → Begins (option_copied self.old.rest) (quoted text) rest → Reads result (λ read. (string_bytes read ≡ text) × (option_copied self.new.rest ≡ rest)) }
         ensures shorter { OnOk result (left (option_copied self.new.rest) < left (option_copied self.old.rest)) }
     {
         let rest = self.rest.ok_or(Stop::BadLine)?;
-        let inner = rest.strip_prefix('"').ok_or(Stop::BadLine)?;
-        let mut chars = inner.chars();
-        let mut text = String::new(alloc);
-        while let Some(c) = chars.next() {
-            match c {
-                '"' => {
-                    self.rest = after_text(chars.as_str())?;
-                    return Ok(text);
-                }
-                '\\' => {
-                    let escape = chars.next().ok_or(Stop::BadLine)?;
-                    text.push(escaped(escape)?)?;
-                }
-                _ => text.push(c)?,
-            }
-        }
-        Err(Stop::BadLine)
+        let (text, more) = text_and_rest(alloc, rest)?;
+        self.rest = more;
+        Ok(text)
     }
+}
+
+/// The text in quotes with which a line begins, and what comes after it.
+fn text_and_rest(alloc: Global, line: &str) -> Result<(String, Option<&str>), Stop>
+    ensures reads { (text : List ℕ) (rest : Option (List ℕ)) → IsUtf8 text → line.now ≡ quoted text ++ after rest → Reads result (λ read. (string_bytes read.0 ≡ text) × (option_copied read.1 ≡ rest)) }
+    ensures shorter { IfOk result (λ read. left (option_copied read.1) ≤ length line.now) }
+{
+    let Some(inner) = line.strip_prefix('"') else {
+        return Err(Stop::BadLine);
+    };
+    let (bytes, more) = unquoted(alloc, inner.as_bytes())?;
+    let Some((_, rest)) = inner.split_at_checked(inner.len() - more) else {
+        return Err(Stop::BadLine);
+    };
+    let after = after_text(rest)?;
+    let Ok(text) = String::from_utf8(bytes) else {
+        return Err(Stop::BadLine);
+    };
+    Ok((text, after))
 }
 
 /// What stands before the first space, and what comes after it.
@@ -215,32 +239,31 @@ fn first_word(line: &str) -> (&str, Option<&str>)
     }
 }
 
-/// Whether a value stands in the next word.
-fn has_value(rest: &str) -> bool {
-    match rest.split_once(' ') {
-        Some((word, _)) => word.contains('='),
-        None => rest.contains('='),
+/// The name of the next field and what comes after its equals sign, where a value stands in the next word.
+fn valued(line: &str) -> Option<(&str, &str)>
+    ensures named { (name more : List ℕ) → IsFieldName name → line.now ≡ name ++ codes "=" ++ more → IsSomeAnd result (λ parts. (parts.0.now ≡ name) × (parts.1.now ≡ more)) }
+    ensures flag { (name : List ℕ) (rest : Option (List ℕ)) → IsFieldName name → line.now ≡ name ++ after rest → result ≡ None }
+    ensures shorter { IfSome result (λ parts. length parts.1.now < length line.now) }
+{
+    let (name, value) = line.split_once('=')?;
+    match name.split_once(' ') {
+        Some(_) => None,
+        None => Some((name, value)),
     }
 }
 
 /// What comes after a text's closing quote: the end of the line, or a space and more.
 fn after_text(rest: &str) -> Result<Option<&str>, Stop>
-    ensures { IfOk result (λ after. left (option_copied after) ≤ length rest.now) }
+    ensures reads { (more : Option (List ℕ)) → rest.now ≡ after more → IsOkAnd result (λ read. option_copied read ≡ more) }
+    ensures shorter { IfOk result (λ read. left (option_copied read) ≤ length rest.now) }
 {
     if rest.is_empty() {
         return Ok(None);
     }
-    let after = rest.strip_prefix(' ').ok_or(Stop::BadLine)?;
+    let Some(after) = rest.strip_prefix(' ') else {
+        return Err(Stop::BadLine);
+    };
     Ok(Some(after))
-}
-
-/// What a backslash and this character stand for.
-fn escaped(c: char) -> Result<char, Stop> {
-    match c {
-        'n' => Ok('\n'),
-        '"' | '\\' => Ok(c),
-        _ => Err(Stop::BadLine),
-    }
 }
 
 /// A decimal number without a sign.
@@ -284,33 +307,45 @@ pub(crate) fn units(word: &str) -> Option<i32>
     i32::try_from(signed(word)?).ok()
 }
 
-/// A rectangle: `X,Y,X,Y`.
-pub(crate) fn rect(word: &str) -> Option<Rect> {
-    let mut parts = word.split(',');
-    let rect = Rect {
-        x0: units(parts.next()?)?,
-        y0: units(parts.next()?)?,
-        x1: units(parts.next()?)?,
-        y1: units(parts.next()?)?,
-    };
-    if parts.next().is_some() {
-        return None;
-    }
-    Some(rect)
+/// Two numbers of units with a comma between them.
+#[tactic(auto, using(crate::proofs::CommaWords::units_lack_comma, crate::proofs::CommaWords::pair_cut))]
+fn pair(word: &str) -> Option<(i32, i32)>
+    ensures reads { (x y : ℤ) → IsUnits x → IsUnits y → word.now ≡ pair_text x y → result ≡ Some (x, y) }
+{
+    let (x, y) = comma_parts(word)?;
+    Some((units(x)?, units(y)?))
 }
 
-/// A move: `X,Y`.
-pub(crate) fn translation(word: &str) -> Option<Translation> {
-    let (x, y) = word.split_once(',')?;
-    Some(Translation {
-        x: units(x)?,
-        y: units(y)?,
+/// A rectangle: `X,Y,X,Y`.
+#[tactic(auto, using(crate::proofs::CommaWords::units_lack_comma, crate::proofs::CommaWords::corners_cut))]
+pub(crate) fn rect(word: &str) -> Option<Rect>
+    ensures reads { (r : Rect) → IsRect r → word.now ≡ rect_text r → result ≡ Some r }
+{
+    let (x0, rest) = comma_parts(word)?;
+    let (y0, rest) = comma_parts(rest)?;
+    let (x1, y1) = pair(rest)?;
+    Some(Rect {
+        x0: units(x0)?,
+        y0: units(y0)?,
+        x1,
+        y1,
     })
 }
 
+/// A move: `X,Y`.
+pub(crate) fn translation(word: &str) -> Option<Translation>
+    ensures reads { (t : Translation) → IsTranslation t → word.now ≡ translation_text t → result ≡ Some t }
+{
+    let (x, y) = pair(word)?;
+    Some(Translation { x, y })
+}
+
 /// A selection: `ID:INDEX,ID:INDEX`, from where it was begun to the end that moves.
-pub(crate) fn selection(word: &str) -> Option<TextSelection> {
-    let (anchor, focus) = word.split_once(',')?;
+#[tactic(auto, using(crate::proofs::CommaWords::place_lacks_comma, crate::proofs::CommaWords::selection_cut))]
+pub(crate) fn selection(word: &str) -> Option<TextSelection>
+    ensures reads { (s : TextSelection) → IsSelection s → word.now ≡ selection_text s → result ≡ Some s }
+{
+    let (anchor, focus) = comma_parts(word)?;
     Some(TextSelection {
         anchor: place(anchor)?,
         focus: place(focus)?,
@@ -318,8 +353,11 @@ pub(crate) fn selection(word: &str) -> Option<TextSelection> {
 }
 
 /// A place in a text run: `ID:INDEX`.
-fn place(word: &str) -> Option<TextPosition> {
-    let (node, character_index) = word.split_once(':')?;
+#[tactic(auto, using(crate::proofs::CommaWords::id_lacks_colon, crate::proofs::CommaWords::place_cut))]
+fn place(word: &str) -> Option<TextPosition>
+    ensures reads { (p : TextPosition) → IsPosition p → word.now ≡ place_text p → result ≡ Some p }
+{
+    let (node, character_index) = colon_parts(word)?;
     Some(TextPosition {
         node: NodeId(number(node)?),
         character_index: index(character_index)?,

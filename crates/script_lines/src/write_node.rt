@@ -18,7 +18,7 @@ use std::alloc::Global;
 use std::io::{self, Write};
 
 /// Writes `node ID ROLE` and the fields of a node on a line.
-#[tactic(auto, unfolding(crate::specs::NodeText::node_line))]
+#[tactic(auto, unfolding(crate::specs::NodeText::node_text, crate::specs::NodeText::node_line))]
 pub(crate) fn write_node<O: Write>(
     alloc: Global,
     id: NodeId,
