@@ -62,7 +62,8 @@ impl<V: Copy + Drop> Rows<V> {
         self.items
     }
 
-    /// The value at an id. It is looked for where the last search ended, as `near` says, and then everywhere.
+    /// The value at an id. It is looked for at the index `near` and past it, and then everywhere. `near` is set to what comes
+    /// next, so that ids that ascend are found at once.
     #[tactic(auto, using(crate::proofs::Places::at_end, crate::proofs::Places::found_here, crate::proofs::Places::not_here))]
     pub fn get_near(&self, id: FullNodeId, near: &mut usize) -> Option<V>
         ensures { result ≡ row_at self.now id }
@@ -74,6 +75,7 @@ impl<V: Copy + Drop> Rows<V> {
         }
         let item = self.items[index];
         if item.0 == id {
+            *near = index + 1;
             return Some(item.1);
         }
         None

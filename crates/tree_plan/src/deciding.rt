@@ -67,37 +67,39 @@ fn conclude<L: LookUps>(
     alloc: Global,
     look_ups: &mut L,
     update: &TreeUpdate,
-    findings: &Found,
+    findings: Found,
     before: u128,
 ) -> Result<Decision, UpdateError>
     ghost step: { Transition }
     requires old { step.old ≡ L.world look_ups.old }
     requires update { step.update ≡ update_data update.now }
     requires new { IsRebuild (merged_world step.old step.update) step.new }
-    requires findings { AreFindings step.old step.update findings.now }
+    requires findings { AreFindings step.old step.update findings }
     ensures world { L.world look_ups.new ≡ L.world look_ups.old }
     ensures err { IfErr result (λ e. IsRefusal step.old step.update e) }
     ensures kept { OnOk result (KeepsRules step.old step.update) }
     ensures ok { IfOk result (IsDecision step.old step.update) }
     ensures new { IfOk result (λ d. overlaid_world step.old step.update d ≡ step.new) }
     ensures small { IfOk result (λ d. (work : Work) → IsWorkOf step.old step.update step.new work
-        → IsSmall findings.now.compared findings.now.removed findings.now.regrafted d work) }
+        → IsSmall findings.compared findings.removed findings.regrafted d work) }
     ensures looked { IfOk result (λ d. d.looked ≡ L.asked look_ups.new - before) }
     ensures count { OnOk result (let most = 4 * length (merged_world step.old step.update).known + 2 in
         IsRaisedUpTo (L.asked look_ups.old) most (L.asked look_ups.new)) }
 {
-    let Found {
-        opened,
-        compared,
-        removed,
-        ..
-    } = findings;
-    let focused = find_focus(look_ups, update, opened, compared, removed)?;
+    let focused = find_focus(
+        look_ups,
+        update,
+        &findings.opened,
+        &findings.compared,
+        &findings.removed,
+    )?;
     let looked = look_ups.count().saturating_sub(before);
     write(alloc, update, findings, &focused, looked)
 }
 
-/// The decision by the passes, where the tree and, it may be, the named nodes were looked up before.
+/// The decision by the passes, where the tree and, it may be, the named nodes were looked up before. Apart from the short way, which
+/// doesn't need the room that the passes take.
+#[inline(never)]
 fn decide_by_passes<L: LookUps>(
     alloc: Global,
     look_ups: &mut L,
@@ -118,7 +120,7 @@ fn decide_by_passes<L: LookUps>(
         (IsRaisedAtLeast (L.asked look_ups.old) (length update.now.nodes.items) (L.asked look_ups.new)) }
 {
     let findings = find(alloc, look_ups, update, opened)?;
-    conclude(alloc, look_ups, update, &findings, before)
+    conclude(alloc, look_ups, update, findings, before)
 }
 
 /// The decision on an update. At least one record is looked up for each node that the update names.

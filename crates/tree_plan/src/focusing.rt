@@ -1,9 +1,9 @@
 //! Where the focus is, before and after.
-ghost use Rattle.std.specs.Prelude.{◌≡◌, ◌<◌, ◌+◌, ◌*◌, ◌↔◌, IfOk, IfErr, IsTrue, IsSome, MatchOption, None, Some, length, true, false};
+ghost use Rattle.std.specs.Prelude.{◌≡◌, ◌<◌, ◌+◌, ◌-◌, ◌*◌, ◌↔◌, IfOk, IfErr, IsTrue, IsSome, MatchOption, None, Some, length, true, false};
 ghost use Rattle.std.specs.FinMap.{get};
-ghost use Rattle.std.specs.Option.{option_map};
+ghost use Rattle.std.specs.Option.{option_map, option_and_then};
 ghost use Rattle.schema.specs.UpdateData.{update_data};
-ghost use Rattle.model.specs.World.{IsNode, focus_named, in_tree, Reached};
+ghost use Rattle.model.specs.World.{ROOT_NAME, IsNode, focus_named, in_tree, Reached};
 ghost use Rattle.model.specs.Focus.{IsFocus};
 ghost use Rattle.model.specs.Update.{IsFirst, KeepsRules, merged_world};
 ghost use Rattle.model.specs.Surgery.{IsOld, IsPassed};
@@ -11,14 +11,15 @@ ghost use Rattle.schema.specs.NodeData.{NodeData};
 ghost use Rattle.tree_changes.specs.LookUps.{IsRaisedUpTo};
 ghost use Rattle.tree_changes.specs.Changes.{entry_data};
 ghost use Rattle.tree_changes.specs.Refusals.{IsRefusal};
-ghost use Rattle.tree_plan.specs.Passes.{HoldsOpened, HoldsCompared, HoldsRemoved, IsFocusing};
+ghost use Rattle.tree_plan.specs.Passes.{HoldsOpened, HoldsCompared, HoldsRemoved, IsFocusing, IsOfName};
 ghost use Rattle.tree_plan.specs.Aims.{IsAimOf, IsAimIn, IsEnd, Answers, AnswersHost, FindsAim, EndsWell, IsStaying};
 
+use crate::opening::is_root_tree;
 use crate::passes::{Compared, Focused, Opened, Removed};
 use crate::records::tree_record;
 use model::FullNodeId;
 use schema::{Node, NodeId, TreeId, TreeUpdate};
-use tree_changes::{LookUps, UpdateError};
+use tree_changes::{LookUps, TreeRecord, UpdateError};
 
 /// What is asked of a node on the way of the focus.
 #[derive(Clone, Copy)]
@@ -86,14 +87,46 @@ fn focus_before<L: LookUps>(look_ups: &mut L, opened: &Opened) -> Option<FullNod
 }
 
 /// Where the focus comes to before the update.
-pub(crate) fn end_before<L: LookUps>(look_ups: &mut L) -> End
+fn end_before<L: LookUps>(look_ups: &mut L) -> End
     requires old { IsOld (L.world look_ups.old) }
     requires present { IsSome (get (L.world look_ups.old).trees 0) }
     ensures world { L.world look_ups.new ≡ L.world look_ups.old }
     ensures counts { IsRaisedUpTo (L.asked look_ups.old) (2 * length (L.world look_ups.old).known) (L.asked look_ups.new) }
     ensures end { IsEnd (L.world look_ups.old) result }
 {
-    let mut id = declared(look_ups, &TreeId::root()).unwrap();
+    let first = declared(look_ups, &TreeId::root()).unwrap();
+    end_from(look_ups, first)
+}
+
+/// Where the focus comes to before the update, where the tree that it names was looked up: mostly that is the root tree.
+pub(crate) fn end_opened<L: LookUps>(look_ups: &mut L, opened: &Opened) -> End
+    requires old { IsOld (L.world look_ups.old) }
+    requires present { IsSome (get (L.world look_ups.old).trees 0) }
+    requires record { IsOfName (L.world look_ups.old) opened.now.record.id opened.now.record }
+    ensures world { L.world look_ups.new ≡ L.world look_ups.old }
+    ensures counts { IsRaisedUpTo (L.asked look_ups.old) (2 * length (L.world look_ups.old).known) (L.asked look_ups.new) }
+    ensures end { IsEnd (L.world look_ups.old) result }
+{
+    if !is_root_tree(&opened.record.id) {
+        return end_before(look_ups);
+    }
+    let Some(first) = declared_in(&opened.record) else {
+        return end_before(look_ups);
+    };
+    end_from(look_ups, first)
+}
+
+/// Where the focus comes to before the update from the one that the root tree declares.
+fn end_from<L: LookUps>(look_ups: &mut L, first: FullNodeId) -> End
+    requires old { IsOld (L.world look_ups.old) }
+    requires present { IsSome (get (L.world look_ups.old).trees 0) }
+    requires first { focus_named (L.world look_ups.old) ROOT_NAME ≡ Some first }
+    ensures world { L.world look_ups.new ≡ L.world look_ups.old }
+    ensures counts { IsRaisedUpTo (L.asked look_ups.old) (2 * length (L.world look_ups.old).known - 1) (L.asked look_ups.new) }
+    ensures known { 0 < length (L.world look_ups.old).known }
+    ensures end { IsEnd (L.world look_ups.old) result }
+{
+    let mut id = first;
     for _depth in 0..look_ups.known_trees() {
         let aim = old_aim(look_ups, id).unwrap();
         let Some(inner) = aim.graft else {
@@ -290,6 +323,15 @@ fn declared_after<L: LookUps>(
         });
     }
     declared(look_ups, name)
+}
+
+/// The declared focus that a tree's record has.
+fn declared_in(found: &TreeRecord) -> Option<FullNodeId>
+    ensures { result ≡ option_and_then (λ index. option_map (in_tree index) found.now.focus) found.now.index }
+{
+    let tree = found.index?;
+    let node = found.focus?;
+    Some(FullNodeId { tree, node })
 }
 
 /// The declared focus of a tree, where it is present.

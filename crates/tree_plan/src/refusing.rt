@@ -17,11 +17,11 @@ use std::alloc::Global;
 use std::collections::{BTreeMap, BTreeSet};
 use tree_changes::{LookUps, UpdateError};
 
-/// Whether a named node is new and entered no spot.
-fn is_nowhere(compared: &Compared, id: FullNodeId, named: &Named) -> bool
+/// Whether a named node is new and entered no spot. Among those that entered it is looked for at `near`.
+fn is_nowhere(compared: &Compared, id: FullNodeId, named: &Named, near: &mut usize) -> bool
     ensures { IsTrue result ↔ IsNowhere compared.now id named.now }
 {
-    named.was.is_none() && !compared.entered.contains_key(&id)
+    named.was.is_none() && compared.entered.get_near(id, near).is_none()
 }
 
 /// Refuses a new named node that entered no spot.
@@ -29,8 +29,9 @@ fn refuse_unlisted(compared: &Compared) -> Result<(), UpdateError>
     ensures ok { OnOk result (AreListed compared.now) }
     ensures err { IfErr result (IsOfUnlisted compared.now) }
 {
+    let mut near = 0;
     for item in compared.named.entries() {
-        if is_nowhere(compared, item.0, &item.1) {
+        if is_nowhere(compared, item.0, &item.1, &mut near) {
             return Err(UpdateError::NotReached(item.0.node));
         }
     }

@@ -28,12 +28,14 @@ fn is_root(opened: &Opened, id: FullNodeId) -> bool
     id == root
 }
 
-/// Where a node stood that entered: at a place or, as a root, at none. A new one stood nowhere.
+/// Where a node stood that entered: at a place or, as a root, at none. A new one stood nowhere. Among the named nodes it is looked
+/// for at `near`.
 fn find_old_place<L: LookUps>(
     look_ups: &mut L,
     update: &TreeUpdate,
     compared: &Compared,
     id: FullNodeId,
+    near: &mut usize,
 ) -> Result<Option<Option<Place>>, UpdateError>
     requires old { IsOld (L.world look_ups.old) }
     requires compared { HoldsCompared (L.world look_ups.old) (update_data update.now) compared.now }
@@ -48,7 +50,7 @@ fn find_old_place<L: LookUps>(
     if let Some(spot) = compared.left.get(&id).copied() {
         return Ok(Some(spot));
     }
-    if let Some(named) = compared.named.get(&id) {
+    if let Some(named) = compared.named.get_near(id, near) {
         return Ok(named.was);
     }
     let Some(record) = look_ups.node(id) else {
@@ -108,6 +110,7 @@ fn settle_one<L: LookUps>(
     compared: &Compared,
     id: FullNodeId,
     spot: Option<Place>,
+    near: &mut usize,
 ) -> Result<(), UpdateError>
     requires old { IsOld (L.world look_ups.old) }
     requires opening { HoldsOpened (L.world look_ups.old) (update_data update.now) opened.now }
@@ -121,13 +124,13 @@ fn settle_one<L: LookUps>(
     ensures err { IfErr result (λ e. IsRefusal (L.world look_ups.old) (update_data update.now) e) }
 {
     let Some((parent, _)) = spot else {
-        let was = find_old_place(look_ups, update, compared, id)?;
+        let was = find_old_place(look_ups, update, compared, id, near)?;
         return keep_place(settled, id, was);
     };
     if is_root(opened, id) {
         return Err(UpdateError::ListedTwice(id.node));
     }
-    let was = find_old_place(look_ups, update, compared, id)?;
+    let was = find_old_place(look_ups, update, compared, id, near)?;
     keep_place(settled, id, was)?;
     keep_adopter(settled, parent, was)
 }
@@ -154,6 +157,7 @@ pub(crate) fn settle<L: LookUps>(
         adopters: BTreeSet::new(alloc),
         has_moved: false,
     };
+    let mut near = 0;
     for item in compared.entered.entries() {
         settle_one(
             &mut settled,
@@ -163,6 +167,7 @@ pub(crate) fn settle<L: LookUps>(
             compared,
             item.0,
             item.1,
+            &mut near,
         )?;
     }
     Ok(settled)

@@ -263,7 +263,9 @@ impl Found {
         ensures gone { OnOk result (IsStrictlySortedBy full_cmp self.now.removed.gone.keys) }
         ensures err { IfErr result (λ e. e ≡ Memory) }
     {
-        let mut verdicts = RowList::with_capacity(alloc, self.compared.named.len())?;
+        // beside the named nodes there is often one that came to another of them
+        let count = self.compared.named.len().max(self.compared.entered.len());
+        let mut verdicts = RowList::with_capacity(alloc, count.saturating_add(1))?;
         self.judge_named(&mut verdicts)?;
         self.judge_entered(&mut verdicts)?;
         self.judge_moved_in(&mut verdicts)?;

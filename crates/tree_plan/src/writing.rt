@@ -93,7 +93,7 @@ fn node_changes(
     ensures ordered { OnOk result (Ascends verdicts.now) }
     ensures err { IfErr result (λ e. e ≡ Memory) }
 {
-    let mut changes = Vec::new(alloc);
+    let mut changes = Vec::with_capacity(alloc, verdicts.len())?;
     for (id, verdict) in verdicts.entries() {
         if let Some(change) = entry_change(*id, *verdict) {
             changes.push(change)?;
@@ -233,30 +233,33 @@ pub(crate) fn told_root(opened: &Opened, update: &TreeUpdate) -> Option<FullNode
     })
 }
 
-/// The decision on an accepted update, for which so many records were looked up.
+/// The decision on an accepted update, for which so many records were looked up. What the passes found gives its memory back before
+/// the changes are listed.
 pub(crate) fn write(
     alloc: Global,
     update: &TreeUpdate,
-    found: &Found,
+    found: Found,
     focused: &Focused,
     looked: u128,
 ) -> Result<Decision, UpdateError>
     ghost step: { Transition }
     requires update { step.update ≡ update_data update.now }
-    requires found { IsFound step found.now }
+    requires found { IsFound step found }
     requires focusing { IsFocusing step.old step.update focused.now }
     ensures ok { IfOk result (IsDecision step.old step.update) }
     ensures new { IfOk result (λ d. overlaid_world step.old step.update d ≡ step.new) }
     ensures looked { IfOk result (λ d. d.looked ≡ looked) }
     ensures small { IfOk result (λ d.
-        (work : Work) → IsWorkOf step.old step.update step.new work → IsSmall found.now.compared found.now.removed found.now.regrafted d work) }
+        (work : Work) → IsWorkOf step.old step.update step.new work → IsSmall found.compared found.removed found.regrafted d work) }
     ensures err { IfErr result (λ e. e ≡ Memory) }
 {
     let verdicts = found.verdicts(alloc)?;
-    let nodes = node_changes(alloc, &verdicts)?;
     let own = own_record(&found.opened, update);
-    let trees = tree_changes(alloc, found, own)?;
-    let events = told_events(alloc, found.opened.is_first, &verdicts, focused)?;
+    let trees = tree_changes(alloc, &found, own)?;
+    let is_first = found.opened.is_first;
+    drop(found);
+    let nodes = node_changes(alloc, &verdicts)?;
+    let events = told_events(alloc, is_first, &verdicts, focused)?;
     Ok(Decision {
         nodes,
         trees,

@@ -1,54 +1,25 @@
-use Rattle.std.proofs.Common.{◌≡◌, ◌<◌, ◌≤◌, Some, IsSome, length, sym, ap, subst, ◌∙◌, arith}
-use Rattle.model.specs.World.{World, focus_named, graft_name}
+use Rattle.std.proofs.Common.{◌≡◌, IsSome, length, sym, ap, subst, ◌∙◌, arith}
+use Rattle.std.specs.FinMap.{get}
+use Rattle.model.specs.World.{World, ROOT_NAME, focus_named}
 use Rattle.model.proofs.State.StatePlaces.{IsSome_is}
-use Rattle.tree_plan.specs.Aims.{IsAimIn}
-use Rattle.tree_plan.proofs.FocusWays.{old_top, old_begins, old_goes, old_next_there, old_short, aim_graft}
+use Rattle.tree_plan.proofs.FocusWays.{old_top}
 use Rattle.tree_plan.proofs.focusing.end_before.Goals as goal
 
-pub unwrap-id-requires : goal.unwrap-id-requires
-unwrap-id-requires g c =
+pub unwrap-first-requires : goal.unwrap-first-requires
+unwrap-first-requires g c =
     let w : World = g.L.LookUps.world c.args.look_ups.now in
     let e = old_top w c.requires.old c.requires.present in
     subst IsSome (sym (c.declared.ensures.focus ∙ ap (focus_named w) c.root.ensures)) (IsSome_is e.0 e.1)
 
-pub loop-depth-init : goal.loop-depth-init
-loop-depth-init g c =
-    let w : World = g.L.LookUps.world c.args.look_ups.now in
-    record {
-      world = c.declared.ensures.world;
-      asked = (omega (arith, c.declared.ensures.counts.0), omega (arith, c.declared.ensures.counts.1));
-      way = old_begins w c.requires.old c.requires.present c.unwrap-id.result (sym (c.declared.ensures.focus ∙ ap (focus_named w) c.root.ensures) ∙ c.unwrap-id.ensures);
-    }
+pub end_from-requires-clause-present : goal.end_from-requires-clause-present
+end_from-requires-clause-present g c = subst (λ (v : World). IsSome (get v.trees 0)) (sym c.declared.ensures.world) c.requires.present
 
-pub unwrap-id-requires-in-loop-depth : goal.unwrap-id-requires-in-loop-depth
-unwrap-id-requires-in-loop-depth g c =
+pub end_from-requires-clause-first : goal.end_from-requires-clause-first
+end_from-requires-clause-first g c =
     let w : World = g.L.LookUps.world c.args.look_ups.now in
-    let before = c.loop-depth.invariant in
-    let id = c.loop-depth.id in
-    let aim : IsAimIn (g.L.LookUps.world c.loop-depth.look_ups) id c.unwrap-aim.result = rw c.unwrap-aim.ensures at c.old_aim.ensures.aim in
-    let grafts : graft_name w id ≡ Some c.in-Some.inner = ap (λ v. graft_name v id) (sym before.world) ∙ aim_graft (g.L.LookUps.world c.loop-depth.look_ups) id c.unwrap-aim.result aim ∙ c.in-Some.is in
-    let declared = c.declared-in-loop-depth.ensures.focus ∙ ap (focus_named (g.L.LookUps.world c.old_aim.new.look_ups)) c.in-Some.inner-is ∙ ap (λ v. focus_named v c.in-Some.inner) (c.old_aim.ensures.world ∙ before.world) in
-    subst IsSome (sym declared) (old_next_there w c.requires.old id c.in-Some.inner before.way.0 grafts)
+    ap (λ (v : World). focus_named v ROOT_NAME) c.declared.ensures.world ∙ sym (c.declared.ensures.focus ∙ ap (focus_named w) c.root.ensures) ∙ c.unwrap-first.ensures
 
-pub loop-depth-preserved : goal.loop-depth-preserved
-loop-depth-preserved g c =
-    let w : World = g.L.LookUps.world c.args.look_ups.now in
-    let before = c.loop-depth.invariant in
-    let id = c.loop-depth.id in
-    let aim : IsAimIn (g.L.LookUps.world c.loop-depth.look_ups) id c.unwrap-aim.result = rw c.unwrap-aim.ensures at c.old_aim.ensures.aim in
-    let grafts : graft_name w id ≡ Some c.in-Some.inner = ap (λ v. graft_name v id) (sym before.world) ∙ aim_graft (g.L.LookUps.world c.loop-depth.look_ups) id c.unwrap-aim.result aim ∙ c.in-Some.is in
-    let declared : focus_named w c.in-Some.inner ≡ Some c.unwrap-id-in-loop-depth.result =
-    sym (c.declared-in-loop-depth.ensures.focus ∙ ap (focus_named (g.L.LookUps.world c.old_aim.new.look_ups)) c.in-Some.inner-is ∙ ap (λ v. focus_named v c.in-Some.inner) (c.old_aim.ensures.world ∙ before.world)) ∙ c.unwrap-id-in-loop-depth.ensures in
-    record {
-      world = c.declared-in-loop-depth.ensures.world ∙ c.old_aim.ensures.world ∙ before.world;
-      asked = (omega (arith, c.declared-in-loop-depth.ensures.counts.0, c.old_aim.ensures.counts.0, before.asked.0), omega (arith, c.declared-in-loop-depth.ensures.counts.1, c.old_aim.ensures.counts.1, before.asked.1));
-      way = old_goes w c.requires.old id c.unwrap-id-in-loop-depth.result c.in-Some.inner c.loop-depth._depth before.way grafts declared;
-    }
-
-pub unreachable-requires : goal.unreachable-requires
-unreachable-requires g c =
-    let w : World = g.L.LookUps.world c.args.look_ups.now in
-    let short : c.loop-depth._depth < length w.known = old_short w c.requires.old c.requires.present c.loop-depth.id c.loop-depth._depth c.loop-depth.invariant.way in
-    let known : c.known_trees-depth-end.result ≡ length w.known = c.known_trees-depth-end.ensures.count ∙ ap (λ (v : World). length v.known) c.declared.ensures.world in
-    let all : c.known_trees-depth-end.result ≤ c.loop-depth._depth = c.loop-depth-test.false in
-    omega arith
+pub returns-clause-counts : goal.returns-clause-counts
+returns-clause-counts g c =
+    let known : length (g.L.LookUps.world c.declared.new.look_ups).known ≡ length (g.L.LookUps.world c.args.look_ups.now).known = ap (λ (v : World). length v.known) c.declared.ensures.world in
+    (omega (arith, known, c.declared.ensures.counts.0, c.end_from.ensures.counts.0, c.end_from.ensures.known), omega (arith, c.declared.ensures.counts.1, c.end_from.ensures.counts.1))

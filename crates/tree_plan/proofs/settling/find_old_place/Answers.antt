@@ -1,6 +1,5 @@
 use Rattle.std.proofs.Common.{false, ◌≡◌, Some, None, sym, ap, ◌∙◌}
 use Rattle.std.specs.Prelude.{is_some}
-use Rattle.std.specs.Option.{option_copied}
 use Rattle.schema.specs.UpdateData.{update_data}
 use Rattle.model.specs.World.{data_of}
 use Rattle.model.proofs.Surgery.Spots.{at_is_node, node_stays}
@@ -23,24 +22,24 @@ returns-in-Some-clause-there g c =
     let u = update_data c.args.update.now in
     node_stays w u c.args.id (at_is_node w u c.requires.old c.in-Some.spot c.args.id ((c.requires.compared.left c.args.id c.in-Some.spot).0 is).0)
 
-pub returns-in-Some-get-clause-ok : goal.returns-in-Some-get-clause-ok
-returns-in-Some-get-clause-ok g c =
+pub returns-in-Some-get_near-clause-ok : goal.returns-in-Some-get_near-clause-ok
+returns-in-Some-get_near-clause-ok g c =
     let w = g.L.LookUps.world c.args.look_ups.now in
-    let n = c.in-Some-get.named.now in
+    let n = c.in-Some-get_near.named in
     let none : at c.args.compared.now.left c.args.id ≡ None = sym c.get.ensures.value ∙ sym c.copied.ensures ∙ c.in_default.is in
-    let is : at c.args.compared.now.named c.args.id ≡ Some n = sym c.get-2.ensures.value ∙ ap option_copied c.in-Some-get.is in
+    let is : at c.args.compared.now.named c.args.id ≡ Some n = sym c.get_near.ensures ∙ c.in-Some-get_near.is in
     let stood : StoodAt w c.args.id n.was = stood_named w (update_data c.args.update.now) c.requires.old c.args.compared.now c.requires.compared c.args.id n c.requires.comes none is in
     stood
 
-pub returns-in-Some-get-clause-there : goal.returns-in-Some-get-clause-there
-returns-in-Some-get-clause-there g c =
-    let n = c.in-Some-get.named.now in
-    let is : at c.args.compared.now.named c.args.id ≡ Some n = sym c.get-2.ensures.value ∙ ap option_copied c.in-Some-get.is in
+pub returns-in-Some-get_near-clause-there : goal.returns-in-Some-get_near-clause-there
+returns-in-Some-get_near-clause-there g c =
+    let n = c.in-Some-get_near.named in
+    let is : at c.args.compared.now.named c.args.id ≡ Some n = sym c.get_near.ensures ∙ c.in-Some-get_near.is in
     named_there (g.L.LookUps.world c.args.look_ups.now) (update_data c.args.update.now) c.requires.old c.args.compared.now c.requires.compared c.args.id n is
 
 pub returns-in_default-node-clause-err : goal.returns-in_default-node-clause-err
 returns-in_default-node-clause-err g c =
-    let none : at c.args.compared.now.named c.args.id ≡ None = sym c.get-2.ensures.value ∙ ap option_copied c.in_default-get.is in
+    let none : at c.args.compared.now.named c.args.id ≡ None = sym c.get_near.ensures ∙ c.in_default-get_near.is in
     missing_stands (g.L.LookUps.world c.args.look_ups.now) (update_data c.args.update.now) c.requires.old c.args.compared.now c.requires.compared c.args.id c.requires.comes.entered none
     (λ there. let absent : false ≡ is_some (data_of (g.L.LookUps.world c.args.look_ups.now) c.args.id) = c.in_default-node.ensures.found in cc)
 
