@@ -95,6 +95,7 @@ pub(crate) fn begins_after<'a>(run: Run<'a>, mark: Mark, previous: Run<'a>) -> b
 }
 
 /// From this run on, the first with which a line or a paragraph ends.
+#[inline(always)]
 pub(crate) fn last_of<'a>(start: Run<'a>, mark: Mark) -> Run<'a>
     requires { supports_text_ranges (run_world start) (root_id start) ≡ true }
     ensures same { text_root_of result ≡ text_root_of start.entry }

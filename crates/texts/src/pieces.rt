@@ -20,6 +20,7 @@ pub(crate) struct Piece<'a> {
 
 impl<'a> TextRange<'a> {
     /// The part of one run that is in the range.
+    #[inline(always)]
     fn piece_in(self, run: Run<'a>) -> Piece<'a>
         requires { text_root_of run ≡ self.root }
         ensures run { result.run ≡ run.entry }
@@ -60,6 +61,7 @@ impl<'a> TextRange<'a> {
     }
 
     /// The piece after the one in this run, where there is one.
+    #[inline(always)]
     pub(crate) fn next_piece(self, run: Run<'a>, last: Run<'a>) -> Option<Piece<'a>>
         requires same { text_root_of run ≡ self.root }
         requires reached { IsUpTo self run }

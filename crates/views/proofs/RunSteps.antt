@@ -1,15 +1,26 @@
 -- Steps from a run of a root to the ones beside it.
-use Rattle.std.proofs.Common.{◌≡◌, ℕ, [], ◌∷◌, ◌++◌, length, sym, ap, ◌∙◌, append_assoc}
+use Rattle.std.proofs.Common.{◌≡◌, ℕ, [], ◌∷◌, ◌++◌, Bool, true, false, length, refl, sym, ap, ◌∙◌, append_assoc}
+use Rattle.std.specs.Prelude.{◌||◌, cond, Option, Some, None, IfSome, MatchOption}
+use Rattle.std.specs.Option.{option_map_or}
 use Rattle.std.proofs.lemmas.List.{append_cancel_left, append_cancel_right}
+use Rattle.schema.specs.NodeData.{NodeData}
+use Rattle.schema.specs.Roles.{same_role}
+use Rattle.schema.specs.declared.Role.{Role}
+use Rattle.schema.specs.declared.Role.TheVariants.{TextRun}
 use Rattle.model.specs.declared.FullNodeId.{FullNodeId}
-use Rattle.model.specs.World.{World, children}
+use Rattle.model.specs.declared.filters.FilterResult.TheVariants.{Include, ExcludeNode}
+use Rattle.model.specs.World.{World, Place, HasData, StandsAt, children}
 use Rattle.model.specs.Forest.{is_same, IsFormed}
 use Rattle.model.specs.Frontier.{IsShown}
-use Rattle.model.specs.Beside.{left_at, prior_at}
-use Rattle.model.specs.TextRuns.{run_filter, run_ids}
-use Rattle.model.proofs.Walks.Beside.{splits_at, start_left, start_prior}
-use Rattle.model.proofs.Walks.Between.{shown_where, next_is_shown, previous_is_shown}
+use Rattle.model.specs.Beside.{left_at, prior_at, is_below, next_place}
+use Rattle.model.specs.TextRuns.{is_run, run_filter, run_ids}
+use Rattle.model.proofs.Walks.Beside.{splits_at, start_left, start_prior, after_child, left_include}
+use Rattle.model.proofs.Walks.Between.{below_is_within, shown_where, next_is_shown, previous_is_shown}
+use Rattle.views.specs.declared.runs.Run.{Run}
+use Rattle.views.specs.declared.walks.spot.Spot.{Spot}
 use Rattle.views.specs.Nodes.{world_at, id_at}
+use Rattle.views.specs.Spots.{IsSpot}
+use Rattle.views.specs.Runs.{run_world, root_id, ids_after, IsSpotAfter}
 use Rattle.views.specs.Follows.{Follows}
 use Rattle.views.specs.RunPlaces.{runs_after, runs_before}
 
@@ -63,3 +74,29 @@ module _ (w : World) (formed : IsFormed w) (root : FullNodeId) where
       let tails : previous ∷ runs_after w root previous ≡ previous ∷ id ∷ runs_after w root id =
       append_cancel_left (runs_before w root previous) (previous ∷ runs_after w root previous) (previous ∷ id ∷ runs_after w root id) (among ∙ sym there) in
       (among, cc)
+
+  -- a child that is a run is shown
+  kept : (id : FullNodeId) → is_run w id ≡ true → run_filter w root id ≡ Include
+  kept id said = ap (λ b. cond (is_same id root || b) Include ExcludeNode) said ∙ go (is_same id root)
+    where
+      go : (b : Bool) → cond (b || true) Include ExcludeNode ≡ Include
+      go true = refl
+      go false = refl
+
+  -- a run that stands right after another below the same parent is the next one
+  pub beside_is_next : (p : Place) (id next : FullNodeId) → StandsAt w p id → StandsAt w (next_place p) next → is_run w next ≡ true → is_below w root id ≡ true →
+      (is_below w root next ≡ true) × (runs_after w root id ≡ next ∷ runs_after w root next)
+  beside_is_next p id next here there said below = (
+    below_is_within w formed root (next_place p) next there ∙ sym (below_is_within w formed root p id here) ∙ below,
+    after_child w formed (run_filter w root) (is_same root) p id here ∙ left_include w formed (run_filter w root) (is_same root) (next_place p) next there (kept next said),
+  )
+
+-- a node whose role is that of a run is one
+pub run_by_role : (w : World) (id : FullNodeId) (d : NodeData) → HasData w id d → d.role ≡ TextRun → is_run w id ≡ true
+run_by_role w id d has role = ap (λ o. option_map_or (λ (e : NodeData). same_role e.role TextRun) o false) has ∙ ap (λ (r : Role). same_role r TextRun) role
+
+-- what a walk from a run finds is the next run
+pub spot_there : (r : Run) (found : Option Spot) → IfSome found (IsSpot (run_world r)) → IfSome found (λ s. is_below (run_world r) (root_id r) s.member.id ≡ true) →
+    MatchOption found (ids_after r ≡ []) (λ s. ids_after r ≡ s.member.id ∷ runs_after (run_world r) (root_id r) s.member.id) → MatchOption found (ids_after r ≡ []) (IsSpotAfter r)
+spot_there r (Some s) there below after = record { there = there; below = below; after = after }
+spot_there r None there below after = after

@@ -1,12 +1,15 @@
 -- What a run shows, and how runs follow one another.
-use Rattle.std.specs.Prelude.{◌≡◌, List, [], ◌∷◌, ◌++◌, map}
+use Rattle.std.specs.Prelude.{◌≡◌, List, [], ◌∷◌, ◌++◌, map, true}
 use Rattle.model.specs.declared.FullNodeId.{FullNodeId}
 use Rattle.model.specs.World.{World}
+use Rattle.model.specs.Beside.{is_below}
 use Rattle.model.specs.TextRuns.{SentRun, sent_run}
 use Rattle.views.specs.declared.node.node_ref.NodeRef.{NodeRef}
 use Rattle.views.specs.declared.runs.Run.{Run}
+use Rattle.views.specs.declared.walks.spot.Spot.{Spot}
 use Rattle.views.specs.Nodes.{world_at, id_at, data_at}
 use Rattle.views.specs.RunPlaces.{runs_after, runs_before}
+use Rattle.views.specs.Spots.{IsSpot}
 
 -- a node as the run that it was sent as
 abbrev pub run_of : NodeRef → SentRun
@@ -57,3 +60,9 @@ pub record IsPreviousRun (r s : Run) : Type 0 where
   pub root : s.root ≡ r.root
   pub after : ids_after s ≡ run_id r ∷ ids_after r
   pub before : ids_before r ≡ ids_before s ++ run_id s ∷ []
+
+-- the next run after it stands there
+pub record IsSpotAfter (r : Run) (s : Spot) : Type 0 where
+  pub there : IsSpot (run_world r) s
+  pub below : is_below (run_world r) (root_id r) s.member.id ≡ true
+  pub after : ids_after r ≡ s.member.id ∷ runs_after (run_world r) (root_id r) s.member.id

@@ -48,11 +48,11 @@ pub struct Run<'a> {
 }
 
 impl<'a> Run<'a> {
-    ghost use Rattle.std.specs.Prelude.{[], MatchOption};
+    ghost use Rattle.std.specs.Prelude.{[], IfSome, MatchOption};
     ghost use Rattle.model.specs.TextRuns.{run_ids, run_value, said_count, ends_with_newline};
     ghost use Rattle.model.specs.Geometry.{transform, transform_within};
     ghost use Rattle.views.specs.Reach.{IsInReach};
-    ghost use Rattle.views.specs.Runs.{text_root_of, root_id, run_world, run_id, run_of, sent_of, IsFirstOf, IsLastOf, IsAfter, IsPreviousRun, ids_after, ids_before};
+    ghost use Rattle.views.specs.Runs.{text_root_of, root_id, run_world, run_id, run_of, sent_of, IsFirstOf, IsLastOf, IsAfter, IsPreviousRun, IsSpotAfter, ids_after, ids_before};
 
     /// The first run of a root, where there is one.
     pub fn first(root: NodeRef<'a>) -> Option<Run<'a>>
@@ -89,13 +89,49 @@ impl<'a> Run<'a> {
         }
     }
 
+    /// The run that stands right after this one below the same parent, where there is one.
+    #[inline(always)]
+    fn beside(self) -> Option<Spot<'a>>
+        ensures { IfSome result (IsSpotAfter self.entry) }
+    {
+        let state = self.root.state;
+        state.know();
+        let index = self.spot.index.checked_add(1)?;
+        let spot = state.child(self.spot.parent, index)?;
+        match spot.member.node.role() {
+            Role::TextRun => Some(spot),
+            _ => None,
+        }
+    }
+
+    /// The place of the run after this one, where there is one: mostly that is the one beside it.
+    #[inline(always)]
+    fn spot_after(self) -> Option<Spot<'a>>
+        ensures { MatchOption result (ids_after self.entry ≡ []) (IsSpotAfter self.entry) }
+    {
+        match self.beside() {
+            Some(spot) => Some(spot),
+            None => self.spot_by_walk(),
+        }
+    }
+
+    /// The place of the run after this one, where there is one, by a walk over all that follows.
+    #[inline(never)]
+    fn spot_by_walk(self) -> Option<Spot<'a>>
+        ensures { MatchOption result (ids_after self.entry ≡ []) (IsSpotAfter self.entry) }
+    {
+        let root = self.root;
+        following(root.state, root.id, self.spot, &RunFilter { root: root.id })
+    }
+
     /// The run after this one, where there is one.
+    #[inline(always)]
     pub fn next(self) -> Option<Run<'a>>
         ensures { MatchOption result (ids_after self.entry ≡ []) (IsAfter self.entry) }
     {
         let root = self.root;
         root.state.know();
-        match following(root.state, root.id, self.spot, &RunFilter { root: root.id }) {
+        match self.spot_after() {
             Some(spot) => Some(Run { root, spot }),
             None => None,
         }

@@ -3,33 +3,25 @@ ghost use Rattle.std.specs.Prelude.{◌≡◌, ◌==◌, ◌&&◌, nat_lt, lengt
 ghost use Rattle.std.specs.List.{list_all};
 ghost use Rattle.model.specs.TextRuns.{neighbours, is_cut_by as is_cut};
 
-/// Whether all lengths are 1. Each is looked at, so that many are at once.
-fn are_ones(lengths: &[u16]) -> bool
-    ensures { result ≡ list_all (λ n. n == 1) lengths.now }
+/// Whether all lengths are 1, and all bytes those of ASCII. Each is looked at, so that many are at once.
+fn are_single(lengths: &[u16], bytes: &[u8]) -> bool
+    requires { length bytes.now ≡ length lengths.now }
+    ensures { result ≡ (list_all (λ n. n == 1) lengths.now && list_all (λ b. nat_lt b 128) bytes.now) }
 {
     let mut are_ones = true;
-    for length in lengths {
-        are_ones &= *length == 1;
+    let mut most = 0u8;
+    for index in 0..lengths.len() {
+        are_ones &= lengths[index] == 1;
+        most = most.max(bytes[index]);
     }
-    are_ones
-}
-
-/// Whether all bytes are those of ASCII. Each is looked at, so that many are at once.
-fn are_ascii(bytes: &[u8]) -> bool
-    ensures { result ≡ list_all (λ b. nat_lt b 128) bytes.now }
-{
-    let mut are_ascii = true;
-    for byte in bytes {
-        are_ascii &= *byte < 128;
-    }
-    are_ascii
+    are_ones && most < 128
 }
 
 /// Whether lengths of at least 1 cut a text into whole texts that make it up.
 pub(crate) fn is_cut_by(value: &str, lengths: &[u16]) -> bool
     ensures { result ≡ is_cut value.now lengths.now }
 {
-    if value.len() == lengths.len() && are_ones(lengths) && are_ascii(value.as_bytes()) {
+    if value.len() == lengths.len() && are_single(lengths, value.as_bytes()) {
         return true;
     }
     let mut rest = value;

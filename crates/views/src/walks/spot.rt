@@ -28,6 +28,7 @@ pub struct Spot<'a> {
 
 impl<'a> StateRef<'a> {
     /// A node that is there.
+    #[inline(always)]
     pub(crate) fn member(self, id: FullNodeId) -> Member<'a>
         requires { IsNode (world_of self) id }
         ensures is { result.id ≡ id }
@@ -66,6 +67,7 @@ impl<'a> StateRef<'a> {
     }
 
     /// The child with this index, where the node has so many.
+    #[inline(always)]
     pub(crate) fn child_id(self, parent: Member<'a>, index: usize) -> Option<FullNodeId>
         requires { IsMember (world_of self) parent }
         ensures is { result ≡ child_at (world_of self.entry) (parent.entry.id, index) }
@@ -81,6 +83,7 @@ impl<'a> StateRef<'a> {
     }
 
     /// The child with this index at its place, where the node has so many.
+    #[inline(always)]
     pub(crate) fn child(self, parent: Member<'a>, index: usize) -> Option<Spot<'a>>
         requires { IsMember (world_of self) parent }
         ensures none { let w = world_of self.entry in
@@ -136,6 +139,7 @@ impl<'a> Spot<'a> {
 }
 
 /// The child that a node lists with this index, where it lists so many.
+#[inline(always)]
 fn listed_child(parent: Member<'_>, index: usize) -> Option<FullNodeId>
     ensures is { let ids = map (in_tree parent.entry.id.tree) parent.entry.node.now.children in
         result ≡ slice_get ids index }

@@ -1,21 +1,16 @@
 use Rattle.std.proofs.Common.{refl}
 use Rattle.views.specs.Nodes.{world_at, id_at}
-use Rattle.views.proofs.RunSteps.{runs_follow, next_among}
+use Rattle.views.proofs.RunSteps.{next_among}
 use Rattle.views.proofs.runs.Run.next.Goals as goal
 
 pub invariant_of-result : goal.invariant_of-result
 invariant_of-result c =
-    let w = world_at c.args.self.root in
-    let at = c.in-Some.ensures.exact _ (runs_follow w (id_at c.args.self.root)) in
-    let found = next_among w c.know.ensures.formed (id_at c.args.self.root) c.args.self.spot.member.id c.in-Some.spot.member.id c.args.self.known.among at in
-    record { known = record { spot = c.in-Some.ensures.there; below = c.in-Some.ensures.below; among = found.0 } }
+    let at = c.in-Some.ensures in
+    let found = next_among (world_at c.args.self.root) c.know.ensures.formed (id_at c.args.self.root) c.args.self.spot.member.id c.in-Some.spot.member.id c.args.self.known.among at.after in
+    record { known = record { spot = at.there; below = at.below; among = found.0 } }
 
 pub returns-in-Some : goal.returns-in-Some
 returns-in-Some c =
-    let w = world_at c.args.self.root in
-    let at = c.in-Some.ensures.exact _ (runs_follow w (id_at c.args.self.root)) in
-    let found = next_among w c.know.ensures.formed (id_at c.args.self.root) c.args.self.spot.member.id c.in-Some.spot.member.id c.args.self.known.among at in
-    record { root = refl; after = at; before = found.1 }
-
-pub returns-in-None : goal.returns-in-None
-returns-in-None c = c.in-None.ensures.exact _ (runs_follow (world_at c.args.self.root) (id_at c.args.self.root))
+    let at = c.in-Some.ensures in
+    let found = next_among (world_at c.args.self.root) c.know.ensures.formed (id_at c.args.self.root) c.args.self.spot.member.id c.in-Some.spot.member.id c.args.self.known.among at.after in
+    record { root = refl; after = at.after; before = found.1 }
