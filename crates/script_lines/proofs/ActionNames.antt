@@ -1,11 +1,12 @@
 -- What bytes an action's name has.
-use Rattle.std.proofs.Common.{ℕ, ◌<◌, ◌≤◌, ◌++◌, length, arith, refl, codes}
+use Rattle.std.proofs.Common.{◌≡◌, ◌≢◌, ℕ, ◌<◌, ◌≤◌, List, ◌++◌, length, arith, refl, subst, codes}
 use Rattle.std.specs.Char.{digit_value}
 use Rattle.std.specs.Fmt.{decimal}
 use Rattle.schema.specs.declared.actions.Action.{Action}
 use Rattle.schema.specs.declared.actions.Action.TheVariants.{Click, Focus, Increment, Decrement, Other}
 use Rattle.script_lines.specs.Parts.{action_text}
-use Rattle.script_lines.specs.Reading.{IsAction, Lacks}
+use Rattle.script_lines.specs.Reading.{IsAction, IsByte, Lacks}
+use Rattle.script_lines.specs.Says.{SaysAction, SaysOther}
 use Rattle.script_lines.proofs.Decimals.{decimal_lacks}
 use Rattle.script_lines.proofs.Lacking.{lacks_append, lacks_by}
 
@@ -36,3 +37,16 @@ action_begins Focus = omega arith
 action_begins Increment = omega arith
 action_begins Decrement = omega arith
 action_begins (Other code) = omega arith
+
+-- ---- which action a word says
+
+-- one without a name
+pub said_other : (word : List ℕ) (action : Action) → word ≢ codes "Click" → word ≢ codes "Focus" → word ≢ codes "Increment" → word ≢ codes "Decrement" → IsAction action → SaysAction word action → (code : ℕ) × (action ≡ Other code) × (IsByte code × SaysOther word code)
+said_other word Click a b c d h s = absurd (a s)
+said_other word Focus a b c d h s = absurd (b s)
+said_other word Increment a b c d h s = absurd (c s)
+said_other word Decrement a b c d h s = absurd (d s)
+said_other word (Other code) a b c d h s = (code, refl, (h code refl, s))
+
+pub other_is_action : (code : ℕ) → IsByte code → IsAction (Other code)
+other_is_action code h n e = let same : code ≡ n = cc in subst IsByte same h

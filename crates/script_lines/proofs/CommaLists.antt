@@ -1,13 +1,9 @@
 -- Lists of which each item but the first stands after a comma, while they are read.
-use Rattle.std.proofs.Common.{◌≡◌, ℕ, List, [], ◌∷◌, ◌++◌, All, Option, Some, None, append-nil, append_assoc, ap, sym, refl, ◌∙◌, codes, flat_map}
+use Rattle.std.proofs.Common.{◌≡◌, ℕ, List, [], ◌∷◌, ◌++◌, All, Option, Some, None, append-nil, append_assoc, ap, sym, refl, ◌∙◌, flat_map}
 use Rattle.std.proofs.lemmas.Option.{none-some, same_Some}
 use Rattle.std.proofs.lemmas.List.Elements.{All-cons, All-head, All-tail}
-use Rattle.script_lines.specs.Commas.{behind}
-use Rattle.script_lines.specs.Reading.{Lacks}
-
--- an item after a comma
-abbrev pub comma_then : {T : Type 0} → (T → List ℕ) → T → List ℕ
-comma_then text x = codes "," ++ text x
+use Rattle.script_lines.specs.Items.{comma_then}
+use Rattle.script_lines.specs.Reading.{Lacks, behind}
 
 -- the text of these items, if there are any
 abbrev pub listed : {T : Type 0} → (T → List ℕ) → List T → Option (List ℕ)

@@ -16,9 +16,9 @@ use Rattle.schema.specs.declared.values.TextPosition.{TextPosition}
 use Rattle.schema.specs.declared.values.TextSelection.{TextSelection}
 use Rattle.script_lines.specs.Names.{decoration_style_name}
 use Rattle.script_lines.specs.Parts.{pair_text, corners_text, rect_text, translation_text, place_text, selection_text, color_text, decoration_text, ids_text, numbers_text, comma_units, units_text}
+use Rattle.script_lines.specs.Items.{comma_then}
 use Rattle.script_lines.specs.Reading.{Lacks, IsWord, IsCount, IsUnits, IsShort, IsByte, IsId, IsRect, IsTranslation, IsPosition, IsSelection, IsColor, IsDecoration}
 use Rattle.script_lines.proofs.Decimals.{decimal_lacks, decimal_is_word}
-use Rattle.script_lines.proofs.CommaLists.{comma_then}
 use Rattle.script_lines.proofs.Lacking.{lacks_nothing, lacks_cons, lacks_append, lacks_by}
 use Rattle.script_lines.proofs.NamedWords.{decoration_style_is_word}
 

@@ -2,8 +2,7 @@
 use Rattle.std.proofs.Common.{◌≡◌, ◌≢◌, ℕ, ◌<◌, List, [], ◌∷◌, ◌++◌, length, slice_index_or, arith, Bor, Option, Some, None, IsSomeAnd, MatchOption, ap, sym, refl, ◌∙◌, append-nil, append_assoc, codes, length-append, suc, drop}
 use Rattle.std.proofs.Math.Seq.{get_or-append_seam}
 use Rattle.std.proofs.lemmas.Str.Pattern.{IsSplitOnceResult, split_parts, split_after}
-use Rattle.script_lines.specs.Commas.{behind}
-use Rattle.script_lines.specs.Reading.{Lacks, Begins, after, IsFieldName}
+use Rattle.script_lines.specs.Reading.{Lacks, Begins, after, behind, IsFieldName}
 
 -- a text that lacks a character isn't cut there
 lacks_no_cut : (c : ℕ) (text front back : List ℕ) → Lacks c text → text ≢ front ++ c ∷ back
@@ -21,18 +20,10 @@ pub parts_at : (c : ℕ) → c < 128 → (line text rest : List ℕ) (r : Option
 parts_at c low line text rest None lacks e h = absurd (split_after c line text rest None h low e lacks)
 parts_at c low line text rest (Some x) lacks e h = split_after c line text rest (Some x) h low e lacks
 
-after_behind : (rest : Option (List ℕ)) → after rest ≡ behind 32 rest
-after_behind None = refl
-after_behind (Some t) = refl
-
 -- nor does a search find it there
 pub lacks_not_found : (c : ℕ) (text : List ℕ) (r : Option (Bor (List ℕ) × Bor (List ℕ))) → Lacks c text → IsSplitOnceResult c text r → c < 128 → r ≡ None
 lacks_not_found c text None lacks h low = refl
 lacks_not_found c text (Some x) lacks h low = absurd (lacks_no_cut c text x.0.now x.1.now lacks (split_parts c text (Some x) h low).0)
-
-pub cut_at_space : (line text : List ℕ) (rest : Option (List ℕ)) (r : Option (Bor (List ℕ) × Bor (List ℕ))) → Lacks 32 text → line ≡ text ++ after rest → IsSplitOnceResult 32 line r
-    → MatchOption r ((rest ≡ None) × (line ≡ text)) (λ x. (x.0.now ≡ text) × (rest ≡ Some x.1.now))
-cut_at_space line text rest r lacks e h = cut_at 32 (omega arith) line text rest r lacks (e ∙ ap (λ t. text ++ t) (after_behind rest)) h
 
 -- a name with a value is cut at its equals sign
 pub cut_at_equals : (line name more : List ℕ) (r : Option (Bor (List ℕ) × Bor (List ℕ))) → IsFieldName name → line ≡ name ++ codes "=" ++ more → IsSplitOnceResult 61 line r

@@ -12,7 +12,7 @@ use Rattle.std.proofs.lemmas.Str.Pattern.{starts_char}
 use Rattle.script_lines.proofs.Lacking.{lacks_cons}
 use Rattle.script_lines.specs.Reading.{Lacks, IsWord}
 
-digits_lack : (c : ℕ) → 10 ≤ digit_value c → (ds : List ℕ) → AllDigits 10 ds → Lacks c ds
+pub digits_lack : (c : ℕ) → 10 ≤ digit_value c → (ds : List ℕ) → AllDigits 10 ds → Lacks c ds
 digits_lack c high [] all i l e = absurd (omega arith)
 digits_lack c high (d ∷ ds) all zero l e = absurd (omega (arith, all.0, subst (λ b. 10 ≤ digit_value b) (sym e) high))
 digits_lack c high (d ∷ ds) all (suc i) l e = digits_lack c high ds all.1 i (omega arith) e

@@ -1,5 +1,7 @@
--- No two fields have the same name.
-use Rattle.std.proofs.Common.{◌≡◌, ℕ, List, codes, bytes_eq, Option, Some, None, if◌then◌else◌, refl, ap, sym, ◌∙◌}
+-- A field is found by its name, and no two fields have the same name.
+use Rattle.std.proofs.Common.{◌≡◌, ◌≢◌, ℕ, ◌<◌, List, [], ◌∷◌, map, length, drop, get_or, slice_index_or, bytes_eq, Bool, true, false, Option, Some, None, MatchOption, Bor, if◌then◌else◌, refl, ap, sym, ◌∙◌}
+use Rattle.std.proofs.lemmas.List.{get_or-map}
+use Rattle.std.proofs.lemmas.Slice.Eq.{bytes_eq-Decides}
 use Rattle.script_lines.specs.declared.field_kinds.IdsField.TheVariants as ids
 use Rattle.script_lines.specs.declared.field_kinds.IdField.TheVariants as id
 use Rattle.script_lines.specs.declared.field_kinds.TextField.TheVariants as text
@@ -15,87 +17,15 @@ use Rattle.script_lines.specs.declared.field_kinds.ActionsField.TheVariants as a
 use Rattle.script_lines.specs.declared.field_kinds.Field.{Field}
 use Rattle.script_lines.specs.declared.field_kinds.Field.TheVariants as field
 use Rattle.script_lines.specs.FieldKinds.{field_name}
+use Rattle.script_lines.specs.NamedIn.{named_in}
+use Rattle.script_lines.specs.NodeText.{all_fields}
 
--- the field of a name
-unfoldable named : List ℕ → Option Field
-named name =
-    if bytes_eq name (codes "children") then Some (field.Ids ids.Children)
-    else if bytes_eq name (codes "labelled") then Some (field.Ids ids.LabelledBy)
-    else if bytes_eq name (codes "controls") then Some (field.Ids ids.Controls)
-    else if bytes_eq name (codes "tree") then Some field.Tree
-    else if bytes_eq name (codes "active") then Some (field.Id id.ActiveDescendant)
-    else if bytes_eq name (codes "label") then Some (field.Text text.Label)
-    else if bytes_eq name (codes "value") then Some (field.Text text.Value)
-    else if bytes_eq name (codes "description") then Some (field.Text text.Description)
-    else if bytes_eq name (codes "placeholder") then Some (field.Text text.Placeholder)
-    else if bytes_eq name (codes "role_description") then Some (field.Text text.RoleDescription)
-    else if bytes_eq name (codes "url") then Some (field.Text text.Url)
-    else if bytes_eq name (codes "author_id") then Some (field.Text text.AuthorId)
-    else if bytes_eq name (codes "html_id") then Some (field.Text text.HtmlId)
-    else if bytes_eq name (codes "class_name") then Some (field.Text text.ClassName)
-    else if bytes_eq name (codes "braille_label") then Some (field.Text text.BrailleLabel)
-    else if bytes_eq name (codes "braille_role_description") then Some (field.Text text.BrailleRoleDescription)
-    else if bytes_eq name (codes "column_index_text") then Some (field.Text text.ColumnIndexText)
-    else if bytes_eq name (codes "row_index_text") then Some (field.Text text.RowIndexText)
-    else if bytes_eq name (codes "font_family") then Some (field.Text text.FontFamily)
-    else if bytes_eq name (codes "language") then Some (field.Text text.Language)
-    else if bytes_eq name (codes "hidden") then Some (field.Flag flag.Hidden)
-    else if bytes_eq name (codes "clips") then Some (field.Flag flag.ClipsChildren)
-    else if bytes_eq name (codes "disabled") then Some (field.Flag flag.Disabled)
-    else if bytes_eq name (codes "read_only") then Some (field.Flag flag.ReadOnly)
-    else if bytes_eq name (codes "required") then Some (field.Flag flag.Required)
-    else if bytes_eq name (codes "modal") then Some (field.Flag flag.Modal)
-    else if bytes_eq name (codes "busy") then Some (field.Flag flag.Busy)
-    else if bytes_eq name (codes "multiselectable") then Some (field.Flag flag.Multiselectable)
-    else if bytes_eq name (codes "italic") then Some (field.Flag flag.Italic)
-    else if bytes_eq name (codes "live_atomic") then Some (field.Flag flag.LiveAtomic)
-    else if bytes_eq name (codes "touch_transparent") then Some (field.Flag flag.TouchTransparent)
-    else if bytes_eq name (codes "bounds") then Some field.Bounds
-    else if bytes_eq name (codes "move") then Some field.Transform
-    else if bytes_eq name (codes "selection") then Some field.Selection
-    else if bytes_eq name (codes "chars") then Some (field.Numbers numbers.CharacterLengths)
-    else if bytes_eq name (codes "words") then Some (field.Numbers numbers.WordStarts)
-    else if bytes_eq name (codes "character_positions") then Some (field.Units units.CharacterPositions)
-    else if bytes_eq name (codes "character_widths") then Some (field.Units units.CharacterWidths)
-    else if bytes_eq name (codes "prev") then Some (field.Id id.PreviousOnLine)
-    else if bytes_eq name (codes "next") then Some (field.Id id.NextOnLine)
-    else if bytes_eq name (codes "toggled") then Some field.Toggled
-    else if bytes_eq name (codes "expanded") then Some (field.Bool bool.Expanded)
-    else if bytes_eq name (codes "selected") then Some (field.Bool bool.Selected)
-    else if bytes_eq name (codes "live") then Some field.Live
-    else if bytes_eq name (codes "orientation") then Some field.Orientation
-    else if bytes_eq name (codes "sort_direction") then Some field.SortDirection
-    else if bytes_eq name (codes "aria_current") then Some field.AriaCurrent
-    else if bytes_eq name (codes "has_popup") then Some field.HasPopup
-    else if bytes_eq name (codes "font_size") then Some field.FontSize
-    else if bytes_eq name (codes "font_weight") then Some field.FontWeight
-    else if bytes_eq name (codes "background_color") then Some (field.Color color.Background)
-    else if bytes_eq name (codes "foreground_color") then Some (field.Color color.Foreground)
-    else if bytes_eq name (codes "overline") then Some (field.Decoration decoration.Overline)
-    else if bytes_eq name (codes "strikethrough") then Some (field.Decoration decoration.Strikethrough)
-    else if bytes_eq name (codes "underline") then Some (field.Decoration decoration.Underline)
-    else if bytes_eq name (codes "text_direction") then Some field.TextDirection
-    else if bytes_eq name (codes "text_align") then Some field.TextAlign
-    else if bytes_eq name (codes "vertical_offset") then Some field.VerticalOffset
-    else if bytes_eq name (codes "number") then Some (field.Number number.NumericValue)
-    else if bytes_eq name (codes "min") then Some (field.Number number.MinNumericValue)
-    else if bytes_eq name (codes "max") then Some (field.Number number.MaxNumericValue)
-    else if bytes_eq name (codes "step") then Some (field.Number number.NumericValueStep)
-    else if bytes_eq name (codes "jump") then Some (field.Number number.NumericValueJump)
-    else if bytes_eq name (codes "level") then Some (field.Count count.Level)
-    else if bytes_eq name (codes "set_size") then Some (field.Count count.SizeOfSet)
-    else if bytes_eq name (codes "position") then Some (field.Count count.PositionInSet)
-    else if bytes_eq name (codes "scroll_x") then Some (field.Number number.ScrollX)
-    else if bytes_eq name (codes "scroll_x_min") then Some (field.Number number.ScrollXMin)
-    else if bytes_eq name (codes "scroll_x_max") then Some (field.Number number.ScrollXMax)
-    else if bytes_eq name (codes "scroll_y") then Some (field.Number number.ScrollY)
-    else if bytes_eq name (codes "scroll_y_min") then Some (field.Number number.ScrollYMin)
-    else if bytes_eq name (codes "scroll_y_max") then Some (field.Number number.ScrollYMax)
-    else if bytes_eq name (codes "actions") then Some (field.Actions actions.Own)
-    else if bytes_eq name (codes "child_actions") then Some (field.Actions actions.Children)
-    else None
+-- the first of these fields that is called so
+unfoldable named : List ℕ → List Field → Option Field
+named name [] = None
+named name (which ∷ others) = if bytes_eq (field_name which) name then Some which else named name others
 
-named_back : (which : Field) → named (field_name which) ≡ Some which
+named_back : (which : Field) → named (field_name which) all_fields ≡ Some which
 unfolding named
 named_back (field.Ids ids.Children) = refl
 named_back (field.Ids ids.LabelledBy) = refl
@@ -176,4 +106,36 @@ some_same : (one other : Field) → Some one ≡ Some other → one ≡ other
 some_same one other e = cc
 
 pub same_name : (name : List ℕ) (one other : Field) → name ≡ field_name one → name ≡ field_name other → one ≡ other
-same_name name one other e f = some_same one other (sym (named_back one) ∙ ap named (sym e ∙ f) ∙ named_back other)
+same_name name one other e f = some_same one other (sym (named_back one) ∙ ap (λ n. named n all_fields) (sym e ∙ f) ∙ named_back other)
+
+-- ---- a field is found by its name in a table
+
+-- each stands beside its name
+abbrev pub AreNamed : List (Bor (List ℕ) × Field) → Type 0
+AreNamed table = map (λ e. e.0.now) table ≡ map (λ e. field_name e.1) table
+
+in_table : (name : List ℕ) (table : List (Bor (List ℕ) × Field)) → AreNamed table → named_in name table ≡ named name (map (λ e. e.1) table)
+unfolding named_in named
+in_table name [] h = refl
+in_table name (entry ∷ others) h =
+    let first : entry.0.now ≡ field_name entry.1 = ap (λ l. get_or l 0 []) h in
+    rw first (ap (λ t. if bytes_eq (field_name entry.1) name then Some entry.1 else t) (in_table name others (ap (drop 1) h)))
+
+found_by : (name : List ℕ) (other : Field) (rest : Option Field) (which : Field) (same : Bool) → bytes_eq (field_name other) name ≡ same → (if same then Some other else rest) ≡ Some which → (rest ≡ Some which → name ≡ field_name which) → name ≡ field_name which
+found_by name other rest which true is e later = sym ((bytes_eq-Decides (field_name other) name).0 is) ∙ ap field_name (some_same other which e)
+found_by name other rest which false is e later = later e
+
+-- what is found is called so
+found : (name : List ℕ) (fields : List Field) (which : Field) → named name fields ≡ Some which → name ≡ field_name which
+unfolding named
+found name [] which e = cc
+found name (other ∷ others) which e = found_by name other (named name others) which (bytes_eq (field_name other) name) refl e (found name others which)
+
+pub found_or_nowhere : (name : List ℕ) (table : List (Bor (List ℕ) × Field)) → AreNamed table → map (λ e. e.1) table ≡ all_fields → (result : Option Field) → result ≡ named_in name table →
+    MatchOption result ((which : Field) → name ≢ field_name which) (λ which. name ≡ field_name which)
+found_or_nowhere name table h all None e = λ which same. let no : None ≡ Some which = e ∙ in_table name table h ∙ ap (named name) all ∙ ap (λ n. named n all_fields) same ∙ named_back which in cc
+found_or_nowhere name table h all (Some which) e = found name all_fields which (sym (e ∙ in_table name table h ∙ ap (named name) all))
+
+-- each field of a table has the name that it stands beside
+pub has_its_name : (table : List (Bor (List ℕ) × Field)) → AreNamed table → (i : ℕ) (d : Bor (List ℕ) × Field) → i < length table → (slice_index_or table i d).0.now ≡ field_name (slice_index_or table i d).1
+has_its_name table names i d low = sym (get_or-map (λ e. e.0.now) table i d [] low) ∙ ap (λ l. get_or l i []) names ∙ get_or-map (λ e. field_name e.1) table i d [] low

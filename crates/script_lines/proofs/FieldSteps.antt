@@ -16,7 +16,8 @@ use Rattle.script_lines.specs.declared.field_kinds.ActionsField.TheVariants as a
 use Rattle.script_lines.specs.declared.field_kinds.Field.{Field}
 use Rattle.script_lines.specs.declared.field_kinds.Field.TheVariants as field
 use Rattle.script_lines.specs.FieldKinds.{with_ids, with_id, with_text, with_flag, with_numbers, with_units, with_bool, with_color, with_decoration, with_number, with_count, with_actions_field}
-use Rattle.script_lines.specs.NodeReading.{all_fields, with_field, without, without_all, IsWithout}
+use Rattle.script_lines.specs.NodeReading.{with_field, without, without_all, IsWithout}
+use Rattle.script_lines.specs.NodeText.{all_fields}
 use Rattle.script_lines.proofs.FieldTails.{following}
 
 -- a node without all fields has nothing but its role

@@ -15,7 +15,7 @@ use Rattle.script_lines.specs.declared.field_kinds.CountField.TheVariants as cou
 use Rattle.script_lines.specs.declared.field_kinds.ActionsField.TheVariants as actions
 use Rattle.script_lines.specs.declared.field_kinds.Field.{Field}
 use Rattle.script_lines.specs.declared.field_kinds.Field.TheVariants as field
-use Rattle.script_lines.specs.NodeReading.{all_fields}
+use Rattle.script_lines.specs.NodeText.{all_fields}
 
 abbrev after_child_actions : List Field
 after_child_actions = []

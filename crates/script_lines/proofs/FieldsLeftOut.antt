@@ -7,10 +7,11 @@ use Rattle.script_lines.specs.declared.field_kinds.Field.{Field}
 use Rattle.script_lines.specs.declared.field_kinds.Field.TheVariants as field
 use Rattle.script_lines.specs.ActionLists.{actions_in}
 use Rattle.script_lines.specs.FieldKinds.{field_name, ids_at, id_at, text_at, flag_at, numbers_at, units_at, bool_at, color_at, decoration_at, number_at, count_at, actions_at}
-use Rattle.script_lines.specs.NodeReading.{IsNode, IsWithout, piece, id_text, ids_value, numbers_value, actions_value}
+use Rattle.script_lines.specs.NodeReading.{IsNode, IsWithout}
+use Rattle.script_lines.specs.NodeText.{piece}
 use Rattle.std.specs.Fmt.{decimal, signed_decimal}
 use Rattle.script_lines.specs.Names.{toggled_name, truth_name, live_name, orientation_name, sort_direction_name, aria_current_name, has_popup_name, text_direction_name, text_align_name, vertical_offset_name}
-use Rattle.script_lines.specs.Parts.{flag_text, word_field, tree_text, rect_text, translation_text, selection_text, color_text, decoration_text, units_text}
+use Rattle.script_lines.specs.Parts.{flag_text, word_field, tree_text, rect_text, translation_text, selection_text, color_text, decoration_text, units_text, id_text, ids_value, numbers_value, actions_value}
 use Rattle.script_lines.specs.Quoted.{quoted}
 use Rattle.script_lines.proofs.ActionSets.{none_there}
 

@@ -38,8 +38,9 @@ use Rattle.script_lines.specs.declared.stops.Stop.{Stop}
 use Rattle.script_lines.specs.ActionLists.{actions_in, with_actions}
 use Rattle.script_lines.specs.FieldKinds.{ids_at, with_ids, id_at, with_id, text_at, with_text, numbers_at, with_numbers, units_at, with_units, bool_at, with_bool, color_at, with_color, decoration_at, with_decoration, number_at, with_number, count_at, with_count, actions_at, with_actions_field}
 use Rattle.script_lines.specs.Names.{toggled_name, truth_name, live_name, orientation_name, sort_direction_name, aria_current_name, has_popup_name, text_direction_name, text_align_name, vertical_offset_name}
-use Rattle.script_lines.specs.NodeReading.{IsNode, value_of, with_field, id_text, ids_value, numbers_value, actions_value}
-use Rattle.script_lines.specs.Parts.{ids_text, numbers_text, units_text, tree_text, rect_text, translation_text, selection_text, color_text, decoration_text, action_list_text}
+use Rattle.script_lines.specs.NodeReading.{IsNode, with_field}
+use Rattle.script_lines.specs.NodeText.{value_of}
+use Rattle.script_lines.specs.Parts.{ids_text, numbers_text, units_text, tree_text, rect_text, translation_text, selection_text, color_text, decoration_text, action_list_text, id_text, ids_value, numbers_value, actions_value}
 use Rattle.script_lines.specs.Quoted.{quoted}
 use Rattle.script_lines.specs.Reading.{Begins, Reads, IsTreeName, IsAction, IsCount, IsNumber, IsUnits, IsShort, IsId, IsRect, IsTranslation, IsSelection, IsColor, IsDecoration}
 use Rattle.script_lines.proofs.ActionSets.{all_actions, gathered}

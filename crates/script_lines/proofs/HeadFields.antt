@@ -1,5 +1,5 @@
 -- The fields of the line that begins an update.
-use Rattle.std.proofs.Common.{◌≡◌, ◌≢◌, ℕ, List, [], ◌∷◌, ◌++◌, codes, arith, true, false, true≢false, Option, Some, None, MatchOption, is_some, option_copied, Bor, Result, Ok, Err, IsOkAnd, ap, sym, refl, ◌∙◌, append-nil, append_assoc}
+use Rattle.std.proofs.Common.{◌≡◌, ◌≢◌, ℕ, List, [], ◌∷◌, ◌++◌, codes, arith, true, false, true≢false, Option, Some, None, MatchOption, is_some, option_copied, option_map, Bor, Result, Ok, Err, IsOkAnd, ap, sym, refl, ◌∙◌, append-nil, append_assoc}
 use Rattle.std.specs.Bool.{⊤}
 use Rattle.std.specs.Str.{IsUtf8}
 use Rattle.std.specs.Fmt.{decimal}
@@ -8,7 +8,8 @@ use Rattle.schema.specs.declared.NodeId.{NodeId}
 use Rattle.script_lines.specs.LineReading.{IsInfo, IsHead, HeadField, Focus, Root, Toolkit, Version, head_name, rest_text, toolkit_fields, version_fields, info_fields, head_fields, HeadData, no_head, with_head_fields, AreFree, info_head, head_of}
 use Rattle.script_lines.specs.declared.stops.Stop.{Stop}
 use Rattle.script_lines.specs.Lines.{head_args, info_or_nothing}
-use Rattle.script_lines.specs.Parts.{quoted_field, tree_text}
+use Rattle.script_lines.specs.Parts.{word_field, tree_text}
+use Rattle.script_lines.specs.Quoted.{quoted}
 use Rattle.script_lines.specs.Reading.{Begins, IsFieldName, IsId, Reads, after}
 use Rattle.script_lines.proofs.Lacking.{lacks_by}
 
@@ -23,12 +24,13 @@ pub begins_value : (line : Option (List ℕ)) (name value : List ℕ) (rest : Op
 begins_value line name value rest e = e ∙ ap Some (append_assoc (name ++ codes "=") value (after rest))
 
 -- what is written of the toolkit
-texts_are_fields : (before : List ℕ) (toolkit version : Option (List ℕ)) → before ++ quoted_field (codes "toolkit") toolkit ++ quoted_field (codes "version") version ≡ before ++ after (rest_text (toolkit_fields toolkit ++ version_fields version))
-unfolding quoted_field rest_text
+texts_are_fields : (before : List ℕ) (toolkit version : Option (List ℕ)) →
+    before ++ word_field (codes "toolkit") (option_map quoted toolkit) ++ word_field (codes "version") (option_map quoted version) ≡ before ++ after (rest_text (toolkit_fields toolkit ++ version_fields version))
+unfolding word_field rest_text
 texts_are_fields before None None = append-nil (before ++ [])
-texts_are_fields before (Some toolkit) None = append_assoc before (quoted_field (codes "toolkit") (Some toolkit)) []
-texts_are_fields before None (Some version) = let v = quoted_field (codes "version") (Some version) in append_assoc before [] v ∙ ap (λ r. before ++ r) (sym (append-nil v))
-texts_are_fields before (Some toolkit) (Some version) = let t = quoted_field (codes "toolkit") (Some toolkit) in let v = quoted_field (codes "version") (Some version) in
+texts_are_fields before (Some toolkit) None = append_assoc before (word_field (codes "toolkit") (Some (quoted toolkit))) []
+texts_are_fields before None (Some version) = let v = word_field (codes "version") (Some (quoted version)) in append_assoc before [] v ∙ ap (λ r. before ++ r) (sym (append-nil v))
+texts_are_fields before (Some toolkit) (Some version) = let t = word_field (codes "toolkit") (Some (quoted toolkit)) in let v = word_field (codes "version") (Some (quoted version)) in
     append_assoc before t v ∙ ap (λ r. before ++ (t ++ r)) (sym (append-nil v))
 
 -- and of the tree as a whole

@@ -3,6 +3,7 @@ pub mod ActionSets
 pub mod ActionSteps
 pub mod Enclosed
 pub mod Decimals
+pub mod Numerals
 pub mod Cuts
 pub mod TreeNames
 pub mod Lacking
@@ -15,7 +16,6 @@ pub mod Pieces
 pub mod FieldTails
 pub mod FieldSteps
 pub mod QuotedTexts
-pub mod FieldOrder
 pub mod FieldsLeftOut
 pub mod NodeLoop
 pub mod Stopped

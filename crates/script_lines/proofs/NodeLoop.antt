@@ -6,11 +6,10 @@ use Rattle.schema.specs.NodeData.{NodeData, empty_node}
 use Rattle.schema.specs.RoleNames.{role_text}
 use Rattle.schema.specs.declared.NodeId.{NodeId}
 use Rattle.script_lines.specs.declared.field_kinds.Field.{Field}
-use Rattle.script_lines.specs.NodeReading.{IsNode, node_args, all_fields, piece, with_field, without, without_all, IsWithout}
-use Rattle.script_lines.specs.NodeText.{fields_text, actions_text}
+use Rattle.script_lines.specs.NodeReading.{IsNode, node_args, with_field, without, without_all, IsWithout}
+use Rattle.script_lines.specs.NodeText.{fields_text, all_fields, piece}
 use Rattle.script_lines.specs.Reading.{Begins, after}
 use Rattle.script_lines.proofs.FieldSteps.{nothing_left, taken, given_back, nothing_to_take, kept, kept_away}
-use Rattle.script_lines.proofs.FieldOrder.{fields_of}
 use Rattle.script_lines.proofs.FieldTails.{IsTail, all_are_tail}
 use Rattle.script_lines.proofs.FieldsLeftOut.{nothing_written}
 use Rattle.script_lines.proofs.Pieces.{piece_begins}
@@ -107,9 +106,9 @@ unfolding fields_left comes
 all_left n = sym (comes n all_fields).1
 
 pub head_begins : (id : NodeId) (n : NodeData) (line : Option (List ℕ)) → line ≡ Some (node_args id n) → Begins line (decimal id.0) (Some (role_text n.role ++ after (fields_left n)))
+unfolding fields_text
 head_begins id n line e = e ∙ ap Some
-    (append_assoc (decimal id.0 ++ codes " " ++ role_text n.role) (fields_text n) (actions_text n)
-    ∙ ap (λ t. decimal id.0 ++ codes " " ++ role_text n.role ++ t) (fields_of n ∙ sym (all_left n))
+    (ap (λ t. decimal id.0 ++ codes " " ++ role_text n.role ++ t) (sym (all_left n))
     ∙ append_assoc (decimal id.0 ++ codes " ") (role_text n.role) (after (fields_left n))
     ∙ append_assoc (decimal id.0) (codes " ") (role_text n.role ++ after (fields_left n))
     )

@@ -17,7 +17,7 @@ use Rattle.script_lines.specs.declared.field_kinds.FlagField.{FlagField}
 use Rattle.script_lines.specs.declared.field_kinds.Field.{Field}
 use Rattle.script_lines.specs.declared.field_kinds.Field.TheVariants as field
 use Rattle.script_lines.specs.FieldKinds.{field_name, flag_name, flag_at}
-use Rattle.script_lines.specs.NodeReading.{piece, value_of}
+use Rattle.script_lines.specs.NodeText.{piece, value_of}
 use Rattle.script_lines.specs.Parts.{flag_text, word_field}
 use Rattle.script_lines.specs.Reading.{IsFieldName, after}
 use Rattle.script_lines.proofs.Lacking.{lacks_by}

@@ -1,6 +1,8 @@
 -- The name of a tree, read back.
-use Rattle.std.proofs.Common.{◌≡◌, ◌≢◌, ℕ, List, codes, bytes_eq, Some, ap, sym, refl, ◌∙◌, ⊎_elim, inl, zero, suc, ◌+◌, ◌-◌, [], ◌∷◌, Bool, true, false, if◌then◌else◌, nat_lt, arith, true≢false}
+use Rattle.std.proofs.Common.{◌≡◌, ◌≢◌, ℕ, List, codes, bytes_eq, Option, Some, None, Result, Ok, Err, IfOk, IsOk, ap, sym, refl, ◌∙◌, ◌↔◌, ⊎_elim, inl, inr, zero, suc, ◌+◌, ◌-◌, [], ◌∷◌, Bool, true, false, if◌then◌else◌, nat_lt, arith, true≢false}
+use Rattle.std.specs.Result.{result_ok}
 use Rattle.std.proofs.lemmas.Bool.{cases_Bool, cond-true, cond-false, cond_both}
+use Rattle.std.proofs.lemmas.Option.{none-some, same_Some}
 use Rattle.std.proofs.lemmas.Slice.Eq.{bytes_eq-Decides}
 use Rattle.uuid.specs.Text.{hyphenated_text, lower, parsed, by_index, hex_digit, nibble, digit_place, is_hyphen_place}
 use Rattle.uuid.proofs.RoundTrips.{parses_hyphenated}
@@ -9,6 +11,7 @@ use Rattle.schema.specs.TreeIds.{root_tree_id}
 use Rattle.schema.specs.declared.TreeId.{TreeId}
 use Rattle.script_lines.specs.Parts.{tree_text}
 use Rattle.script_lines.specs.Reading.{IsTreeName, Lacks, IsWord}
+use Rattle.script_lines.specs.Says.{SaysTree}
 use Rattle.script_lines.proofs.Lacking.{lacks_nothing, lacks_cons, lacks_append, lacks_by}
 
 tree_word_at : (tree : TreeId) (text : List ℕ) → IsTreeName tree → text ≡ tree_text tree → (text ≡ codes "root" → tree ≡ root_tree_id) × (text ≢ codes "root" → Some tree.0 ≡ parsed text)
@@ -20,6 +23,36 @@ tree_word_at tree text h e = ⊎_elim
 -- as `==` has it
 pub tree_word : (tree : TreeId) (text : List ℕ) (b : Bool) → IsTreeName tree → text ≡ tree_text tree → b ≡ bytes_eq text (codes "root") → (b ≡ true → tree ≡ root_tree_id) × (b ≡ false → Some tree.0 ≡ parsed text)
 tree_word tree text b h e is = let k = tree_word_at tree text h e in let d = bytes_eq-Decides text (codes "root") in ((λ t. k.0 (d.0 (sym is ∙ t))), λ f. k.1 (λ r. true≢false (sym (d.1 r) ∙ sym is ∙ f)))
+
+-- what `root` says, and what another word
+pub root_says : (word : List ℕ) (b : Bool) (root tree : TreeId) → root ≡ root_tree_id → b ≡ bytes_eq word (codes "root") → b ≡ true → (Some root ≡ Some tree) ↔ SaysTree word tree
+root_says word b root tree is test t =
+    let called : word ≡ codes "root" = (bytes_eq-Decides word (codes "root")).0 (sym test ∙ t) in (
+      (λ e. inl (called, sym (same_Some root tree e) ∙ is)),
+      (λ s. ⊎_elim (λ k. ap Some (is ∙ sym k.1)) (λ p. let no : Some tree.0 ≡ parsed (codes "root") = sym p ∙ ap parsed called in cc) s),
+    )
+
+-- as `parse_str` and `ok` have it
+parsed_bytes : {E : Type 0} (r : Result (List ℕ) E) (o : Option (List ℕ)) (bytes : List ℕ) → IfOk r (λ u. Some u ≡ o) → result_ok r ≡ Some bytes → Some bytes ≡ o
+parsed_bytes (Ok x) o bytes h e = sym e ∙ h
+parsed_bytes (Err x) o bytes h e = absurd (none-some bytes e)
+
+not_parsed : {E : Type 0} (r : Result (List ℕ) E) → result_ok r ≡ None → IsOk r → ⊥
+not_parsed (Ok x) e ok = none-some x (sym e)
+not_parsed (Err x) e ok = true≢false (sym ok)
+
+pub uuid_says : {E : Type 0} (word : List ℕ) (b : Bool) (r : Result (List ℕ) E) (bytes : List ℕ) (tree : TreeId) → b ≡ bytes_eq word (codes "root") → b ≡ false → IfOk r (λ u. Some u ≡ parsed word) → result_ok r ≡ Some bytes → (Some (record { 0 = bytes }) ≡ Some tree) ↔ SaysTree word tree
+uuid_says word b r bytes tree test f h e =
+    let is : Some bytes ≡ parsed word = parsed_bytes r (parsed word) bytes h e in (
+      (λ e. inr (sym is ∙ ap Some (ap (λ (t : TreeId). t.0) (same_Some (record { 0 = bytes }) tree e)))),
+      (λ s. ⊎_elim (λ k. absurd (true≢false (sym ((bytes_eq-Decides word (codes "root")).1 k.0) ∙ sym test ∙ f))) (λ p. ap (λ bs. Some (record { 0 = bs })) (same_Some bytes tree.0 (is ∙ p))) s),
+    )
+
+pub other_says_none : {E : Type 0} (word : List ℕ) (b : Bool) (r : Result (List ℕ) E) (tree : TreeId) → b ≡ bytes_eq word (codes "root") → b ≡ false → (IsOk r ↔ ((u : List ℕ) × (parsed word ≡ Some u))) → result_ok r ≡ None → (None ≡ Some tree) ↔ SaysTree word tree
+other_says_none word b r tree test f ok e = (
+  (λ e. absurd (none-some tree e)),
+  (λ s. absurd (⊎_elim (λ k. true≢false (sym ((bytes_eq-Decides word (codes "root")).1 k.0) ∙ sym test ∙ f)) (λ p. not_parsed r e (ok.1 (tree.0, p))) s)),
+)
 
 by_index_lacks : (c n : ℕ) (f : ℕ → ℕ) → ((k : ℕ) → f k ≢ c) → Lacks c (by_index n f)
 unfolding by_index

@@ -1,5 +1,4 @@
 pub mod ActionLists
-pub mod FieldTexts
 pub mod Lines
 pub mod Names
 pub mod NodeText
@@ -8,8 +7,11 @@ pub mod Questions
 pub mod Quoted
 pub mod Words
 pub mod Reading
+pub mod Items
+pub mod Says
+pub mod SaysParts
 pub mod FieldKinds
 pub mod NodeReading
-pub mod Commas
+pub mod Ends
 pub mod NamedIn
 pub mod LineReading

@@ -1,18 +1,21 @@
 -- What is written of a command: the text of its lines.
-use Rattle.std.specs.Prelude.{ℕ, List, [], ◌++◌, codes, flat_map, Bool, true, false, Option, Some, None}
+use Rattle.std.specs.Prelude.{ℕ, List, [], ◌++◌, codes, flat_map, Bool, true, false, Option, Some, None, option_map, ◌≡◌, ◌⊎◌}
 use Rattle.std.specs.Fmt.{decimal}
 use Rattle.schema.specs.NodeData.{NodeData}
 use Rattle.schema.specs.UpdateData.{UpdateData, InfoData, update_data}
 use Rattle.schema.specs.declared.NodeId.{NodeId}
+use Rattle.script_lines.specs.declared.stops.Stop.{Stop}
+use Rattle.script_lines.specs.declared.stops.Stop.TheVariants.{Memory, WriteFault}
 use Rattle.script_lines.specs.declared.reader.ScriptCommand.{ScriptCommand}
 use Rattle.script_lines.specs.declared.reader.ScriptCommand.TheVariants as command
 use Rattle.script_lines.specs.NodeText.{node_line}
-use Rattle.script_lines.specs.Parts.{quoted_field, tree_text}
+use Rattle.script_lines.specs.Parts.{word_field, tree_text}
+use Rattle.script_lines.specs.Quoted.{quoted}
 use Rattle.script_lines.specs.Questions.{question_line}
 
 -- of a tree as a whole
 abbrev pub info_text : InfoData → List ℕ
-info_text info = codes " root=" ++ decimal info.root.0 ++ quoted_field (codes "toolkit") info.toolkit_name ++ quoted_field (codes "version") info.toolkit_version
+info_text info = codes " root=" ++ decimal info.root.0 ++ word_field (codes "toolkit") (option_map quoted info.toolkit_name) ++ word_field (codes "version") (option_map quoted info.toolkit_version)
 
 abbrev pub info_or_nothing : Option InfoData → List ℕ
 info_or_nothing None = []
@@ -45,3 +48,7 @@ command_lines (command.Update update) = update_lines (update_data update)
 command_lines (command.HostFocus is_host_focused) = host_line is_host_focused
 command_lines command.Print = codes "print\n"
 command_lines (command.Query query) = question_line query
+
+-- what stops a writing: a fault of the output, or want of memory
+abbrev pub StopsWriting : Stop → Type 0
+StopsWriting stop = (stop ≡ WriteFault) ⊎ (stop ≡ Memory)

@@ -1,121 +1,93 @@
 -- What is written of a node: its fields in a fixed order, each where it is there.
-use Rattle.std.specs.Prelude.{ℕ, List, ◌++◌, codes}
-use Rattle.std.specs.Fmt.{decimal}
+use Rattle.std.specs.Prelude.{ℕ, List, [], ◌∷◌, ◌++◌, codes, flat_map, Option, None, option_map}
+use Rattle.std.specs.Fmt.{decimal, signed_decimal}
 use Rattle.schema.specs.NodeData.{NodeData}
 use Rattle.schema.specs.RoleNames.{role_text}
 use Rattle.schema.specs.declared.NodeId.{NodeId}
 use Rattle.schema.specs.declared.Role.{Role}
-use Rattle.script_lines.specs.FieldTexts.{children_text, labelled_by_text, controls_text, tree_id_text, active_descendant_text, label_text, value_text, description_text, placeholder_text, role_description_text, url_text, author_id_text, html_id_text, class_name_text, braille_label_text, braille_role_description_text, column_index_text_text, row_index_text_text, font_family_text, language_text, hidden_text, clips_children_text, disabled_text, read_only_text, required_text, modal_text, busy_text, multiselectable_text, italic_text, live_atomic_text, touch_transparent_text, bounds_text, transform_text, text_selection_text, character_lengths_text, word_starts_text, character_positions_text, character_widths_text, previous_on_line_text, next_on_line_text, toggled_text, expanded_text, selected_text, live_text, orientation_text, sort_direction_text, aria_current_text, has_popup_text, font_size_text, font_weight_text, background_color_text, foreground_color_text, overline_text, strikethrough_text, underline_text, text_direction_text, text_align_text, vertical_offset_text, numeric_value_text, min_numeric_value_text, max_numeric_value_text, numeric_value_step_text, numeric_value_jump_text, level_text, size_of_set_text, position_in_set_text, scroll_x_text, scroll_x_min_text, scroll_x_max_text, scroll_y_text, scroll_y_min_text, scroll_y_max_text, own_actions_text, child_actions_text}
+use Rattle.script_lines.specs.ActionLists.{actions_in}
+use Rattle.script_lines.specs.FieldKinds.{field_name, ids_at, id_at, text_at, flag_at, numbers_at, units_at, bool_at, color_at, decoration_at, number_at, count_at, actions_at}
+use Rattle.script_lines.specs.declared.field_kinds.IdsField.TheVariants as ids
+use Rattle.script_lines.specs.declared.field_kinds.IdField.TheVariants as id
+use Rattle.script_lines.specs.declared.field_kinds.TextField.TheVariants as text
+use Rattle.script_lines.specs.declared.field_kinds.FlagField.TheVariants as flag
+use Rattle.script_lines.specs.declared.field_kinds.NumbersField.TheVariants as numbers
+use Rattle.script_lines.specs.declared.field_kinds.UnitsField.TheVariants as units
+use Rattle.script_lines.specs.declared.field_kinds.BoolField.TheVariants as bool
+use Rattle.script_lines.specs.declared.field_kinds.ColorField.TheVariants as color
+use Rattle.script_lines.specs.declared.field_kinds.DecorationField.TheVariants as decoration
+use Rattle.script_lines.specs.declared.field_kinds.NumberField.TheVariants as number
+use Rattle.script_lines.specs.declared.field_kinds.CountField.TheVariants as count
+use Rattle.script_lines.specs.declared.field_kinds.ActionsField.TheVariants as actions
+use Rattle.script_lines.specs.declared.field_kinds.Field.{Field}
+use Rattle.script_lines.specs.declared.field_kinds.Field.TheVariants as field
+use Rattle.script_lines.specs.Names.{toggled_name, truth_name, live_name, orientation_name, sort_direction_name, aria_current_name, has_popup_name, text_direction_name, text_align_name, vertical_offset_name}
+use Rattle.script_lines.specs.Parts.{flag_text, word_field, id_text, ids_value, numbers_value, units_text, tree_text, rect_text, translation_text, selection_text, color_text, decoration_text, actions_value}
+use Rattle.script_lines.specs.Quoted.{quoted}
 
--- the fields that name nodes or a tree
-unfoldable pub kin_text : NodeData → List ℕ
-kin_text n = children_text n ++ labelled_by_text n ++ controls_text n ++ tree_id_text n ++ active_descendant_text n
+-- the value of a field, as it is written, where it is there
+abbrev pub value_of : NodeData → Field → Option (List ℕ)
+value_of n (field.Ids which) = ids_value (ids_at which n)
+value_of n (field.Id which) = option_map id_text (id_at which n)
+value_of n (field.Text which) = option_map quoted (text_at which n)
+value_of n (field.Flag which) = None
+value_of n (field.Numbers which) = numbers_value (numbers_at which n)
+value_of n (field.Units which) = option_map units_text (units_at which n)
+value_of n (field.Bool which) = option_map truth_name (bool_at which n)
+value_of n (field.Color which) = option_map color_text (color_at which n)
+value_of n (field.Decoration which) = option_map decoration_text (decoration_at which n)
+value_of n (field.Number which) = option_map signed_decimal (number_at which n)
+value_of n (field.Count which) = option_map decimal (count_at which n)
+value_of n (field.Actions which) = actions_value (actions_in (actions_at which n))
+value_of n field.Tree = option_map tree_text n.tree_id
+value_of n field.Bounds = option_map rect_text n.bounds
+value_of n field.Transform = option_map translation_text n.transform
+value_of n field.Selection = option_map selection_text n.text_selection
+value_of n field.Toggled = option_map toggled_name n.toggled
+value_of n field.Live = option_map live_name n.live
+value_of n field.Orientation = option_map orientation_name n.orientation
+value_of n field.SortDirection = option_map sort_direction_name n.sort_direction
+value_of n field.AriaCurrent = option_map aria_current_name n.aria_current
+value_of n field.HasPopup = option_map has_popup_name n.has_popup
+value_of n field.FontSize = option_map decimal n.font_size
+value_of n field.FontWeight = option_map decimal n.font_weight
+value_of n field.TextDirection = option_map text_direction_name n.text_direction
+value_of n field.TextAlign = option_map text_align_name n.text_align
+value_of n field.VerticalOffset = option_map vertical_offset_name n.vertical_offset
 
--- the texts that most nodes have
-unfoldable pub texts_text : NodeData → List ℕ
-texts_text n = label_text n ++ value_text n ++ description_text n ++ placeholder_text n
+-- what is written of a field: nothing, where it isn't there
+abbrev pub piece : NodeData → Field → List ℕ
+piece n (field.Flag which) = flag_text (field_name (field.Flag which)) (flag_at which n)
+piece n which = word_field (field_name which) (value_of n which)
 
--- what a node is called elsewhere
-unfoldable pub names_text : NodeData → List ℕ
-names_text n = role_description_text n ++ url_text n ++ author_id_text n ++ html_id_text n
+-- all fields, in the order in which they are written
+abbrev pub all_fields : List Field
+all_fields =
+    field.Ids ids.Children ∷ field.Ids ids.LabelledBy ∷ field.Ids ids.Controls ∷ field.Tree ∷
+    field.Id id.ActiveDescendant ∷ field.Text text.Label ∷ field.Text text.Value ∷ field.Text text.Description ∷
+    field.Text text.Placeholder ∷ field.Text text.RoleDescription ∷ field.Text text.Url ∷ field.Text text.AuthorId ∷
+    field.Text text.HtmlId ∷ field.Text text.ClassName ∷ field.Text text.BrailleLabel ∷
+    field.Text text.BrailleRoleDescription ∷ field.Text text.ColumnIndexText ∷ field.Text text.RowIndexText ∷
+    field.Text text.FontFamily ∷ field.Text text.Language ∷ field.Flag flag.Hidden ∷ field.Flag flag.ClipsChildren ∷
+    field.Flag flag.Disabled ∷ field.Flag flag.ReadOnly ∷ field.Flag flag.Required ∷ field.Flag flag.Modal ∷
+    field.Flag flag.Busy ∷ field.Flag flag.Multiselectable ∷ field.Flag flag.Italic ∷ field.Flag flag.LiveAtomic ∷
+    field.Flag flag.TouchTransparent ∷ field.Bounds ∷ field.Transform ∷ field.Selection ∷
+    field.Numbers numbers.CharacterLengths ∷ field.Numbers numbers.WordStarts ∷ field.Units units.CharacterPositions ∷
+    field.Units units.CharacterWidths ∷ field.Id id.PreviousOnLine ∷ field.Id id.NextOnLine ∷ field.Toggled ∷
+    field.Bool bool.Expanded ∷ field.Bool bool.Selected ∷ field.Live ∷ field.Orientation ∷ field.SortDirection ∷
+    field.AriaCurrent ∷ field.HasPopup ∷ field.FontSize ∷ field.FontWeight ∷ field.Color color.Background ∷
+    field.Color color.Foreground ∷ field.Decoration decoration.Overline ∷ field.Decoration decoration.Strikethrough ∷
+    field.Decoration decoration.Underline ∷ field.TextDirection ∷ field.TextAlign ∷ field.VerticalOffset ∷
+    field.Number number.NumericValue ∷ field.Number number.MinNumericValue ∷ field.Number number.MaxNumericValue ∷
+    field.Number number.NumericValueStep ∷ field.Number number.NumericValueJump ∷ field.Count count.Level ∷
+    field.Count count.SizeOfSet ∷ field.Count count.PositionInSet ∷ field.Number number.ScrollX ∷
+    field.Number number.ScrollXMin ∷ field.Number number.ScrollXMax ∷ field.Number number.ScrollY ∷
+    field.Number number.ScrollYMin ∷ field.Number number.ScrollYMax ∷ field.Actions actions.Own ∷
+    field.Actions actions.Children ∷ []
 
--- the class of a node, and what it is called in Braille
-unfoldable pub braille_text : NodeData → List ℕ
-braille_text n = class_name_text n ++ braille_label_text n ++ braille_role_description_text n
-
--- the texts of a cell, a font and a language
-unfoldable pub cell_texts_text : NodeData → List ℕ
-cell_texts_text n = column_index_text_text n ++ row_index_text_text n ++ font_family_text n ++ language_text n
-
--- the flags of what is seen and can be set
-unfoldable pub common_flags_text : NodeData → List ℕ
-common_flags_text n = hidden_text n ++ clips_children_text n ++ disabled_text n ++ read_only_text n
-
--- the flags of forms, dialogs and lists
-unfoldable pub control_flags_text : NodeData → List ℕ
-control_flags_text n = required_text n ++ modal_text n ++ busy_text n ++ multiselectable_text n
-
--- the other flags
-unfoldable pub rare_flags_text : NodeData → List ℕ
-rare_flags_text n = italic_text n ++ live_atomic_text n ++ touch_transparent_text n
-
--- where a node lies, and what is selected in its text
-unfoldable pub places_text : NodeData → List ℕ
-places_text n = bounds_text n ++ transform_text n ++ text_selection_text n
-
--- the lists of a text run
-unfoldable pub run_text : NodeData → List ℕ
-run_text n = character_lengths_text n ++ word_starts_text n ++ character_positions_text n ++ character_widths_text n
-
--- the runs beside a text run on its line
-unfoldable pub neighbours_text : NodeData → List ℕ
-neighbours_text n = previous_on_line_text n ++ next_on_line_text n
-
--- what a control is set to, and how it lies and is told
-unfoldable pub settings_text : NodeData → List ℕ
-settings_text n = toggled_text n ++ expanded_text n ++ selected_text n ++ live_text n ++ orientation_text n
-
--- how a node is sorted, what it is the current one of, and what pops up from it
-unfoldable pub relations_text : NodeData → List ℕ
-relations_text n = sort_direction_text n ++ aria_current_text n ++ has_popup_text n
-
--- the size and the colours of a text
-unfoldable pub font_text : NodeData → List ℕ
-font_text n = font_size_text n ++ font_weight_text n ++ background_color_text n ++ foreground_color_text n
-
--- the lines at a text
-unfoldable pub decorations_text : NodeData → List ℕ
-decorations_text n = overline_text n ++ strikethrough_text n ++ underline_text n
-
--- how a text lies
-unfoldable pub layout_text : NodeData → List ℕ
-layout_text n = text_direction_text n ++ text_align_text n ++ vertical_offset_text n
-
--- the numeric value with its limits and steps
-unfoldable pub numeric_text : NodeData → List ℕ
-numeric_text n = numeric_value_text n ++ min_numeric_value_text n ++ max_numeric_value_text n ++ numeric_value_step_text n ++ numeric_value_jump_text n
-
--- the level, and the place in a set
-unfoldable pub set_text : NodeData → List ℕ
-set_text n = level_text n ++ size_of_set_text n ++ position_in_set_text n
-
--- how far a node is scrolled across
-unfoldable pub scrolled_across_text : NodeData → List ℕ
-scrolled_across_text n = scroll_x_text n ++ scroll_x_min_text n ++ scroll_x_max_text n
-
--- how far a node is scrolled down
-unfoldable pub scrolled_down_text : NodeData → List ℕ
-scrolled_down_text n = scroll_y_text n ++ scroll_y_min_text n ++ scroll_y_max_text n
-
--- ---- groups of these
-
--- what a node names, and its texts
-unfoldable pub place_and_texts : NodeData → List ℕ
-place_and_texts n = kin_text n ++ texts_text n ++ names_text n ++ braille_text n ++ cell_texts_text n
-
--- flags and places
-unfoldable pub flags_and_places : NodeData → List ℕ
-flags_and_places n = common_flags_text n ++ control_flags_text n ++ rare_flags_text n ++ places_text n
-
--- the fields of a text run, and what a control is set to
-unfoldable pub run_and_settings : NodeData → List ℕ
-run_and_settings n = run_text n ++ neighbours_text n ++ settings_text n ++ relations_text n
-
--- how a text looks
-unfoldable pub styles_text : NodeData → List ℕ
-styles_text n = font_text n ++ decorations_text n ++ layout_text n
-
--- the numbers of a control
-unfoldable pub amounts_text : NodeData → List ℕ
-amounts_text n = numeric_text n ++ set_text n ++ scrolled_across_text n ++ scrolled_down_text n
-
--- the actions that a node and its children support
-unfoldable pub actions_text : NodeData → List ℕ
-actions_text n = own_actions_text n ++ child_actions_text n
-
--- all but the actions
+-- all that is written of a node's fields
 unfoldable pub fields_text : NodeData → List ℕ
-fields_text n = place_and_texts n ++ flags_and_places n ++ run_and_settings n ++ styles_text n ++ amounts_text n
+fields_text n = flat_map (piece n) all_fields
 
 -- what a node's line begins with
 unfoldable pub node_head : NodeId → Role → List ℕ
@@ -123,7 +95,7 @@ node_head id role = codes "node " ++ decimal id.0 ++ codes " " ++ role_text role
 
 -- a node's line, without its end
 unfoldable pub node_text : NodeId → NodeData → List ℕ
-node_text id n = node_head id n.role ++ fields_text n ++ actions_text n
+node_text id n = node_head id n.role ++ fields_text n
 
 -- a node's line
 unfoldable pub node_line : NodeId → NodeData → List ℕ

@@ -24,10 +24,14 @@ Lacks c text = (i : ℕ) → i < length text → slice_index_or text i 0 ≢ c
 abbrev pub IsWord : List ℕ → Type 0
 IsWord text = Lacks 32 text × (0 < length text)
 
--- what is left, with the space before it
+-- what is left, with this character before it
+abbrev pub behind : ℕ → Option (List ℕ) → List ℕ
+behind c None = []
+behind c (Some rest) = c ∷ rest
+
+-- what is left of a line, with the space before it
 abbrev pub after : Option (List ℕ) → List ℕ
-after None = []
-after (Some rest) = 32 ∷ rest
+after = behind 32
 
 -- this text comes next, and then what is left
 abbrev pub Begins : Option (List ℕ) → List ℕ → Option (List ℕ) → Type 0

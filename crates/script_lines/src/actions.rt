@@ -3,14 +3,16 @@
 ghost use Rattle.schema.specs.declared.actions.Action.{Action};
 ghost use Rattle.script_lines.specs.ActionLists.{action_numbered, actions_in, chosen, with_actions};
 ghost use Rattle.script_lines.specs.Parts.{action_list_text, action_text};
-ghost use Rattle.script_lines.specs.Reading.{IsAction, IsByte, Lacks, Reads};
+ghost use Rattle.script_lines.specs.Reading.{IsAction, IsByte, Reads};
+ghost use Rattle.script_lines.specs.Says.{SaysAction, SaysOther};
+ghost use Rattle.script_lines.specs.SaysParts.{SaysItems, SaysListed};
 ghost use Rattle.script_lines.specs.Words.{left};
 ghost use Rattle.std.specs.Fmt.{decimal};
 ghost use Rattle.std.specs.Prelude.{ℕ, ◌≡◌, ◌<◌, ◌≤◌, ◌↔◌, [], ◌∷◌, ◌++◌, All, List, IfOk, OnOk, IsOkAnd, IsSomeAnd, Option, Some, codes, false, length, option_copied};
 
-use crate::commas::cut_at_comma;
+use crate::items::{Item, items};
 use crate::stops::Stop;
-use crate::words::number;
+use crate::words::{byte, in_brackets};
 use schema::{Action, Node};
 use std::alloc::{AllocError, Global};
 
@@ -35,6 +37,7 @@ fn action_numbered(number: u16) -> Action
 /// The action of this name; `Other(7)` is the action `Other` of the number 7.
 fn action_named(word: &str) -> Option<Action>
     ensures reads { (action : Action) → IsAction action → word.now ≡ action_text action → result ≡ Some action }
+    ensures exact { (action : Action) → (result ≡ Some action) ↔ (IsAction action × SaysAction word.now action) }
 {
     match word {
         "Click" => Some(Action::Click),
@@ -48,30 +51,34 @@ fn action_named(word: &str) -> Option<Action>
 /// The number of an action without a name: `Other(7)` has the number 7.
 fn other_code(word: &str) -> Option<u8>
     ensures reads { (code : ℕ) → IsByte code → word.now ≡ codes "Other(" ++ decimal code ++ codes ")" → result ≡ Some code }
+    ensures exact { (code : ℕ) → (result ≡ Some code) ↔ (IsByte code × SaysOther word.now code) }
 {
-    u8::try_from(number(in_brackets(word)?)?).ok()
+    byte(in_brackets(word)?)
 }
 
-/// What stands in the brackets of `Other()`.
-fn in_brackets(word: &str) -> Option<&str>
-    ensures reads { (inner : List ℕ) → word.now ≡ codes "Other(" ++ inner ++ codes ")" → IsSomeAnd result (λ read. read.now ≡ inner) }
-{
-    word.strip_prefix("Other(")?.strip_suffix(')')
+impl Item for Action {
+    ghost use Rattle.script_lines.specs.Parts.{action_text};
+    ghost use Rattle.script_lines.specs.Reading.{IsAction};
+    ghost use Rattle.script_lines.specs.SaysParts.{SaysListed};
+
+    ghost is_item = { IsAction };
+
+    ghost item_text = { action_text };
+
+    ghost says = { SaysListed };
+
+    #[tactic(auto, using(crate::proofs::ActionNames::action_lacks_comma))]
+    fn item(word: &str) -> Option<Action> {
+        action_named(word)
+    }
 }
 
 /// Actions by their names, with one comma between them.
 pub(crate) fn action_list(alloc: Global, word: &str) -> Result<Vec<Action>, Stop>
     ensures reads { (action : Action) (others : List Action) → IsAction action → All IsAction others → word.now ≡ action_list_text action others → Reads result (λ read. read.items ≡ action ∷ others) }
+    ensures only { IfOk result (λ read. SaysItems SaysListed (Some word.now) read.items) }
 {
-    let mut actions = Vec::new(alloc);
-    let mut left = Some(word);
-    while let Some(rest) = left {
-        let (part, after) = cut_at_comma(rest);
-        let action = action_named(part).ok_or(Stop::BadLine)?;
-        actions.push(action)?;
-        left = after;
-    }
-    Ok(actions)
+    items(alloc, word)
 }
 
 /// Whether the node supports any action.

@@ -1,5 +1,8 @@
 //! Ends of runs over a script, and their exit statuses.
 ghost use Rattle.std.specs.Prelude.{◌≤◌, ◌≢◌};
+ghost use Rattle.std.specs.Io.KnownBytes.{Keeps};
+ghost use Rattle.script_lines.specs.Ends.{Tells, status_at_end, status_of, told_at_end, told_of};
+ghost use Rattle.script_lines.specs.declared.stops.Stop.TheVariants as stop_;
 
 use crate::stops::Stop;
 use std::io::Write;
@@ -24,6 +27,8 @@ pub fn end_run<O: Write, E: Write>(
 ) -> u8
     ensures bound { result ≤ 4 }
     ensures not_one { result ≢ 1 }
+    ensures told { Tells (E.contents errors.old) (E.contents errors.new) (told_at_end number ended) (status_at_end ended) result }
+    ensures printed { Keeps (O.contents output.old) (O.contents output.new) }
 {
     if ended == Err(Stop::WriteFault) || output.flush().is_err() {
         return FAULT;
@@ -39,6 +44,7 @@ pub fn tell_stop<E: Write>(stop: Stop, number: u64, errors: &mut E) -> u8
     ensures bound { result ≤ 4 }
     ensures not_one { result ≢ 1 }
     ensures not_done { result ≢ 0 }
+    ensures told { Tells (E.contents errors.old) (E.contents errors.new) (told_of number stop) (status_of stop) result }
 {
     match stop {
         Stop::BadLine => tell_bad_line(number, errors),
@@ -52,6 +58,7 @@ fn tell_bad_line<E: Write>(number: u64, errors: &mut E) -> u8
     ensures bound { result ≤ 4 }
     ensures not_one { result ≢ 1 }
     ensures not_done { result ≢ 0 }
+    ensures told { Tells (E.contents errors.old) (E.contents errors.new) (told_of number stop_.BadLine) 2 result }
 {
     if writeln!(errors, "line {number}: bad line").is_err() || errors.flush().is_err() {
         return FAULT;
@@ -64,6 +71,7 @@ pub fn tell_no_memory<E: Write>(errors: &mut E) -> u8
     ensures bound { result ≤ 4 }
     ensures not_one { result ≢ 1 }
     ensures not_done { result ≢ 0 }
+    ensures told { Tells (E.contents errors.old) (E.contents errors.new) (told_of 0 stop_.Memory) 4 result }
 {
     if errors.write_all(b"out of memory\n").is_err() || errors.flush().is_err() {
         return FAULT;

@@ -8,7 +8,8 @@ ghost use Rattle.script_lines.specs.declared.field_kinds.Field.{Field};
 ghost use Rattle.script_lines.specs.declared.field_kinds.Field.TheVariants as field_;
 ghost use Rattle.script_lines.specs.declared.field_kinds.FlagField.{FlagField};
 ghost use Rattle.script_lines.specs.FieldKinds.{flag_at, with_flag};
-ghost use Rattle.script_lines.specs.NodeReading.{IsNode, IsWithout, piece, value_of, with_field};
+ghost use Rattle.script_lines.specs.NodeReading.{IsNode, IsWithout, with_field};
+ghost use Rattle.script_lines.specs.NodeText.{piece, value_of};
 ghost use Rattle.script_lines.specs.Reading.{Begins, Reads, after};
 ghost use Rattle.script_lines.specs.Words.{left};
 

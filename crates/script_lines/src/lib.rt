@@ -3,11 +3,12 @@
 
 mod actions;
 mod called;
-mod commas;
+mod cutting;
 mod ends;
 mod field_kinds;
 mod fields;
 mod heads;
+mod items;
 mod kind_values;
 mod line_reader;
 mod lines;
@@ -23,17 +24,9 @@ mod stops;
 mod unquoting;
 mod word_lists;
 mod words;
-mod write_amounts;
-mod write_fields;
-mod write_flags;
-mod write_kin;
-mod write_looks;
 mod write_node;
 mod write_parts;
-mod write_places;
 mod write_questions;
-mod write_texts;
-mod write_words;
 mod writer;
 
 pub use ends::{end_run, tell_no_memory, tell_stop};

@@ -1,11 +1,12 @@
 //! What roles, filters, the sides of a place and moves are called.
 
-ghost use Rattle.std.specs.Prelude.{ℕ, ◌≡◌, ◌++◌, Bool, Some, codes};
+ghost use Rattle.std.specs.Prelude.{ℕ, ◌≡◌, ◌↔◌, ◌++◌, Bool, IfSome, Some, codes};
 ghost use Rattle.std.specs.Fmt.{decimal};
 ghost use Rattle.schema.specs.RoleNames.{role_text};
 ghost use Rattle.schema.specs.declared.Role.{Role};
 ghost use Rattle.script_lines.specs.NamedIn.{named_in};
 ghost use Rattle.script_lines.specs.Reading.{IsRole, IsShort};
+ghost use Rattle.script_lines.specs.Says.{SaysOther, SaysRole};
 ghost use Rattle.schema.specs.declared.values.Toggled.{Toggled};
 ghost use Rattle.schema.specs.declared.values.Live.{Live};
 ghost use Rattle.schema.specs.declared.values.Orientation.{Orientation};
@@ -21,7 +22,7 @@ ghost use Rattle.model.specs.declared.queries.Side.{Side};
 ghost use Rattle.model.specs.declared.queries.Move.{Move};
 ghost use Rattle.script_lines.specs.Names.{toggled_name, truth_name, live_name, orientation_name, sort_direction_name, aria_current_name, has_popup_name, text_direction_name, text_align_name, vertical_offset_name, decoration_style_name, filter_name, side_name, move_name};
 
-use crate::words::number;
+use crate::words::{in_brackets, short};
 use model::{Move, NamedFilter, Side};
 use schema::{
     AriaCurrent, HasPopup, Live, Orientation, Role, SortDirection, TextAlign, TextDecorationStyle,
@@ -29,7 +30,7 @@ use schema::{
 };
 
 /// What stands beside the word in the table.
-fn named<T: Copy>(table: &[(&str, T)], word: &str) -> Option<T>
+pub(crate) fn named<T: Copy>(table: &[(&str, T)], word: &str) -> Option<T>
     ensures { result ≡ named_in word.now table.now }
 {
     for (name, what) in table {
@@ -43,6 +44,7 @@ fn named<T: Copy>(table: &[(&str, T)], word: &str) -> Option<T>
 /// The role of this name; `Other(7)` is the role `Other` of the number 7.
 pub fn role_named(word: &str) -> Option<Role>
     ensures reads { (role : Role) → IsRole role → word.now ≡ role_text role → result ≡ Some role }
+    ensures exact { (role : Role) → (result ≡ Some role) ↔ (IsRole role × SaysRole word.now role) }
 {
     if let Some(role) = named(named_roles(), word) {
         return Some(role);
@@ -53,14 +55,15 @@ pub fn role_named(word: &str) -> Option<Role>
 /// The number of the role that `Other(7)` names.
 fn other_role_number(word: &str) -> Option<u16>
     ensures reads { (n : ℕ) → IsShort n → word.now ≡ codes "Other(" ++ decimal n ++ codes ")" → result ≡ Some n }
+    ensures exact { (n : ℕ) → (result ≡ Some n) ↔ (IsShort n × SaysOther word.now n) }
 {
-    let digits = word.strip_prefix("Other(")?.strip_suffix(')')?;
-    u16::try_from(number(digits)?).ok()
+    short(in_brackets(word)?)
 }
 
 /// The filter of this name.
 pub(crate) fn filter_named(word: &str) -> Option<NamedFilter>
     ensures reads { (value : NamedFilter) → word.now ≡ filter_name value → result ≡ Some value }
+    ensures only { IfSome result (λ value. word.now ≡ filter_name value) }
 {
     match word {
         "all" => Some(NamedFilter::All),
@@ -73,6 +76,7 @@ pub(crate) fn filter_named(word: &str) -> Option<NamedFilter>
 /// The side of this name.
 pub(crate) fn side_named(word: &str) -> Option<Side>
     ensures reads { (value : Side) → word.now ≡ side_name value → result ≡ Some value }
+    ensures only { IfSome result (λ value. word.now ≡ side_name value) }
 {
     match word {
         "start" => Some(Side::Start),
@@ -84,6 +88,7 @@ pub(crate) fn side_named(word: &str) -> Option<Side>
 /// The move of this name.
 pub(crate) fn move_named(word: &str) -> Option<Move>
     ensures reads { (value : Move) → word.now ≡ move_name value → result ≡ Some value }
+    ensures only { IfSome result (λ value. word.now ≡ move_name value) }
 {
     match word {
         "forward_to_character_start" => Some(Move::ForwardToCharacterStart),
@@ -113,6 +118,7 @@ pub(crate) fn move_named(word: &str) -> Option<Move>
 /// What is said of a control that can be toggled, by this name.
 pub(crate) fn toggled_named(word: &str) -> Option<Toggled>
     ensures reads { (value : Toggled) → word.now ≡ toggled_name value → result ≡ Some value }
+    ensures only { IfSome result (λ value. word.now ≡ toggled_name value) }
 {
     match word {
         "true" => Some(Toggled::True),
@@ -125,6 +131,7 @@ pub(crate) fn toggled_named(word: &str) -> Option<Toggled>
 /// What `true` and `false` say.
 pub(crate) fn truth_named(word: &str) -> Option<bool>
     ensures reads { (value : Bool) → word.now ≡ truth_name value → result ≡ Some value }
+    ensures only { IfSome result (λ value. word.now ≡ truth_name value) }
 {
     match word {
         "true" => Some(true),
@@ -136,6 +143,7 @@ pub(crate) fn truth_named(word: &str) -> Option<bool>
 /// How a change is told, by this name.
 pub(crate) fn live_named(word: &str) -> Option<Live>
     ensures reads { (value : Live) → word.now ≡ live_name value → result ≡ Some value }
+    ensures only { IfSome result (λ value. word.now ≡ live_name value) }
 {
     match word {
         "off" => Some(Live::Off),
@@ -148,6 +156,7 @@ pub(crate) fn live_named(word: &str) -> Option<Live>
 /// The axis of this name.
 pub(crate) fn orientation_named(word: &str) -> Option<Orientation>
     ensures reads { (value : Orientation) → word.now ≡ orientation_name value → result ≡ Some value }
+    ensures only { IfSome result (λ value. word.now ≡ orientation_name value) }
 {
     match word {
         "horizontal" => Some(Orientation::Horizontal),
@@ -159,6 +168,7 @@ pub(crate) fn orientation_named(word: &str) -> Option<Orientation>
 /// The order of sorting of this name.
 pub(crate) fn sort_direction_named(word: &str) -> Option<SortDirection>
     ensures reads { (value : SortDirection) → word.now ≡ sort_direction_name value → result ≡ Some value }
+    ensures only { IfSome result (λ value. word.now ≡ sort_direction_name value) }
 {
     match word {
         "ascending" => Some(SortDirection::Ascending),
@@ -171,6 +181,7 @@ pub(crate) fn sort_direction_named(word: &str) -> Option<SortDirection>
 /// As what a node is the current one, by this name.
 pub(crate) fn aria_current_named(word: &str) -> Option<AriaCurrent>
     ensures reads { (value : AriaCurrent) → word.now ≡ aria_current_name value → result ≡ Some value }
+    ensures only { IfSome result (λ value. word.now ≡ aria_current_name value) }
 {
     match word {
         "false" => Some(AriaCurrent::False),
@@ -187,6 +198,7 @@ pub(crate) fn aria_current_named(word: &str) -> Option<AriaCurrent>
 /// What pops up from a node, by this name.
 pub(crate) fn has_popup_named(word: &str) -> Option<HasPopup>
     ensures reads { (value : HasPopup) → word.now ≡ has_popup_name value → result ≡ Some value }
+    ensures only { IfSome result (λ value. word.now ≡ has_popup_name value) }
 {
     match word {
         "menu" => Some(HasPopup::Menu),
@@ -201,6 +213,7 @@ pub(crate) fn has_popup_named(word: &str) -> Option<HasPopup>
 /// The direction of a text of this name.
 pub(crate) fn text_direction_named(word: &str) -> Option<TextDirection>
     ensures reads { (value : TextDirection) → word.now ≡ text_direction_name value → result ≡ Some value }
+    ensures only { IfSome result (λ value. word.now ≡ text_direction_name value) }
 {
     match word {
         "left_to_right" => Some(TextDirection::LeftToRight),
@@ -214,6 +227,7 @@ pub(crate) fn text_direction_named(word: &str) -> Option<TextDirection>
 /// How a text is aligned, by this name.
 pub(crate) fn text_align_named(word: &str) -> Option<TextAlign>
     ensures reads { (value : TextAlign) → word.now ≡ text_align_name value → result ≡ Some value }
+    ensures only { IfSome result (λ value. word.now ≡ text_align_name value) }
 {
     match word {
         "left" => Some(TextAlign::Left),
@@ -227,6 +241,7 @@ pub(crate) fn text_align_named(word: &str) -> Option<TextAlign>
 /// How a text is set against its line, by this name.
 pub(crate) fn vertical_offset_named(word: &str) -> Option<VerticalOffset>
     ensures reads { (value : VerticalOffset) → word.now ≡ vertical_offset_name value → result ≡ Some value }
+    ensures only { IfSome result (λ value. word.now ≡ vertical_offset_name value) }
 {
     match word {
         "subscript" => Some(VerticalOffset::Subscript),
@@ -238,6 +253,7 @@ pub(crate) fn vertical_offset_named(word: &str) -> Option<VerticalOffset>
 /// The look of a line at a text, by this name.
 pub(crate) fn decoration_style_named(word: &str) -> Option<TextDecorationStyle>
     ensures reads { (value : TextDecorationStyle) → word.now ≡ decoration_style_name value → result ≡ Some value }
+    ensures only { IfSome result (λ value. word.now ≡ decoration_style_name value) }
 {
     match word {
         "solid" => Some(TextDecorationStyle::Solid),

@@ -1,16 +1,19 @@
 //! What a node has in its fields, by the kinds of their values.
 
-ghost use Rattle.std.specs.Prelude.{◌≡◌, OnOk, Some, true, false, option_copied};
+ghost use Rattle.std.specs.Prelude.{◌≡◌, IfOk, OnOk, Some, true, false, option_copied};
 ghost use Rattle.script_lines.specs.FieldKinds.{ids_at, with_ids, id_at, with_id, text_at, with_text, flag_at, with_flag, numbers_at, with_numbers, units_at, with_units, bool_at, with_bool, color_at, with_color, decoration_at, with_decoration, number_at, with_number, count_at, with_count, actions_at, with_actions_field};
-ghost use Rattle.script_lines.specs.ActionLists.{with_actions};
+ghost use Rattle.script_lines.specs.ActionLists.{actions_in, with_actions};
 
-use crate::actions::{add_actions, add_child_actions, has_actions, has_child_actions};
+use crate::actions::{
+    add_actions, add_child_actions, has_actions, has_child_actions, supported_actions,
+    supported_child_actions,
+};
 use crate::field_kinds::{
     ActionsField, BoolField, ColorField, CountField, DecorationField, FlagField, IdField, IdsField,
     NumberField, NumbersField, TextField, UnitsField,
 };
 use schema::{Action, Color, Node, NodeId, TextDecoration};
-use std::alloc::AllocError;
+use std::alloc::{AllocError, Global};
 
 impl IdsField {
     /// What the node has.
@@ -332,6 +335,16 @@ impl ActionsField {
         match self {
             ActionsField::Own => has_actions(node),
             ActionsField::Children => has_child_actions(node),
+        }
+    }
+
+    /// The actions that the node has, those with names first.
+    pub(crate) fn of(self, alloc: Global, node: &Node) -> Result<Vec<Action>, AllocError>
+        ensures { IfOk result (λ actions. actions.items ≡ actions_in (actions_at self node.now)) }
+    {
+        match self {
+            ActionsField::Own => supported_actions(alloc, node),
+            ActionsField::Children => supported_child_actions(alloc, node),
         }
     }
 

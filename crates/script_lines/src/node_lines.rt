@@ -3,7 +3,8 @@
 ghost use Rattle.std.specs.Prelude.{◌≡◌, Some, flat_map, option_copied};
 ghost use Rattle.schema.specs.NodeData.{NodeData};
 ghost use Rattle.schema.specs.declared.NodeId.{NodeId};
-ghost use Rattle.script_lines.specs.NodeReading.{IsNode, all_fields, node_args, piece};
+ghost use Rattle.script_lines.specs.NodeReading.{IsNode, node_args};
+ghost use Rattle.script_lines.specs.NodeText.{all_fields, piece};
 ghost use Rattle.script_lines.specs.Reading.{IsId, Reads, after};
 
 use crate::names::role_named;

@@ -1,5 +1,6 @@
 //! Programs that read a script from standard input: their streams, and their arguments.
-ghost use Rattle.std.specs.Prelude.{◌≢◌, ◌≤◌, IfErr};
+ghost use Rattle.std.specs.Prelude.{◌≢◌, ◌≤◌, ◌++◌, IfErr, codes};
+ghost use Rattle.script_lines.specs.Ends.{Tells};
 
 use crate::ends::{BAD_LINE, FAULT, tell_no_memory};
 use std::alloc::Global;
@@ -52,7 +53,7 @@ pub fn run_program<P: Program>(rt: &HostRuntime, program: &P) -> ExitCode {
 ///
 /// The exit status: 2 for such arguments, 3 where they can't be told, and 4 for want of memory.
 pub fn read_arguments<A: Arguments>(rt: &HostRuntime) -> Result<A, u8>
-    ensures { IfErr result (λ status. (status ≤ 4) × (status ≢ 0)) }
+    ensures { IfErr result (λ status. (status ≤ 4) × (status ≢ 0) × (status ≢ 1)) }
 {
     let mut errors = rt.stderr();
     let asked: Option<A> = match env::args(rt) {
@@ -71,7 +72,9 @@ pub fn read_arguments<A: Arguments>(rt: &HostRuntime) -> Result<A, u8>
 /// Tells how a program is called, and answers the exit status.
 fn tell_usage<E: Write>(usage: &str, errors: &mut E) -> u8
     ensures bound { result ≤ 4 }
+    ensures not_one { result ≢ 1 }
     ensures not_done { result ≢ 0 }
+    ensures told { Tells (E.contents errors.old) (E.contents errors.new) (usage.now ++ codes "\n") 2 result }
 {
     if writeln!(errors, "{usage}").is_err() || errors.flush().is_err() {
         return FAULT;

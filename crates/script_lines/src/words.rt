@@ -3,7 +3,7 @@
 //! Words stand with one space between them. Numbers are decimal, those of units and points with a minus sign where they are
 //! negative; a text stands in double quotes.
 
-ghost use Rattle.std.specs.Prelude.{ℕ, ℤ, ◌^◌, ◌++◌, codes, false, true, List, Option, Some, None, Ok, IsOkAnd, FitsSigned, IsSomeAnd, IfSome};
+ghost use Rattle.std.specs.Prelude.{ℕ, ℤ, ◌^◌, ◌++◌, codes, false, true, List, Option, Some, None, Ok, IsOkAnd, FitsSigned, IsSomeAnd, IfSome, ◌≡◌, ◌<◌, ◌≤◌, ◌↔◌, length, IfOk, OnOk, option_copied};
 ghost use Rattle.std.specs.Str.{IsUtf8};
 ghost use Rattle.std.specs.String.{string_bytes};
 ghost use Rattle.script_lines.specs.Quoted.{quoted};
@@ -18,19 +18,17 @@ ghost use Rattle.model.specs.declared.queries.NamedFilter.{NamedFilter};
 ghost use Rattle.model.specs.declared.queries.Move.{Move};
 ghost use Rattle.model.specs.declared.queries.At.{At};
 ghost use Rattle.schema.specs.declared.geometry.Point.{Point};
-ghost use Rattle.script_lines.specs.Reading.{IsWord, Lacks, Begins, IsTreeName, IsName, IsCount, IsNumber, IsFieldName, Reads, after, IsUnits, IsRect, IsTranslation, IsPosition, IsSelection};
+ghost use Rattle.script_lines.specs.Reading.{IsWord, Lacks, Begins, IsTreeName, IsName, IsCount, IsNumber, IsFieldName, Reads, after, IsByte, IsShort, IsUnits, IsRect, IsTranslation, IsPosition, IsSelection};
 ghost use Rattle.schema.specs.declared.geometry.Rect.{Rect};
 ghost use Rattle.schema.specs.declared.geometry.Translation.{Translation};
 ghost use Rattle.schema.specs.declared.values.TextPosition.{TextPosition};
 ghost use Rattle.schema.specs.declared.values.TextSelection.{TextSelection};
-ghost use Rattle.script_lines.specs.Quoted.{quoted};
-ghost use Rattle.std.specs.Str.{IsUtf8};
-ghost use Rattle.std.specs.String.{string_bytes};
 ghost use Rattle.std.specs.Fmt.{decimal, signed_decimal};
-ghost use Rattle.std.specs.Prelude.{◌≡◌, ◌<◌, ◌≤◌, length, IfOk, OnOk, option_copied, codes, true, false};
+ghost use Rattle.script_lines.specs.Says.{SaysNumber, SaysSigned, SaysTree};
+ghost use Rattle.script_lines.specs.SaysParts.{SaysPair, SaysPlace, SaysRect, SaysSelection, SaysTranslation};
 ghost use Rattle.script_lines.specs.Words.{left};
 
-use crate::commas::{colon_parts, comma_parts};
+use crate::cutting::{cut_at, parts_at};
 use crate::names::{filter_named, move_named, side_named};
 use crate::stops::Stop;
 use crate::unquoting::unquoted;
@@ -52,7 +50,7 @@ impl<'a> Words<'a> {
         ensures shorter { OnOk result (left (option_copied self.new.rest) < left (option_copied self.old.rest)) }
     {
         let rest = self.rest.ok_or(Stop::BadLine)?;
-        let (word, after) = first_word(rest);
+        let (word, after) = cut_at(rest, ' ');
         self.rest = after;
         if word.is_empty() {
             return Err(Stop::BadLine);
@@ -228,17 +226,6 @@ fn text_and_rest(alloc: Global, line: &str) -> Result<(String, Option<&str>), St
     Ok((text, after))
 }
 
-/// What stands before the first space, and what comes after it.
-fn first_word(line: &str) -> (&str, Option<&str>)
-    ensures reads { (text : List ℕ) (rest : Option (List ℕ)) → Lacks 32 text → line.now ≡ text ++ after rest → (result.0.now ≡ text) × (option_copied result.1 ≡ rest) }
-    ensures shorter { (length result.0.now ≤ length line.now) × (left (option_copied result.1) ≤ length line.now) }
-{
-    match line.split_once(' ') {
-        Some((word, after)) => (word, Some(after)),
-        None => (line, None),
-    }
-}
-
 /// The name of the next field and what comes after its equals sign, where a value stands in the next word.
 fn valued(line: &str) -> Option<(&str, &str)>
     ensures named { (name more : List ℕ) → IsFieldName name → line.now ≡ name ++ codes "=" ++ more → IsSomeAnd result (λ parts. (parts.0.now ≡ name) × (parts.1.now ≡ more)) }
@@ -269,6 +256,7 @@ fn after_text(rest: &str) -> Result<Option<&str>, Stop>
 /// A decimal number without a sign.
 pub fn number(word: &str) -> Option<u64>
     ensures reads { (n : ℕ) → n < 2 ^ 64 → word.now ≡ decimal n → result ≡ Some n }
+    ensures exact { (n : ℕ) → (result ≡ Some n) ↔ (IsCount n × SaysNumber word.now n) }
 {
     if word.starts_with('+') {
         return None;
@@ -279,6 +267,7 @@ pub fn number(word: &str) -> Option<u64>
 /// A decimal number, with a minus sign before a negative one.
 pub(crate) fn signed(word: &str) -> Option<i64>
     ensures reads { (z : ℤ) → FitsSigned w64 z → word.now ≡ signed_decimal z → result ≡ Some z }
+    ensures exact { (z : ℤ) → (result ≡ Some z) ↔ (IsNumber z × SaysSigned word.now z) }
 {
     if word.starts_with('+') {
         return None;
@@ -289,6 +278,7 @@ pub(crate) fn signed(word: &str) -> Option<i64>
 /// An index, or a count.
 pub(crate) fn index(word: &str) -> Option<usize>
     ensures reads { (n : ℕ) → n < 2 ^ 64 → word.now ≡ decimal n → result ≡ Some n }
+    ensures exact { (n : ℕ) → (result ≡ Some n) ↔ (IsCount n × SaysNumber word.now n) }
 {
     usize::try_from(number(word)?).ok()
 }
@@ -296,13 +286,31 @@ pub(crate) fn index(word: &str) -> Option<usize>
 /// A number of two bytes.
 pub(crate) fn short(word: &str) -> Option<u16>
     ensures reads { (n : ℕ) → n < 2 ^ 16 → word.now ≡ decimal n → result ≡ Some n }
+    ensures exact { (n : ℕ) → (result ≡ Some n) ↔ (IsShort n × SaysNumber word.now n) }
 {
     u16::try_from(number(word)?).ok()
+}
+
+/// A number of one byte.
+pub(crate) fn byte(word: &str) -> Option<u8>
+    ensures reads { (n : ℕ) → IsByte n → word.now ≡ decimal n → result ≡ Some n }
+    ensures exact { (n : ℕ) → (result ≡ Some n) ↔ (IsByte n × SaysNumber word.now n) }
+{
+    u8::try_from(number(word)?).ok()
+}
+
+/// What stands in the brackets of `Other()`.
+pub(crate) fn in_brackets(word: &str) -> Option<&str>
+    ensures reads { (inner : List ℕ) → word.now ≡ codes "Other(" ++ inner ++ codes ")" → IsSomeAnd result (λ read. read.now ≡ inner) }
+    ensures only { IfSome result (λ read. word.now ≡ codes "Other(" ++ read.now ++ codes ")") }
+{
+    word.strip_prefix("Other(")?.strip_suffix(')')
 }
 
 /// A number of units.
 pub(crate) fn units(word: &str) -> Option<i32>
     ensures reads { (z : ℤ) → FitsSigned w32 z → word.now ≡ signed_decimal z → result ≡ Some z }
+    ensures exact { (z : ℤ) → (result ≡ Some z) ↔ (IsUnits z × SaysSigned word.now z) }
 {
     i32::try_from(signed(word)?).ok()
 }
@@ -311,8 +319,9 @@ pub(crate) fn units(word: &str) -> Option<i32>
 #[tactic(auto, using(crate::proofs::CommaWords::units_lack_comma, crate::proofs::CommaWords::pair_cut))]
 fn pair(word: &str) -> Option<(i32, i32)>
     ensures reads { (x y : ℤ) → IsUnits x → IsUnits y → word.now ≡ pair_text x y → result ≡ Some (x, y) }
+    ensures only { IfSome result (λ read. IsUnits read.0 × IsUnits read.1 × SaysPair word.now read.0 read.1) }
 {
-    let (x, y) = comma_parts(word)?;
+    let (x, y) = parts_at(word, ',')?;
     Some((units(x)?, units(y)?))
 }
 
@@ -320,9 +329,10 @@ fn pair(word: &str) -> Option<(i32, i32)>
 #[tactic(auto, using(crate::proofs::CommaWords::units_lack_comma, crate::proofs::CommaWords::corners_cut))]
 pub(crate) fn rect(word: &str) -> Option<Rect>
     ensures reads { (r : Rect) → IsRect r → word.now ≡ rect_text r → result ≡ Some r }
+    ensures only { IfSome result (λ r. IsRect r × SaysRect word.now r) }
 {
-    let (x0, rest) = comma_parts(word)?;
-    let (y0, rest) = comma_parts(rest)?;
+    let (x0, rest) = parts_at(word, ',')?;
+    let (y0, rest) = parts_at(rest, ',')?;
     let (x1, y1) = pair(rest)?;
     Some(Rect {
         x0: units(x0)?,
@@ -335,6 +345,7 @@ pub(crate) fn rect(word: &str) -> Option<Rect>
 /// A move: `X,Y`.
 pub(crate) fn translation(word: &str) -> Option<Translation>
     ensures reads { (t : Translation) → IsTranslation t → word.now ≡ translation_text t → result ≡ Some t }
+    ensures only { IfSome result (λ t. IsTranslation t × SaysTranslation word.now t) }
 {
     let (x, y) = pair(word)?;
     Some(Translation { x, y })
@@ -344,8 +355,9 @@ pub(crate) fn translation(word: &str) -> Option<Translation>
 #[tactic(auto, using(crate::proofs::CommaWords::place_lacks_comma, crate::proofs::CommaWords::selection_cut))]
 pub(crate) fn selection(word: &str) -> Option<TextSelection>
     ensures reads { (s : TextSelection) → IsSelection s → word.now ≡ selection_text s → result ≡ Some s }
+    ensures only { IfSome result (λ s. IsSelection s × SaysSelection word.now s) }
 {
-    let (anchor, focus) = comma_parts(word)?;
+    let (anchor, focus) = parts_at(word, ',')?;
     Some(TextSelection {
         anchor: place(anchor)?,
         focus: place(focus)?,
@@ -356,8 +368,9 @@ pub(crate) fn selection(word: &str) -> Option<TextSelection>
 #[tactic(auto, using(crate::proofs::CommaWords::id_lacks_colon, crate::proofs::CommaWords::place_cut))]
 fn place(word: &str) -> Option<TextPosition>
     ensures reads { (p : TextPosition) → IsPosition p → word.now ≡ place_text p → result ≡ Some p }
+    ensures only { IfSome result (λ p. IsPosition p × SaysPlace word.now p) }
 {
-    let (node, character_index) = colon_parts(word)?;
+    let (node, character_index) = parts_at(word, ':')?;
     Some(TextPosition {
         node: NodeId(number(node)?),
         character_index: index(character_index)?,
@@ -368,6 +381,7 @@ fn place(word: &str) -> Option<TextPosition>
 #[tactic(auto, using(crate::proofs::TreeNames::tree_word))]
 pub fn tree_named(word: &str) -> Option<TreeId>
     ensures reads { (tree : TreeId) → IsTreeName tree → word.now ≡ tree_text tree → result ≡ Some tree }
+    ensures exact { (tree : TreeId) → (result ≡ Some tree) ↔ SaysTree word.now tree }
 {
     if word == "root" {
         return Some(TreeId::root());

@@ -1,20 +1,23 @@
 //! Writes a node's line.
-ghost use Rattle.std.specs.Prelude.{OnOk};
+ghost use Rattle.std.specs.Prelude.{◌≡◌, IfErr, IfOk, OnOk};
 ghost use Rattle.std.specs.Io.KnownBytes.{Appends};
-ghost use Rattle.script_lines.specs.FieldTexts.{own_actions_text, child_actions_text};
-ghost use Rattle.script_lines.specs.NodeText.{actions_text, fields_text, place_and_texts, flags_and_places, run_and_settings, styles_text, amounts_text, node_head, node_line};
+ghost use Rattle.script_lines.specs.FieldKinds.{field_name};
+ghost use Rattle.script_lines.specs.Lines.{StopsWriting};
+ghost use Rattle.script_lines.specs.NodeText.{fields_text, node_head, node_line, piece};
 
-use crate::actions::{supported_actions, supported_child_actions};
-use crate::stops::Stop;
-use crate::write_fields::{
-    write_braille, write_cell_texts, write_common_flags, write_control_flags, write_decorations,
-    write_font, write_kin, write_layout, write_names, write_neighbours, write_numeric,
-    write_places, write_rare_flags, write_relations, write_run, write_scrolled_across,
-    write_scrolled_down, write_set, write_settings, write_texts,
+use crate::called::{
+    aria_current_name, has_popup_name, live_name, orientation_name, sort_direction_name,
+    text_align_name, text_direction_name, toggled_name, truth_name, vertical_offset_name,
 };
-use crate::write_parts::write_actions;
+use crate::field_kinds::{Field, named_fields};
+use crate::stops::Stop;
+use crate::write_parts::{
+    write_actions, write_color, write_count, write_decoration, write_flag, write_id, write_ids,
+    write_narrow, write_number, write_numbers, write_quoted_field, write_rect, write_selection,
+    write_short, write_translation, write_tree, write_unit_list, write_word,
+};
 use schema::{Node, NodeId, Role};
-use std::alloc::Global;
+use std::alloc::{AllocError, Global};
 use std::io::{self, Write};
 
 /// Writes `node ID ROLE` and the fields of a node on a line.
@@ -25,11 +28,11 @@ pub(crate) fn write_node<O: Write>(
     node: &Node,
     out: &mut O,
 ) -> Result<(), Stop>
-    ensures { OnOk result (Appends (O.contents out.old) (O.contents out.new) (node_line id node.now)) }
+    ensures written { OnOk result (Appends (O.contents out.old) (O.contents out.new) (node_line id node.now)) }
+    ensures stops { IfErr result StopsWriting }
 {
     write_node_head(id, node.role(), out)?;
-    write_all_fields(node, out)?;
-    write_all_actions(alloc, node, out)?;
+    write_fields(alloc, node, out)?;
     out.write_all(b"\n")?;
     Ok(())
 }
@@ -42,98 +45,82 @@ fn write_node_head<O: Write>(id: NodeId, role: Role, out: &mut O) -> io::Result<
     write!(out, "node {id} {role}")
 }
 
-/// Writes all fields but the actions.
-#[tactic(auto, unfolding(crate::specs::NodeText::fields_text))]
-fn write_all_fields<O: Write>(node: &Node, out: &mut O) -> io::Result<()>
-    ensures { OnOk result (Appends (O.contents out.old) (O.contents out.new) (fields_text node.now)) }
+/// Writes the fields of a node, each where it is there.
+fn write_fields<O: Write>(alloc: Global, node: &Node, out: &mut O) -> Result<(), Stop>
+    ensures written { OnOk result (Appends (O.contents out.old) (O.contents out.new) (fields_text node.now)) }
+    ensures stops { IfErr result StopsWriting }
 {
-    write_place_and_texts(node, out)?;
-    write_flags_and_places(node, out)?;
-    write_run_and_settings(node, out)?;
-    write_styles(node, out)?;
-    write_amounts(node, out)
-}
-
-/// Writes what a node names, and its texts.
-#[tactic(auto, unfolding(crate::specs::NodeText::place_and_texts))]
-fn write_place_and_texts<O: Write>(node: &Node, out: &mut O) -> io::Result<()>
-    ensures { OnOk result (Appends (O.contents out.old) (O.contents out.new) (place_and_texts node.now)) }
-{
-    write_kin(node, out)?;
-    write_texts(node, out)?;
-    write_names(node, out)?;
-    write_braille(node, out)?;
-    write_cell_texts(node, out)
-}
-
-/// Writes flags and places.
-#[tactic(auto, unfolding(crate::specs::NodeText::flags_and_places))]
-fn write_flags_and_places<O: Write>(node: &Node, out: &mut O) -> io::Result<()>
-    ensures { OnOk result (Appends (O.contents out.old) (O.contents out.new) (flags_and_places node.now)) }
-{
-    write_common_flags(node, out)?;
-    write_control_flags(node, out)?;
-    write_rare_flags(node, out)?;
-    write_places(node, out)
-}
-
-/// Writes the fields of a text run, and what a control is set to.
-#[tactic(auto, unfolding(crate::specs::NodeText::run_and_settings))]
-fn write_run_and_settings<O: Write>(node: &Node, out: &mut O) -> io::Result<()>
-    ensures { OnOk result (Appends (O.contents out.old) (O.contents out.new) (run_and_settings node.now)) }
-{
-    write_run(node, out)?;
-    write_neighbours(node, out)?;
-    write_settings(node, out)?;
-    write_relations(node, out)
-}
-
-/// Writes how a text looks.
-#[tactic(auto, unfolding(crate::specs::NodeText::styles_text))]
-fn write_styles<O: Write>(node: &Node, out: &mut O) -> io::Result<()>
-    ensures { OnOk result (Appends (O.contents out.old) (O.contents out.new) (styles_text node.now)) }
-{
-    write_font(node, out)?;
-    write_decorations(node, out)?;
-    write_layout(node, out)
-}
-
-/// Writes the numbers of a control.
-#[tactic(auto, unfolding(crate::specs::NodeText::amounts_text))]
-fn write_amounts<O: Write>(node: &Node, out: &mut O) -> io::Result<()>
-    ensures { OnOk result (Appends (O.contents out.old) (O.contents out.new) (amounts_text node.now)) }
-{
-    write_numeric(node, out)?;
-    write_set(node, out)?;
-    write_scrolled_across(node, out)?;
-    write_scrolled_down(node, out)
-}
-
-/// Writes the actions that a node and its children support.
-#[tactic(auto, unfolding(crate::specs::NodeText::actions_text))]
-fn write_all_actions<O: Write>(alloc: Global, node: &Node, out: &mut O) -> Result<(), Stop>
-    ensures { OnOk result (Appends (O.contents out.old) (O.contents out.new) (actions_text node.now)) }
-{
-    write_own_actions(alloc, node, out)?;
-    write_child_actions(alloc, node, out)
-}
-
-/// Writes the actions that a node supports.
-#[tactic(auto, unfolding(crate::specs::FieldTexts::own_actions_text))]
-fn write_own_actions<O: Write>(alloc: Global, node: &Node, out: &mut O) -> Result<(), Stop>
-    ensures { OnOk result (Appends (O.contents out.old) (O.contents out.new) (own_actions_text node.now)) }
-{
-    let actions = supported_actions(alloc, node)?;
-    write_actions("actions", &actions, out)?;
+    for (name, field) in named_fields() {
+        write_field(alloc, node, name, *field, out)?;
+    }
     Ok(())
 }
 
-/// Writes the actions that a node's children support.
-#[tactic(auto, unfolding(crate::specs::FieldTexts::child_actions_text))]
-fn write_child_actions<O: Write>(alloc: Global, node: &Node, out: &mut O) -> Result<(), Stop>
-    ensures { OnOk result (Appends (O.contents out.old) (O.contents out.new) (child_actions_text node.now)) }
+/// Writes a field of this name, where it is there.
+fn write_field<O: Write>(
+    alloc: Global,
+    node: &Node,
+    name: &str,
+    field: Field,
+    out: &mut O,
+) -> Result<(), Stop>
+    requires { name.now ≡ field_name field }
+    ensures written { OnOk result (Appends (O.contents out.old) (O.contents out.new) (piece node.now field)) }
+    ensures stops { IfErr result StopsWriting }
 {
-    let actions = supported_child_actions(alloc, node)?;
-    write_actions("child_actions", &actions, out)?;
-    Ok(())
+    Ok(write_by_kind(alloc, node, name, field, out)??)
+}
+
+/// Writes a field of this name, where it is there, unless there is no memory for its list of actions.
+fn write_by_kind<O: Write>(
+    alloc: Global,
+    node: &Node,
+    name: &str,
+    field: Field,
+    out: &mut O,
+) -> Result<io::Result<()>, AllocError>
+    requires { name.now ≡ field_name field }
+    ensures { IfOk result (λ written. OnOk written (Appends (O.contents out.old) (O.contents out.new) (piece node.now field))) }
+{
+    match field {
+        Field::Ids(which) => Ok(write_ids(name, which.of(node), out)),
+        Field::Id(which) => Ok(write_id(name, which.of(node), out)),
+        Field::Text(which) => Ok(write_quoted_field(name, which.of(node), out)),
+        Field::Flag(which) => Ok(write_flag(name, which.is_in(node), out)),
+        Field::Numbers(which) => Ok(write_numbers(name, which.of(node), out)),
+        Field::Units(which) => Ok(write_unit_list(name, which.of(node), out)),
+        Field::Bool(which) => Ok(write_word(name, truth_name(which.of(node)), out)),
+        Field::Color(which) => Ok(write_color(name, which.of(node), out)),
+        Field::Decoration(which) => Ok(write_decoration(name, which.of(node), out)),
+        Field::Number(which) => Ok(write_number(name, which.of(node), out)),
+        Field::Count(which) => Ok(write_count(name, which.of(node), out)),
+        Field::Actions(which) => Ok(write_actions(name, &which.of(alloc, node)?, out)),
+        Field::Tree => Ok(write_tree(name, node.tree_id(), out)),
+        Field::Bounds => Ok(write_rect(name, node.bounds(), out)),
+        Field::Transform => Ok(write_translation(name, node.transform(), out)),
+        Field::Selection => Ok(write_selection(name, node.text_selection(), out)),
+        Field::Toggled => Ok(write_word(name, toggled_name(node.toggled()), out)),
+        Field::Live => Ok(write_word(name, live_name(node.live()), out)),
+        Field::Orientation => Ok(write_word(name, orientation_name(node.orientation()), out)),
+        Field::SortDirection => Ok(write_word(
+            name,
+            sort_direction_name(node.sort_direction()),
+            out,
+        )),
+        Field::AriaCurrent => Ok(write_word(name, aria_current_name(node.aria_current()), out)),
+        Field::HasPopup => Ok(write_word(name, has_popup_name(node.has_popup()), out)),
+        Field::FontSize => Ok(write_narrow(name, node.font_size(), out)),
+        Field::FontWeight => Ok(write_short(name, node.font_weight(), out)),
+        Field::TextDirection => Ok(write_word(
+            name,
+            text_direction_name(node.text_direction()),
+            out,
+        )),
+        Field::TextAlign => Ok(write_word(name, text_align_name(node.text_align()), out)),
+        Field::VerticalOffset => Ok(write_word(
+            name,
+            vertical_offset_name(node.vertical_offset()),
+            out,
+        )),
+    }
 }

@@ -1,11 +1,13 @@
 //! Writes the parts of a line: fields with their values, each with a space before it.
-#![tactic(auto, unfolding(crate::specs::Parts::flag_text, crate::specs::Parts::quoted_field, crate::specs::Parts::word_field, crate::specs::Parts::count_field, crate::specs::Parts::number_field, crate::specs::Parts::id_field, crate::specs::Parts::tree_field, crate::specs::Parts::rect_field, crate::specs::Parts::translation_field, crate::specs::Parts::selection_field, crate::specs::Parts::color_field, crate::specs::Parts::decoration_field, crate::specs::Parts::ids_field, crate::specs::Parts::numbers_field, crate::specs::Parts::some_units_field, crate::specs::Parts::unit_list_field, crate::specs::Parts::actions_field))]
+#![tactic(auto, unfolding(crate::specs::Parts::flag_text, crate::specs::Parts::word_field))]
 
-ghost use Rattle.std.specs.Prelude.{◌≡◌, OnOk, Some, flat_map, option_copied};
+ghost use Rattle.std.specs.Prelude.{◌≡◌, OnOk, Some, flat_map, option_copied, option_map};
+ghost use Rattle.std.specs.Fmt.{decimal, signed_decimal};
 ghost use Rattle.std.specs.Str.{bytes_eq};
 ghost use Rattle.std.specs.Io.KnownBytes.{Appends};
 ghost use Rattle.schema.specs.TreeIds.{root_tree_id};
-ghost use Rattle.script_lines.specs.Parts.{action_text, actions_field, color_field, color_text, comma_action, comma_id, comma_number, comma_units, count_field, decoration_field, flag_text, id_field, ids_field, number_field, numbers_field, place_text, quoted_field, rect_field, corners_text, pair_text, selection_field, some_units_field, translation_field, tree_field, tree_text, unit_list_field, word_field};
+ghost use Rattle.script_lines.specs.Parts.{action_text, actions_value, color_text, comma_action, comma_id, comma_number, comma_units, corners_text, decoration_text, field_text, flag_text, id_text, ids_value, numbers_value, pair_text, place_text, rect_text, selection_text, translation_text, tree_text, units_text, word_field};
+ghost use Rattle.script_lines.specs.Quoted.{quoted};
 
 use crate::called::decoration_style_name;
 use crate::quoted::write_quoted;
@@ -31,7 +33,7 @@ pub(crate) fn write_quoted_field<O: Write>(
     value: Option<&str>,
     out: &mut O,
 ) -> io::Result<()>
-    ensures { OnOk result (Appends (O.contents out.old) (O.contents out.new) (quoted_field name.now (option_copied value.entry))) }
+    ensures { OnOk result (Appends (O.contents out.old) (O.contents out.new) (word_field name.now (option_map quoted (option_copied value.entry)))) }
 {
     let Some(text) = value else {
         return Ok(());
@@ -43,7 +45,7 @@ pub(crate) fn write_quoted_field<O: Write>(
 
 /// Writes a field that is a count, where there is one.
 pub(crate) fn write_count<O: Write>(name: &str, value: Option<usize>, out: &mut O) -> io::Result<()>
-    ensures { OnOk result (Appends (O.contents out.old) (O.contents out.new) (count_field name.now value)) }
+    ensures { OnOk result (Appends (O.contents out.old) (O.contents out.new) (word_field name.now (option_map decimal value))) }
 {
     let Some(count) = value else {
         return Ok(());
@@ -53,7 +55,7 @@ pub(crate) fn write_count<O: Write>(name: &str, value: Option<usize>, out: &mut 
 
 /// Writes a field that is a number of four bytes, where there is one.
 pub(crate) fn write_narrow<O: Write>(name: &str, value: Option<u32>, out: &mut O) -> io::Result<()>
-    ensures { OnOk result (Appends (O.contents out.old) (O.contents out.new) (count_field name.now value)) }
+    ensures { OnOk result (Appends (O.contents out.old) (O.contents out.new) (word_field name.now (option_map decimal value))) }
 {
     let Some(number) = value else {
         return Ok(());
@@ -63,7 +65,7 @@ pub(crate) fn write_narrow<O: Write>(name: &str, value: Option<u32>, out: &mut O
 
 /// Writes a field that is a number of two bytes, where there is one.
 pub(crate) fn write_short<O: Write>(name: &str, value: Option<u16>, out: &mut O) -> io::Result<()>
-    ensures { OnOk result (Appends (O.contents out.old) (O.contents out.new) (count_field name.now value)) }
+    ensures { OnOk result (Appends (O.contents out.old) (O.contents out.new) (word_field name.now (option_map decimal value))) }
 {
     let Some(number) = value else {
         return Ok(());
@@ -73,7 +75,7 @@ pub(crate) fn write_short<O: Write>(name: &str, value: Option<u16>, out: &mut O)
 
 /// Writes a field that is a number, where there is one.
 pub(crate) fn write_number<O: Write>(name: &str, value: Option<i64>, out: &mut O) -> io::Result<()>
-    ensures { OnOk result (Appends (O.contents out.old) (O.contents out.new) (number_field name.now value)) }
+    ensures { OnOk result (Appends (O.contents out.old) (O.contents out.new) (word_field name.now (option_map signed_decimal value))) }
 {
     let Some(number) = value else {
         return Ok(());
@@ -83,7 +85,7 @@ pub(crate) fn write_number<O: Write>(name: &str, value: Option<i64>, out: &mut O
 
 /// Writes a field that is a node's id, where there is one.
 pub(crate) fn write_id<O: Write>(name: &str, value: Option<NodeId>, out: &mut O) -> io::Result<()>
-    ensures { OnOk result (Appends (O.contents out.old) (O.contents out.new) (id_field name.now value)) }
+    ensures { OnOk result (Appends (O.contents out.old) (O.contents out.new) (word_field name.now (option_map id_text value))) }
 {
     let Some(id) = value else {
         return Ok(());
@@ -119,7 +121,7 @@ impl fmt::Display for MoreIds<'_> {
 
 /// Writes a field that is a list of ids, where there are any.
 pub(crate) fn write_ids<O: Write>(name: &str, ids: &[NodeId], out: &mut O) -> io::Result<()>
-    ensures { OnOk result (Appends (O.contents out.old) (O.contents out.new) (ids_field name.now ids.now)) }
+    ensures { OnOk result (Appends (O.contents out.old) (O.contents out.new) (word_field name.now (ids_value ids.now))) }
 {
     let Some((first, others)) = ids.split_first() else {
         return Ok(());
@@ -147,7 +149,7 @@ impl fmt::Display for MoreNumbers<'_> {
 
 /// Writes a field that is a list of numbers, where there are any.
 pub(crate) fn write_numbers<O: Write>(name: &str, numbers: &[u16], out: &mut O) -> io::Result<()>
-    ensures { OnOk result (Appends (O.contents out.old) (O.contents out.new) (numbers_field name.now numbers.now)) }
+    ensures { OnOk result (Appends (O.contents out.old) (O.contents out.new) (word_field name.now (numbers_value numbers.now))) }
 {
     let Some((first, others)) = numbers.split_first() else {
         return Ok(());
@@ -179,7 +181,7 @@ pub(crate) fn write_unit_list<O: Write>(
     value: Option<&[i32]>,
     out: &mut O,
 ) -> io::Result<()>
-    ensures { OnOk result (Appends (O.contents out.old) (O.contents out.new) (unit_list_field name.now (option_copied value.entry))) }
+    ensures { OnOk result (Appends (O.contents out.old) (O.contents out.new) (word_field name.now (option_map units_text (option_copied value.entry)))) }
 {
     let Some(numbers) = value else {
         return Ok(());
@@ -189,7 +191,7 @@ pub(crate) fn write_unit_list<O: Write>(
 
 /// Writes a field that is a list of numbers of units; `-` is one without numbers.
 pub(crate) fn write_some_units<O: Write>(name: &str, numbers: &[i32], out: &mut O) -> io::Result<()>
-    ensures { OnOk result (Appends (O.contents out.old) (O.contents out.new) (some_units_field name.now numbers.now)) }
+    ensures { OnOk result (Appends (O.contents out.old) (O.contents out.new) (field_text name.now (units_text numbers.now))) }
 {
     let Some((first, others)) = numbers.split_first() else {
         return write!(out, " {name}=-");
@@ -235,7 +237,7 @@ impl fmt::Display for MoreActions<'_> {
 
 /// Writes a field that is a set of actions, where there are any.
 pub(crate) fn write_actions<O: Write>(name: &str, actions: &[Action], out: &mut O) -> io::Result<()>
-    ensures { OnOk result (Appends (O.contents out.old) (O.contents out.new) (actions_field name.now actions.now)) }
+    ensures { OnOk result (Appends (O.contents out.old) (O.contents out.new) (word_field name.now (actions_value actions.now))) }
 {
     let Some((first, others)) = actions.split_first() else {
         return Ok(());
@@ -277,7 +279,7 @@ impl fmt::Display for ShownRect {
 
 /// Writes a field that is a rectangle, where there is one.
 pub(crate) fn write_rect<O: Write>(name: &str, value: Option<Rect>, out: &mut O) -> io::Result<()>
-    ensures { OnOk result (Appends (O.contents out.old) (O.contents out.new) (rect_field name.now value)) }
+    ensures { OnOk result (Appends (O.contents out.old) (O.contents out.new) (word_field name.now (option_map rect_text value))) }
 {
     let Some(rect) = value else {
         return Ok(());
@@ -293,7 +295,7 @@ pub(crate) fn write_translation<O: Write>(
     value: Option<Translation>,
     out: &mut O,
 ) -> io::Result<()>
-    ensures { OnOk result (Appends (O.contents out.old) (O.contents out.new) (translation_field name.now value)) }
+    ensures { OnOk result (Appends (O.contents out.old) (O.contents out.new) (word_field name.now (option_map translation_text value))) }
 {
     let Some(moved) = value else {
         return Ok(());
@@ -322,7 +324,7 @@ pub(crate) fn write_selection<O: Write>(
     value: Option<TextSelection>,
     out: &mut O,
 ) -> io::Result<()>
-    ensures { OnOk result (Appends (O.contents out.old) (O.contents out.new) (selection_field name.now value)) }
+    ensures { OnOk result (Appends (O.contents out.old) (O.contents out.new) (word_field name.now (option_map selection_text value))) }
 {
     let Some(selection) = value else {
         return Ok(());
@@ -352,7 +354,7 @@ impl fmt::Display for ShownColor {
 
 /// Writes a field that is a colour, where there is one.
 pub(crate) fn write_color<O: Write>(name: &str, value: Option<Color>, out: &mut O) -> io::Result<()>
-    ensures { OnOk result (Appends (O.contents out.old) (O.contents out.new) (color_field name.now value)) }
+    ensures { OnOk result (Appends (O.contents out.old) (O.contents out.new) (word_field name.now (option_map color_text value))) }
 {
     let Some(color) = value else {
         return Ok(());
@@ -367,7 +369,7 @@ pub(crate) fn write_decoration<O: Write>(
     value: Option<TextDecoration>,
     out: &mut O,
 ) -> io::Result<()>
-    ensures { OnOk result (Appends (O.contents out.old) (O.contents out.new) (decoration_field name.now value)) }
+    ensures { OnOk result (Appends (O.contents out.old) (O.contents out.new) (word_field name.now (option_map decoration_text value))) }
 {
     let Some(decoration) = value else {
         return Ok(());
@@ -402,7 +404,7 @@ fn is_root(tree: TreeId) -> bool
 
 /// Writes a field that is the name of a tree, where there is one.
 pub(crate) fn write_tree<O: Write>(name: &str, value: Option<TreeId>, out: &mut O) -> io::Result<()>
-    ensures { OnOk result (Appends (O.contents out.old) (O.contents out.new) (tree_field name.now value)) }
+    ensures { OnOk result (Appends (O.contents out.old) (O.contents out.new) (word_field name.now (option_map tree_text value))) }
 {
     let Some(tree) = value else {
         return Ok(());

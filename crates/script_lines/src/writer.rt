@@ -1,8 +1,8 @@
 //! Writes commands as lines of a script.
-ghost use Rattle.std.specs.Prelude.{OnOk, option_map, flat_map};
+ghost use Rattle.std.specs.Prelude.{IfErr, OnOk, option_map, flat_map};
 ghost use Rattle.std.specs.Io.KnownBytes.{Appends};
 ghost use Rattle.schema.specs.UpdateData.{info_data, update_data};
-ghost use Rattle.script_lines.specs.Lines.{update_head, info_text, entry_line, update_lines, host_line, command_lines};
+ghost use Rattle.script_lines.specs.Lines.{StopsWriting, update_head, info_text, entry_line, update_lines, host_line, command_lines};
 
 use crate::reader::ScriptCommand;
 use crate::stops::Stop;
@@ -27,7 +27,8 @@ pub fn write_command<O: Write>(
     command: &ScriptCommand,
     out: &mut O,
 ) -> Result<(), Stop>
-    ensures { OnOk result (Appends (O.contents out.old) (O.contents out.new) (command_lines command.now)) }
+    ensures written { OnOk result (Appends (O.contents out.old) (O.contents out.new) (command_lines command.now)) }
+    ensures stops { IfErr result StopsWriting }
 {
     match command {
         ScriptCommand::Update(update) => write_update(alloc, update, out),
@@ -43,7 +44,8 @@ pub fn write_command<O: Write>(
 ///
 /// As [`write_command`].
 pub fn write_update<O: Write>(alloc: Global, update: &TreeUpdate, out: &mut O) -> Result<(), Stop>
-    ensures { OnOk result (Appends (O.contents out.old) (O.contents out.new) (update_lines (update_data update.now))) }
+    ensures written { OnOk result (Appends (O.contents out.old) (O.contents out.new) (update_lines (update_data update.now))) }
+    ensures stops { IfErr result StopsWriting }
 {
     write_head(update, out)?;
     write_nodes(alloc, &update.nodes, out)?;
@@ -87,7 +89,8 @@ fn write_info<O: Write>(info: &TreeInfo, out: &mut O) -> io::Result<()>
 
 /// Writes the lines of nodes.
 fn write_nodes<O: Write>(alloc: Global, nodes: &[(NodeId, Node)], out: &mut O) -> Result<(), Stop>
-    ensures { OnOk result (Appends (O.contents out.old) (O.contents out.new) (flat_map entry_line nodes.now)) }
+    ensures written { OnOk result (Appends (O.contents out.old) (O.contents out.new) (flat_map entry_line nodes.now)) }
+    ensures stops { IfErr result StopsWriting }
 {
     for entry in nodes {
         write_node(alloc, entry.0, &entry.1, out)?;

@@ -26,5 +26,5 @@ unnamed c move.DocumentEnd e = c.in_default.not-document_end e
 unnamed c move.BackwardToPageStart e = c.in_default.not-backward_to_page_start e
 unnamed c move.DocumentStart e = c.in_default.not-document_start e
 
-pub returns-in_default : goal.returns-in_default
-returns-in_default c = record { reads = λ value e. absurd (unnamed c value e) }
+pub returns-in_default-clause-reads : goal.returns-in_default-clause-reads
+returns-in_default-clause-reads c = λ value e. absurd (unnamed c value e)

@@ -1,6 +1,7 @@
 use Rattle.std.proofs.Common.{◌≡◌, flat_map, option_copied}
 use Rattle.schema.specs.NodeData.{NodeData}
-use Rattle.script_lines.specs.NodeReading.{IsNode, all_fields, piece}
+use Rattle.script_lines.specs.NodeReading.{IsNode}
+use Rattle.script_lines.specs.NodeText.{all_fields, piece}
 use Rattle.script_lines.specs.Reading.{after}
 use Rattle.script_lines.specs.Words.{left}
 use Rattle.script_lines.proofs.NodeLoop.{IsRead}

@@ -1,6 +1,7 @@
 use Rattle.std.proofs.Common.{rules, ◌≡◌, ◌++◌, ⊎_elim, Some, option_copied, sym, subst}
 use Rattle.script_lines.specs.FieldKinds.{field_name}
-use Rattle.script_lines.specs.NodeReading.{IsWithout, value_of, with_field}
+use Rattle.script_lines.specs.NodeReading.{IsWithout, with_field}
+use Rattle.script_lines.specs.NodeText.{value_of}
 use Rattle.script_lines.specs.Reading.{after}
 use Rattle.script_lines.proofs.FieldNames.{same_name}
 use Rattle.script_lines.proofs.Pieces.{piece_cases, name_is_word}

@@ -1,5 +1,6 @@
 use Rattle.std.proofs.Common.{◌≡◌, Some, option_copied, ap, sym, subst, ◌∙◌}
-use Rattle.script_lines.specs.NodeReading.{IsWithout, value_of, with_field}
+use Rattle.script_lines.specs.NodeReading.{IsWithout, with_field}
+use Rattle.script_lines.specs.NodeText.{value_of}
 use Rattle.script_lines.proofs.GivenValues.{as_field, given_ids_field, given_id, given_text, given_numbers_field, given_units, given_bool, given_color, given_decoration, given_number, given_count, given_actions_field, given_tree, given_bounds, given_transform, given_selection, given_toggled, given_live, given_orientation, given_sort_direction, given_aria_current, given_has_popup, given_font_size, given_font_weight, given_text_direction, given_text_align, given_vertical_offset}
 use Rattle.script_lines.proofs.words.Words.value.Goals as goal
 
