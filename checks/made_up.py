@@ -5,7 +5,7 @@ import uuid
 from collections import Counter, namedtuple
 
 from model import ROOT, children, node_named, places, root_of
-from model_scripts import NODE_FIELDS, Play, text_line, units
+from model_scripts import NODE_FIELDS, Play, field_word
 from model_texts import (
     HOLDS_TEXT,
     LABELLED_FROM_WITHIN,
@@ -193,20 +193,9 @@ def field_words(fields, dice):
     """Fields that are given, in any order."""
     words = []
     for name, value in fields:
-        if value is True:
-            words.append(name)
-        elif NODE_FIELDS.get(name) is str and value is not None:
-            words.append(f"{name}={text_line(value)}")
-        elif name == "selection" and value:
-            words.append(f"{name}={','.join(f'{node}:{index}' for node, index in value)}")
-        elif isinstance(value, frozenset) and value:
-            words.append(f"{name}={','.join(dice.sample(sorted(value), len(value)))}")
-        elif value == () and NODE_FIELDS.get(name) is units:
-            words.append(f"{name}=-")
-        elif isinstance(value, tuple) and value:
-            words.append(f"{name}={','.join(map(str, value))}")
-        elif not isinstance(value, (tuple, frozenset, bool)) and value is not None:
-            words.append(f"{name}={value}")
+        if isinstance(value, frozenset):
+            value = dice.sample(sorted(value), len(value))
+        words += field_word(name, value)
     dice.shuffle(words)
     return words
 

@@ -1,7 +1,7 @@
 """What the program `record` writes of a script: each of its commands anew, with the fields of a line in a fixed order."""
 
 from model import ROOT
-from model_scripts import NODE_FIELDS, QUESTIONS, UPDATE_FIELDS, BadLine, Play, Words, number, read_node, text_line, tree_name, units
+from model_scripts import QUESTIONS, UPDATE_FIELDS, BadLine, Play, Words, field_word, number, read_node, tree_name
 
 # A node's fields in the order in which they are written.
 ORDER = (
@@ -29,36 +29,24 @@ def action_place(action):
     return NAMED_ACTIONS.index(action) if action in NAMED_ACTIONS else len(NAMED_ACTIONS) + int(action[6:-1])
 
 
-def field_word(name, value):
-    """A field with its value, or nothing where it is absent."""
-    if value is None or value is False or value == () and NODE_FIELDS[name] is not units or value == frozenset():
-        return []
-    if value is True:
-        return [name]
-    if NODE_FIELDS.get(name, UPDATE_FIELDS.get(name)) is str:
-        return [f"{name}={text_line(value)}"]
-    if name == "tree":
-        return [f"{name}={tree_word(value)}"]
-    if name == "selection":
-        value = [f"{node}:{index}" for node, index in value]
+def given(name, value):
+    """What is given of a field: of a tree its name, and actions in their order."""
     if isinstance(value, frozenset):
-        value = sorted(value, key=action_place)
-    if isinstance(value, (tuple, list)):
-        return [f"{name}={','.join(map(str, value)) or '-'}"]
-    return [f"{name}={value}"]
+        return sorted(value, key=action_place)
+    return tree_word(value) if name == "tree" else value
 
 
 def node_line(words):
     """A node's line."""
     id, node = read_node(words)
-    return ["node", str(id), node.role, *(word for name in ORDER for word in field_word(name, getattr(node, name)))]
+    fields = [(name, given(name, getattr(node, name))) for name in ORDER]
+    return ["node", str(id), node.role, *(word for name, value in fields for word in field_word(name, value))]
 
 
 def update_line(words):
     """The line that begins an update."""
     tree, fields = tree_name(words.word()), words.fields(UPDATE_FIELDS)
-    given = [(name, fields.get(name)) for name in UPDATE_FIELDS]
-    return ["update", tree_word(tree), *(word for name, value in given for word in field_word(name, value))]
+    return ["update", tree_word(tree), *(word for name in UPDATE_FIELDS for word in field_word(name, fields.get(name)))]
 
 
 def question_line(word, words):

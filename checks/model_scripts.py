@@ -304,6 +304,22 @@ def read_node(words):
     return number(words.word()), Node(role(words.word()), **words.fields(NODE_FIELDS))
 
 
+def field_word(name, value):
+    """The word of a field with its value, in a list that is empty where the field is absent."""
+    kind = NODE_FIELDS.get(name, UPDATE_FIELDS.get(name))
+    if value is None or value is False or value in ((), []) and kind is not units:
+        return []
+    if value is True:
+        return [name]
+    if kind is str:
+        return [f"{name}={text_line(value)}"]
+    if name == "selection":
+        value = [f"{node}:{index}" for node, index in value]
+    if isinstance(value, (tuple, list)):
+        value = ",".join(map(str, value)) or "-"
+    return [f"{name}={value}"]
+
+
 # ---- answers
 
 

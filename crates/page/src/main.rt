@@ -15,26 +15,9 @@ mod sections;
 mod sheet;
 mod words;
 
-use atree_script::{Program, run_program};
-use pager::write_page;
-use std::alloc::Global;
-use std::io::{BufRead, Write};
+use atree_script::run_program;
+use pager::Page;
 use std::process::ExitCode;
-
-/// Writes a page of a script. It has no arguments.
-struct Page;
-
-impl Program for Page {
-    fn run<R: BufRead, O: Write, E: Write>(
-        &self,
-        alloc: Global,
-        input: &mut R,
-        output: &mut O,
-        errors: &mut E,
-    ) -> u8 {
-        write_page(alloc, input, output, errors)
-    }
-}
 
 fn main(rt: HostRuntime) -> ExitCode {
     run_program(&rt, &Page)

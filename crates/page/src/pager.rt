@@ -8,28 +8,34 @@ use crate::places::places;
 use crate::reported::Reporter;
 use crate::sections::{Cause, Outcome, Summary, begin_state, write_end, write_head, write_outcome};
 use accesskit_consumer::{StateRef, UpdateError};
-use atree_script::{Player, Stop, end_run, play};
+use atree_script::{Player, Program, Stop, end_run, play};
 use session::{Command, Reply, Session};
 use std::alloc::Global;
 use std::io::{BufRead, Write};
 
-/// Runs a script to its end, or to what stops it, and writes a page of the states of its tree: one for each update, and for
-/// each change of the host's focus once there is a tree. Answers the exit status as `atree` does: 0 at the end of the input;
-/// 2 for a line that is not read, whose number is told on `errors`; 3 for an error of the input or an output; 4 for want of
-/// memory while a line is read or a state is written, which is told on `errors` too. Where the output gives no error, the page
-/// is ended in each case, and says why; after an error of the output nothing more is written. An update that finds no memory
-/// is refused, and the script goes on.
-pub(crate) fn write_page<R: BufRead, O: Write, E: Write>(
-    alloc: Global,
-    input: &mut R,
-    output: &mut O,
-    errors: &mut E,
-) -> u8
-    ensures bound { result ≤ 4 }
-    ensures not_one { result ≢ 1 }
-{
-    let (ended, number) = play_page(alloc, input, output);
-    end_run(ended, number, output, errors)
+/// Writes a page of a script. It has no arguments.
+pub(crate) struct Page;
+
+impl Program for Page {
+    /// Runs a script to its end, or to what stops it, and writes a page of the states of its tree: one for each update, and for
+    /// each change of the host's focus once there is a tree. Answers the exit status as `atree` does: 0 at the end of the input;
+    /// 2 for a line that is not read, whose number is told on `errors`; 3 for an error of the input or an output; 4 for want of
+    /// memory while a line is read or a state is written, which is told on `errors` too. Where the output gives no error, the page
+    /// is ended in each case, and says why; after an error of the output nothing more is written. An update that finds no memory
+    /// is refused, and the script goes on.
+    fn run<R: BufRead, O: Write, E: Write>(
+        &self,
+        alloc: Global,
+        input: &mut R,
+        output: &mut O,
+        errors: &mut E,
+    ) -> u8
+        ensures bound { result ≤ 4 }
+        ensures not_one { result ≢ 1 }
+    {
+        let (ended, number) = play_page(alloc, input, output);
+        end_run(ended, number, output, errors)
+    }
 }
 
 /// Runs a script, and writes its page. Answers how the run ended, and the number of the last line that was read.

@@ -7,7 +7,7 @@ ghost use Rattle.page.specs.Known.{secrets, is_in_secret};
 ghost use Rattle.page.specs.Written.{IsNoneOr};
 
 use accesskit_consumer::{FilterResult, NodeRef};
-use schema::Toggled;
+use phrases::{expanded_word, selected_word, switched_word, where_it_is};
 use std::alloc::{AllocError, Global};
 
 /// Includes password inputs alone.
@@ -82,47 +82,17 @@ pub(crate) fn caption(
     }
 }
 
-/// The word, where it is so.
-fn word_if(is_so: bool, word: &'static str) -> Option<&'static str> {
-    if is_so { Some(word) } else { None }
-}
-
-/// Whether the node is on, where it can be toggled.
-fn toggled_word(node: &NodeRef) -> Option<&'static str> {
-    match node.toggled()? {
-        Toggled::True => Some("on"),
-        Toggled::False => Some("off"),
-        Toggled::Mixed => Some("partly on"),
-    }
-}
-
-/// Whether the node is expanded, where it can be.
-fn expanded_word(node: &NodeRef) -> Option<&'static str> {
-    if node.data().is_expanded()? {
-        return Some("expanded");
-    }
-    Some("collapsed")
-}
-
-/// Whether the node is selected, where it can be.
-fn selected_word(node: &NodeRef) -> Option<&'static str> {
-    if node.is_selected()? {
-        return Some("selected");
-    }
-    Some("not selected")
-}
-
 /// What is said of the node in a word each.
 pub(crate) fn state_words(node: &NodeRef) -> [Option<&'static str>; 8] {
     let is_read_only = node.is_read_only_supported() && node.is_read_only();
     [
-        toggled_word(node),
-        expanded_word(node),
-        selected_word(node),
-        word_if(node.is_disabled(), "disabled"),
-        word_if(is_read_only, "read-only"),
-        word_if(node.is_required(), "required"),
-        word_if(node.is_busy(), "busy"),
-        word_if(node.is_modal(), "modal"),
+        node.toggled().map(|toggled| switched_word(toggled)),
+        node.data().is_expanded().map(|is| expanded_word(is)),
+        node.is_selected().map(|is| selected_word(is)),
+        where_it_is(node.is_disabled(), "disabled"),
+        where_it_is(is_read_only, "read-only"),
+        where_it_is(node.is_required(), "required"),
+        where_it_is(node.is_busy(), "busy"),
+        where_it_is(node.is_modal(), "modal"),
     ]
 }

@@ -20,5 +20,8 @@ pub use numbers::Thousandths;
 pub use quoted::Quoted;
 pub use roles::{role_word, toggling_of};
 pub use sayings::{Dialog, Saying};
-pub use states::{State, Toggling, expanded_change, flag_change, selected_change, toggled_change};
+pub use states::{
+    State, Toggling, expanded_change, expanded_word, flag_change, selected_change, selected_word,
+    switched_word, toggled_change, where_it_is,
+};
 pub use voice::Voice;

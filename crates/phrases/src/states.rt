@@ -51,7 +51,7 @@ fn pressed_word(toggled: Toggled) -> &'static str
 }
 
 /// Whether a control is on.
-fn switched_word(toggled: Toggled) -> &'static str
+pub fn switched_word(toggled: Toggled) -> &'static str
     ensures { result.now ≡ switched_word toggled }
 {
     match toggled {
@@ -73,14 +73,14 @@ fn toggled_word(toggling: Toggling, toggled: Toggled) -> &'static str
 }
 
 /// What something that can be expanded is called.
-fn expanded_word(is_expanded: bool) -> &'static str
+pub fn expanded_word(is_expanded: bool) -> &'static str
     ensures { result.now ≡ expanded_word is_expanded }
 {
     if is_expanded { "expanded" } else { "collapsed" }
 }
 
 /// What something that can be selected is called.
-fn selected_word(is_selected: bool) -> &'static str
+pub fn selected_word(is_selected: bool) -> &'static str
     ensures { result.now ≡ selected_word is_selected }
 {
     if is_selected {
@@ -91,7 +91,7 @@ fn selected_word(is_selected: bool) -> &'static str
 }
 
 /// A word where it applies.
-fn where_it_is(is: bool, word: &'static str) -> Option<&'static str>
+pub fn where_it_is(is: bool, word: &'static str) -> Option<&'static str>
     ensures { option_copied result ≡ where_it_is is word.now }
 {
     if is { Some(word) } else { None }

@@ -6,6 +6,7 @@ mod fields;
 mod growing;
 pub mod ids;
 pub mod made_up;
+pub mod placed;
 pub mod recorder;
 pub mod small_texts;
 pub mod updates;

@@ -6,26 +6,32 @@ ghost use Rattle.speak.specs.Steps.{IsBegun, StepsHeard, SaysAtEnd, SpokenStep};
 
 use accesskit_consumer::StateRef;
 use accesskit_consumer::tree::{Mirror, UpdateError};
-use atree_script::{Player, Stop, end_run, play};
+use atree_script::{Player, Program, Stop, end_run, play};
 use session::{Command, Reply, Session};
 use speaking::Speaker;
 use std::alloc::Global;
 use std::io::{BufRead, Write};
 
-/// Runs a script to its end, or to what stops it, and writes what a screen reader would say of it. Answers the exit status, as
-/// [`atree_script::run_script`] has it; an update that finds no memory is an end too, since what it would have said is lost.
-/// What is asked and printed in the script says nothing.
-pub(crate) fn speak<R: BufRead, O: Write, E: Write>(
-    alloc: Global,
-    input: &mut R,
-    output: &mut O,
-    errors: &mut E,
-) -> u8
-    ensures bound { result ≤ 4 }
-    ensures not_one { result ≢ 1 }
-{
-    let (ended, number) = play_aloud(alloc, input, output);
-    end_run(ended, number, output, errors)
+/// Says what a script does. It has no arguments.
+pub(crate) struct Speak;
+
+impl Program for Speak {
+    /// Runs a script to its end, or to what stops it, and writes what a screen reader would say of it. Answers the exit status, as
+    /// [`atree_script::run_script`] has it; an update that finds no memory is an end too, since what it would have said is lost.
+    /// What is asked and printed in the script says nothing.
+    fn run<R: BufRead, O: Write, E: Write>(
+        &self,
+        alloc: Global,
+        input: &mut R,
+        output: &mut O,
+        errors: &mut E,
+    ) -> u8
+        ensures bound { result ≤ 4 }
+        ensures not_one { result ≢ 1 }
+    {
+        let (ended, number) = play_aloud(alloc, input, output);
+        end_run(ended, number, output, errors)
+    }
 }
 
 /// Runs a script, and writes what a screen reader would say of it. Answers how the run ended, and the number of the last line that

@@ -4,26 +4,9 @@
 
 mod adapter;
 
-use crate::adapter::speak;
-use atree_script::{Program, run_program};
-use std::alloc::Global;
-use std::io::{BufRead, Write};
+use crate::adapter::Speak;
+use atree_script::run_program;
 use std::process::ExitCode;
-
-/// Says what a script does. It has no arguments.
-struct Speak;
-
-impl Program for Speak {
-    fn run<R: BufRead, O: Write, E: Write>(
-        &self,
-        alloc: Global,
-        input: &mut R,
-        output: &mut O,
-        errors: &mut E,
-    ) -> u8 {
-        speak(alloc, input, output, errors)
-    }
-}
 
 fn main(rt: HostRuntime) -> ExitCode {
     run_program(&rt, &Speak)

@@ -126,13 +126,11 @@ fn fields_are_taken_back(rt: HostRuntime) -> Result<(), Fail> {
     Ok(())
 }
 
-/// A list that has two children and a label.
-fn list(alloc: Global) -> Result<Node, AllocError> {
-    let mut node = Node::new(alloc, Role::List);
-    node.push_child(NodeId(1))?;
-    node.push_child(NodeId(2))?;
-    node.push_labelled_by(NodeId(3))?;
-    Ok(node)
+/// Gives a list two children and a label.
+fn fill(list: &mut Node) -> Result<(), AllocError> {
+    list.push_child(NodeId(1))?;
+    list.push_child(NodeId(2))?;
+    list.push_labelled_by(NodeId(3))
 }
 
 /// Takes them from it.
@@ -141,14 +139,28 @@ fn empty(node: &mut Node) -> Result<(), AllocError> {
     node.set_labelled_by([].as_slice())
 }
 
-#[test]
-fn lists_are_set_and_emptied(rt: HostRuntime) -> Result<(), Fail> {
-    let mut node = list(rt.alloc())?;
-    assert!(rt; node.children() == [NodeId(1), NodeId(2)].as_slice());
-    assert!(rt; node.labelled_by() == [NodeId(3)].as_slice());
-    empty(&mut node)?;
-    assert!(rt; node == Node::new(rt.alloc(), Role::List));
+fn assert_filled(rt: &impl Abort, list: &Node) {
+    assert!(rt; list.children() == [NodeId(1), NodeId(2)].as_slice());
+    assert!(rt; list.labelled_by() == [NodeId(3)].as_slice());
+}
+
+/// Asserts what a list has that is filled, and that it is a new one once it is emptied.
+fn assert_filled_and_emptied(
+    rt: &impl Abort,
+    alloc: Global,
+    list: &mut Node,
+) -> Result<(), AllocError> {
+    fill(list)?;
+    assert_filled(rt, list);
+    empty(list)?;
+    assert!(rt; *list == Node::new(alloc, Role::List));
     Ok(())
+}
+
+#[test]
+fn lists_are_set_and_emptied(rt: HostRuntime) -> Result<(), AllocError> {
+    let mut list = Node::new(rt.alloc(), Role::List);
+    assert_filled_and_emptied(&rt, rt.alloc(), &mut list)
 }
 
 /// A run that is set by wide numbers.
@@ -256,13 +268,25 @@ fn is_info(info: &TreeInfo) -> bool {
         && info.toolkit_version.as_deref() == Some("2")
 }
 
+/// Whether a copy has what the update has.
+fn is_copy(copy: &TreeUpdate, update: &TreeUpdate) -> bool {
+    copy.nodes == update.nodes && copy.tree_id == TreeId(Uuid::nil()) && copy.focus == NodeId(8)
+}
+
+/// Whether the update has the tree info that was sent.
+fn has_info(update: &TreeUpdate) -> bool {
+    match &update.tree {
+        Some(info) => is_info(info),
+        None => false,
+    }
+}
+
 #[test]
 fn updates_are_copied(rt: HostRuntime) -> Result<(), Fail> {
     let update = update(rt.alloc())?;
     let copy = update.clone(rt.alloc())?;
-    assert!(rt; copy.nodes == update.nodes);
-    assert!(rt; copy.tree_id == TreeId(Uuid::nil()) && copy.focus == NodeId(8));
-    assert!(rt; is_info(copy.tree.as_ref().ok_or("no tree info")?));
+    assert!(rt; is_copy(&copy, &update));
+    assert!(rt; has_info(&copy));
     Ok(())
 }
 

@@ -10,6 +10,7 @@ use schema::{NodeId, TreeId};
 use session::{At, Command, Query, Reply, Session, Side};
 use sketches::Sent;
 use sketches::ids::id;
+use sketches::placed::{Placed, has_places};
 use sketches::recorder::{Id, Recorder, Told, pair};
 use std::alloc::{AllocError, Global};
 use std::collections::BTreeMap;
@@ -68,7 +69,7 @@ pub fn mirrors(mirror: &Mirror, state: StateRef) -> bool {
 struct Followed {
     name: &'static str,
     sent: &'static [Sent],
-    places: &'static [(Id, Option<(Id, usize)>)],
+    places: &'static [Placed],
     focus: Id,
 }
 
@@ -175,30 +176,6 @@ fn is_mirrored_update(alloc: Global, both: &mut Beside, sent: Sent) -> Result<bo
     let update = Command::Update(sent.update(alloc)?);
     let reply = run_one(alloc, &mut both.session, &mut both.mirror, update)?;
     Ok(reply == Reply::Accepted && is_mirror_of(&both.mirror, &both.session))
-}
-
-/// Where a node is, if there is a record of it.
-fn place_in(records: &Records, id: FullNodeId) -> Option<Option<(Id, usize)>> {
-    match records.get(&id) {
-        Some(record) => Some(match record.place {
-            Some((parent, index)) => Some((pair(parent), index)),
-            None => None,
-        }),
-        None => None,
-    }
-}
-
-/// Whether the mirror has these nodes at their places, and no others.
-fn has_places(mirror: &Mirror, places: &[(Id, Option<(Id, usize)>)]) -> bool {
-    let Some(records) = mirror.records() else {
-        return false;
-    };
-    for ((tree, node), place) in places {
-        if place_in(records, id(*tree, *node)) != Some(*place) {
-            return false;
-        }
-    }
-    records.len() == places.len()
 }
 
 /// Whether the mirror has this focus, if it has any.

@@ -35,12 +35,11 @@ fn by_number(spot: (u64, usize)) -> Spot {
     (run, spot.1)
 }
 
-/// The node of a run.
-fn run_node(alloc: Global, text: &FlatText, run: usize) -> Result<Node, AllocError> {
-    let mut node = Node::new(alloc, Role::TextRun);
+/// Gives the node of a run what it has, and its links.
+fn give_run(alloc: Global, node: &mut Node, text: &FlatText, run: usize) -> Result<(), AllocError> {
     if let Some((kind, _)) = text.runs.get(run) {
         for has in kind.has {
-            give(alloc, &mut node, *has)?;
+            give(alloc, node, *has)?;
         }
     }
     if !text.begins_line(run) {
@@ -49,7 +48,49 @@ fn run_node(alloc: Global, text: &FlatText, run: usize) -> Result<Node, AllocErr
     if !text.ends_line(run) {
         node.set_next_on_line(run_id(run.saturating_add(1)));
     }
+    Ok(())
+}
+
+/// The node of a run. It is spoilt where it is the first one and linked back.
+fn run_node(
+    alloc: Global,
+    text: &FlatText,
+    run: usize,
+    is_spoilt: bool,
+) -> Result<Node, AllocError> {
+    let mut node = Node::new(alloc, Role::TextRun);
+    give_run(alloc, &mut node, text, run)?;
+    if is_spoilt && run == 0 {
+        node.set_previous_on_line(run_id(run));
+    }
     Ok(node)
+}
+
+/// Adds all runs, as the root's children.
+fn push_runs(
+    alloc: Global,
+    text: &FlatText,
+    is_spoilt: bool,
+    root: &mut Node,
+    nodes: &mut Vec<(NodeId, Node)>,
+) -> Result<(), AllocError> {
+    for run in 0..text.runs.len() {
+        root.push_child(run_id(run))?;
+        nodes.push((run_id(run), run_node(alloc, text, run, is_spoilt)?))?;
+    }
+    Ok(())
+}
+
+/// The root of a text, of which this is selected.
+fn text_root(alloc: Global, text: &FlatText, selection: (Spot, Spot)) -> Node {
+    let role = if text.is_password {
+        Role::PasswordInput
+    } else {
+        Role::TextInput
+    };
+    let mut root = Node::new(alloc, role);
+    root.set_text_selection(selected(by_id(selection.0), by_id(selection.1)));
+    root
 }
 
 /// The tree of a text, of which this is selected. It is spoilt where its first run is linked back.
@@ -59,22 +100,9 @@ fn planted(
     selection: (Spot, Spot),
     is_spoilt: bool,
 ) -> Result<Tree, Fail> {
-    let role = if text.is_password {
-        Role::PasswordInput
-    } else {
-        Role::TextInput
-    };
-    let mut root = Node::new(alloc, role);
-    root.set_text_selection(selected(by_id(selection.0), by_id(selection.1)));
+    let mut root = text_root(alloc, text, selection);
     let mut nodes = Vec::new(alloc);
-    for run in 0..text.runs.len() {
-        root.push_child(run_id(run))?;
-        let mut node = run_node(alloc, text, run)?;
-        if is_spoilt && run == 0 {
-            node.set_previous_on_line(run_id(run));
-        }
-        nodes.push((run_id(run), node))?;
-    }
+    push_runs(alloc, text, is_spoilt, &mut root, &mut nodes)?;
     nodes.push((NodeId(0), root))?;
     grown(alloc, nodes)
 }

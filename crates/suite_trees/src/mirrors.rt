@@ -2,9 +2,10 @@
 
 use sketches::Sent;
 use sketches::dice::Dice;
-use sketches::ids::{id, tree_id};
+use sketches::ids::tree_id;
 use sketches::made_up::made_up;
-use sketches::recorder::{Id, Recorder, Told, pair};
+use sketches::placed::{Placed, has_places};
+use sketches::recorder::{Recorder, Told, pair};
 use sketches::updates::{
     BUTTON_DROPPED, CHILD_AS_ROOT, CHILD_MOVED, DOCUMENT, FAMILY, FOCUS_ON_CHILD, GRAFT_RENAMED,
     INNER_DOCUMENT, INNER_MOVED, OUTER_DOCUMENT, PLAIN, WINDOW,
@@ -53,7 +54,7 @@ fn is_of(alloc: Global, mirror: &Mirror, tree: &Tree) -> Result<bool, AllocError
 }
 
 /// Updates one after the other, and where the last leaves its nodes.
-type Course = (&'static [Sent], &'static [(Id, Option<(Id, usize)>)]);
+type Course = (&'static [Sent], &'static [Placed]);
 
 static COURSES: [Course; 5] = [
     (
@@ -115,30 +116,6 @@ fn send(alloc: Global, mirrored: &mut Mirrored, sent: &Sent) -> Result<(), Fail>
 /// Whether the mirror holds what one does that is made of the tree.
 fn is_right(alloc: Global, mirrored: &Mirrored) -> Result<bool, AllocError> {
     is_of(alloc, &mirrored.both.1, &mirrored.tree)
-}
-
-/// Where a node is, if its record is there.
-fn place_in(records: &Records, id: FullNodeId) -> Option<Option<(Id, usize)>> {
-    match records.get(&id) {
-        Some(record) => Some(match record.place {
-            Some((parent, index)) => Some((pair(parent), index)),
-            None => None,
-        }),
-        None => None,
-    }
-}
-
-/// Whether the mirror has these nodes at their places, and no others.
-fn has_places(mirror: &Mirror, places: &[(Id, Option<(Id, usize)>)]) -> bool {
-    let Some(records) = mirror.records() else {
-        return false;
-    };
-    for ((tree, node), place) in places {
-        if place_in(records, id(*tree, *node)) != Some(*place) {
-            return false;
-        }
-    }
-    records.len() == places.len()
 }
 
 /// Whether the mirror has the focus of the tree, and then none where the host has lost it, and the last that is told is that.

@@ -244,42 +244,6 @@ fn is_below(node: &NodeRef, top: &NodeRef) -> bool {
     node.is_descendant_of(top)
 }
 
-/// Asserts what the walks to the children and the siblings of each node give, and counts the nodes that are shown.
-fn assert_listed(
-    rt: &impl Abort,
-    alloc: Global,
-    tree: &Tree,
-    dice: &mut Dice,
-    filter: u64,
-) -> Result<usize, Fail> {
-    let mut count = 0usize;
-    let nodes = preorder(alloc, root_of(tree))?;
-    for (id, _) in &nodes {
-        let (node, mixture) = (node_at(tree, *id)?, mixture(dice, 6));
-        let (is_listed, shown) = is_listed(alloc, &nodes, &node, filter, mixture)?;
-        assert!(rt; is_listed, "by {filter}");
-        assert!(rt; above(&node) == parent_of(&nodes, *id), "by {filter}");
-        count = count.saturating_add(shown);
-    }
-    Ok(count)
-}
-
-#[test]
-fn walks_by_any_filter_are_lists(rt: HostRuntime) -> Result<(), Fail> {
-    let alloc = rt.alloc();
-    let mut dice = Dice::new(3);
-    let mut shown_nodes = 0usize;
-    for filter in 0..300u64 {
-        let Some(tree) = planted(alloc, &mut dice)? else {
-            continue;
-        };
-        let shown = assert_listed(&rt, alloc, &tree, &mut dice, filter)?;
-        shown_nodes = shown_nodes.saturating_add(shown);
-    }
-    assert!(rt; 1_000 < shown_nodes, "{shown_nodes}");
-    Ok(())
-}
-
 /// Whether the walks through all that is inside the node, and through what the filter shows of it, give the lists; and how many
 /// nodes are shown.
 fn is_listed_inside(
@@ -296,38 +260,84 @@ fn is_listed_inside(
     Ok((is_listed, shown.len()))
 }
 
-/// Asserts what the walks through the inside of each node give, and counts the nodes that are shown.
-fn assert_listed_inside(
+/// Which walks from a node are compared with lists: those to its children and siblings, or those through its inside.
+#[derive(Clone, Copy)]
+enum Compared {
+    Around,
+    Inside,
+}
+
+/// How many calls of a walk are mixed.
+fn calls(compared: Compared) -> u32 {
+    match compared {
+        Compared::Around => 6,
+        Compared::Inside => 10,
+    }
+}
+
+/// Whether the walks from a node give the lists; and how many nodes are shown.
+fn compare(
+    alloc: Global,
+    nodes: &[Kin],
+    node: &NodeRef,
+    compared: Compared,
+    filter: u64,
+    mixture: u128,
+) -> Result<(bool, usize), AllocError> {
+    match compared {
+        Compared::Around => is_listed(alloc, nodes, node, filter, mixture),
+        Compared::Inside => is_listed_inside(alloc, nodes, node, filter, mixture),
+    }
+}
+
+/// Asserts what the walks from each node give, and what is above it, and counts the nodes that are shown.
+fn assert_listed(
     rt: &impl Abort,
     alloc: Global,
     tree: &Tree,
     dice: &mut Dice,
+    compared: Compared,
     filter: u64,
 ) -> Result<usize, Fail> {
     let mut count = 0usize;
     let nodes = preorder(alloc, root_of(tree))?;
     for (id, _) in &nodes {
-        let (node, mixture) = (node_at(tree, *id)?, mixture(dice, 10));
-        let (is_listed, shown) = is_listed_inside(alloc, &nodes, &node, filter, mixture)?;
+        let (node, mixture) = (node_at(tree, *id)?, mixture(dice, calls(compared)));
+        let (is_listed, shown) = compare(alloc, &nodes, &node, compared, filter, mixture)?;
         assert!(rt; is_listed, "by {filter}");
+        assert!(rt; above(&node) == parent_of(&nodes, *id), "by {filter}");
         assert!(rt; knows_above(tree, &nodes, &node)?, "by {filter}");
         count = count.saturating_add(shown);
     }
     Ok(count)
 }
 
-#[test]
-fn descendants_by_any_filter_are_lists(rt: HostRuntime) -> Result<(), Fail> {
-    let alloc = rt.alloc();
-    let mut dice = Dice::new(4);
+/// Makes trees up, and asserts what the walks by a filter give in each. More than 1,000 nodes are shown.
+fn assert_all_listed(
+    rt: &impl Abort,
+    alloc: Global,
+    seed: u64,
+    compared: Compared,
+) -> Result<(), Fail> {
+    let mut dice = Dice::new(seed);
     let mut shown_nodes = 0usize;
     for filter in 0..300u64 {
         let Some(tree) = planted(alloc, &mut dice)? else {
             continue;
         };
-        let shown = assert_listed_inside(&rt, alloc, &tree, &mut dice, filter)?;
+        let shown = assert_listed(rt, alloc, &tree, &mut dice, compared, filter)?;
         shown_nodes = shown_nodes.saturating_add(shown);
     }
     assert!(rt; 1_000 < shown_nodes, "{shown_nodes}");
     Ok(())
+}
+
+#[test]
+fn walks_by_any_filter_are_lists(rt: HostRuntime) -> Result<(), Fail> {
+    assert_all_listed(&rt, rt.alloc(), 3, Compared::Around)
+}
+
+#[test]
+fn descendants_by_any_filter_are_lists(rt: HostRuntime) -> Result<(), Fail> {
+    assert_all_listed(&rt, rt.alloc(), 4, Compared::Inside)
 }

@@ -1,0 +1,36 @@
+//! Where the nodes of a mirror stand.
+
+use crate::ids::id;
+use crate::recorder::{Id, pair};
+use trees::Mirror;
+
+/// A node, and where it stands: its parent, and its index there. A root stands nowhere.
+pub type Placed = (Id, Option<(Id, usize)>);
+
+/// Whether the mirror has the node at its place.
+fn has_place(mirror: &Mirror, placed: &Placed) -> bool {
+    let ((tree, node), place) = *placed;
+    let Some(records) = mirror.records() else {
+        return false;
+    };
+    match records.get(&id(tree, node)) {
+        Some(record) => match record.place {
+            Some((parent, index)) => place == Some((pair(parent), index)),
+            None => place.is_none(),
+        },
+        None => false,
+    }
+}
+
+/// Whether the mirror has these nodes at their places, and no others.
+pub fn has_places(mirror: &Mirror, places: &[Placed]) -> bool {
+    for placed in places {
+        if !has_place(mirror, placed) {
+            return false;
+        }
+    }
+    match mirror.records() {
+        Some(records) => records.len() == places.len(),
+        None => false,
+    }
+}
