@@ -1,0 +1,190 @@
+"""Runs every check of the repository, as many side by side as serves, and counts what passed: `./check` calls it.
+
+Checks that only read come first. Then `rt ci` proves the crates, builds the programs and runs what tests there are; as soon as it has
+built the programs that another check needs, that check runs beside it, with a lower priority. So do the wrong bodies of each crate
+that is proved. A line for each crate says how far the proofs are. All that a check prints is kept in .check/, and what failed is
+printed at the end.
+
+The last line is `N passed, M failed`.
+"""
+
+import os
+import re
+import signal
+import subprocess
+import sys
+import threading
+import time
+from concurrent.futures import ThreadPoolExecutor
+
+TOP = os.path.dirname(os.path.dirname(os.path.abspath(__file__)))
+LOGS = os.path.join(TOP, ".check")
+PROCESSORS = len(os.sched_getaffinity(0))
+
+READING = [
+    "checks/formatted",
+    "docs/check-excerpts",
+    "docs/index --check",
+    "checks/names",
+    "checks/trust",
+    "checks/turned --read",
+]
+PROVING = "rt ci"
+# What runs on programs that `rt ci` has built, with those programs.
+ON_PROGRAMS = {
+    "checks/run-scripts": {"atree"},
+    "checks/made-up 20000 1": {"atree"},
+    "checks/run-programs": {"find", "page", "read", "record", "speak"},
+    "checks/refused-growths": {"atree", "growths"},
+}
+WRONG = "checks/wrong --jobs 1"
+WRONG_BODIES = os.path.join(TOP, "checks", "wrong-bodies")
+# What needs no proof of a crate.
+UNPROVED = "checks/unproved"
+
+PROVED = re.compile(r"^rt: (?:(\w+) proved|(\w+) is kept: .*)$")
+FAILURES = re.compile(r"FAILED|NOT PROVED|NOT REFUSED|NOT MET|BAD EDIT|not proved|not covered")
+REFUSED = re.compile(r"^rt: must-fail .*: refused, as it must be")
+COUNTS = re.compile(r"^(\d+) passed, (\d+) failed", re.M)
+
+# How much of a failed check's output is printed again.
+MOST_LINES, MOST_COLUMNS = 60, 300
+
+
+def minutes(seconds):
+    return f"{seconds / 60:.1f} min"
+
+
+def memory_for_each():
+    """Gigabytes of free memory for each processor."""
+    with open("/proc/meminfo", encoding="ascii") as file:
+        free = re.search(r"MemAvailable:\s+(\d+) kB", file.read())
+    return int(free[1]) / 2**20 / PROCESSORS if free else 0
+
+
+def crate_names():
+    """The crates of crates.txt."""
+    with open(os.path.join(TOP, "crates.txt"), encoding="utf-8") as file:
+        return [line.split(":")[0].split()[0] for line in file if ":" in line.split("#")[0]]
+
+
+class Gate:
+    """The checks of one run: which run, and what came of those that have ended."""
+
+    def __init__(self):
+        self.begun = time.monotonic()
+        self.ended = []
+        self.running = []
+        self.lock = threading.Lock()
+        self.crates = crate_names()
+        self.proved = set()
+        os.makedirs(LOGS, exist_ok=True)
+
+    def say(self, line):
+        with self.lock:
+            print(f"[{minutes(time.monotonic() - self.begun):>8}] {line}", flush=True)
+
+    def run(self, command, niceness=0, on_line=None):
+        """Runs a check to its end, and notes its counts. A check that ends badly and counts no failure counts as one."""
+        begun = time.monotonic()
+        log = os.path.join(LOGS, re.sub(r"\W+", "-", command).strip("-") + ".log")
+        with open(log, "w", encoding="utf-8") as kept:
+            child = subprocess.Popen(
+                command.split(), cwd=TOP, stdin=subprocess.DEVNULL, stdout=subprocess.PIPE, stderr=subprocess.STDOUT,
+                text=True, errors="replace", start_new_session=True, preexec_fn=lambda: os.nice(niceness) and None,
+            )
+            with self.lock:
+                self.running.append(child)
+            for line in child.stdout:
+                kept.write(line)
+                kept.flush()
+                if on_line:
+                    on_line(line.rstrip("\n"))
+            status = child.wait()
+        with open(log, encoding="utf-8", errors="replace") as kept:
+            printed = kept.read()
+        counts = COUNTS.findall(printed)
+        passed, failed = map(int, counts[-1]) if counts else (0, 0)
+        failed = failed or (status != 0)
+        with self.lock:
+            self.running.remove(child)
+            self.ended.append((command, time.monotonic() - begun, passed, failed, status, printed))
+        self.say(f"{command}: {passed} passed, {failed} failed, {minutes(time.monotonic() - begun)}")
+
+    def prove(self):
+        """Runs `rt ci`, and beside it what needs the programs that it has built and the wrong bodies of crates that it has proved."""
+        if memory_for_each() >= 4:
+            # (by its own plan for memory rt would leave processors idle, as no check here takes 4 GB)
+            os.environ.setdefault("RT_JOBS", str(PROCESSORS))
+        waiting = dict(ON_PROGRAMS)
+        with ThreadPoolExecutor(1) as on_programs, ThreadPoolExecutor(max(1, PROCESSORS // 2)) as wrong:
+
+            def hear(line):
+                found = PROVED.match(line)
+                if found:
+                    crate = found[1] or found[2]
+                    self.tell_proved(crate)
+                    if os.path.isdir(os.path.join(WRONG_BODIES, crate)):
+                        wrong.submit(self.run, f"{WRONG} {crate}", 10)
+                    for command in [it for it, needs in waiting.items() if needs <= self.proved]:
+                        del waiting[command]
+                        on_programs.submit(self.run, command, 10)
+                elif FAILURES.search(line) and not REFUSED.match(line):
+                    self.say(line[:MOST_COLUMNS])
+
+            self.run(PROVING, on_line=hear)
+        for command in waiting:
+            self.ended.append((command, 0, 0, 1, 1, "the programs that it needs are not built"))
+
+    def tell_proved(self, crate):
+        self.proved.add(crate)
+        left = [it for it in self.crates if it not in self.proved]
+        self.say(f"{crate} proved: {len(self.proved)} of {len(self.crates)} crates" + (f", left: {' '.join(left)}" if left else ""))
+
+    def finish(self):
+        """Prints what failed and what each check took, and gives whether all passed."""
+        for command, _, _, failed, status, printed in self.ended:
+            if failed:
+                lines = [it for it in printed.splitlines() if it.strip()]
+                told = [it for it in lines if FAILURES.search(it) and not REFUSED.match(it)] or lines
+                print(f"\n== {command} (status {status}; all of it is in .check/)")
+                print("\n".join(it[:MOST_COLUMNS] for it in (told + lines[-5:])[-MOST_LINES:]))
+        print()
+        for command, seconds, passed, failed, _, _ in self.ended:
+            print(f"{command}: {passed} passed, {failed} failed, {minutes(seconds)}")
+        passed, failed = (sum(it[at] for it in self.ended) for at in (2, 3))
+        spent = sum(os.times()[2:4])
+        print(f"in {minutes(time.monotonic() - self.begun)} on {PROCESSORS} processors, {minutes(spent)} of a processor")
+        print(f"{passed} passed, {failed} failed")
+        return failed == 0
+
+    def stop(self):
+        """Ends the checks that still run."""
+        with self.lock:
+            for child in self.running:
+                try:
+                    os.killpg(child.pid, signal.SIGTERM)
+                except ProcessLookupError:
+                    pass
+
+
+def main(words):
+    if words not in ([], ["--fast"]):
+        print("usage: ./check [--fast]", file=sys.stderr)
+        return 2
+    gate = Gate()
+    try:
+        for command in READING:
+            gate.run(command)
+        if words:
+            gate.run(UNPROVED, on_line=gate.say)
+        else:
+            gate.prove()
+    except KeyboardInterrupt:
+        gate.stop()
+        return 130
+    return 0 if gate.finish() else 1
+
+
+if __name__ == "__main__":
+    sys.exit(main(sys.argv[1:]))
