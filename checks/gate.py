@@ -88,11 +88,15 @@ class Gate:
         """Runs a check to its end, and notes its counts. A check that ends badly and counts no failure counts as one."""
         begun = time.monotonic()
         log = os.path.join(LOGS, re.sub(r"\W+", "-", command).strip("-") + ".log")
+
+        def begin():
+            # (a group of its own, to be stopped as one; in a session of its own its niceness wouldn't count beside the others')
+            os.setpgid(0, 0)
+            os.nice(niceness)
+
+        how = {"stdin": subprocess.DEVNULL, "stdout": subprocess.PIPE, "stderr": subprocess.STDOUT, "text": True, "errors": "replace"}
         with open(log, "w", encoding="utf-8") as kept:
-            child = subprocess.Popen(
-                command.split(), cwd=TOP, stdin=subprocess.DEVNULL, stdout=subprocess.PIPE, stderr=subprocess.STDOUT,
-                text=True, errors="replace", start_new_session=True, preexec_fn=lambda: os.nice(niceness) and None,
-            )
+            child = subprocess.Popen(command.split(), cwd=TOP, preexec_fn=begin, **how)
             with self.lock:
                 self.running.append(child)
             for line in child.stdout:
