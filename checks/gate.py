@@ -109,7 +109,7 @@ class Gate:
             printed = kept.read()
         counts = COUNTS.findall(printed)
         passed, failed = map(int, counts[-1]) if counts else (0, 0)
-        failed = failed or (status != 0)
+        failed = failed or int(status != 0)
         with self.lock:
             self.running.remove(child)
             self.ended.append((command, time.monotonic() - begun, passed, failed, status, printed))
