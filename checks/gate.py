@@ -68,6 +68,48 @@ def crate_names():
         return [line.split(":")[0].split()[0] for line in file if ":" in line.split("#")[0]]
 
 
+class ProcessorTimes(threading.Thread):
+    """Seconds of a processor that the prover has taken for each crate: for its proof, its tests and its wrong bodies. They are
+    sampled, so that a check of less than a second or two may be missed."""
+
+    EVERY = 2
+
+    def __init__(self):
+        super().__init__(daemon=True)
+        self.taken = {}
+
+    def run(self):
+        while True:
+            for process in filter(str.isdigit, os.listdir("/proc")):
+                try:
+                    self.look(process)
+                except OSError:
+                    # (it has ended)
+                    pass
+            time.sleep(self.EVERY)
+
+    def look(self, process):
+        with open(f"/proc/{process}/cmdline", "rb") as file:
+            words = file.read().decode(errors="replace").split("\0")
+        if os.path.basename(words[0]) == "rattle" and "--crate-name" in words:
+            crate = words[words.index("--crate-name") + 1]
+            is_here = os.readlink(f"/proc/{process}/cwd").startswith(os.path.join(TOP, "crates"))
+            part = ("tests" if "--test" in words else "proof") if is_here else "wrong bodies"
+            with open(f"/proc/{process}/stat", encoding="ascii", errors="replace") as file:
+                clocks = file.read().rpartition(")")[2].split()[11:13]
+            self.taken[crate, part, process] = sum(map(int, clocks)) / os.sysconf("SC_CLK_TCK")
+
+    def table(self):
+        """Lines of a table, in minutes."""
+        parts, sums = ("proof", "tests", "wrong bodies"), {}
+        for (crate, part, _), seconds in self.taken.items():
+            sums[crate, part] = sums.get((crate, part), 0) + seconds
+        yield "| crate | " + " | ".join(parts) + " |"
+        for crate in dict.fromkeys(crate for crate, _ in sums):
+            yield f"| {crate} | " + " | ".join(f"{sums.get((crate, part), 0) / 60:.1f}" for part in parts) + " |"
+        yield "| all | " + " | ".join(f"{sum(it for (_, of), it in sums.items() if of == part) / 60:.1f}" for part in parts) + " |"
+
+
 class Gate:
     """The checks of one run: which run, and what came of those that have ended."""
 
@@ -78,6 +120,8 @@ class Gate:
         self.lock = threading.Lock()
         self.crates = crate_names()
         self.proved = set()
+        self.times = ProcessorTimes()
+        self.times.start()
         os.makedirs(LOGS, exist_ok=True)
 
     def say(self, line):
@@ -156,6 +200,8 @@ class Gate:
         print()
         for command, seconds, passed, failed, _, _ in self.ended:
             print(f"{command}: {passed} passed, {failed} failed, {minutes(seconds)}")
+        with open(os.path.join(LOGS, "minutes.md"), "w", encoding="utf-8") as file:
+            file.writelines(f"{line}\n" for line in self.times.table())
         passed, failed = (sum(it[at] for it in self.ended) for at in (2, 3))
         spent = sum(os.times()[2:4])
         print(f"in {minutes(time.monotonic() - self.begun)} on {PROCESSORS} processors, {minutes(spent)} of a processor")
