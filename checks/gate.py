@@ -47,6 +47,9 @@ FAILURES = re.compile(r"FAILED|NOT PROVED|NOT REFUSED|NOT MET|BAD EDIT|not prove
 REFUSED = re.compile(r"^rt: must-fail .*: refused, as it must be")
 COUNTS = re.compile(r"^(\d+) passed, (\d+) failed", re.M)
 
+# By this word of its environment a process is known as one of this run.
+RUN = "CHECK_RUN"
+
 # How much of a failed check's output is printed again.
 MOST_LINES, MOST_COLUMNS = 60, 300
 
@@ -91,13 +94,17 @@ class ProcessorTimes(threading.Thread):
     def look(self, process):
         with open(f"/proc/{process}/cmdline", "rb") as file:
             words = file.read().decode(errors="replace").split("\0")
-        if os.path.basename(words[0]) == "rattle" and "--crate-name" in words:
+        if os.path.basename(words[0]) == "rattle" and "--crate-name" in words and self.is_ours(process):
             crate = words[words.index("--crate-name") + 1]
             is_here = os.readlink(f"/proc/{process}/cwd").startswith(os.path.join(TOP, "crates"))
             part = ("tests" if "--test" in words else "proof") if is_here else "wrong bodies"
             with open(f"/proc/{process}/stat", encoding="ascii", errors="replace") as file:
                 clocks = file.read().rpartition(")")[2].split()[11:13]
             self.taken[crate, part, process] = sum(map(int, clocks)) / os.sysconf("SC_CLK_TCK")
+
+    def is_ours(self, process):
+        with open(f"/proc/{process}/environ", "rb") as file:
+            return f"{RUN}={os.getpid()}".encode() in file.read().split(b"\0")
 
     def table(self):
         """Lines of a table, in minutes."""
@@ -121,6 +128,7 @@ class Gate:
         self.crates = crate_names()
         self.proved = set()
         self.times = ProcessorTimes()
+        os.environ[RUN] = str(os.getpid())
         self.times.start()
         os.makedirs(LOGS, exist_ok=True)
 
