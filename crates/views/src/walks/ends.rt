@@ -167,7 +167,7 @@ pub(crate) fn all_ends<'a, F: Filter>(
     Some(Ends { front, back })
 }
 
-/// The nearest node above that isn't left out alone, if it is included.
+/// The nearest node above that isn't excluded alone, if it is included.
 pub(crate) fn cover<'a, F: Filter>(
     state: StateRef<'a>,
     node: Member<'a>,
