@@ -115,7 +115,7 @@ impl Mirror {
         Some(kept.focus)
     }
 
-    // replaces the record of a node, or gives all up
+    // replaces the record of a node, or drops all records if memory runs out
     fn note(&mut self, node: NodeRef<'_>)
         ensures { IfSome self.new (λ after. IsSomeAnd self.old (λ before. Notes before (seen_node node.entry) after)) }
     {

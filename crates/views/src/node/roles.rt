@@ -107,7 +107,7 @@ impl NodeRef<'_> {
         )
     }
 
-    /// Whether the node leads to its URL.
+    /// Whether the node's role is that of a link.
     pub(crate) fn is_link(&self) -> bool
         ensures { result ≡ is_link (data_at self.now).role }
     {
