@@ -3,8 +3,8 @@
 use crate::TreeChangeHandler;
 use views::NodeRef;
 
-/// Both handlers are notified of each change, the first before the second; for example a [`Mirror`](crate::Mirror) and
-/// a handler of one's own.
+/// Both handlers are notified of each change, for example a [`Mirror`](crate::Mirror) and a handler of one's own. Which
+/// of the two comes first is not specified.
 impl<A: TreeChangeHandler, B: TreeChangeHandler> TreeChangeHandler for (A, B) {
     ghost steps = { λ old event new. A.steps old.0 event new.0 × B.steps old.1 event new.1 };
 

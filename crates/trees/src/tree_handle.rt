@@ -92,7 +92,8 @@ impl Tree {
     ///
     /// # Errors
     ///
-    /// As for [`Tree::update_and_process_changes`]. The look-ups until then are counted.
+    /// As for [`Tree::update_and_process_changes`]. The count is no lower than before; how many look-ups a refused
+    /// update takes is not specified.
     pub fn update_and_process_changes_counted<H: TreeChangeHandler>(
         &mut self,
         update: TreeUpdate,
