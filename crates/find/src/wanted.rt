@@ -21,7 +21,7 @@ impl Arguments for Wanted {
         "find ROLE [LABEL]"
     }
 
-    /// A role, and a label where there is one.
+    /// A role, and a label if there is one.
     fn from_arguments(args: Args) -> Option<Wanted> {
         let mut args = args;
         let _program = args.next()?;

@@ -57,7 +57,7 @@ impl NodeBuilder {
         Ok(self.node)
     }
 
-    /// Sets [`Node::label`] to a copy. If memory runs out, [`NodeBuilder::build`] fails.
+    /// Sets [`Node::label`] to a copy of the argument. If memory runs out, [`NodeBuilder::build`] fails.
     pub fn label(mut self, text: &str) -> NodeBuilder
         ensures { IsChangedOrRefused (λ d. record d { label = Some text.now }) self result }
     {
@@ -65,7 +65,7 @@ impl NodeBuilder {
         self
     }
 
-    /// Sets [`Node::value`] to a copy. If memory runs out, [`NodeBuilder::build`] fails.
+    /// Sets [`Node::value`] to a copy of the argument. If memory runs out, [`NodeBuilder::build`] fails.
     pub fn value(mut self, text: &str) -> NodeBuilder
         ensures { IsChangedOrRefused (λ d. record d { value = Some text.now }) self result }
     {
@@ -73,7 +73,7 @@ impl NodeBuilder {
         self
     }
 
-    /// Sets [`Node::description`] to a copy. If memory runs out, [`NodeBuilder::build`] fails.
+    /// Sets [`Node::description`] to a copy of the argument. If memory runs out, [`NodeBuilder::build`] fails.
     pub fn description(mut self, text: &str) -> NodeBuilder
         ensures { IsChangedOrRefused (λ d. record d { description = Some text.now }) self result }
     {
@@ -81,7 +81,7 @@ impl NodeBuilder {
         self
     }
 
-    /// Sets [`Node::role_description`] to a copy. If memory runs out, [`NodeBuilder::build`] fails.
+    /// Sets [`Node::role_description`] to a copy of the argument. If memory runs out, [`NodeBuilder::build`] fails.
     pub fn role_description(mut self, text: &str) -> NodeBuilder
         ensures { IsChangedOrRefused (λ d. record d { role_description = Some text.now }) self result }
     {
@@ -89,7 +89,7 @@ impl NodeBuilder {
         self
     }
 
-    /// Sets [`Node::placeholder`] to a copy. If memory runs out, [`NodeBuilder::build`] fails.
+    /// Sets [`Node::placeholder`] to a copy of the argument. If memory runs out, [`NodeBuilder::build`] fails.
     pub fn placeholder(mut self, text: &str) -> NodeBuilder
         ensures { IsChangedOrRefused (λ d. record d { placeholder = Some text.now }) self result }
     {
@@ -97,7 +97,7 @@ impl NodeBuilder {
         self
     }
 
-    /// Sets [`Node::url`] to a copy. If memory runs out, [`NodeBuilder::build`] fails.
+    /// Sets [`Node::url`] to a copy of the argument. If memory runs out, [`NodeBuilder::build`] fails.
     pub fn url(mut self, text: &str) -> NodeBuilder
         ensures { IsChangedOrRefused (λ d. record d { url = Some text.now }) self result }
     {
@@ -105,7 +105,7 @@ impl NodeBuilder {
         self
     }
 
-    /// Sets [`Node::author_id`] to a copy. If memory runs out, [`NodeBuilder::build`] fails.
+    /// Sets [`Node::author_id`] to a copy of the argument. If memory runs out, [`NodeBuilder::build`] fails.
     pub fn author_id(mut self, text: &str) -> NodeBuilder
         ensures { IsChangedOrRefused (λ d. record d { author_id = Some text.now }) self result }
     {
@@ -113,7 +113,7 @@ impl NodeBuilder {
         self
     }
 
-    /// Sets [`Node::language`] to a copy. If memory runs out, [`NodeBuilder::build`] fails.
+    /// Sets [`Node::language`] to a copy of the argument. If memory runs out, [`NodeBuilder::build`] fails.
     pub fn language(mut self, text: &str) -> NodeBuilder
         ensures { IsChangedOrRefused (λ d. record d { language = Some text.now }) self result }
     {
@@ -121,7 +121,7 @@ impl NodeBuilder {
         self
     }
 
-    /// Sets [`Node::children`] to a copy. If memory runs out, [`NodeBuilder::build`] fails.
+    /// Sets [`Node::children`] to a copy of the argument. If memory runs out, [`NodeBuilder::build`] fails.
     pub fn children(mut self, ids: &[NodeId]) -> NodeBuilder
         ensures { IsChangedOrRefused (λ d. record d { children = ids.now }) self result }
     {
@@ -129,7 +129,7 @@ impl NodeBuilder {
         self
     }
 
-    /// Sets [`Node::labelled_by`] to a copy. If memory runs out, [`NodeBuilder::build`] fails.
+    /// Sets [`Node::labelled_by`] to a copy of the argument. If memory runs out, [`NodeBuilder::build`] fails.
     pub fn labelled_by(mut self, ids: &[NodeId]) -> NodeBuilder
         ensures { IsChangedOrRefused (λ d. record d { labelled_by = ids.now }) self result }
     {
@@ -137,7 +137,7 @@ impl NodeBuilder {
         self
     }
 
-    /// Sets [`Node::controls`] to a copy. If memory runs out, [`NodeBuilder::build`] fails.
+    /// Sets [`Node::controls`] to a copy of the argument. If memory runs out, [`NodeBuilder::build`] fails.
     pub fn controls(mut self, ids: &[NodeId]) -> NodeBuilder
         ensures { IsChangedOrRefused (λ d. record d { controls = ids.now }) self result }
     {
@@ -153,7 +153,7 @@ impl NodeBuilder {
         self
     }
 
-    /// Sets [`Node::character_lengths`] to a copy. If memory runs out, [`NodeBuilder::build`] fails.
+    /// Sets [`Node::character_lengths`] to a copy of the argument. If memory runs out, [`NodeBuilder::build`] fails.
     pub fn character_lengths(mut self, lengths: &[u16]) -> NodeBuilder
         ensures { IsChangedOrRefused (λ d. record d { character_lengths = lengths.now }) self result }
     {
@@ -161,7 +161,7 @@ impl NodeBuilder {
         self
     }
 
-    /// Sets [`Node::word_starts`] to a copy. If memory runs out, [`NodeBuilder::build`] fails.
+    /// Sets [`Node::word_starts`] to a copy of the argument. If memory runs out, [`NodeBuilder::build`] fails.
     pub fn word_starts(mut self, starts: &[u16]) -> NodeBuilder
         ensures { IsChangedOrRefused (λ d. record d { word_starts = starts.now }) self result }
     {
@@ -169,7 +169,7 @@ impl NodeBuilder {
         self
     }
 
-    /// Sets [`Node::character_lengths`] to a copy. If memory runs out, [`NodeBuilder::build`] fails.
+    /// Sets [`Node::character_lengths`] to a copy of the argument. If memory runs out, [`NodeBuilder::build`] fails.
     pub fn character_lengths_u8(mut self, lengths: &[u8]) -> NodeBuilder
         ensures { IsChangedOrRefused (λ d. record d { character_lengths = lengths.now }) self result }
     {
@@ -177,7 +177,7 @@ impl NodeBuilder {
         self
     }
 
-    /// Sets [`Node::word_starts`] to a copy. If memory runs out, [`NodeBuilder::build`] fails.
+    /// Sets [`Node::word_starts`] to a copy of the argument. If memory runs out, [`NodeBuilder::build`] fails.
     pub fn word_starts_u8(mut self, starts: &[u8]) -> NodeBuilder
         ensures { IsChangedOrRefused (λ d. record d { word_starts = starts.now }) self result }
     {
@@ -185,7 +185,7 @@ impl NodeBuilder {
         self
     }
 
-    /// Sets [`Node::character_positions`] to a copy. If memory runs out, [`NodeBuilder::build`] fails.
+    /// Sets [`Node::character_positions`] to a copy of the argument. If memory runs out, [`NodeBuilder::build`] fails.
     pub fn character_positions(mut self, positions: &[i32]) -> NodeBuilder
         ensures { IsChangedOrRefused (λ d. record d { character_positions = Some positions.now }) self result }
     {
@@ -193,7 +193,7 @@ impl NodeBuilder {
         self
     }
 
-    /// Sets [`Node::character_widths`] to a copy. If memory runs out, [`NodeBuilder::build`] fails.
+    /// Sets [`Node::character_widths`] to a copy of the argument. If memory runs out, [`NodeBuilder::build`] fails.
     pub fn character_widths(mut self, widths: &[i32]) -> NodeBuilder
         ensures { IsChangedOrRefused (λ d. record d { character_widths = Some widths.now }) self result }
     {

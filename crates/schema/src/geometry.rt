@@ -10,7 +10,7 @@ ghost use Rattle.schema.specs.Boxes.{has_point, is_between, middle, wide_has_poi
 /// How many units a pixel has.
 const UNITS_OF_PIXEL: i32 = 64;
 
-/// A rectangle, from `(x0, y0)` to `(x1, y1)`, in units. It may be empty or reversed.
+/// A rectangle, from `(x0, y0)` to `(x1, y1)`, in units of 1/64 pixel. It may be empty or reversed.
 #[derive(Clone, Copy, Debug, PartialEq, Eq, Hash)]
 pub struct Rect {
     pub x0: i32,
@@ -45,14 +45,14 @@ impl Rect {
         }
     }
 
-    /// The width, in units. A reversed rectangle is empty and has the width 0.
+    /// The width, in units of 1/64 pixel. A reversed rectangle is empty and has the width 0.
     pub fn width(&self) -> u32
         ensures { result ≡ int_gap self.now.x0 self.now.x1 }
     {
         distance(self.x0, self.x1)
     }
 
-    /// The height, in units. A reversed rectangle is empty and has the height 0.
+    /// The height, in units of 1/64 pixel. A reversed rectangle is empty and has the height 0.
     pub fn height(&self) -> u32
         ensures { result ≡ int_gap self.now.y0 self.now.y1 }
     {
@@ -82,7 +82,7 @@ impl Rect {
     }
 }
 
-/// A point, in units.
+/// A point, in units of 1/64 pixel.
 #[derive(Clone, Copy, Debug, PartialEq, Eq, Hash)]
 pub struct Point {
     pub x: i64,
@@ -108,7 +108,7 @@ impl Point {
     }
 }
 
-/// By how much a node and its subtree are shifted, in units.
+/// By how much a node and its subtree are shifted, in units of 1/64 pixel.
 #[derive(Clone, Copy, Debug, PartialEq, Eq, Hash)]
 pub struct Translation {
     pub x: i32,
@@ -124,7 +124,7 @@ impl Translation {
     }
 }
 
-/// A rectangle after a sum of translations, in units.
+/// A rectangle after a sum of translations, in units of 1/64 pixel.
 #[derive(Clone, Copy, Debug, PartialEq, Eq, Hash)]
 pub struct WideRect {
     pub x0: i128,
@@ -134,14 +134,14 @@ pub struct WideRect {
 }
 
 impl WideRect {
-    /// The width, in units. A reversed rectangle is empty and has the width 0.
+    /// The width, in units of 1/64 pixel. A reversed rectangle is empty and has the width 0.
     pub fn width(&self) -> u128
         ensures { result ≡ int_gap self.now.x0 self.now.x1 }
     {
         distance_of_wide(self.x0, self.x1)
     }
 
-    /// The height, in units. A reversed rectangle is empty and has the height 0.
+    /// The height, in units of 1/64 pixel. A reversed rectangle is empty and has the height 0.
     pub fn height(&self) -> u128
         ensures { result ≡ int_gap self.now.y0 self.now.y1 }
     {
@@ -168,7 +168,7 @@ impl WideRect {
     }
 }
 
-/// A sum of translations, in units.
+/// A sum of translations, in units of 1/64 pixel.
 #[derive(Clone, Copy, Debug, PartialEq, Eq, Hash)]
 pub struct WideTranslation {
     pub x: i128,

@@ -195,7 +195,7 @@ impl Node {
         self.plain.has_numeric_value_jump = false;
     }
 
-    /// The horizontal scroll position, in units.
+    /// The horizontal scroll position, in units of 1/64 pixel.
     pub fn scroll_x(&self) -> Option<i64>
         ensures { result ≡ self.now.scroll_x }
     {
@@ -217,7 +217,7 @@ impl Node {
         self.plain.has_scroll_x = false;
     }
 
-    /// The minimum of the horizontal scroll position, in units.
+    /// The minimum of the horizontal scroll position, in units of 1/64 pixel.
     pub fn scroll_x_min(&self) -> Option<i64>
         ensures { result ≡ self.now.scroll_x_min }
     {
@@ -241,7 +241,7 @@ impl Node {
         self.plain.has_scroll_x_min = false;
     }
 
-    /// The maximum of the horizontal scroll position, in units.
+    /// The maximum of the horizontal scroll position, in units of 1/64 pixel.
     pub fn scroll_x_max(&self) -> Option<i64>
         ensures { result ≡ self.now.scroll_x_max }
     {
@@ -265,7 +265,7 @@ impl Node {
         self.plain.has_scroll_x_max = false;
     }
 
-    /// The vertical scroll position, in units.
+    /// The vertical scroll position, in units of 1/64 pixel.
     pub fn scroll_y(&self) -> Option<i64>
         ensures { result ≡ self.now.scroll_y }
     {
@@ -287,7 +287,7 @@ impl Node {
         self.plain.has_scroll_y = false;
     }
 
-    /// The minimum of the vertical scroll position, in units.
+    /// The minimum of the vertical scroll position, in units of 1/64 pixel.
     pub fn scroll_y_min(&self) -> Option<i64>
         ensures { result ≡ self.now.scroll_y_min }
     {
@@ -311,7 +311,7 @@ impl Node {
         self.plain.has_scroll_y_min = false;
     }
 
-    /// The maximum of the vertical scroll position, in units.
+    /// The maximum of the vertical scroll position, in units of 1/64 pixel.
     pub fn scroll_y_max(&self) -> Option<i64>
         ensures { result ≡ self.now.scroll_y_max }
     {
@@ -335,7 +335,7 @@ impl Node {
         self.plain.has_scroll_y_max = false;
     }
 
-    /// The node's rectangle, in units, before any translation.
+    /// The node's rectangle, in units of 1/64 pixel, before any translation.
     pub fn bounds(&self) -> Option<Rect>
         ensures { result ≡ self.now.bounds }
     {
@@ -356,7 +356,7 @@ impl Node {
         self.plain.bounds = None;
     }
 
-    /// By how much the node and its subtree are shifted, in units.
+    /// By how much the node and its subtree are shifted, in units of 1/64 pixel.
     pub fn transform(&self) -> Option<Translation>
         ensures { result ≡ self.now.transform }
     {

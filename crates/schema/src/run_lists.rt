@@ -127,7 +127,7 @@ impl RunLists {
         }
     }
 
-    /// Where each character begins, in units.
+    /// Where each character begins, in units of 1/64 pixel.
     pub(crate) fn positions(&self) -> Option<&[i32]>
         ensures { option_copied result ≡ self.now.positions }
     {
@@ -162,7 +162,7 @@ impl RunLists {
         }
     }
 
-    /// The width of each character, in units.
+    /// The width of each character, in units of 1/64 pixel.
     pub(crate) fn widths(&self) -> Option<&[i32]>
         ensures { option_copied result ≡ self.now.widths }
     {

@@ -109,7 +109,7 @@ impl Node {
         self.run.clear_starts(self.alloc);
     }
 
-    /// Where each character of a text run begins along its line, in units.
+    /// Where each character of a text run begins along its line, in units of 1/64 pixel.
     pub fn character_positions(&self) -> Option<&[i32]>
         ensures { option_copied result ≡ self.now.character_positions }
     {
@@ -136,7 +136,7 @@ impl Node {
         self.run.clear_positions();
     }
 
-    /// The width of each character of a text run along its line, in units.
+    /// The width of each character of a text run along its line, in units of 1/64 pixel.
     pub fn character_widths(&self) -> Option<&[i32]>
         ensures { option_copied result ≡ self.now.character_widths }
     {

@@ -175,7 +175,7 @@ impl fmt::Display for MoreUnits<'_> {
     }
 }
 
-/// Writes a field that is a list of numbers of units, where there is one; `-` is one without numbers.
+/// Writes a field that is a list of numbers in units of 1/64 pixel, if there is one; `-` is an empty list.
 pub(crate) fn write_unit_list<O: Write>(
     name: &str,
     value: Option<&[i32]>,

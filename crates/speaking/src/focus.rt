@@ -62,7 +62,7 @@ fn focus_of<'a>(node: NodeRef<'a>, texts: &'a Texts) -> Focus<'a>
 ///
 /// # Errors
 ///
-/// `AllocError`: there is no memory for its texts.
+/// Returns `AllocError` if memory runs out.
 pub(crate) fn say_focus(alloc: Global, voice: &mut Voice, node: NodeRef) -> Result<(), AllocError>
     ensures { OnOk result (SaysFocus (seen_node node.entry) voice.old voice.new) }
 {

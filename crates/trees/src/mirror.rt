@@ -55,7 +55,7 @@ fn place_of(node: NodeRef<'_>) -> Option<Place>
     Some((parent.id(), index))
 }
 
-// the id of a node, where there is one
+// the id of a node, if there is one
 fn id_of(found: Option<NodeRef<'_>>) -> Option<FullNodeId>
     ensures { result ≡ option_map id_at found.entry }
 {

@@ -80,7 +80,7 @@ impl TreeState {
         self.view().node_by_id(id)
     }
 
-    /// The node with this id within the tree with this id, if it is in the state.
+    /// The node with this id within the tree with that id, if it is in the state.
     pub fn node_by_tree_local_id(&self, node: NodeId, tree: TreeId) -> Option<NodeRef<'_>>
         ensures { ShowsThe self.now (λ it. local_id_of self.now it ≡ Some (node, tree)) result }
     {

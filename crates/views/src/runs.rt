@@ -115,7 +115,7 @@ impl<'a> Run<'a> {
         }
     }
 
-    /// The place of the run after this one, where there is one, by a walk over all that follows.
+    /// The place of the next run, if there is one, by a walk over all that follows.
     #[inline(never)]
     fn spot_by_walk(self) -> Option<Spot<'a>>
         ensures { MatchOption result (ids_after self.entry ≡ []) (IsSpotAfter self.entry) }

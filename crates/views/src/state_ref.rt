@@ -260,7 +260,7 @@ impl<'a> StateRef<'a> {
         })
     }
 
-    /// The node with this id within the tree with this id, if it is in the state.
+    /// The node with this id within the tree with that id, if it is in the state.
     pub fn node_by_tree_local_id(&self, node: NodeId, tree: TreeId) -> Option<NodeRef<'a>>
         ensures { let w = world_of self.now in
             ShowsThe w (λ it. local_id_of w it ≡ Some (node, tree)) result }

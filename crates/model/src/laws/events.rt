@@ -217,7 +217,7 @@ pub fn focus_comes_back()
     ensures { FocusComesBack }
 {}
 
-/// The work of a label in a grafted document counts how deep the node stands in its own tree.
+/// The work of a label in a grafted document counts the node's depth in its own tree.
 #[tactic(auto, using(crate::proofs::Examples::InnerWork::inner_label_work))]
 pub fn inner_label_work()
     ensures { InnerLabelWork }

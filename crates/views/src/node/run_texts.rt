@@ -62,7 +62,7 @@ fn has_only(text: &[u8], lengths: &[u16], character: &[u8]) -> bool
     true
 }
 
-/// The first character of a run, where it has one.
+/// The first character of a run, if it has one.
 fn first_character<'a>(run: Run<'a>) -> Option<&'a [u8]>
     ensures { option_copied result ≡ slice_get (sent_characters (sent_of run.entry)) 0 }
 {

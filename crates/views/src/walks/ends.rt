@@ -76,7 +76,7 @@ pub(crate) fn preceding<'a, F: Filter>(
     previous_shown(state, top, node.parent, node.index, filter)
 }
 
-/// The ends that are left without the front, where there is more than that.
+/// The ends that are left without the front, if there is more than that.
 pub(crate) fn without_front<'a, F: Filter>(
     state: StateRef<'a>,
     top: FullNodeId,
@@ -108,7 +108,7 @@ pub(crate) fn without_front<'a, F: Filter>(
     }
 }
 
-/// The ends that are left without the back, where there is more than that.
+/// The ends that are left without the back, if there is more than that.
 pub(crate) fn without_back<'a, F: Filter>(
     state: StateRef<'a>,
     top: FullNodeId,
