@@ -1,4 +1,4 @@
-"""Worlds, updates, the focus and what is told: docs/MODEL.md as a program that makes everything anew.
+"""Worlds, updates, the focus and what is told: docs/MODEL.md and docs/MODEL-EVENTS.md as a program that computes everything from scratch.
 
 Nothing here is quick. Each answer is picked out of whole lists, as the definitions have it, and nothing is shared with the
 library but those definitions. An id is a pair: the index of a tree, and the number of a node in it. Trees go by their

@@ -1,4 +1,4 @@
-"""Texts, values and labels: docs/MODEL-VIEWS-AND-TEXT.md as one flat list of characters for each text, with marks in it.
+"""Texts, values and labels: docs/MODEL-TEXT.md as one flat list of characters for each text, with marks in it.
 
 A position is the number of a run, and how many of its characters are before it. Its offset counts the characters before it
 in all runs.

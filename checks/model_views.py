@@ -1,4 +1,4 @@
-"""Lists, filters, boxes, hits and sets: docs/MODEL.md and docs/MODEL-VIEWS-AND-TEXT.md, picked out of pre-orders.
+"""Lists, filters, boxes, hits and sets: docs/MODEL-LISTS.md and docs/MODEL-VIEWS.md, computed from pre-orders.
 
 A filter is a function of a world and a node. It includes the node, leaves it out alone, or cuts it off with all below it.
 """

@@ -2,17 +2,17 @@
 //! between states. Each name is passed on from the crate in which it stands.
 #![tactic(auto)]
 
-/// The filters that all callers share.
+/// The common filters.
 pub mod filters {
     pub use views::filters::{FilterResult, common_filter, common_filter_with_root_exception};
 }
 
-/// Nodes of a state, as they are read.
+/// Nodes of a state.
 pub mod node {
     pub use views::node::{FullNodeId, NodeRef};
 }
 
-/// Texts that are made of runs: positions in them, and ranges of them.
+/// Texts, which consist of runs: positions in them, and ranges of them.
 pub mod text {
     pub use texts::{
         NodeText, RangeCharacters, RangeLines, RangeWords, Text, TextIndexes, TextLines,
@@ -21,7 +21,7 @@ pub mod text {
     };
 }
 
-/// Trees and their states, and what a handler is told of their changes.
+/// Trees, their states, and the handler of changes.
 pub mod tree {
     pub use model::PlanEvent;
     pub use tree_changes::{LookUps, NodeRecord, TreeRecord, UpdateError};

@@ -6,7 +6,7 @@ use std::alloc::Global;
 use std::io::{BufRead, Write};
 use std::process::ExitCode;
 
-/// Prints what a script does. It has no arguments.
+/// The program that prints the effects of a script. It has no arguments.
 struct Atree;
 
 impl Program for Atree {

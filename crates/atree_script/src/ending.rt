@@ -1,4 +1,4 @@
-//! Reads a script for the tree that it leaves, and prints nothing.
+//! Reading a script for the tree that it leaves.
 ghost use Rattle.std.specs.Prelude.{◌≡◌, ◌≢◌, ◌≤◌, IfErr};
 
 use crate::playing::{Player, play, run_told};
@@ -10,7 +10,7 @@ use std::alloc::Global;
 use std::io::{BufRead, Write};
 use std::process::ExitCode;
 
-/// Is told of changes, and does nothing.
+/// A handler that does nothing.
 #[derive(Clone, Copy)]
 struct Silent;
 
@@ -36,13 +36,13 @@ impl Player for Silent {
     }
 }
 
-/// Someone who tells of the tree that a script leaves.
+/// Prints something about the tree that a script leaves.
 pub trait Teller {
-    /// Tells of it, and answers whether what was asked for is there.
+    /// Prints it, and returns whether what was asked for exists.
     ///
     /// # Errors
     ///
-    /// What stopped the telling.
+    /// Returns what stopped the printing.
     fn tell<O: Write>(
         &self,
         alloc: Global,
@@ -51,12 +51,12 @@ pub trait Teller {
     ) -> Result<bool, Stop>;
 }
 
-/// The exit status where what was asked for isn't there.
+/// The exit status if what was asked for doesn't exist.
 const NOT_THERE: u8 = 1;
 
-/// Runs a program that tells of the tree that the script on standard input leaves, as its arguments ask. The exit status is
-/// 0 where what was asked for is there, and 1 where it isn't; 2, 3 and 4 as [`crate::run_script`] has it, and 2 also for
-/// arguments that ask for nothing.
+/// Runs a program that prints something about the tree that the script on standard input leaves, as its arguments say.
+/// The exit status is 0 if what was asked for exists, and 1 if it doesn't; 2, 3 and 4 are as for [`crate::run_script`],
+/// and 2 is also for invalid arguments.
 pub fn tell_as_asked<T: Teller + Arguments>(rt: &HostRuntime) -> ExitCode {
     let asked: Result<T, u8> = read_arguments(rt);
     match asked {
@@ -65,7 +65,7 @@ pub fn tell_as_asked<T: Teller + Arguments>(rt: &HostRuntime) -> ExitCode {
     }
 }
 
-/// The program that has a tree told of.
+/// The program that prints something about a script's tree.
 #[derive(Drop)]
 struct Telling<T> {
     teller: T,
@@ -83,8 +83,8 @@ impl<T: Teller> Program for Telling<T> {
     }
 }
 
-/// Reads a script, and has the tree that it leaves told of, or tells that there is none. Answers the exit status: 0 where
-/// what was asked for is there, and 1 where it isn't; 2, 3 and 4 as [`crate::run_script`] has it.
+/// Reads a script and prints what was asked about the tree that it leaves, or that there is none. Returns the exit
+/// status: 0 if what was asked for exists, and 1 if it doesn't; 2, 3 and 4 are as for [`crate::run_script`].
 fn tell_script<T: Teller, R: BufRead, O: Write, E: Write>(
     teller: &T,
     alloc: Global,
@@ -109,7 +109,7 @@ fn tell_script<T: Teller, R: BufRead, O: Write, E: Write>(
     status
 }
 
-/// Has the tree told of, or tells that there is none.
+/// Prints what was asked about the tree, or that there is none.
 fn told<T: Teller, O: Write>(
     teller: &T,
     alloc: Global,
@@ -125,13 +125,13 @@ fn told<T: Teller, O: Write>(
     }
 }
 
-/// Reads a script to its end, and gives the session that it leaves, if there is a tree. Updates that are refused change
-/// nothing, and questions are passed over.
+/// Reads a script to its end and returns the session that it leaves, if there is a tree. Refused updates change
+/// nothing, and queries are skipped.
 ///
 /// # Errors
 ///
-/// The exit status, as [`crate::run_script`] has it: 2 for a bad line, which is told on `errors`; 3 for an error of the input
-/// or of `errors`; 4 for want of memory, which is told on `errors` too. An update that finds no memory is one.
+/// Returns the exit status, as for [`crate::run_script`]: 2 for a bad line, which is reported on `errors`; 3 for an
+/// error of the input or of `errors`; 4 if memory runs out, also in an update, which is reported on `errors` too.
 fn read_script<R: BufRead, E: Write>(
     alloc: Global,
     input: &mut R,

@@ -1,4 +1,4 @@
-//! Prints a tree as an outline.
+//! Printing a tree as an outline.
 
 use crate::printer::ShownId;
 use accesskit_consumer::node::{FullNodeId, NodeRef};
@@ -13,7 +13,7 @@ pub(crate) fn print_outline<O: Write>(
     state: StateRef,
     out: &mut O,
 ) -> Result<(), Stop> {
-    // What is still to be printed, with its depth; the last comes first.
+    // The nodes still to be printed, with their depths; the last comes first.
     let mut waiting = Vec::new(alloc);
     waiting.push((state.root().id(), 0usize))?;
     for _ in 0..u64::MAX {
@@ -29,7 +29,7 @@ pub(crate) fn print_outline<O: Write>(
     Ok(())
 }
 
-/// Adds a node's children, the last first. The only child of a graft is the root of the tree that it names, where that
+/// Adds a node's children, the last one first. The only child of a graft is the root of the tree that it names, if that
 /// tree is present.
 fn push_children(
     node: NodeRef,

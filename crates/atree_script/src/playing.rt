@@ -1,4 +1,4 @@
-//! Plays a script for someone who carries out its commands.
+//! Playing a script: reading its commands and having them carried out.
 
 use accesskit_consumer::tree::{TreeChangeHandler, UpdateError};
 use schema::TreeUpdate;
@@ -9,19 +9,19 @@ use std::io::BufRead;
 
 /// Carries out a script's commands.
 pub trait Player {
-    /// The first accepted update has made the tree.
+    /// Called when the first accepted update has made the tree.
     ///
     /// # Errors
     ///
-    /// Why the script stops there.
+    /// Returns why the script stops there.
     fn begin(&mut self, session: &Session) -> Result<(), Stop>;
 
-    /// An update would have made the tree, and was refused. Where nothing else is done of it, the script goes on, but not past
-    /// want of memory.
+    /// Called when an update that would have made the tree was refused. By default the script goes on, unless memory
+    /// ran out.
     ///
     /// # Errors
     ///
-    /// Why the script stops there.
+    /// Returns why the script stops there.
     fn refuse(&mut self, refusal: UpdateError) -> Result<(), Stop> {
         match refusal {
             UpdateError::Memory => Err(Stop::Memory),
@@ -33,40 +33,40 @@ pub trait Player {
     ///
     /// # Errors
     ///
-    /// Why the script stops there.
+    /// Returns why the script stops there.
     fn run(&mut self, session: &mut Session, command: Command) -> Result<(), Stop>;
 
-    /// Answers a question, perhaps before there is a tree. Where nothing else is done, it is passed over.
+    /// Answers a query, possibly before there is a tree. By default it is skipped.
     ///
     /// # Errors
     ///
-    /// Why the script stops there.
+    /// Returns why the script stops there.
     fn ask(&mut self, _session: &mut Option<Session>, _query: Query) -> Result<(), Stop> {
         Ok(())
     }
 
-    /// Prints the tree, if there is one. Where nothing else is done, this is passed over.
+    /// Prints the tree, if there is one. By default this is skipped.
     ///
     /// # Errors
     ///
-    /// Why the script stops there.
+    /// Returns why the script stops there.
     fn print(&mut self, _session: &Option<Session>) -> Result<(), Stop> {
         Ok(())
     }
 }
 
-/// What a script has left.
+/// The result of playing a script.
 #[derive(Drop)]
 pub struct Played {
     /// The session of the first accepted update, if there was one.
     pub session: Option<Session>,
-    /// What stopped the script before its end.
+    /// What stopped the script before its end, if anything did.
     pub ended: Result<(), Stop>,
-    /// The number of the last line that was read, from 1.
+    /// The number of the last line that was read, counted from 1.
     pub number: u64,
 }
 
-/// Plays a script to its end, or to what stops it. An update that is refused changes nothing.
+/// Plays a script to its end, or until something stops it. A refused update changes nothing.
 pub fn play<R: BufRead, P: Player>(alloc: Global, input: &mut R, player: &mut P) -> Played {
     let mut play = Playing {
         alloc,
@@ -82,11 +82,11 @@ pub fn play<R: BufRead, P: Player>(alloc: Global, input: &mut R, player: &mut P)
     }
 }
 
-/// Runs a command, whose events the handler is told.
+/// Runs a command, whose events the handler receives.
 ///
 /// # Errors
 ///
-/// `Stop::Memory`: the command found no memory, and did nothing.
+/// Returns `Stop::Memory` if memory runs out; the command then did nothing.
 pub fn run_told<H: TreeChangeHandler>(
     session: &mut Session,
     command: Command,
@@ -98,7 +98,7 @@ pub fn run_told<H: TreeChangeHandler>(
     }
 }
 
-/// A session as far as a script has played it.
+/// The session while a script is played.
 #[derive(Drop)]
 struct Playing {
     alloc: Global,
@@ -151,7 +151,7 @@ impl Playing {
         }
     }
 
-    /// Tells of the host's focus. Before there is a tree the focus is kept for it.
+    /// Sets the host's focus. Before there is a tree, it is kept for the tree.
     fn set_host_focus<P: Player>(
         &mut self,
         is_host_focused: bool,

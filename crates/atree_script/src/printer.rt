@@ -1,4 +1,4 @@
-//! Prints what a tree tells of its changes.
+//! The handler that prints events.
 ghost use Rattle.std.specs.Prelude.{◌≡◌, Some, None, IfNone, OnOk};
 ghost use Rattle.std.specs.Io.KnownBytes.{Appends};
 ghost use Rattle.atree_script.specs.Printed.{id_text, shown_or_dash, seen_id, focus_line, event_line};
@@ -9,7 +9,7 @@ use accesskit_consumer::tree::TreeChangeHandler;
 use std::fmt;
 use std::io::{self, Write};
 
-/// A node's id, printed as `1:2`: the index of its tree, and its id in the tree.
+/// A node's id, printed for example as `1:2`: the index of its tree, and its id in the tree.
 #[derive(Clone, Copy)]
 pub struct ShownId(pub FullNodeId);
 
@@ -23,7 +23,7 @@ impl fmt::Display for ShownId {
     }
 }
 
-/// An id, or `-` for none.
+/// An id, or `-` if there is none.
 #[derive(Clone, Copy)]
 struct ShownFocus(Option<FullNodeId>);
 
@@ -41,7 +41,7 @@ impl fmt::Display for ShownFocus {
     }
 }
 
-/// Prints each event on a line, up to the first fault of the writer.
+/// Prints each event on a line, until the writer's first error.
 #[derive(Drop)]
 pub(crate) struct Printer<W> {
     out: W,
@@ -56,7 +56,7 @@ impl<W: Write + Drop> Printer<W> {
         Printer { out, fault: None }
     }
 
-    /// Prints where the focus was, and where it is.
+    /// Prints the old and the new focus.
     fn print_focus(&mut self, old: Option<FullNodeId>, new: Option<FullNodeId>)
         ensures { IfNone self.new.fault ((self.old.fault ≡ None)
             × Appends (W.contents self.old.out) (W.contents self.new.out) (focus_line old new)) }
@@ -70,7 +70,7 @@ impl<W: Write + Drop> Printer<W> {
         }
     }
 
-    /// The first fault, if there was one.
+    /// The first error, if there was one.
     pub(crate) fn finish(self) -> io::Result<()>
         ensures { OnOk result (self.fault ≡ None) }
     {

@@ -1,4 +1,4 @@
-//! Prints why an update is refused.
+//! Printing why an update is refused.
 ghost use Rattle.std.specs.Prelude.{◌≡◌, OnOk};
 ghost use Rattle.std.specs.Io.KnownBytes.{Appends};
 ghost use Rattle.atree_script.specs.Refused.{refusal_line, refused_node, refused_tree};

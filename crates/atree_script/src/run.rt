@@ -1,4 +1,4 @@
-//! Runs a script.
+//! Running a script.
 ghost use Rattle.std.specs.Prelude.{◌≤◌, ◌≢◌};
 
 use crate::outline::print_outline;
@@ -12,10 +12,10 @@ use session::{Command, Query, Session};
 use std::alloc::Global;
 use std::io::{BufRead, Write};
 
-/// Runs a script to its end, or to what stops it, and answers the exit status: 0 at the end of the input; 2 for a line
-/// that is not read, whose number is told on `errors`; 3 for an error of the input or an output, after which nothing
-/// more is written; 4 for want of memory while a line is read or carried out, which is told on `errors` too. What was
-/// printed before stands in each case. An update that finds no memory is refused, and the script goes on.
+/// Runs a script to its end, or until something stops it, and returns the exit status: 0 at the end of the input; 2 for
+/// a bad line, whose number is reported on `errors`; 3 for an error of the input or an output, after which nothing more
+/// is written; 4 if memory runs out while a line is read or carried out, which is reported on `errors` too. What was
+/// printed before remains printed. If memory runs out in an update, the update is refused and the script goes on.
 pub fn run_script<R: BufRead, O: Write, E: Write>(
     alloc: Global,
     input: &mut R,
@@ -33,7 +33,7 @@ pub fn run_script<R: BufRead, O: Write, E: Write>(
     end_run(played.ended, played.number, output, errors)
 }
 
-/// Prints what each command does.
+/// Prints the effects of each command.
 #[derive(Drop)]
 struct Writing<'a, O> {
     alloc: Global,
@@ -46,7 +46,7 @@ impl<'a, O: Write> Player for Writing<'a, O> {
         Ok(())
     }
 
-    /// Prints why the update is refused, want of memory too.
+    /// Prints why the update is refused, also if memory ran out.
     fn refuse(&mut self, refusal: UpdateError) -> Result<(), Stop> {
         write_refusal(refusal, self.output)?;
         Ok(())

@@ -1,4 +1,4 @@
-//! What is told of a node that was found.
+//! Printing a node that was found.
 
 use accesskit_consumer::filters::common_filter;
 use accesskit_consumer::node::NodeRef;
@@ -7,7 +7,7 @@ use schema::{Point, WideRect};
 use std::alloc::Global;
 use std::io::{self, Write};
 
-/// Tells of a node: its id, value, path and bounds, and what lies at its middle.
+/// Prints a node: its id, value, path and bounds, and the node at its centre.
 pub(crate) fn report<O: Write>(alloc: Global, node: NodeRef, out: &mut O) -> Result<(), Stop> {
     let id = ShownId(node.id());
     writeln!(out, "{id}")?;
@@ -23,7 +23,7 @@ pub(crate) fn report<O: Write>(alloc: Global, node: NodeRef, out: &mut O) -> Res
     write_middle(alloc, node, bounds, out)
 }
 
-/// Writes the node's path: each node from the root on to it, by its role and label.
+/// Writes the node's path: the role and label of each node from the root to it.
 fn write_path<O: Write>(alloc: Global, node: NodeRef, out: &mut O) -> Result<(), Stop> {
     let mut upward = Vec::new(alloc);
     let mut at = Some(node);
@@ -45,7 +45,7 @@ fn write_path<O: Write>(alloc: Global, node: NodeRef, out: &mut O) -> Result<(),
     Ok(())
 }
 
-/// Writes a space, the node's role, and its label in quotes where it has one.
+/// Writes a space, the node's role, and its label in quotes if it has one.
 fn write_name<O: Write>(alloc: Global, node: NodeRef, out: &mut O) -> Result<(), Stop> {
     let role = node.role();
     write!(out, " {role}")?;
@@ -62,7 +62,7 @@ fn write_in_quotes<O: Write>(text: &str, out: &mut O) -> io::Result<()> {
     out.write_all(b"\"")
 }
 
-/// Writes what lies at the middle of the node: the node itself, another one within it, one that covers it, or none.
+/// Writes which node is at the centre of the node: the node itself, another one within it, one that covers it, or none.
 fn write_middle<O: Write>(
     alloc: Global,
     node: NodeRef,
@@ -91,7 +91,7 @@ fn write_middle<O: Write>(
     Ok(())
 }
 
-/// The middle of a rectangle as the root sees it: without the root's own move.
+/// The centre of a rectangle in the root's coordinates, without the root's own translation.
 fn middle(root: NodeRef, bounds: WideRect) -> Option<Point> {
     let center = bounds.center()?;
     let moved = root.direct_transform();

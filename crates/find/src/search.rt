@@ -1,4 +1,4 @@
-//! Searches the tree that a script leaves.
+//! Searching the tree that a script leaves.
 ghost use Rattle.std.specs.Prelude.{◌≡◌, ◌==◌, length, IfOk, option_map, string_bytes};
 ghost use Rattle.model.specs.Filters.{common_filter as common};
 ghost use Rattle.views.specs.Descendants.{filtered_descendants};
@@ -16,7 +16,7 @@ use session::ids_of;
 use std::alloc::{AllocError, Global};
 use std::io::Write;
 
-/// Tells of each node that is wanted from the top on, and answers whether there is exactly one.
+/// Prints each matching node from the top on, and returns whether there is exactly one.
 pub(crate) fn tell_found<O: Write>(
     alloc: Global,
     top: NodeRef,
@@ -38,7 +38,7 @@ pub(crate) fn tell_found<O: Write>(
     Ok(ids.len() == 1)
 }
 
-/// The ids of the nodes that are wanted, from the top on.
+/// The ids of the matching nodes, from the top on.
 fn found_ids(alloc: Global, top: NodeRef, wanted: &Wanted) -> Result<Vec<FullNodeId>, AllocError>
     ensures { let label = option_map string_bytes wanted.now.label in
         IfOk result (λ ids. ids.items ≡ found wanted.now.role label (world_at top.entry) (id_at top.entry)) }
@@ -53,7 +53,7 @@ fn found_ids(alloc: Global, top: NodeRef, wanted: &Wanted) -> Result<Vec<FullNod
     Ok(ids)
 }
 
-/// The ids of what the common filter shows, from the top on.
+/// The ids of the nodes that the common filter shows, from the top on.
 fn shown_ids(alloc: Global, top: NodeRef) -> Result<Vec<FullNodeId>, AllocError>
     ensures { IfOk result (λ ids. ids.items ≡ shown_from (world_at top.entry) (id_at top.entry)) }
 {
@@ -64,7 +64,7 @@ fn shown_ids(alloc: Global, top: NodeRef) -> Result<Vec<FullNodeId>, AllocError>
     Ok(ids)
 }
 
-/// The ids of what the common filter shows below the top.
+/// The ids of the nodes that the common filter shows below the top.
 fn ids_below(alloc: Global, top: NodeRef) -> Result<Vec<FullNodeId>, AllocError>
     ensures { let w = world_at top.entry in
         IfOk result (λ ids. ids.items ≡ filtered_descendants (common w) w (id_at top.entry)) }
@@ -73,7 +73,7 @@ fn ids_below(alloc: Global, top: NodeRef) -> Result<Vec<FullNodeId>, AllocError>
     ids_of(alloc, top.filtered_descendants(shown))
 }
 
-/// Whether the node is there, with the role, and with the label where one is sought.
+/// Whether the node exists and has the role, and the label if one is given.
 fn is_wanted(
     alloc: Global,
     state: StateRef,
@@ -92,7 +92,7 @@ fn is_wanted(
     is_labelled(alloc, node, wanted)
 }
 
-/// Whether the node has the label, where one is sought.
+/// Whether the node has the label, if one is given.
 fn is_labelled(alloc: Global, node: NodeRef, wanted: &Wanted) -> Result<bool, AllocError>
     ensures { let label = option_map string_bytes wanted.now.label in
         IfOk result (λ is. is ≡ is_labelled label (world_at node.entry) (id_at node.entry)) }

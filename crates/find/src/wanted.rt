@@ -1,4 +1,4 @@
-//! What the arguments ask for.
+//! The arguments of the program.
 
 use crate::search::tell_found;
 use atree_script::{Arguments, Stop, Teller, role_named};
@@ -8,11 +8,11 @@ use std::alloc::Global;
 use std::env::Args;
 use std::io::Write;
 
-/// A node that is sought.
+/// The role and label to search for.
 #[derive(Drop)]
 pub(crate) struct Wanted {
     pub(crate) role: Role,
-    /// Any label will do where none is given.
+    /// `None` matches any label.
     pub(crate) label: Option<String>,
 }
 
@@ -21,7 +21,7 @@ impl Arguments for Wanted {
         "find ROLE [LABEL]"
     }
 
-    /// A role, and a label where there is one.
+    /// A role, and a label if there is one.
     fn from_arguments(args: Args) -> Option<Wanted> {
         let mut args = args;
         let _program = args.next()?;
@@ -35,7 +35,7 @@ impl Arguments for Wanted {
 }
 
 impl Teller for Wanted {
-    /// Tells of each node that is wanted of the tree, and answers whether there is exactly one.
+    /// Prints each matching node of the tree, and returns whether there is exactly one.
     fn tell<O: Write>(
         &self,
         alloc: Global,

@@ -1,5 +1,5 @@
-//! Makes each call that takes memory in turn, and prints what it answers. A call that finds no memory is made again, after a
-//! line that says so.
+//! Makes each call that allocates in turn, and prints its result. If a call's allocation fails, a line reports that and
+//! the call is repeated.
 
 use crate::planting::update;
 use crate::reading::{READINGS, Reading, read};
@@ -9,7 +9,7 @@ use schema::{Node, Role, TextBuffer, TextWrite};
 use std::alloc::Global;
 use std::io;
 
-/// Sets a field of a node and then of its twin. Where one finds no memory they are still equal, but for what was set
+/// Sets a field of a node and then of its twin. If an allocation fails, they are still equal but for what was set
 /// before.
 fn tell_set(
     rt: &impl Print,

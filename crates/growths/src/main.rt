@@ -12,7 +12,7 @@ mod setting;
 use anyhow::anyhow;
 use std::env::{Env, FillError};
 
-/// What is run.
+/// What to run.
 #[derive(Clone, Copy)]
 enum Wanted {
     Session,
@@ -21,7 +21,7 @@ enum Wanted {
     Unknown,
 }
 
-/// What the first argument asks for. Reading it takes no memory.
+/// The choice that the first argument makes. Reading it doesn't allocate.
 fn asked_for(rt: &impl Env) -> Wanted {
     let mut word = [0u8; 16];
     match rt.arg(1, &mut word) {

@@ -89,7 +89,7 @@ fn print_tree(rt: &impl Print, state: StateRef) -> io::Result<()> {
     }
 }
 
-/// Whether the mirror has of this node what the state has of it.
+/// Whether the mirror's record of this node equals the state's.
 fn is_mirrored(mirror: &Mirror, state: StateRef, id: FullNodeId) -> bool {
     let Some(records) = mirror.records() else {
         return false;
@@ -107,7 +107,7 @@ fn is_mirrored(mirror: &Mirror, state: StateRef, id: FullNodeId) -> bool {
     }
 }
 
-/// What the mirror has of the tree.
+/// What the mirror keeps of the tree, in words.
 fn mirrored(mirror: &Mirror, state: StateRef) -> &'static str {
     let focus = match state.focus() {
         Some(node) => Some(node.id()),

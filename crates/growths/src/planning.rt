@@ -44,7 +44,8 @@ fn first(alloc: Global) -> Result<TreeUpdate, AllocError> {
     })
 }
 
-/// The button moves into a new toolbar and gets the focus, the old toolbar goes, and the graft is one of another tree.
+/// The button moves into a new toolbar and gets the focus, the old toolbar is removed, and the graft names another
+/// tree.
 fn second(alloc: Global) -> Result<TreeUpdate, AllocError> {
     let nodes = vec![in alloc;
         (WINDOW, parent(alloc, Role::Window, &[GRAFT, NEW_TOOLBAR])?),

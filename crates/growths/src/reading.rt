@@ -1,4 +1,4 @@
-//! Calls on a tree and its views that take memory, and the plan of an update.
+//! Calls on a tree and its views that allocate, and the plan of an update.
 
 use crate::planning::plan;
 use crate::planting::{CHECK_BOX, PASSWORD, RUN, WINDOW, update};
@@ -44,25 +44,25 @@ pub static READINGS: [Reading; 14] = [
     Reading::PlanOfUpdate,
 ];
 
-/// What a call answers.
+/// The result of a call.
 #[derive(Debug, Drop)]
 pub enum Answer {
     Text(Option<String>),
     Path(Vec<usize>),
     Boxes(Vec<WideRect>),
-    /// How many pieces were passed.
+    /// The number of pieces passed.
     Pieces(usize),
     /// The path and the index of the end of a weak range.
     End(Vec<usize>, usize),
     /// Whether a copy is equal.
     IsEqual(bool),
-    /// How many changes a plan has, and how many events.
+    /// The numbers of changes and events of a plan.
     Plan(usize, usize),
-    /// Why an update is refused, if not for want of memory.
+    /// The reason why an update is refused, other than lack of memory.
     Refused(UpdateError),
-    /// What is to be read isn't there.
+    /// What should be read doesn't exist.
     Absent,
-    /// Pieces were passed before there was no memory.
+    /// Pieces were passed before the allocation failed.
     TooLate,
 }
 
@@ -91,7 +91,7 @@ fn run_path(alloc: Global, state: StateRef, is_relative: bool) -> Result<Answer,
     Ok(Answer::Path(run.index_path(alloc)?))
 }
 
-/// How many pieces a range has. None is passed where there is no memory.
+/// The number of pieces of a range. None is passed if an allocation fails.
 fn pieces(alloc: Global, range: &TextRange) -> Result<Answer, AllocError> {
     let mut count = 0usize;
     let passed = range.traverse_text(alloc, |_: &NodeRef<'_>, _: &str| {
@@ -155,7 +155,7 @@ fn copy_update(alloc: Global) -> Result<Answer, AllocError> {
     Ok(Answer::IsEqual(copy.nodes == update.nodes))
 }
 
-/// Whether a mirror has the run as the tree has it.
+/// Whether the mirror's record of the run equals the tree's.
 fn mirror_run(alloc: Global, tree: &Tree) -> Result<Answer, AllocError> {
     let mirror = Mirror::new(alloc, tree)?;
     let (Some(run), Some(records)) = (node(tree.state().view(), RUN), mirror.records()) else {
@@ -167,7 +167,7 @@ fn mirror_run(alloc: Global, tree: &Tree) -> Result<Answer, AllocError> {
     }
 }
 
-/// What a plan has. An update that is refused for want of memory is one that can be tried again.
+/// The lengths of a plan. An update that is refused for lack of memory can be tried again.
 fn plan_lengths(alloc: Global) -> Result<Answer, AllocError> {
     match plan(alloc) {
         Ok(plan) => Ok(Answer::Plan(plan.changes.len(), plan.events.len())),

@@ -1,4 +1,4 @@
-//! Setters that take memory.
+//! Setters that allocate.
 
 use schema::{Node, NodeId};
 use std::alloc::AllocError;

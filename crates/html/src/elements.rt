@@ -1,4 +1,4 @@
-//! Writes elements and attributes with texts in them.
+//! Writing elements and attributes with texts in them.
 ghost use Rattle.std.specs.Prelude.{OnOk};
 ghost use Rattle.std.specs.Io.KnownBytes.{Appends};
 ghost use Rattle.html.specs.Escaped.{attribute_text, content_text, element_text};
@@ -6,11 +6,12 @@ ghost use Rattle.html.specs.Escaped.{attribute_text, content_text, element_text}
 use crate::escaping::write_escaped;
 use std::io::{self, Write};
 
-/// Writes a space, and an attribute with this name and this text as its value: ` name="text"`. The name is written as it is.
+/// Writes a space, and an attribute with this name and this text as its value: ` name="text"`. The name is written
+/// unchanged.
 ///
 /// # Errors
 ///
-/// The output gave an error.
+/// Returns the error of the output.
 pub fn write_attribute<O: Write>(name: &str, text: &str, out: &mut O) -> io::Result<()>
     ensures { OnOk result (Appends (O.contents out.old) (O.contents out.new) (attribute_text name.now text.now)) }
 {
@@ -19,12 +20,12 @@ pub fn write_attribute<O: Write>(name: &str, text: &str, out: &mut O) -> io::Res
     out.write_all(b"\"")
 }
 
-/// Writes an element with this name and class, and this text in it: `<name class="class">text</name>`. The name is written
-/// as it is.
+/// Writes an element with this name and class, and this text in it: `<name class="class">text</name>`. The name is
+/// written unchanged.
 ///
 /// # Errors
 ///
-/// The output gave an error.
+/// Returns the error of the output.
 pub fn write_element<O: Write>(name: &str, class: &str, text: &str, out: &mut O) -> io::Result<()>
     ensures { OnOk result (Appends (O.contents out.old) (O.contents out.new) (element_text name.now class.now text.now)) }
 {
@@ -33,7 +34,7 @@ pub fn write_element<O: Write>(name: &str, class: &str, text: &str, out: &mut O)
     write_content(name, text, out)
 }
 
-/// Writes the end of an element's first tag, what stands in the element, and its last tag.
+/// Writes the end of an element's start tag, its contents, and its end tag.
 fn write_content<O: Write>(name: &str, text: &str, out: &mut O) -> io::Result<()>
     ensures { OnOk result (Appends (O.contents out.old) (O.contents out.new) (content_text name.now text.now)) }
 {

@@ -1,16 +1,16 @@
-//! Writes texts so that a page shows them as they are.
+//! Escaping of texts.
 ghost use Rattle.std.specs.Prelude.{OnOk};
 ghost use Rattle.std.specs.Io.KnownBytes.{Appends};
 ghost use Rattle.html.specs.Escaped.{escaped_byte, escaped};
 
 use std::io::{self, Write};
 
-/// Writes a text as it stands in a page, between tags or in a quoted attribute: each of `<`, `>`, `&`, `"` and `'` as its
-/// entity, and all else as it is.
+/// Writes a text for a page, between tags or in a quoted attribute: each of `<`, `>`, `&`, `"` and `'` as its entity,
+/// and all else unchanged.
 ///
 /// # Errors
 ///
-/// The output gave an error. Of the text a beginning may have been written.
+/// Returns the error of the output. A beginning of the text may have been written.
 pub fn write_escaped<O: Write>(text: &str, out: &mut O) -> io::Result<()>
     ensures { OnOk result (Appends (O.contents out.old) (O.contents out.new) (escaped text.now)) }
 {

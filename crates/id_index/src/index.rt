@@ -15,7 +15,7 @@ use std::alloc::{AllocError, Global};
 use std::collections::BTreeMap;
 use std::marker::Model;
 
-/// As many values as an index keeps, far beyond any memory.
+/// The maximum number of values of an index, far beyond any memory.
 const MOST: usize = isize::MAX as usize;
 
 /// Values by id.
@@ -76,7 +76,7 @@ impl<V: Drop> IdIndex<V> {
         self.get(id).is_some()
     }
 
-    /// The value at an id, for writing.
+    /// The value at an id, as a mutable reference.
     pub fn get_mut(&mut self, id: &FullNodeId) -> Option<&mut V>
         ensures* writes_back { sem 𝓛 (lends_get V.row self.entry id.now result) }
         ensures value { option_copied_mut result ≡ value_at self.old id.now }
@@ -87,11 +87,11 @@ impl<V: Drop> IdIndex<V> {
         self.others.get_mut(id)
     }
 
-    /// Gives an id this value, and answers the one that it had.
+    /// Sets the value at an id and returns the one that it had.
     ///
     /// # Errors
     ///
-    /// `AllocError`: memory was wanting. Each id has the value that it had.
+    /// Returns `AllocError` if memory runs out; the index is then unchanged.
     pub fn insert(&mut self, id: FullNodeId, value: V) -> Result<Option<V>, AllocError>
         ensures old { IfOk result (λ old. old ≡ value_at self.old id) }
         ensures updates { OnOk result ((q : FullNodeId) → value_at self.new q ≡ cond (is_at (full_cmp id) q) (Some value) (value_at self.old q)) }
@@ -114,7 +114,7 @@ impl<V: Drop> IdIndex<V> {
         Ok(None)
     }
 
-    // makes a cell for an id that is to have one
+    // makes a cell for an id that should have one
     fn make_place(&mut self, id: FullNodeId) -> Result<(), AllocError>
         ensures { self.new ≡ self.old }
     {
@@ -124,7 +124,7 @@ impl<V: Drop> IdIndex<V> {
         self.rows.make_cell(self.alloc, id)
     }
 
-    /// Takes away the value of an id.
+    /// Removes the value at an id.
     pub fn remove(&mut self, id: &FullNodeId) -> Option<V>
         ensures old { result ≡ value_at self.old id.now }
         ensures updates { (q : FullNodeId) → value_at self.new q ≡ cond (is_at (full_cmp id.now) q) None (value_at self.old q) }
@@ -142,7 +142,7 @@ impl<V: Drop> IdIndex<V> {
     ///
     /// # Errors
     ///
-    /// `AllocError`: memory was wanting.
+    /// Returns `AllocError` if memory runs out.
     pub fn ids(&self, alloc: Global) -> Result<Vec<FullNodeId>, AllocError>
         ensures { IfOk result (λ ids. ids.items ≡ keys_of self.now) }
     {
@@ -154,7 +154,7 @@ impl<V: Drop> IdIndex<V> {
     }
 }
 
-// one where there is no value
+// one if there is no value
 fn missing<V>(old: &Option<V>) -> usize
     ensures { result + size old.now ≡ 1 }
 {

@@ -60,7 +60,7 @@ impl<V: Drop> Row<V> {
         cell.as_ref()
     }
 
-    /// Sets a cell, and answers what was there.
+    /// Sets a cell and returns its old value.
     pub(crate) fn set(&mut self, index: usize, value: Option<V>) -> Option<V>
         requires { index < length self.old }
         ensures old { slice_get self.old index ≡ Some result }
@@ -81,7 +81,7 @@ impl<V: Drop> Row<V> {
     }
 
     #[tactic(auto, using(crate::proofs::Entries::row_pushed_after, crate::proofs::Entries::count_pushed))]
-    /// Adds so many empty cells. Where memory is refused there are fewer.
+    /// Adds this many empty cells, or fewer if memory runs out.
     pub(crate) fn extend(&mut self, more: usize) -> Result<(), AllocError>
         ensures same { HaveEntriesOf self.new self.old }
         ensures ok { OnOk result (length self.new ≡ length self.old + more) }
@@ -93,7 +93,7 @@ impl<V: Drop> Row<V> {
     }
 
     #[tactic(auto, using(crate::proofs::Entries::row_ids))]
-    /// Adds to these the ids of a tree that have a value.
+    /// Appends the ids of a tree that have a value.
     pub(crate) fn push_ids(&self, tree: u32, ids: &mut Vec<FullNodeId>) -> Result<(), AllocError>
         ensures { OnOk result (ids.new.items ≡ ids.old.items ++ keys_of (row_entries tree 0 self.now)) }
     {
@@ -106,7 +106,7 @@ impl<V: Drop> Row<V> {
         Ok(())
     }
 
-    /// Takes away empty cells at the end.
+    /// Removes empty cells at the end.
     pub(crate) fn trim(&mut self)
         ensures same { HaveEntriesOf self.new self.old }
     {

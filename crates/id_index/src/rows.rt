@@ -56,8 +56,8 @@ impl<V: Drop> Rows<V> {
         }
     }
 
-    /// Whether an id that has no cell is to have one: it is of a tree with a row or of the next, and its cells are then four times
-    /// as many as the values in them, or 64 more, at the most.
+    /// Whether an id without a cell should get one: it is of a tree with a row or of the next tree, and the row's cells
+    /// would be at most four times the number of values in them, plus 64.
     pub(crate) fn takes(&self, id: FullNodeId) -> bool
         ensures there { IsTrue result → id.tree ≤ length self.now }
         ensures fits { IsTrue result → id.node.0 < 2 ^ 62 }
@@ -73,7 +73,7 @@ impl<V: Drop> Rows<V> {
         id.node.0 / 4 < used.min(1 << 59) as u64 + 16
     }
 
-    /// Puts a value into the cell of an id, and answers what was there.
+    /// Puts a value into the cell of an id and returns the old one.
     #[tactic(auto, using(crate::proofs::Entries::cell_steps))]
     pub(crate) fn put(&mut self, id: FullNodeId, value: Option<V>) -> Option<V>
         requires { IsSome (cell_of self.old id) }
@@ -92,7 +92,7 @@ impl<V: Drop> Rows<V> {
         self.rows[id.tree as usize].value_mut(id.node.0 as usize)
     }
 
-    /// Takes the value out of the cell of an id, where it has one.
+    /// Takes the value out of the cell of an id, if it has one.
     #[tactic(auto, using(crate::proofs::Entries::cell_steps))]
     pub(crate) fn take(&mut self, id: FullNodeId) -> Option<V>
         ensures old { result ≡ cell_at self.old id }
@@ -107,7 +107,7 @@ impl<V: Drop> Rows<V> {
         value
     }
 
-    /// Takes away a tree's empty cells at the end.
+    /// Removes a tree's empty cells at the end.
     #[tactic(auto, using(crate::proofs::Entries::cell_steps))]
     fn trim(&mut self, tree: u32)
         requires { tree < length self.old }
@@ -138,7 +138,7 @@ impl<V: Drop> Rows<V> {
         Ok(ids)
     }
 
-    /// Makes a cell for a node id of a tree that has a row. Where memory is refused there may be more empty cells.
+    /// Makes a cell for a node id of a tree that has a row. If memory runs out, some empty cells may have been added.
     #[tactic(auto, using(crate::proofs::Entries::cell_steps))]
     fn extend(&mut self, id: FullNodeId) -> Result<(), AllocError>
         requires there { id.tree < length self.old }
@@ -155,7 +155,8 @@ impl<V: Drop> Rows<V> {
         row.extend(node - len + 1)
     }
 
-    /// Makes a cell for an id of a tree that has a row or is the next. Where memory is refused there may be more empty cells.
+    /// Makes a cell for an id of a tree that has a row or is the next. If memory runs out, some empty cells may have
+    /// been added.
     #[tactic(auto, using(crate::proofs::Entries::cell_steps))]
     pub(crate) fn make_cell(&mut self, alloc: Global, id: FullNodeId) -> Result<(), AllocError>
         requires there { id.tree ≤ length self.old }

@@ -1,12 +1,12 @@
-//! What a filter says of a node.
+//! The answers of filters.
 
-/// What a filter makes of a node. An answer that leaves more out is the greater one.
+/// A filter's answer for a node. An answer that excludes more is the greater one.
 #[derive(Clone, Copy, Debug, PartialEq, Eq, PartialOrd, Ord, Hash)]
 pub enum FilterResult {
-    /// The node is shown.
+    /// The node is included.
     Include,
-    /// The node is left out, and what is below it is looked at.
+    /// The node is excluded alone; the nodes below it are still looked at.
     ExcludeNode,
-    /// The node is left out with all that is below it.
+    /// The node is excluded with its subtree.
     ExcludeSubtree,
 }

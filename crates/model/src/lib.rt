@@ -13,17 +13,17 @@ pub use events::PlanEvent;
 pub use queries::{At, Move, NamedFilter, NodeName, Query, Side};
 use schema::NodeId;
 
-/// Names a node of a state.
+/// The id of a node in a state: its tree's index, and its id within the tree.
 #[derive(Clone, Copy, Debug, PartialEq, Eq, PartialOrd, Ord, Hash)]
 pub struct FullNodeId {
     pub tree: u32,
     pub node: NodeId,
 }
 
-/// A parent, and the index among its children.
+/// A place: a parent's id, and an index among its children.
 pub type Place = (FullNodeId, usize);
 
-/// The node id, shifted left by 64 bits, over the tree's index.
+/// The node id, shifted left by 64 bits, plus the tree's index.
 impl From<FullNodeId> for u128 {
     ghost from_gives = { λ id number. number ≡ full_number id };
 

@@ -1,4 +1,4 @@
-//! What can be asked of a state, as plain values.
+//! Queries about a state, as plain values.
 use schema::{NodeId, Point, TreeId};
 
 /// The two sides of a place where two runs of a text meet.
@@ -10,14 +10,14 @@ pub enum Side {
     End,
 }
 
-/// A place in the text of a node: a global index in scalars, and the side on which it is where two runs meet.
+/// A position in the text of a node: a global index in scalars, and the side to take where two runs meet.
 #[derive(Clone, Copy, Debug, PartialEq, Eq)]
 pub struct At {
     pub index: usize,
     pub side: Side,
 }
 
-/// A move of a position, named as the call that makes it.
+/// A caret movement, with the name of the call that makes it.
 #[derive(Clone, Copy, Debug, PartialEq, Eq)]
 pub enum Move {
     ForwardToCharacterStart,
@@ -42,7 +42,7 @@ pub enum Move {
     DocumentStart,
 }
 
-/// A filter by its name.
+/// A filter, by name.
 #[derive(Clone, Copy, Debug, PartialEq, Eq)]
 pub enum NamedFilter {
     /// Includes every node.
@@ -53,10 +53,10 @@ pub enum NamedFilter {
     CommonWithRoot,
 }
 
-/// A node, by its id within its tree and the tree's name.
+/// A node, by its id within its tree and the id of the tree.
 pub type NodeName = (NodeId, TreeId);
 
-/// A question. All but `Focus` are asked of a node, which comes first.
+/// A query. All but `Focus` are about a node, which comes first.
 #[derive(Clone, Copy, Debug, PartialEq, Eq)]
 pub enum Query {
     Children(NodeName),
@@ -69,16 +69,16 @@ pub enum Query {
     Value(NodeName),
     /// The size of the node's set and the position in it, by a filter.
     Set(NodeName, NamedFilter),
-    /// The text of the node's runs, where they make one.
+    /// The text of the node's runs, if they make one.
     Text(NodeName),
-    /// What is hit at a point, by a filter.
+    /// The node hit at a point, by a filter.
     Hit(NodeName, Point, NamedFilter),
     /// The focus, as `focus` answers it.
     Focus,
-    /// Where a move leads from a place in the node's text.
+    /// Where a caret movement from a position in the node's text ends.
     Move(NodeName, At, Move),
-    /// The indexes of a place in the node's text.
+    /// The indexes of a position in the node's text.
     Indexes(NodeName, At),
-    /// The text from one place in the node's text to another.
+    /// The text from one position in the node's text to another.
     RangeText(NodeName, At, At),
 }

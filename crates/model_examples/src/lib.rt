@@ -7,22 +7,22 @@ ghost use Rattle.model_examples.specs.Places.{OfMovedRun, OfWidths, OfLineEnds, 
 ghost use Rattle.model_examples.specs.Abilities.{OfButtons, FocusedIsFocusable};
 ghost use Rattle.model_examples.specs.Definitions.{RootIsOfTheRootTree, CountsAreEnough, ListsAreAlike, PasswordsAreMeasuredAlike, AbsentNodeIsCutOff};
 
-/// Questions about lists and texts may find no memory, those about one node don't.
+/// Queries about lists and texts allocate, those about one node don't.
 pub fn questions_take_memory()
     ensures { TakeMemory }
 {}
 
-/// Indexes are counted in scalars, also where a character has two units.
+/// Indexes count scalars, even if a character has two UTF-16 code units.
 pub fn wide_text_is_indexed()
     ensures { OfWideText }
 {}
 
-/// In a text of two lines the starts and the ends of words, and of pages, are different places.
+/// In a text of two lines, the starts and the ends of words, and of pages, are different positions.
 pub fn lines_are_walked()
     ensures { OfTwoLines }
 {}
 
-/// No root of a grafted tree is the root.
+/// The root of a grafted tree is not the root.
 pub fn root_is_of_the_root_tree()
     ensures { RootIsOfTheRootTree }
 {}
@@ -32,7 +32,7 @@ pub fn counts_are_enough()
     ensures { CountsAreEnough }
 {}
 
-/// A list is alike where its last item is, too.
+/// Lists are alike only if their last items are, too.
 pub fn lists_are_alike()
     ensures { ListsAreAlike }
 {}
@@ -42,7 +42,7 @@ pub fn passwords_are_measured_alike()
     ensures { PasswordsAreMeasuredAlike }
 {}
 
-/// A point is in a run that is moved as the root sees it, whatever moves the root.
+/// A point is in a translated run in the root's coordinates, whatever translates the root.
 pub fn moved_run_has_its_points()
     ensures { OfMovedRun }
 {}
@@ -52,27 +52,27 @@ pub fn widths_meet()
     ensures { OfWidths }
 {}
 
-/// A line ends at its last index alone.
+/// A line ends only at its last index.
 pub fn lines_end_once()
     ensures { OfLineEnds }
 {}
 
-/// Where no run has what is looked for, the text's start is found.
+/// If no run passes the test, the start of the text is found.
 pub fn starts_are_found()
     ensures { OfStarts }
 {}
 
-/// A button that is toggled, expanded or selected isn't only clicked.
+/// A button that can be toggled, expanded or selected isn't only clicked.
 pub fn buttons_are_more_than_clicked()
     ensures { OfButtons }
 {}
 
-/// The node that has the focus can have it.
+/// The focused node is focusable.
 pub fn focused_is_focusable()
     ensures { FocusedIsFocusable }
 {}
 
-/// A node that isn't there labels nothing.
+/// A node that isn't in the state labels nothing.
 pub fn absent_node_is_cut_off()
     ensures { AbsentNodeIsCutOff }
 {}

@@ -1,10 +1,10 @@
-//! Rectangles of a picture.
+//! The rectangles of a picture.
 
 use crate::places::Place;
 use accesskit_consumer::FilterResult;
 use schema::WideRect;
 
-/// A rectangle in units, each axis from the lesser to the greater.
+/// A rectangle in units of 1/64 pixel, on each axis from the lower to the higher coordinate.
 #[derive(Clone, Copy, Debug, PartialEq, Eq)]
 pub(crate) struct Frame {
     pub x0: i64,
@@ -14,7 +14,7 @@ pub(crate) struct Frame {
 }
 
 impl Frame {
-    /// The rectangle of a node. What lies past 64 bits is drawn at their end.
+    /// The rectangle of a node, clamped to 64 bits.
     pub(crate) fn of(rect: WideRect) -> Frame {
         Frame {
             x0: near(rect.x0),
@@ -24,17 +24,17 @@ impl Frame {
         }
     }
 
-    /// How wide it is; 1 at least, so that it is seen.
+    /// The width, at least 1, so that it is visible.
     pub(crate) fn width(self) -> u64 {
         self.x1.abs_diff(self.x0).max(1)
     }
 
-    /// How high it is; 1 at least, so that it is seen.
+    /// The height, at least 1, so that it is visible.
     pub(crate) fn height(self) -> u64 {
         self.y1.abs_diff(self.y0).max(1)
     }
 
-    /// The least one that has both in it.
+    /// The smallest rectangle that contains both.
     fn around(self, other: Frame) -> Frame {
         Frame {
             x0: self.x0.min(other.x0),
@@ -44,7 +44,7 @@ impl Frame {
         }
     }
 
-    /// What both have in them.
+    /// The intersection of both.
     fn within(self, other: Frame) -> Frame {
         Frame {
             x0: self.x0.max(other.x0),
@@ -54,7 +54,7 @@ impl Frame {
         }
     }
 
-    /// The same with so much more on each side.
+    /// The rectangle with this much more on each side.
     pub(crate) fn widened(self, by: u64) -> Frame {
         let by = i64::try_from(by).unwrap_or(i64::MAX);
         Frame {
@@ -71,7 +71,7 @@ impl Frame {
     }
 }
 
-/// The number, or the end of 64 bits that is nearest to it.
+/// The number, clamped to 64 bits.
 fn near(number: i128) -> i64 {
     match i64::try_from(number) {
         Ok(number) => number,
@@ -80,12 +80,12 @@ fn near(number: i128) -> i64 {
     }
 }
 
-/// The rectangles that have boxes of nodes in them.
+/// The extents of the nodes' boxes.
 #[derive(Clone, Copy, Debug, PartialEq, Eq)]
 struct Extent {
-    /// All boxes of nodes that the common filter includes.
+    /// The extent of the boxes of nodes that the common filter includes.
     shown: Option<Frame>,
-    /// All boxes.
+    /// The extent of all boxes.
     all: Option<Frame>,
 }
 
@@ -106,7 +106,7 @@ impl Extent {
         }
     }
 
-    /// What a picture shows: all boxes that are included, and others as far as they are near to those.
+    /// The frame of a picture: all boxes of included nodes, and others as far as they are near those.
     fn picture(self) -> Option<Frame> {
         let all = self.all?;
         let Some(shown) = self.shown else {
@@ -116,7 +116,7 @@ impl Extent {
     }
 }
 
-/// The least rectangle that has both in it, where there is a first one.
+/// The smallest rectangle that contains both, if there is a first one, and otherwise the second.
 fn around(frame: Option<Frame>, other: Frame) -> Frame {
     match frame {
         Some(frame) => frame.around(other),
@@ -124,7 +124,7 @@ fn around(frame: Option<Frame>, other: Frame) -> Frame {
     }
 }
 
-/// What a picture of these nodes shows, where one has a box.
+/// The frame of a picture of these nodes, if one of them has a box.
 pub(crate) fn picture_frame(places: &[Place]) -> Option<Frame> {
     let mut extent = Extent {
         shown: None,

@@ -1,4 +1,4 @@
-//! What is known of a node from what is known of its parent, so that a walk down a tree needn't climb from each node.
+//! Properties of a node that are computed from its parent's, so that a walk down a tree needn't climb from each node.
 ghost use Rattle.std.specs.Prelude.{◌≡◌, ◌+ℤ◌, int_lt, None, Some, IfSome};
 ghost use Rattle.std.specs.Int.{int_min, int_max};
 ghost use Rattle.model.specs.Geometry.{transform, bounding_box, whole_rect, moved_rect};
@@ -13,34 +13,34 @@ use accesskit_consumer::{FilterResult, FullNodeId, NodeRef, common_filter};
 use schema::{Rect, Role, Translation, WideRect, WideTranslation};
 use views::node::geometry::ordered;
 
-/// What is known of a node, and what the nodes below it need of that.
+/// The properties of a node that the page shows or that the nodes below it need.
 #[derive(Clone, Copy)]
 pub(crate) struct Known {
-    /// By how much it is moved.
+    /// By how much the node is shifted.
     pub shift: WideTranslation,
-    /// Its box, if it has one.
+    /// The node's box, if it has one.
     pub rect: Option<WideRect>,
-    /// Whether it or a node above it is hidden.
+    /// Whether the node or an ancestor is hidden.
     pub is_hidden: bool,
-    /// Whether a password input is above it.
+    /// Whether an ancestor is a password input.
     pub is_in_password: bool,
-    /// Whether it is one, or one is above it.
+    /// Whether the node or an ancestor is a password input.
     pub is_secret: bool,
-    /// What the common filter says of it.
+    /// The common filter's answer for the node.
     pub answer: FilterResult,
-    /// What clips the nodes below it, where that is known: the box of the nearest node, from this one upwards, that the base
-    /// rule includes, if it clips its children.
+    /// What clips the nodes below it, if that is known: the box of the nearest node, from this one upwards, that the
+    /// base filter includes, if it clips its children.
     pub frame: Option<Option<WideRect>>,
 }
 
-/// A node, and what is known of it.
+/// A node with these properties.
 #[derive(Clone, Copy)]
 pub(crate) struct Step {
     pub id: FullNodeId,
     pub known: Known,
 }
 
-/// What is known of a node, by its parent where that is given.
+/// The properties of a node, computed from its parent's if they are given.
 pub(crate) fn known_of(node: NodeRef, above: Option<Step>) -> Known
     requires { IsStepAbove (world_at node) (id_at node) above }
     ensures { IsKnown (world_at node.entry) (id_at node.entry) result }
@@ -60,7 +60,7 @@ pub(crate) fn known_of(node: NodeRef, above: Option<Step>) -> Known
     }
 }
 
-/// By how much the node is moved.
+/// By how much the node is shifted.
 fn shift_of(node: NodeRef, above: Option<Step>) -> WideTranslation
     requires { IsStepAbove (world_at node) (id_at node) above }
     ensures { result ≡ transform (world_at node.entry) (id_at node.entry) }
@@ -75,7 +75,7 @@ fn shift_of(node: NodeRef, above: Option<Step>) -> WideTranslation
     }
 }
 
-/// Both moves together, where they fit.
+/// The sum of both translations, if it fits.
 fn sum_of(own: Translation, above: WideTranslation) -> Option<WideTranslation>
     ensures { IfSome result (λ sum. sum ≡ sum_of own above) }
 {
@@ -84,14 +84,14 @@ fn sum_of(own: Translation, above: WideTranslation) -> Option<WideTranslation>
     Some(WideTranslation { x, y })
 }
 
-/// The sum, where it fits.
+/// The sum, if it fits.
 fn plus(edge: i32, by: i128) -> Option<i128>
     ensures { IfSome result (λ sum. sum ≡ edge +ℤ by) }
 {
     i128::from(edge).checked_add(by)
 }
 
-/// The node's box, where it is moved by this much.
+/// The node's box, if the node is shifted by this much.
 fn rect_of(node: NodeRef, shift: WideTranslation) -> Option<WideRect>
     requires { shift ≡ transform (world_at node) (id_at node) }
     ensures { result ≡ bounding_box (world_at node.entry) (id_at node.entry) }
@@ -102,7 +102,7 @@ fn rect_of(node: NodeRef, shift: WideTranslation) -> Option<WideRect>
     }
 }
 
-/// The rectangle, moved by this much, where it fits.
+/// The rectangle shifted by this much, if it fits.
 fn moved(rect: Rect, by: WideTranslation) -> Option<WideRect>
     ensures { IfSome result (λ it. it ≡ moved_rect (whole_rect rect) by) }
 {
@@ -113,7 +113,7 @@ fn moved(rect: Rect, by: WideTranslation) -> Option<WideRect>
     Some(WideRect { x0, y0, x1, y1 })
 }
 
-/// Whether the node or one above it is hidden.
+/// Whether the node or an ancestor is hidden.
 fn is_hidden_at(node: NodeRef, above: Option<Step>) -> bool
     requires { IsStepAbove (world_at node) (id_at node) above }
     ensures { result ≡ is_hidden_in (world_at node.entry) (id_at node.entry) }
@@ -125,7 +125,7 @@ fn is_hidden_at(node: NodeRef, above: Option<Step>) -> bool
     }
 }
 
-/// Whether a password input is above the node.
+/// Whether an ancestor of the node is a password input.
 fn is_in_password_at(node: NodeRef, above: Option<Step>) -> bool
     requires { IsStepAbove (world_at node) (id_at node) above }
     ensures { result ≡ is_in_secret (world_at node.entry) (id_at node.entry) }
@@ -137,7 +137,7 @@ fn is_in_password_at(node: NodeRef, above: Option<Step>) -> bool
     }
 }
 
-/// Whether the node is focused, as the common filter takes it.
+/// Whether the node is focused in the sense of the common filter.
 fn is_focused(node: NodeRef) -> bool
     ensures { result ≡ is_focused (world_at node.entry) (id_at node.entry) }
 {
@@ -152,7 +152,8 @@ fn is_transparent(node: NodeRef) -> bool
     node.is_graft() || matches!(node.role(), Role::GenericContainer | Role::TextRun)
 }
 
-/// What the common filter says of the node, which goes by its parent: by what it says of that, and what clips the nodes below it.
+/// The common filter's answer for the node, computed from its answer for the parent and from what clips the nodes below
+/// that.
 fn answer_of(
     node: NodeRef,
     is_hidden: bool,
@@ -179,7 +180,7 @@ fn answer_of(
     }
 }
 
-/// What the common filter says of a node of which nothing is settled by itself, by its parent.
+/// The common filter's answer for a node that doesn't decide its own, computed from the parent.
 fn answer_below(node: NodeRef, rect: Option<WideRect>, above: Step) -> FilterResult
     requires open { first_answer (world_at node) (id_at node) ≡ None }
     requires rect { rect ≡ bounding_box (world_at node) (id_at node) }
@@ -196,7 +197,7 @@ fn answer_below(node: NodeRef, rect: Option<WideRect>, above: Step) -> FilterRes
     common_filter(&node)
 }
 
-/// Whether a node that is answered so is left out with all below it.
+/// Whether a node with this answer is excluded with its subtree.
 pub(crate) fn is_cut_off(answer: FilterResult) -> bool
     ensures { result ≡ is_cut_off answer }
 {
@@ -219,21 +220,21 @@ fn is_clear(frame: Option<Option<WideRect>>, rect: Option<WideRect>) -> bool
     }
 }
 
-/// Whether the rectangles share a part of the first axis.
+/// Whether the rectangles overlap on the first axis.
 fn meets_across(a: WideRect, b: WideRect) -> bool
     ensures { result ≡ int_lt (int_max a.x0 b.x0) (int_min a.x1 b.x1) }
 {
     a.x0.max(b.x0) < a.x1.min(b.x1)
 }
 
-/// Whether they share a part of the second.
+/// Whether the rectangles overlap on the second axis.
 fn meets_along(a: WideRect, b: WideRect) -> bool
     ensures { result ≡ int_lt (int_max a.y0 b.y0) (int_min a.y1 b.y1) }
 {
     a.y0.max(b.y0) < a.y1.min(b.y1)
 }
 
-/// What clips the nodes below a node, where that is known.
+/// What clips the nodes below a node, if that is known.
 fn frame_of(
     node: NodeRef,
     is_hidden: bool,
@@ -256,7 +257,7 @@ fn frame_of(
     }
 }
 
-/// Whether the base rule includes the node.
+/// Whether the base filter includes the node.
 fn is_shown(node: NodeRef, is_hidden: bool) -> bool
     requires { is_hidden ≡ is_hidden_in (world_at node) (id_at node) }
     ensures { result ≡ is_included (base_filter (world_at node.entry) (id_at node.entry)) }

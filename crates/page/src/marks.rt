@@ -1,9 +1,9 @@
-//! What an update did to nodes.
+//! The effect of an update on nodes.
 
 use accesskit_consumer::FullNodeId;
 use std::collections::BTreeMap;
 
-/// What an update did to a node of the new state.
+/// The effect of an update on a node of the new state.
 #[derive(Clone, Copy, Debug, PartialEq, Eq)]
 pub(crate) enum Mark {
     Added,
@@ -14,7 +14,7 @@ pub(crate) enum Mark {
 pub(crate) type Marks = BTreeMap<FullNodeId, Mark>;
 
 impl Mark {
-    /// The class of what shows the node.
+    /// The class of the element that shows the node.
     pub(crate) fn class(self) -> &'static str {
         match self {
             Mark::Added => "a",
@@ -22,7 +22,7 @@ impl Mark {
         }
     }
 
-    /// What is said of the node.
+    /// The word shown for the node.
     pub(crate) fn word(self) -> &'static str {
         match self {
             Mark::Added => "added",
@@ -31,7 +31,7 @@ impl Mark {
     }
 }
 
-/// How many nodes an update added, updated and removed, and how often the focus moved.
+/// The numbers of nodes that an update added, updated and removed, and of moves of the focus.
 #[derive(Clone, Copy, Debug, Default, PartialEq, Eq)]
 pub(crate) struct Tally {
     pub added: u64,
@@ -41,7 +41,7 @@ pub(crate) struct Tally {
 }
 
 impl Tally {
-    /// Whether nothing was told.
+    /// Whether there were no events.
     pub(crate) fn is_empty(self) -> bool {
         self.added == 0 && self.updated == 0 && self.moved == 0 && self.removed == 0
     }

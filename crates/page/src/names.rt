@@ -1,4 +1,4 @@
-//! Writes what names a node.
+//! Writing the identification of a node.
 ghost use Rattle.std.specs.Prelude.{OnOk, option_copied};
 ghost use Rattle.std.specs.Io.KnownBytes.{Appends};
 ghost use Rattle.page.specs.Written.{anchor_text, small_id, word_text};
@@ -18,7 +18,7 @@ pub(crate) fn write_name<O: Write>(alloc: Global, node: &NodeRef, out: &mut O) -
     Ok(())
 }
 
-/// Writes the same, with the id as a link to the place at which a state shows the node.
+/// Writes the same, with the id as a link to where a state shows the node.
 pub(crate) fn write_linked_name<O: Write>(
     alloc: Global,
     state: u64,
@@ -34,7 +34,7 @@ pub(crate) fn write_linked_name<O: Write>(
     Ok(())
 }
 
-/// Writes the node's role, and its label or else its value, where it has one.
+/// Writes the node's role, and its label or else its value, if it has one.
 fn write_role_and_text<O: Write>(alloc: Global, node: &NodeRef, out: &mut O) -> Result<(), Stop> {
     write_role(node, out)?;
     let text = caption(alloc, node, is_in_password(node))?;
@@ -48,7 +48,7 @@ pub(crate) fn write_role<O: Write>(node: &NodeRef, out: &mut O) -> io::Result<()
     write!(out, "<b>{role}</b>")
 }
 
-/// Writes a space and a text in an element, where there is one.
+/// Writes a space and a text in an element, if there is one.
 pub(crate) fn write_word<O: Write>(
     name: &str,
     class: &str,
@@ -64,7 +64,7 @@ pub(crate) fn write_word<O: Write>(
     write_element(name, class, word, out)
 }
 
-/// Writes a node's id as `1:2`: the index of its tree, and its id in the tree.
+/// Writes a node's id, for example as `1:2`: the index of its tree, and its id in the tree.
 pub(crate) fn write_id<O: Write>(id: FullNodeId, out: &mut O) -> io::Result<()>
     ensures { OnOk result (Appends (O.contents out.old) (O.contents out.new) (small_id id)) }
 {
@@ -73,7 +73,7 @@ pub(crate) fn write_id<O: Write>(id: FullNodeId, out: &mut O) -> io::Result<()>
     write!(out, "<small>{tree}:{node}</small>")
 }
 
-/// Writes the name of the place at which a state shows a node, which stands once in a page.
+/// Writes the anchor of a node in a state, which is unique in the page.
 pub(crate) fn write_anchor<O: Write>(state: u64, id: FullNodeId, out: &mut O) -> io::Result<()>
     ensures { OnOk result (Appends (O.contents out.old) (O.contents out.new) (anchor_text state id)) }
 {

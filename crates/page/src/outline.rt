@@ -1,4 +1,4 @@
-//! Writes a tree as an outline.
+//! Writing a tree as an outline.
 
 use crate::marks::Mark;
 use crate::names::{write_anchor, write_id, write_role, write_word};
@@ -9,7 +9,7 @@ use atree_script::Stop;
 use std::alloc::Global;
 use std::io::{self, Write};
 
-/// Writes each node as an item of a list, in their order.
+/// Writes each node as a list item, in order.
 pub(crate) fn write_outline<O: Write>(
     alloc: Global,
     number: u64,
@@ -60,7 +60,7 @@ fn row_class(place: &Place) -> &'static str {
     }
 }
 
-/// Writes a node's label and value, where it has them.
+/// Writes a node's label and value, if it has them.
 fn write_texts<O: Write>(alloc: Global, place: &Place, out: &mut O) -> Result<(), Stop> {
     let label = shown_label(alloc, &place.node, place.is_in_password)?;
     write_word("q", "l", label.as_deref(), out)?;
@@ -78,7 +78,7 @@ fn end_row<O: Write>(place: &Place, out: &mut O) -> io::Result<()> {
     out.write_all(b"</li>\n")
 }
 
-/// Writes each word that is there.
+/// Writes each word, if it is set.
 fn write_words<O: Write>(words: &[Option<&'static str>], out: &mut O) -> io::Result<()> {
     for word in words {
         write_word("i", "w", *word, out)?;
@@ -86,7 +86,7 @@ fn write_words<O: Write>(words: &[Option<&'static str>], out: &mut O) -> io::Res
     Ok(())
 }
 
-/// Writes what is marked at a node: that it was added or updated, that it has the focus, or that it isn't shown.
+/// Writes the marks of a node: that it was added or updated, that it is focused, or that it isn't shown.
 fn write_marks<O: Write>(place: &Place, out: &mut O) -> io::Result<()> {
     if let Some(mark) = place.mark {
         write_word("em", mark.class(), Some(mark.word()), out)?;
@@ -95,7 +95,7 @@ fn write_marks<O: Write>(place: &Place, out: &mut O) -> io::Result<()> {
     write_word("em", "h", left_out_word(place), out)
 }
 
-/// What is said of a node that the common filter leaves out with all below it.
+/// The word for a node that the common filter excludes with its subtree.
 fn left_out_word(place: &Place) -> Option<&'static str> {
     if !place.is_left_out() {
         return None;
@@ -106,7 +106,7 @@ fn left_out_word(place: &Place) -> Option<&'static str> {
     Some("clipped")
 }
 
-/// What is said of a node that has the focus, or on which the tree has put it while the host window doesn't have it.
+/// The word for the focused node, or for the effective focus while the host window isn't focused.
 fn focus_word(node: &NodeRef) -> Option<&'static str> {
     if node.is_focused() {
         return Some("focus");

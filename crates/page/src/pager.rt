@@ -1,4 +1,4 @@
-//! Runs a script, and writes a page of it.
+//! Running a script and writing a page of it.
 ghost use Rattle.std.specs.Prelude.{◌≤◌, ◌≢◌};
 
 use crate::marks::{Marks, Tally};
@@ -13,16 +13,17 @@ use session::{Command, Reply, Session};
 use std::alloc::Global;
 use std::io::{BufRead, Write};
 
-/// Writes a page of a script. It has no arguments.
+/// The program that writes a page of a script. It has no arguments.
 pub(crate) struct Page;
 
 impl Program for Page {
-    /// Runs a script to its end, or to what stops it, and writes a page of the states of its tree: one for each update, and for
-    /// each change of the host's focus once there is a tree. Answers the exit status as `atree` does: 0 at the end of the input;
-    /// 2 for a line that is not read, whose number is told on `errors`; 3 for an error of the input or an output; 4 for want of
-    /// memory while a line is read or a state is written, which is told on `errors` too. Where the output gives no error, the page
-    /// is ended in each case, and says why; after an error of the output nothing more is written. An update that finds no memory
-    /// is refused, and the script goes on.
+    /// Runs a script to its end, or until something stops it, and writes a page of the states of its tree: one for each
+    /// update, and one for each change of the host's focus once there is a tree. Returns the exit status as `atree`
+    /// does: 0 at the end of the input; 2 for a bad line, whose number is reported on `errors`; 3 for an error of the
+    /// input or an output; 4 if memory runs out while a line is read or a state is written, which is reported on
+    /// `errors` too. Unless the output has an error, the page is completed in each case and says why it ended; after an
+    /// error of the output nothing more is written. If memory runs out in an update, the update is refused and the
+    /// script goes on.
     fn run<R: BufRead, O: Write, E: Write>(
         &self,
         alloc: Global,
@@ -38,7 +39,7 @@ impl Program for Page {
     }
 }
 
-/// Runs a script, and writes its page. Answers how the run ended, and the number of the last line that was read.
+/// Runs a script, and writes its page. Returns how the run ended, and the number of the last line that was read.
 fn play_page<R: BufRead, O: Write>(
     alloc: Global,
     input: &mut R,
@@ -58,19 +59,19 @@ fn play_page<R: BufRead, O: Write>(
     (pager.end(played.ended, number), number)
 }
 
-/// A page as far as it is written.
+/// A page while it is written.
 #[derive(Drop)]
 struct Pager<'a, O> {
     alloc: Global,
     output: &'a mut O,
-    /// How many updates were sent so far.
+    /// The number of updates sent so far.
     updates: u64,
-    /// What has become of each state so far.
+    /// A summary of each state so far.
     states: Vec<Summary>,
 }
 
 impl<'a, O: Write> Player for Pager<'a, O> {
-    /// Shows the first state, of which no event is told.
+    /// Shows the first state, which has no events.
     fn begin(&mut self, session: &Session) -> Result<(), Stop> {
         let cause = self.begin_update()?;
         self.show(Summary {
@@ -81,7 +82,7 @@ impl<'a, O: Write> Player for Pager<'a, O> {
         self.write_tree(session, &Marks::new(self.alloc))
     }
 
-    /// Shows why the update is refused, want of memory too.
+    /// Shows why the update is refused, also if memory ran out.
     fn refuse(&mut self, refusal: UpdateError) -> Result<(), Stop> {
         let cause = self.begin_update()?;
         self.show(Summary {
@@ -91,7 +92,7 @@ impl<'a, O: Write> Player for Pager<'a, O> {
         })
     }
 
-    /// Shows the state that the command makes. A change of the host's focus to what it is makes none.
+    /// Shows the state that the command makes. Setting the host's focus to its current value makes none.
     fn run(&mut self, session: &mut Session, command: Command) -> Result<(), Stop> {
         let was_host_focused = session.tree().state().is_host_focused();
         let cause = match &command {
@@ -106,20 +107,20 @@ impl<'a, O: Write> Player for Pager<'a, O> {
 }
 
 impl<'a, O: Write> Pager<'a, O> {
-    /// The number of the next state, from 1.
+    /// The number of the next state, counted from 1.
     fn next_number(&self) -> u64 {
         u64::try_from(self.states.len())
             .unwrap_or(u64::MAX)
             .saturating_add(1)
     }
 
-    /// Begins the state of the next update, and answers what it comes from.
+    /// Begins the state of the next update, and returns its cause.
     fn begin_update(&mut self) -> Result<Cause, Stop> {
         self.updates = self.updates.saturating_add(1);
         self.begin_state(Cause::Update(self.updates))
     }
 
-    /// Begins the state of a change of the host's focus, and answers what it comes from.
+    /// Begins the state of a change of the host's focus, and returns its cause.
     fn begin_host_focus(&mut self, is_host_focused: bool) -> Result<Cause, Stop> {
         self.begin_state(match is_host_focused {
             true => Cause::HostOn,
@@ -156,7 +157,7 @@ impl<'a, O: Write> Pager<'a, O> {
         Ok(())
     }
 
-    /// Writes what has become of the state, and keeps it.
+    /// Writes the outcome of the state, and keeps its summary.
     fn show(&mut self, summary: Summary) -> Result<(), Stop> {
         write_outcome(self.next_number(), &summary, self.output)?;
         self.states.push(summary)?;
@@ -170,7 +171,7 @@ impl<'a, O: Write> Pager<'a, O> {
         write_state(self.alloc, number, state, marks, self.output)
     }
 
-    /// Ends the page where the output has given no error, and answers how the run ended.
+    /// Ends the page unless the output had an error, and returns how the run ended.
     fn end(&mut self, run: Result<(), Stop>, line: u64) -> Result<(), Stop> {
         if run != Err(Stop::WriteFault) {
             write_end(&self.states, run, line, self.output)?;
@@ -179,7 +180,7 @@ impl<'a, O: Write> Pager<'a, O> {
     }
 }
 
-/// What has become of a state.
+/// The outcome of a state.
 fn outcome_of(reply: &Reply, tally: Tally) -> Outcome {
     match reply {
         Reply::Refused(refusal) => Outcome::Refused(*refusal),

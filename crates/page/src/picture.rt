@@ -1,4 +1,4 @@
-//! Draws the boxes of a state as they lie.
+//! Drawing the boxes of a state.
 
 use crate::boxes::{Frame, picture_frame};
 use crate::marks::Mark;
@@ -11,8 +11,8 @@ use html::write_escaped;
 use std::alloc::Global;
 use std::io::{self, Write};
 
-/// Draws the box of each node that has one, in their order, and a ring around the focus. So a box lies under those of later
-/// nodes, as a hit test sees them.
+/// Draws the box of each node that has one, in order, and a ring around the focus. So a box is below those of later
+/// nodes, as in a hit test.
 pub(crate) fn write_picture<O: Write>(
     alloc: Global,
     number: u64,
@@ -60,7 +60,8 @@ fn begin_picture<O: Write>(number: u64, frame: Frame, out: &mut O) -> io::Result
     )
 }
 
-/// Draws a node's box as a link to its row of the outline. In the box of a node without children stands its label or value.
+/// Draws a node's box as a link to its row of the outline. The box of a node without children contains its label or
+/// value.
 fn write_box<O: Write>(
     alloc: Global,
     number: u64,
@@ -128,7 +129,7 @@ fn write_caption<O: Write>(
     Ok(())
 }
 
-/// Begins a text of this length in its box, which cuts it off: in the middle, or at the left where it is too long.
+/// Begins a text of this length in its box, which clips it: centred, or at the left if it is too long.
 fn begin_caption<O: Write>(
     frame: Frame,
     rect: Frame,
@@ -154,7 +155,7 @@ fn begin_caption<O: Write>(
     )
 }
 
-/// How high letters are where a text of this length just fits into its box.
+/// The font size at which a text of this length just fits into its box.
 fn fitting_size(rect: Frame, length: usize) -> u64 {
     let letters = u64::try_from(length).unwrap_or(u64::MAX);
     match rect.width().saturating_mul(5).checked_div(letters) {
@@ -163,7 +164,7 @@ fn fitting_size(rect: Frame, length: usize) -> u64 {
     }
 }
 
-/// Draws a ring around the focus, where it has a box.
+/// Draws a ring around the focus, if it has a box.
 fn write_ring<O: Write>(focus: Option<NodeRef>, frame: Frame, out: &mut O) -> io::Result<()> {
     let Some(rect) = focus.and_then(|node| node.bounding_box()) else {
         return Ok(());

@@ -14,32 +14,32 @@ use accesskit_consumer::{FilterResult, NodeRef, StateRef};
 use schema::WideRect;
 use std::alloc::{AllocError, Global};
 
-/// A node as a page shows it.
+/// A node with the properties that a page shows.
 #[derive(Clone, Copy)]
 pub(crate) struct Place<'a> {
     pub node: NodeRef<'a>,
-    /// How many nodes are above it.
+    /// The number of its ancestors.
     pub depth: usize,
-    /// What the common filter says of it.
+    /// The common filter's answer for it.
     pub answer: FilterResult,
-    /// Whether it or a node above it is hidden.
+    /// Whether it or an ancestor is hidden.
     pub is_hidden: bool,
-    /// Whether a password input is above it.
+    /// Whether an ancestor is a password input.
     pub is_in_password: bool,
     /// Its box, if it has one.
     pub rect: Option<WideRect>,
-    /// What the update did to it.
+    /// The effect of the update on it.
     pub mark: Option<Mark>,
 }
 
 impl Place<'_> {
-    /// Whether the common filter leaves the node out with all below it.
+    /// Whether the common filter excludes the node with its subtree.
     pub(crate) fn is_left_out(&self) -> bool {
         is_cut_off(self.answer)
     }
 }
 
-/// The place of each node of the state: the root's, and then each child's and those below it.
+/// Each node of the state with its properties: the root, then each child followed by those below it.
 pub(crate) fn places<'a>(
     alloc: Global,
     state: StateRef<'a>,
@@ -72,7 +72,7 @@ fn nodes_below<'a>(alloc: Global, top: NodeRef<'a>) -> Result<Vec<NodeRef<'a>>, 
     Ok(nodes)
 }
 
-/// The place of each of these nodes of the state, each after its parent.
+/// Each of these nodes of the state with its properties, each after its parent.
 fn places_of<'a>(
     alloc: Global,
     state: StateRef<'a>,
@@ -91,7 +91,7 @@ fn places_of<'a>(
     Ok(places)
 }
 
-/// The place of the next node. The path has the nodes above the one before it, and that node.
+/// The next node with its properties. The path has the previous node and its ancestors.
 fn next_place<'a>(
     node: NodeRef<'a>,
     marks: &Marks,
@@ -112,7 +112,7 @@ fn next_place<'a>(
     Ok(place_at(node, depth, step, marks))
 }
 
-/// The last step of the path that is to the node's parent, where there is one, which then ends the path.
+/// The last step of the path that is the node's parent, if there is one; the path then ends there.
 fn step_above(node: NodeRef, path: &mut Vec<Step>) -> Option<Step>
     requires { All (IsStep (world_at node)) path.old.items }
     ensures path { All (IsStep (world_at node.entry)) path.new.items }
@@ -129,7 +129,7 @@ fn step_above(node: NodeRef, path: &mut Vec<Step>) -> Option<Step>
     None
 }
 
-/// The place of a node of which this is known.
+/// A node with these properties.
 fn place_at<'a>(node: NodeRef<'a>, depth: usize, step: Step, marks: &Marks) -> Place<'a>
     requires step { IsStep (world_at node) step }
     requires id { step.id ≡ id_at node }

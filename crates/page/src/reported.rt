@@ -1,4 +1,4 @@
-//! Writes each event of an update as it is told.
+//! Writing each event of an update as it is reported.
 ghost use Rattle.std.specs.Prelude.{⊤};
 
 use crate::marks::{Mark, Marks, Tally};
@@ -10,7 +10,7 @@ use html::write_element;
 use std::alloc::Global;
 use std::io::{self, Write};
 
-/// Writes each event as an item of a list, up to the first fault, and keeps which nodes were added and updated.
+/// Writes each event as a list item, until the first error, and keeps which nodes were added and updated.
 #[derive(Drop)]
 pub(crate) struct Reporter<W> {
     alloc: Global,
@@ -34,11 +34,11 @@ impl<W: Write + Drop> Reporter<W> {
         }
     }
 
-    /// Ends the list, and answers what was told.
+    /// Ends the list, and returns a summary of the events.
     ///
     /// # Errors
     ///
-    /// The first fault.
+    /// Returns the first error.
     pub(crate) fn finish(self) -> Result<(Tally, Marks), Stop> {
         let Reporter {
             alloc: _,
@@ -57,14 +57,14 @@ impl<W: Write + Drop> Reporter<W> {
         Ok((tally, marks))
     }
 
-    /// Keeps the first fault.
+    /// Keeps the first error.
     fn keep(&mut self, told: Result<(), Stop>) {
         if let Err(fault) = told {
             self.fault = Some(fault);
         }
     }
 
-    /// Begins an event, and the list before the first one.
+    /// Begins an event, and the list if it is the first one.
     fn begin(&mut self, class: &str, event: &str) -> io::Result<()> {
         if self.tally.is_empty() {
             self.out.write_all(b"<details class=\"events\" open><summary>Events</summary><ol>\n")?;
@@ -84,7 +84,7 @@ impl<W: Write + Drop> Reporter<W> {
         Ok(())
     }
 
-    /// Writes that a node was updated, and in what.
+    /// Writes that a node was updated, and how.
     fn tell_updated(&mut self, old: &NodeRef, new: &NodeRef) -> Result<(), Stop> {
         self.begin("u", "updated")?;
         self.tally.updated = self.tally.updated.saturating_add(1);
@@ -95,7 +95,7 @@ impl<W: Write + Drop> Reporter<W> {
         Ok(())
     }
 
-    /// Writes where the focus was, and where it is.
+    /// Writes the old and the new focus.
     fn tell_focus(&mut self, old: Option<&NodeRef>, new: Option<&NodeRef>) -> Result<(), Stop> {
         self.begin("f", "focus")?;
         self.tally.moved = self.tally.moved.saturating_add(1);
@@ -154,7 +154,7 @@ impl<W: Write + Drop> TreeChangeHandler for Reporter<W> {
     }
 }
 
-/// Writes in what two states of a node differ, as far as a page shows it.
+/// Writes how two states of a node differ, as far as a page shows it.
 fn write_differences<O: Write>(
     alloc: Global,
     old: &NodeRef,
@@ -175,7 +175,7 @@ fn write_differences<O: Write>(
     Ok(())
 }
 
-/// Writes two texts, where they differ.
+/// Writes two texts, if they differ.
 fn write_difference<O: Write>(
     what: &str,
     old: Option<&str>,

@@ -1,4 +1,4 @@
-//! Writes what stands around the states of a page, and what is said of each.
+//! Writing the parts of a page around its states, and the head of each state.
 
 use crate::marks::Tally;
 use crate::sheet::SHEET;
@@ -6,10 +6,10 @@ use accesskit_consumer::UpdateError;
 use atree_script::Stop;
 use std::io::{self, Write};
 
-/// What has become of a state.
+/// The outcome of a state.
 #[derive(Clone, Copy, Debug, PartialEq, Eq)]
 pub(crate) enum Outcome {
-    /// The first update is accepted, of which nothing is told.
+    /// The first update was accepted, which has no events.
     Begun,
     Changed,
     /// Nothing has changed.
@@ -17,10 +17,10 @@ pub(crate) enum Outcome {
     Refused(UpdateError),
 }
 
-/// What a state comes from.
+/// The cause of a state.
 #[derive(Clone, Copy, Debug, PartialEq, Eq)]
 pub(crate) enum Cause {
-    /// The update with this number, from 1.
+    /// The update with this number, counted from 1.
     Update(u64),
     /// The host window has got the focus.
     HostOn,
@@ -28,7 +28,7 @@ pub(crate) enum Cause {
     HostOff,
 }
 
-/// A state in short.
+/// The summary of a state.
 #[derive(Clone, Copy, Debug, PartialEq, Eq)]
 pub(crate) struct Summary {
     pub cause: Cause,
@@ -89,7 +89,7 @@ pub(crate) fn begin_state<O: Write>(number: u64, cause: Cause, out: &mut O) -> i
     Ok(())
 }
 
-/// Writes what a state comes from.
+/// Writes the cause of a state.
 fn write_cause<O: Write>(cause: Cause, out: &mut O) -> io::Result<()> {
     match cause {
         Cause::Update(number) => write!(out, "Update {number}"),
@@ -98,7 +98,7 @@ fn write_cause<O: Write>(cause: Cause, out: &mut O) -> io::Result<()> {
     }
 }
 
-/// Writes what has become of a state.
+/// Writes the outcome of a state.
 pub(crate) fn write_outcome<O: Write>(
     number: u64,
     summary: &Summary,
@@ -119,7 +119,7 @@ pub(crate) fn write_outcome<O: Write>(
     }
 }
 
-/// Ends the page: says why the script stopped before its end where it did, and lists the states.
+/// Ends the page: says why the script stopped before its end, if it did, and lists the states.
 pub(crate) fn write_end<O: Write>(
     states: &[Summary],
     run: Result<(), Stop>,
@@ -150,7 +150,7 @@ fn stop_text(stop: Stop) -> &'static str {
     }
 }
 
-/// Writes a state in short, as a link to it.
+/// Writes the summary of a state, as a link to it.
 fn write_summary<O: Write>(number: usize, summary: &Summary, out: &mut O) -> io::Result<()> {
     write!(
         out,
@@ -167,7 +167,7 @@ fn write_summary<O: Write>(number: usize, summary: &Summary, out: &mut O) -> io:
     out.write_all(b"</li>\n")
 }
 
-/// Writes how many nodes were added, updated and removed, and whether the focus moved.
+/// Writes the numbers of nodes added, updated and removed, and whether the focus moved.
 fn write_tally<O: Write>(tally: Tally, out: &mut O) -> io::Result<()> {
     write_count("a", "added", tally.added, out)?;
     write_count("u", "updated", tally.updated, out)?;

@@ -1,4 +1,4 @@
-//! How a page looks.
+//! The style of a page.
 
 /// The lines of the style sheet.
 pub(crate) static SHEET: [&str; 45] = [

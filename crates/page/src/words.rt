@@ -1,4 +1,4 @@
-//! What a page says of a node in texts and words. Of a password it has bullets at most.
+//! The texts and words that a page shows for a node. Of a password it shows bullets at most.
 ghost use Rattle.std.specs.Prelude.{◌≡◌, None, IfOk, IsTrue, option_map, string_bytes};
 ghost use Rattle.model.specs.Labels.{label_of};
 ghost use Rattle.model.specs.Values.{value_of};
@@ -10,7 +10,7 @@ use accesskit_consumer::{FilterResult, NodeRef};
 use phrases::{expanded_word, selected_word, switched_word, where_it_is};
 use std::alloc::{AllocError, Global};
 
-/// Includes password inputs alone.
+/// The filter that includes password inputs alone.
 fn password_inputs(node: &NodeRef<'_>) -> FilterResult
     ensures { result ≡ secrets (world_at node.now) (id_at node.now) }
 {
@@ -20,7 +20,7 @@ fn password_inputs(node: &NodeRef<'_>) -> FilterResult
     FilterResult::ExcludeNode
 }
 
-/// Whether a password input is above the node, so that a part of the password may stand in it.
+/// Whether an ancestor of the node is a password input, so that the node may contain a part of the password.
 pub(crate) fn is_in_password(node: &NodeRef) -> bool
     ensures { result ≡ is_in_secret (world_at node.now) (id_at node.now) }
 {
@@ -32,7 +32,7 @@ fn is_labelled_from_password(node: &NodeRef) -> bool {
     node.data().label().is_none() && node.labelled_by().any(|part| is_in_password(&part))
 }
 
-/// Whether the node's value is the text of runs, and a password input stands among them.
+/// Whether the node's value is the text of runs, and a password input is among them.
 fn has_password_in_runs(node: &NodeRef) -> bool {
     node.data().value().is_none()
         && !node.is_password_input()
@@ -40,7 +40,7 @@ fn has_password_in_runs(node: &NodeRef) -> bool {
         && node.descendants().any(|below| below.is_password_input())
 }
 
-/// The node's label, but none of which a password may be a part.
+/// The node's label, unless a password may be a part of it.
 pub(crate) fn shown_label(
     alloc: Global,
     node: &NodeRef,
@@ -55,7 +55,7 @@ pub(crate) fn shown_label(
     node.label(alloc)
 }
 
-/// The node's value, that of a password as bullets, but none of which a password may be a part.
+/// The node's value, that of a password as bullets, unless a password may be a part of it.
 pub(crate) fn shown_value(
     alloc: Global,
     node: &NodeRef,
@@ -82,7 +82,7 @@ pub(crate) fn caption(
     }
 }
 
-/// What is said of the node in a word each.
+/// The words for the node's state.
 pub(crate) fn state_words(node: &NodeRef) -> [Option<&'static str>; 8] {
     let is_read_only = node.is_read_only_supported() && node.is_read_only();
     [

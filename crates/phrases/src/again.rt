@@ -1,8 +1,8 @@
-//! Whether a text is said again.
+//! Avoiding repeated speech.
 ghost use Rattle.std.specs.Prelude.{◌≡◌, option_copied};
 ghost use Rattle.phrases.specs.News.{is_old, news};
 
-/// Whether the text is the old one.
+/// Whether the text equals the old one.
 fn is_old(old: Option<&str>, new: &str) -> bool
     ensures { result ≡ is_old (option_copied old.entry) new.now }
 {
@@ -12,7 +12,7 @@ fn is_old(old: Option<&str>, new: &str) -> bool
     }
 }
 
-/// What is said of a text that was `old` and is `new`: the new one, if it is another one and isn't empty.
+/// What to say of a text that changed from `old` to `new`: the new text, if it differs and isn't empty.
 pub fn news<'a>(old: Option<&str>, new: Option<&'a str>) -> Option<&'a str>
     ensures { option_copied result ≡ news (option_copied old.entry) (option_copied new.entry) }
 {

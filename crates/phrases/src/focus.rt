@@ -5,15 +5,15 @@ use crate::quoted::{Named, Part};
 use crate::states::State;
 use std::fmt;
 
-/// A node's place in its set.
+/// A node's position in its set.
 #[derive(Clone, Copy)]
 pub struct Place {
-    /// From 0.
+    /// Counted from 0.
     pub position: usize,
     pub size: usize,
 }
 
-/// A node's place, after a comma, where it has one.
+/// A node's position in its set, after a comma, if it has one.
 #[derive(Clone, Copy)]
 struct AtPlace(Option<Place>);
 
@@ -34,21 +34,21 @@ impl fmt::Display for AtPlace {
     }
 }
 
-/// What is said of a node that has the focus.
+/// What is said of a focused node.
 #[derive(Clone, Copy)]
 pub struct Focus<'a> {
-    /// The role's word.
+    /// The word for the role.
     pub role: &'a str,
     pub label: Option<&'a str>,
     /// The value as it is shown.
     pub value: Option<&'a str>,
-    /// What stands in the node while nothing is filled in.
+    /// The hint that the node shows while it is empty.
     pub placeholder: Option<&'a str>,
     pub state: State,
     pub place: Option<Place>,
 }
 
-/// As `check box "Send copies", checked, 2 of 5`.
+/// Prints, for example, `check box "Send copies", checked, 2 of 5`.
 impl fmt::Display for Focus<'_> {
     ghost use Rattle.phrases.specs.Focus.{focus_text};
 

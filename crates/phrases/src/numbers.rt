@@ -4,7 +4,7 @@ ghost use Rattle.phrases.specs.Numbers.{fraction, sign, thousandths};
 
 use std::fmt;
 
-/// What stands behind the whole number, without zeros at its end.
+/// The decimals of a number, without trailing zeros.
 #[derive(Clone, Copy)]
 struct Fraction(u64);
 
@@ -28,14 +28,14 @@ impl fmt::Display for Fraction {
     }
 }
 
-/// The sign of a number, where it is negative.
+/// A minus sign if the number is negative.
 fn sign(number: i64) -> &'static str
     ensures { result.now ≡ sign number }
 {
     if number < 0 { "-" } else { "" }
 }
 
-/// A number in thousandths, printed as `12.5`.
+/// A number in thousandths, printed for example as `12.5`.
 #[derive(Clone, Copy)]
 pub struct Thousandths(pub i64);
 

@@ -4,7 +4,7 @@ ghost use Rattle.phrases.specs.Quoted.{quoted_char, quoted, named, part};
 
 use std::fmt;
 
-/// A character of a text that stands in quotes.
+/// A character of a quoted text.
 #[derive(Clone, Copy)]
 struct QuotedChar(char);
 
@@ -21,7 +21,7 @@ impl fmt::Display for QuotedChar {
     }
 }
 
-/// What stands between the quotes.
+/// The text between the quotes.
 #[derive(Clone, Copy)]
 struct Inner<'a>(&'a str);
 
@@ -45,7 +45,8 @@ impl fmt::Display for Inner<'_> {
     }
 }
 
-/// A text, printed in quotes. In it a quote, a backslash and a newline are `\"`, `\\` and `\n`, as in a script.
+/// A text printed in quotes. A quote, a backslash and a newline in it are printed as `\"`, `\\` and `\n`, as in a
+/// script.
 #[derive(Clone, Copy)]
 pub struct Quoted<'a>(pub &'a str);
 
@@ -58,7 +59,7 @@ impl fmt::Display for Quoted<'_> {
     }
 }
 
-/// A name after a space, where there is one.
+/// A name after a space, if there is one.
 #[derive(Clone, Copy)]
 pub(crate) struct Named<'a>(pub Option<&'a str>);
 
@@ -76,7 +77,7 @@ impl fmt::Display for Named<'_> {
     }
 }
 
-/// A text with what it is, after a comma, where there is one.
+/// A text with a word for what it is, after a comma, if there is one.
 #[derive(Clone, Copy)]
 pub(crate) struct Part<'a> {
     pub what: &'static str,

@@ -1,11 +1,11 @@
-//! What roles are called, and what is said of those that can be toggled.
+//! Words for roles, and how toggle states of roles are said.
 ghost use Rattle.std.specs.Prelude.{◌≡◌, ◌<◌, length};
 ghost use Rattle.phrases.specs.Roles.{role_word, toggling_of};
 
 use crate::states::Toggling;
 use schema::Role;
 
-/// What a role is called. Each role has a word, and none is empty.
+/// The word for a role. Each role has a word, and none is empty.
 pub fn role_word(role: Role) -> &'static str
     ensures word { result.now ≡ role_word role }
     ensures some { 0 < length result.now }
@@ -87,7 +87,7 @@ pub fn role_word(role: Role) -> &'static str
     }
 }
 
-/// What is said of a control that can be toggled.
+/// How the toggle state of a control is said.
 pub fn toggling_of(role: Role) -> Toggling
     ensures { result ≡ toggling_of role }
 {

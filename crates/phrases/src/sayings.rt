@@ -1,4 +1,4 @@
-//! What is said, line by line.
+//! The lines of speech.
 ghost use Rattle.std.specs.Prelude.{Some, option_copied};
 
 use crate::differences::Change;
@@ -31,13 +31,13 @@ impl fmt::Display for Titled<'_> {
 /// What is said of a dialog.
 #[derive(Clone, Copy)]
 pub struct Dialog<'a> {
-    /// The role's word.
+    /// The word for the role.
     pub role: &'a str,
     pub label: Option<&'a str>,
     pub is_modal: bool,
 }
 
-/// As `dialog: "Sign in", modal`.
+/// Prints, for example, `dialog: "Sign in", modal`.
 impl fmt::Display for Dialog<'_> {
     ghost use Rattle.phrases.specs.Sayings.{dialog_text};
 
@@ -51,7 +51,7 @@ impl fmt::Display for Dialog<'_> {
     }
 }
 
-/// As `removed "a", typed "b"`.
+/// Prints, for example, `removed "a", typed "b"`.
 impl fmt::Display for Change<'_> {
     ghost use Rattle.phrases.specs.Sayings.{change_text};
 
@@ -70,24 +70,24 @@ impl fmt::Display for Change<'_> {
     }
 }
 
-/// Something to say, printed as a line.
+/// Something to say, printed as one line.
 #[derive(Clone, Copy)]
 pub enum Saying<'a> {
-    /// Where the focus has come to.
+    /// The newly focused node.
     Focused(Focus<'a>),
-    /// The dialog into which the focus has come.
+    /// The dialog that the focus has entered.
     InDialog(Dialog<'a>),
     /// A text of a live region.
     Told(Live, &'a str),
-    /// The new label of the focus.
+    /// The new label of the focused node.
     Named(&'a str),
-    /// The new value of the focus.
+    /// The new value of the focused node.
     Valued(&'a str),
-    /// A word for the new state of the focus.
+    /// A word for the new state of the focused node.
     Is(&'a str),
-    /// What has become of the text that has the focus.
+    /// The edit of the focused text.
     Changed(Change<'a>),
-    /// The line that the caret has come to.
+    /// The line that the caret has moved to.
     OnLine(&'a str),
 }
 

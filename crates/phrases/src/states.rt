@@ -1,22 +1,22 @@
-//! The state of a node in words.
+//! Words for the state of a node.
 ghost use Rattle.std.specs.Prelude.{◌≡◌, Some, option_copied, option_map};
 ghost use Rattle.phrases.specs.States.{checked_word, pressed_word, switched_word, toggled_word, expanded_word, selected_word, after_comma, where_it_is, new_word, same_flag, same_toggle, flag_word, live_word};
 
 use schema::{Live, Toggled};
 use std::fmt;
 
-/// What is said of a control that can be toggled.
+/// How the toggle state of a control is said.
 #[derive(Clone, Copy)]
 pub enum Toggling {
-    /// That it is checked.
+    /// As checked or not checked.
     Checks,
-    /// That it is pressed.
+    /// As pressed or not pressed.
     Presses,
-    /// That it is on.
+    /// As on or off.
     Switches,
 }
 
-/// The state of a node, as far as it is said.
+/// The parts of a node's state that are said.
 #[derive(Clone, Copy)]
 pub struct State {
     pub toggling: Toggling,
@@ -28,7 +28,7 @@ pub struct State {
     pub is_required: bool,
 }
 
-/// Whether a control is checked.
+/// The word for whether a control is checked.
 fn checked_word(toggled: Toggled) -> &'static str
     ensures { result.now ≡ checked_word toggled }
 {
@@ -39,7 +39,7 @@ fn checked_word(toggled: Toggled) -> &'static str
     }
 }
 
-/// Whether a control is pressed.
+/// The word for whether a control is pressed.
 fn pressed_word(toggled: Toggled) -> &'static str
     ensures { result.now ≡ pressed_word toggled }
 {
@@ -50,7 +50,7 @@ fn pressed_word(toggled: Toggled) -> &'static str
     }
 }
 
-/// Whether a control is on.
+/// The word for whether a control is on.
 pub fn switched_word(toggled: Toggled) -> &'static str
     ensures { result.now ≡ switched_word toggled }
 {
@@ -61,7 +61,7 @@ pub fn switched_word(toggled: Toggled) -> &'static str
     }
 }
 
-/// To what a control is set that can be toggled.
+/// The word for the toggle state of a control.
 fn toggled_word(toggling: Toggling, toggled: Toggled) -> &'static str
     ensures { result.now ≡ toggled_word toggling toggled }
 {
@@ -72,14 +72,14 @@ fn toggled_word(toggling: Toggling, toggled: Toggled) -> &'static str
     }
 }
 
-/// What something that can be expanded is called.
+/// The word for whether a node is expanded.
 pub fn expanded_word(is_expanded: bool) -> &'static str
     ensures { result.now ≡ expanded_word is_expanded }
 {
     if is_expanded { "expanded" } else { "collapsed" }
 }
 
-/// What something that can be selected is called.
+/// The word for whether a node is selected.
 pub fn selected_word(is_selected: bool) -> &'static str
     ensures { result.now ≡ selected_word is_selected }
 {
@@ -90,14 +90,14 @@ pub fn selected_word(is_selected: bool) -> &'static str
     }
 }
 
-/// A word where it applies.
+/// The word if it applies, and otherwise `None`.
 pub fn where_it_is(is: bool, word: &'static str) -> Option<&'static str>
     ensures { option_copied result ≡ where_it_is is word.now }
 {
     if is { Some(word) } else { None }
 }
 
-/// A word after a comma, where there is one.
+/// A word after a comma, if there is one.
 #[derive(Clone, Copy)]
 pub(crate) struct AfterComma(pub Option<&'static str>);
 
@@ -112,7 +112,7 @@ impl fmt::Display for AfterComma {
     }
 }
 
-/// A flag's word after a comma, where it applies.
+/// A flag's word after a comma, if the flag is set.
 pub(crate) fn flag(is: bool, word: &'static str) -> AfterComma
     ensures { option_copied result.0 ≡ where_it_is is word.now }
 {
@@ -168,7 +168,7 @@ impl fmt::Display for State {
     }
 }
 
-/// What is said where something was toggled.
+/// What is said of a changed toggle state.
 pub fn toggled_change(
     toggling: Toggling,
     old: Option<Toggled>,
@@ -184,7 +184,7 @@ pub fn toggled_change(
     }
 }
 
-/// What is said where something was expanded or collapsed.
+/// What is said of a node that was expanded or collapsed.
 pub fn expanded_change(old: Option<bool>, new: Option<bool>) -> Option<&'static str>
     ensures { option_copied result ≡ new_word same_flag expanded_word old new }
 {
@@ -196,7 +196,7 @@ pub fn expanded_change(old: Option<bool>, new: Option<bool>) -> Option<&'static 
     }
 }
 
-/// What is said where something was selected, or is no more.
+/// What is said of a node that was selected or deselected.
 pub fn selected_change(old: Option<bool>, new: Option<bool>) -> Option<&'static str>
     ensures { option_copied result ≡ new_word same_flag selected_word old new }
 {
@@ -208,7 +208,7 @@ pub fn selected_change(old: Option<bool>, new: Option<bool>) -> Option<&'static 
     }
 }
 
-/// What is said of a flag that has changed: one word where it is set, and another where it is no more.
+/// What is said of a changed flag: one word if it is now set, and another if it no longer is.
 pub fn flag_change(
     old: bool,
     new: bool,
@@ -224,7 +224,7 @@ pub fn flag_change(
     }
 }
 
-/// How a change of a live region is told.
+/// How a change of a live region is announced.
 pub(crate) fn live_word(live: Live) -> &'static str
     ensures { result.now ≡ live_word live }
 {

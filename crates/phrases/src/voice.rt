@@ -1,4 +1,4 @@
-//! What is said, in lines that wait to be written.
+//! Collecting lines of speech to be written.
 ghost use Rattle.std.specs.Prelude.{◌≡◌, [], ◌++◌, OnOk, OnErr, option_copied};
 ghost use Rattle.phrases.specs.Sayings.{saying};
 ghost use Rattle.phrases.specs.Voices.{said_too, said_later, all_said};
@@ -9,7 +9,7 @@ use schema::Live;
 use std::alloc::{AllocError, Global};
 use std::marker::Model;
 
-/// Says lines, each whole or not at all.
+/// Collects lines of speech, each of them whole or not at all.
 #[derive(Drop)]
 pub struct Voice {
     alloc: Global,
@@ -27,7 +27,7 @@ impl Model for Voice {
 }
 
 impl Voice {
-    /// A voice that has said nothing.
+    /// A voice without lines.
     pub fn new(alloc: Global) -> Voice
         ensures said { result.said ≡ [] }
         ensures waiting { result.waiting ≡ [] }
@@ -39,7 +39,7 @@ impl Voice {
         }
     }
 
-    /// What is said so far.
+    /// The lines said so far.
     pub fn said(&self) -> &str
         ensures { result.now ≡ self.now.said }
     {
@@ -50,7 +50,7 @@ impl Voice {
     ///
     /// # Errors
     ///
-    /// `AllocError`: there is no memory for the line, and nothing is said.
+    /// Returns `AllocError` if memory runs out; nothing is said then.
     pub fn say(&mut self, what: Saying<'_>) -> Result<(), AllocError>
         ensures ok { OnOk result (self.new ≡ said_too self.old (saying what.entry)) }
         ensures err { OnErr result (self.new ≡ self.old) }
@@ -63,7 +63,7 @@ impl Voice {
     ///
     /// # Errors
     ///
-    /// `AllocError`: there is no memory for the line, and nothing is said.
+    /// Returns `AllocError` if memory runs out; nothing is said then.
     pub fn say_later(&mut self, what: Saying<'_>) -> Result<(), AllocError>
         ensures ok { OnOk result (self.new ≡ said_later self.old (saying what.entry)) }
         ensures err { OnErr result (self.new ≡ self.old) }
@@ -72,11 +72,11 @@ impl Voice {
         self.waiting.push_str(&line)
     }
 
-    /// Tells a text of a live region, where there is one: at once, after everything else, or not at all.
+    /// Announces a text of a live region, if there is one: at once, after everything else, or not at all.
     ///
     /// # Errors
     ///
-    /// `AllocError`: there is no memory for the line, and nothing is said.
+    /// Returns `AllocError` if memory runs out; nothing is said then.
     pub fn tell(&mut self, live: Live, text: Option<&str>) -> Result<(), AllocError>
         ensures ok { OnOk result (self.new ≡ told live (option_copied text.entry) self.old) }
         ensures err { OnErr result (self.new ≡ self.old) }
@@ -88,11 +88,11 @@ impl Voice {
         }
     }
 
-    /// Says what has waited.
+    /// Says the lines that were postponed.
     ///
     /// # Errors
     ///
-    /// `AllocError`: there is no memory for it, and nothing is said.
+    /// Returns `AllocError` if memory runs out; nothing is said then.
     pub fn say_waiting(&mut self) -> Result<(), AllocError>
         ensures ok { OnOk result (self.new ≡ all_said self.old) }
         ensures err { OnErr result (self.new ≡ self.old) }
@@ -102,7 +102,7 @@ impl Voice {
         Ok(())
     }
 
-    /// Forgets what is said, which is written.
+    /// Drops the lines said so far, once they are written.
     pub fn clear_said(&mut self)
         ensures said { self.new.said ≡ [] }
         ensures waiting { self.new.waiting ≡ self.old.waiting }

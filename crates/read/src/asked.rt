@@ -1,4 +1,4 @@
-//! What the arguments ask for.
+//! The arguments of the program.
 
 use crate::reading::tell_text;
 use accesskit_consumer::text::NodeText;
@@ -9,7 +9,7 @@ use std::alloc::Global;
 use std::env::Args;
 use std::io::Write;
 
-/// The node whose text is told.
+/// The node whose text is printed.
 #[derive(Drop)]
 pub(crate) struct Asked {
     name: NodeName,
@@ -34,7 +34,7 @@ impl Arguments for Asked {
 }
 
 impl Teller for Asked {
-    /// Tells of the text of the node, or why there is none, and answers whether there is one.
+    /// Prints the text of the node, or why it has none, and returns whether it has one.
     fn tell<O: Write>(
         &self,
         alloc: Global,

@@ -1,4 +1,4 @@
-//! Tells of a text.
+//! Printing a text.
 
 use crate::selected::{Selected, tell_selection};
 use accesskit_consumer::text::{Text, TextRange};
@@ -6,7 +6,7 @@ use atree_script::{Stop, write_text};
 use std::alloc::Global;
 use std::io::Write;
 
-/// Tells of the selection of a text, and of its lines.
+/// Prints the selection of a text, and its lines.
 pub(crate) fn tell_text<O: Write>(alloc: Global, text: Text, out: &mut O) -> Result<(), Stop> {
     let selected = tell_selection(alloc, text, out)?;
     let last = text.end().to_line_index();
@@ -29,7 +29,7 @@ pub(crate) fn tell_text<O: Write>(alloc: Global, text: Text, out: &mut O) -> Res
     Ok(())
 }
 
-/// Tells of the words of a line, which begins at this index. One that goes on in the next line is cut.
+/// Prints the words of a line that starts at this index. A word that continues on the next line is cut.
 fn tell_words<O: Write>(
     alloc: Global,
     line: TextRange<'_>,
@@ -53,7 +53,7 @@ fn tell_words<O: Write>(
     Ok(())
 }
 
-/// Tells of the characters of a word, which begins at this index: the index of each, with a star where it is selected.
+/// Prints the characters of a word that starts at this index: the index of each, with a star if it is selected.
 fn tell_characters<O: Write>(
     alloc: Global,
     word: TextRange<'_>,
@@ -78,7 +78,7 @@ fn tell_characters<O: Write>(
     Ok(())
 }
 
-/// The length of a text in units of UTF-16.
+/// The length of a text in UTF-16 code units.
 fn units(text: &str) -> usize {
     let mut count = 0usize;
     for c in text.chars() {

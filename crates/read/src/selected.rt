@@ -1,10 +1,10 @@
-//! What is selected in a text.
+//! The selection in a text.
 use accesskit_consumer::text::Text;
 use atree_script::{Stop, write_text};
 use std::alloc::Global;
 use std::io::Write;
 
-/// The indexes in units of UTF-16 from which and up to which a text is selected.
+/// The start and the end of a selection, in UTF-16 code units.
 #[derive(Clone, Copy)]
 pub(crate) struct Selected {
     from: usize,
@@ -12,13 +12,13 @@ pub(crate) struct Selected {
 }
 
 impl Selected {
-    /// Whether the index is among them.
+    /// Whether the index is selected.
     pub(crate) fn has(self, index: usize) -> bool {
         self.from <= index && index < self.to
     }
 }
 
-/// Tells of the selection: where it was begun, its end that moves, and the selected text. Answers where it is.
+/// Prints the selection: its anchor, its focus, and the selected text. Returns its indexes.
 pub(crate) fn tell_selection<O: Write>(
     alloc: Global,
     text: Text,

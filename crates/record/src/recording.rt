@@ -4,7 +4,7 @@ use script_lines::{Program, ScriptReader, Stop, end_run, write_command};
 use std::alloc::Global;
 use std::io::{BufRead, Write};
 
-/// Writes the commands of a script anew. It has no arguments.
+/// The program that rewrites the commands of a script. It has no arguments.
 pub(crate) struct Recorder;
 
 impl Program for Recorder {

@@ -11,7 +11,7 @@ use model::FullNodeId;
 use std::alloc::Global;
 use std::marker::Model;
 
-/// Values by id. They ascend by id, and each id stands once.
+/// Values by id, in ascending order of ids, each id once.
 #[derive(Drop)]
 pub struct Rows<V: Copy + Drop> {
     pub(crate) items: Vec<(FullNodeId, V)>,
@@ -62,8 +62,8 @@ impl<V: Copy + Drop> Rows<V> {
         self.items
     }
 
-    /// The value at an id. It is looked for at the index `near` and past it, and then everywhere. `near` is set to what comes
-    /// next, so that ids that ascend are found at once.
+    /// The value at an id. The search starts at the index `near`, and `near` is set to the entry after the one found,
+    /// so that looking up ascending ids needs no search.
     #[tactic(auto, using(crate::proofs::Places::at_end, crate::proofs::Places::found_here, crate::proofs::Places::not_here))]
     pub fn get_near(&self, id: FullNodeId, near: &mut usize) -> Option<V>
         ensures { result ≡ row_at self.now id }
@@ -105,7 +105,7 @@ impl<V: Copy + Drop> Rows<V> {
         self.get(id).is_some()
     }
 
-    /// Gives the entry of an id another value, where there is one. It is looked for as in `get_near`.
+    /// Replaces the value at an id, if there is one. The search is that of `get_near`.
     #[tactic(auto, using(crate::proofs::Changed::set_at_end))]
     pub fn change_near(&mut self, id: FullNodeId, value: V, near: &mut usize)
         ensures { self.new ≡ set_value (is_at (full_cmp id)) self.old value }

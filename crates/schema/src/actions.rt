@@ -6,16 +6,16 @@ ghost use Rattle.schema.specs.Actions.{action_number, has_action, with_action, G
 use crate::Node;
 use std::marker::Model;
 
-/// What a user may ask of a node.
+/// An action that a user may request of a node.
 #[derive(Clone, Copy, Debug, PartialEq, Eq, Hash)]
 pub enum Action {
-    /// To press it, or to do what it is for.
+    /// Press the node, or do whatever its default action is.
     Click,
-    /// To give it the focus.
+    /// Give the node the focus.
     Focus,
-    /// To raise its numeric value by a step.
+    /// Raise the numeric value by one step.
     Increment,
-    /// To lower its numeric value by a step.
+    /// Lower the numeric value by one step.
     Decrement,
     /// Another action, by its number.
     Other(u8),
@@ -68,7 +68,7 @@ impl ActionSet {
         }
     }
 
-    /// The same set.
+    /// Returns a copy of the set.
     pub(crate) fn copy(&self) -> ActionSet
         ensures { result ≡ self.now }
     {
@@ -93,7 +93,7 @@ impl ActionSet {
         (self.top >> (number - 256)) & 1 == 1
     }
 
-    /// Adds the action, which may be there already.
+    /// Adds the action; adding it again has no effect.
     pub(crate) fn add(&mut self, action: Action)
         ensures { self.new ≡ with_action self.old action }
     {
@@ -115,7 +115,7 @@ impl ActionSet {
     }
 }
 
-/// The bits with one more.
+/// The bits with one more bit set.
 fn with_bit(bits: u128, place: u16) -> u128
     requires { place < 128 }
     ensures value { result ≡ bit_or bits (2 ^ place) }
@@ -124,7 +124,7 @@ fn with_bit(bits: u128, place: u16) -> u128
     bits | (1 << place)
 }
 
-/// The bits with one more.
+/// The bits with one more bit set.
 fn with_top_bit(bits: u8, place: u16) -> u8
     requires { place < 8 }
     ensures { result ≡ bit_or bits (2 ^ place) }

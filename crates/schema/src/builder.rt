@@ -1,4 +1,4 @@
-//! A builder of nodes, which asks once whether there was memory.
+//! A builder of nodes that reports a failed allocation once, at the end.
 
 ghost use Rattle.std.specs.Prelude.{◌≡◌, Some, None, true, MatchResult, ◌++◌, [], ◌∷◌};
 ghost use Rattle.schema.specs.Actions.{with_action};
@@ -12,10 +12,10 @@ use crate::{
 use std::alloc::{AllocError, Global};
 use std::marker::Model;
 
-/// A node that is being built: [`NodeBuilder::new`], then a call for each thing that the node has, then
-/// [`NodeBuilder::build`], which alone asks whether there was memory.
+/// Builds a node: start with [`NodeBuilder::new`], set each field by a call, and end with [`NodeBuilder::build`], the
+/// only call that reports a failed allocation.
 ///
-/// Contracts see the node as it stands, or nothing once memory was wanting.
+/// Contracts see the node built so far, or `None` once an allocation has failed.
 #[derive(Drop)]
 pub struct NodeBuilder {
     node: Node,
@@ -32,7 +32,8 @@ impl Model for NodeBuilder {
 }
 
 impl NodeBuilder {
-    /// A builder of a node that has nothing but a role. What it is given later is kept in memory from `alloc`.
+    /// Starts a node with this role and all other fields empty. Texts and lists that are set later are allocated from
+    /// `alloc`.
     pub fn new(alloc: Global, role: Role) -> NodeBuilder
         ensures { result ≡ Some (empty_node role) }
     {
@@ -42,11 +43,11 @@ impl NodeBuilder {
         }
     }
 
-    /// The node with all that it was given.
+    /// Returns the finished node.
     ///
     /// # Errors
     ///
-    /// `AllocError`: memory was wanting at one of the calls.
+    /// Returns `AllocError` if memory ran out in any of the calls.
     pub fn build(self) -> Result<Node, AllocError>
         ensures { MatchResult result (λ node. self ≡ Some node) (λ _. self ≡ None) }
     {
@@ -56,7 +57,7 @@ impl NodeBuilder {
         Ok(self.node)
     }
 
-    /// Sets [`Node::label`] to a copy, or remembers that memory was wanting.
+    /// Sets [`Node::label`] to a copy of the argument. If memory runs out, [`NodeBuilder::build`] fails.
     pub fn label(mut self, text: &str) -> NodeBuilder
         ensures { IsChangedOrRefused (λ d. record d { label = Some text.now }) self result }
     {
@@ -64,7 +65,7 @@ impl NodeBuilder {
         self
     }
 
-    /// Sets [`Node::value`] to a copy, or remembers that memory was wanting.
+    /// Sets [`Node::value`] to a copy of the argument. If memory runs out, [`NodeBuilder::build`] fails.
     pub fn value(mut self, text: &str) -> NodeBuilder
         ensures { IsChangedOrRefused (λ d. record d { value = Some text.now }) self result }
     {
@@ -72,7 +73,7 @@ impl NodeBuilder {
         self
     }
 
-    /// Sets [`Node::description`] to a copy, or remembers that memory was wanting.
+    /// Sets [`Node::description`] to a copy of the argument. If memory runs out, [`NodeBuilder::build`] fails.
     pub fn description(mut self, text: &str) -> NodeBuilder
         ensures { IsChangedOrRefused (λ d. record d { description = Some text.now }) self result }
     {
@@ -80,7 +81,7 @@ impl NodeBuilder {
         self
     }
 
-    /// Sets [`Node::role_description`] to a copy, or remembers that memory was wanting.
+    /// Sets [`Node::role_description`] to a copy of the argument. If memory runs out, [`NodeBuilder::build`] fails.
     pub fn role_description(mut self, text: &str) -> NodeBuilder
         ensures { IsChangedOrRefused (λ d. record d { role_description = Some text.now }) self result }
     {
@@ -88,7 +89,7 @@ impl NodeBuilder {
         self
     }
 
-    /// Sets [`Node::placeholder`] to a copy, or remembers that memory was wanting.
+    /// Sets [`Node::placeholder`] to a copy of the argument. If memory runs out, [`NodeBuilder::build`] fails.
     pub fn placeholder(mut self, text: &str) -> NodeBuilder
         ensures { IsChangedOrRefused (λ d. record d { placeholder = Some text.now }) self result }
     {
@@ -96,7 +97,7 @@ impl NodeBuilder {
         self
     }
 
-    /// Sets [`Node::url`] to a copy, or remembers that memory was wanting.
+    /// Sets [`Node::url`] to a copy of the argument. If memory runs out, [`NodeBuilder::build`] fails.
     pub fn url(mut self, text: &str) -> NodeBuilder
         ensures { IsChangedOrRefused (λ d. record d { url = Some text.now }) self result }
     {
@@ -104,7 +105,7 @@ impl NodeBuilder {
         self
     }
 
-    /// Sets [`Node::author_id`] to a copy, or remembers that memory was wanting.
+    /// Sets [`Node::author_id`] to a copy of the argument. If memory runs out, [`NodeBuilder::build`] fails.
     pub fn author_id(mut self, text: &str) -> NodeBuilder
         ensures { IsChangedOrRefused (λ d. record d { author_id = Some text.now }) self result }
     {
@@ -112,7 +113,7 @@ impl NodeBuilder {
         self
     }
 
-    /// Sets [`Node::language`] to a copy, or remembers that memory was wanting.
+    /// Sets [`Node::language`] to a copy of the argument. If memory runs out, [`NodeBuilder::build`] fails.
     pub fn language(mut self, text: &str) -> NodeBuilder
         ensures { IsChangedOrRefused (λ d. record d { language = Some text.now }) self result }
     {
@@ -120,7 +121,7 @@ impl NodeBuilder {
         self
     }
 
-    /// Sets [`Node::children`] to a copy, or remembers that memory was wanting.
+    /// Sets [`Node::children`] to a copy of the argument. If memory runs out, [`NodeBuilder::build`] fails.
     pub fn children(mut self, ids: &[NodeId]) -> NodeBuilder
         ensures { IsChangedOrRefused (λ d. record d { children = ids.now }) self result }
     {
@@ -128,7 +129,7 @@ impl NodeBuilder {
         self
     }
 
-    /// Sets [`Node::labelled_by`] to a copy, or remembers that memory was wanting.
+    /// Sets [`Node::labelled_by`] to a copy of the argument. If memory runs out, [`NodeBuilder::build`] fails.
     pub fn labelled_by(mut self, ids: &[NodeId]) -> NodeBuilder
         ensures { IsChangedOrRefused (λ d. record d { labelled_by = ids.now }) self result }
     {
@@ -136,7 +137,7 @@ impl NodeBuilder {
         self
     }
 
-    /// Sets [`Node::controls`] to a copy, or remembers that memory was wanting.
+    /// Sets [`Node::controls`] to a copy of the argument. If memory runs out, [`NodeBuilder::build`] fails.
     pub fn controls(mut self, ids: &[NodeId]) -> NodeBuilder
         ensures { IsChangedOrRefused (λ d. record d { controls = ids.now }) self result }
     {
@@ -144,7 +145,7 @@ impl NodeBuilder {
         self
     }
 
-    /// Adds an id at the end of [`Node::children`], or remembers that memory was wanting.
+    /// Adds an id at the end of [`Node::children`]. If memory runs out, [`NodeBuilder::build`] fails.
     pub fn child(mut self, id: NodeId) -> NodeBuilder
         ensures { IsChangedOrRefused (λ d. record d { children = d.children ++ id ∷ [] }) self result }
     {
@@ -152,7 +153,7 @@ impl NodeBuilder {
         self
     }
 
-    /// Sets [`Node::character_lengths`] to a copy, or remembers that memory was wanting.
+    /// Sets [`Node::character_lengths`] to a copy of the argument. If memory runs out, [`NodeBuilder::build`] fails.
     pub fn character_lengths(mut self, lengths: &[u16]) -> NodeBuilder
         ensures { IsChangedOrRefused (λ d. record d { character_lengths = lengths.now }) self result }
     {
@@ -160,7 +161,7 @@ impl NodeBuilder {
         self
     }
 
-    /// Sets [`Node::word_starts`] to a copy, or remembers that memory was wanting.
+    /// Sets [`Node::word_starts`] to a copy of the argument. If memory runs out, [`NodeBuilder::build`] fails.
     pub fn word_starts(mut self, starts: &[u16]) -> NodeBuilder
         ensures { IsChangedOrRefused (λ d. record d { word_starts = starts.now }) self result }
     {
@@ -168,7 +169,7 @@ impl NodeBuilder {
         self
     }
 
-    /// Sets [`Node::character_lengths`] to a copy, or remembers that memory was wanting.
+    /// Sets [`Node::character_lengths`] to a copy of the argument. If memory runs out, [`NodeBuilder::build`] fails.
     pub fn character_lengths_u8(mut self, lengths: &[u8]) -> NodeBuilder
         ensures { IsChangedOrRefused (λ d. record d { character_lengths = lengths.now }) self result }
     {
@@ -176,7 +177,7 @@ impl NodeBuilder {
         self
     }
 
-    /// Sets [`Node::word_starts`] to a copy, or remembers that memory was wanting.
+    /// Sets [`Node::word_starts`] to a copy of the argument. If memory runs out, [`NodeBuilder::build`] fails.
     pub fn word_starts_u8(mut self, starts: &[u8]) -> NodeBuilder
         ensures { IsChangedOrRefused (λ d. record d { word_starts = starts.now }) self result }
     {
@@ -184,7 +185,7 @@ impl NodeBuilder {
         self
     }
 
-    /// Sets [`Node::character_positions`] to a copy, or remembers that memory was wanting.
+    /// Sets [`Node::character_positions`] to a copy of the argument. If memory runs out, [`NodeBuilder::build`] fails.
     pub fn character_positions(mut self, positions: &[i32]) -> NodeBuilder
         ensures { IsChangedOrRefused (λ d. record d { character_positions = Some positions.now }) self result }
     {
@@ -192,7 +193,7 @@ impl NodeBuilder {
         self
     }
 
-    /// Sets [`Node::character_widths`] to a copy, or remembers that memory was wanting.
+    /// Sets [`Node::character_widths`] to a copy of the argument. If memory runs out, [`NodeBuilder::build`] fails.
     pub fn character_widths(mut self, widths: &[i32]) -> NodeBuilder
         ensures { IsChangedOrRefused (λ d. record d { character_widths = Some widths.now }) self result }
     {
@@ -448,7 +449,7 @@ impl NodeBuilder {
         self
     }
 
-    /// Adds to what the node can be asked to do, as [`Node::add_action`] does.
+    /// Adds an action that the node supports, as [`Node::add_action`] does.
     pub fn action(mut self, action: Action) -> NodeBuilder
         ensures { result ≡ changed (λ d. record d { actions = with_action d.actions action }) self }
     {
@@ -456,7 +457,7 @@ impl NodeBuilder {
         self
     }
 
-    /// Adds to what each child can be asked to do, as [`Node::add_child_action`] does.
+    /// Adds an action that each child supports, as [`Node::add_child_action`] does.
     pub fn child_action(mut self, action: Action) -> NodeBuilder
         ensures { result ≡ changed (λ d. record d { child_actions = with_action d.child_actions action }) self }
     {

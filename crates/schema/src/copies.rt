@@ -20,7 +20,7 @@ impl Clone for Node {
 }
 
 impl Node {
-    /// A node with this one's plain values, and none of its lists and texts.
+    /// A node with this one's plain values, without its lists and texts.
     fn without_heap(&self) -> Node
         ensures { result ≡ record self.now {
           children = [];
@@ -63,7 +63,7 @@ impl Node {
         }
     }
 
-    /// Takes a copy of the other node's lists of ids.
+    /// Copies the other node's lists of ids.
     fn take_ids(&mut self, other: &Node) -> Result<(), AllocError>
         ensures { OnOk result (self.new ≡ record self.old {
           children = other.now.children;
@@ -78,7 +78,7 @@ impl Node {
         Ok(())
     }
 
-    /// Takes a copy of the other node's texts.
+    /// Copies the other node's texts.
     fn take_texts(&mut self, other: &Node) -> Result<(), AllocError>
         ensures { OnOk result (self.new ≡ record self.old {
           label = other.now.label;
@@ -105,7 +105,7 @@ impl Node {
         Ok(())
     }
 
-    /// Takes a copy of the other node's lists on its characters.
+    /// Copies the other node's lists about its characters.
     fn take_run(&mut self, other: &Node) -> Result<(), AllocError>
         ensures { OnOk result (self.new ≡ record self.old {
           character_lengths = other.now.character_lengths;
@@ -120,7 +120,7 @@ impl Node {
     }
 }
 
-/// A copy of a text, where there is one.
+/// A copy of a text, if there is one.
 pub(crate) fn copy_of_text(
     alloc: Global,
     text: &Option<String>,

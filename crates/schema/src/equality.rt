@@ -1,4 +1,4 @@
-//! When two nodes are equal: field by field.
+//! Equality of nodes, field by field.
 
 ghost use Rattle.std.specs.Prelude.{◌≡◌, ◌↔◌, IsTrue, option_copied};
 ghost use Rattle.schema.specs.Same.{same_node, same_node_laws, same_node_equivalence};
@@ -152,7 +152,7 @@ impl Node {
             && same_ints(self.character_widths(), other.character_widths())
     }
 
-    /// Whether the style agree.
+    /// Whether the styles agree.
     fn same_style(&self, other: &Node) -> bool
         ensures { IsTrue result ↔ SameStyle self.now other.now }
     {

@@ -1,4 +1,4 @@
-//! What is so of a node, or isn't.
+//! The boolean fields of a node.
 
 ghost use Rattle.std.specs.Prelude.{◌≡◌, None, Some, true, false};
 
@@ -19,7 +19,7 @@ impl Node {
         self.plain.hidden = true;
     }
 
-    /// Takes [`Node::is_hidden`] back.
+    /// Clears [`Node::is_hidden`].
     pub fn clear_hidden(&mut self)
         ensures { self.new ≡ record self.old { hidden = false } }
     {
@@ -40,7 +40,7 @@ impl Node {
         self.plain.disabled = true;
     }
 
-    /// Takes [`Node::is_disabled`] back.
+    /// Clears [`Node::is_disabled`].
     pub fn clear_disabled(&mut self)
         ensures { self.new ≡ record self.old { disabled = false } }
     {
@@ -61,14 +61,14 @@ impl Node {
         self.plain.read_only = true;
     }
 
-    /// Takes [`Node::is_read_only`] back.
+    /// Clears [`Node::is_read_only`].
     pub fn clear_read_only(&mut self)
         ensures { self.new ≡ record self.old { read_only = false } }
     {
         self.plain.read_only = false;
     }
 
-    /// Whether the node is being changed, so that it should not be read yet.
+    /// Whether the node is being changed and should not be read yet.
     pub fn is_busy(&self) -> bool
         ensures { result ≡ self.now.busy }
     {
@@ -82,14 +82,14 @@ impl Node {
         self.plain.busy = true;
     }
 
-    /// Takes [`Node::is_busy`] back.
+    /// Clears [`Node::is_busy`].
     pub fn clear_busy(&mut self)
         ensures { self.new ≡ record self.old { busy = false } }
     {
         self.plain.busy = false;
     }
 
-    /// Whether a change in a live region is told with the whole region.
+    /// Whether a change in this live region is announced with the whole region.
     pub fn is_live_atomic(&self) -> bool
         ensures { result ≡ self.now.live_atomic }
     {
@@ -103,7 +103,7 @@ impl Node {
         self.plain.live_atomic = true;
     }
 
-    /// Takes [`Node::is_live_atomic`] back.
+    /// Clears [`Node::is_live_atomic`].
     pub fn clear_live_atomic(&mut self)
         ensures { self.new ≡ record self.old { live_atomic = false } }
     {
@@ -124,7 +124,7 @@ impl Node {
         self.plain.modal = true;
     }
 
-    /// Takes [`Node::is_modal`] back.
+    /// Clears [`Node::is_modal`].
     pub fn clear_modal(&mut self)
         ensures { self.new ≡ record self.old { modal = false } }
     {
@@ -145,14 +145,14 @@ impl Node {
         self.plain.multiselectable = true;
     }
 
-    /// Takes [`Node::is_multiselectable`] back.
+    /// Clears [`Node::is_multiselectable`].
     pub fn clear_multiselectable(&mut self)
         ensures { self.new ≡ record self.old { multiselectable = false } }
     {
         self.plain.multiselectable = false;
     }
 
-    /// Whether a value has to be given.
+    /// Whether the user has to fill the node in.
     pub fn is_required(&self) -> bool
         ensures { result ≡ self.now.required }
     {
@@ -166,7 +166,7 @@ impl Node {
         self.plain.required = true;
     }
 
-    /// Takes [`Node::is_required`] back.
+    /// Clears [`Node::is_required`].
     pub fn clear_required(&mut self)
         ensures { self.new ≡ record self.old { required = false } }
     {
@@ -187,7 +187,7 @@ impl Node {
         self.plain.touch_transparent = true;
     }
 
-    /// Takes [`Node::is_touch_transparent`] back.
+    /// Clears [`Node::is_touch_transparent`].
     pub fn clear_touch_transparent(&mut self)
         ensures { self.new ≡ record self.old { touch_transparent = false } }
     {
@@ -208,14 +208,14 @@ impl Node {
         self.plain.italic = true;
     }
 
-    /// Takes [`Node::is_italic`] back.
+    /// Clears [`Node::is_italic`].
     pub fn clear_italic(&mut self)
         ensures { self.new ≡ record self.old { italic = false } }
     {
         self.plain.italic = false;
     }
 
-    /// Whether what lies outside of the node's bounds isn't shown.
+    /// Whether the parts of children outside the node's bounds are not shown.
     pub fn clips_children(&self) -> bool
         ensures { result ≡ self.now.clips_children }
     {
@@ -229,14 +229,14 @@ impl Node {
         self.plain.clips_children = true;
     }
 
-    /// Takes [`Node::clips_children`] back.
+    /// Clears [`Node::clips_children`].
     pub fn clear_clips_children(&mut self)
         ensures { self.new ≡ record self.old { clips_children = false } }
     {
         self.plain.clips_children = false;
     }
 
-    /// Whether the node is expanded, for one that can be.
+    /// Whether the node is expanded; `None` if it can't be expanded.
     pub fn is_expanded(&self) -> Option<bool>
         ensures { result ≡ self.now.expanded }
     {
@@ -250,14 +250,14 @@ impl Node {
         self.plain.expanded = Some(value);
     }
 
-    /// Takes [`Node::is_expanded`] back.
+    /// Clears [`Node::is_expanded`].
     pub fn clear_expanded(&mut self)
         ensures { self.new ≡ record self.old { expanded = None } }
     {
         self.plain.expanded = None;
     }
 
-    /// Whether the node is selected, for one that can be.
+    /// Whether the node is selected; `None` if it can't be selected.
     pub fn is_selected(&self) -> Option<bool>
         ensures { result ≡ self.now.selected }
     {
@@ -271,7 +271,7 @@ impl Node {
         self.plain.selected = Some(value);
     }
 
-    /// Takes [`Node::is_selected`] back.
+    /// Clears [`Node::is_selected`].
     pub fn clear_selected(&mut self)
         ensures { self.new ≡ record self.old { selected = None } }
     {

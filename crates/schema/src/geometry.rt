@@ -1,6 +1,7 @@
 //! Rectangles, points and translations.
 //!
-//! A unit is one sixty-fourth of a pixel. What a node holds is narrow; sums over a whole tree are wide, so that none overflows.
+//! All lengths are in units of 1/64 pixel. A node stores narrow numbers; sums over a whole tree are wide, so that no
+//! sum overflows.
 
 ghost use Rattle.std.specs.Prelude.{◌≡◌, true, ℤ, pos, ◌*ℤ◌, ◌<ℤ◌, SomeIff, IfSome, FitsSigned};
 ghost use Rattle.std.specs.Int.{int_gap, saturate_signed, w32, w64};
@@ -9,7 +10,7 @@ ghost use Rattle.schema.specs.Boxes.{has_point, is_between, middle, wide_has_poi
 /// How many units a pixel has.
 const UNITS_OF_PIXEL: i32 = 64;
 
-/// A rectangle, from `(x0, y0)` to `(x1, y1)`, in units. It may be empty or reversed.
+/// A rectangle, from `(x0, y0)` to `(x1, y1)`, in units of 1/64 pixel. It may be empty or reversed.
 #[derive(Clone, Copy, Debug, PartialEq, Eq, Hash)]
 pub struct Rect {
     pub x0: i32,
@@ -26,8 +27,8 @@ impl Rect {
         Rect { x0, y0, x1, y1 }
     }
 
-    /// The rectangle whose corners are given in pixels. A number of pixels that lies beyond all rectangles, more than 33 million,
-    /// becomes the last unit on that side.
+    /// The rectangle with these corners in pixels. Values beyond the range of a rectangle (more than 33 million pixels)
+    /// are clamped to it.
     pub fn from_pixels(x0: i32, y0: i32, x1: i32, y1: i32) -> Rect
         ensures { result ≡ record {
           x0 = saturate_signed w32 (x0 *ℤ pos 64);
@@ -44,22 +45,21 @@ impl Rect {
         }
     }
 
-    /// How far it reaches from left to right, in units. A reversed one contains nothing and has the width 0.
+    /// The width, in units of 1/64 pixel. A reversed rectangle is empty and has the width 0.
     pub fn width(&self) -> u32
         ensures { result ≡ int_gap self.now.x0 self.now.x1 }
     {
         distance(self.x0, self.x1)
     }
 
-    /// How far it reaches from top to bottom, in units. A reversed one contains nothing and has the height 0.
+    /// The height, in units of 1/64 pixel. A reversed rectangle is empty and has the height 0.
     pub fn height(&self) -> u32
         ensures { result ≡ int_gap self.now.y0 self.now.y1 }
     {
         distance(self.y0, self.y1)
     }
 
-    /// The point in the middle: half of the sum of two opposite sides, rounded down. It lies in each rectangle that contains a
-    /// point at all.
+    /// The point in the middle, rounded down. It lies in the rectangle unless the rectangle is empty.
     pub fn center(&self) -> Point
         ensures value { result ≡ record {
           x = middle self.now.x0 self.now.x1;
@@ -73,8 +73,8 @@ impl Rect {
         }
     }
 
-    /// Whether the point lies in it. Its left and its upper side belong to it, and the others don't; a reversed one contains
-    /// nothing.
+    /// Whether the rectangle contains the point. The left and the upper side belong to it, the right and the lower side
+    /// don't; a reversed rectangle contains nothing.
     pub fn contains(&self, point: Point) -> bool
         ensures { result ≡ has_point self.now point }
     {
@@ -82,7 +82,7 @@ impl Rect {
     }
 }
 
-/// A point, in units.
+/// A point, in units of 1/64 pixel.
 #[derive(Clone, Copy, Debug, PartialEq, Eq, Hash)]
 pub struct Point {
     pub x: i64,
@@ -97,7 +97,7 @@ impl Point {
         Point { x, y }
     }
 
-    /// The point that is given in pixels.
+    /// The point with these coordinates in pixels.
     pub fn from_pixels(x: i32, y: i32) -> Point
         ensures { result ≡ record { x = x *ℤ pos 64; y = y *ℤ pos 64 } }
     {
@@ -108,7 +108,7 @@ impl Point {
     }
 }
 
-/// By how much a node and all below it are moved, in units.
+/// By how much a node and its subtree are shifted, in units of 1/64 pixel.
 #[derive(Clone, Copy, Debug, PartialEq, Eq, Hash)]
 pub struct Translation {
     pub x: i32,
@@ -116,7 +116,7 @@ pub struct Translation {
 }
 
 impl Translation {
-    /// A move to the right by `x` and down by `y`.
+    /// A shift to the right by `x` and down by `y`.
     pub fn new(x: i32, y: i32) -> Translation
         ensures { result ≡ record { x = x; y = y } }
     {
@@ -124,7 +124,7 @@ impl Translation {
     }
 }
 
-/// A rectangle that was moved by a sum of translations, in units.
+/// A rectangle after a sum of translations, in units of 1/64 pixel.
 #[derive(Clone, Copy, Debug, PartialEq, Eq, Hash)]
 pub struct WideRect {
     pub x0: i128,
@@ -134,21 +134,21 @@ pub struct WideRect {
 }
 
 impl WideRect {
-    /// How far it reaches from left to right, in units. A reversed one contains nothing and has the width 0.
+    /// The width, in units of 1/64 pixel. A reversed rectangle is empty and has the width 0.
     pub fn width(&self) -> u128
         ensures { result ≡ int_gap self.now.x0 self.now.x1 }
     {
         distance_of_wide(self.x0, self.x1)
     }
 
-    /// How far it reaches from top to bottom, in units. A reversed one contains nothing and has the height 0.
+    /// The height, in units of 1/64 pixel. A reversed rectangle is empty and has the height 0.
     pub fn height(&self) -> u128
         ensures { result ≡ int_gap self.now.y0 self.now.y1 }
     {
         distance_of_wide(self.y0, self.y1)
     }
 
-    /// The point in the middle, as [`Rect::center`] is of a rectangle; none where it lies farther out than a [`Point`] can.
+    /// The point in the middle, as [`Rect::center`] gives it; `None` if it is out of range for a [`Point`].
     pub fn center(&self) -> Option<Point>
         ensures value { let x : ℤ = middle self.now.x0 self.now.x1 in let y : ℤ = middle self.now.y0 self.now.y1 in
             SomeIff result (FitsSigned w64 x × FitsSigned w64 y) (record { x = x; y = y }) }
@@ -160,7 +160,7 @@ impl WideRect {
         Some(Point { x, y })
     }
 
-    /// Whether the point lies in it, as [`Rect::contains`] says it of a rectangle.
+    /// Whether the rectangle contains the point, by the rule of [`Rect::contains`].
     pub fn contains(&self, point: Point) -> bool
         ensures { result ≡ wide_has_point self.now point }
     {
@@ -168,7 +168,7 @@ impl WideRect {
     }
 }
 
-/// A sum of translations, in units.
+/// A sum of translations, in units of 1/64 pixel.
 #[derive(Clone, Copy, Debug, PartialEq, Eq, Hash)]
 pub struct WideTranslation {
     pub x: i128,
@@ -189,14 +189,14 @@ fn distance_of_wide(low: i128, high: i128) -> u128
     if low < high { high.abs_diff(low) } else { 0 }
 }
 
-/// Whether a number is in a span, whose end isn't.
+/// Whether a number lies in a span, from its start to before its end.
 fn is_in_span(low: i32, high: i32, number: i64) -> bool
     ensures { result ≡ is_between low high number }
 {
     i64::from(low) <= number && number < i64::from(high)
 }
 
-/// Whether a number is in a span, whose end isn't.
+/// Whether a number lies in a span, from its start to before its end.
 fn is_in_wide_span(low: i128, high: i128, number: i64) -> bool
     ensures { result ≡ is_between low high number }
 {
@@ -211,7 +211,7 @@ fn middle_of(low: i32, high: i32) -> i64
     (i64::from(low) + i64::from(high)).div_euclid(2)
 }
 
-/// The middle of a span, if it isn't too far out.
+/// The middle of a span, if it fits a point.
 fn middle_of_wide(low: i128, high: i128) -> Option<i64>
     ensures value { SomeIff result (FitsSigned w64 (middle low high)) (middle low high) }
     ensures inside { IfSome result (λ m. low <ℤ high → is_between low high m ≡ true) }

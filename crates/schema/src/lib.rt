@@ -48,7 +48,7 @@ pub use values::{
     TextDecorationStyle, TextDirection, TextPosition, TextSelection, Toggled, VerticalOffset,
 };
 
-/// Names a node within its tree.
+/// The id of a node within its tree.
 #[derive(Clone, Copy, Debug, PartialEq, Eq, PartialOrd, Ord, Hash)]
 pub struct NodeId(pub u64);
 
@@ -71,7 +71,7 @@ impl From<u64> for NodeId {
     }
 }
 
-/// The id's number.
+/// The number of the id.
 impl From<NodeId> for u64 {
     ghost from_gives = { λ id number. number ≡ id.0 };
 
@@ -80,7 +80,7 @@ impl From<NodeId> for u64 {
     }
 }
 
-/// Names a tree.
+/// The id of a tree, a UUID.
 #[derive(Clone, Copy, Debug, PartialEq, Eq, PartialOrd, Ord, Hash)]
 pub struct TreeId(pub Uuid);
 
@@ -103,7 +103,7 @@ impl fmt::Display for TreeId {
     }
 }
 
-/// What a node is.
+/// The role of a node: what kind of element it is.
 #[derive(Clone, Copy, Debug)]
 pub enum Role {
     Unknown,
@@ -178,11 +178,11 @@ pub enum Role {
     Menu,
     MenuBar,
     Tree,
-    /// A role that has no name here, by its number.
+    /// A role without a name here, by its number.
     Other(u16),
 }
 
-/// A node of an accessibility tree: its role, its children and what is known of it. Most fields may be absent.
+/// A node of an accessibility tree: its role, its children and its properties. Most fields are optional.
 #[derive(Drop)]
 pub struct Node {
     actions: ActionSet,
@@ -289,7 +289,7 @@ impl Model for Node {
 const _: () = prove!(size_of::<Node>() <= 600);
 
 impl Node {
-    /// A node with nothing but a role. What it is given later is kept in memory from `alloc`.
+    /// A node with this role and all other fields empty. Texts and lists that are set later are allocated from `alloc`.
     pub fn new(alloc: Global, role: Role) -> Node
         ensures { result ≡ empty_node role }
     {
@@ -311,7 +311,7 @@ impl Node {
         }
     }
 
-    /// What the node is.
+    /// The role of the node.
     pub fn role(&self) -> Role
         ensures { result ≡ self.now.role }
     {

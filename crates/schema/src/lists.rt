@@ -6,7 +6,7 @@ use crate::{Node, NodeId, TreeId};
 use std::alloc::AllocError;
 
 impl Node {
-    /// The ids of the node's children, in order. They name nodes of the node's own tree.
+    /// The ids of the node's children, in order. Children are nodes of the same tree.
     pub fn children(&self) -> &[NodeId]
         ensures { result.now ≡ self.now.children }
     {
@@ -17,7 +17,7 @@ impl Node {
     ///
     /// # Errors
     ///
-    /// `AllocError`: memory was wanting, and nothing has changed.
+    /// Returns `AllocError` if memory runs out; the node is then unchanged.
     pub fn set_children(&mut self, ids: &[NodeId]) -> Result<(), AllocError>
         ensures ok { OnOk result (self.new ≡ record self.old { children = ids.now }) }
         ensures err { OnErr result (self.new ≡ self.old) }
@@ -30,7 +30,7 @@ impl Node {
     ///
     /// # Errors
     ///
-    /// `AllocError`: memory was wanting, and nothing has changed.
+    /// Returns `AllocError` if memory runs out; the node is then unchanged.
     pub fn push_child(&mut self, id: NodeId) -> Result<(), AllocError>
         ensures ok { OnOk result (self.new ≡ record self.old { children = self.old.children ++ id ∷ [] }) }
         ensures err { OnErr result (self.new ≡ self.old) }
@@ -39,7 +39,7 @@ impl Node {
         Ok(())
     }
 
-    /// Empties [`Node::children`].
+    /// Clears [`Node::children`].
     pub fn clear_children(&mut self)
         ensures { self.new ≡ record self.old { children = [] } }
     {
@@ -57,7 +57,7 @@ impl Node {
     ///
     /// # Errors
     ///
-    /// `AllocError`: memory was wanting, and nothing has changed.
+    /// Returns `AllocError` if memory runs out; the node is then unchanged.
     pub fn set_labelled_by(&mut self, ids: &[NodeId]) -> Result<(), AllocError>
         ensures ok { OnOk result (self.new ≡ record self.old { labelled_by = ids.now }) }
         ensures err { OnErr result (self.new ≡ self.old) }
@@ -70,7 +70,7 @@ impl Node {
     ///
     /// # Errors
     ///
-    /// `AllocError`: memory was wanting, and nothing has changed.
+    /// Returns `AllocError` if memory runs out; the node is then unchanged.
     pub fn push_labelled_by(&mut self, id: NodeId) -> Result<(), AllocError>
         ensures ok { OnOk result
             (self.new ≡ record self.old { labelled_by = self.old.labelled_by ++ id ∷ [] }) }
@@ -80,7 +80,7 @@ impl Node {
         Ok(())
     }
 
-    /// Empties [`Node::labelled_by`].
+    /// Clears [`Node::labelled_by`].
     pub fn clear_labelled_by(&mut self)
         ensures { self.new ≡ record self.old { labelled_by = [] } }
     {
@@ -98,7 +98,7 @@ impl Node {
     ///
     /// # Errors
     ///
-    /// `AllocError`: memory was wanting, and nothing has changed.
+    /// Returns `AllocError` if memory runs out; the node is then unchanged.
     pub fn set_controls(&mut self, ids: &[NodeId]) -> Result<(), AllocError>
         ensures ok { OnOk result (self.new ≡ record self.old { controls = ids.now }) }
         ensures err { OnErr result (self.new ≡ self.old) }
@@ -111,7 +111,7 @@ impl Node {
     ///
     /// # Errors
     ///
-    /// `AllocError`: memory was wanting, and nothing has changed.
+    /// Returns `AllocError` if memory runs out; the node is then unchanged.
     pub fn push_controls(&mut self, id: NodeId) -> Result<(), AllocError>
         ensures ok { OnOk result (self.new ≡ record self.old { controls = self.old.controls ++ id ∷ [] }) }
         ensures err { OnErr result (self.new ≡ self.old) }
@@ -120,14 +120,14 @@ impl Node {
         Ok(())
     }
 
-    /// Empties [`Node::controls`].
+    /// Clears [`Node::controls`].
     pub fn clear_controls(&mut self)
         ensures { self.new ≡ record self.old { controls = [] } }
     {
         self.controls = Vec::new(self.alloc);
     }
 
-    /// The node of the same tree that stands for this one while this one has the focus.
+    /// The node of the same tree that is shown as focused while this one has the focus.
     pub fn active_descendant(&self) -> Option<NodeId>
         ensures { result ≡ self.now.active_descendant }
     {
@@ -144,7 +144,7 @@ impl Node {
         self.plain.has_active_descendant = true;
     }
 
-    /// Takes [`Node::active_descendant`] back.
+    /// Clears [`Node::active_descendant`].
     pub fn clear_active_descendant(&mut self)
         ensures { self.new ≡ record self.old { active_descendant = None } }
     {
@@ -168,7 +168,7 @@ impl Node {
         self.plain.has_previous_on_line = true;
     }
 
-    /// Takes [`Node::previous_on_line`] back.
+    /// Clears [`Node::previous_on_line`].
     pub fn clear_previous_on_line(&mut self)
         ensures { self.new ≡ record self.old { previous_on_line = None } }
     {
@@ -192,14 +192,14 @@ impl Node {
         self.plain.has_next_on_line = true;
     }
 
-    /// Takes [`Node::next_on_line`] back.
+    /// Clears [`Node::next_on_line`].
     pub fn clear_next_on_line(&mut self)
         ensures { self.new ≡ record self.old { next_on_line = None } }
     {
         self.plain.has_next_on_line = false;
     }
 
-    /// The tree that is grafted here: its root is this node's only child.
+    /// The tree that is grafted here; its root becomes this node's only child.
     pub fn tree_id(&self) -> Option<TreeId>
         ensures { result ≡ self.now.tree_id }
     {
@@ -213,7 +213,7 @@ impl Node {
         self.plain.tree_id = Some(value);
     }
 
-    /// Takes [`Node::tree_id`] back.
+    /// Clears [`Node::tree_id`].
     pub fn clear_tree_id(&mut self)
         ensures { self.new ≡ record self.old { tree_id = None } }
     {

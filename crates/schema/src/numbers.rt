@@ -1,13 +1,13 @@
 //! The numbers and the place of a node.
 //!
-//! A unit is one sixty-fourth of a pixel.
+//! Lengths are in units of 1/64 pixel.
 
 ghost use Rattle.std.specs.Prelude.{◌≡◌, None, Some};
 
 use crate::{Node, Rect, Translation};
 
 impl Node {
-    /// The level in a hierarchy, as that of a heading.
+    /// The level in a hierarchy, such as that of a heading.
     pub fn level(&self) -> Option<usize>
         ensures { result ≡ self.now.level }
     {
@@ -22,7 +22,7 @@ impl Node {
         self.plain.has_level = true;
     }
 
-    /// Takes [`Node::level`] back.
+    /// Clears [`Node::level`].
     pub fn clear_level(&mut self)
         ensures { self.new ≡ record self.old { level = None } }
     {
@@ -44,14 +44,14 @@ impl Node {
         self.plain.has_size_of_set = true;
     }
 
-    /// Takes [`Node::size_of_set`] back.
+    /// Clears [`Node::size_of_set`].
     pub fn clear_size_of_set(&mut self)
         ensures { self.new ≡ record self.old { size_of_set = None } }
     {
         self.plain.has_size_of_set = false;
     }
 
-    /// The place among the items of the set.
+    /// The position among the items of the set, counted from 0.
     pub fn position_in_set(&self) -> Option<usize>
         ensures { result ≡ self.now.position_in_set }
     {
@@ -68,7 +68,7 @@ impl Node {
         self.plain.has_position_in_set = true;
     }
 
-    /// Takes [`Node::position_in_set`] back.
+    /// Clears [`Node::position_in_set`].
     pub fn clear_position_in_set(&mut self)
         ensures { self.new ≡ record self.old { position_in_set = None } }
     {
@@ -92,14 +92,14 @@ impl Node {
         self.plain.has_numeric_value = true;
     }
 
-    /// Takes [`Node::numeric_value`] back.
+    /// Clears [`Node::numeric_value`].
     pub fn clear_numeric_value(&mut self)
         ensures { self.new ≡ record self.old { numeric_value = None } }
     {
         self.plain.has_numeric_value = false;
     }
 
-    /// The least numeric value, in thousandths.
+    /// The minimum of the numeric value, in thousandths.
     pub fn min_numeric_value(&self) -> Option<i64>
         ensures { result ≡ self.now.min_numeric_value }
     {
@@ -116,14 +116,14 @@ impl Node {
         self.plain.has_min_numeric_value = true;
     }
 
-    /// Takes [`Node::min_numeric_value`] back.
+    /// Clears [`Node::min_numeric_value`].
     pub fn clear_min_numeric_value(&mut self)
         ensures { self.new ≡ record self.old { min_numeric_value = None } }
     {
         self.plain.has_min_numeric_value = false;
     }
 
-    /// The greatest numeric value, in thousandths.
+    /// The maximum of the numeric value, in thousandths.
     pub fn max_numeric_value(&self) -> Option<i64>
         ensures { result ≡ self.now.max_numeric_value }
     {
@@ -140,14 +140,14 @@ impl Node {
         self.plain.has_max_numeric_value = true;
     }
 
-    /// Takes [`Node::max_numeric_value`] back.
+    /// Clears [`Node::max_numeric_value`].
     pub fn clear_max_numeric_value(&mut self)
         ensures { self.new ≡ record self.old { max_numeric_value = None } }
     {
         self.plain.has_max_numeric_value = false;
     }
 
-    /// By how much an increment changes the numeric value, in thousandths.
+    /// By how much one step changes the numeric value, in thousandths.
     pub fn numeric_value_step(&self) -> Option<i64>
         ensures { result ≡ self.now.numeric_value_step }
     {
@@ -164,14 +164,14 @@ impl Node {
         self.plain.has_numeric_value_step = true;
     }
 
-    /// Takes [`Node::numeric_value_step`] back.
+    /// Clears [`Node::numeric_value_step`].
     pub fn clear_numeric_value_step(&mut self)
         ensures { self.new ≡ record self.old { numeric_value_step = None } }
     {
         self.plain.has_numeric_value_step = false;
     }
 
-    /// By how much a greater step changes the numeric value, in thousandths.
+    /// By how much a large step changes the numeric value, in thousandths.
     pub fn numeric_value_jump(&self) -> Option<i64>
         ensures { result ≡ self.now.numeric_value_jump }
     {
@@ -188,14 +188,14 @@ impl Node {
         self.plain.has_numeric_value_jump = true;
     }
 
-    /// Takes [`Node::numeric_value_jump`] back.
+    /// Clears [`Node::numeric_value_jump`].
     pub fn clear_numeric_value_jump(&mut self)
         ensures { self.new ≡ record self.old { numeric_value_jump = None } }
     {
         self.plain.has_numeric_value_jump = false;
     }
 
-    /// How far the content is scrolled to the side, in units.
+    /// The horizontal scroll position, in units of 1/64 pixel.
     pub fn scroll_x(&self) -> Option<i64>
         ensures { result ≡ self.now.scroll_x }
     {
@@ -210,14 +210,14 @@ impl Node {
         self.plain.has_scroll_x = true;
     }
 
-    /// Takes [`Node::scroll_x`] back.
+    /// Clears [`Node::scroll_x`].
     pub fn clear_scroll_x(&mut self)
         ensures { self.new ≡ record self.old { scroll_x = None } }
     {
         self.plain.has_scroll_x = false;
     }
 
-    /// The least horizontal scroll position, in units.
+    /// The minimum of the horizontal scroll position, in units of 1/64 pixel.
     pub fn scroll_x_min(&self) -> Option<i64>
         ensures { result ≡ self.now.scroll_x_min }
     {
@@ -234,14 +234,14 @@ impl Node {
         self.plain.has_scroll_x_min = true;
     }
 
-    /// Takes [`Node::scroll_x_min`] back.
+    /// Clears [`Node::scroll_x_min`].
     pub fn clear_scroll_x_min(&mut self)
         ensures { self.new ≡ record self.old { scroll_x_min = None } }
     {
         self.plain.has_scroll_x_min = false;
     }
 
-    /// The greatest horizontal scroll position, in units.
+    /// The maximum of the horizontal scroll position, in units of 1/64 pixel.
     pub fn scroll_x_max(&self) -> Option<i64>
         ensures { result ≡ self.now.scroll_x_max }
     {
@@ -258,14 +258,14 @@ impl Node {
         self.plain.has_scroll_x_max = true;
     }
 
-    /// Takes [`Node::scroll_x_max`] back.
+    /// Clears [`Node::scroll_x_max`].
     pub fn clear_scroll_x_max(&mut self)
         ensures { self.new ≡ record self.old { scroll_x_max = None } }
     {
         self.plain.has_scroll_x_max = false;
     }
 
-    /// How far the content is scrolled down, in units.
+    /// The vertical scroll position, in units of 1/64 pixel.
     pub fn scroll_y(&self) -> Option<i64>
         ensures { result ≡ self.now.scroll_y }
     {
@@ -280,14 +280,14 @@ impl Node {
         self.plain.has_scroll_y = true;
     }
 
-    /// Takes [`Node::scroll_y`] back.
+    /// Clears [`Node::scroll_y`].
     pub fn clear_scroll_y(&mut self)
         ensures { self.new ≡ record self.old { scroll_y = None } }
     {
         self.plain.has_scroll_y = false;
     }
 
-    /// The least vertical scroll position, in units.
+    /// The minimum of the vertical scroll position, in units of 1/64 pixel.
     pub fn scroll_y_min(&self) -> Option<i64>
         ensures { result ≡ self.now.scroll_y_min }
     {
@@ -304,14 +304,14 @@ impl Node {
         self.plain.has_scroll_y_min = true;
     }
 
-    /// Takes [`Node::scroll_y_min`] back.
+    /// Clears [`Node::scroll_y_min`].
     pub fn clear_scroll_y_min(&mut self)
         ensures { self.new ≡ record self.old { scroll_y_min = None } }
     {
         self.plain.has_scroll_y_min = false;
     }
 
-    /// The greatest vertical scroll position, in units.
+    /// The maximum of the vertical scroll position, in units of 1/64 pixel.
     pub fn scroll_y_max(&self) -> Option<i64>
         ensures { result ≡ self.now.scroll_y_max }
     {
@@ -328,14 +328,14 @@ impl Node {
         self.plain.has_scroll_y_max = true;
     }
 
-    /// Takes [`Node::scroll_y_max`] back.
+    /// Clears [`Node::scroll_y_max`].
     pub fn clear_scroll_y_max(&mut self)
         ensures { self.new ≡ record self.old { scroll_y_max = None } }
     {
         self.plain.has_scroll_y_max = false;
     }
 
-    /// The raw rectangle, in units, before any translation.
+    /// The node's rectangle, in units of 1/64 pixel, before any translation.
     pub fn bounds(&self) -> Option<Rect>
         ensures { result ≡ self.now.bounds }
     {
@@ -349,14 +349,14 @@ impl Node {
         self.plain.bounds = Some(value);
     }
 
-    /// Takes [`Node::bounds`] back.
+    /// Clears [`Node::bounds`].
     pub fn clear_bounds(&mut self)
         ensures { self.new ≡ record self.old { bounds = None } }
     {
         self.plain.bounds = None;
     }
 
-    /// By how much the node and all below it are moved, in units.
+    /// By how much the node and its subtree are shifted, in units of 1/64 pixel.
     pub fn transform(&self) -> Option<Translation>
         ensures { result ≡ self.now.transform }
     {
@@ -370,7 +370,7 @@ impl Node {
         self.plain.transform = Some(value);
     }
 
-    /// Takes [`Node::transform`] back.
+    /// Clears [`Node::transform`].
     pub fn clear_transform(&mut self)
         ensures { self.new ≡ record self.old { transform = None } }
     {

@@ -5,8 +5,8 @@ use crate::{
     TextDecoration, TextDirection, TextSelection, Toggled, Translation, TreeId, VerticalOffset,
 };
 
-/// The plain fields. A number of eight bytes stands beside a flag that says whether it is given: as an `Option` it
-/// would take sixteen.
+/// The plain fields. Each eight-byte number has a flag beside it for whether it is set, since an `Option` would take
+/// sixteen bytes.
 #[derive(Clone, Copy)]
 pub(crate) struct PlainFields {
     pub(crate) active_descendant: NodeId,
@@ -80,7 +80,7 @@ pub(crate) struct PlainFields {
 }
 
 impl PlainFields {
-    /// Nothing is given.
+    /// All fields unset.
     pub(crate) const EMPTY: PlainFields = PlainFields {
         active_descendant: NodeId(0),
         previous_on_line: NodeId(0),

@@ -1,4 +1,4 @@
-//! The rarer texts of a node: a list with an entry for each that is given, so that a node without them stays small.
+//! The rarer texts of a node: a list with an entry for each text that is set, so that a node without them stays small.
 
 ghost use Rattle.std.specs.Prelude.{◌≡◌, ◌++◌, [], ◌∷◌, ◌==◌, not, filter, map, None, Some, OnOk, OnErr, IfOk, option_copied, string_bytes, vec_len, vec_capacity, ◌≤◌};
 ghost use Rattle.schema.specs.RareTexts.{key_number, is_under, text_at, entry_seen, no_texts, text_under, with_text};
@@ -6,7 +6,7 @@ ghost use Rattle.schema.specs.RareTexts.{key_number, is_under, text_at, entry_se
 use std::alloc::{AllocError, Global};
 use std::marker::Model;
 
-/// Which of the rarer texts.
+/// The key of a rarer text.
 #[derive(Clone, Copy)]
 pub(crate) enum RareText {
     Description,
@@ -25,7 +25,7 @@ pub(crate) enum RareText {
 }
 
 impl RareText {
-    /// Its place in the list.
+    /// The number of the key.
     fn number(self) -> u8
         ensures { result ≡ key_number self }
     {
@@ -87,7 +87,7 @@ impl RareTexts {
         Ok(())
     }
 
-    /// Takes one of the texts back.
+    /// Clears one of the texts.
     pub(crate) fn clear(&mut self, key: RareText)
         ensures { self.new ≡ with_text key None self.old }
     {
@@ -113,7 +113,8 @@ fn entry_of(entries: &[(RareText, String)], key: RareText) -> Option<&str>
         .map(|entry| entry.1.as_str())
 }
 
-/// Puts an entry in the place of those under its key. Room is made first, so that a refusal changes nothing.
+/// Replaces the entries under the new entry's key. Memory is reserved first, so that a failed allocation changes
+/// nothing.
 fn put(entries: &mut Vec<(RareText, String)>, key: RareText, text: String) -> Result<(), AllocError>
     ensures ok { OnOk result (
         entries.new.items ≡ filter (λ e. not (is_under key e)) entries.old.items ++ (key, text) ∷ []
@@ -126,7 +127,7 @@ fn put(entries: &mut Vec<(RareText, String)>, key: RareText, text: String) -> Re
     Ok(())
 }
 
-/// Takes out the entries under a key.
+/// Removes the entries under a key.
 fn take_out(entries: &mut Vec<(RareText, String)>, key: RareText)
     ensures items { entries.new.items ≡ filter (λ e. not (is_under key e)) entries.old.items }
     ensures len { vec_len entries.new ≤ vec_len entries.old }

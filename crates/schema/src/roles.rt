@@ -1,4 +1,4 @@
-//! Roles: when two are equal, and how they print.
+//! Roles: their equality, and how they print.
 
 ghost use Rattle.std.specs.Prelude.{◌≡◌, ◌↔◌, IsTrue, Some, map};
 ghost use Rattle.std.specs.List.{range_with_len};
@@ -8,7 +8,7 @@ ghost use Rattle.schema.specs.Roles.{role_number, same_role, same_role_laws, sam
 use crate::Role;
 use std::fmt;
 
-/// What [`named_roles`] shows.
+/// The table that [`named_roles`] returns.
 static ROLE_NAMES: [(&str, Role); 72] = [
     ("Unknown", Role::Unknown),
     ("Window", Role::Window),
@@ -109,7 +109,7 @@ impl Eq for Role {
     ghost laws = { same_role_equivalence };
 }
 
-/// A role prints by its name, and one without a name by its number, as `Other(7)`.
+/// A role prints as its name, and one without a name by its number, as in `Other(7)`.
 impl fmt::Display for Role {
     ghost output = { λ r. Some (role_text r) };
 
@@ -123,7 +123,7 @@ impl fmt::Display for Role {
 }
 
 impl Role {
-    /// The role's place in the list of roles; `Other(n)` stands at 72 + n.
+    /// The role's number in the list of roles; that of `Other(n)` is 72 + n.
     fn number(self) -> u32
         ensures { result ≡ role_number self }
     {
@@ -214,7 +214,7 @@ impl Role {
         }
     }
 
-    /// The role's name, without the number of one that has no name of its own.
+    /// The role's name; `Other` for a role without a name, whatever its number.
     fn name(self) -> &'static str
         ensures { result.now ≡ role_name self }
     {

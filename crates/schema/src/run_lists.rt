@@ -1,4 +1,4 @@
-//! What a text run says of its characters: apart from the node, so that one that isn't a text run stays small.
+//! The lists about a text run's characters. They are stored apart from the node, so that other nodes stay small.
 
 ghost use Rattle.std.specs.Prelude.{◌≡◌, [], None, Some, OnOk, OnErr, IfOk, option_map, option_copied};
 ghost use Rattle.schema.specs.RunLists.{no_lists};
@@ -30,7 +30,7 @@ impl RunTable {
     }
 }
 
-/// The lists of a text run. A node that has had none takes no memory for them.
+/// The lists of a text run. Nothing is allocated until the first of them is set.
 #[derive(Drop)]
 pub(crate) struct RunLists {
     table: Option<Box<RunTable>>,
@@ -84,7 +84,7 @@ impl RunLists {
         Ok(())
     }
 
-    /// Empties [`RunLists::lengths`].
+    /// Clears [`RunLists::lengths`].
     pub(crate) fn clear_lengths(&mut self, alloc: Global)
         ensures { self.new ≡ record self.old { lengths = [] } }
     {
@@ -118,7 +118,7 @@ impl RunLists {
         Ok(())
     }
 
-    /// Empties [`RunLists::starts`].
+    /// Clears [`RunLists::starts`].
     pub(crate) fn clear_starts(&mut self, alloc: Global)
         ensures { self.new ≡ record self.old { starts = [] } }
     {
@@ -127,7 +127,7 @@ impl RunLists {
         }
     }
 
-    /// Where each character begins, in units.
+    /// Where each character begins, in units of 1/64 pixel.
     pub(crate) fn positions(&self) -> Option<&[i32]>
         ensures { option_copied result ≡ self.now.positions }
     {
@@ -153,7 +153,7 @@ impl RunLists {
         Ok(())
     }
 
-    /// Takes [`RunLists::positions`] back.
+    /// Clears [`RunLists::positions`].
     pub(crate) fn clear_positions(&mut self)
         ensures { self.new ≡ record self.old { positions = None } }
     {
@@ -162,7 +162,7 @@ impl RunLists {
         }
     }
 
-    /// How far each character reaches, in units.
+    /// The width of each character, in units of 1/64 pixel.
     pub(crate) fn widths(&self) -> Option<&[i32]>
         ensures { option_copied result ≡ self.now.widths }
     {
@@ -184,7 +184,7 @@ impl RunLists {
         Ok(())
     }
 
-    /// Takes [`RunLists::widths`] back.
+    /// Clears [`RunLists::widths`].
     pub(crate) fn clear_widths(&mut self)
         ensures { self.new ≡ record self.old { widths = None } }
     {

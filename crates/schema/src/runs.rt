@@ -1,6 +1,6 @@
-//! What a text run says of its characters, and the selection.
+//! The fields about a text run's characters, and the selection.
 //!
-//! A unit is one sixty-fourth of a pixel.
+//! Lengths are in units of 1/64 pixel.
 
 ghost use Rattle.std.specs.Prelude.{◌≡◌, [], None, Some, OnOk, OnErr, IfOk, option_copied};
 
@@ -22,7 +22,7 @@ impl Node {
         self.plain.text_selection = Some(value);
     }
 
-    /// Takes [`Node::text_selection`] back.
+    /// Clears [`Node::text_selection`].
     pub fn clear_text_selection(&mut self)
         ensures { self.new ≡ record self.old { text_selection = None } }
     {
@@ -40,7 +40,7 @@ impl Node {
     ///
     /// # Errors
     ///
-    /// `AllocError`: memory was wanting, and nothing has changed.
+    /// Returns `AllocError` if memory runs out; the node is then unchanged.
     pub fn set_character_lengths(&mut self, lengths: &[u16]) -> Result<(), AllocError>
         ensures ok { OnOk result (self.new ≡ record self.old { character_lengths = lengths.now }) }
         ensures err { OnErr result (self.new ≡ self.old) }
@@ -49,11 +49,11 @@ impl Node {
         self.run.set_lengths(self.alloc, copy)
     }
 
-    /// Sets what [`Node::set_character_lengths`] sets for the same numbers.
+    /// Sets [`Node::character_lengths`] to these lengths, given as bytes.
     ///
     /// # Errors
     ///
-    /// `AllocError`: memory was wanting, and nothing has changed.
+    /// Returns `AllocError` if memory runs out; the node is then unchanged.
     pub fn set_character_lengths_u8(&mut self, lengths: &[u8]) -> Result<(), AllocError>
         ensures ok { OnOk result (self.new ≡ record self.old { character_lengths = lengths.now }) }
         ensures err { OnErr result (self.new ≡ self.old) }
@@ -62,7 +62,7 @@ impl Node {
         self.run.set_lengths(self.alloc, copy)
     }
 
-    /// Empties [`Node::character_lengths`].
+    /// Clears [`Node::character_lengths`].
     pub fn clear_character_lengths(&mut self)
         ensures { self.new ≡ record self.old { character_lengths = [] } }
     {
@@ -80,7 +80,7 @@ impl Node {
     ///
     /// # Errors
     ///
-    /// `AllocError`: memory was wanting, and nothing has changed.
+    /// Returns `AllocError` if memory runs out; the node is then unchanged.
     pub fn set_word_starts(&mut self, starts: &[u16]) -> Result<(), AllocError>
         ensures ok { OnOk result (self.new ≡ record self.old { word_starts = starts.now }) }
         ensures err { OnErr result (self.new ≡ self.old) }
@@ -89,11 +89,11 @@ impl Node {
         self.run.set_starts(self.alloc, copy)
     }
 
-    /// Sets what [`Node::set_word_starts`] sets for the same numbers.
+    /// Sets [`Node::word_starts`] to these indexes, given as bytes.
     ///
     /// # Errors
     ///
-    /// `AllocError`: memory was wanting, and nothing has changed.
+    /// Returns `AllocError` if memory runs out; the node is then unchanged.
     pub fn set_word_starts_u8(&mut self, starts: &[u8]) -> Result<(), AllocError>
         ensures ok { OnOk result (self.new ≡ record self.old { word_starts = starts.now }) }
         ensures err { OnErr result (self.new ≡ self.old) }
@@ -102,14 +102,14 @@ impl Node {
         self.run.set_starts(self.alloc, copy)
     }
 
-    /// Empties [`Node::word_starts`].
+    /// Clears [`Node::word_starts`].
     pub fn clear_word_starts(&mut self)
         ensures { self.new ≡ record self.old { word_starts = [] } }
     {
         self.run.clear_starts(self.alloc);
     }
 
-    /// Where each character of a text run begins along its line, in units.
+    /// Where each character of a text run begins along its line, in units of 1/64 pixel.
     pub fn character_positions(&self) -> Option<&[i32]>
         ensures { option_copied result ≡ self.now.character_positions }
     {
@@ -120,7 +120,7 @@ impl Node {
     ///
     /// # Errors
     ///
-    /// `AllocError`: memory was wanting, and nothing has changed.
+    /// Returns `AllocError` if memory runs out; the node is then unchanged.
     pub fn set_character_positions(&mut self, positions: &[i32]) -> Result<(), AllocError>
         ensures ok { OnOk result (self.new ≡ record self.old { character_positions = Some positions.now }) }
         ensures err { OnErr result (self.new ≡ self.old) }
@@ -129,14 +129,14 @@ impl Node {
         self.run.set_positions(self.alloc, copy)
     }
 
-    /// Takes [`Node::character_positions`] back.
+    /// Clears [`Node::character_positions`].
     pub fn clear_character_positions(&mut self)
         ensures { self.new ≡ record self.old { character_positions = None } }
     {
         self.run.clear_positions();
     }
 
-    /// How far each character of a text run reaches along its line, in units.
+    /// The width of each character of a text run along its line, in units of 1/64 pixel.
     pub fn character_widths(&self) -> Option<&[i32]>
         ensures { option_copied result ≡ self.now.character_widths }
     {
@@ -147,7 +147,7 @@ impl Node {
     ///
     /// # Errors
     ///
-    /// `AllocError`: memory was wanting, and nothing has changed.
+    /// Returns `AllocError` if memory runs out; the node is then unchanged.
     pub fn set_character_widths(&mut self, widths: &[i32]) -> Result<(), AllocError>
         ensures ok { OnOk result (self.new ≡ record self.old { character_widths = Some widths.now }) }
         ensures err { OnErr result (self.new ≡ self.old) }
@@ -156,7 +156,7 @@ impl Node {
         self.run.set_widths(self.alloc, copy)
     }
 
-    /// Takes [`Node::character_widths`] back.
+    /// Clears [`Node::character_widths`].
     pub fn clear_character_widths(&mut self)
         ensures { self.new ≡ record self.old { character_widths = None } }
     {

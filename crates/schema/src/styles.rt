@@ -23,14 +23,14 @@ impl Node {
         self.plain.font_size = Some(value);
     }
 
-    /// Takes [`Node::font_size`] back.
+    /// Clears [`Node::font_size`].
     pub fn clear_font_size(&mut self)
         ensures { self.new ≡ record self.old { font_size = None } }
     {
         self.plain.font_size = None;
     }
 
-    /// The weight of the font: 400 is the usual one, 700 bold.
+    /// The weight of the font: 400 is regular, 700 bold.
     pub fn font_weight(&self) -> Option<u16>
         ensures { result ≡ self.now.font_weight }
     {
@@ -44,7 +44,7 @@ impl Node {
         self.plain.font_weight = Some(value);
     }
 
-    /// Takes [`Node::font_weight`] back.
+    /// Clears [`Node::font_weight`].
     pub fn clear_font_weight(&mut self)
         ensures { self.new ≡ record self.old { font_weight = None } }
     {
@@ -65,7 +65,7 @@ impl Node {
         self.plain.background_color = Some(value);
     }
 
-    /// Takes [`Node::background_color`] back.
+    /// Clears [`Node::background_color`].
     pub fn clear_background_color(&mut self)
         ensures { self.new ≡ record self.old { background_color = None } }
     {
@@ -86,7 +86,7 @@ impl Node {
         self.plain.foreground_color = Some(value);
     }
 
-    /// Takes [`Node::foreground_color`] back.
+    /// Clears [`Node::foreground_color`].
     pub fn clear_foreground_color(&mut self)
         ensures { self.new ≡ record self.old { foreground_color = None } }
     {
@@ -107,7 +107,7 @@ impl Node {
         self.plain.overline = Some(value);
     }
 
-    /// Takes [`Node::overline`] back.
+    /// Clears [`Node::overline`].
     pub fn clear_overline(&mut self)
         ensures { self.new ≡ record self.old { overline = None } }
     {
@@ -128,7 +128,7 @@ impl Node {
         self.plain.strikethrough = Some(value);
     }
 
-    /// Takes [`Node::strikethrough`] back.
+    /// Clears [`Node::strikethrough`].
     pub fn clear_strikethrough(&mut self)
         ensures { self.new ≡ record self.old { strikethrough = None } }
     {
@@ -149,7 +149,7 @@ impl Node {
         self.plain.underline = Some(value);
     }
 
-    /// Takes [`Node::underline`] back.
+    /// Clears [`Node::underline`].
     pub fn clear_underline(&mut self)
         ensures { self.new ≡ record self.old { underline = None } }
     {
@@ -170,14 +170,14 @@ impl Node {
         self.plain.toggled = Some(value);
     }
 
-    /// Takes [`Node::toggled`] back.
+    /// Clears [`Node::toggled`].
     pub fn clear_toggled(&mut self)
         ensures { self.new ≡ record self.old { toggled = None } }
     {
         self.plain.toggled = None;
     }
 
-    /// Along which axis the node lies.
+    /// The axis along which the node is laid out.
     pub fn orientation(&self) -> Option<Orientation>
         ensures { result ≡ self.now.orientation }
     {
@@ -191,14 +191,14 @@ impl Node {
         self.plain.orientation = Some(value);
     }
 
-    /// Takes [`Node::orientation`] back.
+    /// Clears [`Node::orientation`].
     pub fn clear_orientation(&mut self)
         ensures { self.new ≡ record self.old { orientation = None } }
     {
         self.plain.orientation = None;
     }
 
-    /// In which order a column or row is sorted.
+    /// How a column or row is sorted.
     pub fn sort_direction(&self) -> Option<SortDirection>
         ensures { result ≡ self.now.sort_direction }
     {
@@ -212,14 +212,14 @@ impl Node {
         self.plain.sort_direction = Some(value);
     }
 
-    /// Takes [`Node::sort_direction`] back.
+    /// Clears [`Node::sort_direction`].
     pub fn clear_sort_direction(&mut self)
         ensures { self.new ≡ record self.old { sort_direction = None } }
     {
         self.plain.sort_direction = None;
     }
 
-    /// As what the node is the current one of its set.
+    /// Which kind of current item the node is, as by `aria-current`.
     pub fn aria_current(&self) -> Option<AriaCurrent>
         ensures { result ≡ self.now.aria_current }
     {
@@ -233,14 +233,14 @@ impl Node {
         self.plain.aria_current = Some(value);
     }
 
-    /// Takes [`Node::aria_current`] back.
+    /// Clears [`Node::aria_current`].
     pub fn clear_aria_current(&mut self)
         ensures { self.new ≡ record self.old { aria_current = None } }
     {
         self.plain.aria_current = None;
     }
 
-    /// What pops up from the node.
+    /// The kind of popup that the node opens.
     pub fn has_popup(&self) -> Option<HasPopup>
         ensures { result ≡ self.now.has_popup }
     {
@@ -254,14 +254,14 @@ impl Node {
         self.plain.has_popup = Some(value);
     }
 
-    /// Takes [`Node::has_popup`] back.
+    /// Clears [`Node::has_popup`].
     pub fn clear_has_popup(&mut self)
         ensures { self.new ≡ record self.old { has_popup = None } }
     {
         self.plain.has_popup = None;
     }
 
-    /// How a change of the node is told.
+    /// How changes of the node are announced.
     pub fn live(&self) -> Option<Live>
         ensures { result ≡ self.now.live }
     {
@@ -275,7 +275,7 @@ impl Node {
         self.plain.live = Some(value);
     }
 
-    /// Takes [`Node::live`] back.
+    /// Clears [`Node::live`].
     pub fn clear_live(&mut self)
         ensures { self.new ≡ record self.old { live = None } }
     {
@@ -296,7 +296,7 @@ impl Node {
         self.plain.text_direction = Some(value);
     }
 
-    /// Takes [`Node::text_direction`] back.
+    /// Clears [`Node::text_direction`].
     pub fn clear_text_direction(&mut self)
         ensures { self.new ≡ record self.old { text_direction = None } }
     {
@@ -317,14 +317,14 @@ impl Node {
         self.plain.text_align = Some(value);
     }
 
-    /// Takes [`Node::text_align`] back.
+    /// Clears [`Node::text_align`].
     pub fn clear_text_align(&mut self)
         ensures { self.new ≡ record self.old { text_align = None } }
     {
         self.plain.text_align = None;
     }
 
-    /// Whether the text is raised or lowered.
+    /// Whether the text is superscript or subscript.
     pub fn vertical_offset(&self) -> Option<VerticalOffset>
         ensures { result ≡ self.now.vertical_offset }
     {
@@ -338,7 +338,7 @@ impl Node {
         self.plain.vertical_offset = Some(value);
     }
 
-    /// Takes [`Node::vertical_offset`] back.
+    /// Clears [`Node::vertical_offset`].
     pub fn clear_vertical_offset(&mut self)
         ensures { self.new ≡ record self.old { vertical_offset = None } }
     {

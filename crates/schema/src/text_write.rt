@@ -1,4 +1,4 @@
-//! Writers of text, which count the calls that fail.
+//! Writers of text that count failed calls.
 
 ghost use Rattle.std.specs.Prelude.{◌≡◌, ◌≢◌, ℕ, ◌+◌, ◌<◌, ◌^◌, ⊤, Bool, List, [], ◌++◌, Some, OnOk, OnErr, is_ok, MatchResult, codes, encode_utf8, string_bytes};
 ghost use Rattle.schema.specs.TextCalls.{TextCall, WithText, WithCharacter};
@@ -8,10 +8,10 @@ use std::error::Error;
 use std::fmt;
 use std::marker::Model;
 
-/// How many bytes there is room for after the first growth of a text in memory, at least.
+/// The minimum capacity in bytes after the first growth of a text in memory.
 const FIRST_ROOM: usize = 64;
 
-/// A writer took no text.
+/// The error of a writer that accepted no text.
 #[derive(Clone, Copy, Debug, PartialEq, Eq)]
 pub struct TextFault;
 
@@ -25,27 +25,27 @@ impl fmt::Display for TextFault {
 
 impl Error for TextFault {}
 
-/// A receiver of text. Each call gives it a whole text or nothing, and the calls that failed are counted.
+/// A receiver of text. Each call writes the whole text or nothing, and failed calls are counted.
 pub trait TextWrite {
-    /// The bytes of the text received.
+    /// The bytes of the text received so far.
     ghost received: { Self → List ℕ };
 
     /// How many calls have failed.
     ghost faults: { Self → ℕ };
 
-    /// What one call makes of the writer: the writer before it, the call, whether it was taken, and the writer after it.
-    /// A writer of which no more is to be known than what it received leaves this out.
+    /// Relates the writer before a call, the call, whether it succeeded, and the writer after it. A writer that is
+    /// fully described by what it received leaves this out.
     ghost steps: { Self → TextCall → Bool → Self → Type 0 } = { λ _ _ _ _. ⊤ };
 
     /// How many calls have failed.
     fn failures(&self) -> u128
         ensures { result ≡ faults self.now };
 
-    /// Receives the whole text, or none of it.
+    /// Writes the whole text, or none of it.
     ///
     /// # Errors
     ///
-    /// The writer took nothing, and counts one failure more.
+    /// Returns `TextFault` if the writer accepts nothing; it then counts one more failure.
     fn write_str(&mut self, text: &str) -> Result<(), TextFault>
         requires { faults self.old + 1 < 2 ^ 128 }
         ensures ok { OnOk result (
@@ -58,11 +58,11 @@ pub trait TextWrite {
             ) }
         ensures called { steps self.old (WithText text.now) (is_ok result) self.new };
 
-    /// Receives one character, or nothing.
+    /// Writes one character, or nothing.
     ///
     /// # Errors
     ///
-    /// The writer took nothing, and counts one failure more.
+    /// Returns `TextFault` if the writer accepts nothing; it then counts one more failure.
     fn write_char(&mut self, character: char) -> Result<(), TextFault>
         requires { faults self.old + 1 < 2 ^ 128 }
         ensures ok { OnOk result (
@@ -76,7 +76,7 @@ pub trait TextWrite {
         ensures called { steps self.old (WithCharacter character) (is_ok result) self.new };
 }
 
-/// A text in memory. A write to it fails only where a growth was refused.
+/// A text in memory. A write to it fails only if memory runs out.
 #[derive(Drop)]
 pub struct TextBuffer {
     text: String,
@@ -93,7 +93,7 @@ impl Model for TextBuffer {
 }
 
 impl TextBuffer {
-    /// An empty text, which grows in memory from `alloc`.
+    /// An empty text, allocated from `alloc`.
     pub fn new(alloc: Global) -> TextBuffer
         ensures { result ≡ record { text = []; failures = 0 } }
     {
@@ -103,12 +103,12 @@ impl TextBuffer {
         }
     }
 
-    /// Makes room for the first text and for some that may follow it, so that a text of several parts isn't moved at each of
-    /// them.
+    /// Reserves memory for the first text and some that may follow it, so that a text of several parts isn't moved for
+    /// each part.
     ///
     /// # Errors
     ///
-    /// There is no memory for so much.
+    /// Returns an error if memory runs out.
     fn make_room(&mut self, text: &str) -> Result<(), AllocError>
         ensures { self.new ≡ self.old }
     {
@@ -132,11 +132,11 @@ impl TextBuffer {
         self.text
     }
 
-    /// The text received, if it is all that was to be written.
+    /// Returns the text, if every write to it succeeded.
     ///
     /// # Errors
     ///
-    /// `TextFault`: a write failed, so that something may be missing.
+    /// Returns `TextFault` if a write failed, so that part of the text may be missing.
     pub fn finish(self) -> Result<String, TextFault>
         ensures { MatchResult result
             (λ text. (self.failures ≡ 0) × (string_bytes text ≡ self.text))

@@ -14,11 +14,11 @@ impl Node {
         self.label.as_ref().map(|text| text.as_str())
     }
 
-    /// Sets [`Node::label`] to a copy of the text.
+    /// Sets [`Node::label`] to a copy of `text`.
     ///
     /// # Errors
     ///
-    /// `AllocError`: memory was wanting, and nothing has changed.
+    /// Returns `AllocError` if memory runs out; the node is then unchanged.
     pub fn set_label(&mut self, text: &str) -> Result<(), AllocError>
         ensures ok { OnOk result (self.new ≡ record self.old { label = Some text.now }) }
         ensures err { OnErr result (self.new ≡ self.old) }
@@ -27,25 +27,25 @@ impl Node {
         Ok(())
     }
 
-    /// Takes [`Node::label`] back.
+    /// Clears [`Node::label`].
     pub fn clear_label(&mut self)
         ensures { self.new ≡ record self.old { label = None } }
     {
         self.label = None;
     }
 
-    /// The value, as a text: what is typed, chosen or shown.
+    /// The value as text: what is typed, chosen or shown.
     pub fn value(&self) -> Option<&str>
         ensures { option_copied result ≡ self.now.value }
     {
         self.value.as_ref().map(|text| text.as_str())
     }
 
-    /// Sets [`Node::value`] to a copy of the text.
+    /// Sets [`Node::value`] to a copy of `text`.
     ///
     /// # Errors
     ///
-    /// `AllocError`: memory was wanting, and nothing has changed.
+    /// Returns `AllocError` if memory runs out; the node is then unchanged.
     pub fn set_value(&mut self, text: &str) -> Result<(), AllocError>
         ensures ok { OnOk result (self.new ≡ record self.old { value = Some text.now }) }
         ensures err { OnErr result (self.new ≡ self.old) }
@@ -54,7 +54,7 @@ impl Node {
         Ok(())
     }
 
-    /// Takes [`Node::value`] back.
+    /// Clears [`Node::value`].
     pub fn clear_value(&mut self)
         ensures { self.new ≡ record self.old { value = None } }
     {
@@ -68,11 +68,11 @@ impl Node {
         self.texts.get(RareText::Description)
     }
 
-    /// Sets [`Node::description`] to a copy of the text.
+    /// Sets [`Node::description`] to a copy of `text`.
     ///
     /// # Errors
     ///
-    /// `AllocError`: memory was wanting, and nothing has changed.
+    /// Returns `AllocError` if memory runs out; the node is then unchanged.
     pub fn set_description(&mut self, text: &str) -> Result<(), AllocError>
         ensures ok { OnOk result (self.new ≡ record self.old { description = Some text.now }) }
         ensures err { OnErr result (self.new ≡ self.old) }
@@ -81,25 +81,25 @@ impl Node {
         self.texts.set(RareText::Description, copy)
     }
 
-    /// Takes [`Node::description`] back.
+    /// Clears [`Node::description`].
     pub fn clear_description(&mut self)
         ensures { self.new ≡ record self.old { description = None } }
     {
         self.texts.clear(RareText::Description);
     }
 
-    /// What to call the role, in place of its usual name.
+    /// What to call the role instead of its usual name.
     pub fn role_description(&self) -> Option<&str>
         ensures { option_copied result ≡ self.now.role_description }
     {
         self.texts.get(RareText::RoleDescription)
     }
 
-    /// Sets [`Node::role_description`] to a copy of the text.
+    /// Sets [`Node::role_description`] to a copy of `text`.
     ///
     /// # Errors
     ///
-    /// `AllocError`: memory was wanting, and nothing has changed.
+    /// Returns `AllocError` if memory runs out; the node is then unchanged.
     pub fn set_role_description(&mut self, text: &str) -> Result<(), AllocError>
         ensures ok { OnOk result (self.new ≡ record self.old { role_description = Some text.now }) }
         ensures err { OnErr result (self.new ≡ self.old) }
@@ -108,25 +108,25 @@ impl Node {
         self.texts.set(RareText::RoleDescription, copy)
     }
 
-    /// Takes [`Node::role_description`] back.
+    /// Clears [`Node::role_description`].
     pub fn clear_role_description(&mut self)
         ensures { self.new ≡ record self.old { role_description = None } }
     {
         self.texts.clear(RareText::RoleDescription);
     }
 
-    /// The hint that stands in an empty text input.
+    /// The hint shown in an empty text input.
     pub fn placeholder(&self) -> Option<&str>
         ensures { option_copied result ≡ self.now.placeholder }
     {
         self.texts.get(RareText::Placeholder)
     }
 
-    /// Sets [`Node::placeholder`] to a copy of the text.
+    /// Sets [`Node::placeholder`] to a copy of `text`.
     ///
     /// # Errors
     ///
-    /// `AllocError`: memory was wanting, and nothing has changed.
+    /// Returns `AllocError` if memory runs out; the node is then unchanged.
     pub fn set_placeholder(&mut self, text: &str) -> Result<(), AllocError>
         ensures ok { OnOk result (self.new ≡ record self.old { placeholder = Some text.now }) }
         ensures err { OnErr result (self.new ≡ self.old) }
@@ -135,7 +135,7 @@ impl Node {
         self.texts.set(RareText::Placeholder, copy)
     }
 
-    /// Takes [`Node::placeholder`] back.
+    /// Clears [`Node::placeholder`].
     pub fn clear_placeholder(&mut self)
         ensures { self.new ≡ record self.old { placeholder = None } }
     {
@@ -149,11 +149,11 @@ impl Node {
         self.texts.get(RareText::Url)
     }
 
-    /// Sets [`Node::url`] to a copy of the text.
+    /// Sets [`Node::url`] to a copy of `text`.
     ///
     /// # Errors
     ///
-    /// `AllocError`: memory was wanting, and nothing has changed.
+    /// Returns `AllocError` if memory runs out; the node is then unchanged.
     pub fn set_url(&mut self, text: &str) -> Result<(), AllocError>
         ensures ok { OnOk result (self.new ≡ record self.old { url = Some text.now }) }
         ensures err { OnErr result (self.new ≡ self.old) }
@@ -162,25 +162,25 @@ impl Node {
         self.texts.set(RareText::Url, copy)
     }
 
-    /// Takes [`Node::url`] back.
+    /// Clears [`Node::url`].
     pub fn clear_url(&mut self)
         ensures { self.new ≡ record self.old { url = None } }
     {
         self.texts.clear(RareText::Url);
     }
 
-    /// The author's own id of the node.
+    /// The id that the author gave the node.
     pub fn author_id(&self) -> Option<&str>
         ensures { option_copied result ≡ self.now.author_id }
     {
         self.texts.get(RareText::AuthorId)
     }
 
-    /// Sets [`Node::author_id`] to a copy of the text.
+    /// Sets [`Node::author_id`] to a copy of `text`.
     ///
     /// # Errors
     ///
-    /// `AllocError`: memory was wanting, and nothing has changed.
+    /// Returns `AllocError` if memory runs out; the node is then unchanged.
     pub fn set_author_id(&mut self, text: &str) -> Result<(), AllocError>
         ensures ok { OnOk result (self.new ≡ record self.old { author_id = Some text.now }) }
         ensures err { OnErr result (self.new ≡ self.old) }
@@ -189,25 +189,25 @@ impl Node {
         self.texts.set(RareText::AuthorId, copy)
     }
 
-    /// Takes [`Node::author_id`] back.
+    /// Clears [`Node::author_id`].
     pub fn clear_author_id(&mut self)
         ensures { self.new ≡ record self.old { author_id = None } }
     {
         self.texts.clear(RareText::AuthorId);
     }
 
-    /// The id of the HTML element that the node stands for.
+    /// The id of the node's HTML element.
     pub fn html_id(&self) -> Option<&str>
         ensures { option_copied result ≡ self.now.html_id }
     {
         self.texts.get(RareText::HtmlId)
     }
 
-    /// Sets [`Node::html_id`] to a copy of the text.
+    /// Sets [`Node::html_id`] to a copy of `text`.
     ///
     /// # Errors
     ///
-    /// `AllocError`: memory was wanting, and nothing has changed.
+    /// Returns `AllocError` if memory runs out; the node is then unchanged.
     pub fn set_html_id(&mut self, text: &str) -> Result<(), AllocError>
         ensures ok { OnOk result (self.new ≡ record self.old { html_id = Some text.now }) }
         ensures err { OnErr result (self.new ≡ self.old) }
@@ -216,25 +216,25 @@ impl Node {
         self.texts.set(RareText::HtmlId, copy)
     }
 
-    /// Takes [`Node::html_id`] back.
+    /// Clears [`Node::html_id`].
     pub fn clear_html_id(&mut self)
         ensures { self.new ≡ record self.old { html_id = None } }
     {
         self.texts.clear(RareText::HtmlId);
     }
 
-    /// The class of the control that the node stands for.
+    /// The class of the node's control.
     pub fn class_name(&self) -> Option<&str>
         ensures { option_copied result ≡ self.now.class_name }
     {
         self.texts.get(RareText::ClassName)
     }
 
-    /// Sets [`Node::class_name`] to a copy of the text.
+    /// Sets [`Node::class_name`] to a copy of `text`.
     ///
     /// # Errors
     ///
-    /// `AllocError`: memory was wanting, and nothing has changed.
+    /// Returns `AllocError` if memory runs out; the node is then unchanged.
     pub fn set_class_name(&mut self, text: &str) -> Result<(), AllocError>
         ensures ok { OnOk result (self.new ≡ record self.old { class_name = Some text.now }) }
         ensures err { OnErr result (self.new ≡ self.old) }
@@ -243,7 +243,7 @@ impl Node {
         self.texts.set(RareText::ClassName, copy)
     }
 
-    /// Takes [`Node::class_name`] back.
+    /// Clears [`Node::class_name`].
     pub fn clear_class_name(&mut self)
         ensures { self.new ≡ record self.old { class_name = None } }
     {
@@ -257,11 +257,11 @@ impl Node {
         self.texts.get(RareText::BrailleLabel)
     }
 
-    /// Sets [`Node::braille_label`] to a copy of the text.
+    /// Sets [`Node::braille_label`] to a copy of `text`.
     ///
     /// # Errors
     ///
-    /// `AllocError`: memory was wanting, and nothing has changed.
+    /// Returns `AllocError` if memory runs out; the node is then unchanged.
     pub fn set_braille_label(&mut self, text: &str) -> Result<(), AllocError>
         ensures ok { OnOk result (self.new ≡ record self.old { braille_label = Some text.now }) }
         ensures err { OnErr result (self.new ≡ self.old) }
@@ -270,7 +270,7 @@ impl Node {
         self.texts.set(RareText::BrailleLabel, copy)
     }
 
-    /// Takes [`Node::braille_label`] back.
+    /// Clears [`Node::braille_label`].
     pub fn clear_braille_label(&mut self)
         ensures { self.new ≡ record self.old { braille_label = None } }
     {
@@ -284,11 +284,11 @@ impl Node {
         self.texts.get(RareText::BrailleRoleDescription)
     }
 
-    /// Sets [`Node::braille_role_description`] to a copy of the text.
+    /// Sets [`Node::braille_role_description`] to a copy of `text`.
     ///
     /// # Errors
     ///
-    /// `AllocError`: memory was wanting, and nothing has changed.
+    /// Returns `AllocError` if memory runs out; the node is then unchanged.
     pub fn set_braille_role_description(&mut self, text: &str) -> Result<(), AllocError>
         ensures ok { OnOk result (self.new ≡ record self.old { braille_role_description = Some text.now }) }
         ensures err { OnErr result (self.new ≡ self.old) }
@@ -297,25 +297,25 @@ impl Node {
         self.texts.set(RareText::BrailleRoleDescription, copy)
     }
 
-    /// Takes [`Node::braille_role_description`] back.
+    /// Clears [`Node::braille_role_description`].
     pub fn clear_braille_role_description(&mut self)
         ensures { self.new ≡ record self.old { braille_role_description = None } }
     {
         self.texts.clear(RareText::BrailleRoleDescription);
     }
 
-    /// What to call the node's column.
+    /// What to call the node's column instead of its index.
     pub fn column_index_text(&self) -> Option<&str>
         ensures { option_copied result ≡ self.now.column_index_text }
     {
         self.texts.get(RareText::ColumnIndexText)
     }
 
-    /// Sets [`Node::column_index_text`] to a copy of the text.
+    /// Sets [`Node::column_index_text`] to a copy of `text`.
     ///
     /// # Errors
     ///
-    /// `AllocError`: memory was wanting, and nothing has changed.
+    /// Returns `AllocError` if memory runs out; the node is then unchanged.
     pub fn set_column_index_text(&mut self, text: &str) -> Result<(), AllocError>
         ensures ok { OnOk result (self.new ≡ record self.old { column_index_text = Some text.now }) }
         ensures err { OnErr result (self.new ≡ self.old) }
@@ -324,25 +324,25 @@ impl Node {
         self.texts.set(RareText::ColumnIndexText, copy)
     }
 
-    /// Takes [`Node::column_index_text`] back.
+    /// Clears [`Node::column_index_text`].
     pub fn clear_column_index_text(&mut self)
         ensures { self.new ≡ record self.old { column_index_text = None } }
     {
         self.texts.clear(RareText::ColumnIndexText);
     }
 
-    /// What to call the node's row.
+    /// What to call the node's row instead of its index.
     pub fn row_index_text(&self) -> Option<&str>
         ensures { option_copied result ≡ self.now.row_index_text }
     {
         self.texts.get(RareText::RowIndexText)
     }
 
-    /// Sets [`Node::row_index_text`] to a copy of the text.
+    /// Sets [`Node::row_index_text`] to a copy of `text`.
     ///
     /// # Errors
     ///
-    /// `AllocError`: memory was wanting, and nothing has changed.
+    /// Returns `AllocError` if memory runs out; the node is then unchanged.
     pub fn set_row_index_text(&mut self, text: &str) -> Result<(), AllocError>
         ensures ok { OnOk result (self.new ≡ record self.old { row_index_text = Some text.now }) }
         ensures err { OnErr result (self.new ≡ self.old) }
@@ -351,7 +351,7 @@ impl Node {
         self.texts.set(RareText::RowIndexText, copy)
     }
 
-    /// Takes [`Node::row_index_text`] back.
+    /// Clears [`Node::row_index_text`].
     pub fn clear_row_index_text(&mut self)
         ensures { self.new ≡ record self.old { row_index_text = None } }
     {
@@ -365,11 +365,11 @@ impl Node {
         self.texts.get(RareText::FontFamily)
     }
 
-    /// Sets [`Node::font_family`] to a copy of the text.
+    /// Sets [`Node::font_family`] to a copy of `text`.
     ///
     /// # Errors
     ///
-    /// `AllocError`: memory was wanting, and nothing has changed.
+    /// Returns `AllocError` if memory runs out; the node is then unchanged.
     pub fn set_font_family(&mut self, text: &str) -> Result<(), AllocError>
         ensures ok { OnOk result (self.new ≡ record self.old { font_family = Some text.now }) }
         ensures err { OnErr result (self.new ≡ self.old) }
@@ -378,7 +378,7 @@ impl Node {
         self.texts.set(RareText::FontFamily, copy)
     }
 
-    /// Takes [`Node::font_family`] back.
+    /// Clears [`Node::font_family`].
     pub fn clear_font_family(&mut self)
         ensures { self.new ≡ record self.old { font_family = None } }
     {
@@ -392,11 +392,11 @@ impl Node {
         self.texts.get(RareText::Language)
     }
 
-    /// Sets [`Node::language`] to a copy of the text.
+    /// Sets [`Node::language`] to a copy of `text`.
     ///
     /// # Errors
     ///
-    /// `AllocError`: memory was wanting, and nothing has changed.
+    /// Returns `AllocError` if memory runs out; the node is then unchanged.
     pub fn set_language(&mut self, text: &str) -> Result<(), AllocError>
         ensures ok { OnOk result (self.new ≡ record self.old { language = Some text.now }) }
         ensures err { OnErr result (self.new ≡ self.old) }
@@ -405,7 +405,7 @@ impl Node {
         self.texts.set(RareText::Language, copy)
     }
 
-    /// Takes [`Node::language`] back.
+    /// Clears [`Node::language`].
     pub fn clear_language(&mut self)
         ensures { self.new ≡ record self.old { language = None } }
     {

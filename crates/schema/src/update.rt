@@ -7,19 +7,19 @@ use crate::copies::copy_of_text;
 use crate::{Node, NodeId, TreeId};
 use std::alloc::{AllocError, Global};
 
-/// What an update says of its tree as a whole.
+/// Information about a tree as a whole.
 #[derive(Drop)]
 pub struct TreeInfo {
     /// The tree's root.
     pub root: NodeId,
-    /// The toolkit that the tree comes from.
+    /// The name of the toolkit that made the tree.
     pub toolkit_name: Option<String>,
     /// The toolkit's version.
     pub toolkit_version: Option<String>,
 }
 
 impl TreeInfo {
-    /// A tree with this root, of a toolkit that isn't named.
+    /// Information with this root and no toolkit name.
     pub fn new(root: NodeId) -> TreeInfo
         ensures { info_data result ≡ record { root = root; toolkit_name = None; toolkit_version = None } }
     {
@@ -30,11 +30,11 @@ impl TreeInfo {
         }
     }
 
-    /// A copy, whose texts are kept in memory from `alloc`.
+    /// Returns a copy whose texts are allocated from `alloc`.
     ///
     /// # Errors
     ///
-    /// `AllocError`: memory was wanting.
+    /// Returns `AllocError` if memory runs out.
     pub fn clone(&self, alloc: Global) -> Result<TreeInfo, AllocError>
         ensures { IfOk result (λ copy. info_data copy ≡ info_data self.now) }
     {
@@ -48,25 +48,25 @@ impl TreeInfo {
     }
 }
 
-/// An update of one tree: the nodes that are new or changed, and where the focus is.
+/// An update of one tree: its new and changed nodes, and its focus.
 #[derive(Drop)]
 pub struct TreeUpdate {
-    /// The new and changed nodes, with their ids, in any order.
+    /// The new and changed nodes with their ids, in any order.
     pub nodes: Vec<(NodeId, Node)>,
-    /// What is said of the tree as a whole. A tree's first update needs it.
+    /// Information about the tree as a whole. A tree's first update needs it.
     pub tree: Option<TreeInfo>,
-    /// Which tree is updated.
+    /// The tree that is updated.
     pub tree_id: TreeId,
-    /// The node of the tree that has the focus while the tree has it.
+    /// The node of this tree that has the focus whenever the focus is in this tree.
     pub focus: NodeId,
 }
 
 impl TreeUpdate {
-    /// A copy, whose list and texts are kept in memory from `alloc`. Each node is kept where its original is.
+    /// Returns a copy whose list and texts are allocated from `alloc`; each node is allocated where its original is.
     ///
     /// # Errors
     ///
-    /// `AllocError`: memory was wanting.
+    /// Returns `AllocError` if memory runs out.
     pub fn clone(&self, alloc: Global) -> Result<TreeUpdate, AllocError>
         ensures { IfOk result (λ copy. update_data copy ≡ update_data self.now) }
     {

@@ -1,4 +1,4 @@
-//! The values of a node's fields.
+//! The types of a node's fields.
 
 use crate::NodeId;
 
@@ -7,7 +7,7 @@ use crate::NodeId;
 pub enum Toggled {
     False,
     True,
-    /// Neither on nor off, as where some of several parts are on.
+    /// Neither on nor off, for example when only some of several parts are on.
     Mixed,
 }
 
@@ -18,7 +18,7 @@ pub enum Orientation {
     Vertical,
 }
 
-/// An order of sorting.
+/// A sort order.
 #[derive(Clone, Copy, Debug, PartialEq, Eq, Hash)]
 pub enum SortDirection {
     Ascending,
@@ -26,7 +26,7 @@ pub enum SortDirection {
     Other,
 }
 
-/// As what a node is the current one of its set.
+/// Which kind of current item a node is, as by `aria-current`.
 #[derive(Clone, Copy, Debug, PartialEq, Eq, Hash)]
 pub enum AriaCurrent {
     False,
@@ -38,7 +38,7 @@ pub enum AriaCurrent {
     Time,
 }
 
-/// What pops up from a node.
+/// The kind of popup that a node opens.
 #[derive(Clone, Copy, Debug, PartialEq, Eq, Hash)]
 pub enum HasPopup {
     Menu,
@@ -48,14 +48,14 @@ pub enum HasPopup {
     Dialog,
 }
 
-/// How a change of a node is told.
+/// How changes of a node are announced.
 #[derive(Clone, Copy, Debug, PartialEq, Eq, Hash)]
 pub enum Live {
-    /// Not at all.
+    /// Changes are not announced.
     Off,
-    /// When nothing else is being told.
+    /// Changes are announced when nothing else is being announced.
     Polite,
-    /// At once.
+    /// Changes are announced at once.
     Assertive,
 }
 
@@ -77,14 +77,14 @@ pub enum TextAlign {
     Justify,
 }
 
-/// How a text is set against its line.
+/// Whether text is superscript or subscript.
 #[derive(Clone, Copy, Debug, PartialEq, Eq, Hash)]
 pub enum VerticalOffset {
     Subscript,
     Superscript,
 }
 
-/// The look of a line at a text.
+/// The look of a line above, through or below text.
 #[derive(Clone, Copy, Debug, PartialEq, Eq, Hash)]
 pub enum TextDecorationStyle {
     Solid,
@@ -94,24 +94,24 @@ pub enum TextDecorationStyle {
     Wavy,
 }
 
-/// A colour, with its opacity.
+/// A colour with its opacity.
 #[derive(Clone, Copy, Debug, PartialEq, Eq, Hash)]
 pub struct Color {
     pub red: u8,
     pub green: u8,
     pub blue: u8,
-    /// From 0, which can't be seen, to 255.
+    /// The opacity, from 0 (invisible) to 255 (opaque).
     pub alpha: u8,
 }
 
-/// A line above, through or below a text.
+/// A line above, through or below text.
 #[derive(Clone, Copy, Debug, PartialEq, Eq, Hash)]
 pub struct TextDecoration {
     pub style: TextDecorationStyle,
     pub color: Color,
 }
 
-/// A place in a text run: before the character of this index, or behind the last one.
+/// A place in a text run: before the character with this index, or after the last one.
 #[derive(Clone, Copy, Debug, PartialEq, Eq, Hash)]
 pub struct TextPosition {
     /// The text run.
@@ -120,10 +120,10 @@ pub struct TextPosition {
     pub character_index: usize,
 }
 
-/// A selection, or a caret where both ends are one.
+/// A selection, or a caret if both ends are equal.
 #[derive(Clone, Copy, Debug, PartialEq, Eq, Hash)]
 pub struct TextSelection {
-    /// Where the selection was begun.
+    /// The fixed end, where the selection started.
     pub anchor: TextPosition,
     /// The end that moves.
     pub focus: TextPosition,

@@ -16,10 +16,10 @@ use crate::words::{byte, in_brackets};
 use schema::{Action, Node};
 use std::alloc::{AllocError, Global};
 
-/// How many actions there are.
+/// The number of actions.
 const ACTIONS: u16 = 260;
 
-/// The action of this number, from 0: those with names, and then the others.
+/// The action with this number, from 0: those with names, then the others.
 #[tactic(auto, unfolding(crate::specs::ActionLists::action_numbered))]
 fn action_numbered(number: u16) -> Action
     requires { number < 260 }
@@ -34,7 +34,7 @@ fn action_numbered(number: u16) -> Action
     }
 }
 
-/// The action of this name; `Other(7)` is the action `Other` of the number 7.
+/// The action with this name; `Other(7)` is the action `Other` with the number 7.
 fn action_named(word: &str) -> Option<Action>
     ensures reads { (action : Action) → IsAction action → word.now ≡ action_text action → result ≡ Some action }
     ensures exact { (action : Action) → (result ≡ Some action) ↔ (IsAction action × SaysAction word.now action) }
@@ -73,7 +73,7 @@ impl Item for Action {
     }
 }
 
-/// Actions by their names, with one comma between them.
+/// Actions by their names, separated by commas.
 pub(crate) fn action_list(alloc: Global, word: &str) -> Result<Vec<Action>, Stop>
     ensures reads { (action : Action) (others : List Action) → IsAction action → All IsAction others → word.now ≡ action_list_text action others → Reads result (λ read. read.items ≡ action ∷ others) }
     ensures only { IfOk result (λ read. SaysItems SaysListed (Some word.now) read.items) }
@@ -155,7 +155,7 @@ pub(crate) fn supported_child_actions(alloc: Global, node: &Node) -> Result<Vec<
     Ok(actions)
 }
 
-/// Adds an action to the list, where it is one of the set.
+/// Adds an action to the list, if it is one of the set.
 #[tactic(auto, unfolding(crate::specs::ActionLists::chosen))]
 fn push_if(action: Action, is_in: bool, actions: &mut Vec<Action>) -> Result<(), AllocError>
     ensures { OnOk result (actions.new.items ≡ actions.old.items ++ chosen is_in action) }

@@ -1,4 +1,4 @@
-//! What is written of values that have names.
+//! The names of values, as they are written.
 ghost use Rattle.std.specs.Prelude.{◌≡◌, option_map, option_copied};
 ghost use Rattle.script_lines.specs.Names.{toggled_name, orientation_name, sort_direction_name, aria_current_name, has_popup_name, live_name, text_direction_name, text_align_name, vertical_offset_name, decoration_style_name, truth_name, filter_name, side_name, move_name};
 
@@ -8,7 +8,7 @@ use schema::{
     TextDirection, Toggled, VerticalOffset,
 };
 
-/// What is said of a control that can be toggled.
+/// The name of a toggle state.
 pub(crate) fn toggled_name(value: Option<Toggled>) -> Option<&'static str>
     ensures { option_copied result ≡ option_map toggled_name value }
 {
@@ -20,7 +20,7 @@ pub(crate) fn toggled_name(value: Option<Toggled>) -> Option<&'static str>
     Some(name)
 }
 
-/// What an axis is called.
+/// The name of an axis.
 pub(crate) fn orientation_name(value: Option<Orientation>) -> Option<&'static str>
     ensures { option_copied result ≡ option_map orientation_name value }
 {
@@ -31,7 +31,7 @@ pub(crate) fn orientation_name(value: Option<Orientation>) -> Option<&'static st
     Some(name)
 }
 
-/// What an order of sorting is called.
+/// The name of a sort order.
 pub(crate) fn sort_direction_name(value: Option<SortDirection>) -> Option<&'static str>
     ensures { option_copied result ≡ option_map sort_direction_name value }
 {
@@ -43,7 +43,7 @@ pub(crate) fn sort_direction_name(value: Option<SortDirection>) -> Option<&'stat
     Some(name)
 }
 
-/// As what a node is the current one.
+/// The name of a kind of current item.
 pub(crate) fn aria_current_name(value: Option<AriaCurrent>) -> Option<&'static str>
     ensures { option_copied result ≡ option_map aria_current_name value }
 {
@@ -59,7 +59,7 @@ pub(crate) fn aria_current_name(value: Option<AriaCurrent>) -> Option<&'static s
     Some(name)
 }
 
-/// What pops up from a node.
+/// The name of a kind of popup.
 pub(crate) fn has_popup_name(value: Option<HasPopup>) -> Option<&'static str>
     ensures { option_copied result ≡ option_map has_popup_name value }
 {
@@ -73,7 +73,7 @@ pub(crate) fn has_popup_name(value: Option<HasPopup>) -> Option<&'static str>
     Some(name)
 }
 
-/// How a change of a node is told.
+/// The name of how changes are announced.
 pub(crate) fn live_name(value: Option<Live>) -> Option<&'static str>
     ensures { option_copied result ≡ option_map live_name value }
 {
@@ -85,7 +85,7 @@ pub(crate) fn live_name(value: Option<Live>) -> Option<&'static str>
     Some(name)
 }
 
-/// What a direction of a text is called.
+/// The name of a text direction.
 pub(crate) fn text_direction_name(value: Option<TextDirection>) -> Option<&'static str>
     ensures { option_copied result ≡ option_map text_direction_name value }
 {
@@ -98,7 +98,7 @@ pub(crate) fn text_direction_name(value: Option<TextDirection>) -> Option<&'stat
     Some(name)
 }
 
-/// How a text is aligned.
+/// The name of a text alignment.
 pub(crate) fn text_align_name(value: Option<TextAlign>) -> Option<&'static str>
     ensures { option_copied result ≡ option_map text_align_name value }
 {
@@ -111,7 +111,7 @@ pub(crate) fn text_align_name(value: Option<TextAlign>) -> Option<&'static str>
     Some(name)
 }
 
-/// How a text is set against its line.
+/// The name for superscript or subscript.
 pub(crate) fn vertical_offset_name(value: Option<VerticalOffset>) -> Option<&'static str>
     ensures { option_copied result ≡ option_map vertical_offset_name value }
 {
@@ -122,7 +122,7 @@ pub(crate) fn vertical_offset_name(value: Option<VerticalOffset>) -> Option<&'st
     Some(name)
 }
 
-/// What the look of a line at a text is called.
+/// The name of the style of a line above, through or below text.
 pub(crate) fn decoration_style_name(value: TextDecorationStyle) -> &'static str
     ensures { result.now ≡ decoration_style_name value }
 {
@@ -135,14 +135,14 @@ pub(crate) fn decoration_style_name(value: TextDecorationStyle) -> &'static str
     }
 }
 
-/// What is said of a flag that may be absent.
+/// The name of a flag's value.
 pub(crate) fn truth_name(value: Option<bool>) -> Option<&'static str>
     ensures { option_copied result ≡ option_map truth_name value }
 {
     Some(if value? { "true" } else { "false" })
 }
 
-/// What a filter is called.
+/// The name of a filter.
 pub(crate) fn filter_name(value: NamedFilter) -> &'static str
     ensures { result.now ≡ filter_name value }
 {
@@ -153,7 +153,7 @@ pub(crate) fn filter_name(value: NamedFilter) -> &'static str
     }
 }
 
-/// What a side of a place is called.
+/// The name of a side of a position.
 pub(crate) fn side_name(value: Side) -> &'static str
     ensures { result.now ≡ side_name value }
 {
@@ -163,7 +163,7 @@ pub(crate) fn side_name(value: Side) -> &'static str
     }
 }
 
-/// What a move is called.
+/// The name of a caret movement.
 pub(crate) fn move_name(value: Move) -> &'static str
     ensures { result.now ≡ move_name value }
 {

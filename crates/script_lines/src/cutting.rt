@@ -1,10 +1,10 @@
-//! The parts of a line or a word on the sides of a character.
+//! The parts of a line or a word before and after a character.
 
 ghost use Rattle.std.specs.Prelude.{◌≡◌, ◌<◌, ◌≤◌, ◌++◌, ◌∷◌, ℕ, List, Option, IfSome, IsSomeAnd, length, option_copied};
 ghost use Rattle.script_lines.specs.Reading.{Lacks, behind};
 ghost use Rattle.script_lines.specs.Words.{left};
 
-/// What stands before the first such character, and what comes after it.
+/// The text before the first such character, and the text after it.
 pub(crate) fn cut_at(line: &str, mark: char) -> (&str, Option<&str>)
     requires { mark < 128 }
     ensures reads { (text : List ℕ) (rest : Option (List ℕ)) → Lacks mark text → line.now ≡ text ++ behind mark rest → (result.0.now ≡ text) × (option_copied result.1 ≡ rest) }
@@ -17,7 +17,7 @@ pub(crate) fn cut_at(line: &str, mark: char) -> (&str, Option<&str>)
     }
 }
 
-/// What stands before the first such character, and what comes after it, where there is one.
+/// The text before the first such character, and the text after it, if there is one.
 pub(crate) fn parts_at(word: &str, mark: char) -> Option<(&str, &str)>
     requires { mark < 128 }
     ensures reads { (text rest : List ℕ) → Lacks mark text → word.now ≡ text ++ (mark ∷ rest) → IsSomeAnd result (λ parts. (parts.0.now ≡ text) × (parts.1.now ≡ rest)) }

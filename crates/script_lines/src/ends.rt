@@ -1,4 +1,4 @@
-//! Ends of runs over a script, and their exit statuses.
+//! The ends of runs over a script, and their exit statuses.
 ghost use Rattle.std.specs.Prelude.{◌≤◌, ◌≢◌};
 ghost use Rattle.std.specs.Io.KnownBytes.{Keeps};
 ghost use Rattle.script_lines.specs.Ends.{Tells, status_at_end, status_of, told_at_end, told_of};
@@ -11,14 +11,14 @@ use std::io::Write;
 const DONE: u8 = 0;
 /// The exit status at a bad line.
 pub(crate) const BAD_LINE: u8 = 2;
-/// The exit status where the input or an output gave an error.
+/// The exit status for an error of the input or an output.
 pub(crate) const FAULT: u8 = 3;
-/// The exit status for want of memory while a line is read or carried out.
+/// The exit status if memory runs out while a line is read or carried out.
 const NO_MEMORY: u8 = 4;
 
-/// Ends a run: what was printed leaves its buffer, and what stopped the run before the end of its input is told on
-/// `errors`, a bad line by its number. Answers the exit status: 0 at the end of the input, 2 for a bad line, 3 for an error
-/// of the input or an output, after which nothing more is written, and 4 for want of memory.
+/// Ends a run: flushes the output, and reports on `errors` what stopped the run before the end of its input, a bad line
+/// by its number. Returns the exit status: 0 at the end of the input, 2 for a bad line, 3 for an error of the input or
+/// an output, after which nothing more is written, and 4 if memory ran out.
 pub fn end_run<O: Write, E: Write>(
     ended: Result<(), Stop>,
     number: u64,
@@ -39,7 +39,7 @@ pub fn end_run<O: Write, E: Write>(
     }
 }
 
-/// Tells on `errors` of a bad line, by its number, or of want of memory, and answers the exit status.
+/// Reports a bad line, by its number, or lack of memory on `errors`, and returns the exit status.
 pub fn tell_stop<E: Write>(stop: Stop, number: u64, errors: &mut E) -> u8
     ensures bound { result ≤ 4 }
     ensures not_one { result ≢ 1 }
@@ -53,7 +53,7 @@ pub fn tell_stop<E: Write>(stop: Stop, number: u64, errors: &mut E) -> u8
     }
 }
 
-/// Tells of a bad line, and answers the exit status.
+/// Reports a bad line, and returns the exit status.
 fn tell_bad_line<E: Write>(number: u64, errors: &mut E) -> u8
     ensures bound { result ≤ 4 }
     ensures not_one { result ≢ 1 }
@@ -66,7 +66,7 @@ fn tell_bad_line<E: Write>(number: u64, errors: &mut E) -> u8
     BAD_LINE
 }
 
-/// Tells of want of memory, and answers the exit status.
+/// Reports lack of memory, and returns the exit status.
 pub fn tell_no_memory<E: Write>(errors: &mut E) -> u8
     ensures bound { result ≤ 4 }
     ensures not_one { result ≢ 1 }

@@ -1,4 +1,4 @@
-//! The fields of a node by the kinds of their values, and what they are called in a line.
+//! The fields of a node by the kinds of their values, and their names in a line.
 
 ghost use Rattle.std.specs.Prelude.{MatchOption, map, ◌≡◌, ◌≢◌};
 ghost use Rattle.script_lines.specs.declared.field_kinds.Field.{Field};
@@ -59,21 +59,21 @@ pub(crate) enum FlagField {
     TouchTransparent,
 }
 
-/// A list of numbers, of a text run.
+/// A list of numbers of a text run.
 #[derive(Clone, Copy)]
 pub(crate) enum NumbersField {
     CharacterLengths,
     WordStarts,
 }
 
-/// A list of numbers of units, of a text run, or none.
+/// An optional list of numbers of a text run, in units of 1/64 pixel.
 #[derive(Clone, Copy)]
 pub(crate) enum UnitsField {
     CharacterPositions,
     CharacterWidths,
 }
 
-/// A flag that may be absent.
+/// A flag that may be unset.
 #[derive(Clone, Copy)]
 pub(crate) enum BoolField {
     Expanded,
@@ -87,7 +87,7 @@ pub(crate) enum ColorField {
     Foreground,
 }
 
-/// A line at a text.
+/// A line above, through or below text.
 #[derive(Clone, Copy)]
 pub(crate) enum DecorationField {
     Overline,
@@ -95,7 +95,7 @@ pub(crate) enum DecorationField {
     Underline,
 }
 
-/// A number, with a minus sign where it is negative.
+/// A number, with a minus sign if it is negative.
 #[derive(Clone, Copy)]
 pub(crate) enum NumberField {
     NumericValue,
@@ -143,23 +143,23 @@ pub(crate) enum Field {
     Actions(ActionsField),
     /// The tree that is grafted here.
     Tree,
-    /// Where the node lies.
+    /// The node's rectangle.
     Bounds,
-    /// By how much its children are moved.
+    /// By how much the node and its subtree are shifted.
     Transform,
-    /// What is selected in its text.
+    /// The selection in its text.
     Selection,
-    /// Whether a control is toggled.
+    /// The toggle state of a control.
     Toggled,
-    /// How a change is told.
+    /// How changes are announced.
     Live,
     /// Its axis.
     Orientation,
-    /// The order of sorting.
+    /// The sort order.
     SortDirection,
-    /// As what the node is the current one.
+    /// Which kind of current item the node is.
     AriaCurrent,
-    /// What pops up from it.
+    /// The kind of popup that it opens.
     HasPopup,
     /// The size of a text.
     FontSize,
@@ -169,11 +169,11 @@ pub(crate) enum Field {
     TextDirection,
     /// How a text is aligned.
     TextAlign,
-    /// How a text is set against its line.
+    /// Whether text is superscript or subscript.
     VerticalOffset,
 }
 
-/// What [`named_fields`] shows.
+/// The table that [`named_fields`] returns.
 static FIELD_NAMES: [(&str, Field); 74] = [
     ("children", Field::Ids(IdsField::Children)),
     ("labelled", Field::Ids(IdsField::LabelledBy)),
@@ -274,7 +274,7 @@ pub(crate) fn named_fields() -> &'static [(&'static str, Field)]
     &FIELD_NAMES
 }
 
-/// The field of this name.
+/// The field with this name.
 pub(crate) fn field_named(name: &str) -> Option<Field>
     ensures { MatchOption result ((field : Field) → name.now ≢ field_name field) (λ field. name.now ≡ field_name field) }
 {

@@ -1,6 +1,6 @@
 //! The fields of a node's line.
 //!
-//! A field stands once. A number of a value has a minus sign where it is negative.
+//! A field occurs once. A number has a minus sign if it is negative.
 
 ghost use Rattle.std.specs.Prelude.{◌<◌, ◌≡◌, ◌≢◌, ◌++◌, ℕ, [], List, OnOk, Ok, Option, Some, true, false, option_copied};
 ghost use Rattle.schema.specs.NodeData.{NodeData};
@@ -20,7 +20,7 @@ use schema::Node;
 use std::alloc::Global;
 
 impl Words<'_> {
-    /// The next field, which the node doesn't have yet.
+    /// Reads the next field, which the node doesn't have yet.
     pub(crate) fn node_field(&mut self, alloc: Global, node: &mut Node) -> Result<(), Stop>
         ensures reads { (n : NodeData) (which : Field) (rest : Option (List ℕ)) → IsNode n → after (option_copied self.old.rest) ≡ piece n which ++ after rest → piece n which ≢ [] → IsWithout which node.old → Reads result (λ _. (node.new ≡ with_field which n node.old) × (option_copied self.new.rest ≡ rest)) }
         ensures shorter { OnOk result (left (option_copied self.new.rest) < left (option_copied self.old.rest)) }
@@ -33,7 +33,7 @@ impl Words<'_> {
         give_flag(field, node)
     }
 
-    /// The value of a field, which the node doesn't have yet.
+    /// Reads the value of a field, which the node doesn't have yet.
     fn value(&mut self, alloc: Global, field: Field, node: &mut Node) -> Result<(), Stop>
         ensures reads { (n : NodeData) (value : List ℕ) (rest : Option (List ℕ)) → IsNode n → value_of n field ≡ Some value → Begins (option_copied self.old.rest) value rest → IsWithout field node.old → Reads result (λ _. (node.new ≡ with_field field n node.old) × (option_copied self.new.rest ≡ rest)) }
         ensures shorter { OnOk result (left (option_copied self.new.rest) < left (option_copied self.old.rest)) }

@@ -17,7 +17,7 @@ use crate::words::Words;
 use schema::{NodeId, TreeId, TreeInfo, TreeUpdate};
 use std::alloc::Global;
 
-/// The fields of the line that were read.
+/// The fields of the line read so far.
 #[derive(Drop)]
 struct Head {
     focus: Option<NodeId>,
@@ -26,8 +26,8 @@ struct Head {
     toolkit_version: Option<String>,
 }
 
-/// `update TREE focus=ID [root=ID] [toolkit="t"] [version="t"]`, from `TREE` on. The fields come in any order; those of
-/// the toolkit ask for `root=`.
+/// Reads `update TREE focus=ID [root=ID] [toolkit="t"] [version="t"]`, from `TREE` on. The fields may be in any order;
+/// those of the toolkit are only allowed with `root=`.
 pub(crate) fn update_line(alloc: Global, mut words: Words) -> Result<TreeUpdate, Stop>
     ensures reads { (u : UpdateData) → IsHead u → u.nodes ≡ [] → option_copied words.entry.rest ≡ Some (head_args u) → Reads result (λ update. update_data update ≡ u) }
 {
@@ -38,7 +38,7 @@ pub(crate) fn update_line(alloc: Global, mut words: Words) -> Result<TreeUpdate,
 }
 
 impl Head {
-    /// Before any field is read.
+    /// The fields before any is read.
     fn new() -> Head
         ensures { head_data result ≡ no_head }
     {
@@ -60,7 +60,7 @@ impl Head {
         Ok(())
     }
 
-    /// Reads a field, which isn't there yet.
+    /// Reads a field, which wasn't read yet.
     fn read_field(&mut self, alloc: Global, words: &mut Words) -> Result<(), Stop>
         ensures reads { (field : HeadField) (rest : Option (List ℕ)) → IsHeadField field → IsFree field (head_data self.old) → Begins (option_copied words.old.rest) (head_name field ++ codes "=" ++ head_value field) rest → Reads result (λ _. (head_data self.new ≡ with_head_field field (head_data self.old)) × (option_copied words.new.rest ≡ rest)) }
         ensures shorter { OnOk result (left (option_copied words.new.rest) < left (option_copied words.old.rest)) }
@@ -72,7 +72,7 @@ impl Head {
         self.read_value(alloc, name, words)
     }
 
-    /// Reads the value of a field, which isn't there yet.
+    /// Reads the value of a field, which wasn't read yet.
     fn read_value(&mut self, alloc: Global, name: &str, words: &mut Words) -> Result<(), Stop>
         ensures reads { (field : HeadField) (rest : Option (List ℕ)) → IsHeadField field → IsFree field (head_data self.old) → name.now ≡ head_name field → Begins (option_copied words.old.rest) (head_value field) rest → Reads result (λ _. (head_data self.new ≡ with_head_field field (head_data self.old)) × (option_copied words.new.rest ≡ rest)) }
         ensures shorter { OnOk result (left (option_copied words.new.rest) < left (option_copied words.old.rest)) }
@@ -101,7 +101,7 @@ impl Head {
     }
 }
 
-/// What is said of the tree as a whole. Without a root nothing is.
+/// The tree info; `None` without a root.
 fn tree_info(
     root: Option<NodeId>,
     toolkit_name: Option<String>,
@@ -121,7 +121,7 @@ fn tree_info(
 }
 
 impl Words<'_> {
-    /// The next word, which is a node's id, where there is none yet.
+    /// Reads the next word as a node's id, if none was read yet.
     fn new_id(&mut self, place: &mut Option<NodeId>) -> Result<(), Stop>
         ensures reads { (id : NodeId) (rest : Option (List ℕ)) → IsId id → Begins (option_copied self.old.rest) (decimal id.0) rest → place.old ≡ None → (result ≡ Ok tt) × (place.new ≡ Some id) × (option_copied self.new.rest ≡ rest) }
         ensures shorter { OnOk result (left (option_copied self.new.rest) < left (option_copied self.old.rest)) }
@@ -133,7 +133,7 @@ impl Words<'_> {
         Ok(())
     }
 
-    /// The next text, where there is none yet.
+    /// Reads the next text, if none was read yet.
     fn new_text(&mut self, alloc: Global, place: &mut Option<String>) -> Result<(), Stop>
         ensures reads { (text : List ℕ) (rest : Option (List ℕ)) → IsUtf8 text → Begins (option_copied self.old.rest) (quoted text) rest → place.old ≡ None → Reads result (λ _. (option_map string_bytes place.new ≡ Some text) × (option_copied self.new.rest ≡ rest)) }
         ensures shorter { OnOk result (left (option_copied self.new.rest) < left (option_copied self.old.rest)) }

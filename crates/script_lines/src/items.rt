@@ -1,4 +1,4 @@
-//! Lists with one comma between their items.
+//! Lists separated by commas.
 
 ghost use Rattle.std.specs.Prelude.{ℕ, ◌≡◌, ◌∷◌, All, IfOk, IfSome, List, Some};
 ghost use Rattle.script_lines.specs.Items.{list_text};
@@ -11,18 +11,18 @@ use crate::words::{number, short, units};
 use schema::NodeId;
 use std::alloc::Global;
 
-/// What stands in a list between two commas.
+/// The type of a list's items.
 pub(crate) trait Item: Drop {
-    /// Holds of the values of the type.
+    /// Holds for the values of the type.
     ghost is_item: { Self → Type 0 };
 
-    /// How a value is written.
+    /// The text of a value.
     ghost item_text: { Self → List ℕ };
 
-    /// Holds of a word and the value that it says.
+    /// Relates a word and the value that it stands for.
     ghost says: { List ℕ → Self → Type 0 };
 
-    /// The value that a word says. As a value is written, no comma is in it.
+    /// The value that a word stands for. A value's text has no comma.
     fn item(word: &str) -> Option<Self>
         ensures reads { (value : Self) → is_item value → word.now ≡ item_text value → result ≡ Some value }
         ensures only { IfSome result (λ value. says word.now value) }
@@ -80,7 +80,7 @@ impl Item for i32 {
     }
 }
 
-/// Items with one comma between them.
+/// Items separated by commas.
 pub(crate) fn items<T: Item>(alloc: Global, word: &str) -> Result<Vec<T>, Stop>
     ensures reads { (item : T) (others : List T) → T.is_item item → All T.is_item others → word.now ≡ list_text T.item_text item others → Reads result (λ read. read.items ≡ item ∷ others) }
     ensures only { IfOk result (λ read. SaysItems T.says (Some word.now) read.items) }

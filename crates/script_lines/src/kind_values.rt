@@ -97,7 +97,7 @@ impl Words<'_> {
         Ok(())
     }
 
-    /// A list of numbers of units, which the node doesn't have yet.
+    /// A list of numbers in units of 1/64 pixel, which the node doesn't have yet.
     #[tactic(auto, using(crate::proofs::CommaWords::units_is_word))]
     pub(crate) fn units_value(
         &mut self,
@@ -116,7 +116,7 @@ impl Words<'_> {
         Ok(())
     }
 
-    /// A flag that may be absent, which the node doesn't have yet.
+    /// A flag that may be unset, which the node doesn't have yet.
     #[tactic(auto, using(crate::proofs::NamedWords::truth_is_word))]
     pub(crate) fn bool_value(&mut self, field: BoolField, node: &mut Node) -> Result<(), Stop>
         ensures reads { (value : Bool) (rest : Option (List ℕ)) → Begins (option_copied self.old.rest) (truth_name value) rest → bool_at field node.old ≡ None → Reads result (λ _. (node.new ≡ with_bool field (Some value) node.old) × (option_copied self.new.rest ≡ rest)) }
@@ -144,7 +144,7 @@ impl Words<'_> {
         Ok(())
     }
 
-    /// A line at a text, which the node doesn't have yet.
+    /// A line above, through or below text, which the node doesn't have yet.
     #[tactic(auto, using(crate::proofs::CommaWords::decoration_is_word))]
     pub(crate) fn decoration_value(
         &mut self,

@@ -1,4 +1,4 @@
-//! Reads a script from an input, line by line.
+//! Reading a script from an input, line by line.
 
 use crate::lines::{Line, read_line};
 use crate::stops::Stop;
@@ -6,13 +6,13 @@ use std::alloc::Global;
 use std::io::{BufRead, ErrorKind};
 use std::str;
 
-/// The lines of a script, as far as they are read.
+/// The lines of a script read so far.
 #[derive(Drop)]
 pub(crate) struct LineReader {
     alloc: Global,
     /// The last line that was read, with its line end.
     bytes: Vec<u8>,
-    /// Its number, from 1.
+    /// Its number, counted from 1.
     pub(crate) number: u64,
 }
 
@@ -25,7 +25,7 @@ impl LineReader {
         }
     }
 
-    /// What the next line says, or `None` at the end of the input.
+    /// The meaning of the next line, or `None` at the end of the input.
     pub(crate) fn next<R: BufRead>(&mut self, input: &mut R) -> Result<Option<Line>, Stop> {
         self.bytes.clear();
         if !read_bytes(input, &mut self.bytes)? {
@@ -40,7 +40,7 @@ impl LineReader {
     }
 }
 
-/// Adds the bytes up to a newline, and answers whether there were any.
+/// Adds the bytes up to a newline, and returns whether there were any.
 fn read_bytes<R: BufRead>(input: &mut R, bytes: &mut Vec<u8>) -> Result<bool, Stop> {
     for _ in 0..u64::MAX {
         let buffer = match input.fill_buf() {

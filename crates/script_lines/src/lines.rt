@@ -22,7 +22,7 @@ use model::Query;
 use schema::{Node, NodeId, TreeUpdate};
 use std::alloc::Global;
 
-/// What a line says.
+/// The meaning of a line.
 #[derive(Drop)]
 pub(crate) enum Line {
     /// An empty line or a comment.
@@ -33,11 +33,11 @@ pub(crate) enum Line {
     Node(NodeId, Node),
     /// Ends the update and sends it.
     End,
-    /// The host has the focus, or has lost it.
+    /// Sets whether the host is focused.
     HostFocus(bool),
-    /// Asks for the tree.
+    /// Prints the tree.
     Print,
-    /// Asks a question.
+    /// Asks a query.
     Query(Query),
 }
 

@@ -1,4 +1,4 @@
-//! What roles, filters, the sides of a place and moves are called.
+//! Values by their names.
 
 ghost use Rattle.std.specs.Prelude.{ℕ, ◌≡◌, ◌↔◌, ◌++◌, Bool, IfSome, Some, codes};
 ghost use Rattle.std.specs.Fmt.{decimal};
@@ -29,7 +29,7 @@ use schema::{
     TextDirection, Toggled, VerticalOffset, named_roles,
 };
 
-/// What stands beside the word in the table.
+/// The value beside the word in the table.
 pub(crate) fn named<T: Copy>(table: &[(&str, T)], word: &str) -> Option<T>
     ensures { result ≡ named_in word.now table.now }
 {
@@ -41,7 +41,7 @@ pub(crate) fn named<T: Copy>(table: &[(&str, T)], word: &str) -> Option<T>
     None
 }
 
-/// The role of this name; `Other(7)` is the role `Other` of the number 7.
+/// The role with this name; `Other(7)` is the role `Other` with the number 7.
 pub fn role_named(word: &str) -> Option<Role>
     ensures reads { (role : Role) → IsRole role → word.now ≡ role_text role → result ≡ Some role }
     ensures exact { (role : Role) → (result ≡ Some role) ↔ (IsRole role × SaysRole word.now role) }
@@ -60,7 +60,7 @@ fn other_role_number(word: &str) -> Option<u16>
     short(in_brackets(word)?)
 }
 
-/// The filter of this name.
+/// The filter with this name.
 pub(crate) fn filter_named(word: &str) -> Option<NamedFilter>
     ensures reads { (value : NamedFilter) → word.now ≡ filter_name value → result ≡ Some value }
     ensures only { IfSome result (λ value. word.now ≡ filter_name value) }
@@ -73,7 +73,7 @@ pub(crate) fn filter_named(word: &str) -> Option<NamedFilter>
     }
 }
 
-/// The side of this name.
+/// The side with this name.
 pub(crate) fn side_named(word: &str) -> Option<Side>
     ensures reads { (value : Side) → word.now ≡ side_name value → result ≡ Some value }
     ensures only { IfSome result (λ value. word.now ≡ side_name value) }
@@ -85,7 +85,7 @@ pub(crate) fn side_named(word: &str) -> Option<Side>
     }
 }
 
-/// The move of this name.
+/// The caret movement with this name.
 pub(crate) fn move_named(word: &str) -> Option<Move>
     ensures reads { (value : Move) → word.now ≡ move_name value → result ≡ Some value }
     ensures only { IfSome result (λ value. word.now ≡ move_name value) }
@@ -115,7 +115,7 @@ pub(crate) fn move_named(word: &str) -> Option<Move>
     }
 }
 
-/// What is said of a control that can be toggled, by this name.
+/// The toggle state with this name.
 pub(crate) fn toggled_named(word: &str) -> Option<Toggled>
     ensures reads { (value : Toggled) → word.now ≡ toggled_name value → result ≡ Some value }
     ensures only { IfSome result (λ value. word.now ≡ toggled_name value) }
@@ -128,7 +128,7 @@ pub(crate) fn toggled_named(word: &str) -> Option<Toggled>
     }
 }
 
-/// What `true` and `false` say.
+/// The value of `true` or `false`.
 pub(crate) fn truth_named(word: &str) -> Option<bool>
     ensures reads { (value : Bool) → word.now ≡ truth_name value → result ≡ Some value }
     ensures only { IfSome result (λ value. word.now ≡ truth_name value) }
@@ -140,7 +140,7 @@ pub(crate) fn truth_named(word: &str) -> Option<bool>
     }
 }
 
-/// How a change is told, by this name.
+/// How changes are announced, by this name.
 pub(crate) fn live_named(word: &str) -> Option<Live>
     ensures reads { (value : Live) → word.now ≡ live_name value → result ≡ Some value }
     ensures only { IfSome result (λ value. word.now ≡ live_name value) }
@@ -153,7 +153,7 @@ pub(crate) fn live_named(word: &str) -> Option<Live>
     }
 }
 
-/// The axis of this name.
+/// The axis with this name.
 pub(crate) fn orientation_named(word: &str) -> Option<Orientation>
     ensures reads { (value : Orientation) → word.now ≡ orientation_name value → result ≡ Some value }
     ensures only { IfSome result (λ value. word.now ≡ orientation_name value) }
@@ -165,7 +165,7 @@ pub(crate) fn orientation_named(word: &str) -> Option<Orientation>
     }
 }
 
-/// The order of sorting of this name.
+/// The sort order with this name.
 pub(crate) fn sort_direction_named(word: &str) -> Option<SortDirection>
     ensures reads { (value : SortDirection) → word.now ≡ sort_direction_name value → result ≡ Some value }
     ensures only { IfSome result (λ value. word.now ≡ sort_direction_name value) }
@@ -178,7 +178,7 @@ pub(crate) fn sort_direction_named(word: &str) -> Option<SortDirection>
     }
 }
 
-/// As what a node is the current one, by this name.
+/// The kind of current item with this name.
 pub(crate) fn aria_current_named(word: &str) -> Option<AriaCurrent>
     ensures reads { (value : AriaCurrent) → word.now ≡ aria_current_name value → result ≡ Some value }
     ensures only { IfSome result (λ value. word.now ≡ aria_current_name value) }
@@ -195,7 +195,7 @@ pub(crate) fn aria_current_named(word: &str) -> Option<AriaCurrent>
     }
 }
 
-/// What pops up from a node, by this name.
+/// The kind of popup with this name.
 pub(crate) fn has_popup_named(word: &str) -> Option<HasPopup>
     ensures reads { (value : HasPopup) → word.now ≡ has_popup_name value → result ≡ Some value }
     ensures only { IfSome result (λ value. word.now ≡ has_popup_name value) }
@@ -210,7 +210,7 @@ pub(crate) fn has_popup_named(word: &str) -> Option<HasPopup>
     }
 }
 
-/// The direction of a text of this name.
+/// The text direction with this name.
 pub(crate) fn text_direction_named(word: &str) -> Option<TextDirection>
     ensures reads { (value : TextDirection) → word.now ≡ text_direction_name value → result ≡ Some value }
     ensures only { IfSome result (λ value. word.now ≡ text_direction_name value) }
@@ -224,7 +224,7 @@ pub(crate) fn text_direction_named(word: &str) -> Option<TextDirection>
     }
 }
 
-/// How a text is aligned, by this name.
+/// The text alignment with this name.
 pub(crate) fn text_align_named(word: &str) -> Option<TextAlign>
     ensures reads { (value : TextAlign) → word.now ≡ text_align_name value → result ≡ Some value }
     ensures only { IfSome result (λ value. word.now ≡ text_align_name value) }
@@ -238,7 +238,7 @@ pub(crate) fn text_align_named(word: &str) -> Option<TextAlign>
     }
 }
 
-/// How a text is set against its line, by this name.
+/// Superscript or subscript, by this name.
 pub(crate) fn vertical_offset_named(word: &str) -> Option<VerticalOffset>
     ensures reads { (value : VerticalOffset) → word.now ≡ vertical_offset_name value → result ≡ Some value }
     ensures only { IfSome result (λ value. word.now ≡ vertical_offset_name value) }
@@ -250,7 +250,7 @@ pub(crate) fn vertical_offset_named(word: &str) -> Option<VerticalOffset>
     }
 }
 
-/// The look of a line at a text, by this name.
+/// The style of a line above, through or below text, by this name.
 pub(crate) fn decoration_style_named(word: &str) -> Option<TextDecorationStyle>
     ensures reads { (value : TextDecorationStyle) → word.now ≡ decoration_style_name value → result ≡ Some value }
     ensures only { IfSome result (λ value. word.now ≡ decoration_style_name value) }

@@ -1,4 +1,4 @@
-//! What a node has in its fields, by the kinds of their values.
+//! Reading and setting a node's fields, by the kinds of their values.
 
 ghost use Rattle.std.specs.Prelude.{◌≡◌, IfOk, OnOk, Some, true, false, option_copied};
 ghost use Rattle.script_lines.specs.FieldKinds.{ids_at, with_ids, id_at, with_id, text_at, with_text, flag_at, with_flag, numbers_at, with_numbers, units_at, with_units, bool_at, with_bool, color_at, with_color, decoration_at, with_decoration, number_at, with_number, count_at, with_count, actions_at, with_actions_field};
@@ -16,7 +16,7 @@ use schema::{Action, Color, Node, NodeId, TextDecoration};
 use std::alloc::{AllocError, Global};
 
 impl IdsField {
-    /// What the node has.
+    /// The node's value of the field.
     pub(crate) fn of<'a>(self, node: &'a Node) -> &'a [NodeId]
         ensures { result.now ≡ ids_at self node.now }
     {
@@ -27,7 +27,7 @@ impl IdsField {
         }
     }
 
-    /// Gives the node this.
+    /// Sets the field.
     pub(crate) fn set(self, value: &[NodeId], node: &mut Node) -> Result<(), AllocError>
         ensures { OnOk result (node.new ≡ with_ids self value.now node.old) }
     {
@@ -40,7 +40,7 @@ impl IdsField {
 }
 
 impl IdField {
-    /// What the node has.
+    /// The node's value of the field.
     pub(crate) fn of(self, node: &Node) -> Option<NodeId>
         ensures { result ≡ id_at self node.now }
     {
@@ -51,7 +51,7 @@ impl IdField {
         }
     }
 
-    /// Gives the node this.
+    /// Sets the field.
     pub(crate) fn set(self, value: NodeId, node: &mut Node)
         ensures { node.new ≡ with_id self (Some value) node.old }
     {
@@ -64,7 +64,7 @@ impl IdField {
 }
 
 impl TextField {
-    /// What the node has.
+    /// The node's value of the field.
     pub(crate) fn of<'a>(self, node: &'a Node) -> Option<&'a str>
         ensures { option_copied result ≡ text_at self node.now }
     {
@@ -87,7 +87,7 @@ impl TextField {
         }
     }
 
-    /// Gives the node this.
+    /// Sets the field.
     pub(crate) fn set(self, value: &str, node: &mut Node) -> Result<(), AllocError>
         ensures { OnOk result (node.new ≡ with_text self (Some value.now) node.old) }
     {
@@ -152,7 +152,7 @@ impl FlagField {
 }
 
 impl NumbersField {
-    /// What the node has.
+    /// The node's value of the field.
     pub(crate) fn of<'a>(self, node: &'a Node) -> &'a [u16]
         ensures { result.now ≡ numbers_at self node.now }
     {
@@ -162,7 +162,7 @@ impl NumbersField {
         }
     }
 
-    /// Gives the node this.
+    /// Sets the field.
     pub(crate) fn set(self, value: &[u16], node: &mut Node) -> Result<(), AllocError>
         ensures { OnOk result (node.new ≡ with_numbers self value.now node.old) }
     {
@@ -174,7 +174,7 @@ impl NumbersField {
 }
 
 impl UnitsField {
-    /// What the node has.
+    /// The node's value of the field.
     pub(crate) fn of<'a>(self, node: &'a Node) -> Option<&'a [i32]>
         ensures { option_copied result ≡ units_at self node.now }
     {
@@ -184,7 +184,7 @@ impl UnitsField {
         }
     }
 
-    /// Gives the node this.
+    /// Sets the field.
     pub(crate) fn set(self, value: &[i32], node: &mut Node) -> Result<(), AllocError>
         ensures { OnOk result (node.new ≡ with_units self (Some value.now) node.old) }
     {
@@ -196,7 +196,7 @@ impl UnitsField {
 }
 
 impl BoolField {
-    /// What the node has.
+    /// The node's value of the field.
     pub(crate) fn of(self, node: &Node) -> Option<bool>
         ensures { result ≡ bool_at self node.now }
     {
@@ -206,7 +206,7 @@ impl BoolField {
         }
     }
 
-    /// Gives the node this.
+    /// Sets the field.
     pub(crate) fn set(self, value: bool, node: &mut Node)
         ensures { node.new ≡ with_bool self (Some value) node.old }
     {
@@ -218,7 +218,7 @@ impl BoolField {
 }
 
 impl ColorField {
-    /// What the node has.
+    /// The node's value of the field.
     pub(crate) fn of(self, node: &Node) -> Option<Color>
         ensures { result ≡ color_at self node.now }
     {
@@ -228,7 +228,7 @@ impl ColorField {
         }
     }
 
-    /// Gives the node this.
+    /// Sets the field.
     pub(crate) fn set(self, value: Color, node: &mut Node)
         ensures { node.new ≡ with_color self (Some value) node.old }
     {
@@ -240,7 +240,7 @@ impl ColorField {
 }
 
 impl DecorationField {
-    /// What the node has.
+    /// The node's value of the field.
     pub(crate) fn of(self, node: &Node) -> Option<TextDecoration>
         ensures { result ≡ decoration_at self node.now }
     {
@@ -251,7 +251,7 @@ impl DecorationField {
         }
     }
 
-    /// Gives the node this.
+    /// Sets the field.
     pub(crate) fn set(self, value: TextDecoration, node: &mut Node)
         ensures { node.new ≡ with_decoration self (Some value) node.old }
     {
@@ -264,7 +264,7 @@ impl DecorationField {
 }
 
 impl NumberField {
-    /// What the node has.
+    /// The node's value of the field.
     pub(crate) fn of(self, node: &Node) -> Option<i64>
         ensures { result ≡ number_at self node.now }
     {
@@ -283,7 +283,7 @@ impl NumberField {
         }
     }
 
-    /// Gives the node this.
+    /// Sets the field.
     pub(crate) fn set(self, value: i64, node: &mut Node)
         ensures { node.new ≡ with_number self (Some value) node.old }
     {
@@ -304,7 +304,7 @@ impl NumberField {
 }
 
 impl CountField {
-    /// What the node has.
+    /// The node's value of the field.
     pub(crate) fn of(self, node: &Node) -> Option<usize>
         ensures { result ≡ count_at self node.now }
     {
@@ -315,7 +315,7 @@ impl CountField {
         }
     }
 
-    /// Gives the node this.
+    /// Sets the field.
     pub(crate) fn set(self, value: usize, node: &mut Node)
         ensures { node.new ≡ with_count self (Some value) node.old }
     {
@@ -338,7 +338,7 @@ impl ActionsField {
         }
     }
 
-    /// The actions that the node has, those with names first.
+    /// The actions in the set, those with names first.
     pub(crate) fn of(self, alloc: Global, node: &Node) -> Result<Vec<Action>, AllocError>
         ensures { IfOk result (λ actions. actions.items ≡ actions_in (actions_at self node.now)) }
     {

@@ -13,7 +13,7 @@ use crate::words::Words;
 use schema::{Node, NodeId, Role};
 use std::alloc::Global;
 
-/// `node ID ROLE` and fields, from `ID` on.
+/// Reads `node ID ROLE` and fields, from `ID` on.
 pub(crate) fn node_line(alloc: Global, mut words: Words) -> Result<(NodeId, Node), Stop>
     ensures reads { (id : NodeId) (n : NodeData) → IsId id → IsNode n → option_copied words.entry.rest ≡ Some (node_args id n) → Reads result (λ entry. (entry.0 ≡ id) × (entry.1 ≡ n)) }
 {
@@ -23,7 +23,7 @@ pub(crate) fn node_line(alloc: Global, mut words: Words) -> Result<(NodeId, Node
     Ok((id, node))
 }
 
-/// A node of this role and of the fields that are left of its line. They come in any order.
+/// A node with this role and the fields in the rest of its line, in any order.
 fn node_of(alloc: Global, role: Role, mut words: Words) -> Result<Node, Stop>
     ensures reads { (n : NodeData) → IsNode n → n.role ≡ role → after (option_copied words.entry.rest) ≡ flat_map (piece n) all_fields → Reads result (λ node. node ≡ n) }
 {

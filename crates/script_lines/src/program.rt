@@ -10,7 +10,7 @@ use std::process::ExitCode;
 
 /// A program that reads a script.
 pub trait Program {
-    /// Runs it, and answers the exit status, as [`crate::end_run`] has it, or 1 for what isn't there.
+    /// Runs it and returns the exit status: that of [`crate::end_run`], or 1 if what was asked for doesn't exist.
     fn run<R: BufRead, O: Write, E: Write>(
         &self,
         alloc: Global,
@@ -21,12 +21,12 @@ pub trait Program {
         ensures { result ≤ 4 };
 }
 
-/// What a program's arguments ask for.
+/// The arguments of a program.
 pub trait Arguments: Sized + Drop {
-    /// How the program is called.
+    /// The program's usage line.
     fn usage() -> &'static str;
 
-    /// What the arguments ask for, if it is something. The first of them is the program's name.
+    /// The arguments' meaning, if they are valid. The first of them is the program's name.
     fn from_arguments(args: Args) -> Option<Self>;
 }
 
@@ -41,17 +41,16 @@ pub fn run_program<P: Program>(rt: &HostRuntime, program: &P) -> ExitCode {
         return ExitCode::from(tell_no_memory(&mut errors));
     };
     let status = program.run(alloc, &mut input, &mut output, &mut errors);
-    // What a failed write left in the buffer is not written again.
+    // What a failed write left in the buffer must not be written again.
     let _ = output.into_parts();
     ExitCode::from(status)
 }
 
-/// What the program's arguments ask for. Those that ask for nothing are told on standard error with the way in which the
-/// program is called.
+/// Reads the program's arguments. Invalid arguments are reported on standard error with the usage line.
 ///
 /// # Errors
 ///
-/// The exit status: 2 for such arguments, 3 where they can't be told, and 4 for want of memory.
+/// Returns the exit status: 2 for invalid arguments, 3 if they can't be reported, and 4 if memory runs out.
 pub fn read_arguments<A: Arguments>(rt: &HostRuntime) -> Result<A, u8>
     ensures { IfErr result (λ status. (status ≤ 4) × (status ≢ 0) × (status ≢ 1)) }
 {
@@ -69,7 +68,7 @@ pub fn read_arguments<A: Arguments>(rt: &HostRuntime) -> Result<A, u8>
     }
 }
 
-/// Tells how a program is called, and answers the exit status.
+/// Prints a program's usage line, and returns the exit status.
 fn tell_usage<E: Write>(usage: &str, errors: &mut E) -> u8
     ensures bound { result ≤ 4 }
     ensures not_one { result ≢ 1 }

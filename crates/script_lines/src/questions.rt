@@ -1,4 +1,4 @@
-//! Questions of a script.
+//! Reading the queries of a script.
 
 ghost use Rattle.std.specs.Prelude.{ℕ, ◌≡◌, ◌++◌, List, Option, Some, None, Ok, codes, option_copied};
 ghost use Rattle.model.specs.declared.queries.At.{At};
@@ -19,7 +19,7 @@ use model::{At, Move, NamedFilter, NodeName, Query};
 use schema::Point;
 
 impl Words<'_> {
-    /// The last words, which name a node.
+    /// Reads the last words, which name a node.
     #[tactic(auto, using(crate::proofs::Cuts::begins_last))]
     fn last_name(&mut self) -> Result<NodeName, Stop>
         ensures reads { (name : NodeId × TreeId) → IsName name → option_copied self.old.rest ≡ Some (name_text name) → result ≡ Ok name }
@@ -29,7 +29,7 @@ impl Words<'_> {
         Ok(name)
     }
 
-    /// The last words, which name a node, and perhaps a filter.
+    /// Reads the last words, which name a node, and optionally a filter.
     fn last_name_and_filter(&mut self) -> Result<(NodeName, NamedFilter), Stop>
         ensures reads { (name : NodeId × TreeId) (filter : NamedFilter) → IsName name → option_copied self.old.rest ≡ Some (name_and_filter name filter) → result ≡ Ok (name, filter) }
     {
@@ -39,7 +39,7 @@ impl Words<'_> {
         Ok((name, filter))
     }
 
-    /// The question what of a node's children a filter shows.
+    /// The query for a node's filtered children.
     fn filtered_children(&mut self) -> Result<Query, Stop>
         ensures reads { (name : NodeId × TreeId) (filter : NamedFilter) → IsName name → option_copied self.old.rest ≡ Some (name_and_filter name filter) → result ≡ Ok (query.FilteredChildren name filter) }
     {
@@ -47,7 +47,7 @@ impl Words<'_> {
         Ok(Query::FilteredChildren(name, filter))
     }
 
-    /// The question what a filter shows after a node.
+    /// The query for the filtered siblings after a node.
     fn following_filtered(&mut self) -> Result<Query, Stop>
         ensures reads { (name : NodeId × TreeId) (filter : NamedFilter) → IsName name → option_copied self.old.rest ≡ Some (name_and_filter name filter) → result ≡ Ok (query.FollowingFiltered name filter) }
     {
@@ -55,7 +55,7 @@ impl Words<'_> {
         Ok(Query::FollowingFiltered(name, filter))
     }
 
-    /// The question what a filter shows before a node.
+    /// The query for the filtered siblings before a node.
     fn preceding_filtered(&mut self) -> Result<Query, Stop>
         ensures reads { (name : NodeId × TreeId) (filter : NamedFilter) → IsName name → option_copied self.old.rest ≡ Some (name_and_filter name filter) → result ≡ Ok (query.PrecedingFiltered name filter) }
     {
@@ -63,7 +63,7 @@ impl Words<'_> {
         Ok(Query::PrecedingFiltered(name, filter))
     }
 
-    /// The question in which set a node is.
+    /// The query for a node's set.
     fn set(&mut self) -> Result<Query, Stop>
         ensures reads { (name : NodeId × TreeId) (filter : NamedFilter) → IsName name → option_copied self.old.rest ≡ Some (name_and_filter name filter) → result ≡ Ok (query.Set name filter) }
     {
@@ -71,7 +71,7 @@ impl Words<'_> {
         Ok(Query::Set(name, filter))
     }
 
-    /// The question what is hit.
+    /// The query for a hit.
     fn hit(&mut self) -> Result<Query, Stop>
         ensures reads { (name : NodeId × TreeId) (point : Point) (filter : NamedFilter) → IsName name → IsNumber point.x → IsNumber point.y → option_copied self.old.rest ≡ question_args (query.Hit name point filter) → result ≡ Ok (query.Hit name point filter) }
     {
@@ -82,7 +82,7 @@ impl Words<'_> {
         Ok(Query::Hit(name, point, filter))
     }
 
-    /// The question where a move leads.
+    /// The query for a caret movement.
     fn moved(&mut self) -> Result<Query, Stop>
         ensures reads { (name : NodeId × TreeId) (at : At) (move : Move) → IsName name → IsCount at.index → option_copied self.old.rest ≡ question_args (query.Move name at move) → result ≡ Ok (query.Move name at move) }
     {
@@ -93,7 +93,7 @@ impl Words<'_> {
         Ok(Query::Move(name, at, movement))
     }
 
-    /// The last words, which name a node and a place in its text.
+    /// Reads the last words, which name a node and a position in its text.
     fn last_place(&mut self) -> Result<(NodeName, At), Stop>
         ensures reads { (name : NodeId × TreeId) (at : At) → IsName name → IsCount at.index → option_copied self.old.rest ≡ question_args (query.Indexes name at) → result ≡ Ok (name, at) }
     {
@@ -103,7 +103,7 @@ impl Words<'_> {
         Ok((name, at))
     }
 
-    /// The last words, which name a node and two places in its text.
+    /// Reads the last words, which name a node and two positions in its text.
     fn last_places(&mut self) -> Result<(NodeName, At, At), Stop>
         ensures reads { (name : NodeId × TreeId) (start finish : At) → IsName name → IsCount start.index → IsCount finish.index → option_copied self.old.rest ≡ question_args (query.RangeText name start finish) → result ≡ Ok (name, start, finish) }
     {
@@ -115,7 +115,7 @@ impl Words<'_> {
     }
 }
 
-/// The question that begins with this word, from the next word on.
+/// Reads the query that begins with this word, from the next word on.
 pub(crate) fn question(word: &str, mut words: Words) -> Result<Query, Stop>
     ensures reads { (query : Query) → IsQuery query → word.now ≡ question_word query → option_copied words.entry.rest ≡ question_args query → result ≡ Ok query }
 {

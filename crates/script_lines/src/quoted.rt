@@ -1,11 +1,11 @@
-//! Writes texts as they stand in quotes.
+//! Writing quoted texts.
 ghost use Rattle.std.specs.Prelude.{OnOk, flat_map};
 ghost use Rattle.std.specs.Io.KnownBytes.{Appends};
 ghost use Rattle.script_lines.specs.Quoted.{quoted_byte};
 
 use std::io::{self, Write};
 
-/// Writes what stands between the quotes. A quote, a backslash and a newline are `\"`, `\\` and `\n`.
+/// Writes the text between the quotes. A quote, a backslash and a newline are written as `\"`, `\\` and `\n`.
 pub fn write_quoted<O: Write>(text: &[u8], out: &mut O) -> io::Result<()>
     ensures { OnOk result (Appends (O.contents out.old) (O.contents out.new) (flat_map quoted_byte text.now)) }
 {
@@ -15,7 +15,7 @@ pub fn write_quoted<O: Write>(text: &[u8], out: &mut O) -> io::Result<()>
     Ok(())
 }
 
-/// Writes a byte of a text that stands in quotes.
+/// Writes a byte of a quoted text.
 fn write_byte<O: Write>(byte: u8, out: &mut O) -> io::Result<()>
     ensures { OnOk result (Appends (O.contents out.old) (O.contents out.new) (quoted_byte byte)) }
 {

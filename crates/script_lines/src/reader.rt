@@ -1,4 +1,4 @@
-//! Reads a script's commands from its input, line by line.
+//! Reading a script's commands from its input, line by line.
 
 ghost use Rattle.std.specs.Prelude.{◌≡◌, ◌++◌, ◌∷◌, [], Bool, Ok, Some, None, option_map};
 ghost use Rattle.model.specs.declared.queries.Query.{Query};
@@ -18,24 +18,24 @@ use schema::{Node, NodeId, TreeUpdate};
 use std::alloc::Global;
 use std::io::BufRead;
 
-/// What lines of a script say that make a whole command.
+/// A whole command, from one line or several.
 #[derive(Drop)]
 pub enum ScriptCommand {
-    /// Send this update, whose nodes and whose end stood on further lines.
+    /// Send this update, whose nodes and end were on further lines.
     Update(TreeUpdate),
-    /// The host has the focus, or has lost it.
+    /// Set whether the host is focused.
     HostFocus(bool),
     /// Print the tree.
     Print,
-    /// Answer this question.
+    /// Answer this query.
     Query(Query),
 }
 
-/// A script as far as it has been read.
+/// A script, read up to some line.
 #[derive(Drop)]
 pub struct ScriptReader {
     lines: LineReader,
-    /// The update whose nodes are being read.
+    /// The update whose nodes are being read, if any.
     begun: Option<TreeUpdate>,
 }
 
@@ -48,17 +48,17 @@ impl ScriptReader {
         }
     }
 
-    /// The number of the last line that was read, from 1; 0 before there is one.
+    /// The number of the last line that was read, counted from 1; 0 before there is one.
     pub fn line_number(&self) -> u64 {
         self.lines.number
     }
 
-    /// Reads up to the end of the next command, and answers it; `None` at the end of the input.
+    /// Reads the next command and returns it; `None` at the end of the input.
     ///
     /// # Errors
     ///
-    /// `Stop`: a line is none of a script or is out of place, the input ends inside an update or gives an error, or there
-    /// is no memory for what is read. Nothing more can be read then.
+    /// Returns `Stop` if a line is malformed or out of place, if the input ends inside an update or has an error, or if
+    /// memory runs out. Nothing more can be read then.
     pub fn next_command<R: BufRead>(
         &mut self,
         input: &mut R,
@@ -77,7 +77,7 @@ impl ScriptReader {
         Ok(None)
     }
 
-    /// The command that a line makes whole, if it does. Inside an update only its nodes and its end are in place.
+    /// The command that a line completes, if it does. Inside an update only its nodes and its end are allowed.
     fn take(&mut self, line: Line) -> Result<Option<ScriptCommand>, Stop>
         ensures opens { (update : TreeUpdate) → line ≡ line_.Update update → self.old.begun ≡ None → (result ≡ Ok None) × (self.new.begun ≡ Some update) }
         ensures goes_on { (id : NodeId) (node : NodeData) (update : TreeUpdate) → line ≡ line_.Node id node → self.old.begun ≡ Some update → Reads result (λ command. (command ≡ None) × (option_map update_data self.new.begun ≡ Some (record (update_data update) { nodes = update.nodes.items ++ (id, node) ∷ [] }))) }
@@ -109,7 +109,7 @@ impl ScriptReader {
     }
 }
 
-/// The update with a node more.
+/// The update with one more node.
 fn with_node(mut update: TreeUpdate, id: NodeId, node: Node) -> Result<TreeUpdate, Stop>
     ensures { Reads result (λ more. update_data more ≡ record (update_data update) { nodes = update.nodes.items ++ (id, node) ∷ [] }) }
 {

@@ -1,4 +1,4 @@
-//! The values of a node's fields that are alone of their kind.
+//! Reading the values of fields that are the only ones of their kind.
 
 ghost use Rattle.std.specs.Prelude.{ℕ, ◌<◌, ◌^◌, ◌≡◌, List, OnOk, Option, Some, None, option_copied};
 ghost use Rattle.std.specs.Fmt.{decimal};
@@ -29,7 +29,7 @@ use crate::words::{Words, rect, selection, short, translation};
 use schema::Node;
 
 impl Words<'_> {
-    /// The tree that is grafted at the node, which isn't said yet.
+    /// The tree that is grafted at the node, which wasn't set yet.
     pub(crate) fn tree_value(&mut self, node: &mut Node) -> Result<(), Stop>
         ensures reads { (value : TreeId) (rest : Option (List ℕ)) → IsTreeName value → Begins (option_copied self.old.rest) (tree_text value) rest → node.old.tree_id ≡ None → Reads result (λ _. (node.new ≡ record node.old { tree_id = Some value }) × (option_copied self.new.rest ≡ rest)) }
         ensures shorter { OnOk result (left (option_copied self.new.rest) < left (option_copied self.old.rest)) }
@@ -41,7 +41,7 @@ impl Words<'_> {
         Ok(())
     }
 
-    /// Where the node lies, which isn't said yet.
+    /// The node's rectangle, which wasn't set yet.
     #[tactic(auto, using(crate::proofs::CommaWords::rect_is_word))]
     pub(crate) fn bounds_value(&mut self, node: &mut Node) -> Result<(), Stop>
         ensures reads { (value : Rect) (rest : Option (List ℕ)) → IsRect value → Begins (option_copied self.old.rest) (rect_text value) rest → node.old.bounds ≡ None → Reads result (λ _. (node.new ≡ record node.old { bounds = Some value }) × (option_copied self.new.rest ≡ rest)) }
@@ -54,7 +54,7 @@ impl Words<'_> {
         Ok(())
     }
 
-    /// By how much the node's children are moved, which isn't said yet.
+    /// By how much the node and its subtree are shifted, which wasn't set yet.
     #[tactic(auto, using(crate::proofs::CommaWords::translation_is_word))]
     pub(crate) fn transform_value(&mut self, node: &mut Node) -> Result<(), Stop>
         ensures reads { (value : Translation) (rest : Option (List ℕ)) → IsTranslation value → Begins (option_copied self.old.rest) (translation_text value) rest → node.old.transform ≡ None → Reads result (λ _. (node.new ≡ record node.old { transform = Some value }) × (option_copied self.new.rest ≡ rest)) }
@@ -67,7 +67,7 @@ impl Words<'_> {
         Ok(())
     }
 
-    /// What is selected in the node's text, which isn't said yet.
+    /// The selection in the node's text, which wasn't set yet.
     #[tactic(auto, using(crate::proofs::CommaWords::selection_is_word))]
     pub(crate) fn selection_value(&mut self, node: &mut Node) -> Result<(), Stop>
         ensures reads { (value : TextSelection) (rest : Option (List ℕ)) → IsSelection value → Begins (option_copied self.old.rest) (selection_text value) rest → node.old.text_selection ≡ None → Reads result (λ _. (node.new ≡ record node.old { text_selection = Some value }) × (option_copied self.new.rest ≡ rest)) }
@@ -80,7 +80,7 @@ impl Words<'_> {
         Ok(())
     }
 
-    /// The size of a text, which isn't said yet.
+    /// The size of a text, which wasn't set yet.
     pub(crate) fn font_size_value(&mut self, node: &mut Node) -> Result<(), Stop>
         ensures reads { (value : ℕ) (rest : Option (List ℕ)) → value < 2 ^ 32 → Begins (option_copied self.old.rest) (decimal value) rest → node.old.font_size ≡ None → Reads result (λ _. (node.new ≡ record node.old { font_size = Some value }) × (option_copied self.new.rest ≡ rest)) }
         ensures shorter { OnOk result (left (option_copied self.new.rest) < left (option_copied self.old.rest)) }
@@ -92,7 +92,7 @@ impl Words<'_> {
         Ok(())
     }
 
-    /// The weight of a text, which isn't said yet.
+    /// The weight of a text, which wasn't set yet.
     #[tactic(auto, using(crate::proofs::Decimals::decimal_is_word))]
     pub(crate) fn font_weight_value(&mut self, node: &mut Node) -> Result<(), Stop>
         ensures reads { (value : ℕ) (rest : Option (List ℕ)) → IsShort value → Begins (option_copied self.old.rest) (decimal value) rest → node.old.font_weight ≡ None → Reads result (λ _. (node.new ≡ record node.old { font_weight = Some value }) × (option_copied self.new.rest ≡ rest)) }
@@ -105,7 +105,7 @@ impl Words<'_> {
         Ok(())
     }
 
-    /// Whether a control is toggled, which isn't said yet.
+    /// The toggle state of a control, which wasn't set yet.
     #[tactic(auto, using(crate::proofs::NamedWords::toggled_is_word))]
     pub(crate) fn toggled_value(&mut self, node: &mut Node) -> Result<(), Stop>
         ensures reads { (value : Toggled) (rest : Option (List ℕ)) → Begins (option_copied self.old.rest) (toggled_name value) rest → node.old.toggled ≡ None → Reads result (λ _. (node.new ≡ record node.old { toggled = Some value }) × (option_copied self.new.rest ≡ rest)) }
@@ -118,7 +118,7 @@ impl Words<'_> {
         Ok(())
     }
 
-    /// How a change is told, which isn't said yet.
+    /// How changes are announced, which wasn't set yet.
     #[tactic(auto, using(crate::proofs::NamedWords::live_is_word))]
     pub(crate) fn live_value(&mut self, node: &mut Node) -> Result<(), Stop>
         ensures reads { (value : Live) (rest : Option (List ℕ)) → Begins (option_copied self.old.rest) (live_name value) rest → node.old.live ≡ None → Reads result (λ _. (node.new ≡ record node.old { live = Some value }) × (option_copied self.new.rest ≡ rest)) }
@@ -131,7 +131,7 @@ impl Words<'_> {
         Ok(())
     }
 
-    /// The axis of a control, which isn't said yet.
+    /// The axis of a control, which wasn't set yet.
     #[tactic(auto, using(crate::proofs::NamedWords::orientation_is_word))]
     pub(crate) fn orientation_value(&mut self, node: &mut Node) -> Result<(), Stop>
         ensures reads { (value : Orientation) (rest : Option (List ℕ)) → Begins (option_copied self.old.rest) (orientation_name value) rest → node.old.orientation ≡ None → Reads result (λ _. (node.new ≡ record node.old { orientation = Some value }) × (option_copied self.new.rest ≡ rest)) }
@@ -144,7 +144,7 @@ impl Words<'_> {
         Ok(())
     }
 
-    /// The order of sorting, which isn't said yet.
+    /// The sort order, which wasn't set yet.
     #[tactic(auto, using(crate::proofs::NamedWords::sort_direction_is_word))]
     pub(crate) fn sort_direction_value(&mut self, node: &mut Node) -> Result<(), Stop>
         ensures reads { (value : SortDirection) (rest : Option (List ℕ)) → Begins (option_copied self.old.rest) (sort_direction_name value) rest → node.old.sort_direction ≡ None → Reads result (λ _. (node.new ≡ record node.old { sort_direction = Some value }) × (option_copied self.new.rest ≡ rest)) }
@@ -157,7 +157,7 @@ impl Words<'_> {
         Ok(())
     }
 
-    /// As what the node is the current one, which isn't said yet.
+    /// Which kind of current item the node is, which wasn't set yet.
     #[tactic(auto, using(crate::proofs::NamedWords::aria_current_is_word))]
     pub(crate) fn aria_current_value(&mut self, node: &mut Node) -> Result<(), Stop>
         ensures reads { (value : AriaCurrent) (rest : Option (List ℕ)) → Begins (option_copied self.old.rest) (aria_current_name value) rest → node.old.aria_current ≡ None → Reads result (λ _. (node.new ≡ record node.old { aria_current = Some value }) × (option_copied self.new.rest ≡ rest)) }
@@ -170,7 +170,7 @@ impl Words<'_> {
         Ok(())
     }
 
-    /// What pops up from the node, which isn't said yet.
+    /// The kind of popup that the node opens, which wasn't set yet.
     #[tactic(auto, using(crate::proofs::NamedWords::has_popup_is_word))]
     pub(crate) fn has_popup_value(&mut self, node: &mut Node) -> Result<(), Stop>
         ensures reads { (value : HasPopup) (rest : Option (List ℕ)) → Begins (option_copied self.old.rest) (has_popup_name value) rest → node.old.has_popup ≡ None → Reads result (λ _. (node.new ≡ record node.old { has_popup = Some value }) × (option_copied self.new.rest ≡ rest)) }
@@ -183,7 +183,7 @@ impl Words<'_> {
         Ok(())
     }
 
-    /// The direction of a text, which isn't said yet.
+    /// The direction of a text, which wasn't set yet.
     #[tactic(auto, using(crate::proofs::NamedWords::text_direction_is_word))]
     pub(crate) fn text_direction_value(&mut self, node: &mut Node) -> Result<(), Stop>
         ensures reads { (value : TextDirection) (rest : Option (List ℕ)) → Begins (option_copied self.old.rest) (text_direction_name value) rest → node.old.text_direction ≡ None → Reads result (λ _. (node.new ≡ record node.old { text_direction = Some value }) × (option_copied self.new.rest ≡ rest)) }
@@ -196,7 +196,7 @@ impl Words<'_> {
         Ok(())
     }
 
-    /// How a text is aligned, which isn't said yet.
+    /// How a text is aligned, which wasn't set yet.
     #[tactic(auto, using(crate::proofs::NamedWords::text_align_is_word))]
     pub(crate) fn text_align_value(&mut self, node: &mut Node) -> Result<(), Stop>
         ensures reads { (value : TextAlign) (rest : Option (List ℕ)) → Begins (option_copied self.old.rest) (text_align_name value) rest → node.old.text_align ≡ None → Reads result (λ _. (node.new ≡ record node.old { text_align = Some value }) × (option_copied self.new.rest ≡ rest)) }
@@ -209,7 +209,7 @@ impl Words<'_> {
         Ok(())
     }
 
-    /// How a text is set against its line, which isn't said yet.
+    /// Whether text is superscript or subscript, which wasn't set yet.
     #[tactic(auto, using(crate::proofs::NamedWords::vertical_offset_is_word))]
     pub(crate) fn vertical_offset_value(&mut self, node: &mut Node) -> Result<(), Stop>
         ensures reads { (value : VerticalOffset) (rest : Option (List ℕ)) → Begins (option_copied self.old.rest) (vertical_offset_name value) rest → node.old.vertical_offset ≡ None → Reads result (λ _. (node.new ≡ record node.old { vertical_offset = Some value }) × (option_copied self.new.rest ≡ rest)) }

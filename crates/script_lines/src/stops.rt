@@ -9,13 +9,13 @@ use std::io;
 /// Why a run stops before the end of its input.
 #[derive(Clone, Copy, Debug, PartialEq, Eq)]
 pub enum Stop {
-    /// The line is not a line of a script, or is out of place.
+    /// The line is malformed or out of place.
     BadLine,
-    /// The input gave an error.
+    /// The input had an error.
     ReadFault,
-    /// An output gave an error.
+    /// An output had an error.
     WriteFault,
-    /// There was no memory while a line was read or carried out.
+    /// Memory ran out while a line was read or carried out.
     Memory,
 }
 

@@ -1,4 +1,4 @@
-//! Words with commas in them, and what they stand for.
+//! Words with commas in them, and their meanings.
 
 ghost use Rattle.std.specs.Prelude.{◌≡◌, ◌++◌, ◌∷◌, ℕ, ℤ, List, All, IfOk, IfSome, Some};
 ghost use Rattle.std.specs.Fmt.{decimal};
@@ -17,7 +17,7 @@ use crate::words::byte;
 use schema::{Color, NodeId, TextDecoration};
 use std::alloc::Global;
 
-/// Node ids with one comma between them.
+/// Node ids, separated by commas.
 pub(crate) fn ids(alloc: Global, word: &str) -> Result<Vec<NodeId>, Stop>
     ensures reads { (id : NodeId) (others : List NodeId) → IsId id → All IsId others → word.now ≡ ids_text id others → Reads result (λ read. read.items ≡ id ∷ others) }
     ensures only { IfOk result (λ read. SaysItems SaysId (Some word.now) read.items) }
@@ -25,7 +25,7 @@ pub(crate) fn ids(alloc: Global, word: &str) -> Result<Vec<NodeId>, Stop>
     items(alloc, word)
 }
 
-/// Numbers below 65,536 with one comma between them.
+/// Numbers below 65,536, separated by commas.
 pub(crate) fn numbers(alloc: Global, word: &str) -> Result<Vec<u16>, Stop>
     ensures reads { (number : ℕ) (others : List ℕ) → IsShort number → All IsShort others → word.now ≡ numbers_text number others → Reads result (λ read. read.items ≡ number ∷ others) }
     ensures only { IfOk result (λ read. SaysItems SaysShort (Some word.now) read.items) }
@@ -33,7 +33,7 @@ pub(crate) fn numbers(alloc: Global, word: &str) -> Result<Vec<u16>, Stop>
     items(alloc, word)
 }
 
-/// Numbers of units with one comma between them, or `-` for none.
+/// Numbers in units of 1/64 pixel, separated by commas, or `-` for an empty list.
 pub(crate) fn unit_list(alloc: Global, word: &str) -> Result<Vec<i32>, Stop>
     ensures reads { (units : List ℤ) → All IsUnits units → word.now ≡ units_text units → Reads result (λ read. read.items ≡ units) }
     ensures only { IfOk result (λ read. SaysUnitList word.now read.items) }
@@ -61,7 +61,7 @@ pub(crate) fn color(word: &str) -> Option<Color>
     })
 }
 
-/// A line at a text: `STYLE,RED,GREEN,BLUE,ALPHA`.
+/// A line above, through or below text: `STYLE,RED,GREEN,BLUE,ALPHA`.
 #[tactic(auto, using(crate::proofs::CommaWords::style_lacks_comma, crate::proofs::CommaWords::decoration_cut))]
 pub(crate) fn decoration(word: &str) -> Option<TextDecoration>
     ensures reads { (d : TextDecoration) → IsDecoration d → word.now ≡ decoration_text d → result ≡ Some d }
@@ -74,7 +74,7 @@ pub(crate) fn decoration(word: &str) -> Option<TextDecoration>
     })
 }
 
-/// Two numbers of one byte with a comma between them.
+/// Two numbers of one byte, separated by a comma.
 #[tactic(auto, using(crate::proofs::CommaWords::byte_lacks_comma))]
 fn two_bytes(word: &str) -> Option<(u8, u8)>
     ensures reads { (first second : ℕ) → IsByte first → IsByte second → word.now ≡ decimal first ++ (44 ∷ decimal second) → result ≡ Some (first, second) }

@@ -1,7 +1,7 @@
-//! Words of a line, and what they stand for.
+//! The words of a line, and their meanings.
 //!
-//! Words stand with one space between them. Numbers are decimal, those of units and points with a minus sign where they are
-//! negative; a text stands in double quotes.
+//! Words are separated by one space. Numbers are decimal, those of units and points with a minus sign if they are
+//! negative; a text is in double quotes.
 
 ghost use Rattle.std.specs.Prelude.{ℕ, ℤ, ◌^◌, ◌++◌, codes, false, true, List, Option, Some, None, Ok, IsOkAnd, FitsSigned, IsSomeAnd, IfSome, ◌≡◌, ◌<◌, ◌≤◌, ◌↔◌, length, IfOk, OnOk, option_copied};
 ghost use Rattle.std.specs.Str.{IsUtf8};
@@ -37,7 +37,7 @@ use schema::{NodeId, Point, Rect, TextPosition, TextSelection, Translation, Tree
 use std::alloc::Global;
 use uuid::Uuid;
 
-/// What is left of a line: `None` at its end, and else what comes after a space.
+/// The rest of a line: `None` at its end, and otherwise the text after a space.
 #[derive(Drop)]
 pub(crate) struct Words<'a> {
     pub(crate) rest: Option<&'a str>,
@@ -58,7 +58,7 @@ impl<'a> Words<'a> {
         Ok(word)
     }
 
-    /// The next word, which is the last.
+    /// Reads the next word, which must be the last.
     pub(crate) fn last_word(&mut self) -> Result<&'a str, Stop>
         ensures reads { (text : List ℕ) → IsWord text → option_copied self.old.rest ≡ Some text → IsOkAnd result (λ word. word.now ≡ text) }
     {
@@ -67,7 +67,7 @@ impl<'a> Words<'a> {
         Ok(word)
     }
 
-    /// The next word, which is a node's id.
+    /// Reads the next word as a node's id.
     #[tactic(auto, using(crate::proofs::Decimals::decimal_is_word))]
     pub(crate) fn id(&mut self) -> Result<NodeId, Stop>
         ensures reads { (id : NodeId) (rest : Option (List ℕ)) → id.0 < 2 ^ 64 → Begins (option_copied self.old.rest) (decimal id.0) rest → (result ≡ Ok id) × (option_copied self.new.rest ≡ rest) }
@@ -77,7 +77,7 @@ impl<'a> Words<'a> {
         Ok(NodeId(number))
     }
 
-    /// The next word, which names a tree.
+    /// Reads the next word as a tree's id.
     #[tactic(auto, using(crate::proofs::TreeNames::tree_is_word))]
     pub(crate) fn tree(&mut self) -> Result<TreeId, Stop>
         ensures reads { (tree : TreeId) (rest : Option (List ℕ)) → IsTreeName tree → Begins (option_copied self.old.rest) (tree_text tree) rest → (result ≡ Ok tree) × (option_copied self.new.rest ≡ rest) }
@@ -86,7 +86,7 @@ impl<'a> Words<'a> {
         tree_named(self.word()?).ok_or(Stop::BadLine)
     }
 
-    /// The next two words: a node's id and its tree's name.
+    /// Reads the next two words as a node's id and its tree's id.
     #[tactic(auto, using(crate::proofs::Cuts::begins_two))]
     pub(crate) fn node_name(&mut self) -> Result<NodeName, Stop>
         ensures reads { (name : NodeId × TreeId) (rest : Option (List ℕ)) → IsName name → Begins (option_copied self.old.rest) (name_text name) rest → (result ≡ Ok name) × (option_copied self.new.rest ≡ rest) }
@@ -96,7 +96,8 @@ impl<'a> Words<'a> {
         Ok((node, tree))
     }
 
-    /// The next word, which is the last if there is one, names a filter. It is the common one where there is none.
+    /// Reads the next word, if there is one, as a filter, which must be the last word. The default is the common
+    /// filter.
     #[tactic(auto, using(crate::proofs::NamedWords::filter_is_word))]
     pub(crate) fn filter(&mut self) -> Result<NamedFilter, Stop>
         ensures reads { (filter : NamedFilter) (rest : Option (List ℕ)) → Begins (option_copied self.old.rest) (filter_name filter) rest → (result ≡ Ok filter) × (option_copied self.new.rest ≡ rest) }
@@ -107,7 +108,7 @@ impl<'a> Words<'a> {
         filter_named(self.word()?).ok_or(Stop::BadLine)
     }
 
-    /// The next word, which is a number with a minus sign where it is negative.
+    /// Reads the next word as a number, with a minus sign if it is negative.
     #[tactic(auto, using(crate::proofs::Decimals::signed_is_word))]
     pub(crate) fn signed(&mut self) -> Result<i64, Stop>
         ensures reads { (z : ℤ) (rest : Option (List ℕ)) → IsNumber z → Begins (option_copied self.old.rest) (signed_decimal z) rest → (result ≡ Ok z) × (option_copied self.new.rest ≡ rest) }
@@ -116,7 +117,7 @@ impl<'a> Words<'a> {
         signed(self.word()?).ok_or(Stop::BadLine)
     }
 
-    /// The next word, which is a count.
+    /// Reads the next word as a count.
     #[tactic(auto, using(crate::proofs::Decimals::decimal_is_word))]
     pub(crate) fn index(&mut self) -> Result<usize, Stop>
         ensures reads { (n : ℕ) (rest : Option (List ℕ)) → IsCount n → Begins (option_copied self.old.rest) (decimal n) rest → (result ≡ Ok n) × (option_copied self.new.rest ≡ rest) }
@@ -125,7 +126,7 @@ impl<'a> Words<'a> {
         index(self.word()?).ok_or(Stop::BadLine)
     }
 
-    /// The next word, which is a number of four bytes.
+    /// Reads the next word as a number of four bytes.
     #[tactic(auto, using(crate::proofs::Decimals::decimal_is_word))]
     pub(crate) fn narrow(&mut self) -> Result<u32, Stop>
         ensures reads { (n : ℕ) (rest : Option (List ℕ)) → n < 2 ^ 32 → Begins (option_copied self.old.rest) (decimal n) rest → (result ≡ Ok n) × (option_copied self.new.rest ≡ rest) }
@@ -135,7 +136,7 @@ impl<'a> Words<'a> {
         u32::try_from(number).or(Err(Stop::BadLine))
     }
 
-    /// The next word, which names a side.
+    /// Reads the next word as a side.
     #[tactic(auto, using(crate::proofs::NamedWords::side_is_word))]
     pub(crate) fn side(&mut self) -> Result<Side, Stop>
         ensures reads { (side : Side) (rest : Option (List ℕ)) → Begins (option_copied self.old.rest) (side_name side) rest → (result ≡ Ok side) × (option_copied self.new.rest ≡ rest) }
@@ -143,7 +144,7 @@ impl<'a> Words<'a> {
         side_named(self.word()?).ok_or(Stop::BadLine)
     }
 
-    /// The next two words: a point, as the node sees it.
+    /// Reads the next two words as a point, in the node's coordinates.
     pub(crate) fn point(&mut self) -> Result<Point, Stop>
         ensures reads { (point : Point) (rest : Option (List ℕ)) → IsNumber point.x → IsNumber point.y → Begins (option_copied self.old.rest) (point_text point) rest → (result ≡ Ok point) × (option_copied self.new.rest ≡ rest) }
     {
@@ -152,7 +153,7 @@ impl<'a> Words<'a> {
         Ok(Point { x, y })
     }
 
-    /// The next two words: an index in a text, and the side on which it is where two runs meet.
+    /// Reads the next two words as an index in a text, and the side to take where two runs meet.
     pub(crate) fn at(&mut self) -> Result<At, Stop>
         ensures reads { (at : At) (rest : Option (List ℕ)) → IsCount at.index → Begins (option_copied self.old.rest) (at_text at) rest → (result ≡ Ok at) × (option_copied self.new.rest ≡ rest) }
     {
@@ -161,7 +162,7 @@ impl<'a> Words<'a> {
         Ok(At { index, side })
     }
 
-    /// The next word, which names a move.
+    /// Reads the next word as a caret movement.
     #[tactic(auto, using(crate::proofs::NamedWords::move_is_word))]
     pub(crate) fn movement(&mut self) -> Result<Move, Stop>
         ensures reads { (move : Move) (rest : Option (List ℕ)) → Begins (option_copied self.old.rest) (move_name move) rest → (result ≡ Ok move) × (option_copied self.new.rest ≡ rest) }
@@ -195,7 +196,7 @@ impl<'a> Words<'a> {
         }
     }
 
-    /// The next text, which stands in quotes. In it `\"`, `\\` and `\n` are a quote, a backslash and a newline.
+    /// Reads the next quoted text. In it `\"`, `\\` and `\n` are a quote, a backslash and a newline.
     pub(crate) fn text(&mut self, alloc: Global) -> Result<String, Stop>
         ensures reads { (text : List ℕ) (rest : Option (List ℕ)) → IsUtf8 text → Begins (option_copied self.old.rest) (quoted text) rest → Reads result (λ read. (string_bytes read ≡ text) × (option_copied self.new.rest ≡ rest)) }
         ensures shorter { OnOk result (left (option_copied self.new.rest) < left (option_copied self.old.rest)) }
@@ -207,7 +208,7 @@ impl<'a> Words<'a> {
     }
 }
 
-/// The text in quotes with which a line begins, and what comes after it.
+/// The quoted text with which a line begins, and the rest after it.
 fn text_and_rest(alloc: Global, line: &str) -> Result<(String, Option<&str>), Stop>
     ensures reads { (text : List ℕ) (rest : Option (List ℕ)) → IsUtf8 text → line.now ≡ quoted text ++ after rest → Reads result (λ read. (string_bytes read.0 ≡ text) × (option_copied read.1 ≡ rest)) }
     ensures shorter { IfOk result (λ read. left (option_copied read.1) ≤ length line.now) }
@@ -226,7 +227,7 @@ fn text_and_rest(alloc: Global, line: &str) -> Result<(String, Option<&str>), St
     Ok((text, after))
 }
 
-/// The name of the next field and what comes after its equals sign, where a value stands in the next word.
+/// The name of the next field and the text after its equals sign, if the next word has a value.
 fn valued(line: &str) -> Option<(&str, &str)>
     ensures named { (name more : List ℕ) → IsFieldName name → line.now ≡ name ++ codes "=" ++ more → IsSomeAnd result (λ parts. (parts.0.now ≡ name) × (parts.1.now ≡ more)) }
     ensures flag { (name : List ℕ) (rest : Option (List ℕ)) → IsFieldName name → line.now ≡ name ++ after rest → result ≡ None }
@@ -239,7 +240,7 @@ fn valued(line: &str) -> Option<(&str, &str)>
     }
 }
 
-/// What comes after a text's closing quote: the end of the line, or a space and more.
+/// The rest after a text's closing quote: the end of the line, or a space and more.
 fn after_text(rest: &str) -> Result<Option<&str>, Stop>
     ensures reads { (more : Option (List ℕ)) → rest.now ≡ after more → IsOkAnd result (λ read. option_copied read ≡ more) }
     ensures shorter { IfOk result (λ read. left (option_copied read) ≤ length rest.now) }
@@ -299,7 +300,7 @@ pub(crate) fn byte(word: &str) -> Option<u8>
     u8::try_from(number(word)?).ok()
 }
 
-/// What stands in the brackets of `Other()`.
+/// The number in the parentheses of `Other()`.
 pub(crate) fn in_brackets(word: &str) -> Option<&str>
     ensures reads { (inner : List ℕ) → word.now ≡ codes "Other(" ++ inner ++ codes ")" → IsSomeAnd result (λ read. read.now ≡ inner) }
     ensures only { IfSome result (λ read. word.now ≡ codes "Other(" ++ read.now ++ codes ")") }
@@ -307,7 +308,7 @@ pub(crate) fn in_brackets(word: &str) -> Option<&str>
     word.strip_prefix("Other(")?.strip_suffix(')')
 }
 
-/// A number of units.
+/// A number in units of 1/64 pixel.
 pub(crate) fn units(word: &str) -> Option<i32>
     ensures reads { (z : ℤ) → FitsSigned w32 z → word.now ≡ signed_decimal z → result ≡ Some z }
     ensures exact { (z : ℤ) → (result ≡ Some z) ↔ (IsUnits z × SaysSigned word.now z) }
@@ -315,7 +316,7 @@ pub(crate) fn units(word: &str) -> Option<i32>
     i32::try_from(signed(word)?).ok()
 }
 
-/// Two numbers of units with a comma between them.
+/// Two numbers in units of 1/64 pixel, separated by a comma.
 #[tactic(auto, using(crate::proofs::CommaWords::units_lack_comma, crate::proofs::CommaWords::pair_cut))]
 fn pair(word: &str) -> Option<(i32, i32)>
     ensures reads { (x y : ℤ) → IsUnits x → IsUnits y → word.now ≡ pair_text x y → result ≡ Some (x, y) }
@@ -342,7 +343,7 @@ pub(crate) fn rect(word: &str) -> Option<Rect>
     })
 }
 
-/// A move: `X,Y`.
+/// A translation: `X,Y`.
 pub(crate) fn translation(word: &str) -> Option<Translation>
     ensures reads { (t : Translation) → IsTranslation t → word.now ≡ translation_text t → result ≡ Some t }
     ensures only { IfSome result (λ t. IsTranslation t × SaysTranslation word.now t) }
@@ -351,7 +352,7 @@ pub(crate) fn translation(word: &str) -> Option<Translation>
     Some(Translation { x, y })
 }
 
-/// A selection: `ID:INDEX,ID:INDEX`, from where it was begun to the end that moves.
+/// A selection: `ID:INDEX,ID:INDEX`, its anchor and its focus.
 #[tactic(auto, using(crate::proofs::CommaWords::place_lacks_comma, crate::proofs::CommaWords::selection_cut))]
 pub(crate) fn selection(word: &str) -> Option<TextSelection>
     ensures reads { (s : TextSelection) → IsSelection s → word.now ≡ selection_text s → result ≡ Some s }
@@ -364,7 +365,7 @@ pub(crate) fn selection(word: &str) -> Option<TextSelection>
     })
 }
 
-/// A place in a text run: `ID:INDEX`.
+/// A position in a text run: `ID:INDEX`.
 #[tactic(auto, using(crate::proofs::CommaWords::id_lacks_colon, crate::proofs::CommaWords::place_cut))]
 fn place(word: &str) -> Option<TextPosition>
     ensures reads { (p : TextPosition) → IsPosition p → word.now ≡ place_text p → result ≡ Some p }
@@ -377,7 +378,7 @@ fn place(word: &str) -> Option<TextPosition>
     })
 }
 
-/// The tree that a word names: `root`, or a UUID in any form that `uuid` reads.
+/// The tree id that a word stands for: `root`, or a UUID in any form that `uuid` reads.
 #[tactic(auto, using(crate::proofs::TreeNames::tree_word))]
 pub fn tree_named(word: &str) -> Option<TreeId>
     ensures reads { (tree : TreeId) → IsTreeName tree → word.now ≡ tree_text tree → result ≡ Some tree }

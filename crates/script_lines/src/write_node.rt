@@ -1,4 +1,4 @@
-//! Writes a node's line.
+//! Writing a node's line.
 ghost use Rattle.std.specs.Prelude.{◌≡◌, IfErr, IfOk, OnOk};
 ghost use Rattle.std.specs.Io.KnownBytes.{Appends};
 ghost use Rattle.script_lines.specs.FieldKinds.{field_name};
@@ -37,7 +37,7 @@ pub(crate) fn write_node<O: Write>(
     Ok(())
 }
 
-/// Writes what a node's line begins with.
+/// Writes the beginning of a node's line.
 #[tactic(auto, unfolding(crate::specs::NodeText::node_head))]
 fn write_node_head<O: Write>(id: NodeId, role: Role, out: &mut O) -> io::Result<()>
     ensures { OnOk result (Appends (O.contents out.old) (O.contents out.new) (node_head id role)) }
@@ -45,7 +45,7 @@ fn write_node_head<O: Write>(id: NodeId, role: Role, out: &mut O) -> io::Result<
     write!(out, "node {id} {role}")
 }
 
-/// Writes the fields of a node, each where it is there.
+/// Writes the fields of a node that are set.
 fn write_fields<O: Write>(alloc: Global, node: &Node, out: &mut O) -> Result<(), Stop>
     ensures written { OnOk result (Appends (O.contents out.old) (O.contents out.new) (fields_text node.now)) }
     ensures stops { IfErr result StopsWriting }
@@ -56,7 +56,7 @@ fn write_fields<O: Write>(alloc: Global, node: &Node, out: &mut O) -> Result<(),
     Ok(())
 }
 
-/// Writes a field of this name, where it is there.
+/// Writes a field of this name, if it is in the state.
 fn write_field<O: Write>(
     alloc: Global,
     node: &Node,
@@ -71,7 +71,7 @@ fn write_field<O: Write>(
     Ok(write_by_kind(alloc, node, name, field, out)??)
 }
 
-/// Writes a field of this name, where it is there, unless there is no memory for its list of actions.
+/// Writes the field with this name, if it is set and memory for its list of actions doesn't run out.
 fn write_by_kind<O: Write>(
     alloc: Global,
     node: &Node,

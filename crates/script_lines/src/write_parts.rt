@@ -1,4 +1,4 @@
-//! Writes the parts of a line: fields with their values, each with a space before it.
+//! Writing the parts of a line: fields with their values, each after a space.
 #![tactic(auto, unfolding(crate::specs::Parts::flag_text, crate::specs::Parts::word_field))]
 
 ghost use Rattle.std.specs.Prelude.{◌≡◌, OnOk, Some, flat_map, option_copied, option_map};
@@ -17,7 +17,7 @@ use schema::{
 use std::fmt;
 use std::io::{self, Write};
 
-/// Writes a flag, where it is set.
+/// Writes a flag, if it is set.
 pub(crate) fn write_flag<O: Write>(name: &str, is_set: bool, out: &mut O) -> io::Result<()>
     ensures { OnOk result (Appends (O.contents out.old) (O.contents out.new) (flag_text name.now is_set)) }
 {
@@ -27,7 +27,7 @@ pub(crate) fn write_flag<O: Write>(name: &str, is_set: bool, out: &mut O) -> io:
     Ok(())
 }
 
-/// Writes a field that is a text in quotes, where there is one.
+/// Writes a field that is a text in quotes, if there is one.
 pub(crate) fn write_quoted_field<O: Write>(
     name: &str,
     value: Option<&str>,
@@ -43,7 +43,7 @@ pub(crate) fn write_quoted_field<O: Write>(
     out.write_all(b"\"")
 }
 
-/// Writes a field that is a count, where there is one.
+/// Writes a field that is a count, if there is one.
 pub(crate) fn write_count<O: Write>(name: &str, value: Option<usize>, out: &mut O) -> io::Result<()>
     ensures { OnOk result (Appends (O.contents out.old) (O.contents out.new) (word_field name.now (option_map decimal value))) }
 {
@@ -53,7 +53,7 @@ pub(crate) fn write_count<O: Write>(name: &str, value: Option<usize>, out: &mut 
     write!(out, " {name}={count}")
 }
 
-/// Writes a field that is a number of four bytes, where there is one.
+/// Writes a field that is a number of four bytes, if there is one.
 pub(crate) fn write_narrow<O: Write>(name: &str, value: Option<u32>, out: &mut O) -> io::Result<()>
     ensures { OnOk result (Appends (O.contents out.old) (O.contents out.new) (word_field name.now (option_map decimal value))) }
 {
@@ -63,7 +63,7 @@ pub(crate) fn write_narrow<O: Write>(name: &str, value: Option<u32>, out: &mut O
     write!(out, " {name}={number}")
 }
 
-/// Writes a field that is a number of two bytes, where there is one.
+/// Writes a field that is a number of two bytes, if there is one.
 pub(crate) fn write_short<O: Write>(name: &str, value: Option<u16>, out: &mut O) -> io::Result<()>
     ensures { OnOk result (Appends (O.contents out.old) (O.contents out.new) (word_field name.now (option_map decimal value))) }
 {
@@ -73,7 +73,7 @@ pub(crate) fn write_short<O: Write>(name: &str, value: Option<u16>, out: &mut O)
     write!(out, " {name}={number}")
 }
 
-/// Writes a field that is a number, where there is one.
+/// Writes a field that is a number, if there is one.
 pub(crate) fn write_number<O: Write>(name: &str, value: Option<i64>, out: &mut O) -> io::Result<()>
     ensures { OnOk result (Appends (O.contents out.old) (O.contents out.new) (word_field name.now (option_map signed_decimal value))) }
 {
@@ -83,7 +83,7 @@ pub(crate) fn write_number<O: Write>(name: &str, value: Option<i64>, out: &mut O
     write!(out, " {name}={number}")
 }
 
-/// Writes a field that is a node's id, where there is one.
+/// Writes a field that is a node's id, if there is one.
 pub(crate) fn write_id<O: Write>(name: &str, value: Option<NodeId>, out: &mut O) -> io::Result<()>
     ensures { OnOk result (Appends (O.contents out.old) (O.contents out.new) (word_field name.now (option_map id_text value))) }
 {
@@ -93,7 +93,7 @@ pub(crate) fn write_id<O: Write>(name: &str, value: Option<NodeId>, out: &mut O)
     write!(out, " {name}={id}")
 }
 
-/// Writes a field that is a word, where there is one.
+/// Writes a field that is a word, if there is one.
 pub(crate) fn write_word<O: Write>(name: &str, value: Option<&str>, out: &mut O) -> io::Result<()>
     ensures { OnOk result (Appends (O.contents out.old) (O.contents out.new) (word_field name.now (option_copied value.entry))) }
 {
@@ -119,7 +119,7 @@ impl fmt::Display for MoreIds<'_> {
     }
 }
 
-/// Writes a field that is a list of ids, where there are any.
+/// Writes a field that is a list of ids, if there are any.
 pub(crate) fn write_ids<O: Write>(name: &str, ids: &[NodeId], out: &mut O) -> io::Result<()>
     ensures { OnOk result (Appends (O.contents out.old) (O.contents out.new) (word_field name.now (ids_value ids.now))) }
 {
@@ -147,7 +147,7 @@ impl fmt::Display for MoreNumbers<'_> {
     }
 }
 
-/// Writes a field that is a list of numbers, where there are any.
+/// Writes a field that is a list of numbers, if there are any.
 pub(crate) fn write_numbers<O: Write>(name: &str, numbers: &[u16], out: &mut O) -> io::Result<()>
     ensures { OnOk result (Appends (O.contents out.old) (O.contents out.new) (word_field name.now (numbers_value numbers.now))) }
 {
@@ -159,7 +159,7 @@ pub(crate) fn write_numbers<O: Write>(name: &str, numbers: &[u16], out: &mut O) 
     write!(out, " {name}={first}{others}")
 }
 
-/// Numbers of units, each after a comma.
+/// Numbers in units of 1/64 pixel, each after a comma.
 #[derive(Clone, Copy)]
 struct MoreUnits<'a>(&'a [i32]);
 
@@ -175,7 +175,7 @@ impl fmt::Display for MoreUnits<'_> {
     }
 }
 
-/// Writes a field that is a list of numbers of units, where there is one; `-` is one without numbers.
+/// Writes a field that is a list of numbers in units of 1/64 pixel, if there is one; `-` is an empty list.
 pub(crate) fn write_unit_list<O: Write>(
     name: &str,
     value: Option<&[i32]>,
@@ -189,7 +189,7 @@ pub(crate) fn write_unit_list<O: Write>(
     write_some_units(name, numbers, out)
 }
 
-/// Writes a field that is a list of numbers of units; `-` is one without numbers.
+/// Writes a field that is a list of numbers in units of 1/64 pixel; `-` is an empty list.
 pub(crate) fn write_some_units<O: Write>(name: &str, numbers: &[i32], out: &mut O) -> io::Result<()>
     ensures { OnOk result (Appends (O.contents out.old) (O.contents out.new) (field_text name.now (units_text numbers.now))) }
 {
@@ -201,7 +201,7 @@ pub(crate) fn write_some_units<O: Write>(name: &str, numbers: &[i32], out: &mut 
     write!(out, " {name}={first}{others}")
 }
 
-/// An action by its name, or as `Other(7)`.
+/// An action by its name, or as, for example, `Other(7)`.
 #[derive(Clone, Copy)]
 struct ShownAction(Action);
 
@@ -235,7 +235,7 @@ impl fmt::Display for MoreActions<'_> {
     }
 }
 
-/// Writes a field that is a set of actions, where there are any.
+/// Writes a field that is a set of actions, if there are any.
 pub(crate) fn write_actions<O: Write>(name: &str, actions: &[Action], out: &mut O) -> io::Result<()>
     ensures { OnOk result (Appends (O.contents out.old) (O.contents out.new) (word_field name.now (actions_value actions.now))) }
 {
@@ -247,7 +247,7 @@ pub(crate) fn write_actions<O: Write>(name: &str, actions: &[Action], out: &mut 
     write!(out, " {name}={first}{others}")
 }
 
-/// Two numbers of units, as `X,Y`.
+/// Two numbers in units of 1/64 pixel, as `X,Y`.
 #[derive(Clone, Copy)]
 struct ShownPair(i32, i32);
 
@@ -262,7 +262,7 @@ impl fmt::Display for ShownPair {
     }
 }
 
-/// Two pairs of numbers of units, as `X,Y,X,Y`.
+/// Two pairs of numbers in units of 1/64 pixel, as `X,Y,X,Y`.
 #[derive(Clone, Copy)]
 struct ShownRect(ShownPair, ShownPair);
 
@@ -277,7 +277,7 @@ impl fmt::Display for ShownRect {
     }
 }
 
-/// Writes a field that is a rectangle, where there is one.
+/// Writes a field that is a rectangle, if there is one.
 pub(crate) fn write_rect<O: Write>(name: &str, value: Option<Rect>, out: &mut O) -> io::Result<()>
     ensures { OnOk result (Appends (O.contents out.old) (O.contents out.new) (word_field name.now (option_map rect_text value))) }
 {
@@ -289,7 +289,7 @@ pub(crate) fn write_rect<O: Write>(name: &str, value: Option<Rect>, out: &mut O)
     write!(out, " {name}={corners}")
 }
 
-/// Writes a field that is a move, where there is one.
+/// Writes a field that is a translation, if there is one.
 pub(crate) fn write_translation<O: Write>(
     name: &str,
     value: Option<Translation>,
@@ -304,7 +304,7 @@ pub(crate) fn write_translation<O: Write>(
     write!(out, " {name}={pair}")
 }
 
-/// A place in a text run, as `ID:INDEX`.
+/// A position in a text run, as `ID:INDEX`.
 #[derive(Clone, Copy)]
 struct ShownPlace(TextPosition);
 
@@ -318,7 +318,7 @@ impl fmt::Display for ShownPlace {
     }
 }
 
-/// Writes a field that is a selection, where there is one.
+/// Writes a field that is a selection, if there is one.
 pub(crate) fn write_selection<O: Write>(
     name: &str,
     value: Option<TextSelection>,
@@ -352,7 +352,7 @@ impl fmt::Display for ShownColor {
     }
 }
 
-/// Writes a field that is a colour, where there is one.
+/// Writes a field that is a colour, if there is one.
 pub(crate) fn write_color<O: Write>(name: &str, value: Option<Color>, out: &mut O) -> io::Result<()>
     ensures { OnOk result (Appends (O.contents out.old) (O.contents out.new) (word_field name.now (option_map color_text value))) }
 {
@@ -363,7 +363,7 @@ pub(crate) fn write_color<O: Write>(name: &str, value: Option<Color>, out: &mut 
     write!(out, " {name}={color}")
 }
 
-/// Writes a field that is a line at a text, where there is one.
+/// Writes a field that is a line above, through or below text, if there is one.
 pub(crate) fn write_decoration<O: Write>(
     name: &str,
     value: Option<TextDecoration>,
@@ -379,7 +379,7 @@ pub(crate) fn write_decoration<O: Write>(
     write!(out, " {name}={style},{color}")
 }
 
-/// A tree's name: `root`, or a UUID.
+/// A tree's id: `root`, or a UUID.
 #[derive(Clone, Copy)]
 pub(crate) struct ShownTree(pub(crate) TreeId);
 
@@ -395,14 +395,14 @@ impl fmt::Display for ShownTree {
     }
 }
 
-/// Whether this is the root tree's name.
+/// Whether this is the root tree's id.
 fn is_root(tree: TreeId) -> bool
     ensures { result ≡ bytes_eq tree.0 root_tree_id.0 }
 {
     tree == TreeId::root()
 }
 
-/// Writes a field that is the name of a tree, where there is one.
+/// Writes a field that is a tree's id, if there is one.
 pub(crate) fn write_tree<O: Write>(name: &str, value: Option<TreeId>, out: &mut O) -> io::Result<()>
     ensures { OnOk result (Appends (O.contents out.old) (O.contents out.new) (word_field name.now (option_map tree_text value))) }
 {

@@ -1,4 +1,4 @@
-//! Writes questions.
+//! Writing queries.
 ghost use Rattle.std.specs.Prelude.{OnOk, Some};
 ghost use Rattle.std.specs.Io.KnownBytes.{Appends};
 ghost use Rattle.script_lines.specs.Questions.{name_text, at_text, point_text, question_line, asked_line, asked_by_filter_line, hit_line, move_line, indexes_line, between_line};
@@ -10,7 +10,7 @@ use schema::Point;
 use std::fmt;
 use std::io::{self, Write};
 
-/// A node's id and the name of its tree.
+/// A node's id and its tree's id.
 #[derive(Clone, Copy)]
 struct ShownName(NodeName);
 
@@ -24,7 +24,7 @@ impl fmt::Display for ShownName {
     }
 }
 
-/// A place in a text: its index and its side.
+/// A position in a text: its index and its side.
 #[derive(Clone, Copy)]
 struct ShownAt(At);
 
@@ -53,7 +53,7 @@ impl fmt::Display for ShownPoint {
     }
 }
 
-/// Writes a question about a node.
+/// Writes a query about a node.
 fn write_asked<O: Write>(word: &str, name: NodeName, out: &mut O) -> io::Result<()>
     ensures { OnOk result (Appends (O.contents out.old) (O.contents out.new) (asked_line word.now name)) }
 {
@@ -61,7 +61,7 @@ fn write_asked<O: Write>(word: &str, name: NodeName, out: &mut O) -> io::Result<
     writeln!(out, "{word} {name}")
 }
 
-/// Writes a question about a node that is answered by a filter.
+/// Writes a query about a node with a filter.
 fn write_asked_by_filter<O: Write>(
     word: &str,
     name: NodeName,
@@ -75,7 +75,7 @@ fn write_asked_by_filter<O: Write>(
     writeln!(out, "{word} {name} {filter}")
 }
 
-/// Writes the question what is hit at a point.
+/// Writes the query for the hit at a point.
 fn write_hit<O: Write>(
     name: NodeName,
     point: Point,
@@ -90,7 +90,7 @@ fn write_hit<O: Write>(
     writeln!(out, "hit {name} {point} {filter}")
 }
 
-/// Writes the question where a move leads.
+/// Writes the query for a caret movement.
 fn write_move<O: Write>(name: NodeName, at: At, movement: Move, out: &mut O) -> io::Result<()>
     ensures { OnOk result (Appends (O.contents out.old) (O.contents out.new) (move_line name at movement)) }
 {
@@ -100,7 +100,7 @@ fn write_move<O: Write>(name: NodeName, at: At, movement: Move, out: &mut O) -> 
     writeln!(out, "move {name} {at} {movement}")
 }
 
-/// Writes the question for the indexes of a place.
+/// Writes the query for the indexes of a position.
 fn write_indexes<O: Write>(name: NodeName, at: At, out: &mut O) -> io::Result<()>
     ensures { OnOk result (Appends (O.contents out.old) (O.contents out.new) (indexes_line name at)) }
 {
@@ -109,7 +109,7 @@ fn write_indexes<O: Write>(name: NodeName, at: At, out: &mut O) -> io::Result<()
     writeln!(out, "indexes {name} {at}")
 }
 
-/// Writes the question for the text between two places.
+/// Writes the query for the text between two positions.
 fn write_between<O: Write>(name: NodeName, from: At, to: At, out: &mut O) -> io::Result<()>
     ensures { OnOk result (Appends (O.contents out.old) (O.contents out.new) (between_line name from to)) }
 {
@@ -119,7 +119,7 @@ fn write_between<O: Write>(name: NodeName, from: At, to: At, out: &mut O) -> io:
     writeln!(out, "between {name} {from} {to}")
 }
 
-/// Writes a question on a line.
+/// Writes a query on a line.
 pub(crate) fn write_question<O: Write>(query: Query, out: &mut O) -> io::Result<()>
     ensures { OnOk result (Appends (O.contents out.old) (O.contents out.new) (question_line query)) }
 {

@@ -1,4 +1,4 @@
-//! Writes commands as lines of a script.
+//! Writing commands as lines of a script.
 ghost use Rattle.std.specs.Prelude.{IfErr, OnOk, option_map, flat_map};
 ghost use Rattle.std.specs.Io.KnownBytes.{Appends};
 ghost use Rattle.schema.specs.UpdateData.{info_data, update_data};
@@ -13,15 +13,15 @@ use schema::{Node, NodeId, TreeInfo, TreeUpdate};
 use std::alloc::Global;
 use std::io::{self, Write};
 
-/// Writes a command as the lines of a script that say it.
+/// Writes a command as lines of a script.
 ///
-/// An update takes a line for its head, one for each node and one for its end, any other command takes one. The fields
-/// of a node come in a fixed order, and numbers without leading zeros.
+/// An update is a line for its head, one for each node and one for its end; any other command is one line. The fields
+/// of a node are in a fixed order, and numbers have no leading zeros.
 ///
 /// # Errors
 ///
-/// `Stop::WriteFault`: the output gave an error. `Stop::Memory`: there was no memory for a node's list of actions. A
-/// beginning of the lines may be written.
+/// Returns `Stop::WriteFault` for an error of the output, and `Stop::Memory` if memory for a node's list of actions
+/// runs out. A beginning of the lines may have been written.
 pub fn write_command<O: Write>(
     alloc: Global,
     command: &ScriptCommand,
@@ -38,11 +38,11 @@ pub fn write_command<O: Write>(
     }
 }
 
-/// Writes an update as the lines of a script that say it: its head, its nodes and its end.
+/// Writes an update as lines of a script: its head, its nodes and its end.
 ///
 /// # Errors
 ///
-/// As [`write_command`].
+/// As for [`write_command`].
 pub fn write_update<O: Write>(alloc: Global, update: &TreeUpdate, out: &mut O) -> Result<(), Stop>
     ensures written { OnOk result (Appends (O.contents out.old) (O.contents out.new) (update_lines (update_data update.now))) }
     ensures stops { IfErr result StopsWriting }
@@ -53,7 +53,7 @@ pub fn write_update<O: Write>(alloc: Global, update: &TreeUpdate, out: &mut O) -
     Ok(())
 }
 
-/// Writes whether the host has the focus.
+/// Writes whether the host is focused.
 fn write_host<O: Write>(is_host_focused: bool, out: &mut O) -> io::Result<()>
     ensures { OnOk result (Appends (O.contents out.old) (O.contents out.new) (host_line is_host_focused)) }
 {
@@ -77,7 +77,7 @@ fn write_head<O: Write>(update: &TreeUpdate, out: &mut O) -> io::Result<()>
     out.write_all(b"\n")
 }
 
-/// Writes what an update says of its tree as a whole.
+/// Writes an update's tree info.
 fn write_info<O: Write>(info: &TreeInfo, out: &mut O) -> io::Result<()>
     ensures { OnOk result (Appends (O.contents out.old) (O.contents out.new) (info_text (info_data info.now))) }
 {

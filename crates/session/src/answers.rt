@@ -1,4 +1,4 @@
-//! Answers to questions, a function for each kind of question.
+//! Answers to queries, one function for each kind.
 ghost use Rattle.std.specs.Prelude.{◌≡◌, IsTrue, IfOk, OnErr, IfSome, option_map};
 ghost use Rattle.model.specs.State.{IsState};
 ghost use Rattle.model.specs.Geometry.{hit};
@@ -22,7 +22,7 @@ use model::{FullNodeId, NamedFilter, NodeName, Query};
 use schema::Point;
 use std::alloc::{AllocError, Global};
 
-/// The node that is named, where it is there.
+/// The node with this name, if it is in the state.
 #[tactic(auto, using(crate::proofs::Naming::found_is_named))]
 fn named_node<'a>(state: StateRef<'a>, name: NodeName) -> Option<NodeRef<'a>>
     requires { IsState (world_of state) }
@@ -41,7 +41,7 @@ fn focus_id(state: StateRef) -> Option<FullNodeId>
     state.focus().map(|node| node.id())
 }
 
-/// The id of what is hit at the point.
+/// The id of the node hit at the point.
 fn hit_id(node: NodeRef, point: Point, filter: NamedFilter) -> Option<FullNodeId>
     ensures { let w = world_at node.entry in
         result ≡ hit (filter_named filter w) w (id_at node.entry) point }
@@ -61,7 +61,7 @@ fn counted_set(node: NodeRef, filter: NamedFilter) -> Reply
     }
 }
 
-/// The name of the node that a question is about. The one about the focus is about none.
+/// The name of the node that a query is about; `None` for the query about the focus.
 fn subject_of(query: &Query) -> Option<NodeName>
     ensures { result ≡ subject query.now }
 {
@@ -84,11 +84,11 @@ fn subject_of(query: &Query) -> Option<NodeName>
     }
 }
 
-/// Answers a question about the node.
+/// Answers a query about the node.
 ///
 /// # Errors
 ///
-/// There is no memory for the answer, which takes some.
+/// Returns `AllocError` if memory for the answer runs out.
 fn answer_about(alloc: Global, node: NodeRef, query: Query) -> Result<Reply, AllocError>
     requires { IsAbout (world_at node) (id_at node) query }
     ensures ok { IfOk result (IsAnswer (world_at node.entry) query) }
@@ -117,11 +117,11 @@ fn answer_about(alloc: Global, node: NodeRef, query: Query) -> Result<Reply, All
     }
 }
 
-/// Answers a question of a state.
+/// Answers a query about a state.
 ///
 /// # Errors
 ///
-/// There is no memory for the answer, which takes some.
+/// Returns `AllocError` if memory for the answer runs out.
 pub(crate) fn answer(alloc: Global, state: StateRef, query: Query) -> Result<Reply, AllocError>
     requires { IsState (world_of state) }
     ensures ok { IfOk result (IsAnswer (world_of state.entry) query) }

@@ -1,4 +1,4 @@
-//! Filters by their names.
+//! Filters by name.
 ghost use Rattle.std.specs.Prelude.{◌≡◌};
 ghost use Rattle.model.specs.Filters.{filter_named};
 ghost use Rattle.views.specs.Nodes.{world_at, id_at};
@@ -7,7 +7,7 @@ use accesskit_consumer::NodeRef;
 use accesskit_consumer::filters::{FilterResult, common_filter, common_filter_with_root_exception};
 use model::NamedFilter;
 
-/// What the filter of this name makes of a node.
+/// The answer of the filter with this name for a node.
 pub(crate) fn answer_by(filter: NamedFilter, node: &NodeRef<'_>) -> FilterResult
     ensures { result ≡ filter_named filter (world_at node.now) (id_at node.now) }
 {

@@ -1,4 +1,4 @@
-//! A session, and its runs.
+//! Sessions and their runs.
 ghost use Rattle.std.specs.Prelude.{◌≡◌, IsTrue, List, IfOk, OnErr, IfErr, IfSome, IsSomeAnd};
 ghost use Rattle.schema.specs.UpdateData.{update_data};
 ghost use Rattle.model.specs.Events.{Event, Told};
@@ -29,7 +29,7 @@ fn said(done: Result<(), UpdateError>) -> Reply
     }
 }
 
-/// A tree over which commands run.
+/// A tree with commands to run on it.
 #[derive(Drop)]
 pub struct Session {
     alloc: Global,
@@ -51,11 +51,11 @@ impl Model for Session {
 }
 
 impl Session {
-    /// The session of a first update. Of it nothing is told.
+    /// Starts a session with the tree's first update. No events are reported for it.
     ///
     /// # Errors
     ///
-    /// The update is refused, as [`Tree::new`] refuses it.
+    /// Returns the error of [`Tree::new`].
     pub fn new(
         alloc: Global,
         update: TreeUpdate,
@@ -68,7 +68,7 @@ impl Session {
         Ok(Session { alloc, tree })
     }
 
-    /// The tree as it is now.
+    /// The current tree.
     pub fn tree(&self) -> &Tree
         ensures { result.now ≡ self.now }
     {
@@ -94,7 +94,7 @@ impl Session {
             .update_host_focus_state_and_process_changes(is_focused, handler);
     }
 
-    /// Answers a question.
+    /// Answers a query.
     fn ask(&self, query: Query) -> Result<Reply, AllocError>
         ensures ok { IfOk result (IsAnswer self.now query) }
         ensures err { OnErr result (IsTrue (takes_memory query)) }
@@ -102,13 +102,14 @@ impl Session {
         answer(self.alloc, self.tree.state().view(), query)
     }
 
-    /// Runs a command, and replies to it. The handler is told of each change of the tree in order.
+    /// Runs one command and returns its reply. The handler is notified of each change of the tree, in order.
     ///
-    /// An update that finds no memory is refused, which is a reply.
+    /// If memory runs out in an update, the update is refused, which is a reply.
     ///
     /// # Errors
     ///
-    /// There is no memory for the answer to a question, which takes some. Nothing has changed, and nothing is told.
+    /// Returns `AllocError` if memory for the answer to a query runs out. Nothing has changed then, and the handler was
+    /// not called.
     pub fn step<H: TreeChangeHandler>(
         &mut self,
         command: Command,
@@ -129,15 +130,16 @@ impl Session {
         }
     }
 
-    /// Runs commands in turn, and replies to each. The handler is told of each change of the tree in order.
+    /// Runs commands in order and returns a reply to each. The handler is notified of each change of the tree, in
+    /// order.
     ///
-    /// An update that finds no memory is refused, and the run goes on. Room for all replies is made before the first
-    /// command.
+    /// If memory runs out in an update, the update is refused and the run goes on. Memory for all replies is reserved
+    /// before the first command.
     ///
     /// # Errors
     ///
-    /// `RunStopped`: there is no memory for that room, or for the answer to a question. The commands before it stand,
-    /// with their replies, and the others didn't run.
+    /// Returns `RunStopped` if that memory, or the memory for the answer to a query, runs out. The commands before were
+    /// carried out and have their replies; the others weren't run.
     #[tactic(auto, using(model::proofs::Alike::Runs::runs_keep_secret))]
     pub fn run<H: TreeChangeHandler>(
         &mut self,
@@ -163,12 +165,12 @@ impl Session {
         Ok(replies)
     }
 
-    /// As [`Session::run`], with a mirror as its handler: one that held the records of the tree holds those of the tree
-    /// after the run, also after one that was stopped, unless it found no memory.
+    /// Like [`Session::run`], with a mirror as the handler: a mirror that matched the tree before the run matches it
+    /// after the run, even after a stopped one, unless an allocation of the mirror failed.
     ///
     /// # Errors
     ///
-    /// `RunStopped`, as [`Session::run`].
+    /// Returns `RunStopped`, as [`Session::run`] does.
     pub fn run_mirrored(
         &mut self,
         commands: Vec<Command>,

@@ -1,4 +1,4 @@
-//! Answers to questions about the text of a node.
+//! Answers to queries about the text of a node.
 ghost use Rattle.std.specs.Prelude.{◌≡◌, true, Some, IsSome, IfOk, IfSome, option_and_then, option_map, string_bytes};
 ghost use Rattle.model.specs.declared.queries.Query.TheVariants.{Move as ToMove, Indexes as ToIndexes, RangeText as ToRangeText};
 ghost use Rattle.model.specs.TextRuns.{supports_text_ranges};
@@ -29,7 +29,7 @@ fn position_within<'a>(node: NodeRef<'a>, at: At) -> Option<TextPosition<'a>>
     }
 }
 
-/// That position, where the node has a text.
+/// That position, if the node has a text.
 fn position_of<'a>(node: NodeRef<'a>, at: At) -> Option<TextPosition<'a>>
     ensures at { option_map flat_position result ≡ position_in (world_at node.entry) (id_at node.entry) at }
     ensures text { IsSome result → supports_text_ranges (world_at node.entry) (id_at node.entry) ≡ true }
@@ -41,7 +41,7 @@ fn position_of<'a>(node: NodeRef<'a>, at: At) -> Option<TextPosition<'a>>
     position_within(node, at)
 }
 
-/// Where a move leads. There is no such place for a move by a character past an end of the text.
+/// Where a caret movement ends; `None` for a movement by a character past an end of the text.
 fn moved<'a>(position: TextPosition<'a>, by: Move) -> Option<TextPosition<'a>>
     ensures at { let p = position.entry in
         option_map flat_position result ≡ place_after (position_text p) (flat_position p) by }
@@ -82,7 +82,7 @@ fn raw(position: TextPosition<'_>) -> schema::TextPosition
     position.to_raw()
 }
 
-/// The name of the place where a move leads.
+/// The name of the position where a caret movement ends.
 fn raw_moved(position: TextPosition<'_>, by: Move) -> Option<schema::TextPosition>
     ensures { let t = position_text position.entry in
         result ≡ option_and_then (raw_of t) (place_after t (flat_position position.entry) by) }
@@ -91,7 +91,7 @@ fn raw_moved(position: TextPosition<'_>, by: Move) -> Option<schema::TextPositio
     Some(raw(to))
 }
 
-/// Where a move leads from a place in the node's text.
+/// Where a caret movement from a position in the node's text ends.
 pub(crate) fn movement(node: NodeRef, at: At, by: Move) -> Reply
     ensures { IsAnswerAt (world_at node.entry) (id_at node.entry) (λ name. ToMove name at by) result }
 {
@@ -101,7 +101,7 @@ pub(crate) fn movement(node: NodeRef, at: At, by: Move) -> Reply
     Reply::Position(raw_moved(position, by))
 }
 
-/// The indexes of a place in the node's text.
+/// The indexes of a position in the node's text.
 pub(crate) fn indexes(node: NodeRef, at: At) -> Reply
     ensures { IsAnswerAt (world_at node.entry) (id_at node.entry) (λ name. ToIndexes name at) result }
 {
@@ -115,7 +115,7 @@ pub(crate) fn indexes(node: NodeRef, at: At) -> Reply
     }
 }
 
-/// The text of the node's runs, where they make one.
+/// The text of the node's runs, if they make one.
 pub(crate) fn text_in_runs(alloc: Global, node: NodeRef) -> Result<Option<String>, AllocError>
     ensures { IfOk result (λ text. option_map string_bytes text ≡ text_if_any (world_at node.entry) (id_at node.entry)) }
 {
@@ -142,7 +142,7 @@ fn text_between<'a>(
     range.text(alloc)
 }
 
-/// The text from one place in the node's text to another.
+/// The text from one position in the node's text to another.
 pub(crate) fn range_text(
     alloc: Global,
     node: NodeRef,

@@ -1,4 +1,4 @@
-//! The ids that walks give.
+//! Collecting the ids of a walk.
 ghost use Rattle.std.specs.Prelude.{◌≡◌, List, map, IfOk};
 ghost use Rattle.std.specs.Iterator.{IsFinite, Drains};
 ghost use Rattle.model.specs.World.{children};
@@ -35,11 +35,11 @@ pub(crate) fn preceding_ids(alloc: Global, node: NodeRef) -> Result<Vec<FullNode
     Ok(ids)
 }
 
-/// The ids of what a walk gives, in its order.
+/// Collects the ids of the nodes of a walk, in order.
 ///
 /// # Errors
 ///
-/// Memory for the list is refused.
+/// Returns `AllocError` if memory runs out.
 pub fn ids_of<'a, W: Iterator<Item = NodeRef<'a>> + Drop>(
     alloc: Global,
     walk: W,

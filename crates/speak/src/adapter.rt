@@ -1,4 +1,4 @@
-//! Keeps a speaker beside a tree, and a mirror that knows where the focus is.
+//! Running a script with a speaker, and with a mirror that knows the focus.
 ghost use Rattle.std.specs.Prelude.{◌≡◌, ◌≤◌, ◌≢◌, IfSome, IsSomeAnd, IfOk, OnOk};
 ghost use Rattle.model.specs.Mirror.{AreRecordsOf};
 ghost use Rattle.views.specs.ShownWorlds.{world_of};
@@ -12,13 +12,13 @@ use speaking::Speaker;
 use std::alloc::Global;
 use std::io::{BufRead, Write};
 
-/// Says what a script does. It has no arguments.
+/// The program that says the effects of a script. It has no arguments.
 pub(crate) struct Speak;
 
 impl Program for Speak {
-    /// Runs a script to its end, or to what stops it, and writes what a screen reader would say of it. Answers the exit status, as
-    /// [`atree_script::run_script`] has it; an update that finds no memory is an end too, since what it would have said is lost.
-    /// What is asked and printed in the script says nothing.
+    /// Runs a script to its end, or until something stops it, and writes what a screen reader would say of it. Returns
+    /// the exit status, as for [`atree_script::run_script`]. An update that runs out of memory ends the run too, since
+    /// what it would have said is lost. Queries and `print` in the script say nothing.
     fn run<R: BufRead, O: Write, E: Write>(
         &self,
         alloc: Global,
@@ -34,8 +34,8 @@ impl Program for Speak {
     }
 }
 
-/// Runs a script, and writes what a screen reader would say of it. Answers how the run ended, and the number of the last line that
-/// was read.
+/// Runs a script, and writes what a screen reader would say of it. Returns how the run ended, and the number of the
+/// last line that was read.
 fn play_aloud<R: BufRead, O: Write>(
     alloc: Global,
     input: &mut R,
@@ -50,11 +50,11 @@ fn play_aloud<R: BufRead, O: Write>(
     (played.ended, played.number)
 }
 
-/// A speaker and a mirror beside a tree, and where what is said is written.
+/// A speaker, a mirror, and the output to which speech is written.
 #[derive(Drop)]
 struct Adapter<'a, O> {
     alloc: Global,
-    /// Once there is a tree.
+    /// The speaker and the mirror, once there is a tree.
     told: Option<(Speaker, Mirror)>,
     output: &'a mut O,
 }
@@ -75,7 +75,7 @@ impl<'a, O: Write> Player for Adapter<'a, O> {
     }
 }
 
-/// A speaker that has said where the focus is as a tree begins, and a mirror that has the records of that tree.
+/// A speaker that has said the focus of a new tree, and a mirror of that tree.
 fn begun(alloc: Global, session: &Session) -> Result<(Speaker, Mirror), Stop>
     ensures speaker { IfOk result (λ told. IsBegun session.now told.0) }
     ensures mirror { IfOk result (λ told. IsSomeAnd told.1 (AreRecordsOf session.now)) }
@@ -86,8 +86,8 @@ fn begun(alloc: Global, session: &Session) -> Result<(Speaker, Mirror), Stop>
     Ok((speaker, mirror))
 }
 
-/// Runs a command, of whose events the speaker and the mirror are told, and writes what is said of it. A mirror that has the records
-/// of the session's tree has them afterwards too.
+/// Runs a command, whose events the speaker and the mirror receive, and writes what is said of it. A mirror that
+/// matches the session's tree before matches it afterwards.
 fn speak_step<O: Write>(
     session: &mut Session,
     command: Command,
@@ -102,8 +102,8 @@ fn speak_step<O: Write>(
     write_said(told, session.tree().state().view(), output)
 }
 
-/// Runs a command, of whose events the speaker and the mirror are told. A mirror that has the records of the session's tree has
-/// them afterwards too, while it finds memory.
+/// Runs a command, whose events the speaker and the mirror receive. A mirror that matches the session's tree before
+/// matches it afterwards, unless one of its allocations fails.
 fn step(session: &mut Session, command: Command, told: &mut (Speaker, Mirror)) -> Result<(), Stop>
     ensures heard { StepsHeard session.old command session.new told.old told.new }
     ensures mirrored { IsSomeAnd told.old.1 (AreRecordsOf session.old) → IfSome told.new.1 (AreRecordsOf session.new) }
@@ -114,8 +114,8 @@ fn step(session: &mut Session, command: Command, told: &mut (Speaker, Mirror)) -
     }
 }
 
-/// Writes what was said at a step, after what is said at its end. Where no memory was found, what was said before that is
-/// written, and the run stops.
+/// Ends a step of the speaker and writes what was said. If an allocation failed, what was said before that is written,
+/// and the run stops.
 fn write_said<O: Write>(
     told: &mut (Speaker, Mirror),
     view: StateRef,

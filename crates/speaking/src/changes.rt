@@ -1,4 +1,4 @@
-//! What has changed on the node that has the focus.
+//! Changes of the focused node.
 ghost use Rattle.std.specs.Prelude.{◌≡◌, ℕ, List, OnOk, option_copied};
 ghost use Rattle.phrases.specs.Sayings.{state_line};
 ghost use Rattle.views.specs.Nodes.{data_at, seen_node};
@@ -11,7 +11,7 @@ use phrases::{
 };
 use std::alloc::{AllocError, Global};
 
-/// Says the label where it is new.
+/// Says the label if it changed.
 fn say_label(alloc: Global, voice: &mut Voice, old: NodeRef, new: NodeRef) -> Result<(), AllocError>
     ensures { OnOk result (voice.new ≡ label_said (seen_node old.entry) (seen_node new.entry) voice.old) }
 {
@@ -23,7 +23,7 @@ fn say_label(alloc: Global, voice: &mut Voice, old: NodeRef, new: NodeRef) -> Re
     }
 }
 
-/// Says the value where it is new, unless what is typed is said.
+/// Says the value if it changed, unless typing in the node is said as edits.
 fn say_value(alloc: Global, voice: &mut Voice, old: NodeRef, new: NodeRef) -> Result<(), AllocError>
     ensures { let o = old.entry in let n = new.entry in
         OnOk result (voice.new ≡ value_change (seen_node o) (data_at o) (seen_node n) (data_at n) voice.old) }
@@ -39,7 +39,7 @@ fn say_value(alloc: Global, voice: &mut Voice, old: NodeRef, new: NodeRef) -> Re
     }
 }
 
-/// Says a word of the state, where there is one to say.
+/// Says a word for the state, if there is one.
 fn say_word(voice: &mut Voice, word: Option<&str>) -> Result<(), AllocError>
     ensures { OnOk result (voice.new ≡ said_if state_line (option_copied word.entry) voice.old) }
 {
@@ -59,7 +59,7 @@ fn say_toggles(voice: &mut Voice, before: State, now: State) -> Result<(), Alloc
     say_word(voice, selected_change(before.selected, now.selected))
 }
 
-/// Says which flags are another way.
+/// Says which flags changed.
 fn say_flags(voice: &mut Voice, before: State, now: State) -> Result<(), AllocError>
     ensures { OnOk result (voice.new ≡ flags_said before now voice.old) }
 {
@@ -81,11 +81,11 @@ fn say_flags(voice: &mut Voice, before: State, now: State) -> Result<(), AllocEr
     say_word(voice, required)
 }
 
-/// Says what is new of the node that had the focus and has it.
+/// Says what changed on a node that was focused before and still is.
 ///
 /// # Errors
 ///
-/// `AllocError`: there is no memory for what is said.
+/// Returns `AllocError` if memory runs out.
 pub(crate) fn say_change(
     alloc: Global,
     voice: &mut Voice,

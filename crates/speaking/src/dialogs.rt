@@ -1,4 +1,4 @@
-//! Where the focus comes to: the dialog that it enters, and the node.
+//! Speech for a moved focus: the dialog that it enters, and the node.
 ghost use Rattle.std.specs.Prelude.{◌≡◌, ◌↔◌, true, false, IsTrue, IfSome, OnOk, option_map, option_copied};
 ghost use Rattle.model.specs.Focus.{IsActiveDialog};
 ghost use Rattle.model.specs.Labels.{label_of};
@@ -17,7 +17,7 @@ pub(crate) fn is_same(a: FullNodeId, b: FullNodeId) -> bool
     a == b
 }
 
-/// The dialog in which the focus is, in the state of a node.
+/// The active dialog in the state of a node.
 fn dialog_around<'a>(node: NodeRef<'a>) -> Option<NodeRef<'a>>
     ensures world { IfSome result (λ dialog. world_at dialog ≡ world_at node.entry) }
     ensures dialog { IsActiveDialog (world_at node.entry) (option_map id_at result) }
@@ -25,7 +25,7 @@ fn dialog_around<'a>(node: NodeRef<'a>) -> Option<NodeRef<'a>>
     node.tree_state().active_dialog()
 }
 
-/// Whether this was the dialog of the old focus.
+/// Whether this was the active dialog before.
 fn was_inside(old: Option<&NodeRef<'_>>, dialog: FullNodeId) -> bool
     ensures inside { result ≡ true → WasInside (seen_through old.entry) dialog }
     ensures outside { result ≡ false → WasOutside (seen_through old.entry) dialog }
@@ -39,7 +39,7 @@ fn was_inside(old: Option<&NodeRef<'_>>, dialog: FullNodeId) -> bool
     is_same(before.id(), dialog)
 }
 
-/// The dialog that the focus has entered. One that has the focus itself is said as that.
+/// The dialog that the focus has entered. A dialog that is itself focused is said as the focused node instead.
 fn entered<'a>(old: Option<&NodeRef<'_>>, new: NodeRef<'a>) -> Option<NodeRef<'a>>
     ensures world { IfSome result (λ dialog. world_at dialog ≡ world_at new.entry) }
     ensures enters { Enters (seen_through old.entry) (seen_node new.entry) (option_map id_at result) }
@@ -68,7 +68,7 @@ fn dialog_of<'a>(node: NodeRef, label: Option<&'a str>) -> Dialog<'a>
     }
 }
 
-/// Names a dialog.
+/// Says a dialog.
 fn say_dialog(alloc: Global, voice: &mut Voice, node: NodeRef) -> Result<(), AllocError>
     ensures { OnOk result (SaysDialog (world_at node.entry) (id_at node.entry) voice.old voice.new) }
 {
@@ -76,7 +76,7 @@ fn say_dialog(alloc: Global, voice: &mut Voice, node: NodeRef) -> Result<(), All
     voice.say(Saying::InDialog(dialog_of(node, label.as_deref())))
 }
 
-/// Names the dialog that was entered, where one was.
+/// Says the dialog that was entered, if there is one.
 fn say_entered(
     alloc: Global,
     voice: &mut Voice,
@@ -93,7 +93,7 @@ fn say_entered(
     }
 }
 
-/// Says where the focus has come to: the dialog that it has entered, and the node.
+/// Says the new focus: the dialog that it has entered, and the node.
 fn say_come(
     alloc: Global,
     voice: &mut Voice,
@@ -106,11 +106,11 @@ fn say_come(
     say_focus(alloc, voice, new)
 }
 
-/// Says where the focus is now, if it is anywhere.
+/// Says the new focus, if there is one.
 ///
 /// # Errors
 ///
-/// `AllocError`: there is no memory for what is said.
+/// Returns `AllocError` if memory runs out.
 pub(crate) fn say_move(
     alloc: Global,
     voice: &mut Voice,

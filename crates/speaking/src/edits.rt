@@ -1,4 +1,4 @@
-//! The text that has the focus: what is typed into it, and where its caret is.
+//! The focused text: what is typed into it, and the line of its caret.
 ghost use Rattle.std.specs.Prelude.{◌≡◌, ◌↔◌, [], IsTrue, IfOk, IfSome, OnOk, unwrap_or, option_map, option_copied, string_bytes};
 ghost use Rattle.model.specs.Values.{document_text, value_of};
 ghost use Rattle.texts.specs.NodeTexts.{root_of};
@@ -13,16 +13,16 @@ use accesskit_consumer::{FullNodeId, NodeRef, StateRef};
 use phrases::{Saying, Voice, edit};
 use std::alloc::{AllocError, Global};
 
-/// A text that has the focus, as far as it was said.
+/// The focused text as it was last said.
 #[derive(Drop)]
 pub(crate) struct FocusedText {
     id: FullNodeId,
     text: String,
-    /// The line on which the caret is, from 0.
+    /// The line of the caret, counted from 0.
     line: Option<usize>,
 }
 
-/// The value, and an empty text where there is none.
+/// The value, or an empty text if there is none.
 fn value_or_empty(alloc: Global, node: NodeRef) -> Result<String, AllocError>
     ensures { IfOk result (λ text. string_bytes text ≡ unwrap_or (value_of (world_at node.entry) (id_at node.entry)) []) }
 {
@@ -32,7 +32,7 @@ fn value_or_empty(alloc: Global, node: NodeRef) -> Result<String, AllocError>
     }
 }
 
-/// The whole text of runs. That of a password is masked.
+/// The whole text of the runs. That of a password is masked.
 fn document_text(alloc: Global, text: Text) -> Result<String, AllocError>
     ensures { let n = root_of text.entry in
         IfOk result (λ it. string_bytes it ≡ document_text (world_at n) (id_at n)) }
@@ -40,7 +40,7 @@ fn document_text(alloc: Global, text: Text) -> Result<String, AllocError>
     text.range().text(alloc)
 }
 
-/// The text that is typed into: that of the runs, or else the value.
+/// The edited text: that of the runs, or else the value.
 fn edited_text(alloc: Global, node: NodeRef) -> Result<String, AllocError>
     ensures { IfOk result (λ text. string_bytes text ≡ edited_text (world_at node.entry) (id_at node.entry)) }
 {
@@ -50,7 +50,7 @@ fn edited_text(alloc: Global, node: NodeRef) -> Result<String, AllocError>
     }
 }
 
-/// The line on which the caret is, from 0.
+/// The line of the caret, counted from 0.
 fn caret_index(node: NodeRef) -> Option<usize>
     ensures { result ≡ caret_index (world_at node.entry) (id_at node.entry) }
 {
@@ -82,7 +82,7 @@ fn without_newline(text: &str) -> &str
     }
 }
 
-/// Says the text of a line, where there is one.
+/// Says the text of a line, if there is one.
 fn say_text(voice: &mut Voice, text: Option<&str>) -> Result<(), AllocError>
     ensures { OnOk result (SaysText (option_copied text.entry) voice.old voice.new) }
 {
@@ -108,7 +108,7 @@ fn say_line(
     say_text(voice, text.as_deref())
 }
 
-/// The text of a node as it is, and where its caret is.
+/// Reads the current text of a node and the line of its caret.
 fn read(alloc: Global, node: NodeRef) -> Result<FocusedText, AllocError>
     ensures { IfOk result (IsReadOf (world_at node.entry) (id_at node.entry)) }
 {
@@ -119,14 +119,14 @@ fn read(alloc: Global, node: NodeRef) -> Result<FocusedText, AllocError>
     })
 }
 
-/// Whether the carets are on one line.
+/// Whether the carets are on the same line.
 fn is_same_line(before: Option<usize>, now: Option<usize>) -> bool
     ensures { IsTrue result ↔ (before ≡ now) }
 {
     before == now
 }
 
-/// Says the line to which the caret has come, where it was on another one.
+/// Says the line of the caret, if it moved to another line.
 fn say_caret(
     alloc: Global,
     voice: &mut Voice,
@@ -143,7 +143,7 @@ fn say_caret(
     say_line(alloc, voice, node, now)
 }
 
-/// Says what was removed and typed, or else the line to which the caret has come.
+/// Says what was removed and typed, or else the line that the caret has moved to.
 fn say_edit(
     alloc: Global,
     voice: &mut Voice,
@@ -160,7 +160,7 @@ fn say_edit(
     }
 }
 
-/// Says the line of the caret in a text to which the focus has come, where it can have several.
+/// Says the line of the caret in a newly focused text that can have several lines.
 fn say_arrival(
     alloc: Global,
     voice: &mut Voice,
@@ -176,7 +176,7 @@ fn say_arrival(
     say_line(alloc, voice, node, now.line)
 }
 
-/// The text, where it is that of the node.
+/// The text, if it is that of the node.
 fn of_node(held: Option<FocusedText>, id: FullNodeId) -> Option<FocusedText>
     ensures { result ≡ held_of id held }
 {
@@ -188,7 +188,7 @@ fn of_node(held: Option<FocusedText>, id: FullNodeId) -> Option<FocusedText>
     }
 }
 
-/// Says what is new of a text, of which this was said before.
+/// Says what changed in a text, given what was last said of it.
 fn say_text_of(
     alloc: Global,
     voice: &mut Voice,
@@ -205,7 +205,7 @@ fn say_text_of(
     }
 }
 
-/// Reads the text of a node, and says what is new of it.
+/// Reads the text of a node and says what changed in it.
 fn say_edited(
     alloc: Global,
     voice: &mut Voice,
@@ -220,7 +220,7 @@ fn say_edited(
     Ok(now)
 }
 
-/// The node that has the focus, where what is typed into it is said of its text.
+/// The focused node, if typing in it is said as edits of its text.
 fn edited_node<'a>(state: StateRef<'a>, focus: Option<FullNodeId>) -> Option<NodeRef<'a>>
     ensures world { IfSome result (λ node. world_at node ≡ world_of state.entry) }
     ensures node { IsEdited (world_of state.entry) focus (option_map id_at result) }
@@ -229,7 +229,7 @@ fn edited_node<'a>(state: StateRef<'a>, focus: Option<FullNodeId>) -> Option<Nod
     if is_edited(node) { Some(node) } else { None }
 }
 
-/// Says what is new of the text that has the focus, if it is one, and gives it.
+/// Says what changed in the focused text, if there is one, and returns that text.
 fn say_focused(
     alloc: Global,
     voice: &mut Voice,
@@ -246,11 +246,11 @@ fn say_focused(
     Ok(Some(say_edited(alloc, voice, held, node)?))
 }
 
-/// Says what is new of the text that has the focus, and then what has waited, and gives the text.
+/// Says what changed in the focused text, then the postponed lines, and returns the text.
 ///
 /// # Errors
 ///
-/// `AllocError`: there is no memory for what is said.
+/// Returns `AllocError` if memory runs out.
 pub(crate) fn say_end(
     alloc: Global,
     voice: &mut Voice,

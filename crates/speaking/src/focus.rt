@@ -1,4 +1,4 @@
-//! What is said of a node that has the focus.
+//! Speech for a focused node.
 ghost use Rattle.std.specs.Prelude.{◌≡◌, None, IfOk, OnOk, option_map, option_copied, string_bytes};
 ghost use Rattle.model.specs.Labels.{label_of};
 ghost use Rattle.model.specs.Values.{placeholder};
@@ -12,7 +12,7 @@ use accesskit_consumer::NodeRef;
 use phrases::{Focus, Saying, Voice, news, role_word};
 use std::alloc::{AllocError, Global};
 
-/// The texts of a node that has the focus.
+/// The texts of a focused node.
 #[derive(Drop)]
 struct Texts {
     label: Option<String>,
@@ -31,7 +31,7 @@ fn texts_of(alloc: Global, node: NodeRef) -> Result<Texts, AllocError>
     Ok(Texts { label, value })
 }
 
-/// What stands in a node that has no value, unless it is empty.
+/// The placeholder of a node without a value, unless it is empty.
 fn placeholder_of<'a>(node: NodeRef<'a>, texts: &Texts) -> Option<&'a str>
     ensures { let n = node.entry in
         option_copied result ≡ instead (option_map string_bytes texts.now.value) (news None (placeholder (world_at n) (id_at n))) }
@@ -42,7 +42,7 @@ fn placeholder_of<'a>(node: NodeRef<'a>, texts: &Texts) -> Option<&'a str>
     news(None, node.placeholder())
 }
 
-/// What is said of a node that has these texts.
+/// What is said of a focused node with these texts.
 fn focus_of<'a>(node: NodeRef<'a>, texts: &'a Texts) -> Focus<'a>
     requires label { option_map string_bytes texts.now.label ≡ label_of (world_at node) (id_at node) }
     requires value { option_map string_bytes texts.now.value ≡ value_said (world_at node) (id_at node) (data_at node) }
@@ -58,11 +58,11 @@ fn focus_of<'a>(node: NodeRef<'a>, texts: &'a Texts) -> Focus<'a>
     }
 }
 
-/// Says what a node shows that has the focus.
+/// Says a focused node.
 ///
 /// # Errors
 ///
-/// `AllocError`: there is no memory for its texts.
+/// Returns `AllocError` if memory runs out.
 pub(crate) fn say_focus(alloc: Global, voice: &mut Voice, node: NodeRef) -> Result<(), AllocError>
     ensures { OnOk result (SaysFocus (seen_node node.entry) voice.old voice.new) }
 {

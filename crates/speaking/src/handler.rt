@@ -1,4 +1,4 @@
-//! What a tree tells of its changes, in words.
+//! The handler that turns events into speech.
 ghost use Rattle.std.specs.Prelude.{◌≡◌, OnOk};
 ghost use Rattle.views.specs.Nodes.{seen_node};
 ghost use Rattle.speaking.specs.Events.{SaysAdded, SaysUpdated, Speaks};
@@ -12,8 +12,8 @@ use accesskit_consumer::tree::TreeChangeHandler;
 use phrases::Voice;
 use std::alloc::{AllocError, Global};
 
-/// Says what is new of a node: of the focus what has changed on it, of another node what it tells of itself. Where the focus
-/// comes to is said of its move.
+/// Says what is new of an updated node: of the focused node what changed on it, of any other node its announcement as a
+/// live region. A newly focused node is said at the event of the moved focus.
 fn say_updated(
     alloc: Global,
     voice: &mut Voice,
@@ -31,7 +31,7 @@ fn say_updated(
     say_change(alloc, voice, old, new)
 }
 
-/// Says what a new node tells of itself, unless it has the focus.
+/// Says the announcement of a new node as a live region, unless it is focused.
 fn say_added(voice: &mut Voice, node: NodeRef) -> Result<(), AllocError>
     ensures { OnOk result (SaysAdded (seen_node node.entry) voice.old voice.new) }
 {

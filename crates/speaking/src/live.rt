@@ -1,4 +1,4 @@
-//! Live regions, whose changes are told wherever the focus is.
+//! Live regions, whose changes are announced wherever the focus is.
 ghost use Rattle.std.specs.Prelude.{◌≡◌, OnOk, None, option_copied, if◌then◌else◌};
 ghost use Rattle.std.specs.Option.{option_or};
 ghost use Rattle.schema.specs.Roles.{same_role};
@@ -12,7 +12,7 @@ use phrases::{Voice, news};
 use schema::{Live, Role};
 use std::alloc::AllocError;
 
-/// Whether changes are told at all.
+/// Whether changes are announced at all.
 fn is_live(live: Live) -> bool
     ensures { result ≡ is_live live }
 {
@@ -22,21 +22,21 @@ fn is_live(live: Live) -> bool
     }
 }
 
-/// Whether a change of the node is told: it is in a live region, is shown, isn't busy, and isn't filled in by typing.
+/// Whether a change of the node is announced: it is in a live region, is shown, isn't busy, and isn't edited by typing.
 fn is_told(node: NodeRef) -> bool
     ensures { let n = node.entry in result ≡ is_told (world_at n) (id_at n) (data_at n) }
 {
     is_live(node.live()) && !node.is_text_input() && !node.is_hidden() && !node.is_busy()
 }
 
-/// Whether the node speaks for the runs in it: what is typed is said of the input, and a value in place of its runs.
+/// Whether the node is announced in place of its runs: typing is said for the input, and a value replaces its runs.
 fn speaks_for_runs(node: NodeRef) -> bool
     ensures { result ≡ speaks_for_runs (data_at node.entry) }
 {
     node.is_text_input() || node.raw_value().is_some()
 }
 
-/// Finds nodes that speak for the runs in them.
+/// The filter that includes nodes that are announced in place of their runs.
 fn holder(node: &NodeRef<'_>) -> FilterResult
     ensures { result ≡ holder_answer (world_at node.now) (id_at node.now) }
 {
@@ -47,7 +47,7 @@ fn holder(node: &NodeRef<'_>) -> FilterResult
     }
 }
 
-/// Whether no node above it speaks for a run.
+/// Whether a run is announced itself and not by an ancestor.
 fn speaks_itself(node: NodeRef) -> bool
     ensures { result ≡ speaks_itself (world_at node.entry) (id_at node.entry) }
 {
@@ -61,7 +61,7 @@ fn is_run(node: NodeRef) -> bool
     node.role() == Role::TextRun
 }
 
-/// The text of a run, unless a node above it speaks for it.
+/// The text of a run, unless an ancestor is announced in its place.
 fn run_text<'a>(node: NodeRef<'a>) -> Option<&'a str>
     ensures { let n = node.entry in
         option_copied result ≡ (if speaks_itself (world_at n) (id_at n) then (data_at n).value else None) }
@@ -73,7 +73,7 @@ fn run_text<'a>(node: NodeRef<'a>) -> Option<&'a str>
     }
 }
 
-/// The value that was sent, or else the node's own label.
+/// The value as sent in the update, or else the node's own label.
 fn value_or_label<'a>(node: NodeRef<'a>) -> Option<&'a str>
     ensures { let d = data_at node.entry in option_copied result ≡ option_or d.value d.label }
 {
@@ -83,7 +83,7 @@ fn value_or_label<'a>(node: NodeRef<'a>) -> Option<&'a str>
     }
 }
 
-/// What a node has to tell.
+/// The text to announce for a node.
 fn own_text<'a>(node: NodeRef<'a>) -> Option<&'a str>
     ensures { let n = node.entry in option_copied result ≡ own_text (world_at n) (id_at n) (data_at n) }
 {
@@ -93,7 +93,7 @@ fn own_text<'a>(node: NodeRef<'a>) -> Option<&'a str>
     value_or_label(node)
 }
 
-/// What is told of a node.
+/// The text to announce for a node, if its changes are announced.
 fn told_text<'a>(node: NodeRef<'a>) -> Option<&'a str>
     ensures { let n = node.entry in option_copied result ≡ told_text (world_at n) (id_at n) (data_at n) }
 {
@@ -103,22 +103,22 @@ fn told_text<'a>(node: NodeRef<'a>) -> Option<&'a str>
     own_text(node)
 }
 
-/// Tells of a node that is new in a live region.
+/// Announces a new node in a live region.
 ///
 /// # Errors
 ///
-/// `AllocError`: there is no memory for what is told.
+/// Returns `AllocError` if memory runs out.
 pub(crate) fn tell_new(voice: &mut Voice, node: NodeRef) -> Result<(), AllocError>
     ensures { OnOk result (TellsNew (seen_node node.entry) voice.old voice.new) }
 {
     voice.tell(node.live(), news(None, told_text(node)))
 }
 
-/// Tells of a node whose text in a live region has changed.
+/// Announces a node in a live region whose text has changed.
 ///
 /// # Errors
 ///
-/// `AllocError`: there is no memory for what is told.
+/// Returns `AllocError` if memory runs out.
 pub(crate) fn tell_change(voice: &mut Voice, old: NodeRef, new: NodeRef) -> Result<(), AllocError>
     ensures { OnOk result (TellsChange (seen_node old.entry) (seen_node new.entry) voice.old voice.new) }
 {

@@ -1,4 +1,4 @@
-//! What a node says of itself, as values.
+//! Reading the properties of a node that are said.
 ghost use Rattle.std.specs.Prelude.{◌≡◌, IfOk, option_map, string_bytes};
 ghost use Rattle.model.specs.Filters.{common_filter as common};
 ghost use Rattle.model.specs.Views.{computed_size_of_set as size_of, computed_position_in_set as position_in};
@@ -18,7 +18,7 @@ fn filled(text: String) -> Option<String>
     if text.is_empty() { None } else { Some(text) }
 }
 
-/// A number of thousandths as a text, where there is one.
+/// A number in thousandths as text, if there is one.
 fn number_text(alloc: Global, number: Option<i64>) -> Result<Option<String>, AllocError>
     ensures { IfOk result (λ text. option_map string_bytes text ≡ option_map thousandths number) }
 {
@@ -28,7 +28,7 @@ fn number_text(alloc: Global, number: Option<i64>) -> Result<Option<String>, All
     }
 }
 
-/// The value as it is shown: the text, or else the number. An empty text is none.
+/// The value as it is shown: the text, or else the number. `None` if the text is empty.
 pub(crate) fn shown_value(alloc: Global, node: NodeRef) -> Result<Option<String>, AllocError>
     ensures { let n = node.entry in
         IfOk result (λ text. option_map string_bytes text ≡ value_said (world_at n) (id_at n) (data_at n)) }
@@ -39,14 +39,14 @@ pub(crate) fn shown_value(alloc: Global, node: NodeRef) -> Result<Option<String>
     }
 }
 
-/// Whether it is read-only, where that makes a difference.
+/// Whether the node is read-only, if the read-only state applies to it.
 fn is_read_only(node: NodeRef) -> bool
     ensures { result ≡ (state_said (data_at node.entry)).is_read_only }
 {
     node.is_read_only_supported() && node.is_read_only()
 }
 
-/// The state, as far as it is said.
+/// The parts of the state that are said.
 pub(crate) fn state_of(node: NodeRef) -> State
     ensures { result ≡ state_said (data_at node.entry) }
 {
@@ -68,14 +68,14 @@ fn set_size(node: NodeRef) -> Option<usize>
     node.computed_size_of_set(&common_filter)
 }
 
-/// The position in that set, from 0.
+/// The position in that set, counted from 0.
 fn set_position(node: NodeRef) -> Option<usize>
     ensures { let w = world_at node.entry in result ≡ position_in (common w) w (id_at node.entry) }
 {
     node.computed_position_in_set(&common_filter)
 }
 
-/// The place in the node's set, where it has one.
+/// The node's position in its set, if it has one.
 pub(crate) fn place_of(node: NodeRef) -> Option<Place>
     ensures { result ≡ place_said (world_at node.entry) (id_at node.entry) }
 {
@@ -84,7 +84,7 @@ pub(crate) fn place_of(node: NodeRef) -> Option<Place>
     Some(Place { position, size })
 }
 
-/// Whether what is typed into it is said of its text. That of a number is said as its value.
+/// Whether typing in the node is said as edits of its text. For a number the value is said instead.
 pub(crate) fn is_edited(node: NodeRef) -> bool
     ensures { result ≡ is_edited (data_at node.entry) }
 {

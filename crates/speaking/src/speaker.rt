@@ -1,4 +1,4 @@
-//! Says what it is told, up to the first want of memory.
+//! A speaker, which falls silent at the first failed allocation.
 ghost use Rattle.std.specs.Prelude.{◌≡◌, [], None, false};
 ghost use Rattle.views.specs.ShownWorlds.{world_of};
 ghost use Rattle.speaking.specs.Edits.{Settles};
@@ -11,20 +11,20 @@ use accesskit_consumer::{FullNodeId, StateRef};
 use phrases::Voice;
 use std::alloc::Global;
 
-/// Says what a tree tells of its changes. It is a handler of the tree: [`Speaker::settle`] ends what it says of a step, and
-/// [`Speaker::said`] gives the lines that were said since they were last cleared.
+/// Says the changes of a tree, as a handler of it. [`Speaker::settle`] ends a step, and [`Speaker::said`] returns the
+/// lines said since they were last cleared.
 #[derive(Drop)]
 pub struct Speaker {
     pub(crate) alloc: Global,
     pub(crate) voice: Voice,
-    /// Whether memory was refused. From then on nothing more is said.
+    /// Whether an allocation has failed. From then on nothing more is said.
     pub(crate) is_silent: bool,
-    /// The text that has the focus, as far as it was said.
+    /// The focused text as it was last said.
     pub(crate) text: Option<FocusedText>,
 }
 
 impl Speaker {
-    /// A speaker that has said nothing.
+    /// A speaker that has said nothing yet.
     pub fn new(alloc: Global) -> Speaker
         ensures said { said_by result ≡ [] }
         ensures waiting { waiting_in result ≡ [] }
@@ -39,7 +39,7 @@ impl Speaker {
         }
     }
 
-    /// Says where the focus is as a tree begins. The speaker has fallen silent if there was no memory for that.
+    /// Says the focus of a new tree. If memory runs out, the speaker falls silent.
     pub fn begin(&mut self, state: StateRef)
         requires { fell_silent self.old ≡ false }
         ensures { Begins (world_of state.entry) self.old self.new }
@@ -48,8 +48,8 @@ impl Speaker {
         self.is_silent = say_move(self.alloc, &mut self.voice, None, focus.as_ref()).is_err();
     }
 
-    /// Ends a step, after which the node with this id has the focus: says what has become of the text that has the focus, once
-    /// all events are told, and then what has waited. The speaker has fallen silent if there was no memory for that.
+    /// Ends a step, after which the node with this id is focused: says what changed in the focused text, now that all
+    /// events were reported, and then the postponed lines. If memory runs out, the speaker falls silent.
     pub fn settle(&mut self, state: StateRef, focus: Option<FullNodeId>)
         ensures { Settles (world_of state.entry) focus self.old self.new }
     {
@@ -63,21 +63,21 @@ impl Speaker {
         }
     }
 
-    /// What was said, in lines.
+    /// The lines that were said.
     pub fn said(&self) -> &str
         ensures { result.now ≡ said_by self.now }
     {
         self.voice.said()
     }
 
-    /// Whether memory was refused, so that something was not said. From then on nothing more is.
+    /// Whether an allocation has failed, so that something was not said. From then on nothing more is said.
     pub fn is_silent(&self) -> bool
         ensures { result ≡ fell_silent self.now }
     {
         self.is_silent
     }
 
-    /// Forgets the lines that were said. What waits is still said at the end of the step.
+    /// Drops the lines that were said. Postponed lines are still said at the end of the step.
     pub fn clear_said(&mut self)
         ensures said { said_by self.new ≡ [] }
         ensures waiting { waiting_in self.new ≡ waiting_in self.old }

@@ -1,4 +1,4 @@
-//! Ranges of two positions that come from anywhere.
+//! Ranges between any two positions.
 ghost use Rattle.std.specs.Prelude.{◌≡◌, Some};
 ghost use Rattle.schema.specs.declared.values.TextPosition.{TextPosition as RawPosition};
 ghost use Rattle.model.specs.Ranges.{range_between, IsRaw};
@@ -13,11 +13,10 @@ use crate::range::TextRange;
 use views::node::same::is_same;
 
 impl<'a> TextRange<'a> {
-    /// The range of two positions of one root, whichever is first: none of two roots.
+    /// The range between two positions with the same root, in either order; `None` if their roots differ.
     ///
-    /// Whether both positions are of one state isn't seen. The second one is looked for in the text of the first by its
-    /// run's id and its index: of one state this finds it, and of two states there is a range in that of the first,
-    /// where its text has this run with so many characters.
+    /// The positions may be of different states. The second one is looked up in the text of the first, by its run's id
+    /// and its index; the result is `None` if that text has no such position.
     pub fn between(first: TextPosition<'a>, second: TextPosition<'a>) -> Option<TextRange<'a>>
         ensures one_state { let root = root_at first.entry in
             let range = range_between (node_text root) (flat_position first.entry) (flat_position second.entry) in

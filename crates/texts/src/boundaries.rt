@@ -1,4 +1,4 @@
-//! Where lines and paragraphs begin and end: from a run to the runs beside it.
+//! Where lines and paragraphs begin and end, by a run and its neighbours.
 ghost use Rattle.std.specs.Prelude.{◌≡◌, ◌+◌, ◌==◌, true, Some, length};
 ghost use Rattle.model.specs.TextRuns.{supports_text_ranges};
 ghost use Rattle.model.specs.FlatText.{first_run, last_run, begins_line, ends_line, begins_paragraph, ends_paragraph, closes_paragraph};
@@ -8,7 +8,7 @@ ghost use Rattle.texts.specs.Marks.{begins_at, ends_at, closes_at};
 
 use views::runs::Run;
 
-/// What is made up of whole runs.
+/// A part of a text that consists of whole runs.
 #[derive(Clone, Copy)]
 pub(crate) enum Mark {
     Line,
@@ -94,7 +94,7 @@ pub(crate) fn begins_after<'a>(run: Run<'a>, mark: Mark, previous: Run<'a>) -> b
     }
 }
 
-/// From this run on, the first with which a line or a paragraph ends.
+/// The first run, from this one on, that ends a line or a paragraph.
 #[inline(always)]
 pub(crate) fn last_of<'a>(start: Run<'a>, mark: Mark) -> Run<'a>
     requires { supports_text_ranges (run_world start) (root_id start) ≡ true }
@@ -114,7 +114,7 @@ pub(crate) fn last_of<'a>(start: Run<'a>, mark: Mark) -> Run<'a>
     }
 }
 
-/// From this run back, the first with which a line or a paragraph begins.
+/// The last run, up to this one, that begins a line or a paragraph.
 pub(crate) fn first_of<'a>(start: Run<'a>, mark: Mark) -> Run<'a>
     requires { supports_text_ranges (run_world start) (root_id start) ≡ true }
     ensures same { text_root_of result ≡ text_root_of start.entry }

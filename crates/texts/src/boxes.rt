@@ -20,7 +20,7 @@ use schema::{Rect, TextDirection, WideRect, WideTranslation};
 use std::alloc::{AllocError, Global};
 use views::node::geometry::ordered;
 
-/// A number so far past an edge.
+/// A coordinate this far past an edge.
 fn past(edge: i32, reach: i128) -> i128
     requires { IsAlong 2 reach }
     ensures exact { result ≡ edge +ℤ reach }
@@ -29,7 +29,7 @@ fn past(edge: i32, reach: i128) -> i128
     i128::from(edge) + reach
 }
 
-/// A number so far before an edge.
+/// A coordinate this far before an edge.
 fn before(edge: i32, reach: i128) -> i128
     requires { IsAlong 2 reach }
     ensures exact { result ≡ edge -ℤ reach }
@@ -38,7 +38,7 @@ fn before(edge: i32, reach: i128) -> i128
     i128::from(edge) - reach
 }
 
-/// An edge.
+/// An edge as a wide number.
 fn wide(edge: i32) -> i128
     ensures exact { result ≡ edge }
     ensures along { IsAlong 3 result }
@@ -59,7 +59,7 @@ fn whole_rect(rect: Rect) -> WideRect
     }
 }
 
-/// What lies from one reach to another along the rectangle.
+/// The part of a rectangle between two distances along it.
 fn cut_along(direction: TextDirection, rect: Rect, from: i128, to: i128) -> WideRect
     requires starts { IsAlong 2 from }
     requires ends { IsAlong 2 to }
@@ -91,7 +91,7 @@ fn cut_along(direction: TextDirection, rect: Rect, from: i128, to: i128) -> Wide
     }
 }
 
-/// A number, moved.
+/// A coordinate plus a translation.
 fn plus(number: i128, by: i128) -> i128
     requires along { IsAlong 3 number }
     requires moved { IsInReach by }
@@ -100,7 +100,7 @@ fn plus(number: i128, by: i128) -> i128
     number + by
 }
 
-/// The rectangle, moved.
+/// The rectangle after a translation.
 fn moved(rect: WideRect, by: WideTranslation) -> WideRect
     requires near { IsOnRun rect }
     requires across { IsInReach by.x }
@@ -124,7 +124,7 @@ impl Piece<'_> {
         self.from == 0 && self.to == self.run.character_count()
     }
 
-    /// The rectangle of the piece within its run, along which it is cut.
+    /// The part of the run's rectangle that the piece covers.
     fn cut(self, rect: Rect, metrics: Metrics<'_>, direction: TextDirection) -> WideRect
         ensures exact { result ≡ cut_of self.entry rect (measures metrics.entry) direction }
         ensures near { IsOnRun result }
@@ -135,7 +135,7 @@ impl Piece<'_> {
         cut_along(direction, rect, from, to)
     }
 
-    /// The rectangle of the piece within its run: all of it where the piece is the whole run.
+    /// The part of the run's rectangle that the piece covers; all of it if the piece is the whole run.
     fn rect_in_run(self, rect: Rect, metrics: Metrics<'_>, direction: TextDirection) -> WideRect
         ensures exact { let count = said_count (sent_of self.entry.run) in
             let piece = piece_data self.entry in
@@ -148,7 +148,7 @@ impl Piece<'_> {
         self.cut(rect, metrics, direction)
     }
 
-    /// Where the piece is shown, by what is told of its run.
+    /// The box of the piece, from its run's data.
     fn placed(self, rect: Rect, metrics: Metrics<'_>, direction: TextDirection) -> WideRect
         ensures { result ≡ box_of self.entry rect (measures metrics.entry) direction }
     {
@@ -156,7 +156,7 @@ impl Piece<'_> {
         ordered(moved(in_run, self.run.whole_move()))
     }
 
-    /// Where the piece is shown, where its run has a rectangle, metrics and a direction.
+    /// The box of the piece, if its run has a rectangle, metrics and a direction.
     fn bounding_box(self) -> Option<WideRect>
         ensures { result ≡ piece_box (text_around self.entry.run) (piece_data self.entry) }
     {
@@ -168,13 +168,13 @@ impl Piece<'_> {
 }
 
 impl TextRange<'_> {
-    /// Where the range is shown, in units, as the root of all sees it: one box for each run that it passes, in order;
-    /// of a range with nothing in it one, where its start is. None at all if one of the runs lacks a rectangle, the
-    /// places or widths of its characters, or a direction. It takes memory.
+    /// The boxes of the range, in units of 1/64 pixel, after the translations of the runs and all their ancestors: one
+    /// for each run that the range covers, in order. An empty range has one box, at its position. The list is empty if
+    /// one of the runs has no rectangle, no positions or widths of characters, or no direction. Allocates the list.
     ///
     /// # Errors
     ///
-    /// `AllocError`: there is no memory for the list.
+    /// Returns `AllocError` if memory runs out.
     #[tactic(auto, using(model::proofs::Text::Secrets::one_text))]
     pub fn bounding_boxes(&self, alloc: Global) -> Result<Vec<WideRect>, AllocError>
         ensures boxes { let all = bounding_boxes (text_in self.now) (range_at self.now) in

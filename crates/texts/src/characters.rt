@@ -1,4 +1,4 @@
-//! Moves by character.
+//! Movements by character.
 ghost use Rattle.std.specs.Prelude.{◌≡◌, ◌<◌, option_map};
 ghost use Rattle.model.specs.FlatText.{offset, total};
 ghost use Rattle.model.specs.Moves.{forward_to_character_start, forward_to_character_end, backward_to_character_start};
@@ -10,8 +10,8 @@ ghost use Rattle.texts.specs.Secrets.{InEachText, IsMovedInEach};
 use crate::position::TextPosition;
 
 impl<'a> TextPosition<'a> {
-    /// Whether there is a character after the position, for the moves past it. Where the last run is empty there is none
-    /// before that run either, though the text ends only in it.
+    /// Whether there is a character after the position. If the last run is empty, this is already `false` before that
+    /// run, though the text ends only in it.
     pub fn has_character_after(&self) -> bool
         ensures { result ≡ has_character_after (position_text self.now) (flat_position self.now) }
     {
@@ -19,14 +19,15 @@ impl<'a> TextPosition<'a> {
         start.index < start.run.character_count()
     }
 
-    /// Whether there is a character before the position, for the move before it.
+    /// Whether there is a character before the position.
     pub fn has_character_before(&self) -> bool
         ensures { result ≡ has_character_before (position_text self.now) (flat_position self.now) }
     {
         self.biased_to_end().index > 0
     }
 
-    /// Past the next character, at the start of a run where two runs meet: none where no character is left.
+    /// The position after the next character, on the start side where two runs meet; `None` if there is no character
+    /// left.
     #[tactic(auto, using(model::proofs::Text::Secrets::one_text))]
     pub fn next_character(&self) -> Option<TextPosition<'a>>
         ensures found { let to = next_character (position_text self.now) (flat_position self.now) in
@@ -39,8 +40,8 @@ impl<'a> TextPosition<'a> {
         Some(self.forward_to_character_start())
     }
 
-    /// Before the character that is before the position, at the start of a run where two runs meet: none at the start
-    /// of the text.
+    /// The position before the previous character, on the start side where two runs meet; `None` at the start of the
+    /// text.
     #[tactic(auto, using(model::proofs::Text::Secrets::one_text))]
     pub fn previous_character(&self) -> Option<TextPosition<'a>>
         ensures found { let to = previous_character (position_text self.now) (flat_position self.now) in
@@ -53,11 +54,12 @@ impl<'a> TextPosition<'a> {
         Some(self.backward_to_character_start())
     }
 
-    /// Past the next character, at the start of a run where two runs meet. There is a character after the position.
+    /// The position after the next character, on the start side where two runs meet. Requires a character after the
+    /// position.
     ///
-    /// A loop that ends where `is_document_end` is `true` goes too far in a text whose last run is empty: before that run
-    /// no character is left, and the text isn't at its end. One that takes [`TextPosition::next_character`] until it is `None`
-    /// ends with the last character, and so does a walk over [`TextRange::characters`].
+    /// A loop until `is_document_end` goes too far in a text whose last run is empty: before that run there is no
+    /// character left, but the position isn't the end of the text. Loop with [`TextPosition::next_character`] until it
+    /// returns `None`, or over [`TextRange::characters`].
     pub fn forward_to_character_start(&self) -> TextPosition<'a>
         requires { offset (position_text self.now) (flat_position self.now) < total (position_text self.now) }
         ensures moved { IsMoved forward_to_character_start self.now result }
@@ -66,11 +68,12 @@ impl<'a> TextPosition<'a> {
         self.forward_to_character_end().biased_to_start()
     }
 
-    /// Past the next character, at the end of a run where two runs meet. There is a character after the position.
+    /// The position after the next character, on the end side where two runs meet. Requires a character after the
+    /// position.
     ///
-    /// A loop that ends where `is_document_end` is `true` goes too far in a text whose last run is empty: before that run
-    /// no character is left, and the text isn't at its end. This one ends with the last character:
-    /// `while at.has_character_after() { at = at.forward_to_character_end(); }`.
+    /// A loop until `is_document_end` goes too far in a text whose last run is empty: before that run there is no
+    /// character left, but the position isn't the end of the text. This loop ends with the last character: `while
+    /// at.has_character_after() { at = at.forward_to_character_end(); }`.
     pub fn forward_to_character_end(&self) -> TextPosition<'a>
         requires { offset (position_text self.now) (flat_position self.now) < total (position_text self.now) }
         ensures moved { IsMoved forward_to_character_end self.now result }
@@ -84,7 +87,7 @@ impl<'a> TextPosition<'a> {
         }
     }
 
-    /// Before the character that is before the position, which there is.
+    /// The position before the previous character. Requires a character before the position.
     pub fn backward_to_character_start(&self) -> TextPosition<'a>
         requires { 0 < offset (position_text self.now) (flat_position self.now) }
         ensures moved { IsMoved backward_to_character_start self.now result }

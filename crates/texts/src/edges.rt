@@ -4,7 +4,7 @@ ghost use Rattle.std.specs.Prelude.{◌≡◌};
 use crate::position::TextPosition;
 use views::walks::spot::Spot;
 
-/// An end of a range: a run at its place, and how many of the run's characters are before the end.
+/// An end of a range: a run with its place, and the number of its characters before the end.
 #[derive(Clone, Copy)]
 pub(crate) struct Edge<'a> {
     pub(crate) spot: Spot<'a>,

@@ -10,7 +10,7 @@ use crate::position::TextPosition;
 use views::NodeRef;
 use views::runs::Run;
 
-/// The start of the node's text, which has text ranges.
+/// The start of the node's text. Requires that the node supports text ranges.
 pub(crate) fn document_start<'a>(root: NodeRef<'a>) -> TextPosition<'a>
     requires { supports_text_ranges (world_at root) (id_at root) ≡ true }
     ensures { IsPositionAt root.entry document_start result }
@@ -19,7 +19,7 @@ pub(crate) fn document_start<'a>(root: NodeRef<'a>) -> TextPosition<'a>
     TextPosition { run, index: 0 }
 }
 
-/// The end of the node's text, which has text ranges.
+/// The end of the node's text. Requires that the node supports text ranges.
 pub(crate) fn document_end<'a>(root: NodeRef<'a>) -> TextPosition<'a>
     requires { supports_text_ranges (world_at root) (id_at root) ≡ true }
     ensures { IsPositionAt root.entry (document_end (node_text root.entry)) result }
@@ -50,7 +50,7 @@ impl<'a> TextPosition<'a> {
         document_end(position.run.root())
     }
 
-    /// At the end of a run the start of the next one, where there is one.
+    /// The same position, but at the end of a run the start of the next run, if there is one.
     pub fn biased_to_start(&self) -> TextPosition<'a>
         ensures { IsMoved biased_to_start self.now result }
     {
@@ -67,7 +67,7 @@ impl<'a> TextPosition<'a> {
         }
     }
 
-    /// At the start of a run the end of the one before it, where there is one.
+    /// The same position, but at the start of a run the end of the previous run, if there is one.
     pub fn biased_to_end(&self) -> TextPosition<'a>
         ensures { IsMoved biased_to_end self.now result }
     {

@@ -1,4 +1,4 @@
-//! When positions and ranges are equal.
+//! Equality of positions and ranges.
 ghost use Rattle.std.specs.Prelude.{◌≡◌, ◌↔◌, IsTrue};
 ghost use Rattle.texts.specs.SamePositions.{end_of, key_of, same_text_position, same_text_position_laws, same_text_position_equivalence};
 ghost use Rattle.texts.specs.SameRanges.{ends_of, same_text_range, same_text_range_laws, same_text_range_equivalence};
@@ -9,7 +9,7 @@ use crate::range::TextRange;
 use views::node::same::is_same;
 
 impl Edge<'_> {
-    /// Whether both are at one index of one run.
+    /// Whether both are at the same index of the same run.
     fn is_at(self, other: Edge<'_>) -> bool
         ensures { IsTrue result ↔ (end_of self.entry ≡ end_of other.entry) }
     {

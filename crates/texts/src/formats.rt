@@ -1,4 +1,4 @@
-//! Where formats begin, and moves by format: a format is made up of runs that look alike.
+//! Where formats begin, and movements by format. A format consists of neighbouring runs with the same style.
 ghost use Rattle.std.specs.Prelude.{◌≡◌, ◌+◌};
 ghost use Rattle.model.specs.Styles.{same_style};
 ghost use Rattle.model.specs.FlatText.{begins_format, is_format_start};
@@ -15,7 +15,7 @@ use crate::position::TextPosition;
 use views::NodeRef;
 use views::runs::Run;
 
-/// What makes up a format.
+/// The properties that make up a format.
 const FORMAT: [Look; 11] = [
     Look::FontFamily,
     Look::Language,
@@ -30,7 +30,7 @@ const FORMAT: [Look; 11] = [
     Look::Offset,
 ];
 
-/// Whether the texts of two nodes of one state have one format.
+/// Whether the texts of two nodes of a state have the same format.
 fn has_same_format(a: NodeRef<'_>, b: NodeRef<'_>) -> bool
     requires { world_at a ≡ world_at b }
     ensures { result ≡ same_style (style_at a.entry) (style_at b.entry) }
@@ -86,7 +86,7 @@ impl<'a> TextPosition<'a> {
         }
     }
 
-    /// The start of the next format after that of the position's run; where there is none, the end of the text.
+    /// The start of the next format, or the end of the text if there is none.
     pub fn forward_to_format_start(&self) -> TextPosition<'a>
         ensures moved { IsMoved forward_to_format_start self.now result }
         ensures secret { IsMovedInEach forward_to_format_start self.now result }
@@ -110,7 +110,7 @@ impl<'a> TextPosition<'a> {
         }
     }
 
-    /// The start of the next format, at the end of the run before it; else the end of the text.
+    /// The start of the next format, as the end of the run before it, or the end of the text if there is none.
     pub fn forward_to_format_end(&self) -> TextPosition<'a>
         ensures moved { IsMoved forward_to_format_end self.now result }
         ensures secret { IsMovedInEach forward_to_format_end self.now result }
@@ -118,7 +118,8 @@ impl<'a> TextPosition<'a> {
         self.forward_to_format_start().biased_to_end()
     }
 
-    /// The start of the format; from the start of a run that of the format of the run before it, where there is one.
+    /// The start of the format of the position's run. From the start of a run, it is the start of the format of the
+    /// previous run, if there is one.
     pub fn backward_to_format_start(&self) -> TextPosition<'a>
         ensures moved { IsMoved backward_to_format_start self.now result }
         ensures secret { IsMovedInEach backward_to_format_start self.now result }

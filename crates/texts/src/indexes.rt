@@ -1,4 +1,4 @@
-//! The index of a position in the whole text, in scalars or in units of UTF-16, and back.
+//! Global indexes of positions, in scalars or in UTF-16 code units, and back.
 ghost use Rattle.std.specs.Prelude.{◌≡◌, ◌<◌, ◌≤◌, ◌+◌, true, take, IfSome, option_map};
 ghost use Rattle.std.specs.List.{concat};
 ghost use Rattle.model.specs.TextRuns.{said_count, sent_characters, supports_text_ranges};
@@ -15,14 +15,14 @@ use views::node::masking::scalar_count;
 use views::node::run_texts::needs_masking;
 use views::runs::Run;
 
-/// What an index counts.
+/// The unit of an index.
 #[derive(Clone, Copy)]
 pub(crate) enum Units {
     Scalars,
     Utf16,
 }
 
-/// How many units of UTF-16 the text has.
+/// The number of UTF-16 code units of the text.
 fn utf16_count(text: &str) -> usize
     ensures { result ≡ utf16_len text.now }
 {
@@ -33,7 +33,7 @@ fn utf16_count(text: &str) -> usize
     count
 }
 
-/// The part of a run's text that its first characters make up.
+/// The part of a run's text that consists of its first characters.
 fn front<'a>(run: Run<'a>, index: usize) -> &'a str
     requires cut { IsCut (sent_of run) }
     requires within { index ≤ said_count (sent_of run) }
@@ -50,7 +50,7 @@ fn front<'a>(run: Run<'a>, index: usize) -> &'a str
 }
 
 impl Units {
-    /// How many the text has.
+    /// The number of units of the text.
     fn count(self, text: &str) -> usize
         ensures { result ≡ unit_len self text.now }
     {
@@ -60,7 +60,7 @@ impl Units {
         }
     }
 
-    /// How many the first characters of a run have, as they are shown.
+    /// The number of units of a run's first characters, as they are shown.
     fn count_front(self, run: Run<'_>, index: usize, masked: bool) -> usize
         requires cut { IsCut (sent_of run) }
         requires within { index ≤ said_count (sent_of run) }
@@ -72,7 +72,7 @@ impl Units {
         self.count(front(run, index))
     }
 
-    /// How many a run has, as it is shown.
+    /// The number of units of a run, as it is shown.
     fn count_run(self, run: Run<'_>, masked: bool) -> usize
         requires { IsCut (sent_of run) }
         ensures { result ≡ length_of self masked (sent_of run.entry) }
@@ -83,7 +83,7 @@ impl Units {
         self.count(run.value())
     }
 
-    /// The number of the character of a run in which an index lies.
+    /// The number of the character of a run that contains an index.
     fn holder(self, run: Run<'_>, index: usize, masked: bool) -> usize
         requires cut { IsCut (sent_of run) }
         requires within { index < length_of self masked (sent_of run) }
@@ -113,7 +113,7 @@ impl Units {
 }
 
 impl TextPosition<'_> {
-    /// How many scalars or units of UTF-16 are before the position.
+    /// The number of scalars or UTF-16 code units before the position.
     fn global_index(self, units: Units) -> usize
         ensures { let p = flat_position self.entry in
             result ≡ global_index (unit_len units) (position_text self.entry) p }
@@ -128,7 +128,7 @@ impl TextPosition<'_> {
         before
     }
 
-    /// How many scalars of the text are before the position. A bullet of a masked password counts as one.
+    /// The number of scalars of the text before the position. A bullet of a masked password counts as one.
     #[tactic(auto, using(model::proofs::Text::Secrets::one_text))]
     pub fn to_global_usv_index(&self) -> usize
         ensures index { result ≡ to_global_usv_index (position_text self.now) (flat_position self.now) }
@@ -138,7 +138,7 @@ impl TextPosition<'_> {
         position.global_index(Units::Scalars)
     }
 
-    /// How many units of UTF-16 of the text are before the position. A bullet of a masked password counts as one.
+    /// The number of UTF-16 code units of the text before the position. A bullet of a masked password counts as one.
     #[tactic(auto, using(model::proofs::Text::Secrets::one_text))]
     pub fn to_global_utf16_index(&self) -> usize
         ensures index { result ≡ to_global_utf16_index (position_text self.now) (flat_position self.now) }
@@ -149,7 +149,7 @@ impl TextPosition<'_> {
     }
 }
 
-/// The position before the character in which an index of the whole text lies, or the end of the text.
+/// The position before the character that contains a global index, or the end of the text.
 pub(crate) fn position_from<'a>(
     root: NodeRef<'a>,
     units: Units,

@@ -8,7 +8,7 @@ use crate::boundaries::ends_line;
 use crate::position::TextPosition;
 
 impl TextPosition<'_> {
-    /// How many lines end before the position's run.
+    /// The number of the position's line, counted from 0: the number of lines that end before the position's run.
     #[tactic(auto, using(model::proofs::Text::Secrets::one_text))]
     pub fn to_line_index(&self) -> usize
         ensures index { result ≡ to_line_index (position_text self.now) (flat_position self.now) }

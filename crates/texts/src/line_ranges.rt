@@ -16,7 +16,7 @@ use crate::range::TextRange;
 use views::NodeRef;
 use views::runs::Run;
 
-/// From the start of the run to the end of another one, which isn't before it.
+/// The range from the start of a run to the end of another one that isn't before it.
 pub(crate) fn range_to<'a>(first: Run<'a>, last: Run<'a>) -> TextRange<'a>
     requires text { supports_text_ranges (run_world first) (root_id first) ≡ true }
     requires same { text_root_of last ≡ text_root_of first }
@@ -36,7 +36,7 @@ pub(crate) fn range_to<'a>(first: Run<'a>, last: Run<'a>) -> TextRange<'a>
     TextRange::over(start, end)
 }
 
-/// The caret past the last line, which begins with the run: there where that line isn't empty.
+/// The caret past the last line, which begins with this run; `None` if that line is empty.
 fn caret_past<'a>(run: Run<'a>) -> Option<TextRange<'a>>
     requires text { supports_text_ranges (run_world run) (root_id run) ≡ true }
     ensures { let t = text_around run.entry in
@@ -50,7 +50,8 @@ fn caret_past<'a>(run: Run<'a>) -> Option<TextRange<'a>>
     Some(document_end(run.root()).to_degenerate_range())
 }
 
-/// What stands past the last line, which begins with the run: its number, and a number above it.
+/// The answer for a line number past the last line, which begins with this run: given the number of that line and a
+/// number above it.
 pub(crate) fn range_past<'a>(run: Run<'a>, line: usize, index: usize) -> Option<TextRange<'a>>
     requires text { supports_text_ranges (run_world run) (root_id run) ≡ true }
     requires size { length (lines (text_around run)) ≡ line + 1 }
@@ -69,7 +70,7 @@ pub(crate) fn range_past<'a>(run: Run<'a>, line: usize, index: usize) -> Option<
     caret_past(run)
 }
 
-/// The range of a line of the text of a node, which has text ranges, by its number from 0.
+/// The range of a line of a node's text, by its number from 0. Requires that the node supports text ranges.
 pub(crate) fn line_range_of<'a>(root: NodeRef<'a>, index: usize) -> Option<TextRange<'a>>
     requires { supports_text_ranges (world_at root) (id_at root) ≡ true }
     ensures { let range = range_of_line (node_text root.entry) index in

@@ -1,4 +1,4 @@
-//! Moves by line, paragraph and page.
+//! Movements by line, paragraph and page.
 ghost use Rattle.std.specs.Prelude.{◌+◌};
 ghost use Rattle.model.specs.Moves.{end_from, start_before, forward_to_line_start, forward_to_line_end, backward_to_line_start, forward_to_paragraph_start, forward_to_paragraph_end, backward_to_paragraph_start, forward_to_page_start, forward_to_page_end, backward_to_page_start};
 ghost use Rattle.texts.specs.Marks.{begins_at, ends_at};
@@ -31,7 +31,7 @@ impl<'a> TextPosition<'a> {
         }
     }
 
-    /// Past the end of the line of the position's run.
+    /// The position past the end of the line.
     pub fn forward_to_line_start(&self) -> TextPosition<'a>
         ensures moved { IsMoved forward_to_line_start self.now result }
         ensures secret { IsMovedInEach forward_to_line_start self.now result }
@@ -39,7 +39,7 @@ impl<'a> TextPosition<'a> {
         self.end_of(Mark::Line).biased_to_start()
     }
 
-    /// The end of the line; from the end of a line that of the next one, where there is one.
+    /// The end of the line; from there, the end of the next line, if there is one.
     pub fn forward_to_line_end(&self) -> TextPosition<'a>
         ensures moved { IsMoved forward_to_line_end self.now result }
         ensures secret { IsMovedInEach forward_to_line_end self.now result }
@@ -47,7 +47,7 @@ impl<'a> TextPosition<'a> {
         self.biased_to_start().end_of(Mark::Line)
     }
 
-    /// The start of the line; from the start of a line that of the one before it, where there is one.
+    /// The start of the line; from there, the start of the previous line, if there is one.
     pub fn backward_to_line_start(&self) -> TextPosition<'a>
         ensures moved { IsMoved backward_to_line_start self.now result }
         ensures secret { IsMovedInEach backward_to_line_start self.now result }
@@ -55,7 +55,7 @@ impl<'a> TextPosition<'a> {
         self.biased_to_end().start_of(Mark::Line)
     }
 
-    /// Past the end of the paragraph of the position's run.
+    /// The position past the end of the paragraph.
     pub fn forward_to_paragraph_start(&self) -> TextPosition<'a>
         ensures moved { IsMoved forward_to_paragraph_start self.now result }
         ensures secret { IsMovedInEach forward_to_paragraph_start self.now result }
@@ -63,7 +63,7 @@ impl<'a> TextPosition<'a> {
         self.end_of(Mark::Paragraph).biased_to_start()
     }
 
-    /// The end of the paragraph; from the end of one that of the next one, where there is one.
+    /// The end of the paragraph; from there, the end of the next paragraph, if there is one.
     pub fn forward_to_paragraph_end(&self) -> TextPosition<'a>
         ensures moved { IsMoved forward_to_paragraph_end self.now result }
         ensures secret { IsMovedInEach forward_to_paragraph_end self.now result }
@@ -71,7 +71,7 @@ impl<'a> TextPosition<'a> {
         self.biased_to_start().end_of(Mark::Paragraph)
     }
 
-    /// The start of the paragraph; from the start of one that of the one before it, where there is one.
+    /// The start of the paragraph; from there, the start of the previous paragraph, if there is one.
     pub fn backward_to_paragraph_start(&self) -> TextPosition<'a>
         ensures moved { IsMoved backward_to_paragraph_start self.now result }
         ensures secret { IsMovedInEach backward_to_paragraph_start self.now result }
@@ -79,7 +79,7 @@ impl<'a> TextPosition<'a> {
         self.biased_to_end().start_of(Mark::Paragraph)
     }
 
-    /// The end of the text: a text has one page.
+    /// The end of the text, since a text has one page.
     pub fn forward_to_page_start(&self) -> TextPosition<'a>
         ensures moved { IsMoved forward_to_page_start self.now result }
         ensures secret { IsMovedInEach forward_to_page_start self.now result }
@@ -87,7 +87,7 @@ impl<'a> TextPosition<'a> {
         self.document_end()
     }
 
-    /// The end of the text: a text has one page.
+    /// The end of the text, since a text has one page.
     pub fn forward_to_page_end(&self) -> TextPosition<'a>
         ensures moved { IsMoved forward_to_page_end self.now result }
         ensures secret { IsMovedInEach forward_to_page_end self.now result }
@@ -95,7 +95,7 @@ impl<'a> TextPosition<'a> {
         self.document_end()
     }
 
-    /// The start of the text: a text has one page.
+    /// The start of the text, since a text has one page.
     pub fn backward_to_page_start(&self) -> TextPosition<'a>
         ensures moved { IsMoved backward_to_page_start self.now result }
         ensures secret { IsMovedInEach backward_to_page_start self.now result }

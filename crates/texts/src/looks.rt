@@ -1,11 +1,11 @@
-//! How a text looks, look by look.
+//! The style of a text, property by property.
 ghost use Rattle.std.specs.Prelude.{◌≡◌, ◌↔◌, IsTrue, option_copied};
 ghost use Rattle.views.specs.Nodes.{world_at, id_at};
 ghost use Rattle.texts.specs.Looks.{AreSame};
 
 use views::NodeRef;
 
-/// What a run has from itself or from the nodes above it.
+/// A property that a run has itself or inherits from its ancestors.
 #[derive(Clone, Copy)]
 pub(crate) enum Look {
     Direction,
@@ -23,7 +23,7 @@ pub(crate) enum Look {
     Italic,
 }
 
-/// Whether both are absent, or are one text.
+/// Whether both are absent or equal.
 fn same_text(a: Option<&str>, b: Option<&str>) -> bool
     ensures { IsTrue result ↔ (option_copied a.entry ≡ option_copied b.entry) }
 {
@@ -34,7 +34,7 @@ fn same_text(a: Option<&str>, b: Option<&str>) -> bool
     }
 }
 
-/// Whether two nodes of one state have the same of it.
+/// Whether two nodes of a state have the same value of the property.
 pub(crate) fn are_same(what: Look, a: NodeRef<'_>, b: NodeRef<'_>) -> bool
     requires { world_at a ≡ world_at b }
     ensures { IsTrue result ↔ AreSame what (world_at b.entry) (id_at a.entry) (id_at b.entry) }

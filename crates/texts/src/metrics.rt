@@ -1,4 +1,4 @@
-//! Where the characters of a run stand along it.
+//! The positions of a run's characters along the run.
 ghost use Rattle.std.specs.Prelude.{◌≡◌, ◌<◌, ◌+ℤ◌, ◌*ℤ◌, pos, length, FitsSigned, IfSome, option_map};
 ghost use Rattle.std.specs.Int.{w32};
 ghost use Rattle.model.specs.Geometry.{is_between};
@@ -10,8 +10,8 @@ ghost use Rattle.texts.specs.Measures.{measures, shown_in, IsMetricStep, IsAlong
 use crate::pieces::Piece;
 use views::runs::Run;
 
-/// Where the characters of a run stand along it, and how wide they are. Those of a password are told as if all were
-/// alike.
+/// The positions of a run's characters along the run, and their widths. Those of a password are reported as if all
+/// characters were the same.
 #[derive(Clone, Copy)]
 pub(crate) struct Metrics<'a> {
     positions: &'a [i32],
@@ -19,7 +19,7 @@ pub(crate) struct Metrics<'a> {
     are_alike: bool,
 }
 
-/// The number with this index, and 0 past the end.
+/// The number at this index, or 0 past the end.
 fn number_at(numbers: &[i32], index: usize) -> i128
     ensures exact { result ≡ number_at numbers.now index }
     ensures narrow { FitsSigned w32 result }
@@ -30,7 +30,7 @@ fn number_at(numbers: &[i32], index: usize) -> i128
     }
 }
 
-/// So many steps.
+/// The length of this many steps.
 fn times(count: usize, step: i128) -> i128
     requires { IsMetricStep step }
     ensures exact { result ≡ pos count *ℤ step }
@@ -39,14 +39,14 @@ fn times(count: usize, step: i128) -> i128
     count as i128 * step
 }
 
-/// Whether the number is in a span, whose end isn't.
+/// Whether the number lies in a span, from its start to before its end.
 pub(crate) fn is_between(low: i128, high: i128, number: i128) -> bool
     ensures { result ≡ is_between low high number }
 {
     low <= number && number < high
 }
 
-/// Where the run's characters stand, where both lists were sent.
+/// The metrics of the run's characters, if both lists were sent.
 pub(crate) fn metrics_of<'a>(run: Run<'a>) -> Option<Metrics<'a>>
     ensures { option_map measures result ≡ (shown_in run.entry).metrics }
 {
@@ -60,7 +60,7 @@ pub(crate) fn metrics_of<'a>(run: Run<'a>) -> Option<Metrics<'a>>
 }
 
 impl Metrics<'_> {
-    /// How wide the character with this index is.
+    /// The width of the character with this index.
     fn width(self, index: usize) -> i128
         ensures exact { result ≡ width (measures self.entry) index }
         ensures narrow { FitsSigned w32 result }
@@ -71,7 +71,7 @@ impl Metrics<'_> {
         number_at(self.widths, index)
     }
 
-    /// From one of several alike characters to the next.
+    /// The distance from one character of a password to the next.
     fn step(self) -> i128
         ensures exact { result ≡ step (measures self.entry) }
         ensures near { IsMetricStep result }
@@ -82,7 +82,7 @@ impl Metrics<'_> {
         number_at(self.widths, 0)
     }
 
-    /// Where the character with this index begins.
+    /// The distance at which the character with this index begins.
     pub(crate) fn place(self, index: usize) -> i128
         ensures exact { result ≡ place (measures self.entry) index }
         ensures along { IsAlong 1 result }
@@ -93,7 +93,7 @@ impl Metrics<'_> {
         number_at(self.positions, 0) + times(index, self.step())
     }
 
-    /// Where the character with this index ends.
+    /// The distance at which the character with this index ends.
     pub(crate) fn end(self, index: usize) -> i128
         ensures exact { let m = measures self.entry in result ≡ place m index +ℤ width m index }
         ensures along { IsAlong 2 result }
@@ -101,7 +101,7 @@ impl Metrics<'_> {
         self.place(index) + self.width(index)
     }
 
-    /// How far into its run of so many characters a piece from this index on begins.
+    /// The distance into a run with this many characters at which a piece from this index on begins.
     pub(crate) fn reach_from(self, count: usize, index: usize) -> i128
         ensures exact { result ≡ reach_from (measures self.entry) count index }
         ensures along { IsAlong 2 result }
@@ -112,7 +112,7 @@ impl Metrics<'_> {
         self.end(index.saturating_sub(1))
     }
 
-    /// How far into its run of so many characters a piece ends.
+    /// The distance into a run with this many characters at which a piece ends.
     pub(crate) fn reach_to(self, count: usize, piece: Piece<'_>) -> i128
         ensures exact { result ≡ reach_to (measures self.entry) count (piece_data piece.entry) }
         ensures along { IsAlong 2 result }
@@ -123,7 +123,7 @@ impl Metrics<'_> {
         self.end(piece.to.saturating_sub(1))
     }
 
-    /// Whether the character with this index lies so far along the run.
+    /// Whether the character with this index covers this distance along the run.
     fn lies_at(self, index: usize, distance: i128) -> bool
         ensures { let m = measures self.entry in
             result ≡ is_between (place m index) (place m index +ℤ width m index) distance }
@@ -131,7 +131,7 @@ impl Metrics<'_> {
         is_between(self.place(index), self.end(index), distance)
     }
 
-    /// The last of the characters that lies so far along the run, of those whose place and width were told.
+    /// The last character that covers this distance along the run, of those whose position and width are known.
     pub(crate) fn character_at(self, distance: i128) -> Option<usize>
         ensures exact { result ≡ character_at (measures self.entry) distance }
         ensures within { IfSome result (λ index. index < length (measures self.entry).positions) }

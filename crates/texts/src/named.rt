@@ -1,4 +1,4 @@
-//! Runs and positions by the names that applications give them.
+//! Runs and positions by the ids that applications use.
 ghost use Rattle.std.specs.Prelude.{◌≡◌, ◌==◌, true, IfSome, option_map};
 ghost use Rattle.model.specs.TextRuns.{supports_text_ranges};
 ghost use Rattle.model.specs.Ranges.{run_named, position_named, nearest_named};
@@ -19,7 +19,7 @@ fn is_named(run: Run<'_>, raw: schema::TextPosition) -> bool
     run.id().node.0 == raw.node.0
 }
 
-/// The first of the node's runs that has this id in its tree, where there is one.
+/// The first of the node's runs that has this id in its tree, if there is one.
 pub(crate) fn run_named<'a>(root: NodeRef<'a>, raw: schema::TextPosition) -> Option<Run<'a>>
     ensures same { IfSome result (λ r. text_root_of r ≡ root.entry) }
     ensures named { option_map number_in result ≡ run_named (node_text root.entry) raw }
@@ -39,7 +39,8 @@ pub(crate) fn run_named<'a>(root: NodeRef<'a>, raw: schema::TextPosition) -> Opt
     }
 }
 
-/// The position of the node's text, which has text ranges, that is named: none past the end of its run.
+/// The position of the node's text that is named; `None` past the end of its run. Requires that the node supports text
+/// ranges.
 pub(crate) fn position_named<'a>(
     root: NodeRef<'a>,
     raw: schema::TextPosition,
@@ -59,7 +60,7 @@ pub(crate) fn position_named<'a>(
     })
 }
 
-/// The same, but past the end of its run that end.
+/// The same, but past the end of its run it is that end.
 pub(crate) fn nearest_named<'a>(
     root: NodeRef<'a>,
     raw: schema::TextPosition,

@@ -1,4 +1,4 @@
-//! The text of a node: what is asked of it without any condition.
+//! The text of a node, with calls that have no precondition.
 ghost use Rattle.std.specs.Prelude.{◌≡◌, true, Some, None, IfSome, option_map, if◌then◌else◌};
 ghost use Rattle.model.specs.TextRuns.{supports_text_ranges};
 ghost use Rattle.views.specs.Nodes.{world_at, id_at};
@@ -15,16 +15,17 @@ use crate::text_lines::TextLines;
 use schema::Point;
 use views::NodeRef;
 
-/// The text that the runs of a node make. Whether they make one was asked when it was given, so its calls ask for nothing.
+/// The text of a node's runs. That the runs make a text was checked when this value was made, so its calls have no
+/// preconditions.
 #[derive(Clone, Copy)]
 pub struct Text<'a> {
     root: NodeRef<'a>,
     ghost text: { HasText root } by { HasText-prop root },
 }
 
-/// A node that may have a text. `NodeRef` is the one that is.
+/// A node that may have a text. Implemented by `NodeRef` alone.
 pub trait NodeText<'a> {
-    /// The node's text: none where `supports_text_ranges` is `false`. This asks it once.
+    /// The node's text, or `None` if `supports_text_ranges` is `false`. That is checked once, here.
     fn text(&self) -> Option<Text<'a>>;
 }
 
@@ -55,7 +56,7 @@ impl<'a> Text<'a> {
     ghost use Rattle.texts.specs.FoundRanges.{IsAtFound, IsRangeFound, range_of_line};
     ghost use Rattle.texts.specs.Secrets.{InEachText};
 
-    /// The node whose text it is.
+    /// The node that has this text.
     pub fn node(&self) -> NodeRef<'a>
         ensures { result ≡ root_of self.now }
     {
@@ -91,7 +92,7 @@ impl<'a> Text<'a> {
         TextRange::over(document_start(text.root), document_end(text.root))
     }
 
-    /// The lines of the text by their numbers from 0, of which the first search begins at the first line.
+    /// The lines of the text by their numbers from 0. The first search starts at the first line.
     pub fn lines(&self) -> TextLines<'a>
         ensures { lines_root result ≡ root_of self.now }
     {
@@ -101,8 +102,8 @@ impl<'a> Text<'a> {
 
     /// The range of a line by its number from 0.
     ///
-    /// Past the last of several lines there is one more, where a caret can be, if that last line isn't empty. For lines
-    /// one after another [`Text::lines`] is faster.
+    /// If there are several lines and the last one isn't empty, there is one more line after it, for the caret at the
+    /// end. To read lines one after another, [`Text::lines`] is faster.
     #[tactic(auto, using(model::proofs::Text::Secrets::one_text))]
     pub fn line(&self, index: usize) -> Option<TextRange<'a>>
         ensures found { let root = root_of self.now in let range = range_of_line (node_text root) index in
@@ -113,8 +114,8 @@ impl<'a> Text<'a> {
         line_range_of(text.root, index)
     }
 
-    /// The position of an index that counts the scalars of the text: before the character in which it lies, at the start
-    /// of a run where two runs meet. At the length of the text it is its end, and past that there is none.
+    /// The position at an index that counts the scalars of the text: before the character that contains it, on the
+    /// start side where two runs meet. At the length of the text it is the end of the text; past that it is `None`.
     #[tactic(auto, using(model::proofs::Text::Secrets::one_text))]
     pub fn position_from_usv_index(&self, index: usize) -> Option<TextPosition<'a>>
         ensures at { option_map flat_position result ≡ position_from_usv (node_text (root_of self.now)) index }
@@ -125,8 +126,9 @@ impl<'a> Text<'a> {
         position_from(text.root, Units::Scalars, index)
     }
 
-    /// The position of an index that counts the units of UTF-16 of the text: before the character in which it lies, at
-    /// the start of a run where two runs meet. At the length of the text it is its end, and past that there is none.
+    /// The position at an index that counts the UTF-16 code units of the text: before the character that contains it,
+    /// on the start side where two runs meet. At the length of the text it is the end of the text; past that it is
+    /// `None`.
     #[tactic(auto, using(model::proofs::Text::Secrets::one_text))]
     pub fn position_from_utf16_index(&self, index: usize) -> Option<TextPosition<'a>>
         ensures at { option_map flat_position result ≡ position_from_utf16 (node_text (root_of self.now)) index }
@@ -137,11 +139,11 @@ impl<'a> Text<'a> {
         position_from(text.root, Units::Utf16, index)
     }
 
-    /// The position at a point, which is given as the node sees it.
+    /// The position at a point, given in the node's coordinates and in units of 1/64 pixel.
     ///
-    /// It is in the last run whose own rectangle has the point: before the last character that lies there, or at the
-    /// run's end. Else it is the start of the text if the point is left of the first run or above it, else the end of
-    /// the last run that the point is past along its line, and else the end of the text.
+    /// It is in the last run whose own rectangle contains the point: before the last character that lies there, or at
+    /// the run's end. If there is no such run, it is the start of the text if the point is left of or above the first
+    /// run; otherwise the end of the last run whose line the point is past; otherwise the end of the text.
     #[tactic(auto, using(model::proofs::Text::Secrets::one_text))]
     pub fn position_at_point(&self, point: Point) -> TextPosition<'a>
         ensures at { let root = root_of self.now in
@@ -152,7 +154,7 @@ impl<'a> Text<'a> {
         position_at(text.root, point)
     }
 
-    /// What was sent as selected.
+    /// The selection as sent in the update.
     fn selection_sent(self) -> Option<schema::TextSelection>
         ensures { let root = root_of self.entry in
             result ≡ selection_of (world_at root) (id_at root) }
@@ -160,8 +162,8 @@ impl<'a> Text<'a> {
         self.root.raw_text_selection()
     }
 
-    /// The range that is selected: none without a selection, or where an end names none of the node's own runs. An index
-    /// past the end of its run is cut to it.
+    /// The selected range; `None` without a selection or if an end isn't in one of the node's own runs. An index past
+    /// the end of its run is clamped to it.
     pub fn selection(&self) -> Option<TextRange<'a>>
         ensures { let w = world_at (root_of self.now) in let id = id_at (root_of self.now) in
             IsRangeFound w id (selection w id) result }
@@ -179,8 +181,8 @@ impl<'a> Text<'a> {
         Some(TextRange::in_order(anchor, focus))
     }
 
-    /// Where the selection was begun: none without a selection, or where it names none of the node's own runs. An index
-    /// past the end of its run is cut to it.
+    /// The fixed end of the selection; `None` without a selection or if the end isn't in one of the node's own runs. An
+    /// index past the end of its run is clamped to it.
     pub fn selection_anchor(&self) -> Option<TextPosition<'a>>
         ensures { let root = root_of self.now in
             IsAtFound root (selection_anchor (world_at root) (id_at root)) result }
@@ -192,8 +194,8 @@ impl<'a> Text<'a> {
         nearest_named(text.root, selection.anchor)
     }
 
-    /// The end of the selection that moves: none without a selection, or where it names none of the node's own runs. An
-    /// index past the end of its run is cut to it.
+    /// The moving end of the selection; `None` without a selection or if the end isn't in one of the node's own runs.
+    /// An index past the end of its run is clamped to it.
     pub fn selection_focus(&self) -> Option<TextPosition<'a>>
         ensures { let root = root_of self.now in
             IsAtFound root (selection_focus (world_at root) (id_at root)) result }

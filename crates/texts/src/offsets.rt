@@ -12,9 +12,9 @@ use std::cmp::Ordering;
 use views::node::same::is_same;
 use views::runs::Run;
 
-/// Whether a run stands before another one of its root, in the same state.
+/// Whether a run comes before another one of its root, in the same state.
 ///
-/// It looks from the run to both sides in turn, so that its cost goes with how far apart they are.
+/// It searches from the run to both sides in turn, so its cost depends on how far apart the runs are.
 fn is_before(run: Run<'_>, other: Run<'_>) -> bool
     requires world { run_world other ≡ run_world run }
     requires root { root_id other ≡ root_id run }
@@ -42,7 +42,7 @@ fn is_before(run: Run<'_>, other: Run<'_>) -> bool
 }
 
 impl TextPosition<'_> {
-    /// How many characters of the text are before the position.
+    /// The number of characters of the text before the position.
     pub(crate) fn offset(self) -> usize
         ensures { result ≡ offset (position_text self.entry) (flat_position self.entry) }
     {
@@ -55,9 +55,9 @@ impl TextPosition<'_> {
         before
     }
 
-    /// The order of two positions of one root in one state, by how many characters are before each.
+    /// The order of two positions of one root in one state, by the number of characters before each.
     ///
-    /// It looks only at what is between them, and as far to the other side.
+    /// It only looks at what is between them, and as far to the other side.
     pub(crate) fn order(self, other: TextPosition<'_>) -> Ordering
         requires world { world_at (root_at other) ≡ world_at (root_at self) }
         requires root { id_at (root_at other) ≡ id_at (root_at self) }
@@ -76,9 +76,9 @@ impl TextPosition<'_> {
         Ordering::Greater
     }
 
-    /// The order of two positions of one root, by how many characters are before each. There is none of two roots.
+    /// The order of two positions, by the number of characters before each; `None` if their roots differ.
     ///
-    /// The positions may be of two states, so it counts all characters before each.
+    /// The positions may be of different states, so it counts all characters before each.
     pub fn compare(&self, other: &TextPosition<'_>) -> Option<Ordering>
         ensures { let p = self.now in
             let q = other.now in

@@ -10,7 +10,7 @@ use crate::range::TextRange;
 use views::node::same::is_same;
 use views::runs::Run;
 
-/// A part of one run: its characters from one index up to another.
+/// A part of a run: its characters from one index to before another.
 #[derive(Clone, Copy)]
 pub(crate) struct Piece<'a> {
     pub(crate) run: Run<'a>,
@@ -38,10 +38,10 @@ impl<'a> TextRange<'a> {
         Piece { run, from, to }
     }
 
-    /// The first piece, and the run of the last one. Of a range with nothing in it there is one, with nothing in it.
+    /// The first piece, and the run of the last one. An empty range has one empty piece.
     ///
-    /// Whether there is something in the range, and on which side of its run its end is, may take a look at all that
-    /// follows the range: so it is asked once, and not for each piece.
+    /// To find whether the range is empty, and on which side of a run its end is, all that follows the range may have
+    /// to be searched. So this is done once and not for each piece.
     pub(crate) fn first_and_last(self) -> (Piece<'a>, Run<'a>)
         ensures first { let all = pieces (text_in self.entry) (range_at self.entry) in
             IsNextPiece self.entry all result.0 }
@@ -60,7 +60,7 @@ impl<'a> TextRange<'a> {
         (first, self.end().biased_to_end().run)
     }
 
-    /// The piece after the one in this run, where there is one.
+    /// The next piece after the one in this run, if there is one.
     #[inline(always)]
     pub(crate) fn next_piece(self, run: Run<'a>, last: Run<'a>) -> Option<Piece<'a>>
         requires same { text_root_of run ≡ self.root }

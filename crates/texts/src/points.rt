@@ -23,14 +23,14 @@ use views::node::geometry::{moved_rect, ordered};
 use views::runs::Run;
 use views::walks::hits::{SeenPoint, contains};
 
-/// What a point is to a run: in its own rectangle, or beside its box, on the side where its text ends.
+/// The relation of a point to a run: in the run's own rectangle, or beside its box, on the side where its text ends.
 #[derive(Clone, Copy)]
 enum PointTest {
     Inside,
     Past,
 }
 
-/// A point's number, less a move.
+/// A coordinate minus a translation.
 fn less(number: i64, by: i128) -> i128
     requires { IsInReach by }
     ensures exact { result ≡ number -ℤ by }
@@ -39,7 +39,7 @@ fn less(number: i64, by: i128) -> i128
     i128::from(number) - by
 }
 
-/// The point, as seen from what was moved.
+/// The point in the coordinates of something that was translated.
 fn seen_from(by: WideTranslation, point: Point) -> SeenPoint
     requires across { IsInReach by.x }
     requires along { IsInReach by.y }
@@ -53,7 +53,7 @@ fn seen_from(by: WideTranslation, point: Point) -> SeenPoint
     }
 }
 
-/// From the lesser of two numbers to the greater: from the edge to what is seen.
+/// The distance from the edge up to the coordinate.
 fn from_edge(edge: i32, seen: i128) -> i128
     requires { IsSeen seen }
     ensures { result ≡ seen -ℤ edge }
@@ -61,7 +61,7 @@ fn from_edge(edge: i32, seen: i128) -> i128
     seen - i128::from(edge)
 }
 
-/// And from what is seen to the edge.
+/// The distance from the coordinate up to the edge.
 fn to_edge(edge: i32, seen: i128) -> i128
     requires { IsSeen seen }
     ensures { result ≡ edge -ℤ seen }
@@ -69,7 +69,7 @@ fn to_edge(edge: i32, seen: i128) -> i128
     i128::from(edge) - seen
 }
 
-/// How far along the rectangle the point is.
+/// The distance of the point along the rectangle.
 fn distance(direction: TextDirection, rect: Rect, seen: SeenPoint) -> i128
     requires across { IsSeen seen.x }
     requires along { IsSeen seen.y }
@@ -83,7 +83,7 @@ fn distance(direction: TextDirection, rect: Rect, seen: SeenPoint) -> i128
     }
 }
 
-/// Whether the point is left of the box or above it.
+/// Whether the point is left of or above the box.
 fn is_ahead_of_box(point: Point, around: WideRect) -> bool
     ensures { result ≡ (int_lt point.x around.x0 || int_lt point.y around.y0) }
 {
@@ -111,7 +111,7 @@ pub(crate) fn direction_of(run: Run<'_>) -> Option<TextDirection>
     run.view().text_direction()
 }
 
-/// How many characters the run shows.
+/// The number of characters that the run shows.
 fn shown_count(run: Run<'_>) -> usize
     ensures exact { result ≡ count (shown_in run.entry) }
     ensures said { result ≡ said_count (sent_of run.entry) }
@@ -119,7 +119,7 @@ fn shown_count(run: Run<'_>) -> usize
     run.character_count()
 }
 
-/// The run's rectangle in the root.
+/// The run's rectangle in the root's coordinates.
 fn box_in_root(run: Run<'_>) -> Option<WideRect>
     ensures { result ≡ box_in_root (shown_in run.entry) }
 {
@@ -127,7 +127,7 @@ fn box_in_root(run: Run<'_>) -> Option<WideRect>
     Some(ordered(moved_rect(rect, run.move_in_root())))
 }
 
-/// Whether the point is in the run's own rectangle, which is moved along with the run.
+/// Whether the point is in the run's own rectangle, translated as the run is.
 fn is_around(run: Run<'_>, point: Point) -> bool
     ensures { result ≡ is_in_run point (shown_in run.entry) }
 {
@@ -137,7 +137,7 @@ fn is_around(run: Run<'_>, point: Point) -> bool
     }
 }
 
-/// Whether the point is left of the run's box or above it.
+/// Whether the point is left of or above the run's box.
 fn is_after(run: Run<'_>, point: Point) -> bool
     ensures { result ≡ is_ahead_of point (shown_in run.entry) }
 {
@@ -160,7 +160,7 @@ fn ends_before(run: Run<'_>, point: Point) -> bool
     is_past_box(point, direction, around)
 }
 
-/// Whether the point is there.
+/// Whether the point has this relation to the run.
 fn passes(run: Run<'_>, test: PointTest, point: Point) -> bool
     ensures { result ≡ passes test point (shown_in run.entry) }
 {
@@ -170,7 +170,7 @@ fn passes(run: Run<'_>, test: PointTest, point: Point) -> bool
     }
 }
 
-/// The last run of a root where the point is there.
+/// The last run of a root to which the point has this relation.
 fn last_at<'a>(root: NodeRef<'a>, test: PointTest, point: Point) -> Option<Run<'a>>
     ensures same { IfSome result (λ r. text_root_of r ≡ root.entry) }
     ensures found { option_map number_in result ≡ last_passing root.entry test point }
@@ -187,8 +187,7 @@ fn last_at<'a>(root: NodeRef<'a>, test: PointTest, point: Point) -> Option<Run<'
     }
 }
 
-/// The index at a point in a run of a text: 0 where nothing is told of its characters, and the end where none of
-/// them lies there.
+/// The index at a point in a run: 0 if the run has no metrics, and the run's end if no character covers the point.
 fn index_at(run: Run<'_>, point: Point) -> usize
     requires { supports_text_ranges (run_world run) (root_id run) ≡ true }
     ensures exact { result ≡ index_at point (shown_in run.entry) }
@@ -210,7 +209,7 @@ fn index_at(run: Run<'_>, point: Point) -> usize
     }
 }
 
-/// The position at a point that is in no run, and not ahead of the first one.
+/// The position at a point that is in no run and not left of or above the first one.
 fn position_past<'a>(root: NodeRef<'a>, point: Point) -> TextPosition<'a>
     requires text { supports_text_ranges (world_at root) (id_at root) ≡ true }
     requires outside { last_passing root Inside point ≡ None }
@@ -242,7 +241,7 @@ fn position_beside<'a>(root: NodeRef<'a>, point: Point) -> TextPosition<'a>
     position_past(root, point)
 }
 
-/// The position at a point of the text of a node, which has text ranges.
+/// The position at a point of a node's text. Requires that the node supports text ranges.
 pub(crate) fn position_at<'a>(root: NodeRef<'a>, point: Point) -> TextPosition<'a>
     requires { supports_text_ranges (world_at root) (id_at root) ≡ true }
     ensures { IsPositionAt root.entry (position_at_point (node_text root.entry) point) result }

@@ -1,4 +1,4 @@
-//! A place between characters of a text.
+//! Positions in a text.
 ghost use Rattle.std.specs.Prelude.{◌≤◌};
 ghost use Rattle.model.specs.TextRuns.{said_count};
 ghost use Rattle.views.specs.Runs.{text_root_of, sent_of};
@@ -6,9 +6,10 @@ ghost use Rattle.texts.specs.TextRoots.{HasText, HasText-prop};
 
 use views::runs::Run;
 
-/// A place between characters of a text: a run, and how many of its characters are before the place.
+/// A position in a text: a run, and the number of its characters before the position.
 ///
-/// Where two runs meet there are two positions at one place, the end of the first run and the start of the second.
+/// Where two runs meet there are two positions, the end of the first run (the end side) and the start of the second
+/// (the start side).
 #[derive(Clone, Copy)]
 pub struct TextPosition<'a> {
     pub(crate) run: Run<'a>,

@@ -1,4 +1,4 @@
-//! What a position is, and what it names.
+//! Tests of a position, and its parts.
 ghost use Rattle.std.specs.Prelude.{◌≡◌, Some, slice_get, option_map};
 ghost use Rattle.model.specs.FlatText.{is_line_start, is_line_end, is_document_start, is_document_end, is_page_start, is_paragraph_start, is_paragraph_end, is_paragraph_separator};
 ghost use Rattle.model.specs.Ranges.{IsRaw};
@@ -12,7 +12,7 @@ use crate::position::TextPosition;
 use views::NodeRef;
 
 impl<'a> TextPosition<'a> {
-    /// The run that the position names.
+    /// The run that the position is in.
     pub fn inner_node(&self) -> NodeRef<'a>
         ensures world { world_at result ≡ world_at (root_at self.now) }
         ensures run { let run = slice_get (position_text self.now) (flat_position self.now).run in
@@ -22,7 +22,7 @@ impl<'a> TextPosition<'a> {
         position.run.view()
     }
 
-    /// The position as an application names it: its run's id within the tree, and the index.
+    /// The position in the form of an update: its run's id within the tree, and the index.
     pub fn to_raw(self) -> schema::TextPosition
         ensures { IsRaw (position_text self.entry) (flat_position self.entry) result }
     {
@@ -64,7 +64,7 @@ impl<'a> TextPosition<'a> {
         position.index == position.run.character_count() && is_last(position.run)
     }
 
-    /// Whether the text starts at the position: a text has one page.
+    /// Whether the text starts at the position, since a text has one page.
     pub fn is_page_start(&self) -> bool
         ensures { result ≡ is_page_start (position_text self.now) (flat_position self.now) }
     {

@@ -1,4 +1,4 @@
-//! What the run of a position says of its look: each is what the nearest node gives, from the run upwards.
+//! The style of a position's run: each property is that of the nearest node, from the run upwards, that has it.
 ghost use Rattle.std.specs.Prelude.{◌≡◌, option_copied};
 ghost use Rattle.model.specs.Views.{is_italic};
 ghost use Rattle.views.specs.Runs.{run_world, run_id};
@@ -96,7 +96,7 @@ impl<'a> TextPosition<'a> {
         position.run.view().text_align()
     }
 
-    /// How the text is set against its line.
+    /// Whether the text is superscript or subscript.
     pub fn vertical_offset(&self) -> Option<VerticalOffset>
         ensures { result ≡ run_inherits (λ d. d.vertical_offset) self.now }
     {
@@ -104,7 +104,7 @@ impl<'a> TextPosition<'a> {
         position.run.view().vertical_offset()
     }
 
-    /// Whether the run or a node above it is italic.
+    /// Whether the run or an ancestor is italic.
     pub fn is_italic(&self) -> bool
         ensures { result ≡ is_italic (run_world self.now.run) (run_id self.now.run) }
     {

@@ -9,7 +9,7 @@ ghost use Rattle.texts.specs.Edges.{edge_run, edge_offset};
 use crate::edges::Edge;
 use views::NodeRef;
 
-/// A range of a text: from one position up to another.
+/// A range of a text, from one position to another.
 #[derive(Clone, Copy)]
 pub struct TextRange<'a> {
     pub(crate) root: NodeRef<'a>,

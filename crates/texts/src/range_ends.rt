@@ -1,4 +1,4 @@
-//! The ends of ranges, and ranges made of positions.
+//! The ends of ranges, and ranges between positions.
 ghost use Rattle.std.specs.Prelude.{◌≡◌, ◌≤◌};
 ghost use Rattle.model.specs.FlatText.{offset};
 ghost use Rattle.model.specs.Ranges.{range_between, is_degenerate, with_start, with_end, IsRaw};
@@ -13,7 +13,7 @@ use views::node::same::is_same;
 use views::runs::Run;
 
 impl<'a> TextRange<'a> {
-    /// The range from one position up to another of the same root.
+    /// The range from one position to a later one of the same root.
     pub(crate) fn over(start: TextPosition<'a>, end: TextPosition<'a>) -> TextRange<'a>
         requires world { world_at (root_at end) ≡ world_at (root_at start) }
         requires root { id_at (root_at end) ≡ id_at (root_at start) }
@@ -30,7 +30,7 @@ impl<'a> TextRange<'a> {
         }
     }
 
-    /// The range of two positions of one root, in one state: it begins with the one of lesser offset.
+    /// The range between two positions of one root in one state. It starts at the one with the lower offset.
     pub(crate) fn in_order(first: TextPosition<'a>, second: TextPosition<'a>) -> TextRange<'a>
         requires world { world_at (root_at second) ≡ world_at (root_at first) }
         requires root { id_at (root_at second) ≡ id_at (root_at first) }
@@ -45,7 +45,7 @@ impl<'a> TextRange<'a> {
         TextRange::over(first, second)
     }
 
-    /// The node whose text it is a range of.
+    /// The node that has the range's text.
     pub fn node(&self) -> NodeRef<'a>
         ensures world { world_at result ≡ world_in self.now }
         ensures root { id_at result ≡ root_in self.now }
@@ -54,7 +54,7 @@ impl<'a> TextRange<'a> {
         range.root
     }
 
-    /// Where the range begins.
+    /// The start of the range.
     pub fn start(&self) -> TextPosition<'a>
         ensures { IsPositionAt self.now.root (range_at self.now).start result }
     {
@@ -68,7 +68,7 @@ impl<'a> TextRange<'a> {
         }
     }
 
-    /// Where the range ends.
+    /// The end of the range.
     pub fn end(&self) -> TextPosition<'a>
         ensures { IsPositionAt self.now.root (range_at self.now).end result }
     {
@@ -82,7 +82,7 @@ impl<'a> TextRange<'a> {
         }
     }
 
-    /// Whether there is no character between the ends. It is seen without a count of what is before the range.
+    /// Whether there is no character between the ends. The cost doesn't depend on what is before the range.
     pub fn is_degenerate(&self) -> bool
         ensures { result ≡ is_degenerate (text_in self.now) (range_at self.now) }
     {
@@ -91,9 +91,10 @@ impl<'a> TextRange<'a> {
         is_same(start.run.id(), end.run.id()) && start.index == end.index
     }
 
-    /// Makes the range begin at a position of the same root, in the same state.
+    /// Sets the start of the range. Requires a position with the same root in the same state.
     ///
-    /// An end that isn't past the position goes along. Then a range that isn't degenerate begins on the start side.
+    /// If the end isn't past the position, it moves there too. A range that isn't degenerate then starts on the start
+    /// side.
     pub fn set_start(&mut self, position: TextPosition<'a>)
         requires world { world_at (root_at position) ≡ world_in self.old }
         requires root { id_at (root_at position) ≡ root_in self.old }
@@ -109,9 +110,10 @@ impl<'a> TextRange<'a> {
         *self = TextRange::over(position, position);
     }
 
-    /// Makes the range end at a position of the same root, in the same state.
+    /// Sets the end of the range. Requires a position with the same root in the same state.
     ///
-    /// A start that isn't before the position goes along. Then a range that isn't degenerate begins on the start side.
+    /// If the start isn't before the position, it moves there too. A range that isn't degenerate then starts on the
+    /// start side.
     pub fn set_end(&mut self, position: TextPosition<'a>)
         requires world { world_at (root_at position) ≡ world_in self.old }
         requires root { id_at (root_at position) ≡ root_in self.old }
@@ -127,7 +129,7 @@ impl<'a> TextRange<'a> {
         *self = TextRange::over(position, position);
     }
 
-    /// The range as an application names it: from its start to its end.
+    /// The range in the form of an update: a selection from its start to its end.
     pub fn to_text_selection(&self) -> schema::TextSelection
         ensures anchor { IsRaw (text_in self.now) (range_at self.now).start result.anchor }
         ensures focus { IsRaw (text_in self.now) (range_at self.now).end result.focus }

@@ -1,4 +1,4 @@
-//! What the runs of a range have in common.
+//! The style that the runs of a range have in common.
 ghost use Rattle.std.specs.Prelude.{MatchOption, option_copied};
 ghost use Rattle.texts.specs.RangeProperties.{SomeDiffer, IsSample, IsInherited, IsItalic, TakesValue, MapsValue};
 
@@ -7,7 +7,7 @@ use crate::range::TextRange;
 use schema::{Color, TextAlign, TextDecoration, TextDirection, VerticalOffset};
 use views::NodeRef;
 
-/// What a range says of its runs: one value that all of them have, or that they have several.
+/// A property of a range: the value that all of its runs have, or `Mixed` if they differ.
 #[derive(PartialEq, Drop)]
 pub enum TextRangePropertyValue<T> {
     Single(T),
@@ -15,7 +15,7 @@ pub enum TextRangePropertyValue<T> {
 }
 
 impl<T> TextRangePropertyValue<Option<T>> {
-    /// What the function makes of the value, where there is one that all runs have.
+    /// Applies the function to the value that all runs have, if there is one.
     pub fn map<U, F: FnOnce(T) -> U>(self, f: F) -> TextRangePropertyValue<Option<U>>
         requires { TakesValue (F.pre f) self }
         ensures { MapsValue (F.post f) self result }
@@ -28,7 +28,7 @@ impl<T> TextRangePropertyValue<Option<T>> {
 }
 
 impl<'a> TextRange<'a> {
-    /// A node that has of it what all runs have, where they have the same.
+    /// A node with the same value of the property as all runs, if they agree.
     fn sample(self, what: Look) -> Option<NodeRef<'a>>
         ensures { MatchOption result (SomeDiffer what self.entry) (IsSample what self.entry) }
     {
@@ -155,7 +155,7 @@ impl<'a> TextRange<'a> {
         }
     }
 
-    /// How the text is set against its line.
+    /// Whether the text is superscript or subscript.
     pub fn vertical_offset(&self) -> TextRangePropertyValue<Option<VerticalOffset>>
         ensures { IsInherited (λ d. d.vertical_offset) (λ v. v) self.now result }
     {

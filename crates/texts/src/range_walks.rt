@@ -1,4 +1,4 @@
-//! Walks over the parts of a range: its characters, its words and its lines. They take no memory.
+//! Walks over the parts of a range: its characters, its words and its lines. They do not allocate.
 ghost use Rattle.std.specs.Prelude.{◌≡◌, ◌<◌, nat_lt, if◌then◌else◌};
 ghost use Rattle.std.specs.Iterator.{YieldsFirstBy, item_count};
 ghost use Rattle.model.specs.FlatText.{offset, biased_to_start};
@@ -15,7 +15,7 @@ use views::node::same::is_same;
 impl<'a> TextRange<'a> {
     /// Whether a position past the start of the range, on its start side, is before the end.
     ///
-    /// It looks only at the runs from the start up to the position.
+    /// It only looks at the runs from the start to the position.
     fn has_before_end(self, position: TextPosition<'a>) -> bool
         requires root { root_at position ≡ self.root }
         requires side { biased_to_start (text_in self) (flat_position position) ≡ flat_position position }
@@ -41,7 +41,8 @@ impl<'a> TextRange<'a> {
         true
     }
 
-    /// Takes what is before a position off the front of the range: all of it where the position isn't before its end.
+    /// Cuts the part before a position off the front of the range; all of the range if the position isn't before its
+    /// end.
     fn take_to(&mut self, position: TextPosition<'a>) -> TextRange<'a>
         requires root { root_at position ≡ self.old.root }
         requires side { biased_to_start (text_in self.old) (flat_position position) ≡ flat_position position }
@@ -68,23 +69,23 @@ impl<'a> TextRange<'a> {
         all
     }
 
-    /// The characters of the range, as a range each.
+    /// A walk over the characters of the range, each as a range.
     pub fn characters(&self) -> RangeCharacters<'a>
         ensures { characters_left result ≡ parts_of character_ranges self.now }
     {
         RangeCharacters { left: *self }
     }
 
-    /// The words of the range: it is cut at each place within it where a word or a paragraph starts. What is between two
-    /// words belongs to the first one, and what is before the first word is a part of its own.
+    /// A walk over the words of the range, each as a range: the range is cut wherever a word or a paragraph starts.
+    /// Text between two words belongs to the first one; text before the first word is a part of its own.
     pub fn words(&self) -> RangeWords<'a>
         ensures { words_left result ≡ parts_of word_ranges self.now }
     {
         RangeWords { left: *self }
     }
 
-    /// The lines of the range: it is cut at each place within it where a line starts. A last line with nothing in it is
-    /// none of them.
+    /// A walk over the lines of the range, each as a range: the range is cut wherever a line starts. An empty last line
+    /// is left out.
     pub fn lines(&self) -> RangeLines<'a>
         ensures { lines_left result ≡ parts_of line_ranges self.now }
     {
@@ -92,7 +93,7 @@ impl<'a> TextRange<'a> {
     }
 }
 
-/// The characters of a range.
+/// A walk over the characters of a range.
 #[derive(Drop)]
 pub struct RangeCharacters<'a> {
     left: TextRange<'a>,
@@ -116,7 +117,7 @@ impl<'a> Iterator for RangeCharacters<'a> {
 
 impl FusedIterator for RangeCharacters<'_> {}
 
-/// The words of a range.
+/// A walk over the words of a range.
 #[derive(Drop)]
 pub struct RangeWords<'a> {
     left: TextRange<'a>,
@@ -140,7 +141,7 @@ impl<'a> Iterator for RangeWords<'a> {
 
 impl FusedIterator for RangeWords<'_> {}
 
-/// The lines of a range.
+/// A walk over the lines of a range.
 #[derive(Drop)]
 pub struct RangeLines<'a> {
     left: TextRange<'a>,

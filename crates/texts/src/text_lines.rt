@@ -1,4 +1,4 @@
-//! The lines of a text by their numbers, where each search goes on from the line that was found last.
+//! The lines of a text by their numbers, with each search continuing from the last line found.
 ghost use Rattle.std.specs.Prelude.{◌≡◌, ◌+◌, ◌<◌, true, option_map};
 ghost use Rattle.model.specs.TextRuns.{supports_text_ranges};
 ghost use Rattle.views.specs.Nodes.{world_at, id_at};
@@ -21,8 +21,8 @@ use views::walks::spot::Spot;
 
 /// The lines of a node's text, by their numbers from 0.
 ///
-/// A search for a line goes on from the one that was found last, if it isn't before that one. So the ranges of lines that
-/// are asked for one after another take as much time as a walk through the text does.
+/// A search for a line continues from the line found last, unless the line comes before that one. So reading the ranges
+/// of lines in order takes as long as one walk through the text.
 #[derive(Clone, Copy)]
 pub struct TextLines<'a> {
     root: NodeRef<'a>,
@@ -39,7 +39,8 @@ pub struct TextLines<'a> {
 impl<'a> TextLines<'a> {
     ghost use Rattle.texts.specs.LineWalks.{lines_root, IsAtLastLine, IsNearest};
 
-    /// The lines of the text of a node, which has text ranges. The first search begins at the first line.
+    /// The lines of a node's text. The first search starts at the first line. Requires that the node supports text
+    /// ranges.
     pub fn new(root: NodeRef<'a>) -> TextLines<'a>
         requires { supports_text_ranges (world_at root) (id_at root) ≡ true }
         ensures { lines_root result ≡ root.entry }
@@ -47,7 +48,7 @@ impl<'a> TextLines<'a> {
         TextLines::first_line(root)
     }
 
-    /// The node whose lines they are.
+    /// The node that has the text.
     pub fn node(&self) -> NodeRef<'a>
         ensures { result ≡ lines_root self.now }
     {
@@ -56,8 +57,8 @@ impl<'a> TextLines<'a> {
 
     /// The range of a line by its number.
     ///
-    /// Past the last of several lines there is one more, where a caret can be, if that last line isn't empty. It is what
-    /// [`crate::TextPlaces::line_range_from_index`] gives of the node.
+    /// If there are several lines and the last one isn't empty, there is one more line after it, for the caret at the
+    /// end. The result equals that of [`crate::TextPlaces::line_range_from_index`].
     #[tactic(auto, using(model::proofs::Text::Secrets::one_text))]
     pub fn line(&mut self, index: usize) -> Option<TextRange<'a>>
         ensures same { lines_root self.new ≡ lines_root self.old }
@@ -70,7 +71,7 @@ impl<'a> TextLines<'a> {
         found.range(index)
     }
 
-    /// The first line of the text of a node, which has text ranges.
+    /// The first line of a node's text. Requires that the node supports text ranges.
     fn first_line(root: NodeRef<'a>) -> TextLines<'a>
         requires { supports_text_ranges (world_at root) (id_at root) ≡ true }
         ensures root { lines_root result ≡ root.entry }
@@ -79,7 +80,7 @@ impl<'a> TextLines<'a> {
         TextLines::beginning(Run::first(root).unwrap(), 0)
     }
 
-    /// The line of the number that begins with the run.
+    /// The line with this number, which begins with this run.
     fn beginning(first: Run<'a>, line: usize) -> TextLines<'a>
         requires text { supports_text_ranges (run_world first) (root_id first) ≡ true }
         requires begins { BeginsLine (text_around first) line (number_in first) }
@@ -95,7 +96,7 @@ impl<'a> TextLines<'a> {
         }
     }
 
-    /// The first run of the line that was found.
+    /// The first run of the line found.
     fn first_run(self) -> Run<'a>
         ensures root { text_root_of result ≡ self.entry.root }
         ensures spot { result.spot ≡ self.entry.first }
@@ -106,7 +107,7 @@ impl<'a> TextLines<'a> {
         }
     }
 
-    /// The last run of the line that was found.
+    /// The last run of the line found.
     fn last_run(self) -> Run<'a>
         ensures root { text_root_of result ≡ self.entry.root }
         ensures spot { result.spot ≡ self.entry.last }
@@ -117,7 +118,7 @@ impl<'a> TextLines<'a> {
         }
     }
 
-    /// The line of the number, or the last one if there are fewer.
+    /// The line with this number, or the last one if there are fewer lines.
     fn nearest(self, index: usize) -> TextLines<'a>
         ensures same { lines_root result ≡ lines_root self.entry }
         ensures near { IsNearest index result }
@@ -136,7 +137,8 @@ impl<'a> TextLines<'a> {
         found
     }
 
-    /// The range of the line of the number, which is the one that was found, or past it and it the last one.
+    /// The range of the line with this number, which is the line found, or is past it and the line found is the last
+    /// one.
     fn range(self, index: usize) -> Option<TextRange<'a>>
         requires { IsNearest index self }
         ensures { let root = lines_root self.entry in let range = range_of_line (node_text root) index in

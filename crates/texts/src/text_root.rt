@@ -1,4 +1,4 @@
-//! What is asked of a node as the root of a text: positions in the text, and ranges of it.
+//! The calls on a node as the root of a text: positions and ranges.
 ghost use Rattle.std.specs.Prelude.{◌≡◌, true, IfSome, option_map};
 ghost use Rattle.model.specs.TextRuns.{supports_text_ranges};
 ghost use Rattle.model.specs.FlatText.{document_start, document_end};
@@ -22,7 +22,7 @@ use crate::range::TextRange;
 use schema::Point;
 use views::NodeRef;
 
-/// A node that may be the root of a text. `NodeRef` is the one that is.
+/// The ends of a node's text. Implemented by `NodeRef` alone.
 pub trait TextRoot<'a> {
     ghost may_ask: { Self → Type 0 };
 
@@ -34,59 +34,61 @@ pub trait TextRoot<'a> {
     fn document_end(&self) -> TextPosition<'a>
         requires { may_ask self.now };
 
-    /// The range of the node's whole text, which has text ranges.
+    /// The range of the node's whole text. Requires that the node supports text ranges.
     fn document_range(&self) -> TextRange<'a>
         requires { may_ask self.now };
 }
 
-/// A node that may be asked for positions by an index of its whole text.
+/// Positions in a node's text by global index. Implemented by `NodeRef` alone.
 pub trait TextIndexes<'a> {
     ghost may_ask: { Self → Type 0 };
 
-    /// The position of an index that counts the scalars of the whole text: before the character in which it lies, at
-    /// the start of a run where two runs meet. At the length of the text it is its end, and past that there is none. The
-    /// node has text ranges.
+    /// The position at an index that counts the scalars of the whole text: before the character that contains it, on
+    /// the start side where two runs meet. At the length of the text it is the end of the text; past that it is `None`.
+    /// Requires that the node supports text ranges.
     fn text_position_from_global_usv_index(&self, index: usize) -> Option<TextPosition<'a>>
         requires { may_ask self.now };
 
-    /// The position of an index that counts the units of UTF-16 of the whole text: before the character in which it
-    /// lies, at the start of a run where two runs meet. At the length of the text it is its end, and past that there is
-    /// none. The node has text ranges.
+    /// The position at an index that counts the UTF-16 code units of the whole text: before the character that contains
+    /// it, on the start side where two runs meet. At the length of the text it is the end of the text; past that it is
+    /// `None`. Requires that the node supports text ranges.
     fn text_position_from_global_utf16_index(&self, index: usize) -> Option<TextPosition<'a>>
         requires { may_ask self.now };
 }
 
-/// A node that may be asked where a line or a point of its text is.
+/// Lines and points of a node's text. Implemented by `NodeRef` alone.
 pub trait TextPlaces<'a> {
     ghost may_ask: { Self → Type 0 };
 
-    /// The range of a line of the node's text, which has text ranges, by its number from 0.
+    /// The range of a line of the node's text, by its number from 0. Requires that the node supports text ranges.
     ///
-    /// Past the last of several lines there is one more, where a caret can be, if that last line isn't empty.
+    /// If there are several lines and the last one isn't empty, there is one more line after it, for the caret at the
+    /// end.
     fn line_range_from_index(&self, index: usize) -> Option<TextRange<'a>>
         requires { may_ask self.now };
 
-    /// The position at a point of the node's text, which has text ranges. The point is given as the node sees it.
+    /// The position at a point of the node's text, given in the node's coordinates and in units of 1/64 pixel. Requires
+    /// that the node supports text ranges.
     ///
-    /// It is in the last run whose own rectangle has the point: before the last character that lies there, or at the
-    /// run's end. Else it is the start of the text if the point is left of the first run or above it, else the end of
-    /// the last run that the point is past along its line, and else the end of the text.
+    /// It is in the last run whose own rectangle contains the point: before the last character that lies there, or at
+    /// the run's end. If there is no such run, it is the start of the text if the point is left of or above the first
+    /// run; otherwise the end of the last run whose line the point is past; otherwise the end of the text.
     fn text_position_at_point(&self, point: Point) -> TextPosition<'a>
         requires { may_ask self.now };
 }
 
-/// A node that may be asked what is selected in its text.
+/// The selection in a node's text. Implemented by `NodeRef` alone.
 pub trait TextSelections<'a> {
-    /// The range that is selected: none without a selection, without text ranges, or where an end names none of the
-    /// node's own runs. An index past the end of its run is cut to it.
+    /// The selected range; `None` without a selection, if the node doesn't support text ranges, or if an end isn't in
+    /// one of the node's own runs. An index past the end of its run is clamped to it.
     fn text_selection(&self) -> Option<TextRange<'a>>;
 
-    /// Where the selection was begun: none without a selection, without text ranges, or where it names none of the
-    /// node's own runs. An index past the end of its run is cut to it.
+    /// The fixed end of the selection; `None` without a selection, if the node doesn't support text ranges, or if the
+    /// end isn't in one of the node's own runs. An index past the end of its run is clamped to it.
     fn text_selection_anchor(&self) -> Option<TextPosition<'a>>;
 
-    /// The end of the selection that moves: none without a selection, without text ranges, or where it names none of
-    /// the node's own runs. An index past the end of its run is cut to it.
+    /// The moving end of the selection; `None` without a selection, if the node doesn't support text ranges, or if the
+    /// end isn't in one of the node's own runs. An index past the end of its run is clamped to it.
     fn text_selection_focus(&self) -> Option<TextPosition<'a>>;
 }
 

@@ -20,7 +20,7 @@ use views::NodeRef;
 use views::node::masking::write_bullets;
 use views::node::run_texts::needs_masking;
 
-/// What is left of a text past the characters that the lengths cut off its beginning.
+/// The rest of a text after the characters that these lengths cut off its beginning.
 fn past<'a>(text: &'a str, lengths: &[u16]) -> &'a str
     requires { are_cut_off text.now lengths.now ≡ true }
     ensures { result.now ≡ left_by text.now lengths.now }
@@ -33,7 +33,7 @@ fn past<'a>(text: &'a str, lengths: &[u16]) -> &'a str
 }
 
 impl<'a> Piece<'a> {
-    /// The text of the piece as it was sent.
+    /// The text of the piece as sent in the update.
     fn sent(self) -> &'a str
         requires { IsPart self }
         ensures { result.now ≡ concat (sent_part self.entry) }
@@ -48,7 +48,7 @@ impl<'a> Piece<'a> {
         rest.split_at(rest.len() - after.len()).0
     }
 
-    /// Writes what is shown of the piece.
+    /// Writes the text of the piece as it is shown.
     fn write<W: TextWrite>(self, masked: bool, writer: &mut W) -> Result<(), TextFault>
         requires room { W.faults writer.old + 1 < 2 ^ 128 }
         requires part { IsPart self }
@@ -68,12 +68,14 @@ impl<'a> Piece<'a> {
 }
 
 impl TextRange<'_> {
-    /// Writes the text of the range, with a bullet for each character of a password of which two differ. No memory is
-    /// taken. The writer is called once a bullet, by `write_char`, or else once a run of the range, by `write_str`.
+    /// Writes the text of the range. Each character of a password is written as a bullet, unless all characters of the
+    /// password are the same. The writer is called once for each bullet, by `write_char`, or else once for each run of
+    /// the range, by `write_str`. Does not allocate.
     ///
     /// # Errors
     ///
-    /// The writer took no more. It has a beginning of the text then, counts one failure more, and isn't called again.
+    /// Returns `TextFault` if the writer fails. It has then received a beginning of the text, counts one more failure,
+    /// and isn't called again.
     pub fn write_text<W: TextWrite>(&self, writer: &mut W) -> Result<(), TextFault>
         requires { W.faults writer.old + 1 < 2 ^ 128 }
         ensures ok { let text = text_of (text_in self.now) (range_at self.now) in
@@ -96,11 +98,11 @@ impl TextRange<'_> {
         }
     }
 
-    /// The text of the range, as [`TextRange::write_text`] writes it.
+    /// Returns the text of the range, as [`TextRange::write_text`] writes it.
     ///
     /// # Errors
     ///
-    /// `AllocError`: there is no memory for the text.
+    /// Returns `AllocError` if memory runs out.
     #[tactic(auto, using(model::proofs::Text::Secrets::one_text))]
     pub fn text(&self, alloc: Global) -> Result<String, AllocError>
         ensures text { let bytes = text_of (text_in self.now) (range_at self.now) in
@@ -116,7 +118,7 @@ impl TextRange<'_> {
 }
 
 impl<'a> Piece<'a> {
-    /// What is shown of the piece: of a masked one so many of the bullets.
+    /// The text of the piece as it is shown; for a masked piece, the first bullets of `bullets`.
     fn shown<'b>(self, masked: bool, bullets: &'b str) -> &'b str
     where
         'a: 'b,
@@ -133,7 +135,7 @@ impl<'a> Piece<'a> {
     }
 }
 
-/// So many bullets.
+/// A text of this many bullets.
 fn text_of_bullets(alloc: Global, count: usize) -> Result<String, AllocError>
     ensures { IfOk result (λ text. string_bytes text ≡ bullets count) }
 {
@@ -145,7 +147,7 @@ fn text_of_bullets(alloc: Global, count: usize) -> Result<String, AllocError>
 }
 
 impl TextRange<'_> {
-    /// How many characters the longest piece has.
+    /// The number of characters of the longest piece.
     fn longest(self) -> usize
         ensures { result ≡ longest (pieces (text_in self.entry) (range_at self.entry)) }
     {
@@ -160,7 +162,7 @@ impl TextRange<'_> {
         }
     }
 
-    /// Calls the function with each piece, till it answers something.
+    /// Calls the function with each piece until it returns something.
     fn pass<T, F: FnMut(&NodeRef<'_>, &str) -> Option<T>>(
         self,
         masked: bool,
@@ -187,8 +189,9 @@ impl TextRange<'_> {
         }
     }
 
-    /// The whole of [`TextRange::traverse_text`], by a reference, so that its contract sees what the calls leave of the
-    /// function: a refusal leaves it as it was, since it comes before the first call.
+    /// The body of [`TextRange::traverse_text`], which takes the function by reference, so that its contract can speak
+    /// of the function after the calls. If memory runs out, the function is unchanged, since that happens before the
+    /// first call.
     fn traverse<T, F: FnMut(&NodeRef<'_>, &str) -> Option<T>>(
         self,
         alloc: Global,
@@ -208,12 +211,12 @@ impl TextRange<'_> {
         Ok(self.pass(true, bullets.as_str(), f))
     }
 
-    /// Calls the function with each run of the range and what is shown of it, till it answers something, and answers that.
-    /// Memory is taken for a password of which two characters differ alone, before the first call.
+    /// Calls the function with each run of the range and the text shown of it, until the function returns something,
+    /// and returns that. Allocates only for a masked password, before the first call.
     ///
     /// # Errors
     ///
-    /// `AllocError`: there is no memory for the masked text. The function was not called.
+    /// Returns `AllocError` if memory runs out; the function was not called then.
     pub fn traverse_text<T, F: FnMut(&NodeRef<'_>, &str) -> Option<T>>(
         &self,
         alloc: Global,

@@ -18,7 +18,7 @@ use std::marker::Model;
 use views::node::same::is_same;
 use views::{NodeRef, StateRef};
 
-/// A range of a text without the state: it can be kept, compared, and looked for in a later state.
+/// A range of a text without its state: it can be kept, compared, and looked up in a later state.
 #[derive(Drop)]
 pub struct WeakTextRange {
     root: FullNodeId,
@@ -43,8 +43,8 @@ impl Model for WeakTextRange {
 }
 
 impl TextPosition<'_> {
-    /// What is kept of the position for comparing: the index of each child on the way from the root to its run, on
-    /// the start side, and the index there.
+    /// The comparable form of a position: on the start side, the index of each child on the way from the root to its
+    /// run, and the index in that run.
     fn comparable(self, alloc: Global) -> Result<(Vec<usize>, usize), AllocError>
         ensures { let n = root_at self.entry in IfOk result (λ kept.
             comparable (world_at n) (id_at n) (flat_position self.entry) ≡ Some (kept_of kept)) }
@@ -61,7 +61,7 @@ impl TextRange<'_> {
     ///
     /// # Errors
     ///
-    /// `AllocError`: there is no memory for what is kept of its ends.
+    /// Returns `AllocError` if memory runs out.
     pub fn downgrade(&self, alloc: Global) -> Result<WeakTextRange, AllocError>
         ensures { IfOk result (IsWeak (world_in self.now) (root_in self.now) (range_at self.now)) }
     {
@@ -80,28 +80,29 @@ impl TextRange<'_> {
 }
 
 impl WeakTextRange {
-    /// The node whose text it was a range of.
+    /// The id of the node that had the range's text.
     pub fn node_id(&self) -> FullNodeId
         ensures { result ≡ self.now.root }
     {
         self.root
     }
 
-    /// The path of the start's run from the root, and the index in it, on the start side: they compare as positions do.
+    /// The comparable form of the start: the path from the root to its run and the index there, on the start side.
+    /// These compare as the positions do.
     pub fn start_comparable(&self) -> &(Vec<usize>, usize)
         ensures { kept_of result.now ≡ self.now.start_comparable }
     {
         &self.start_comparable
     }
 
-    /// The same of the end.
+    /// The comparable form of the end.
     pub fn end_comparable(&self) -> &(Vec<usize>, usize)
         ensures { kept_of result.now ≡ self.now.end_comparable }
     {
         &self.end_comparable
     }
 
-    /// The node in this state, where it is there and has text ranges.
+    /// The node in this state, if it exists and supports text ranges.
     fn node_in<'a>(&self, state: StateRef<'a>) -> Option<NodeRef<'a>>
         ensures world { IfSome result (λ node. world_at node ≡ world_of state.entry) }
         ensures node { option_map id_at result
@@ -117,7 +118,7 @@ impl WeakTextRange {
         Some(node)
     }
 
-    /// The range in this state, where it is there.
+    /// The range in this state, if it exists there.
     fn range_in<'a>(&self, state: StateRef<'a>) -> Option<TextRange<'a>>
         ensures { let w = world_of state.entry in
             IsRangeFound w self.now.root (upgraded_range w self.now) result }
@@ -134,27 +135,27 @@ impl WeakTextRange {
         Some(TextRange::in_order(start, end))
     }
 
-    /// The node in a later state, where it is there and has text ranges. The state is given as itself, by reference, or
-    /// as a view of it.
+    /// The node in a later state, if it exists and supports text ranges. The state can be given by reference or as a
+    /// view.
     pub fn upgrade_node<'a, S: Into<StateRef<'a>>>(&self, state: S) -> Option<NodeRef<'a>>
         ensures { IsInView S.converts state (λ w. IsNodeFound w self.now.root result) }
     {
         self.node_in(state.into())
     }
 
-    /// The range in a later state: none where the node isn't there or has no text ranges, or where an end names none of
-    /// its runs or an index past the end of its run. The state is given as itself, by reference, or as a view of it.
+    /// The range in a later state; `None` if the node doesn't exist or doesn't support text ranges, or if the run of an
+    /// end is gone or shorter than the end's index. The state can be given by reference or as a view.
     pub fn upgrade<'a, S: Into<StateRef<'a>>>(&self, state: S) -> Option<TextRange<'a>>
         ensures { IsInView S.converts state (λ w. IsRangeFound w self.now.root (upgraded_range w self.now) result) }
     {
         self.range_in(state.into())
     }
 
-    /// A copy, whose lists are kept in memory from `alloc`.
+    /// Returns a copy whose lists are allocated from `alloc`.
     ///
     /// # Errors
     ///
-    /// `AllocError`: there is no memory for the lists.
+    /// Returns `AllocError` if memory runs out.
     pub fn clone(&self, alloc: Global) -> Result<WeakTextRange, AllocError>
         ensures { IfOk result (λ copy. copy ≡ self.now) }
     {
@@ -170,7 +171,7 @@ impl WeakTextRange {
     }
 }
 
-/// Whether both say one place.
+/// Whether both are the same place.
 fn is_same_place(a: &(Vec<usize>, usize), b: &(Vec<usize>, usize)) -> bool
     ensures { IsTrue result ↔ (kept_of a.now ≡ kept_of b.now) }
 {
@@ -178,7 +179,7 @@ fn is_same_place(a: &(Vec<usize>, usize), b: &(Vec<usize>, usize)) -> bool
 }
 
 impl WeakTextRange {
-    /// Whether all that is kept agrees.
+    /// Whether all parts agree.
     fn same(&self, other: &WeakTextRange) -> bool
         ensures { IsTrue result ↔ (self.now ≡ other.now) }
     {

@@ -1,4 +1,4 @@
-//! Where words begin, and moves by word.
+//! Where words begin, and movements by word.
 ghost use Rattle.std.specs.Prelude.{◌≡◌, ◌==◌, nat_lt, reverse, find};
 ghost use Rattle.std.specs.List.{list_any};
 ghost use Rattle.model.specs.FlatText.{biased_to_start, biased_to_end, words_in, is_word_start};
@@ -11,7 +11,7 @@ use crate::boundaries::{Mark, begins_after};
 use crate::position::TextPosition;
 use views::runs::Run;
 
-/// Whether a number is one of these.
+/// Whether a number is among these.
 fn is_among(numbers: &[u16], sought: usize) -> bool
     ensures { result ≡ list_any (λ k. k == sought) numbers.now }
 {
@@ -23,7 +23,7 @@ fn is_among(numbers: &[u16], sought: usize) -> bool
     false
 }
 
-/// The first of the numbers that is above another one.
+/// The first of these numbers that is above another number.
 fn first_above(numbers: &[u16], other: usize) -> Option<usize>
     ensures { result ≡ find (λ k. nat_lt other k) numbers.now }
 {
@@ -36,7 +36,7 @@ fn first_above(numbers: &[u16], other: usize) -> Option<usize>
     None
 }
 
-/// The last of the numbers that is below another one.
+/// The last of these numbers that is below another number.
 fn last_below(numbers: &[u16], other: usize) -> Option<usize>
     ensures { result ≡ find (λ k. nat_lt k other) (reverse numbers.now) }
 {
@@ -50,7 +50,7 @@ fn last_below(numbers: &[u16], other: usize) -> Option<usize>
     found
 }
 
-/// Where words begin in the run as it is shown: the indexes of their first characters. A password has none.
+/// The indexes at which words begin in the run, as it is shown. A password has none.
 fn shown_words<'a>(run: Run<'a>) -> &'a [u16]
     ensures { result.now ≡ words_in (text_around run.entry) (number_in run.entry) }
 {
@@ -69,7 +69,7 @@ impl<'a> TextPosition<'a> {
         position.is_paragraph_start() || is_among(shown_words(position.run), position.index)
     }
 
-    /// Where the next word or paragraph begins after a position that isn't at the end of a run before another one.
+    /// The start of the next word or paragraph, from a position that isn't at the end of a run with a run after it.
     fn word_after(self) -> TextPosition<'a>
         requires { biased_to_start (position_text self) (flat_position self) ≡ flat_position self }
         ensures { IsMoved forward_to_word_start self.entry result }
@@ -104,7 +104,8 @@ impl<'a> TextPosition<'a> {
         }
     }
 
-    /// Where the word or paragraph before begins, of a position that isn't at the start of a run after another one.
+    /// The start of the previous word or paragraph, from a position that isn't at the start of a run with a run before
+    /// it.
     fn word_before(self) -> TextPosition<'a>
         requires { biased_to_end (position_text self) (flat_position self) ≡ flat_position self }
         ensures { IsMoved backward_to_word_start self.entry result }
@@ -133,7 +134,7 @@ impl<'a> TextPosition<'a> {
         }
     }
 
-    /// The start of the next word or paragraph; where there is none, the end of the text.
+    /// The start of the next word or paragraph, or the end of the text if there is none.
     pub fn forward_to_word_start(&self) -> TextPosition<'a>
         ensures moved { IsMoved forward_to_word_start self.now result }
         ensures secret { IsMovedInEach forward_to_word_start self.now result }
@@ -141,7 +142,8 @@ impl<'a> TextPosition<'a> {
         self.biased_to_start().word_after()
     }
 
-    /// The start of the next word or paragraph, at the end of a run where two runs meet; else the end of the text.
+    /// The start of the next word or paragraph, on the end side where two runs meet, or the end of the text if there is
+    /// none.
     pub fn forward_to_word_end(&self) -> TextPosition<'a>
         ensures moved { IsMoved forward_to_word_end self.now result }
         ensures secret { IsMovedInEach forward_to_word_end self.now result }
@@ -149,7 +151,7 @@ impl<'a> TextPosition<'a> {
         self.forward_to_word_start().biased_to_end()
     }
 
-    /// The start of the word or paragraph before; where there is none, the start of the text.
+    /// The start of the previous word or paragraph, or the start of the text if there is none.
     pub fn backward_to_word_start(&self) -> TextPosition<'a>
         ensures moved { IsMoved backward_to_word_start self.now result }
         ensures secret { IsMovedInEach backward_to_word_start self.now result }

@@ -1,23 +1,23 @@
-//! What an update changes, by its own nodes.
+//! The decision on an update.
 use crate::TreeRecord;
 use model::{FullNodeId, Place, PlanEvent};
 
-/// What becomes of a node.
+/// The change of a node.
 #[derive(Clone, Copy, Debug, PartialEq, Eq)]
 pub enum NodeChange {
-    /// It has this place, and where an entry of the update's nodes is given, by its index there, that entry's data, which
-    /// are others than before.
+    /// The node has this place; if an index into the update's nodes is given, it has that entry's data, which differs
+    /// from before.
     Put {
         place: Option<Place>,
         entry: Option<usize>,
     },
-    /// It is no longer there.
+    /// The node is removed.
     Gone,
 }
 
-/// What an accepted update does: one change for each record that it adds, changes or removes and none for any other, the
-/// nodes' ascending by id, the events in order, and the effective focus afterwards. Data stay in the update. `looked` is how
-/// many records were looked up for it.
+/// What an accepted update does: one change for each record that it adds, changes or removes and none for any other,
+/// those of nodes ascending by id; the events in order; and the effective focus afterwards. The nodes' data stays in
+/// the update. `looked` is the number of records that were looked up for the decision.
 #[derive(Drop)]
 pub struct Decision {
     pub nodes: Vec<(FullNodeId, NodeChange)>,

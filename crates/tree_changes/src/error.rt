@@ -6,7 +6,7 @@ use schema::{NodeId, TreeId};
 use std::alloc::{AllocError, AllocFailed};
 use thiserror::Error;
 
-/// Why an update is refused. A refused update changes nothing.
+/// The reason why an update was refused. A refused update changes nothing.
 #[derive(Clone, Copy, Debug, PartialEq, Eq, Error)]
 pub enum UpdateError {
     #[error("the first update has no tree info")]

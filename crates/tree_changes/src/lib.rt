@@ -11,5 +11,5 @@ pub use error::UpdateError;
 pub use look_ups::{LookUps, NodeRecord, TreeRecord};
 pub use model::PlanEvent;
 
-/// The texts of a toolkit's name and version.
+/// A toolkit's name and version.
 pub type ToolkitTexts = (Option<String>, Option<String>);

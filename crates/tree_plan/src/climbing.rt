@@ -1,4 +1,4 @@
-//! Climbs from the parents of what moved: where they end, the nodes are reached.
+//! Climbs from the parents of moved nodes: if a climb ends, its nodes are reached.
 ghost use Rattle.std.specs.Prelude.{◌≡◌, ◌≢◌, ◌<◌, ◌+◌, ℕ, IfErr, OnOk, IsTrue, Some, true, false, length, map, slice_get, ◌↔◌};
 ghost use Rattle.schema.specs.UpdateData.{update_data};
 ghost use Rattle.model.specs.declared.FullNodeId.{FullNodeId};
@@ -18,7 +18,7 @@ use std::alloc::Global;
 use std::collections::BTreeMap;
 use tree_changes::{LookUps, UpdateError};
 
-/// Climbs from each named node that got a child, and refuses one that isn't reached.
+/// Climbs from each named node that got a child, and refuses the update if one isn't reached.
 pub(crate) fn climb_all<L: LookUps>(
     alloc: Global,
     look_ups: &mut L,
@@ -71,7 +71,7 @@ fn named_id(update: &TreeUpdate, opened: &Opened, entry: usize) -> FullNodeId
     }
 }
 
-/// Climbs from the node of this entry, where it got a child, up to a node that is reached.
+/// Climbs from the node of this entry, if it got a child, up to a node that is reached.
 fn climb<L: LookUps>(
     look_ups: &mut L,
     update: &TreeUpdate,
@@ -114,8 +114,8 @@ fn climb<L: LookUps>(
     Ok(())
 }
 
-/// Whether the node is known to be reached: the root is, and where no old node has moved so is each
-/// old node that is named.
+/// Whether the node is known to be reached: the root is, and if no old node has moved, so is each old node that the
+/// update names.
 fn is_known(opened: &Opened, compared: &Compared, settled: &Settled, id: FullNodeId) -> bool
     ensures known { result ≡ true → IsKnown opened.now compared.now settled.now id }
     ensures unknown { result ≡ false → id ≢ in_tree opened.now.index opened.now.root }
@@ -132,7 +132,7 @@ fn is_known(opened: &Opened, compared: &Compared, settled: &Settled, id: FullNod
                 .is_some_and(|named| named.was.is_some()))
 }
 
-/// The parent after the update of a node that isn't the root and doesn't go.
+/// The parent, after the update, of a node that isn't the root and isn't removed.
 fn parent_after<L: LookUps>(look_ups: &mut L, compared: &Compared, id: FullNodeId) -> FullNodeId
     requires old { IsOld (L.world look_ups.old) }
     requires next { (p : FullNodeId) × IsNext (L.world look_ups.old) compared.now id p }
@@ -150,7 +150,7 @@ fn parent_after<L: LookUps>(look_ups: &mut L, compared: &Compared, id: FullNodeI
     parent
 }
 
-/// Where an old node stood.
+/// The old place of an old node.
 fn old_place<L: LookUps>(look_ups: &mut L, compared: &Compared, id: FullNodeId) -> Option<Place>
     requires there { IsNode (L.world look_ups.old) id }
     requires named { (n : Named) → at compared.now.named id ≡ Some n

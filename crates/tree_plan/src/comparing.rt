@@ -1,4 +1,4 @@
-//! The named nodes against their old records.
+//! The update's nodes compared with their old records.
 ghost use Rattle.std.specs.Prelude.{◌≡◌, ◌≢◌, ◌<◌, ◌↔◌, IsTrue, IfOk, IfErr, OnOk, Some, None, IsSome, ◌++◌, length, map, option_map, option_to_list, slice_get};
 ghost use Rattle.schema.specs.UpdateData.{update_data};
 ghost use Rattle.model.specs.World.{in_tree};
@@ -25,7 +25,7 @@ pub(crate) fn full_id(index: u32, node: NodeId) -> FullNodeId
     FullNodeId { tree: index, node }
 }
 
-/// The named nodes, each by its entry, and as if it were new.
+/// The update's nodes, each with its entry and marked as new.
 pub(crate) fn take(
     alloc: Global,
     index: u32,
@@ -59,15 +59,15 @@ fn child_at(parent: FullNodeId, children: &[NodeId], index: usize) -> Option<Ful
         .map(|child| full_id(parent.tree, *child))
 }
 
-/// Whether a node's data are others than before.
+/// Whether a node's data differs from before.
 fn is_news(old: &Node, node: &Node) -> bool
     ensures { IsTrue result ↔ (old.now ≢ node.now) }
 {
-    // what `==` ensures is exact, and what `!=` ensures isn't
+    // the contract of `==` is exact, that of `!=` isn't
     !(*old == *node)
 }
 
-/// Adds a node at a spot, where there is one.
+/// Adds a node at a spot, if there is a node.
 fn push_spot(
     list: &mut RowList<Option<Place>>,
     node: Option<FullNodeId>,
@@ -83,7 +83,7 @@ fn push_spot(
 }
 
 impl Comparing {
-    /// Compares what was at a spot with what is there now.
+    /// Compares the old node at a spot with the new one.
     fn compare_spot(
         &mut self,
         spot: Option<Place>,
@@ -133,7 +133,7 @@ impl Comparing {
         Ok(())
     }
 
-    /// Refuses what a graft may not be.
+    /// Refuses a graft with children or of the root tree.
     fn take_graft(&mut self, id: FullNodeId, node: &Node) -> Result<(), UpdateError>
         ensures ok { OnOk result
             (TakesGraft id node.now (at_name self.old.grafted) (at_name self.new.grafted)) }
@@ -156,7 +156,7 @@ impl Comparing {
         Ok(())
     }
 
-    /// Compares the trees that a node grafts, before and now.
+    /// Compares the trees that a node grafts, before and after.
     fn compare_grafts(
         &mut self,
         old: Option<TreeId>,
@@ -234,7 +234,7 @@ impl Comparing {
         self.compare_data(id, named, old.node.children(), old.node.tree_id(), node)
     }
 
-    /// Compares the root with the one before.
+    /// Compares the root with the old one.
     fn begin(alloc: Global, named: Rows<Named>, opened: &Opened) -> Result<Comparing, UpdateError>
         ensures ok { IfOk result (λ c. BeginsComparing opened.now named c) }
         ensures err { IfErr result (λ e. e ≡ Memory) }
@@ -253,7 +253,7 @@ impl Comparing {
         Ok(comparing)
     }
 
-    /// Sorts the lists, and refuses a node that entered twice.
+    /// Sorts the lists, and refuses the update if a node entered two spots.
     fn settle_lists(self) -> Result<Compared, UpdateError>
         ensures ok { IfOk result (λ c. SettlesLists self c) }
         ensures err { IfErr result (λ e. IsEnteredTwice self e) }
@@ -280,7 +280,7 @@ impl Comparing {
     }
 }
 
-/// Compares the named nodes, and the tree's root, with what was there.
+/// Compares the update's nodes, and the tree's root, with the old ones.
 pub(crate) fn compare<L: LookUps>(
     alloc: Global,
     look_ups: &mut L,

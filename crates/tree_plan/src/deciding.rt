@@ -62,7 +62,7 @@ fn find<L: LookUps>(
     })
 }
 
-/// The decision, by what was found and the focus, where so many records were looked up before.
+/// The decision, from what the passes found and the focus. `before` counts the records looked up before the decision.
 fn conclude<L: LookUps>(
     alloc: Global,
     look_ups: &mut L,
@@ -97,8 +97,8 @@ fn conclude<L: LookUps>(
     write(alloc, update, findings, &focused, looked)
 }
 
-/// The decision by the passes, where the tree and, it may be, the named nodes were looked up before. Apart from the short way, which
-/// doesn't need the room that the passes take.
+/// The decision by the passes. It is a function of its own so that the short way doesn't pay for the stack space of the
+/// passes.
 #[inline(never)]
 fn decide_by_passes<L: LookUps>(
     alloc: Global,
@@ -123,12 +123,12 @@ fn decide_by_passes<L: LookUps>(
     conclude(alloc, look_ups, update, findings, before)
 }
 
-/// The decision on an update. At least one record is looked up for each node that the update names.
+/// Decides on an update. At least one record is looked up for each node of the update.
 ///
 /// # Errors
 ///
-/// `UpdateError::Memory`: memory was wanting. Each other error names a fault of the update, which stands. The world that is
-/// looked up is the same.
+/// Returns a rule that the update breaks, or `UpdateError::Memory` if memory runs out. The world that is looked up is
+/// unchanged.
 pub fn decide<L: LookUps>(
     alloc: Global,
     look_ups: &mut L,

@@ -1,4 +1,4 @@
-//! Where the focus is, before and after.
+//! The focus before and after the update.
 ghost use Rattle.std.specs.Prelude.{◌≡◌, ◌<◌, ◌+◌, ◌-◌, ◌*◌, ◌↔◌, IfOk, IfErr, IsTrue, IsSome, MatchOption, None, Some, length, true, false};
 ghost use Rattle.std.specs.FinMap.{get};
 ghost use Rattle.std.specs.Option.{option_map, option_and_then};
@@ -21,21 +21,21 @@ use model::FullNodeId;
 use schema::{Node, NodeId, TreeId, TreeUpdate};
 use tree_changes::{LookUps, TreeRecord, UpdateError};
 
-/// What is asked of a node on the way of the focus.
+/// What the search for the focus reads of a node.
 #[derive(Clone, Copy)]
 struct Aim {
     graft: Option<TreeId>,
     active: Option<NodeId>,
 }
 
-/// The node to which the focus comes, and its active descendant.
+/// The node at which the focus ends, and its active descendant.
 #[derive(Clone, Copy)]
 pub(crate) struct End {
     pub(crate) id: FullNodeId,
     active: Option<FullNodeId>,
 }
 
-/// Follows the focus before and after the update, and refuses one that comes to no node.
+/// Follows the focus before and after the update, and refuses the update if it ends at no node.
 pub(crate) fn find_focus<L: LookUps>(
     look_ups: &mut L,
     update: &TreeUpdate,
@@ -67,7 +67,7 @@ pub(crate) fn find_focus<L: LookUps>(
     })
 }
 
-/// What `focus` answers before the update.
+/// The answer of `focus` before the update.
 fn focus_before<L: LookUps>(look_ups: &mut L, opened: &Opened) -> Option<FullNodeId>
     requires old { IsOld (L.world look_ups.old) }
     requires first { IsTrue opened.now.is_first ↔ IsFirst (L.world look_ups.old) }
@@ -86,7 +86,7 @@ fn focus_before<L: LookUps>(look_ups: &mut L, opened: &Opened) -> Option<FullNod
     Some(active_before(look_ups, &end))
 }
 
-/// Where the focus comes to before the update.
+/// The effective focus before the update.
 fn end_before<L: LookUps>(look_ups: &mut L) -> End
     requires old { IsOld (L.world look_ups.old) }
     requires present { IsSome (get (L.world look_ups.old).trees 0) }
@@ -98,7 +98,7 @@ fn end_before<L: LookUps>(look_ups: &mut L) -> End
     end_from(look_ups, first)
 }
 
-/// Where the focus comes to before the update, where the tree that it names was looked up: mostly that is the root tree.
+/// The effective focus before the update, given the record of the update's tree, which mostly is the root tree.
 pub(crate) fn end_opened<L: LookUps>(look_ups: &mut L, opened: &Opened) -> End
     requires old { IsOld (L.world look_ups.old) }
     requires present { IsSome (get (L.world look_ups.old).trees 0) }
@@ -116,7 +116,7 @@ pub(crate) fn end_opened<L: LookUps>(look_ups: &mut L, opened: &Opened) -> End
     end_from(look_ups, first)
 }
 
-/// Where the focus comes to before the update from the one that the root tree declares.
+/// The effective focus before the update, given the root tree's declared focus.
 fn end_from<L: LookUps>(look_ups: &mut L, first: FullNodeId) -> End
     requires old { IsOld (L.world look_ups.old) }
     requires present { IsSome (get (L.world look_ups.old).trees 0) }
@@ -137,7 +137,7 @@ fn end_from<L: LookUps>(look_ups: &mut L, first: FullNodeId) -> End
     unreachable!()
 }
 
-/// The active descendant where it was there, and else the node itself.
+/// The active descendant if it was in the state, and otherwise the node itself.
 fn active_before<L: LookUps>(look_ups: &mut L, end: &End) -> FullNodeId
     ensures world { L.world look_ups.new ≡ L.world look_ups.old }
     ensures counts { IsRaisedUpTo (L.asked look_ups.old) 1 (L.asked look_ups.new) }
@@ -152,7 +152,7 @@ fn active_before<L: LookUps>(look_ups: &mut L, end: &End) -> FullNodeId
     active
 }
 
-/// What `focus` answers after the update.
+/// The answer of `focus` after the update.
 fn focus_after<L: LookUps>(
     look_ups: &mut L,
     compared: &Compared,
@@ -170,7 +170,7 @@ fn focus_after<L: LookUps>(
     Some(active_after(look_ups, compared, removed, end))
 }
 
-/// The active descendant where it is there after the update, and else the node itself.
+/// The active descendant if it is in the state after the update, and otherwise the node itself.
 fn active_after<L: LookUps>(
     look_ups: &mut L,
     compared: &Compared,
@@ -190,7 +190,7 @@ fn active_after<L: LookUps>(
     active
 }
 
-/// Whether the node is there after the update.
+/// Whether the node exists after the update.
 fn stays<L: LookUps>(
     look_ups: &mut L,
     compared: &Compared,
@@ -204,7 +204,7 @@ fn stays<L: LookUps>(
     compared.named.contains_key(&id) || (!removed.gone.contains(&id) && look_ups.node(id).is_some())
 }
 
-/// Where the focus comes to after the update.
+/// The effective focus after the update.
 fn end_after<L: LookUps>(
     look_ups: &mut L,
     update: &TreeUpdate,
@@ -241,7 +241,7 @@ fn end_after<L: LookUps>(
     unreachable!()
 }
 
-/// What is asked of a node after the update.
+/// What is read of a node after the update.
 fn aim_after<L: LookUps>(
     look_ups: &mut L,
     update: &TreeUpdate,
@@ -265,7 +265,7 @@ fn aim_after<L: LookUps>(
     old_aim(look_ups, id)
 }
 
-/// What is asked of the node of this entry.
+/// What is read of the node of this entry.
 fn entry_aim(update: &TreeUpdate, entry: usize) -> Aim
     requires { entry < length update.now.nodes.items }
     ensures { (d : NodeData) × (entry_data update.now.nodes.items entry ≡ Some d) × IsAimOf d result }
@@ -273,7 +273,7 @@ fn entry_aim(update: &TreeUpdate, entry: usize) -> Aim
     aim_of(&update.nodes[entry].1)
 }
 
-/// What is asked of an old node.
+/// What is read of an old node.
 fn old_aim<L: LookUps>(look_ups: &mut L, id: FullNodeId) -> Option<Aim>
     ensures world { L.world look_ups.new ≡ L.world look_ups.old }
     ensures counts { IsRaisedUpTo (L.asked look_ups.old) 1 (L.asked look_ups.new) }
@@ -334,7 +334,7 @@ fn declared_in(found: &TreeRecord) -> Option<FullNodeId>
     Some(FullNodeId { tree, node })
 }
 
-/// The declared focus of a tree, where it is present.
+/// The declared focus of a tree, if it is present.
 fn declared<L: LookUps>(look_ups: &mut L, name: &TreeId) -> Option<FullNodeId>
     ensures world { L.world look_ups.new ≡ L.world look_ups.old }
     ensures counts { IsRaisedUpTo (L.asked look_ups.old) 1 (L.asked look_ups.new) }

@@ -1,4 +1,4 @@
-//! The tree that an update names, before and after.
+//! The update's tree, before and after.
 ghost use Rattle.std.specs.Prelude.{◌≡◌, ◌≢◌, ◌-◌, ◌^◌, ◌<◌, ◌≤◌, ◌↔◌, IsTrue, IfOk, IfErr, OnOk, Some, None, option_map, unwrap_or, ◌⊎◌};
 ghost use Rattle.std.specs.Option.{option_map_or};
 ghost use Rattle.schema.specs.UpdateData.{info_data, update_data};
@@ -15,14 +15,14 @@ use crate::records::{no_record, tree_record};
 use schema::{NodeId, TreeId, TreeInfo, TreeUpdate};
 use tree_changes::{LookUps, TreeRecord, UpdateError};
 
-/// Whether this is the root tree's name.
+/// Whether this is the root tree's id.
 pub(crate) fn is_root_tree(name: &TreeId) -> bool
     ensures { IsTrue result ↔ (name.now ≡ ROOT_NAME) }
 {
     *name == TreeId::root()
 }
 
-/// The tree's root afterwards: that of the tree info, else the one before.
+/// The tree's root afterwards: that of the tree info, or else the old one.
 fn root_after(info: &Option<TreeInfo>, looked_up: &TreeRecord) -> Result<NodeId, UpdateError>
     ensures ok { IfOk result (λ root.
         option_map_or (λ i. Some i.root) (option_map info_data info.now) looked_up.now.root ≡ Some root) }
@@ -38,7 +38,7 @@ fn root_after(info: &Option<TreeInfo>, looked_up: &TreeRecord) -> Result<NodeId,
     Ok(root)
 }
 
-/// The tree's index afterwards: the one before, else the next one, where so many names are known.
+/// The tree's index afterwards: the old one, or else the next one after those of the known ids.
 fn index_after(looked_up: &TreeRecord, known: u32) -> Result<u32, UpdateError>
     ensures ok { IfOk result (λ index. index ≡ unwrap_or looked_up.now.index known) }
     ensures room { OnOk result (looked_up.now.index ≡ None → known < 2 ^ 32 - 1) }
@@ -54,7 +54,7 @@ fn index_after(looked_up: &TreeRecord, known: u32) -> Result<u32, UpdateError>
     Ok(known)
 }
 
-/// The root that the first update declares, which makes the root tree.
+/// The root that the first update declares for the root tree.
 fn first_root(update: &TreeUpdate) -> Result<NodeId, UpdateError>
     ensures ok { IfOk result (λ root.
         (option_map (λ i. i.root) update.now.tree ≡ Some root) × (update.now.tree_id ≡ ROOT_NAME)) }
@@ -71,7 +71,7 @@ fn first_root(update: &TreeUpdate) -> Result<NodeId, UpdateError>
     Err(UpdateError::NotRootTree)
 }
 
-/// A later update is for the root tree, or for one that a node grafts.
+/// Checks that a later update is for the root tree or for one that a node grafts.
 fn open_later<L: LookUps>(look_ups: &mut L, update: &TreeUpdate) -> Result<Opened, UpdateError>
     requires { ¬ (IsFirst (L.world look_ups.old)) }
     ensures world { L.world look_ups.new ≡ L.world look_ups.old }
@@ -96,7 +96,7 @@ fn open_later<L: LookUps>(look_ups: &mut L, update: &TreeUpdate) -> Result<Opene
     })
 }
 
-/// Looks at the tree that the update names.
+/// Looks up the update's tree.
 pub(crate) fn open_tree<L: LookUps>(
     look_ups: &mut L,
     update: &TreeUpdate,

@@ -1,12 +1,11 @@
-//! What each pass finds.
+//! The results of the passes.
 use model::{FullNodeId, Place};
 use rows::{RowList, Rows};
 use schema::{NodeId, TreeId};
 use std::collections::{BTreeMap, BTreeSet};
 use tree_changes::TreeRecord;
 
-/// The tree that the update names: its record before (without index, graft, root and focus where there is none), and its index
-/// and root afterwards.
+/// The update's tree: its old record (empty if there is none), and its index and root afterwards.
 #[derive(Clone, Copy)]
 pub(crate) struct Opened {
     pub(crate) record: TreeRecord,
@@ -15,8 +14,8 @@ pub(crate) struct Opened {
     pub(crate) is_first: bool,
 }
 
-/// A named node: its entry in the update's nodes; where it is an old node its place before; and whether its data are other
-/// than before.
+/// A node of the update: its entry in the update's nodes, its old place if it is an old node, and whether its data
+/// differs from before.
 #[derive(Clone, Copy)]
 pub(crate) struct Named {
     pub(crate) entry: usize,
@@ -24,51 +23,51 @@ pub(crate) struct Named {
     pub(crate) is_news: bool,
 }
 
-/// The named nodes against their old records, as far as they are compared. A spot is a place in a list, or `None`, where a
-/// tree's root stands.
+/// The update's nodes compared with their old records, as far as the comparison has got. A spot is a place in a list of
+/// children, or `None` for the root of a tree.
 #[derive(Drop)]
 pub(crate) struct Comparing {
     pub(crate) named: Rows<Named>,
-    /// What was at a spot and is there no more, with the spot.
+    /// The nodes that left a spot, with the spot.
     pub(crate) left: RowList<Option<Place>>,
-    /// What is at a spot and wasn't there, with the spot.
+    /// The nodes that entered a spot, with the spot.
     pub(crate) entered: RowList<Option<Place>>,
-    /// Each tree that a named node grafts, with this node.
+    /// Each tree that a node of the update grafts, with this node.
     pub(crate) grafted: BTreeMap<TreeId, FullNodeId>,
-    /// The trees that a named node grafted and doesn't now.
+    /// The trees that a node of the update grafted before and doesn't graft now.
     pub(crate) lost: Vec<TreeId>,
-    /// The trees that a named node grafts and didn't before.
+    /// The trees that a node of the update grafts now and didn't graft before.
     pub(crate) gained: Vec<TreeId>,
 }
 
-/// The named nodes against their old records.
+/// The update's nodes compared with their old records.
 #[derive(Drop)]
 pub(crate) struct Compared {
     pub(crate) named: Rows<Named>,
-    /// What was at a spot and is there no more, with the spot.
+    /// The nodes that left a spot, with the spot.
     pub(crate) left: Rows<Option<Place>>,
-    /// What is at a spot and wasn't there, with the spot.
+    /// The nodes that entered a spot, with the spot.
     pub(crate) entered: Rows<Option<Place>>,
-    /// Each tree that a named node grafts, with this node.
+    /// Each tree that a node of the update grafts, with this node.
     pub(crate) grafted: BTreeMap<TreeId, FullNodeId>,
-    /// The trees that a named node grafted and doesn't now.
+    /// The trees that a node of the update grafted before and doesn't graft now.
     pub(crate) lost: Vec<TreeId>,
-    /// The trees that a named node grafts and didn't before.
+    /// The trees that a node of the update grafts now and didn't graft before.
     pub(crate) gained: Vec<TreeId>,
 }
 
-/// Where those that entered stood.
+/// The old places of the nodes that entered a spot.
 #[derive(Drop)]
 pub(crate) struct Settled {
-    /// Old nodes that entered, with the places where they stood.
+    /// Old nodes that entered a spot, with their old places.
     pub(crate) old_places: BTreeMap<FullNodeId, Option<Place>>,
-    /// The named nodes that got a child that they didn't list.
+    /// The nodes of the update that got a child that they didn't list before.
     pub(crate) adopters: BTreeSet<FullNodeId>,
     /// Whether an old node entered below another parent.
     pub(crate) has_moved: bool,
 }
 
-/// What goes.
+/// The nodes and trees that are removed.
 #[derive(Drop)]
 pub(crate) struct Removed {
     pub(crate) gone: BTreeSet<FullNodeId>,
@@ -76,7 +75,7 @@ pub(crate) struct Removed {
     pub(crate) trees: Vec<TreeRecord>,
 }
 
-/// Where the focus is, before and after.
+/// The focus before and after the update.
 #[derive(Clone, Copy)]
 pub(crate) struct Focused {
     pub(crate) before: Option<FullNodeId>,

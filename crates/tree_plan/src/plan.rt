@@ -6,20 +6,20 @@ use tree_changes::{ToolkitTexts, TreeRecord};
 /// A change of one record.
 #[derive(Drop)]
 pub enum Change {
-    /// The node has this place, and these data, which are others than before; where `node` is `None` its data stay.
+    /// The node has this place and this data, which differs from before; if `node` is `None`, its data is unchanged.
     Put {
         id: FullNodeId,
         place: Option<Place>,
         node: Option<Node>,
     },
-    /// The node is no longer there.
+    /// The node is removed.
     Gone(FullNodeId),
-    /// The tree's record afterwards. Without index and graft there is no record any more.
+    /// The tree's record afterwards. Without index and graft the record is removed.
     Tree(TreeRecord),
 }
 
-/// What an accepted update does: one change for each record that it adds, changes or removes and none for any other, the
-/// events in order, the toolkit's texts where they are replaced, and the effective focus afterwards.
+/// What an accepted update does: one change for each record that it adds, changes or removes and none for any other;
+/// the events in order; the toolkit's texts, if they are replaced; and the effective focus afterwards.
 #[derive(Drop)]
 pub struct Plan {
     pub changes: Vec<Change>,

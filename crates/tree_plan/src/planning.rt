@@ -16,7 +16,7 @@ use schema::{Node, NodeId, TreeInfo, TreeUpdate};
 use std::alloc::Global;
 use tree_changes::{LookUps, NodeChange, ToolkitTexts, TreeRecord, UpdateError};
 
-/// The data of the update's entries, each to be taken once.
+/// The data of the update's entries, each of them to be taken once.
 fn slots_of(alloc: Global, nodes: Vec<(NodeId, Node)>) -> Result<Vec<Option<Node>>, UpdateError>
     ensures ok { IfOk result (λ slots. slots.items ≡ map (λ e. Some e.1) nodes.items) }
     ensures err { IfErr result (λ e. e ≡ Memory) }
@@ -82,7 +82,7 @@ fn push_nodes(
     Ok(())
 }
 
-/// The toolkit's texts, where they are replaced.
+/// The toolkit's texts, if they are replaced.
 fn toolkit_texts(tree: Option<TreeInfo>, is_root: bool) -> Option<ToolkitTexts>
     ensures { (before : Option (List ℕ) × Option (List ℕ))
         → replaced_texts result before ≡ replaces (option_map info_data tree) is_root before }
@@ -99,11 +99,11 @@ fn toolkit_texts(tree: Option<TreeInfo>, is_root: bool) -> Option<ToolkitTexts>
     Some((toolkit_name, toolkit_version))
 }
 
-/// The plan of an update.
+/// Plans an update: the decision of [`decide`], with the data.
 ///
 /// # Errors
 ///
-/// `UpdateError`, as [`decide`].
+/// Returns the error of [`decide`].
 pub fn plan_update<L: LookUps>(
     alloc: Global,
     look_ups: &mut L,

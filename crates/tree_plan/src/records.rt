@@ -6,7 +6,7 @@ ghost use Rattle.tree_plan.specs.Passes.{IsOfName};
 use schema::TreeId;
 use tree_changes::{LookUps, TreeRecord};
 
-/// What is known of a tree: where there is no record, nothing but its name.
+/// The record of a tree, or an empty one if there is none.
 pub(crate) fn tree_record<L: LookUps>(look_ups: &mut L, name: &TreeId) -> TreeRecord
     ensures world { L.world look_ups.new ≡ L.world look_ups.old }
     ensures counts { L.asked look_ups.new ≡ raised_count (L.asked look_ups.old) }
@@ -18,7 +18,7 @@ pub(crate) fn tree_record<L: LookUps>(look_ups: &mut L, name: &TreeId) -> TreeRe
     }
 }
 
-/// A record of a tree of which nothing is known.
+/// An empty record of a tree.
 pub(crate) fn no_record(id: TreeId) -> TreeRecord
     ensures { result ≡ record { id = id; index = None; graft = None; root = None; focus = None } }
 {

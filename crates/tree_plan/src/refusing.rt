@@ -1,4 +1,4 @@
-//! What is listed nowhere, or twice.
+//! Nodes that are listed nowhere, or twice.
 ghost use Rattle.std.specs.Prelude.{◌≡◌, ◌↔◌, ◌∷◌, [], map, IsTrue, Option, Some, OnOk, IfOk, IfErr};
 ghost use Rattle.schema.specs.UpdateData.{update_data};
 ghost use Rattle.model.specs.declared.FullNodeId.{FullNodeId};
@@ -17,14 +17,14 @@ use std::alloc::Global;
 use std::collections::{BTreeMap, BTreeSet};
 use tree_changes::{LookUps, UpdateError};
 
-/// Whether a named node is new and entered no spot. Among those that entered it is looked for at `near`.
+/// Whether a node of the update is new and entered no spot. The search among the nodes that entered starts at `near`.
 fn is_nowhere(compared: &Compared, id: FullNodeId, named: &Named, near: &mut usize) -> bool
     ensures { IsTrue result ↔ IsNowhere compared.now id named.now }
 {
     named.was.is_none() && compared.entered.get_near(id, near).is_none()
 }
 
-/// Refuses a new named node that entered no spot.
+/// Refuses the update if a new node of it entered no spot.
 fn refuse_unlisted(compared: &Compared) -> Result<(), UpdateError>
     ensures ok { OnOk result (AreListed compared.now) }
     ensures err { IfErr result (IsOfUnlisted compared.now) }
@@ -38,7 +38,7 @@ fn refuse_unlisted(compared: &Compared) -> Result<(), UpdateError>
     Ok(())
 }
 
-/// Whether a node that entered a spot is still listed at its old place, by a node that doesn't go.
+/// Whether a node that entered a spot is still listed at its old place, by a node that isn't removed.
 fn is_doubled(compared: &Compared, removed: &Removed, id: FullNodeId, place: Option<Place>) -> bool
     ensures { IsTrue result ↔ IsDoubled compared.now removed.now id place }
 {
@@ -46,14 +46,14 @@ fn is_doubled(compared: &Compared, removed: &Removed, id: FullNodeId, place: Opt
         && place.is_some_and(|(parent, _)| !removed.gone.contains(&parent))
 }
 
-/// What a search has come to, also in the order in which it did.
+/// The nodes that a search has found, also in the order in which it found them.
 #[derive(Drop)]
 struct Search {
     seen: BTreeSet<FullNodeId>,
     queue: Vec<FullNodeId>,
 }
 
-/// Comes to a node.
+/// Adds a node.
 fn add(search: &mut Search, id: FullNodeId) -> Result<(), UpdateError>
     requires search { IsSearch search.old }
     ensures ok { OnOk result (Enqueues (id ∷ []) search.old search.new) }
@@ -67,7 +67,7 @@ fn add(search: &mut Search, id: FullNodeId) -> Result<(), UpdateError>
     Ok(())
 }
 
-/// Comes to a node's children.
+/// Adds a node's children.
 fn add_children(
     search: &mut Search,
     parent: FullNodeId,
@@ -87,7 +87,7 @@ fn add_children(
     Ok(())
 }
 
-/// Goes from a node to what it lists after the update.
+/// Visits a node: adds what it lists after the update.
 fn visit<L: LookUps>(
     search: &mut Search,
     look_ups: &mut L,
@@ -111,7 +111,7 @@ fn visit<L: LookUps>(
     add_children(search, id, record.node.children())
 }
 
-/// Goes on until there is nothing new to come to.
+/// Continues until there is nothing new to find.
 fn work_off<L: LookUps>(
     search: &mut Search,
     look_ups: &mut L,
@@ -163,8 +163,7 @@ fn find_reached<L: LookUps>(
     Ok(search.seen)
 }
 
-/// What is wrong where a node is listed twice: a named node that isn't reached, or else the node
-/// itself.
+/// The broken rule if a node is listed twice: either a node of the update isn't reached, or the node is listed twice.
 fn fault_of_double(
     compared: &Compared,
     reached: &BTreeSet<FullNodeId>,
@@ -180,7 +179,7 @@ fn fault_of_double(
     UpdateError::ListedTwice(double.node)
 }
 
-/// Why an update is refused that lists a node at a second place.
+/// The reason to refuse an update that lists a node at a second place.
 fn explain<L: LookUps>(
     alloc: Global,
     look_ups: &mut L,
@@ -204,7 +203,7 @@ fn explain<L: LookUps>(
     }
 }
 
-/// Refuses an update that lists a named node nowhere, or a node twice.
+/// Refuses an update that lists one of its nodes nowhere, or a node twice.
 pub(crate) fn refuse_misplaced<L: LookUps>(
     alloc: Global,
     look_ups: &mut L,

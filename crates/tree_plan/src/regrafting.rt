@@ -25,7 +25,8 @@ pub(crate) struct Regrafted {
     pub(crate) moved_in: BTreeMap<FullNodeId, FullNodeId>,
 }
 
-/// Gives each tree that a named node gains its new graft. The old one has to go or to be named.
+/// Sets the new graft of each tree that a node of the update gains. The old graft has to be removed or to be in the
+/// update.
 pub(crate) fn regraft<L: LookUps>(
     alloc: Global,
     look_ups: &mut L,
@@ -54,7 +55,7 @@ pub(crate) fn regraft<L: LookUps>(
     Ok(regrafted)
 }
 
-/// Whether no node grafts the tree but one that goes or is named.
+/// Whether the tree is grafted by no node, by one that is removed, or by one of the update.
 fn is_free(graft: Option<FullNodeId>, compared: &Compared, removed: &Removed) -> bool
     ensures { MatchOption graft (IsTrue result) (λ g.
         IsTrue result ↔ (has removed.now.gone g ⊎ IsSome (at compared.now.named g))) }
@@ -66,7 +67,7 @@ fn is_free(graft: Option<FullNodeId>, compared: &Compared, removed: &Removed) ->
 }
 
 impl Regrafted {
-    /// Gives the tree of this name, which a named node gains, its new graft.
+    /// Sets the new graft of this tree, which a node of the update gains.
     fn add<L: LookUps>(
         &mut self,
         look_ups: &mut L,
@@ -96,7 +97,7 @@ impl Regrafted {
         Ok(())
     }
 
-    /// Moves the root of a tree, where it is present, below the tree's graft.
+    /// Moves the root of a tree, if it is present, below the tree's graft.
     fn move_in(&mut self, after: &TreeRecord) -> Result<(), UpdateError>
         ensures trees { self.new.trees ≡ self.old.trees }
         ensures err { IfErr result (λ e. e ≡ Memory) }

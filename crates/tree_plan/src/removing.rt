@@ -1,4 +1,4 @@
-//! What goes.
+//! Nodes and trees that are removed.
 ghost use Rattle.std.specs.Prelude.{◌≡◌, ◌≢◌, ◌⊎◌, ◌+◌, ◌*◌, ◌≤◌, ◌∷◌, [], length, map, Contains, None, Some, OnOk, IfOk, IfErr};
 ghost use Rattle.std.specs.BTreeSet.{btree_set_len};
 ghost use Rattle.std.specs.Option.{option_map, option_and_then};
@@ -20,8 +20,7 @@ use std::alloc::Global;
 use std::collections::BTreeSet;
 use tree_changes::{LookUps, TreeRecord, UpdateError};
 
-/// What goes, as far as it is found: the nodes, also in the order in which they were found, and
-/// the trees.
+/// The removed nodes and trees found so far, the nodes also in the order in which they were found.
 #[derive(Drop)]
 struct Removing {
     gone: BTreeSet<FullNodeId>,
@@ -29,7 +28,7 @@ struct Removing {
     trees: Vec<TreeRecord>,
 }
 
-/// A node that lost its spot goes, unless it came to another.
+/// Removes a node that lost its spot, unless it entered another.
 fn lose(removing: &mut Removing, compared: &Compared, id: FullNodeId) -> Result<(), UpdateError>
     ghost setting: { World × UpdateData }
     requires so_far { IsRemoving setting.0 setting.1 compared.now removing.old }
@@ -51,7 +50,7 @@ fn lose(removing: &mut Removing, compared: &Compared, id: FullNodeId) -> Result<
     Ok(())
 }
 
-/// The children of a node that goes lose their spots.
+/// Takes the spots of a removed node's children away.
 fn lose_children(
     removing: &mut Removing,
     compared: &Compared,
@@ -76,7 +75,7 @@ fn lose_children(
     Ok(())
 }
 
-/// The record of a tree that has no graft any more.
+/// The record of a tree that is no longer grafted.
 fn cut(tree: TreeRecord) -> TreeRecord
     ensures { result ≡ record tree { graft = None; root = None; focus = None } }
 {
@@ -88,7 +87,7 @@ fn cut(tree: TreeRecord) -> TreeRecord
     }
 }
 
-/// The root of a tree, where it is present.
+/// The root of a tree, if it is present.
 fn root_of(tree: &TreeRecord) -> Option<FullNodeId>
     ensures { result
         ≡ option_and_then (λ index. option_map (in_tree index) tree.now.root) tree.now.index }
@@ -98,7 +97,7 @@ fn root_of(tree: &TreeRecord) -> Option<FullNodeId>
     Some(FullNodeId { tree: index, node })
 }
 
-/// A tree has lost its graft: it goes, unless a named node grafts it now.
+/// Removes a tree that lost its graft, unless a node of the update grafts it now.
 fn drop_tree<L: LookUps>(
     removing: &mut Removing,
     look_ups: &mut L,
@@ -127,7 +126,7 @@ fn drop_tree<L: LookUps>(
     lose(removing, compared, root)
 }
 
-/// With a node go its children and the tree that it grafts.
+/// Handles the children of a removed node and the tree that it grafts.
 fn expand<L: LookUps>(
     removing: &mut Removing,
     look_ups: &mut L,
@@ -156,7 +155,7 @@ fn expand<L: LookUps>(
     }
 }
 
-/// What left its spot loses it.
+/// Handles the nodes that left a spot.
 fn lose_left(removing: &mut Removing, compared: &Compared) -> Result<(), UpdateError>
     ghost setting: { World × UpdateData }
     requires so_far { IsRemoving setting.0 setting.1 compared.now removing.old }
@@ -169,7 +168,7 @@ fn lose_left(removing: &mut Removing, compared: &Compared) -> Result<(), UpdateE
     Ok(())
 }
 
-/// The trees that named nodes grafted, and don't now, have lost their grafts.
+/// Handles the trees that nodes of the update grafted before and don't graft now.
 fn drop_lost<L: LookUps>(
     removing: &mut Removing,
     look_ups: &mut L,
@@ -191,7 +190,7 @@ fn drop_lost<L: LookUps>(
     Ok(())
 }
 
-/// With each node that goes go others, until there are no more.
+/// Continues from each removed node until there is nothing more to remove.
 fn follow<L: LookUps>(
     removing: &mut Removing,
     look_ups: &mut L,
@@ -218,7 +217,7 @@ fn follow<L: LookUps>(
     Ok(())
 }
 
-/// Finds all that goes. `_update` is there for the contract alone: a caller makes the `setting` of it.
+/// Finds all nodes and trees to remove. `_update` is for the contract alone, whose `setting` callers make from it.
 fn find_all<L: LookUps>(
     removing: &mut Removing,
     look_ups: &mut L,
@@ -241,7 +240,7 @@ fn find_all<L: LookUps>(
     follow(removing, look_ups, compared)
 }
 
-/// The nodes that go, and the trees that lose their grafts and get no others.
+/// The nodes that are removed, and the trees that lose their grafts and get no others.
 pub(crate) fn remove<L: LookUps>(
     alloc: Global,
     look_ups: &mut L,

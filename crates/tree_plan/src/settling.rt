@@ -1,4 +1,4 @@
-//! Where those that entered stood before.
+//! The old places of the nodes that entered a spot.
 ghost use Rattle.std.specs.Prelude.{◌≡◌, ℕ, ◌↔◌, length, IsTrue, Some, OnOk, IfOk, IfErr};
 ghost use Rattle.schema.specs.UpdateData.{update_data};
 ghost use Rattle.model.specs.World.{IsNode, in_tree};
@@ -28,8 +28,8 @@ fn is_root(opened: &Opened, id: FullNodeId) -> bool
     id == root
 }
 
-/// Where a node stood that entered: at a place or, as a root, at none. A new one stood nowhere. Among the named nodes it is looked
-/// for at `near`.
+/// The old place of a node that entered a spot: `Some(None)` if it was a root, and `None` if it is new. The search
+/// among the update's nodes starts at `near`.
 fn find_old_place<L: LookUps>(
     look_ups: &mut L,
     update: &TreeUpdate,
@@ -69,7 +69,7 @@ fn is_below(was: Option<Option<Place>>, parent: FullNodeId) -> bool
     }
 }
 
-/// Keeps where an old node stood.
+/// Stores the old place of an old node.
 fn keep_place(
     settled: &mut Settled,
     id: FullNodeId,
@@ -84,7 +84,7 @@ fn keep_place(
     Ok(())
 }
 
-/// Keeps the parent that a node entered, unless the node was in its list.
+/// Stores the parent that a node entered, unless the node was in its list.
 fn keep_adopter(
     settled: &mut Settled,
     parent: FullNodeId,
@@ -101,7 +101,7 @@ fn keep_adopter(
     Ok(())
 }
 
-/// Settles one node that entered a spot.
+/// Looks up the old place of one node that entered a spot.
 fn settle_one<L: LookUps>(
     settled: &mut Settled,
     look_ups: &mut L,
@@ -135,7 +135,7 @@ fn settle_one<L: LookUps>(
     keep_adopter(settled, parent, was)
 }
 
-/// Where those that entered stood, and which nodes got a child that they didn't list.
+/// The old places of the nodes that entered a spot, and the nodes that got a child that they didn't list.
 pub(crate) fn settle<L: LookUps>(
     alloc: Global,
     look_ups: &mut L,

@@ -1,4 +1,4 @@
-//! What an update makes of the nodes that it touches.
+//! The verdicts on the nodes that an update touches.
 ghost use Rattle.std.specs.Prelude.{◌≡◌, ◌↔◌, ◌∷◌, [], option_map, IfOk, IfErr, OnOk, IsTrue, IsSome, Some, None, false};
 ghost use Rattle.std.specs.BTreeMap.{keys};
 ghost use Rattle.rows.specs.Rows.{Ascends};
@@ -17,22 +17,22 @@ use rows::{RowList, Rows};
 use std::alloc::Global;
 use tree_changes::UpdateError;
 
-/// What becomes of a node that is not as it was, or is told all the same.
+/// The verdict on a node that changes, or is reported without a change.
 #[derive(Clone, Copy)]
 pub(crate) enum Verdict {
-    /// It is new, with the data of this entry.
+    /// The node is new, with the data of this entry.
     Added { place: Option<Place>, entry: usize },
-    /// It has this place, and the data of this entry.
+    /// The node has this place and the data of this entry.
     Renewed { place: Option<Place>, entry: usize },
-    /// It has this place, and the data that it had.
+    /// The node has this place and its old data.
     Moved { place: Option<Place> },
-    /// It is as it was, and told as updated.
+    /// The node is unchanged, but reported as updated.
     Told,
-    /// It goes.
+    /// The node is removed.
     Removed,
 }
 
-/// What the passes found, and the root that is told even where it is as it was.
+/// What the passes found, and the root that is reported even if it is unchanged.
 #[derive(Drop)]
 pub(crate) struct Found {
     pub(crate) opened: Opened,
@@ -54,7 +54,7 @@ impl Found {
         Some((graft, 0))
     }
 
-    /// The place of a node that comes to another. It is looked for where the last search ended, as `near` says.
+    /// The place of a node that moves. The search starts at `near`, where the last one ended.
     fn other_place(&self, id: FullNodeId, near: &mut usize) -> Option<Option<Place>>
         ghost step: { Transition }
         requires found { IsFound step self.now }
@@ -71,7 +71,7 @@ impl Found {
         Some(Some((*graft, 0)))
     }
 
-    /// What becomes of a node whose data stay.
+    /// The verdict on a node whose data is unchanged.
     fn moved_or_told(&self, id: FullNodeId, moved: Option<Option<Place>>) -> Option<Verdict>
         ghost step: { Transition }
         requires found { IsFound step self.now }
@@ -88,14 +88,14 @@ impl Found {
         None
     }
 
-    /// Whether the node is told even where it is as it was.
+    /// Whether the node is reported even if it is unchanged.
     fn is_told(&self, id: FullNodeId) -> bool
         ensures { IsTrue result ↔ (self.now.told ≡ Some id) }
     {
         self.told == Some(id)
     }
 
-    /// What becomes of a node with this entry among the named ones, where it is not as it was or is told all the same.
+    /// The verdict on a node with this entry in the update, if it changes or is reported without a change.
     fn verdict(&self, id: FullNodeId, named: Option<Named>, near: &mut usize) -> Option<Verdict>
         ghost step: { Transition }
         requires found { IsFound step self.now }
@@ -121,7 +121,7 @@ impl Found {
         self.moved_or_told(id, moved)
     }
 
-    /// Adds the verdict on a node with this entry among the named ones, where there is one.
+    /// Adds the verdict on a node with this entry in the update, if there is a verdict.
     fn judge_as(
         &self,
         id: FullNodeId,
@@ -143,7 +143,7 @@ impl Found {
         Ok(())
     }
 
-    /// Adds the verdict on a node, where there is one.
+    /// Adds the verdict on a node, if there is one.
     fn judge(&self, id: FullNodeId, verdicts: &mut RowList<Verdict>) -> Result<(), UpdateError>
         ghost step: { Transition }
         requires found { IsFound step self.now }
@@ -156,7 +156,7 @@ impl Found {
         self.judge_as(id, named, &mut near, verdicts)
     }
 
-    /// Adds the verdicts on the named nodes.
+    /// Adds the verdicts on the update's nodes.
     fn judge_named(&self, verdicts: &mut RowList<Verdict>) -> Result<(), UpdateError>
         ghost step: { Transition }
         requires found { IsFound step self.now }
@@ -171,7 +171,7 @@ impl Found {
         Ok(())
     }
 
-    /// Adds the verdict on a node that was judged if it is named.
+    /// Adds the verdict on a node, unless it is in the update and was judged there.
     fn judge_unnamed(
         &self,
         id: FullNodeId,
@@ -193,7 +193,7 @@ impl Found {
         self.judge_as(id, named, &mut entered, verdicts)
     }
 
-    /// Adds the verdicts on the nodes that entered a spot, where the named ones are judged.
+    /// Adds the verdicts on the nodes that entered a spot, after those on the update's nodes.
     fn judge_entered(&self, verdicts: &mut RowList<Verdict>) -> Result<(), UpdateError>
         ghost step: { Transition }
         requires found { IsFound step self.now }
@@ -210,7 +210,7 @@ impl Found {
         Ok(())
     }
 
-    /// Adds the verdicts on the roots that are moved in.
+    /// Adds the verdicts on the roots of regrafted trees.
     fn judge_moved_in(&self, verdicts: &mut RowList<Verdict>) -> Result<(), UpdateError>
         ghost step: { Transition }
         requires found { IsFound step self.now }
@@ -224,7 +224,7 @@ impl Found {
         Ok(())
     }
 
-    /// Adds the verdicts on the nodes that go.
+    /// Adds the verdicts on the removed nodes.
     fn judge_gone(&self, verdicts: &mut RowList<Verdict>) -> Result<(), UpdateError>
         ghost step: { Transition }
         requires found { IsFound step self.now }
@@ -239,7 +239,7 @@ impl Found {
         Ok(())
     }
 
-    /// Adds the verdict on the told root, where there is one.
+    /// Adds the verdict on the root that is reported without a change, if there is one.
     fn judge_told(&self, verdicts: &mut RowList<Verdict>) -> Result<(), UpdateError>
         ghost step: { Transition }
         requires found { IsFound step self.now }
@@ -254,7 +254,7 @@ impl Found {
         Ok(())
     }
 
-    /// What becomes of each node that is not as it was, or is told all the same.
+    /// The verdicts on all nodes that change or are reported without a change.
     pub(crate) fn verdicts(&self, alloc: Global) -> Result<Rows<Verdict>, UpdateError>
         ghost step: { Transition }
         requires { IsFound step self.now }
@@ -263,7 +263,7 @@ impl Found {
         ensures gone { OnOk result (IsStrictlySortedBy full_cmp self.now.removed.gone.keys) }
         ensures err { IfErr result (λ e. e ≡ Memory) }
     {
-        // beside the named nodes there is often one that came to another of them
+        // beside the update's nodes there is often one that moved to another of them
         let count = self.compared.named.len().max(self.compared.entered.len());
         let mut verdicts = RowList::with_capacity(alloc, count.saturating_add(1))?;
         self.judge_named(&mut verdicts)?;

@@ -23,7 +23,7 @@ use schema::TreeUpdate;
 use std::alloc::Global;
 use tree_changes::{Decision, NodeChange, TreeRecord, UpdateError};
 
-/// Which nodes are told of together.
+/// The groups in which nodes are reported.
 #[derive(Clone, Copy, PartialEq, Eq)]
 pub(crate) enum Group {
     Added,
@@ -32,7 +32,7 @@ pub(crate) enum Group {
 }
 
 impl Verdict {
-    /// The change of the node's record, where there is one.
+    /// The change of the node's record, if there is one.
     fn change(self) -> Option<NodeChange>
         ensures { result ≡ change_of self }
     {
@@ -64,7 +64,7 @@ impl Verdict {
     }
 }
 
-/// The event of a node, if its group is told of.
+/// The event of a node, if it belongs to the group.
 fn event(own: Group, told: Group, id: FullNodeId) -> Option<PlanEvent>
     ensures { option_to_list result ≡ event_in own told id }
 {
@@ -119,7 +119,7 @@ fn push_group(
     Ok(())
 }
 
-/// Adds that a focused node is updated, unless it is told of anyway.
+/// Adds that a focused node is updated, unless it is reported anyway.
 fn push_untold(
     verdicts: &Rows<Verdict>,
     focus: Option<FullNodeId>,
@@ -136,7 +136,7 @@ fn push_untold(
     Ok(())
 }
 
-/// Adds what a move of the focus tells.
+/// Adds the events of a moved focus.
 fn push_move(
     verdicts: &Rows<Verdict>,
     before: Option<FullNodeId>,
@@ -155,7 +155,7 @@ fn push_move(
     Ok(())
 }
 
-/// What is told, in order. Of the first update nothing is.
+/// The events, in order. The first update has none.
 fn told_events(
     alloc: Global,
     is_first: bool,
@@ -190,7 +190,7 @@ pub(crate) fn own_record(opened: &Opened, update: &TreeUpdate) -> TreeRecord
     }
 }
 
-/// Whether two records say the same.
+/// Whether two records are equal.
 pub(crate) fn is_same_record(a: &TreeRecord, b: &TreeRecord) -> bool
     ensures { IsTrue result ↔ (a.now ≡ b.now) }
 {
@@ -201,7 +201,7 @@ pub(crate) fn is_same_record(a: &TreeRecord, b: &TreeRecord) -> bool
         && a.id == b.id
 }
 
-/// The records of trees afterwards, where they are others than before.
+/// The records of trees afterwards, as far as they differ from before.
 fn tree_changes(
     alloc: Global,
     found: &Found,
@@ -219,7 +219,7 @@ fn tree_changes(
     Ok(trees)
 }
 
-/// The root that is told even where it is as it was: the one in the tree info of another tree than the root tree.
+/// The root that is reported even if it is unchanged: the one in the tree info of another tree than the root tree.
 pub(crate) fn told_root(opened: &Opened, update: &TreeUpdate) -> Option<FullNodeId>
     ensures { result ≡ told_root opened.now.index (update_data update.now).info }
 {
@@ -233,8 +233,8 @@ pub(crate) fn told_root(opened: &Opened, update: &TreeUpdate) -> Option<FullNode
     })
 }
 
-/// The decision on an accepted update, for which so many records were looked up. What the passes found gives its memory back before
-/// the changes are listed.
+/// The decision on an accepted update. `looked` is the number of records looked up for it. The results of the passes
+/// are freed before the changes are listed.
 pub(crate) fn write(
     alloc: Global,
     update: &TreeUpdate,

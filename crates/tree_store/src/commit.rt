@@ -1,4 +1,4 @@
-//! The first state, and how changes come into a state: room is made for them, and then they are written.
+//! The first state, and how changes are written into a state: memory for them is reserved first.
 ghost use Rattle.std.specs.Prelude.{◌≡◌, ◌≢◌, ◌<◌, true, None, map, length, All, AllPairs, Contains, IfSome, option_map, IfOk, OnOk, OnErr, if◌then◌else◌};
 ghost use Rattle.std.specs.Vec.{vec_len, vec_capacity};
 ghost use Rattle.tree_store.specs.Stored.{texts_shown, names_shown, trees_shown, record_at};
@@ -27,12 +27,12 @@ use std::collections::BTreeMap;
 use tree_changes::{Decision, ToolkitTexts};
 
 impl Store {
-    /// Makes what is needed so that the changes can be written without memory: a slot for each new node, a record for each
-    /// new name, and room for a new known tree.
+    /// Reserves what is needed to write the changes without allocating: a slot for each new node, a record for each new
+    /// tree id, and room for a new known tree.
     ///
     /// # Errors
     ///
-    /// `AllocError`: memory was wanting. The world is the same, and all that was made is taken back.
+    /// Returns `AllocError` if memory runs out. The world is unchanged, and all that was reserved is released.
     pub fn reserve(&mut self, update: &TreeUpdate, decision: &Decision) -> Result<(), AllocError>
         requires tight { IsTight self.old }
         requires decided { IsDecision self.old.world (update_data update.now) decision.now }
@@ -45,7 +45,7 @@ impl Store {
         self.tables.make_all(is_new, decision)
     }
 
-    /// Writes the changes into the state, which is ready for them. Nothing is allocated, and no node's data are copied.
+    /// Writes the changes into the state, after [`Store::reserve`]. Nothing is allocated, and no node's data is copied.
     pub fn commit(&mut self, update: TreeUpdate, decision: Decision)
         requires ready { IsReadyFor self.old (update_data update) decision }
         requires decided { IsDecision self.old.world (update_data update) decision }
@@ -59,11 +59,11 @@ impl Store {
         self.focus = decision.focus;
     }
 
-    /// The first state: what the first update makes.
+    /// The first state: the result of the first update.
     ///
     /// # Errors
     ///
-    /// `AllocError`: memory was wanting.
+    /// Returns `AllocError` if memory runs out.
     pub fn first(
         alloc: Global,
         update: TreeUpdate,
@@ -99,7 +99,7 @@ impl Store {
 }
 
 impl Tables {
-    /// Writes an update's changes, for which there is room.
+    /// Writes an update's changes, after memory for them was reserved.
     fn write_decision(
         &mut self,
         update: TreeUpdate,
@@ -137,7 +137,7 @@ impl Tables {
         self.write_trees(tree, tree_id, decision, is_new, is_root);
     }
 
-    /// Writes what an update changes of trees, for which there is room.
+    /// Writes an update's changes of trees, after memory for them was reserved.
     fn write_trees(
         &mut self,
         tree: Option<TreeInfo>,
@@ -161,7 +161,7 @@ impl Tables {
         set_texts(&mut self.toolkit, is_root, tree);
     }
 
-    /// Makes a record for each changed name, and room for a new one.
+    /// Makes a record for each changed tree id, and room for a new one.
     fn make_trees(&mut self, decision: &Decision) -> Result<(), AllocError>
         ensures nodes { self.new.nodes ≡ self.old.nodes }
         ensures names { OnOk result ((name : TreeId) → kept_in (name_at self.new.names name) ≡ kept_in (name_at self.old.names name)) }
@@ -175,8 +175,8 @@ impl Tables {
         Ok(())
     }
 
-    /// Makes a slot for each changed node, a record for each changed name, and room for a new one. Where memory is refused all is
-    /// taken back.
+    /// Makes a slot for each changed node, a record for each changed tree id, and room for a new one. If an allocation
+    /// fails, all of it is released.
     fn make_all(&mut self, is_new: bool, decision: &Decision) -> Result<(), AllocError>
         requires { HasNoSpare self.old.nodes }
         ensures nodes { (id : FullNodeId) → record_at self.new.nodes id ≡ record_at self.old.nodes id }
@@ -203,7 +203,7 @@ impl Tables {
     }
 }
 
-// makes room for one more known tree, where one is needed
+// reserves room for one more known tree, if one is needed
 fn make_known(known: &mut Vec<KnownTree>, is_new: bool) -> Result<(), AllocError>
     ensures items { known.new.items ≡ known.old.items }
     ensures ok { OnOk result (is_new ≡ true → vec_len known.new < vec_capacity known.new) }
@@ -214,7 +214,7 @@ fn make_known(known: &mut Vec<KnownTree>, is_new: bool) -> Result<(), AllocError
     Ok(())
 }
 
-// replaces the toolkit's texts by those of tree info for the root tree
+// replaces the toolkit's texts by those of the root tree's tree info
 fn set_texts(texts: &mut ToolkitTexts, is_root: bool, info: Option<TreeInfo>)
     ensures { texts_shown texts.new ≡ texts_after (if is_root then option_map info_data info else None) (texts_shown texts.old) }
 {

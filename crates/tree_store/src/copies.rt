@@ -1,4 +1,4 @@
-//! Copies of what a state keeps of its nodes.
+//! Copies of a state's node records.
 ghost use Rattle.std.specs.Prelude.{◌≡◌, IfOk, option_map};
 ghost use Rattle.model.specs.declared.FullNodeId.{FullNodeId};
 ghost use Rattle.tree_store.specs.Copied.{IsCopyOf, copy_at, copy_of};
@@ -24,7 +24,7 @@ impl Store {
     ///
     /// # Errors
     ///
-    /// `AllocError`: memory was wanting for a copy.
+    /// Returns `AllocError` if memory runs out.
     pub fn copy_records(
         &self,
         alloc: Global,

@@ -10,7 +10,7 @@ use crate::records::{KnownTree, PresentTree};
 use schema::TreeId;
 use tree_changes::TreeRecord;
 
-/// Adds a name, whose tree isn't present yet. There is room for it.
+/// Adds a tree id whose tree isn't present yet. Room for it was reserved.
 pub(crate) fn add_name(known: &mut Vec<KnownTree>, name: TreeId)
     requires { vec_len known.old < vec_capacity known.old }
     ensures names { names_shown known.new.items ≡ names_shown known.old.items ++ name ∷ [] }
@@ -21,7 +21,7 @@ pub(crate) fn add_name(known: &mut Vec<KnownTree>, name: TreeId)
     }
 }
 
-/// Writes what is changed of trees, after a new name is added.
+/// Writes the changes of trees, after a new tree id is added.
 pub(crate) fn write_known(
     known: &mut Vec<KnownTree>,
     is_new: bool,
@@ -39,7 +39,7 @@ pub(crate) fn write_known(
     write_trees(known, records);
 }
 
-/// Writes what is changed of trees.
+/// Writes the changes of trees.
 pub(crate) fn write_trees(known: &mut Vec<KnownTree>, records: &[TreeRecord])
     requires { All (λ r. IfSome r.index (λ i. i < length known.old.items)) records.now }
     ensures names { names_shown known.new.items ≡ names_shown known.old.items }
@@ -71,7 +71,7 @@ fn set_tree(known: &mut Vec<KnownTree>, index: usize, tree: Option<PresentTree>)
     known[index].tree = tree;
 }
 
-// the tree of a record, where it is present
+// the tree of a record, if it is present
 fn present_in(changed: &TreeRecord) -> Option<PresentTree>
     ensures { option_map tree_of result ≡ tree_from changed.now.root changed.now.focus }
 {

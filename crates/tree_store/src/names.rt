@@ -1,4 +1,4 @@
-//! The known trees by index, and the names that are known or grafted.
+//! The known trees by index, and the tree ids that are known or grafted.
 ghost use Rattle.std.specs.Prelude.{◌≡◌, option_copied, option_map, option_and_then, slice_get, Some, None, ◌≢◌, cond, IsSome, OnOk, OnErr, All, AllPairs, ◌⊎◌};
 ghost use Rattle.tree_store.specs.Stored.{tree_of};
 ghost use Rattle.std.specs.Ordering.{is_eq};
@@ -14,42 +14,42 @@ use std::alloc::AllocError;
 use std::collections::BTreeMap;
 use tree_changes::TreeRecord;
 
-/// What is said of the tree with this index, where it is present.
+/// The root and focus of the tree with this index, if it is present.
 pub(crate) fn present_tree(known: &[KnownTree], index: u32) -> Option<PresentTree>
     ensures { result ≡ option_and_then (λ k. k.tree) (slice_get known.now index) }
 {
     known.get(index as usize)?.tree
 }
 
-/// The name of the tree with this index.
+/// The id of the tree with this index.
 pub(crate) fn known_name(known: &[KnownTree], index: u32) -> Option<TreeId>
     ensures { result ≡ option_map (λ k. k.name) (slice_get known.now index) }
 {
     known.get(index as usize).map(|known| known.name)
 }
 
-/// What is said of the tree with this index, where there is one and it is present.
+/// The root and focus of the tree with this index, if there is one and it is present.
 pub(crate) fn tree_in(known: &[KnownTree], index: Option<u32>) -> Option<PresentTree>
     ensures { result ≡ option_and_then (λ i. option_and_then (λ k. k.tree) (slice_get known.now i)) index }
 {
     present_tree(known, index?)
 }
 
-/// What is kept of a name.
+/// The record of a tree id.
 pub(crate) fn name_record(names: &BTreeMap<TreeId, NameRecord>, name: &TreeId) -> Option<NameRecord>
     ensures { result ≡ name_at names.now name.now }
 {
     names.get(name).copied()
 }
 
-/// The index of a name, where it is known.
+/// The index of a tree id, if it is known.
 pub(crate) fn index_in(found: Option<NameRecord>) -> Option<u32>
     ensures { result ≡ option_and_then (λ r. r.index) found }
 {
     found?.index
 }
 
-/// The node that grafts the tree of a name, where one does.
+/// The node that grafts the tree with this id, if there is one.
 pub(crate) fn graft_in(found: Option<NameRecord>) -> Option<FullNodeId>
     ensures { result ≡ option_and_then (λ r. r.graft) found }
 {
@@ -70,7 +70,7 @@ pub(crate) fn focus_in(tree: Option<PresentTree>) -> Option<NodeId>
     tree.map(|tree| tree.focus)
 }
 
-/// Keeps what is changed of names. Each of them has a record, so that nothing is allocated.
+/// Writes the changes of tree ids. Each of them has a record, so nothing is allocated.
 pub(crate) fn write_names(names: &mut BTreeMap<TreeId, NameRecord>, records: &[TreeRecord])
     requires there { HasNames names.old records.now }
     requires once { AllPairs (λ a b. a.id ≢ b.id) records.now }
@@ -116,7 +116,7 @@ fn kept_name(changed: &TreeRecord) -> Option<NameRecord>
     None
 }
 
-/// Makes an empty record for each changed name that has none. Where one is refused all are taken back.
+/// Makes an empty record for each changed tree id that has none. If an allocation fails, all of them are removed.
 pub(crate) fn make_names(
     names: &mut BTreeMap<TreeId, NameRecord>,
     records: &[TreeRecord],
@@ -152,7 +152,7 @@ fn make_name(names: &mut BTreeMap<TreeId, NameRecord>, name: &TreeId) -> Result<
     Ok(())
 }
 
-/// Takes away the empty records of changed names.
+/// Removes the empty records of changed tree ids.
 pub(crate) fn take_names_back(names: &mut BTreeMap<TreeId, NameRecord>, records: &[TreeRecord])
     ensures same { (name : TreeId) → kept_in (name_at names.new name) ≡ kept_in (name_at names.old name) }
     ensures fewer { HasNoMore names.old names.new }

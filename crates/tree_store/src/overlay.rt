@@ -1,4 +1,4 @@
-//! An update's changes, laid over a state.
+//! An update's changes laid over a state.
 ghost use Rattle.std.specs.Prelude.{◌≡◌, ◌==◌, ◌<◌, ◌^◌, ℕ, List, map, drop, option_copied, option_map, option_and_then, slice_get, Some, None, IsSome, cond};
 ghost use Rattle.std.specs.FinMap.{len};
 ghost use Rattle.std.specs.List.Sorted.{IsStrictlySortedBy};
@@ -24,14 +24,14 @@ use model::{FullNodeId, Place};
 use schema::{Node, NodeId, TreeId, TreeInfo, TreeUpdate};
 use tree_changes::{Decision, NodeChange, TreeRecord};
 
-/// A decision on an update, with the update that has the data.
+/// A decision on an update, with the update that holds the data.
 #[derive(Clone, Copy)]
 pub struct Overlay<'a> {
     pub update: &'a TreeUpdate,
     pub decision: &'a Decision,
 }
 
-/// What becomes of a node, where it changes. The changes ascend by id.
+/// The change of a node, if it changes. The changes ascend by id.
 pub(crate) fn change_of(changes: &[(FullNodeId, NodeChange)], id: FullNodeId) -> Option<NodeChange>
     requires { IsStrictlySortedBy full_cmp (map (λ e. e.0) changes.now) }
     ensures { result ≡ change_at changes.now id }
@@ -49,7 +49,7 @@ pub(crate) fn entry_node(nodes: &[(NodeId, Node)], entry: usize) -> Option<&Node
     nodes.get(entry).map(|entry| &entry.1)
 }
 
-/// The data of a node after a change. What is kept is looked up only where the data stay.
+/// The data of a node after a change. The stored data is looked up only if it stays.
 pub(crate) fn changed_node<'b>(
     base: &'b Store,
     nodes: &'b [(NodeId, Node)],
@@ -78,7 +78,7 @@ pub(crate) fn changed_place(change: NodeChange) -> Option<Place>
     }
 }
 
-/// The changed record of a name, where it changes.
+/// The changed record of a tree id, if it changes.
 pub(crate) fn changed_record(records: &[TreeRecord], name: &TreeId) -> Option<TreeRecord>
     ensures { result ≡ tree_change records.now name.now }
 {
@@ -96,7 +96,7 @@ fn is_of_name(changed: &TreeRecord, name: &TreeId) -> bool
     changed.id.cmp(name).is_eq()
 }
 
-/// The record, unless it has neither an index nor a graft.
+/// The record, or `None` if it has neither an index nor a graft.
 fn kept_record(changed: TreeRecord) -> Option<TreeRecord>
     ensures { result ≡ if_kept changed }
 {
@@ -125,7 +125,7 @@ fn root_in_record(found: Option<TreeRecord>) -> Option<FullNodeId>
 }
 
 impl<'a> Overlay<'a> {
-    /// What is known of the world with the changes: it is a state. Nothing is computed.
+    /// The world with the changes is a state. Only a proof uses this; it computes nothing.
     pub fn know(self, base: &Store)
         requires { IsLaidOver base.now.world self }
         ensures state { IsState (laid_over base.now.world self.entry) }
@@ -134,7 +134,8 @@ impl<'a> Overlay<'a> {
         base.know();
     }
 
-    /// The world with the changes has fewer nodes than a `usize` counts, where there are slots for them. Nothing is computed.
+    /// The number of nodes of the world with the changes fits a `usize`, if there are slots for them. Only a proof uses
+    /// this; it computes nothing.
     pub fn know_count(self, base: &Store)
         requires { HasSlots base.now self.decision.now }
         ensures { len (laid_over base.now.world self.entry).nodes < 2 ^ 63 }
@@ -160,7 +161,7 @@ impl<'a> Overlay<'a> {
         }
     }
 
-    /// Where a node that is there stands.
+    /// The place of a node, if the node is in the state.
     pub fn place(self, base: &Store, id: FullNodeId) -> Option<Place>
         requires laid { IsLaidOver base.now.world self }
         requires there { IsNode (laid_over base.now.world self) id }
@@ -182,7 +183,7 @@ impl<'a> Overlay<'a> {
         }
     }
 
-    /// The index of the tree of this name, where it was ever known.
+    /// The index of the tree with this id, if it was ever known.
     pub fn tree_index(self, base: &Store, name: TreeId) -> Option<u32>
         requires { IsLaidOver base.now.world self }
         ensures { result ≡ index_of (laid_over base.now.world self.entry) name }
@@ -190,7 +191,7 @@ impl<'a> Overlay<'a> {
         index_in_record(self.record(base, &name))
     }
 
-    /// The root of the tree of this name, where it is present.
+    /// The root of the tree with this id, if it is present.
     pub fn subtree_root(self, base: &Store, name: TreeId) -> Option<FullNodeId>
         requires { IsLaidOver base.now.world self }
         ensures { result ≡ root_named (laid_over base.now.world self.entry) name }
@@ -210,7 +211,7 @@ impl<'a> Overlay<'a> {
         }
     }
 
-    /// The name of the tree with this index.
+    /// The id of the tree with this index.
     pub fn tree_id(self, base: &Store, index: u32) -> Option<TreeId>
         ensures { result ≡ slice_get (laid_over base.now.world self.entry).known index }
     {
@@ -235,7 +236,7 @@ impl<'a> Overlay<'a> {
         self.decision.focus
     }
 
-    // the tree info that replaces the toolkit's texts
+    // the tree info that replaces the toolkit's texts, if any
     fn root_info(self, base: &Store) -> Option<&'a TreeInfo>
         ensures { option_map info_data (option_copied result) ≡ replacing base.now.world (update_data self.entry.update.now) }
     {
@@ -245,7 +246,7 @@ impl<'a> Overlay<'a> {
         self.update.tree.as_ref()
     }
 
-    /// The text of the toolkit's name, as it was sent.
+    /// The toolkit's name, as sent in the update.
     pub fn toolkit_name(self, base: &'a Store) -> Option<&'a str>
         ensures { option_copied result ≡ (laid_over base.now.world self.entry).toolkit.0 }
     {
@@ -255,7 +256,7 @@ impl<'a> Overlay<'a> {
         }
     }
 
-    /// The text of the toolkit's version, as it was sent.
+    /// The toolkit's version, as sent in the update.
     pub fn toolkit_version(self, base: &'a Store) -> Option<&'a str>
         ensures { option_copied result ≡ (laid_over base.now.world self.entry).toolkit.1 }
     {
@@ -266,7 +267,7 @@ impl<'a> Overlay<'a> {
     }
 }
 
-// whether the name is the root tree's in a state
+// whether this is the root tree's id in a state
 pub(crate) fn is_root_index(base: &Store, name: TreeId) -> bool
     ensures { result ≡ (index_for base.now.world name == 0) }
 {

@@ -19,10 +19,10 @@ use std::alloc::{AllocError, Global};
 use std::mem;
 use tree_changes::NodeChange;
 
-/// An empty slot is one that a commit fills.
+/// The slots of nodes. An empty slot is one that a commit will fill.
 pub(crate) type Slots = IdIndex<Box<Option<Record>>>;
 
-/// The record of an id, where there is one.
+/// The record of an id, if there is one.
 pub(crate) fn record(slots: &Slots, id: FullNodeId) -> Option<&Record>
     ensures { option_copied result ≡ record_at slots.now id }
 {
@@ -35,7 +35,7 @@ fn filled(slot: &Box<Option<Record>>) -> Option<&Record>
     (**slot).as_ref()
 }
 
-/// Makes an empty slot for each change that has none. Where one is refused all are taken back.
+/// Makes an empty slot for each changed node that has none. If an allocation fails, all of them are removed.
 pub(crate) fn make_room(
     alloc: Global,
     slots: &mut Slots,
@@ -68,7 +68,7 @@ fn add_slot(alloc: Global, slots: &mut Slots, id: FullNodeId) -> Result<(), Allo
     Ok(())
 }
 
-/// Takes away the empty slots of changes.
+/// Removes the empty slots of changed nodes.
 pub(crate) fn take_back(slots: &mut Slots, changes: &[(FullNodeId, NodeChange)])
     requires { (id : FullNodeId) → IsTrue (is_some (slot_at slots.old id)) → IsTrue (is_some (record_at slots.old id) || is_some (change_at changes.now id)) }
     ensures same { (id : FullNodeId) → record_at slots.new id ≡ record_at slots.old id }
@@ -94,7 +94,7 @@ fn has_record(slots: &Slots, id: FullNodeId) -> bool
     record(slots, id).is_some()
 }
 
-// takes an entry's node out, and leaves the other
+// takes an entry's node out, and leaves another one in its place
 fn take_node(nodes: &mut Vec<(NodeId, Node)>, entry: usize, other: Node) -> Node
     requires { entry < length nodes.old.items }
     ensures node { entry_data nodes.old.items entry ≡ Some result }
@@ -104,7 +104,7 @@ fn take_node(nodes: &mut Vec<(NodeId, Node)>, entry: usize, other: Node) -> Node
     mem::replace(&mut nodes[entry].1, other)
 }
 
-// gives a node this place, and an entry's data
+// sets a node's place and gives it an entry's data
 fn put_node(
     alloc: Global,
     slots: &mut Slots,
@@ -125,7 +125,7 @@ fn put_node(
     }
 }
 
-// gives what is in a slot this place, and an entry's data; data that were there come to the entry in their place
+// sets the place of what is in a slot and swaps its data with an entry's
 fn put_record(
     alloc: Global,
     slot: &mut Option<Record>,
@@ -150,7 +150,7 @@ fn put_record(
     }
 }
 
-// gives a node this place
+// sets a node's place
 fn put_place(slots: &mut Slots, id: FullNodeId, place: Option<Place>)
     requires { IsSome (slot_at slots.old id) }
     ensures records { (q : FullNodeId) → record_at slots.new q ≡ cond (is_at (full_cmp id) q) (record_moved_to place (record_at slots.old id)) (record_at slots.old q) }
@@ -161,7 +161,7 @@ fn put_place(slots: &mut Slots, id: FullNodeId, place: Option<Place>)
     }
 }
 
-// gives the record in a slot that is there this place, and answers whether there is one
+// sets the place of the record in a slot, and returns whether there is one
 fn set_place(slots: &mut Slots, id: FullNodeId, place: Option<Place>) -> bool
     requires { IsSome (slot_at slots.old id) }
     ensures there { result ≡ is_some (record_at slots.old id) }
@@ -173,7 +173,7 @@ fn set_place(slots: &mut Slots, id: FullNodeId, place: Option<Place>) -> bool
     }
 }
 
-// gives a record another place, and answers whether there is one
+// sets a record's place, and returns whether there is one
 fn move_record(slot: &mut Option<Record>, place: Option<Place>) -> bool
     ensures there { result ≡ is_some slot.old }
     ensures moved { slot.new ≡ record_moved_to place slot.old }
@@ -211,7 +211,7 @@ fn write(
     }
 }
 
-/// Writes the changes into their slots. The data that they give are taken out of the update's nodes. Nothing is allocated.
+/// Writes the changes into their slots. Their data is taken out of the update's nodes. Nothing is allocated.
 pub(crate) fn write_all(
     alloc: Global,
     slots: &mut Slots,
@@ -230,16 +230,16 @@ pub(crate) fn write_all(
     }
 }
 
-/// Records that wait for their places, by the entries of the update's nodes. Where one was taken there is none.
+/// Records waiting for their places, one for each entry of the update's nodes; `None` once it was taken.
 type Waiting = Vec<Option<Box<Option<Record>>>>;
 
-/// How much longer than its nodes a list's memory may be before some of it is given back.
+/// By how much a list's capacity may exceed its length before some of it is released.
 const SPARE: usize = 4096;
 
-/// The slots of a first state: the changes, with the data that they give from the update's nodes.
+/// The slots of a first state: the changes, with their data from the update's nodes.
 ///
-/// The nodes are taken from their list's end, and its memory is given back meanwhile, so that the list and the records don't stand
-/// side by side.
+/// The nodes are taken from the end of their list and its memory is released meanwhile, so that the list and the
+/// records are never both in memory in full.
 pub(crate) fn first_slots(
     alloc: Global,
     nodes: Vec<(NodeId, Node)>,
@@ -274,7 +274,7 @@ fn boxed(alloc: Global, mut nodes: Vec<(NodeId, Node)>) -> Result<Waiting, Alloc
     Ok(waiting)
 }
 
-// gives a node of a first state this change
+// applies this change to a node of a first state
 fn place_first(
     slots: &mut Slots,
     waiting: &mut Waiting,
@@ -307,7 +307,7 @@ fn place_first(
     Ok(())
 }
 
-// takes an entry's record, and gives it this place
+// takes an entry's record, and sets its place
 fn placed(waiting: &mut Waiting, entry: usize, place: Option<Place>) -> Option<Box<Option<Record>>>
     ensures data { option_map (λ b. b.value) result ≡ option_map (λ d. Some (placed_record place d)) (data_waiting waiting.old.items entry) }
     ensures others { (k : ℕ) → k ≢ entry → data_waiting waiting.new.items k ≡ data_waiting waiting.old.items k }

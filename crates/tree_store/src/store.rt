@@ -1,4 +1,4 @@
-//! The nodes and trees of a state, with what is kept beside them so that they are found at once.
+//! The store of a state: its nodes and trees, and indexes to find them.
 ghost use Rattle.std.specs.Prelude.{◌≡◌, ◌<◌, ◌^◌, ◌||◌, not, ℕ, Some, IsSome, IfSome, is_some, length, option_copied, option_map, slice_get};
 ghost use Rattle.std.specs.FinMap.{get as tree_at, len as nodes_len};
 ghost use Rattle.std.specs.FinSet.{len as slots_len};
@@ -20,8 +20,8 @@ use schema::{Node, TreeId};
 use std::marker::Model;
 use tree_changes::{NodeRecord, TreeRecord};
 
-/// A state: each node's data and place, the known trees, the toolkit's texts and the focus. A clause sees the world that it
-/// shows, as `store.now.world`, the ids that there is a slot for, and whether there is room for a new tree.
+/// The stored state: each node's data and place, the known trees, the toolkit's texts and the focus. Contracts see its
+/// world, as `store.now.world`, the ids that have a slot, and whether there is room for a new tree.
 #[derive(Drop)]
 pub struct Store {
     pub(crate) tables: Tables,
@@ -47,7 +47,7 @@ impl Model for Store {
 }
 
 impl Store {
-    /// What is known of each store: the world that it shows is a state. Nothing is computed.
+    /// The world of a store is a state. Only a proof uses this; it computes nothing.
     pub fn know(&self)
         ensures state { IsState self.now.world }
         ensures formed { IsFormed self.now.world }
@@ -55,7 +55,7 @@ impl Store {
         let _focus = self.focus;
     }
 
-    /// A state has fewer nodes than a `usize` counts, and fewer slots. Nothing is computed.
+    /// The numbers of nodes and slots fit a `usize`. Only a proof uses this; it computes nothing.
     pub fn know_count(&self)
         ensures slots { slots_len self.now.slots < 2 ^ 63 }
         ensures nodes { nodes_len self.now.world.nodes < 2 ^ 63 }
@@ -71,7 +71,7 @@ impl Store {
         Some(&record.node)
     }
 
-    /// Where a node that is there stands.
+    /// The place of a node, if the node is in the state.
     pub fn place(&self, id: FullNodeId) -> Option<Place>
         requires { IsNode self.now.world id }
         ensures { IsPlaceOf self.now.world id result }
@@ -94,7 +94,7 @@ impl Store {
         })
     }
 
-    /// What is known of a name, where it is known or grafted.
+    /// The record of a tree id, if it is known or grafted.
     pub fn tree(&self, name: TreeId) -> Option<TreeRecord>
         ensures { IsTreeRecord self.now.world name result }
     {
@@ -111,7 +111,7 @@ impl Store {
         present_tree(self.tables.known.as_slice(), index)
     }
 
-    /// The root of the tree of this name, where it is present.
+    /// The root of the tree with this id, if it is present.
     pub fn subtree_root(&self, name: TreeId) -> Option<FullNodeId>
         ensures { result ≡ root_named self.now.world name }
     {
@@ -149,42 +149,42 @@ impl Store {
         self.host_focused
     }
 
-    /// Tells the state whether the host window has the focus. All else stays.
+    /// Sets whether the host window has the focus.
     pub fn set_host_focused(&mut self, focused: bool)
         ensures { self.new ≡ record self.old { world = record self.old.world { host_focused = focused } } }
     {
         self.host_focused = focused;
     }
 
-    /// How many names of trees are known.
+    /// The number of known tree ids.
     pub fn known_trees(&self) -> u32
         ensures { result ≡ length self.now.world.known }
     {
         self.tables.known.len() as u32
     }
 
-    /// The index of the tree of this name, where it was ever known.
+    /// The index of the tree with this id, if it was ever known.
     pub fn tree_index(&self, name: TreeId) -> Option<u32>
         ensures { result ≡ index_of self.now.world name }
     {
         index_in(name_record(&self.tables.names, &name))
     }
 
-    /// The name of the tree with this index.
+    /// The id of the tree with this index.
     pub fn tree_id(&self, index: u32) -> Option<TreeId>
         ensures { result ≡ slice_get self.now.world.known index }
     {
         known_name(self.tables.known.as_slice(), index)
     }
 
-    /// The text of the toolkit's name, as it was sent.
+    /// The toolkit's name, as sent in the update.
     pub fn toolkit_name(&self) -> Option<&str>
         ensures { option_copied result ≡ self.now.world.toolkit.0 }
     {
         self.tables.toolkit.0.as_ref().map(|text| text.as_str())
     }
 
-    /// The text of the toolkit's version, as it was sent.
+    /// The toolkit's version, as sent in the update.
     pub fn toolkit_version(&self) -> Option<&str>
         ensures { option_copied result ≡ self.now.world.toolkit.1 }
     {
@@ -192,7 +192,7 @@ impl Store {
     }
 }
 
-/// The record of a name, where it is known or grafted.
+/// The record of a tree id, if it is known or grafted.
 fn tree_record(
     name: &TreeId,
     index: Option<u32>,
@@ -213,7 +213,7 @@ fn tree_record(
     })
 }
 
-/// Whether a name has neither an index nor a graft.
+/// Whether a tree id has neither an index nor a graft.
 fn is_unused(index: Option<u32>, graft: Option<FullNodeId>) -> bool
     ensures { result ≡ not (is_some index || is_some graft) }
 {

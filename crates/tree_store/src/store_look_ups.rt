@@ -1,4 +1,4 @@
-//! Look-ups in a state that is borrowed, and where there is none yet.
+//! Look-ups in a borrowed state, and before there is a state.
 ghost use Rattle.std.specs.Prelude.{◌≡◌, is_some, IfSome};
 ghost use Rattle.model.specs.World.{data_of};
 ghost use Rattle.model.specs.State.{empty_world};
@@ -46,7 +46,7 @@ impl<'a> LookUps for StoreLookUps<'a> {
 }
 
 impl<'a> StoreLookUps<'a> {
-    /// Counts on from what was asked before.
+    /// Continues an earlier count.
     pub fn new(store: &'a Store, count: u128) -> StoreLookUps<'a>
         ensures store { result.store.now ≡ store.now }
         ensures count { result.count ≡ count }
@@ -68,7 +68,7 @@ fn one_more(count: u128) -> u128
     count.saturating_add(1)
 }
 
-/// Look-ups before the first update, where no record is there.
+/// Look-ups before the first update, when there are no records.
 #[derive(Drop)]
 pub struct NoRecords {
     host_focused: bool,

@@ -1,4 +1,4 @@
-//! Records of a tree's nodes, kept by what a handler is told.
+//! A mirror: a copy of a tree's nodes, kept up to date by a handler's events alone.
 ghost use Rattle.std.specs.Prelude.{◌≡◌, Some, None, IfSome, IsSomeAnd, IfOk, OnOk, option_map};
 ghost use Rattle.std.specs.FinMap.{remove};
 ghost use Rattle.model.specs.Forest.{place_of};
@@ -15,7 +15,7 @@ use std::marker::Model;
 use tree_store::MirrorRecord;
 use views::NodeRef;
 
-/// What a mirror keeps, while it finds memory.
+/// What a mirror keeps until an allocation fails.
 #[derive(Drop)]
 pub(crate) struct KeptRecords {
     pub(crate) nodes: BTreeMap<FullNodeId, MirrorRecord>,
@@ -23,7 +23,7 @@ pub(crate) struct KeptRecords {
 }
 
 impl KeptRecords {
-    // makes the record of a node anew
+    // replaces the record of a node
     fn note(&mut self, node: NodeRef<'_>) -> Result<(), AllocError>
         ensures { OnOk result (Notes (records_kept self.old) (seen_node node.entry) (records_kept self.new)) }
     {
@@ -38,7 +38,7 @@ impl KeptRecords {
         Ok(())
     }
 
-    // takes the record of a node away
+    // removes the record of a node
     fn forget(&mut self, id: FullNodeId)
         ensures nodes { nodes_kept self.new.nodes.entries ≡ remove (nodes_kept self.old.nodes.entries) id }
         ensures focus { self.new.focus ≡ self.old.focus }
@@ -47,7 +47,7 @@ impl KeptRecords {
     }
 }
 
-// where a node stands: its parent's id, and its index among the parent's children
+// the place of a node: its parent's id, and its index among the parent's children
 fn place_of(node: NodeRef<'_>) -> Option<Place>
     ensures { result ≡ place_of (world_at node.entry) (id_at node.entry) }
 {
@@ -55,15 +55,15 @@ fn place_of(node: NodeRef<'_>) -> Option<Place>
     Some((parent.id(), index))
 }
 
-// the id of a node, where there is one
+// the id of a node, if there is one
 fn id_of(found: Option<NodeRef<'_>>) -> Option<FullNodeId>
     ensures { result ≡ option_map id_at found.entry }
 {
     found.map(|node| node.id())
 }
 
-/// The place and the data of each node of a tree, and its focus. It is made of a tree once, and then follows the events
-/// that a handler of that tree is told, by what their views show. Once memory is refused it keeps nothing any more.
+/// A copy of the place and data of each node of a tree, and of its focus. It is made from a tree once and then follows
+/// the tree's events, reading nothing but their views. Once an allocation fails it keeps nothing.
 #[derive(Drop)]
 pub struct Mirror {
     kept: Option<KeptRecords>,
@@ -83,11 +83,11 @@ impl Model for Mirror {
 }
 
 impl Mirror {
-    /// The records of a tree as it is now.
+    /// Makes a mirror of a tree.
     ///
     /// # Errors
     ///
-    /// `AllocError`: there is no memory for the records.
+    /// Returns `AllocError` if memory runs out.
     pub fn new(alloc: Global, tree: &Tree) -> Result<Mirror, AllocError>
         ensures { IfOk result (λ mirror. IsSomeAnd mirror (AreRecordsOf tree.now)) }
     {
@@ -99,7 +99,7 @@ impl Mirror {
         })
     }
 
-    /// The record of each node by id, unless memory was refused.
+    /// The record of each node by id, or `None` if an allocation has failed.
     pub fn records(&self) -> Option<&BTreeMap<FullNodeId, MirrorRecord>>
         ensures { option_map (λ nodes. nodes_kept nodes.now.entries) result ≡ option_map (λ r. r.nodes) self.now }
     {
@@ -107,7 +107,7 @@ impl Mirror {
         Some(&kept.nodes)
     }
 
-    /// The focus, `None` in it where there is none, unless memory was refused.
+    /// The focus, if any, or `None` if an allocation has failed.
     pub fn focus(&self) -> Option<Option<FullNodeId>>
         ensures { result ≡ option_map (λ r. r.focus) self.now }
     {
@@ -115,7 +115,7 @@ impl Mirror {
         Some(kept.focus)
     }
 
-    // makes the record of a node anew, or gives all up
+    // replaces the record of a node, or drops all records if memory runs out
     fn note(&mut self, node: NodeRef<'_>)
         ensures { IfSome self.new (λ after. IsSomeAnd self.old (λ before. Notes before (seen_node node.entry) after)) }
     {

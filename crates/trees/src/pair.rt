@@ -1,9 +1,10 @@
-//! Two handlers that are told the same.
+//! A pair of handlers as one handler.
 
 use crate::TreeChangeHandler;
 use views::NodeRef;
 
-/// Both handlers are told of each change, the first before the second, as a [`Mirror`](crate::Mirror) beside one's own.
+/// Both handlers are notified of each change, for example a [`Mirror`](crate::Mirror) and a handler of one's own. Which
+/// of the two comes first is not specified.
 impl<A: TreeChangeHandler, B: TreeChangeHandler> TreeChangeHandler for (A, B) {
     ghost steps = { λ old event new. A.steps old.0 event new.0 × B.steps old.1 event new.1 };
 

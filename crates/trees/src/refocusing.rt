@@ -1,4 +1,4 @@
-//! Tells a handler that the focus is on another node.
+//! Notifies a handler of a moved focus.
 ghost use Rattle.std.specs.Prelude.{◌≡◌, ◌↔◌, List, [], map, IsTrue};
 ghost use Rattle.model.specs.declared.FullNodeId.{FullNodeId};
 ghost use Rattle.model.specs.Events.{Told};
@@ -12,14 +12,14 @@ use crate::telling::tell;
 use model::{FullNodeId, PlanEvent};
 use views::StateRef;
 
-/// Whether both are one id, or none.
+/// Whether both are the same id, or both `None`.
 fn is_same_focus(before: Option<FullNodeId>, after: Option<FullNodeId>) -> bool
     ensures { IsTrue result ↔ (before ≡ after) }
 {
     before == after
 }
 
-/// Tells that the node was updated, where it is in both states.
+/// Reports that the node was updated, if it is in both states.
 fn tell_in_both<H: TreeChangeHandler>(
     old: StateRef,
     new: StateRef,
@@ -42,7 +42,7 @@ fn tell_in_both<H: TreeChangeHandler>(
     }
 }
 
-/// Tells of the focus alone. Where it is on another node, its old node and its new node were updated, and it moved.
+/// Reports a change of the focus alone: if it differs, its old node and its new node were updated, and it moved.
 pub(crate) fn tell_focus<H: TreeChangeHandler>(old: StateRef, new: StateRef, handler: &mut H)
     ensures { let before = world_of old.entry in
         let after = world_of new.entry in

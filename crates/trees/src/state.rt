@@ -1,4 +1,4 @@
-//! A state, and how changes come into it.
+//! A state, and how changes are applied to it.
 ghost use Rattle.std.specs.Prelude.{◌≡◌, ◌<◌, ◌^◌, ◌*◌, ◌↔◌, List, [], length, IsTrue, Some, IfSome, IfOk, IfErr, OnOk, OnErr, option_copied, option_map};
 ghost use Rattle.schema.specs.UpdateData.{update_data};
 ghost use Rattle.model.specs.declared.events.PlanEvent.{PlanEvent};
@@ -28,7 +28,7 @@ use tree_plan::decide;
 use tree_store::{Overlay, Store, StoreLookUps};
 use views::{NodeRef, StateRef};
 
-/// The nodes and trees of a tree, with its focus.
+/// The state of a tree: its nodes, the trees grafted into it, and its focus.
 #[derive(Drop)]
 pub struct TreeState {
     pub(crate) store: Store,
@@ -49,7 +49,7 @@ impl Model for TreeState {
     ghost invariant = { λ a. IsTight a.store };
 }
 
-/// A view of the state, where a call takes what a view can be made of.
+/// A view of the state, for calls that accept anything a view can be made from.
 impl<'a> From<&'a TreeState> for StateRef<'a> {
     ghost from_gives = { λ state view. world_of view ≡ state.now };
 
@@ -80,7 +80,7 @@ impl TreeState {
         self.view().node_by_id(id)
     }
 
-    /// The node with this id within the tree of this name, if it is in the state.
+    /// The node with this id within the tree with that id, if it is in the state.
     pub fn node_by_tree_local_id(&self, node: NodeId, tree: TreeId) -> Option<NodeRef<'_>>
         ensures { ShowsThe self.now (λ it. local_id_of self.now it ≡ Some (node, tree)) result }
     {
@@ -102,8 +102,8 @@ impl TreeState {
         self.view().root()
     }
 
-    /// The effective focus, whether or not the host is focused: the root tree's declared focus, or behind a graft the
-    /// declared focus of the tree that it names.
+    /// The effective focus, whether or not the host is focused: the node that the root tree declares focused, or, if
+    /// that is a graft, the node that the grafted tree declares focused, and so on.
     pub fn focus_id_in_tree(&self) -> FullNodeId
         ensures { IsEffectiveFocus self.now result }
     {
@@ -125,8 +125,8 @@ impl TreeState {
         self.view().focus_id()
     }
 
-    /// While the host is focused the effective focus, or in its place the node that it names as its active
-    /// descendant, if that is a node of its tree.
+    /// The focused node while the host is focused, `None` otherwise. It is the effective focus, or its active
+    /// descendant if it has one in the same tree.
     pub fn focus(&self) -> Option<NodeRef<'_>>
         ensures world { IfSome result (λ node. world_at node ≡ self.now) }
         ensures node { IsFocus self.now (option_map id_at result) }
@@ -134,8 +134,7 @@ impl TreeState {
         self.view().focus()
     }
 
-    /// The nearest dialog to the focus: the focus itself, or the nearest of its ancestors. The focus is that of
-    /// [`TreeState::focus`].
+    /// The active dialog: the nearest dialog among the focused node ([`TreeState::focus`]) and its ancestors.
     pub fn active_dialog(&self) -> Option<NodeRef<'_>>
         ensures world { IfSome result (λ node. world_at node ≡ self.now) }
         ensures node { IsActiveDialog self.now (option_map id_at result) }
@@ -143,28 +142,28 @@ impl TreeState {
         self.view().active_dialog()
     }
 
-    /// The root of the tree of this name, where it is present.
+    /// The root of the tree with this id, if it is present.
     pub fn subtree_root(&self, name: TreeId) -> Option<FullNodeId>
         ensures { result ≡ root_named self.now name }
     {
         self.view().subtree_root(name)
     }
 
-    /// The toolkit's name: `AccessKit` if none was given.
+    /// The toolkit's name; `AccessKit` if the tree has none.
     pub fn toolkit_name(&self) -> &str
         ensures { result.now ≡ toolkit_name self.now }
     {
         self.view().toolkit_name()
     }
 
-    /// The toolkit's version, given only together with a name.
+    /// The toolkit's version, if the tree has both a name and a version.
     pub fn toolkit_version(&self) -> Option<&str>
         ensures { option_copied result ≡ toolkit_version self.now }
     {
         self.view().toolkit_version()
     }
 
-    /// The id within its tree, and the tree's name, of a node that is in the state.
+    /// The id within its tree, and the id of the tree, of a node in the state.
     pub fn locate_node(&self, id: FullNodeId) -> Option<(NodeId, TreeId)>
         ensures { result ≡ local_id_of self.now id }
     {
@@ -178,8 +177,8 @@ impl TreeState {
         self.store.is_host_focused()
     }
 
-    /// The decision on an update. The look-ups for it are counted: as many as the decision says, at least one for each node
-    /// that the update names.
+    /// Decides on an update. Its look-ups are counted: as many as the decision records, at least one for each node of
+    /// the update.
     pub(crate) fn decide(
         &self,
         alloc: Global,
@@ -200,9 +199,9 @@ impl TreeState {
         decided
     }
 
-    /// Carries a decision on an update out. Room is made for its changes; then they are laid over the state, the handler is
-    /// told, and they are written. Only what comes before the telling takes memory. Two records are looked up for each
-    /// event and each change.
+    /// Carries out a decision on an update: memory for the changes is reserved, the changes are laid over the state,
+    /// the handler is notified, and the changes are written. Nothing is allocated once the handler has been called. Two
+    /// records are looked up for each event and each change.
     pub(crate) fn apply<H: TreeChangeHandler>(
         &mut self,
         update: TreeUpdate,
@@ -235,7 +234,7 @@ impl TreeState {
         Ok(())
     }
 
-    /// Sets whether the host is focused, and tells the handler where the focus is another one then.
+    /// Sets whether the host is focused, and notifies the handler if that changes the focus.
     pub(crate) fn refocus<H: TreeChangeHandler>(&mut self, is_host_focused: bool, handler: &mut H)
         ensures state { self.new ≡ with_host self.old is_host_focused }
         ensures told { (differences : List PlanEvent) × AreOfFocus self.old self.new [] differences
@@ -250,7 +249,7 @@ impl TreeState {
     }
 }
 
-/// How many events and changes there are.
+/// The number of events and changes.
 fn change_count(decision: &Decision) -> u128
     ensures is { result ≡ change_count decision.now }
     ensures fits { result < 2 ^ 66 }

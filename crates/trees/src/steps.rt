@@ -4,7 +4,7 @@ ghost use Rattle.tree_changes.specs.LookUps.{IsRaisedBy};
 
 use std::marker::Model;
 
-/// How many records of nodes and trees were looked up. At its last value the count stays.
+/// The number of records of nodes and trees that were looked up. The count saturates.
 #[derive(Drop)]
 pub struct Steps {
     count: u128,
@@ -22,21 +22,21 @@ impl Model for Steps {
 }
 
 impl Steps {
-    /// None yet.
+    /// A count of zero.
     pub fn new() -> Steps
         ensures { result ≡ 0 }
     {
         Steps { count: 0 }
     }
 
-    /// How many there were.
+    /// The number of look-ups so far.
     pub fn count(&self) -> u128
         ensures { result ≡ self.now }
     {
         self.count
     }
 
-    /// There were so many more.
+    /// Adds this many look-ups.
     pub(crate) fn add(&mut self, more: u128)
         ensures { IsRaisedBy self.old more self.new }
     {

@@ -1,4 +1,4 @@
-//! Tells a handler of an update's events.
+//! Notifies a handler of an update's events.
 ghost use Rattle.std.specs.Prelude.{All};
 ghost use Rattle.model.specs.Events.{Told};
 ghost use Rattle.model.specs.Differences.{event, events};
@@ -9,7 +9,7 @@ use crate::TreeChangeHandler;
 use model::PlanEvent;
 use views::StateRef;
 
-/// Tells of one event: its old nodes are seen in the old state, and its new ones in the new state.
+/// Reports one event: its old nodes are views of the old state, its new ones of the new state.
 pub(crate) fn tell<H: TreeChangeHandler>(
     old: StateRef,
     new: StateRef,
@@ -31,7 +31,7 @@ pub(crate) fn tell<H: TreeChangeHandler>(
     }
 }
 
-/// Tells of the events in turn.
+/// Reports the events in order.
 pub(crate) fn tell_all<H: TreeChangeHandler>(
     old: StateRef,
     new: StateRef,

@@ -17,7 +17,7 @@ use tree_changes::UpdateError;
 use tree_plan::decide;
 use tree_store::{NoRecords, Store};
 
-/// The root tree of an interface, with the trees that hang under it. Updates change it.
+/// The accessibility tree of an interface: its root tree, with the trees grafted into it. It changes by updates.
 #[derive(Drop)]
 pub struct Tree {
     alloc: Global,
@@ -36,12 +36,12 @@ impl Model for Tree {
 }
 
 impl Tree {
-    /// The tree of a first update. Of it nothing is told.
+    /// Makes a tree from its first update. No events are reported for it.
     ///
     /// # Errors
     ///
-    /// The update is refused: it has no tree info or is for another tree than the root tree, it or its nodes break
-    /// another rule, which the error names, or there is no memory (`UpdateError::Memory`).
+    /// Returns the rule that the update breaks: it has no tree info or is for another tree than the root tree, or it
+    /// breaks another rule; or `UpdateError::Memory` if memory runs out.
     pub fn new(
         alloc: Global,
         update: TreeUpdate,
@@ -59,20 +59,20 @@ impl Tree {
         })
     }
 
-    /// The state as it is now.
+    /// The current state.
     pub fn state(&self) -> &TreeState
         ensures { result.now ≡ self.now }
     {
         &self.state
     }
 
-    /// Applies an update, and tells the handler of each change in order. What memory is needed is taken before the
-    /// handler is told anything.
+    /// Applies an update and notifies the handler of each change, in order. All memory is allocated before the handler
+    /// is called first.
     ///
     /// # Errors
     ///
-    /// The update is refused: it, or the nodes that it would leave, break a rule, which the error names, or there is no
-    /// memory (`UpdateError::Memory`). Nothing has changed, and nothing is told.
+    /// Returns the rule that the update, or the tree that it would leave, breaks; or `UpdateError::Memory` if memory
+    /// runs out. The tree is then unchanged and the handler was not called.
     pub fn update_and_process_changes<H: TreeChangeHandler>(
         &mut self,
         update: TreeUpdate,
@@ -86,13 +86,14 @@ impl Tree {
         self.update_and_process_changes_counted(update, handler, &mut steps)
     }
 
-    /// As `update_and_process_changes`, and counts the look-ups of records of nodes and trees. Those of an accepted update
-    /// go with what it touches, however large the trees are; one at least is for each node that it names, and two are for
-    /// each event that is told.
+    /// Like `update_and_process_changes`, and counts the look-ups of records of nodes and trees. The number for an
+    /// accepted update is bounded by what the update touches, however large the trees are; it is at least one for each
+    /// node of the update and two for each event.
     ///
     /// # Errors
     ///
-    /// As [`Tree::update_and_process_changes`]. What was looked up till then is counted.
+    /// As for [`Tree::update_and_process_changes`]. The count is no lower than before; how many look-ups a refused
+    /// update takes is not specified.
     pub fn update_and_process_changes_counted<H: TreeChangeHandler>(
         &mut self,
         update: TreeUpdate,
@@ -113,8 +114,8 @@ impl Tree {
         Ok(())
     }
 
-    /// Sets whether the host is focused. Where the focus is another one then, the handler is told that its old node and
-    /// its new node were updated, and that it moved. No memory is taken.
+    /// Sets whether the host is focused. If that changes the focus, the handler is notified that its old node and its
+    /// new node were updated and that the focus moved. Does not allocate.
     pub fn update_host_focus_state_and_process_changes<H: TreeChangeHandler>(
         &mut self,
         is_host_focused: bool,

@@ -1,4 +1,4 @@
-//! The dialog in which the focus is.
+//! The active dialog.
 ghost use Rattle.std.specs.Prelude.{IfSome, option_map, ◌≡◌};
 ghost use Rattle.model.specs.RoleClasses.{is_dialog};
 ghost use Rattle.model.specs.Focus.{IsActiveDialog};
@@ -17,8 +17,7 @@ fn is_dialog(node: &Node) -> bool
 }
 
 impl<'a> StateRef<'a> {
-    /// The nearest dialog to the focus: the focus itself, or the nearest of its ancestors. The focus is that of
-    /// [`StateRef::focus`].
+    /// The active dialog: the nearest dialog among the focused node ([`StateRef::focus`]) and its ancestors.
     pub fn active_dialog(&self) -> Option<NodeRef<'a>>
         ensures world { IfSome result (λ node. world_at node ≡ world_of self.now) }
         ensures node { IsActiveDialog (world_of self.now) (option_map id_at result) }

@@ -1,4 +1,4 @@
-//! The filters that all callers share.
+//! The common filters.
 ghost use Rattle.std.specs.Prelude.{◌≡◌, ◌||◌, false, None, IfSome, option_map};
 ghost use Rattle.std.specs.Option.{option_map_or};
 ghost use Rattle.model.specs.Forest.{is_same};
@@ -20,7 +20,7 @@ use model::FullNodeId;
 pub use model::filters::FilterResult;
 use schema::{Node, Role, WideRect};
 
-/// The id of the node that is focused, where one is.
+/// The id of the node that is focused, if there is one.
 fn focused_id(state: StateRef<'_>) -> Option<FullNodeId>
     ensures { IsFocusedOne (world_of state.entry) result }
 {
@@ -55,14 +55,14 @@ fn is_transparent(node: &NodeRef<'_>) -> bool
     node.is_graft() || matches!(node.role(), Role::GenericContainer | Role::TextRun)
 }
 
-/// Whether the node is transparent and not focused: what is not hidden is then left out alone.
+/// Whether the node is transparent and not focused. Such a node is excluded alone, unless it is hidden.
 fn is_passed(node: &NodeRef<'_>, focused: Option<FullNodeId>) -> bool
     ensures { IsFocusedOne (world_at node.now) focused → result ≡ is_passed (world_at node.now) (id_at node.now) }
 {
     !is_focused_one(node.id, focused) && is_transparent(node)
 }
 
-/// What is settled of a node at once.
+/// The filter's answer, if the node alone decides it.
 fn settled(node: &NodeRef<'_>, focused: Option<FullNodeId>) -> Option<FilterResult>
     ensures { IsFocusedOne (world_at node.now) focused → result ≡ first_answer (world_at node.now) (id_at node.now) }
 {
@@ -78,7 +78,7 @@ fn settled(node: &NodeRef<'_>, focused: Option<FullNodeId>) -> Option<FilterResu
     None
 }
 
-/// The base rule, by which the clipping rule looks for siblings.
+/// The base filter, which the clipping rule uses to look for siblings.
 #[derive(Drop)]
 struct BaseFilter {
     focused: Option<FullNodeId>,
@@ -99,7 +99,7 @@ impl Filter for BaseFilter {
     }
 }
 
-/// The nearest ancestor of a node that isn't hidden that the base rule includes.
+/// The nearest ancestor, included by the base filter, of a node that isn't hidden.
 fn shown_parent<'a>(node: NodeRef<'a>, focused: Option<FullNodeId>) -> Option<NodeRef<'a>>
     requires focus { IsFocusedOne (world_at node) focused }
     requires seen { is_hidden (world_at node) (id_at node) ≡ false }
@@ -117,7 +117,7 @@ fn shown_parent<'a>(node: NodeRef<'a>, focused: Option<FullNodeId>) -> Option<No
     None
 }
 
-/// Whether the node has a box, and it lies outside the frame.
+/// Whether the node has a box and it lies outside the frame.
 fn is_outside(node: &NodeRef<'_>, frame: WideRect) -> bool
     ensures { result ≡ is_outside (world_at node.now) frame (id_at node.now) }
 {
@@ -127,7 +127,7 @@ fn is_outside(node: &NodeRef<'_>, frame: WideRect) -> bool
     }
 }
 
-/// Whether the node is there, has a box, and it meets the frame.
+/// Whether the node exists and has a box that meets the frame.
 fn is_inside(node: Option<NodeRef<'_>>, frame: WideRect) -> bool
     ensures { result ≡ option_map_or (λ n. option_map_or (λ box. meets box frame) (bounding_box (world_at n) (id_at n)) false) node.entry false }
 {
@@ -140,7 +140,7 @@ fn is_inside(node: Option<NodeRef<'_>>, frame: WideRect) -> bool
     }
 }
 
-/// Whether the node lies outside the frame, and so do its nearest siblings on both sides, as far as they have boxes.
+/// Whether the node lies outside the frame, and so do its nearest siblings on both sides that have boxes.
 fn is_far_outside(node: NodeRef<'_>, frame: WideRect, focused: Option<FullNodeId>) -> bool
     requires { IsFocusedOne (world_at node) focused }
     ensures { result ≡ is_far_outside (world_at node.entry) frame (id_at node.entry) }
@@ -157,7 +157,7 @@ fn is_far_outside(node: NodeRef<'_>, frame: WideRect, focused: Option<FullNodeId
     !is_inside(preceding, frame)
 }
 
-/// Whether the parent clips its children, has a box, and the node lies far outside it.
+/// Whether the parent clips its children and has a box, and the node lies far outside that box.
 fn is_clipped_by(node: NodeRef<'_>, parent: NodeRef<'_>, focused: Option<FullNodeId>) -> bool
     requires focus { IsFocusedOne (world_at node) focused }
     requires world { world_at parent ≡ world_at node }
@@ -172,7 +172,7 @@ fn is_clipped_by(node: NodeRef<'_>, parent: NodeRef<'_>, focused: Option<FullNod
     }
 }
 
-/// Whether a node is clipped from this one on up, as far as nothing is settled.
+/// Whether this node or an ancestor is clipped, up to the first node whose answer is decided by itself.
 fn is_clipped_on_the_way(node: NodeRef<'_>, focused: Option<FullNodeId>) -> bool
     requires focus { IsFocusedOne (world_at node) focused }
     requires unsettled { first_answer (world_at node) (id_at node) ≡ None }
@@ -198,7 +198,7 @@ fn is_clipped_on_the_way(node: NodeRef<'_>, focused: Option<FullNodeId>) -> bool
     false
 }
 
-/// Whether the data are of a node that is hidden or clips its children.
+/// Whether a node with this data is hidden or clips its children.
 fn is_restricting(node: &Node) -> bool
     ensures { result ≡ (node.now.hidden || node.now.clips_children) }
 {
@@ -212,7 +212,7 @@ fn is_restricted(node: &NodeRef<'_>) -> bool
     node.nearest(|data| is_restricting(data)).is_some()
 }
 
-/// What is shown of a node where neither it nor one above it is hidden or clips its children.
+/// The filter's answer if neither the node nor an ancestor is hidden or clips its children.
 fn unrestricted_answer(node: &NodeRef<'_>, focused: Option<FullNodeId>) -> FilterResult
     requires focus { IsFocusedOne (world_at node.now) focused }
     requires free { says_upward (λ d. d.hidden || d.clips_children) (world_at node.now) (id_at node.now) ≡ false }
@@ -225,10 +225,10 @@ fn unrestricted_answer(node: &NodeRef<'_>, focused: Option<FullNodeId>) -> Filte
     FilterResult::Include
 }
 
-/// What an adapter shows of a node, by six rules, of which the first that applies decides:
-/// it is focused and shown; it is hidden, itself or by an ancestor, and cut off; it is a graft, a container or a text run
-/// and left out alone; its parent is cut off, and so is it; it lies far outside of what clips it, and is cut off;
-/// it is shown.
+/// The filter that platform adapters use. The first rule that applies decides: the focused node is included; a node
+/// that is hidden, or has a hidden ancestor, is excluded with its subtree; a graft, a container or a text run is
+/// excluded alone; a node whose parent is excluded with its subtree is so too; a node far outside the ancestor that
+/// clips it is excluded with its subtree; any other node is included.
 pub fn common_filter(node: &NodeRef<'_>) -> FilterResult
     ensures { result ≡ common_filter (world_at node.now) (id_at node.now) }
 {
@@ -246,7 +246,7 @@ pub fn common_filter(node: &NodeRef<'_>) -> FilterResult
     FilterResult::Include
 }
 
-/// As [`common_filter`], but the root tree's root is always shown.
+/// Like [`common_filter`], but the root tree's root is always included.
 pub fn common_filter_with_root_exception(node: &NodeRef<'_>) -> FilterResult
     ensures { result ≡ common_filter_with_root_exception (world_at node.now) (id_at node.now) }
 {

@@ -1,4 +1,4 @@
-//! Nodes of a state, as they are read.
+//! Views of nodes.
 mod actions;
 mod fields;
 pub mod geometry;

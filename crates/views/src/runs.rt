@@ -1,4 +1,4 @@
-//! The runs of a text: a walk over them in order, and steps from a run to the ones beside it. They take no memory.
+//! The runs of a text: a walk over them in order, and steps from a run to its neighbours. Nothing here allocates.
 mod parts;
 mod well_formed;
 
@@ -17,7 +17,7 @@ use model::FullNodeId;
 use model::filters::FilterResult;
 use schema::{Node, Role, WideTranslation};
 
-/// The filter that shows the runs of a root: runs aren't looked into, and all else is.
+/// The filter that includes the runs of a root. It looks into all other nodes, but not into runs.
 #[derive(Clone, Copy)]
 struct RunFilter {
     root: FullNodeId,
@@ -39,7 +39,7 @@ impl Filter for RunFilter {
     }
 }
 
-/// A run of a root, at its place.
+/// A run of a root, with its place.
 #[derive(Clone, Copy)]
 pub struct Run<'a> {
     pub root: NodeRef<'a>,
@@ -54,7 +54,7 @@ impl<'a> Run<'a> {
     ghost use Rattle.views.specs.Reach.{IsInReach};
     ghost use Rattle.views.specs.Runs.{text_root_of, root_id, run_world, run_id, run_of, sent_of, IsFirstOf, IsLastOf, IsAfter, IsPreviousRun, IsSpotAfter, ids_after, ids_before};
 
-    /// The first run of a root, where there is one.
+    /// The first run of a root, if there is one.
     pub fn first(root: NodeRef<'a>) -> Option<Run<'a>>
         ensures { let ids = run_ids (world_at root.entry) (id_at root.entry) in
             MatchOption result (ids ≡ []) (IsFirstOf root.entry) }
@@ -71,7 +71,7 @@ impl<'a> Run<'a> {
         }
     }
 
-    /// The last run of a root, where there is one.
+    /// The last run of a root, if there is one.
     pub fn last(root: NodeRef<'a>) -> Option<Run<'a>>
         ensures { let ids = run_ids (world_at root.entry) (id_at root.entry) in
             MatchOption result (ids ≡ []) (IsLastOf root.entry) }
@@ -89,7 +89,7 @@ impl<'a> Run<'a> {
         }
     }
 
-    /// The run that stands right after this one below the same parent, where there is one.
+    /// The next sibling, if it is a run.
     #[inline(always)]
     fn beside(self) -> Option<Spot<'a>>
         ensures { IfSome result (IsSpotAfter self.entry) }
@@ -104,7 +104,7 @@ impl<'a> Run<'a> {
         }
     }
 
-    /// The place of the run after this one, where there is one: mostly that is the one beside it.
+    /// The place of the next run, if there is one. It looks at the next sibling first, since that is mostly a run.
     #[inline(always)]
     fn spot_after(self) -> Option<Spot<'a>>
         ensures { MatchOption result (ids_after self.entry ≡ []) (IsSpotAfter self.entry) }
@@ -115,7 +115,7 @@ impl<'a> Run<'a> {
         }
     }
 
-    /// The place of the run after this one, where there is one, by a walk over all that follows.
+    /// The place of the next run, if there is one, by a walk over all that follows.
     #[inline(never)]
     fn spot_by_walk(self) -> Option<Spot<'a>>
         ensures { MatchOption result (ids_after self.entry ≡ []) (IsSpotAfter self.entry) }
@@ -124,7 +124,7 @@ impl<'a> Run<'a> {
         following(root.state, root.id, self.spot, &RunFilter { root: root.id })
     }
 
-    /// The run after this one, where there is one.
+    /// The next run, if there is one.
     #[inline(always)]
     pub fn next(self) -> Option<Run<'a>>
         ensures { MatchOption result (ids_after self.entry ≡ []) (IsAfter self.entry) }
@@ -137,7 +137,7 @@ impl<'a> Run<'a> {
         }
     }
 
-    /// The run before this one, where there is one.
+    /// The previous run, if there is one.
     pub fn previous(self) -> Option<Run<'a>>
         ensures { MatchOption result (ids_before self.entry ≡ []) (IsPreviousRun self.entry) }
     {
@@ -149,7 +149,7 @@ impl<'a> Run<'a> {
         }
     }
 
-    /// The node whose run it is.
+    /// The root of the text that the run belongs to.
     pub fn root(self) -> NodeRef<'a>
         ensures { result ≡ text_root_of self.entry }
     {
@@ -163,21 +163,21 @@ impl<'a> Run<'a> {
         self.spot.member.id
     }
 
-    /// What was sent of the run.
+    /// The run's data, as sent in updates.
     pub fn node(self) -> &'a Node
         ensures { result.now ≡ (sent_of self.entry).node }
     {
         self.spot.member.node
     }
 
-    /// The text of the run: an absent one reads as empty.
+    /// The text of the run; empty if it has no value.
     pub fn value(self) -> &'a str
         ensures { result.now ≡ run_value (sent_of self.entry) }
     {
         self.node().value().unwrap_or("")
     }
 
-    /// How many characters the run says that it has.
+    /// The number of characters of the run, by its list of lengths.
     pub fn character_count(self) -> usize
         ensures { result ≡ said_count (sent_of self.entry) }
     {
@@ -199,7 +199,7 @@ impl<'a> Run<'a> {
         self.root.state.view(self.spot.member)
     }
 
-    /// By how much the run and all above it move it. It leaves room for a rectangle.
+    /// The sum of the translations of the run and all its ancestors. Adding a rectangle to it doesn't overflow.
     pub fn whole_move(self) -> WideTranslation
         ensures exact { result ≡ transform (run_world self.entry) (run_id self.entry) }
         ensures across { IsInReach result.x }
@@ -208,7 +208,8 @@ impl<'a> Run<'a> {
         self.view().whole_move()
     }
 
-    /// By how much the run and the nodes between it and the root move it. It leaves room for a rectangle.
+    /// The sum of the translations of the run and the nodes between it and the root. Adding a rectangle to it doesn't
+    /// overflow.
     pub fn move_in_root(self) -> WideTranslation
         ensures exact { result ≡
             transform_within (run_world self.entry) (root_id self.entry) (run_id self.entry) }

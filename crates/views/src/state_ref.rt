@@ -7,7 +7,7 @@ use schema::{Node, NodeId, TreeId};
 use tree_changes::NodeRecord;
 use tree_store::{Overlay, Store};
 
-/// A state, as it is read: the one that is kept, with the changes of an update laid over it where there are any.
+/// A read-only view of a state: the stored state, with the changes of an update laid over it if there are any.
 #[derive(Clone, Copy)]
 pub struct StateRef<'a> {
     base: &'a Store,
@@ -29,14 +29,14 @@ impl<'a> StateRef<'a> {
     ghost use Rattle.views.specs.ShownWorlds.{world_of};
     ghost use Rattle.views.specs.Nodes.{world_at, id_at, ShowsThe, IsView};
 
-    /// The state as it is kept.
+    /// A view of the stored state.
     pub fn new(base: &'a Store) -> StateRef<'a>
         ensures { world_of result ≡ base.now.world }
     {
         StateRef::with_host_focused(base, base.is_host_focused())
     }
 
-    /// The state as it is kept, but for the host's focus.
+    /// A view of the stored state with another host focus.
     pub fn with_host_focused(base: &'a Store, is_host_focused: bool) -> StateRef<'a>
         ensures { world_of result ≡ with_host base.now.world is_host_focused }
     {
@@ -47,7 +47,7 @@ impl<'a> StateRef<'a> {
         }
     }
 
-    /// The state with the changes over it.
+    /// A view of the state with these changes laid over it.
     pub fn over(base: &'a Store, overlay: Overlay<'a>) -> StateRef<'a>
         requires laid { IsLaidOver base.now.world overlay }
         requires slots { HasSlots base.now overlay.decision.now }
@@ -60,7 +60,7 @@ impl<'a> StateRef<'a> {
         }
     }
 
-    /// What is known of the world that is shown: it is a state. Nothing is computed.
+    /// The world of the view is a state. Only a proof uses this; it computes nothing.
     pub fn know(self)
         ensures state { IsState (world_of self.entry) }
         ensures formed { IsFormed (world_of self.entry) }
@@ -72,7 +72,7 @@ impl<'a> StateRef<'a> {
         overlay.know(self.base);
     }
 
-    /// The nodes are fewer than a `usize` counts. Nothing is computed.
+    /// The number of nodes fits a `usize`. Only a proof uses this; it computes nothing.
     pub(crate) fn know_count(self)
         ensures { len (world_of self.entry).nodes < 2 ^ 64 }
     {
@@ -92,7 +92,7 @@ impl<'a> StateRef<'a> {
         }
     }
 
-    /// Where a node that is there stands: its parent, and its index among the parent's children.
+    /// The place of a node: its parent, and its index among the parent's children.
     pub(crate) fn place(self, id: FullNodeId) -> Option<Place>
         requires { IsNode (world_of self) id }
         ensures { result ≡ place_of (world_of self.entry) id }
@@ -140,7 +140,7 @@ impl<'a> StateRef<'a> {
         }
     }
 
-    /// The index of the tree of this name, where it was ever known.
+    /// The index of the tree with this id, if it was ever known.
     pub(crate) fn tree_index(self, name: TreeId) -> Option<u32>
         ensures { result ≡ index_of (world_of self.entry) name }
     {
@@ -150,7 +150,7 @@ impl<'a> StateRef<'a> {
         }
     }
 
-    /// The name of the tree with this index.
+    /// The id of the tree with this index.
     pub(crate) fn tree_id(self, index: u32) -> Option<TreeId>
         ensures { result ≡ name_of (world_of self.entry) index }
     {
@@ -167,7 +167,7 @@ impl<'a> StateRef<'a> {
         self.is_host_focused
     }
 
-    /// The toolkit's name as it was sent.
+    /// The toolkit's name as sent in the update.
     pub(crate) fn given_toolkit_name(self) -> Option<&'a str>
         ensures { option_copied result ≡ (world_of self.entry).toolkit.0 }
     {
@@ -177,7 +177,7 @@ impl<'a> StateRef<'a> {
         }
     }
 
-    /// The toolkit's version as it was sent.
+    /// The toolkit's version as sent in the update.
     pub(crate) fn given_toolkit_version(self) -> Option<&'a str>
         ensures { option_copied result ≡ (world_of self.entry).toolkit.1 }
     {
@@ -187,7 +187,7 @@ impl<'a> StateRef<'a> {
         }
     }
 
-    /// The view of a node that is there.
+    /// The view of a node that is in the state.
     pub fn node(self, id: FullNodeId) -> NodeRef<'a>
         requires { IsNode (world_of self) id }
         ensures { IsView (world_of self.entry) id result }
@@ -201,7 +201,7 @@ impl<'a> StateRef<'a> {
         }
     }
 
-    /// The view of the node that is named, where one is.
+    /// The view of the node with this id, if there is one.
     pub fn optional_node(self, id: Option<FullNodeId>) -> Option<NodeRef<'a>>
         requires { IfSome id (IsNode (world_of self)) }
         ensures world { IfSome result (λ node. world_at node ≡ world_of self.entry) }
@@ -211,7 +211,7 @@ impl<'a> StateRef<'a> {
         Some(self.node(id))
     }
 
-    /// The root tree's root, which is there.
+    /// The root tree's root. It is always in the state.
     pub(crate) fn checked_root(self) -> FullNodeId
         ensures root { root_of (world_of self.entry) 0 ≡ Some result }
         ensures there { IsNode (world_of self.entry) result }
@@ -220,7 +220,7 @@ impl<'a> StateRef<'a> {
         self.known_root()
     }
 
-    /// The effective focus, which is there.
+    /// The effective focus. It is always in the state.
     pub(crate) fn checked_focus(self) -> FullNodeId
         ensures focus { IsEffectiveFocus (world_of self.entry) result }
         ensures there { IsNode (world_of self.entry) result }
@@ -229,7 +229,7 @@ impl<'a> StateRef<'a> {
         self.known_focus()
     }
 
-    /// The name of the tree of a node that is there.
+    /// The id of the tree of a node that is in the state.
     pub(crate) fn tree_of(self, id: FullNodeId) -> TreeId
         requires { IsNode (world_of self) id }
         ensures { name_of (world_of self.entry) id.tree ≡ Some result }
@@ -260,7 +260,7 @@ impl<'a> StateRef<'a> {
         })
     }
 
-    /// The node with this id within the tree of this name, if it is in the state.
+    /// The node with this id within the tree with that id, if it is in the state.
     pub fn node_by_tree_local_id(&self, node: NodeId, tree: TreeId) -> Option<NodeRef<'a>>
         ensures { let w = world_of self.now in
             ShowsThe w (λ it. local_id_of w it ≡ Some (node, tree)) result }
@@ -285,8 +285,8 @@ impl<'a> StateRef<'a> {
         self.node(self.checked_root())
     }
 
-    /// The effective focus, whether or not the host is focused: the root tree's declared focus, or behind a graft the
-    /// declared focus of the tree that it names.
+    /// The effective focus, whether or not the host is focused: the node that the root tree declares focused, or, if
+    /// that is a graft, the node that the grafted tree declares focused, and so on.
     pub fn focus_id_in_tree(&self) -> FullNodeId
         ensures { IsEffectiveFocus (world_of self.now) result }
     {
@@ -312,8 +312,8 @@ impl<'a> StateRef<'a> {
         }
     }
 
-    /// While the host is focused the effective focus, or in its place the node that it names as its active
-    /// descendant, if that is a node of its tree.
+    /// The focused node while the host is focused, `None` otherwise. It is the effective focus, or its active
+    /// descendant if it has one in the same tree.
     pub fn focus(&self) -> Option<NodeRef<'a>>
         ensures world { IfSome result (λ node. world_at node ≡ world_of self.now) }
         ensures node { IsFocus (world_of self.now) (option_map id_at result) }
@@ -328,21 +328,21 @@ impl<'a> StateRef<'a> {
         }
     }
 
-    /// The id of what `focus` answers.
+    /// The id of the node that `focus` returns.
     pub fn shown_focus(self) -> Option<FullNodeId>
         ensures { IsFocus (world_of self.entry) result }
     {
         self.focus().map(|node| node.id)
     }
 
-    /// The toolkit's name: `AccessKit` if none was given.
+    /// The toolkit's name; `AccessKit` if the tree has none.
     pub fn toolkit_name(&self) -> &'a str
         ensures { result.now ≡ toolkit_name (world_of self.now) }
     {
         self.given_toolkit_name().unwrap_or("AccessKit")
     }
 
-    /// The toolkit's version, given only together with a name.
+    /// The toolkit's version, if the tree has both a name and a version.
     pub fn toolkit_version(&self) -> Option<&'a str>
         ensures { option_copied result ≡ toolkit_version (world_of self.now) }
     {
@@ -352,7 +352,7 @@ impl<'a> StateRef<'a> {
         self.given_toolkit_version()
     }
 
-    /// The id within its tree, and the tree's name, of a node that is in the state.
+    /// The id within its tree, and the id of the tree, of a node in the state.
     pub fn locate_node(&self, id: FullNodeId) -> Option<(NodeId, TreeId)>
         ensures { result ≡ local_id_of (world_of self.now) id }
     {
@@ -363,7 +363,7 @@ impl<'a> StateRef<'a> {
         }
     }
 
-    /// The root of the tree of this name, where it is present.
+    /// The root of the tree with this id, if it is present.
     pub fn subtree_root(&self, name: TreeId) -> Option<FullNodeId>
         ensures { result ≡ root_named (world_of self.now) name }
     {

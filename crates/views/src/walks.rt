@@ -1,4 +1,4 @@
-//! Walks over the nodes of a state: over all of them, or over what a filter shows.
+//! Walks over the nodes of a state: over all of them, or over those that a filter shows.
 mod controls;
 mod course;
 mod deepest;

@@ -3,7 +3,7 @@ ghost use Rattle.model.specs.EventLaws.{DifferencesAreOne, DifferencesExist, Eac
 ghost use Rattle.model.specs.ToldExamples.{ButtonMoves, GraftMovesOut, GraftedTreeComes, GraftedRootIsLabelled, FocusGoesInside, FocusComesBack, InnerLabelWork, GraftMovesOutWork};
 ghost use Rattle.model.specs.EventExamples.{ButtonGoes, FocusGoesToButton, FocusedButtonGoes, ButtonsChangePlaces, HostLosesFocus, LabelIsLittleWork, PicturedChange};
 
-/// Two worlds have one list of differences.
+/// Two worlds have at most one list of differences.
 pub fn differences_are_one()
     ensures { DifferencesAreOne }
 {}
@@ -13,28 +13,28 @@ pub fn differences_exist()
     ensures { DifferencesExist }
 {}
 
-/// Each difference has its reason, and what has a reason is told.
+/// A difference is in the list exactly if it has a reason.
 pub fn each_has_a_reason()
     ensures { EachHasAReason }
 {}
 
-/// Each difference is told once, and the groups are told in order.
+/// Each difference is in the list once, and its groups are in order.
 pub fn each_is_told_in_order()
     ensures { EachIsToldInOrder }
 {}
 
-/// A world that stays as it is tells nothing without tree info, nor of the root tree.
+/// An unchanged world has no differences, if the update has no tree info or is for the root tree.
 pub fn nothing_to_tell()
     ensures { NothingToTell }
 {}
 
-/// The root of another tree is told as updated by tree info, though nothing changed.
+/// Tree info for another tree reports that tree's root as updated, even if nothing changed.
 #[tactic(auto, using(crate::proofs::Differences::SameWorlds::root_to_tell))]
 pub fn root_is_told()
     ensures { RootIsTold }
 {}
 
-/// A change of the host's focus is told by the focus alone.
+/// A change of the host's focus reports the focus alone.
 pub fn host_change_tells_focus()
     ensures { HostChangeTellsFocus }
 {}
@@ -49,46 +49,47 @@ pub fn records_are_there()
     ensures { RecordsAreThere }
 {}
 
-/// From any records there are some that follow the differences of two worlds.
+/// From any records, the differences of two worlds can be followed.
 pub fn records_go_on()
     ensures { RecordsGoOn }
 {}
 
-/// From any records there are some that follow all that a run tells.
+/// From any records, all events of a run can be followed.
 pub fn records_go_on_over_run()
     ensures { RecordsGoOnOverRun }
 {}
 
-/// A mirror that is told of all that a run tells mirrors the world that the run comes to.
+/// A mirror that receives all events of a run ends with the records of the run's last world.
 #[tactic(auto, using(crate::proofs::Run::Runs::records_follow_run))]
 pub fn records_follow_run()
     ensures { RecordsFollowRun }
 {}
 
-/// A mirror that may find no memory mirrors the world that a run comes to, or keeps nothing.
+/// A mirror whose allocations may fail ends with the records of the run's last world, or keeps nothing.
 #[tactic(auto, using(crate::proofs::Mirror::KeptRecords::kept_records_follow_run))]
 pub fn kept_records_follow_run()
     ensures { KeptRecordsFollowRun }
 {}
 
-/// A world has one set of records.
+/// A world has only one set of records.
 pub fn records_are_one()
     ensures { RecordsAreOne }
 {}
 
-/// Two runs of the same commands, in which memory was wanting at the same ones, come to one world, tell the same, and reply alike.
+/// Two runs of the same commands, in which memory ran out at the same ones, end in the same world, report the same
+/// events, and reply alike.
 #[tactic(auto, using(crate::proofs::Run::RunsAreOne::runs_agree))]
 pub fn runs_are_one()
     ensures { RunsAreOne }
 {}
 
-/// Each command of a state is done, where memory isn't wanting.
+/// Each command can be carried out on a state, as long as memory doesn't run out.
 #[tactic(auto, using(crate::proofs::Run::RunIsThere::command_done))]
 pub fn command_is_done()
     ensures { CommandIsDone }
 {}
 
-/// Each list of commands has a run from each state, in which memory isn't wanting.
+/// Each list of commands has a run from each state in which memory doesn't run out.
 #[tactic(auto, using(crate::proofs::Run::RunIsThere::run_exists))]
 pub fn run_is_there()
     ensures { RunIsThere }
@@ -100,12 +101,13 @@ pub fn run_leaves_state()
     ensures { RunLeavesState }
 {}
 
-/// An update that repeats what a state has changes nothing; without tree info, or for the root tree, it tells nothing.
+/// An update that repeats what a state has changes nothing; without tree info, or for the root tree, it reports
+/// nothing.
 pub fn repeat_tells_nothing()
     ensures { RepeatTellsNothing }
 {}
 
-/// For another tree, with tree info, it tells that tree's root.
+/// With tree info for another tree, such an update reports that tree's root.
 pub fn repeat_tells_root()
     ensures { RepeatTellsRoot }
 {}
@@ -115,12 +117,12 @@ pub fn stopped_run_begins()
     ensures { StoppedRunBegins }
 {}
 
-/// A run that stops after its start loses no change: the next command would have made none, and would have told nothing.
+/// A run that stops once it has started loses no change: the next command would have changed and reported nothing.
 pub fn stop_loses_no_change()
     ensures { StopLosesNoChange }
 {}
 
-/// The numbers of an update's work are fixed by it.
+/// An update determines the numbers of its work.
 pub fn work_is_one()
     ensures { WorkIsOne }
 {}
@@ -131,7 +133,7 @@ pub fn work_is_there()
     ensures { WorkIsThere }
 {}
 
-/// The only button of a window goes: its window is updated, and it is removed.
+/// The only button of a window is removed: the window is updated, and the button removed.
 #[tactic(auto, using(crate::proofs::Examples::EventExamples::button_goes))]
 pub fn button_goes()
     ensures { ButtonGoes }
@@ -143,7 +145,7 @@ pub fn focus_goes_to_button()
     ensures { FocusGoesToButton }
 {}
 
-/// The focused button goes: the focus moves before it is told as removed.
+/// The focused button is removed: the focus moves before the removal is reported.
 #[tactic(auto, using(crate::proofs::Examples::EventExamples::focused_button_goes))]
 pub fn focused_button_goes()
     ensures { FocusedButtonGoes }
@@ -155,7 +157,7 @@ pub fn buttons_change_places()
     ensures { ButtonsChangePlaces }
 {}
 
-/// A run in which the host loses its focus twice: the second time nothing is told.
+/// A run in which the host loses its focus twice: the second time nothing is reported.
 #[tactic(auto, using(crate::proofs::Examples::EventExamples::host_loses_focus))]
 pub fn host_loses_focus()
     ensures { HostLosesFocus }
@@ -167,7 +169,7 @@ pub fn label_is_little_work()
     ensures { LabelIsLittleWork }
 {}
 
-/// A button goes, another comes, the one between them moves up, and the focus goes to it.
+/// A button is removed, another added, the one between them moves up, and the focus moves to it.
 #[tactic(auto, using(crate::proofs::Examples::EventExamples::pictured_change))]
 pub fn pictured_change()
     ensures { PicturedChange }
@@ -179,13 +181,13 @@ pub fn button_moves_is_told()
     ensures { ButtonMoves }
 {}
 
-/// A graft moves out of a tree that goes: its tree's root is updated, and the node below that root isn't.
+/// A graft moves out of a tree that is removed: the root of its tree is updated, and the node below that root isn't.
 #[tactic(auto, using(crate::proofs::Examples::ToldExamples::graft_moves_out_is_told))]
 pub fn graft_moves_out_is_told()
     ensures { GraftMovesOut }
 {}
 
-/// The tree of an empty graft comes: its nodes are added, and the graft isn't told.
+/// The tree of an empty graft is sent: its nodes are added, and the graft isn't reported.
 #[tactic(auto, using(crate::proofs::Examples::ToldExamples::grafted_tree_comes))]
 pub fn grafted_tree_comes()
     ensures { GraftedTreeComes }
@@ -209,13 +211,13 @@ pub fn focus_goes_inside()
     ensures { FocusGoesInside }
 {}
 
-/// And it comes back to the window.
+/// The focus comes back to the window.
 #[tactic(auto, using(crate::proofs::Examples::InnerFocus::focus_comes_back))]
 pub fn focus_comes_back()
     ensures { FocusComesBack }
 {}
 
-/// The work of a label in a grafted document counts how deep the node stands in its own tree.
+/// The work of a label in a grafted document counts the node's depth in its own tree.
 #[tactic(auto, using(crate::proofs::Examples::InnerWork::inner_label_work))]
 pub fn inner_label_work()
     ensures { InnerLabelWork }

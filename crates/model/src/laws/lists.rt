@@ -3,13 +3,13 @@ ghost use Rattle.model.specs.ListExamples.{pictured, PicturedLists};
 ghost use Rattle.model.specs.State.{IsState};
 ghost use Rattle.model.specs.ListLaws.{StatesAreFormed, PlaceIsWhereItStands, BelowAreTheChildren, AboveIsTheParent, PreorderIsOfChildren, PreorderIsAllWithin, PreorderHasNoneTwice, RootPreorderIsAllNodes, RootPreorderCountsNodes, PreorderIsPathOrder, PathTellsNodes, DepthIsPathLength, PathOfChild, PathWithin, SiblingsAreAround, RootsHaveNoSiblings, DeepestIsOfChild, FrontierIsOfChildren, FrontierIsAllShown, FrontierIsPathOrder};
 
-/// In a state no node stands at two places, and the way up from each ends.
+/// In a state no node has two places, and the way up from each node ends.
 #[tactic(auto, using(crate::proofs::Forest::Rooted::state_formed))]
 pub fn states_are_formed()
     ensures { StatesAreFormed }
 {}
 
-/// The place of a node is the one at which it stands.
+/// `place_of` gives the place of a node.
 #[tactic(auto, using(crate::proofs::Forest::PlaceOf::place_is))]
 pub fn place_is_where_it_stands()
     ensures { PlaceIsWhereItStands }
@@ -32,7 +32,7 @@ pub fn preorder_is_of_children()
     ensures { PreorderIsOfChildren }
 {}
 
-/// A pre-order has the nodes that lie within its first one, and no others.
+/// A pre-order has the nodes within its first one, and no others.
 pub fn preorder_is_all_within()
     ensures { PreorderIsAllWithin }
 {}
@@ -61,7 +61,7 @@ pub fn preorder_is_path_order()
     ensures { PreorderIsPathOrder }
 {}
 
-/// Two nodes of a state with one index path are one.
+/// Two nodes of a state with the same index path are the same.
 #[tactic(auto, using(crate::proofs::Lists::StateLists::path_tells))]
 pub fn path_tells_nodes()
     ensures { PathTellsNodes }
@@ -94,23 +94,23 @@ pub fn roots_have_no_siblings()
     ensures { RootsHaveNoSiblings }
 {}
 
-/// The deepest first child is that of the first child, or the first child where it has none; and likewise the last.
+/// The deepest first child is that of the first child, or the first child itself if it has none; likewise for the last.
 pub fn deepest_is_of_child()
     ensures { DeepestIsOfChild }
 {}
 
-/// A frontier has each child that is included, and the frontier of each that is left out alone.
+/// A frontier has each included child, and the frontier of each child that is excluded alone.
 #[tactic(auto, using(crate::proofs::Lists::Frontiers::frontier_is))]
 pub fn frontier_is_of_children()
     ensures { FrontierIsOfChildren }
 {}
 
-/// The filtered children are the nodes that are included, with no node between that is included or left out with its subtree.
+/// The filtered children are the included nodes with only nodes that are excluded alone between them and the node.
 pub fn frontier_is_all_shown()
     ensures { FrontierIsAllShown }
 {}
 
-/// The filtered children stand in the order of their index paths.
+/// The filtered children are in the order of their index paths.
 #[tactic(auto, using(crate::proofs::Lists::Shown::shown_rise))]
 pub fn frontier_is_path_order()
     ensures { FrontierIsPathOrder }

@@ -2,8 +2,8 @@
 ghost use Rattle.model.specs.MixtureExamples.{ThreeAreTaken};
 ghost use Rattle.model.specs.Mixtures.{MixturesAreTaken};
 
-/// However calls at both ends are mixed, what came from the front, what is left, and what came from the back reversed
-/// are the list, if each call takes the first or the last of what is left.
+/// If each call takes the first or the last item that is left, then, however calls at both ends are mixed, the items
+/// from the front, the items still left, and the reversed items from the back together are the list.
 pub fn mixtures_are_taken<S, A, B>()
     ensures { MixturesAreTaken S A B }
 {}

@@ -1,14 +1,14 @@
-//! Laws of queries and of what is answered to them.
+//! Laws of queries and their answers.
 ghost use Rattle.model.specs.QueryExamples.{OfWindow, OfSecret};
 ghost use Rattle.model.specs.QueryLaws.{NamedNodeIsLocated, ShownFocusIsFocus, RawIsName, PositionHasRaw};
 
-/// The node that is named is the one whose id in its tree, and whose tree, are these.
+/// The node with a name is the one with this id in its tree and this tree.
 #[tactic(auto, using(crate::proofs::Asking::NamedNodes::named_node_is_located))]
 pub fn named_node_is_located()
     ensures { NamedNodeIsLocated }
 {}
 
-/// The focus that is shown is the focus.
+/// `shown_focus` is the focus.
 #[tactic(auto, using(crate::proofs::Asking::ShownFocus::shown_focus_is_focus))]
 pub fn shown_focus_is_focus()
     ensures { ShownFocusIsFocus }

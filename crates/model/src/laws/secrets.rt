@@ -2,37 +2,37 @@
 ghost use Rattle.model.specs.AlikeExamples.{LinesAreAlike, SessionsAreAlike};
 ghost use Rattle.model.specs.SecretLaws.{AlikeIsMutual, ShapeKeepsAnswers, AlikeUpdatesFailAlike, AlikeUpdatesLeaveOneOutline, PasswordsHideWords, CommandsKeepSecret, RunsKeepSecret};
 
-/// Worlds are alike both ways.
+/// Being alike is symmetric.
 pub fn alike_is_mutual()
     ensures { AlikeIsMutual }
 {}
 
-/// A query whose answer shows nothing of the secret has one answer.
+/// A query whose answer reveals nothing of the secret has the same answer in worlds of equal shape.
 pub fn shape_keeps_answers()
     ensures { ShapeKeepsAnswers }
 {}
 
-/// Of alike updates of alike worlds the same faults stand.
+/// Alike updates of alike worlds break the same rules.
 pub fn alike_updates_fail_alike()
     ensures { AlikeUpdatesFailAlike }
 {}
 
-/// Alike updates leave worlds of one outline.
+/// Alike updates leave worlds with the same outline.
 pub fn alike_updates_leave_one_outline()
     ensures { AlikeUpdatesLeaveOneOutline }
 {}
 
-/// No word is a mark in the text of a password.
+/// No word start is kept in the text of a password.
 pub fn passwords_hide_words()
     ensures { PasswordsHideWords }
 {}
 
-/// Alike commands are replied alike, and tell the same openly.
+/// Alike commands have alike replies and report the same events openly.
 pub fn commands_keep_secret()
     ensures { CommandsKeepSecret }
 {}
 
-/// So are alike runs.
+/// Alike runs have alike replies and report the same events openly.
 pub fn runs_keep_secret()
     ensures { RunsKeepSecret }
 {}

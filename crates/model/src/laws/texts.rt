@@ -1,4 +1,4 @@
-//! The words for texts, values and labels, tried on small texts, and their laws.
+//! Laws and worked examples of texts, values and labels.
 ghost use Rattle.model.specs.TextExamples.{TwoLines, EmptyLineLast, Nothing, LongRun, WideCharacter, LinkedRuns, TwoRuns, TwoSecrets, Measured, SomeMakeTexts, Styled, MeasuredAlike, Stacked, Turned, Upright};
 ghost use Rattle.model.specs.ValueExamples.{Values, Placeholders, ShownRuns};
 ghost use Rattle.model.specs.LabelExamples.{LabelsOf};
@@ -21,12 +21,12 @@ pub fn nothing()
     ensures { Nothing }
 {}
 
-/// Words begin past the 256th character, too.
+/// Words can begin past the 256th character.
 pub fn long_run()
     ensures { LongRun }
 {}
 
-/// A character of two units of UTF-16.
+/// A character of two UTF-16 code units.
 pub fn wide_character()
     ensures { WideCharacter }
 {}
@@ -56,7 +56,7 @@ pub fn styled()
     ensures { Styled }
 {}
 
-/// A password that is told of by its first characters.
+/// A password whose metrics are given for its first characters only.
 pub fn measured_alike()
     ensures { MeasuredAlike }
 {}
@@ -81,13 +81,13 @@ pub fn texts_are_whole()
     ensures { TextsAreWhole }
 {}
 
-/// There is a value exactly if its text is there.
+/// `has_value` holds exactly if there is a value.
 #[tactic(auto, using(crate::proofs::Text::TextFacts::has_value_is))]
 pub fn has_value_if_there()
     ensures { HasValueIfThere }
 {}
 
-/// There is a label exactly if its text is there.
+/// `has_label` holds exactly if there is a label.
 #[tactic(auto, using(crate::proofs::Text::TextFacts::has_label_is))]
 pub fn has_label_if_there()
     ensures { HasLabelIfThere }
@@ -135,13 +135,13 @@ pub fn secrets_are_alike()
     ensures { SecretsAreAlike }
 {}
 
-/// What is reached and kept, where the focus goes, and which faults stand reads the outline of a world alone.
+/// Reached nodes, kept trees, the chain of the focus and broken rules depend on the outline of a world alone.
 #[tactic(auto, using(crate::proofs::Alike::OutlineIsEnough::outline_rules))]
 pub fn outline_rules()
     ensures { OutlineRules }
 {}
 
-/// What views show of nodes without their texts reads the outline of a world alone.
+/// What views show of nodes, apart from their texts, depends on the outline of a world alone.
 #[tactic(auto, using(crate::proofs::Alike::OutlineIsEnough::outline_shows))]
 pub fn outline_shows()
     ensures { OutlineShows }
@@ -181,7 +181,7 @@ pub fn upright()
     ensures { Upright }
 {}
 
-/// A character of a well-formed text has a scalar, and so a unit of UTF-16.
+/// A character of a well-formed text has a scalar, and so a UTF-16 code unit.
 pub fn characters_have_length()
     ensures { CharactersHaveLength }
 {}
@@ -191,13 +191,13 @@ pub fn marks_are_word_starts()
     ensures { MarksAreWordStarts }
 {}
 
-/// A move to the next word comes to the nearest start of a word, or else to the end.
+/// A movement to the next word ends at the nearest start of a word, or else at the end of the text.
 #[tactic(auto, using(crate::proofs::Text::WordMarks::word_start_is_nearest))]
 pub fn word_start_is_nearest()
     ensures { WordStartIsNearest }
 {}
 
-/// Likewise back to a word.
+/// The same for a movement back to a word.
 #[tactic(auto, using(crate::proofs::Text::WordMarks::word_start_before_is_nearest))]
 pub fn word_start_before_is_nearest()
     ensures { WordStartBeforeIsNearest }

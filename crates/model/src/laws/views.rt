@@ -1,33 +1,33 @@
-//! Laws of filters and views, and small interfaces on which their definitions were tried.
+//! Laws of filters and views, and worked examples on small interfaces.
 ghost use Rattle.model.specs.ViewLaws.{IsWithinIsTested, TransformIsWithinAndAbove, UncutIsOfChildren, UncutIsPreorder, FocusIsFound, FocusedNodeIsFound, CommonFilterIsSixSteps, SixStepsAreOneFilter, CutOffIsClippedOnTheWay, SaidUpwardIsOfParent, TransformIsOfParent, InheritedIsOfParent};
 ghost use Rattle.schema.specs.declared.values.Live.{Live};
 ghost use Rattle.std.specs.Prelude.{List, ℕ};
 ghost use Rattle.model.specs.ViewExamples.{NestedAnswers, CoveredViews, CommonAnswers, PushedLists, ClippedAnswers, FilteredLists, PlacedViews, UpwardViews, CountedSets, OwnViews, BoxedViews};
 ghost use Rattle.model.specs.RoleExamples.{RoleLists};
 
-/// The effective focus that is found is the one that a state has.
+/// `effective_focus` is the effective focus of a state.
 pub fn focus_is_found()
     ensures { FocusIsFound }
 {}
 
-/// The test says of each node of a state whether it is focused.
+/// `is_focused` holds of exactly the focused node of a state.
 #[tactic(auto, using(crate::proofs::Focus::FocusIsFound::focused_node_is_found))]
 pub fn focused_node_is_found()
     ensures { FocusedNodeIsFound }
 {}
 
-/// The common filter goes by its six steps.
+/// The common filter satisfies its six steps.
 #[tactic(auto, using(crate::proofs::Views::ViewFacts::steps))]
 pub fn common_filter_is_six_steps()
     ensures { CommonFilterIsSixSteps }
 {}
 
-/// No other filter goes by them.
+/// No other filter satisfies the six steps.
 pub fn six_steps_are_one_filter()
     ensures { SixStepsAreOneFilter }
 {}
 
-/// Where nothing is settled of a node, it is cut off exactly if a node on the way up is clipped.
+/// A node whose answer isn't decided by itself is cut off exactly if a node on the way up is clipped.
 #[tactic(auto, using(crate::proofs::Views::ViewFacts::clipped_on_the_way))]
 pub fn cut_off_is_clipped_on_the_way()
     ensures { CutOffIsClippedOnTheWay }
@@ -39,13 +39,13 @@ pub fn said_upward_is_of_parent()
     ensures { SaidUpwardIsOfParent }
 {}
 
-/// A node is moved by its own translation and by all that moves its parent.
+/// A node is shifted by its own translation and by all that shifts its parent.
 #[tactic(auto, using(crate::proofs::Views::ViewFacts::transform_is))]
 pub fn transform_is_of_parent()
     ensures { TransformIsOfParent }
 {}
 
-/// A node gives its own, or hands on what its parent has: said of a setting and of a text.
+/// A node has its own property, or else inherits its parent's; for a setting and for a text.
 pub fn inherited_is_of_parent()
     ensures { InheritedIsOfParent Live × InheritedIsOfParent (List ℕ) }
 {}
@@ -122,13 +122,13 @@ pub fn covered_views()
     ensures { CoveredViews }
 {}
 
-/// The test of within says what within says.
+/// `is_within` is equivalent to `IsWithin`.
 #[tactic(auto, using(crate::proofs::Forest::WaysUp::within_is_tested))]
 pub fn within_is_tested()
     ensures { IsWithinIsTested }
 {}
 
-/// What moves a node is what moves it within an upper one, and what moves that.
+/// A node's translation is the one within an ancestor plus that of the ancestor.
 pub fn transform_is_within_and_above()
     ensures { TransformIsWithinAndAbove }
 {}
@@ -139,7 +139,7 @@ pub fn uncut_is_of_children()
     ensures { UncutIsOfChildren }
 {}
 
-/// Where nothing is cut off it is the pre-order.
+/// If nothing is cut off, that pre-order is the plain one.
 #[tactic(auto, using(crate::proofs::Forest::WaysUp::uncut_is_preorder))]
 pub fn uncut_is_preorder()
     ensures { UncutIsPreorder }

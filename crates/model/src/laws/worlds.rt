@@ -6,7 +6,7 @@ ghost use Rattle.model.specs.WorldLaws.{RebuildIsOne, RebuildIsThere, AcceptedOr
 
 use crate::FullNodeId;
 
-/// A merged world has one rebuild.
+/// A merged world has at most one rebuild.
 pub fn rebuild_is_one()
     ensures { RebuildIsOne }
 {}
@@ -16,12 +16,12 @@ pub fn rebuild_is_there()
     ensures { RebuildIsThere }
 {}
 
-/// An update is accepted, or some fault stands for it.
+/// An update is accepted, or it breaks some rule.
 pub fn accepted_or_fault()
     ensures { AcceptedOrFault }
 {}
 
-/// The rules of an update are kept exactly where no fault stands.
+/// `KeepsRules` holds exactly if no fault stands (`Stands`).
 #[tactic(auto, using(crate::proofs::Update::RulesOrFault::rules_or_fault))]
 pub fn rules_or_fault()
     ensures { RulesOrFault }
@@ -53,25 +53,25 @@ pub fn later_worlds_are_states()
     ensures { LaterWorldsAreStates }
 {}
 
-/// A tree that was dropped and comes again has its old index.
+/// A tree that was dropped and is sent again has its old index.
 #[tactic(auto, using(crate::proofs::State::LaterWorlds::name_keeps_index))]
 pub fn names_keep_their_index()
     ensures { NamesKeepTheirIndex }
 {}
 
-/// Each node of a state but the root tree's root stands at one place, and its parent is a node.
+/// Each node of a state but the root tree's root has exactly one place, and its parent is a node.
 #[tactic(auto, using(crate::proofs::State::StatePlaces::one_place))]
 pub fn place_is_one()
     ensures { PlaceIsOne }
 {}
 
-/// The root of another tree than the root tree stands at the graft of its tree and 0.
+/// The root of a grafted tree has the place (graft of its tree, 0).
 #[tactic(auto, using(crate::proofs::State::StatePlaces::graft_place))]
 pub fn root_stands_at_graft()
     ensures { RootStandsAtGraft }
 {}
 
-/// The root tree's root stands nowhere.
+/// The root tree's root has no place.
 #[tactic(auto, using(crate::proofs::State::StatePlaces::root_has_no_place))]
 pub fn root_has_no_place()
     ensures { RootHasNoPlace }
@@ -111,7 +111,7 @@ pub fn focus_id_is_there()
     ensures { FocusIdIsThere }
 {}
 
-/// A node that says that it is focused is the answer of `focus`.
+/// A node of which `is_focused` holds is the answer of `focus`.
 #[tactic(auto, using(crate::proofs::Focus::FocusAnswers::focused_node_is_focus))]
 pub fn focused_node_is_the_focus()
     ensures { FocusedNodeIsTheFocus }
@@ -135,7 +135,7 @@ pub fn nodes_are_located()
     ensures { NodesAreLocated }
 {}
 
-/// Tree info for the root tree replaces both toolkit texts, and that of another tree neither.
+/// Tree info for the root tree replaces both toolkit texts; tree info for another tree replaces neither.
 #[tactic(auto, using(crate::proofs::Examples::Toolkits::toolkit_is_the_root_trees))]
 pub fn toolkit_is_the_root_trees()
     ensures { ToolkitIsTheRootTrees }
@@ -153,7 +153,7 @@ pub fn order_is_total()
     ensures { OrderIsTotal }
 {}
 
-/// `cmp` answers `Equal`, and `==` holds, only for an id and itself.
+/// `cmp` returns `Equal`, and `==` holds, only for equal ids.
 #[tactic(auto, using(crate::proofs::Worlds::Ids::equal_ids_are_one))]
 pub fn equal_ids_are_one()
     ensures { EqualIdsAreOne }

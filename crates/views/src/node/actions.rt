@@ -1,4 +1,4 @@
-//! What a user may ask of a node, and what can be done with it.
+//! The actions that a node supports.
 ghost use Rattle.std.specs.Prelude.{◌≡◌};
 ghost use Rattle.std.specs.Fn.{FnReturnsAt};
 ghost use Rattle.model.specs.Views.{is_selectable, supports_toggle, supports_expand_collapse, supports_url, is_only_clicked, supports_action, is_clickable, supports_increment, supports_decrement, is_focusable, is_invocable};
@@ -10,35 +10,35 @@ use model::filters::FilterResult;
 use schema::Action;
 
 impl NodeRef<'_> {
-    /// Whether it can be selected: whether it says if it is, and isn't disabled.
+    /// Whether the node can be selected: it has a selected state and isn't disabled.
     pub fn is_selectable(&self) -> bool
         ensures { result ≡ is_selectable (data_at self.now) }
     {
         self.is_selected().is_some() && !self.is_disabled()
     }
 
-    /// Whether it can be toggled.
+    /// Whether the node can be toggled.
     pub fn supports_toggle(&self) -> bool
         ensures { result ≡ supports_toggle (data_at self.now) }
     {
         self.toggled().is_some()
     }
 
-    /// Whether it expands and collapses, by its fields or by its role.
+    /// Whether the node expands and collapses, by its fields or its role.
     pub fn supports_expand_collapse(&self) -> bool
         ensures { result ≡ supports_expand_collapse (data_at self.now) }
     {
         self.has_popup().is_some() || self.node.is_expanded().is_some() || self.is_expandable()
     }
 
-    /// Whether it leads to its URL.
+    /// Whether the node is a link with a URL.
     pub fn supports_url(&self) -> bool
         ensures { result ≡ supports_url (data_at self.now) }
     {
         self.url().is_some() && self.is_link()
     }
 
-    /// Whether it supports the action, or its filtered parent has it for its children.
+    /// Whether the node supports the action, or its filtered parent supports it for its children.
     pub fn supports_action<F: Fn(&NodeRef<'_>) -> FilterResult>(
         &self,
         action: Action,
@@ -56,7 +56,7 @@ impl NodeRef<'_> {
         }
     }
 
-    /// Whether it can be clicked.
+    /// Whether the node can be clicked.
     pub fn is_clickable<F: Fn(&NodeRef<'_>) -> FilterResult>(&self, parent_filter: &F) -> bool
         requires { F.IsAlwaysCallable parent_filter.now }
         ensures { IsBy (FnReturnsAt F.Fn parent_filter.now) self.now is_clickable result }
@@ -64,7 +64,7 @@ impl NodeRef<'_> {
         self.supports_action(Action::Click, parent_filter)
     }
 
-    /// Whether its value can be raised by a step.
+    /// Whether the node's value can be raised by a step.
     pub fn supports_increment<F: Fn(&NodeRef<'_>) -> FilterResult>(&self, parent_filter: &F) -> bool
         requires { F.IsAlwaysCallable parent_filter.now }
         ensures { IsBy (FnReturnsAt F.Fn parent_filter.now) self.now supports_increment result }
@@ -72,7 +72,7 @@ impl NodeRef<'_> {
         self.supports_action(Action::Increment, parent_filter)
     }
 
-    /// Whether its value can be lowered by a step.
+    /// Whether the node's value can be lowered by a step.
     pub fn supports_decrement<F: Fn(&NodeRef<'_>) -> FilterResult>(&self, parent_filter: &F) -> bool
         requires { F.IsAlwaysCallable parent_filter.now }
         ensures { IsBy (FnReturnsAt F.Fn parent_filter.now) self.now supports_decrement result }
@@ -80,7 +80,7 @@ impl NodeRef<'_> {
         self.supports_action(Action::Decrement, parent_filter)
     }
 
-    /// Whether it can take the focus, or is the effective focus.
+    /// Whether the node can take the focus or is the effective focus.
     pub fn is_focusable<F: Fn(&NodeRef<'_>) -> FilterResult>(&self, parent_filter: &F) -> bool
         requires { F.IsAlwaysCallable parent_filter.now }
         ensures { IsBy (FnReturnsAt F.Fn parent_filter.now) self.now is_focusable result }
@@ -89,8 +89,8 @@ impl NodeRef<'_> {
         self.supports_action(Action::Focus, parent_filter) || self.is_focused_in_tree()
     }
 
-    /// Whether a click is all that it is for: it has no text to fill in or to read through, and nothing to toggle, to
-    /// expand or to select.
+    /// Whether clicking is the node's only use: it has no text to fill in or to read, and can't be toggled, expanded or
+    /// selected.
     fn is_only_clicked(&self) -> bool
         ensures { result ≡ is_only_clicked (data_at self.now) }
     {
@@ -101,7 +101,7 @@ impl NodeRef<'_> {
             && self.is_selected().is_none()
     }
 
-    /// Whether it can be clicked, and a click is all that it is for.
+    /// Whether the node can be clicked and clicking is its only use.
     pub fn is_invocable<F: Fn(&NodeRef<'_>) -> FilterResult>(&self, parent_filter: &F) -> bool
         requires { F.IsAlwaysCallable parent_filter.now }
         ensures { IsBy (FnReturnsAt F.Fn parent_filter.now) self.now is_invocable result }

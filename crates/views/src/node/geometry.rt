@@ -11,21 +11,21 @@ use model::FullNodeId;
 use schema::{Rect, Translation, WideRect, WideTranslation};
 
 impl NodeRef<'_> {
-    /// The rectangle as it was sent, before any move.
+    /// The node's rectangle as sent in the update, before any translation, in units of 1/64 pixel.
     pub fn raw_bounds(&self) -> Option<Rect>
         ensures { result ≡ (data_at self.now).bounds }
     {
         self.node.bounds()
     }
 
-    /// Whether a rectangle is given.
+    /// Whether the node has a rectangle.
     pub fn has_bounds(&self) -> bool
         ensures { result ≡ is_some (data_at self.now).bounds }
     {
         self.node.bounds().is_some()
     }
 
-    /// By how much it moves itself and what is below it.
+    /// By how much the node shifts itself and its subtree, in units of 1/64 pixel.
     pub fn direct_transform(&self) -> Translation
         ensures { result ≡ direct_transform (world_at self.now) (id_at self.now) }
     {
@@ -35,14 +35,15 @@ impl NodeRef<'_> {
         }
     }
 
-    /// By how much it is moved: by itself and all its ancestors, across grafts.
+    /// By how much the node is shifted: the sum of its own translation and those of all its ancestors, across grafts,
+    /// in units of 1/64 pixel.
     pub fn transform(&self) -> WideTranslation
         ensures { result ≡ transform (world_at self.now) (id_at self.now) }
     {
         self.whole_move()
     }
 
-    /// Its own move, which is narrow.
+    /// The node's own translation, as narrow numbers.
     fn own_move(self) -> Translation
         ensures exact { result ≡ direct_transform (world_at self.entry) (id_at self.entry) }
         ensures across { FitsSigned w32 result.x }
@@ -51,8 +52,8 @@ impl NodeRef<'_> {
         self.direct_transform()
     }
 
-    /// By how much it and the nodes above it move it, up to the one below the top where there is one. It leaves room
-    /// for a rectangle.
+    /// The sum of the translations of the node and its ancestors, up to the one below `top` if there is a top. Adding a
+    /// rectangle to it doesn't overflow.
     pub(crate) fn move_to_top(self, top: Option<FullNodeId>) -> WideTranslation
         ensures exact { result ≡ transform_to_top (world_at self.entry) top (id_at self.entry) }
         ensures across { IsInReach result.x }
@@ -72,7 +73,7 @@ impl NodeRef<'_> {
         sum
     }
 
-    /// By how much it is moved, which leaves room for a rectangle.
+    /// By how much the node is shifted. Adding a rectangle to it doesn't overflow.
     pub(crate) fn whole_move(self) -> WideTranslation
         ensures exact { result ≡ transform (world_at self.entry) (id_at self.entry) }
         ensures across { IsInReach result.x }
@@ -81,7 +82,8 @@ impl NodeRef<'_> {
         self.move_to_top(None)
     }
 
-    /// Its rectangle, moved as the node is, each axis from the lesser to the greater.
+    /// The node's rectangle after all translations, in units of 1/64 pixel; on each axis it goes from the lower to the
+    /// higher coordinate.
     pub fn bounding_box(&self) -> Option<WideRect>
         ensures { result ≡ bounding_box (world_at self.now) (id_at self.now) }
     {
@@ -90,7 +92,7 @@ impl NodeRef<'_> {
     }
 }
 
-/// Whether the node is the top, where there is one.
+/// Whether the node is the top, if there is one.
 fn is_top(top: Option<FullNodeId>, id: FullNodeId) -> bool
     ensures { result ≡ is_top top id }
 {
@@ -100,7 +102,7 @@ fn is_top(top: Option<FullNodeId>, id: FullNodeId) -> bool
     }
 }
 
-/// One move more of a sum.
+/// A sum with one more translation.
 fn one_more(sum: i128, own: i32) -> i128
     requires { IsInReach (sum +ℤ own) }
     ensures { result ≡ sum +ℤ own }
@@ -108,7 +110,7 @@ fn one_more(sum: i128, own: i32) -> i128
     sum + i128::from(own)
 }
 
-/// One move more.
+/// A sum with one more translation.
 fn added(sum: WideTranslation, own: Translation) -> WideTranslation
     requires across { IsInReach (sum.x +ℤ own.x) }
     requires along { IsInReach (sum.y +ℤ own.y) }
@@ -122,7 +124,7 @@ fn added(sum: WideTranslation, own: Translation) -> WideTranslation
     }
 }
 
-/// The sum of an edge and a move.
+/// The sum of an edge and a translation.
 fn plus(edge: i32, by: i128) -> i128
     requires { IsInReach by }
     ensures { result ≡ edge +ℤ by }
@@ -130,7 +132,7 @@ fn plus(edge: i32, by: i128) -> i128
     i128::from(edge) + by
 }
 
-/// The rectangle, moved.
+/// The rectangle after a translation.
 pub fn moved_rect(rect: Rect, by: WideTranslation) -> WideRect
     requires across { IsInReach by.x }
     requires along { IsInReach by.y }
@@ -144,7 +146,7 @@ pub fn moved_rect(rect: Rect, by: WideTranslation) -> WideRect
     }
 }
 
-/// The rectangle, each axis from the lesser to the greater.
+/// The rectangle, on each axis from the lower to the higher coordinate.
 pub fn ordered(rect: WideRect) -> WideRect
     ensures { result ≡ ordered_rect rect }
 {
@@ -156,21 +158,21 @@ pub fn ordered(rect: WideRect) -> WideRect
     }
 }
 
-/// Whether the rectangles share a part of the first axis: the greater start is below the lesser end.
+/// Whether the rectangles overlap on the first axis: the higher start is below the lower end.
 fn meets_across(a: WideRect, b: WideRect) -> bool
     ensures { result ≡ int_lt (int_max a.x0 b.x0) (int_min a.x1 b.x1) }
 {
     a.x0.max(b.x0) < a.x1.min(b.x1)
 }
 
-/// And of the second.
+/// Whether the rectangles overlap on the second axis.
 fn meets_along(a: WideRect, b: WideRect) -> bool
     ensures { result ≡ int_lt (int_max a.y0 b.y0) (int_min a.y1 b.y1) }
 {
     a.y0.max(b.y0) < a.y1.min(b.y1)
 }
 
-/// Whether the rectangles share a part.
+/// Whether the rectangles overlap.
 pub(crate) fn meets(a: WideRect, b: WideRect) -> bool
     ensures { result ≡ meets a b }
 {

@@ -1,4 +1,5 @@
-//! What a node has from the nodes above it, across grafts: the nearest that gives anything, from the node upwards.
+//! Properties that a node inherits across grafts: the value is that of the nearest node, from the node upwards, that
+//! has one.
 ghost use Rattle.std.specs.Prelude.{◌≡◌, option_copied};
 ghost use Rattle.model.specs.Views.{is_italic, live};
 ghost use Rattle.model.specs.Filters.{is_hidden};
@@ -108,7 +109,7 @@ impl<'a> NodeRef<'a> {
             .text_align()
     }
 
-    /// How the text is set against its line.
+    /// Whether the text is superscript or subscript.
     pub fn vertical_offset(&self) -> Option<VerticalOffset>
         ensures { result ≡ inherited_at (λ d. d.vertical_offset) self.now }
     {
@@ -117,21 +118,21 @@ impl<'a> NodeRef<'a> {
             .vertical_offset()
     }
 
-    /// Whether it or a node above it is italic.
+    /// Whether the node or an ancestor is italic.
     pub fn is_italic(&self) -> bool
         ensures { result ≡ is_italic (world_at self.now) (id_at self.now) }
     {
         self.nearest(|node| node.is_italic()).is_some()
     }
 
-    /// Whether it or a node above it is hidden.
+    /// Whether the node or an ancestor is hidden.
     pub fn is_hidden(&self) -> bool
         ensures { result ≡ is_hidden (world_at self.now) (id_at self.now) }
     {
         self.nearest(|node| node.is_hidden()).is_some()
     }
 
-    /// How a change of the node is told; not at all where nothing is given.
+    /// How changes of the node are announced; `Off` if neither the node nor an ancestor says.
     pub fn live(&self) -> Live
         ensures { result ≡ live (world_at self.now) (id_at self.now) }
     {

@@ -1,4 +1,4 @@
-//! A node's kin, as a caller's filter shows them.
+//! A node's relatives, as a caller's filter shows them.
 ghost use Rattle.std.specs.Prelude.{◌≡◌, is_some, Contains, IfSome, option_map};
 ghost use Rattle.std.specs.Fn.{FnReturnsAt};
 ghost use Rattle.model.specs.Lists.{ancestors};
@@ -12,7 +12,7 @@ use crate::node::NodeRef;
 use crate::node::same::is_same;
 use model::filters::FilterResult;
 
-/// Whether a node that is answered so is shown.
+/// Whether a node with this answer is included.
 pub(crate) fn is_included(answer: FilterResult) -> bool
     ensures { result ≡ is_included answer }
 {
@@ -31,7 +31,7 @@ impl<'a> NodeRef<'a> {
         self.node.tree_id().is_some()
     }
 
-    /// Whether the other node is this one or an ancestor of it.
+    /// Whether `ancestor` is this node or an ancestor of it.
     pub fn is_descendant_of(&self, ancestor: &NodeRef<'_>) -> bool
         ensures { result ≡ is_within (world_at self.now) (id_at ancestor.now) (id_at self.now) }
     {
@@ -42,7 +42,7 @@ impl<'a> NodeRef<'a> {
                 .is_some()
     }
 
-    /// The nearest ancestor that the filter includes, whatever stands between.
+    /// The nearest ancestor that the filter includes, whatever it answers for the nodes between.
     pub fn filtered_parent<F: Fn(&NodeRef<'_>) -> FilterResult>(
         &self,
         filter: &F,
@@ -64,7 +64,7 @@ impl<'a> NodeRef<'a> {
         None
     }
 
-    /// The nearest ancestor that the filter includes and in which things can be selected.
+    /// The nearest ancestor that the filter includes and whose children can be selected.
     pub fn selection_container<F: Fn(&NodeRef<'_>) -> FilterResult>(
         &self,
         filter: &F,
@@ -84,7 +84,7 @@ impl<'a> NodeRef<'a> {
         None
     }
 
-    /// The size of a set, as the nearest ancestor gives it that the filter includes and that gives one.
+    /// The size of the set, from the nearest ancestor that the filter includes and that has one.
     pub fn size_of_set_from_container<F: Fn(&NodeRef<'_>) -> FilterResult>(
         &self,
         filter: &F,

@@ -1,4 +1,4 @@
-//! What a node is called.
+//! The label of a node.
 ghost use Rattle.std.specs.Prelude.{◌≡◌, ◌+◌, ◌<◌, ◌^◌, [], map, is_some, unwrap_or, option_map, IfOk, OnOk, OnErr};
 ghost use Rattle.std.specs.String.{string_bytes};
 ghost use Rattle.model.specs.Labels.{label_part, joined_text, label_of, labelled_by as labels_of};
@@ -13,7 +13,7 @@ use crate::walks::LabelledBy;
 use schema::{TextBuffer, TextFault, TextWrite};
 use std::alloc::{AllocError, Global};
 
-/// Writes the parts that nodes give, with a space between each two, and says whether there is one.
+/// Writes the label parts of these nodes, with a space between each two, and returns whether there is one.
 fn write_parts<W: TextWrite>(labels: LabelledBy<'_>, writer: &mut W) -> Result<bool, TextFault>
     requires { W.faults writer.old + 1 < 2 ^ 128 }
     ensures ok { let text = joined_text (parts_of (labels_left labels.entry)) in
@@ -33,7 +33,7 @@ fn write_parts<W: TextWrite>(labels: LabelledBy<'_>, writer: &mut W) -> Result<b
     Ok(is_later)
 }
 
-/// Whether one of the nodes gives a part.
+/// Whether one of the nodes has a label part.
 fn has_part(labels: LabelledBy<'_>) -> bool
     ensures { result ≡ is_some (joined_text (parts_of (labels_left labels.entry))) }
 {
@@ -47,8 +47,9 @@ fn has_part(labels: LabelledBy<'_>) -> bool
 }
 
 impl<'a> NodeRef<'a> {
-    /// The nodes that label the node: those that it names, without those that aren't in the state, or else, for a control
-    /// such as a button, the labels and images in it, which are looked for in containers alone.
+    /// The nodes that label this one: those that `labelled_by` names, skipping those that aren't in the state. If it
+    /// names none and the node is a control such as a button, they are the labels and images in the node, searched in
+    /// containers only.
     pub fn labelled_by(&self) -> LabelledBy<'a>
         ensures { let w = world_at self.now in
             labels_left result ≡ map (node_in w) (labels_of w (id_at self.now)) }
@@ -56,21 +57,21 @@ impl<'a> NodeRef<'a> {
         LabelledBy::new(*self)
     }
 
-    /// Whether a label of its own is given.
+    /// Whether the node has a label of its own.
     fn has_own_label(&self) -> bool
         ensures { result ≡ is_some (data_at self.now).label }
     {
         self.node.label().is_some()
     }
 
-    /// The label of its own, and an empty text where none is given.
+    /// The node's own label, or an empty text.
     fn own_label(&self) -> &'a str
         ensures { result.now ≡ unwrap_or (data_at self.now).label [] }
     {
         self.node.label().unwrap_or("")
     }
 
-    /// Whether the node gives a part of another one's label: a label its value, another node its own label.
+    /// Whether the node has a part for another node's label: the value of a label, or any other node's own label.
     fn gives_part(&self) -> bool
         ensures { result ≡ is_some (label_part (world_at self.now) (id_at self.now)) }
     {
@@ -80,7 +81,7 @@ impl<'a> NodeRef<'a> {
         self.has_own_label()
     }
 
-    /// Writes a part of a label, where there is one.
+    /// Writes a part of a label, if there is one.
     fn write_bare_part<W: TextWrite>(&self, writer: &mut W) -> Result<(), TextFault>
         requires { W.faults writer.old + 1 < 2 ^ 128 }
         ensures ok { let part = unwrap_or (label_part (world_at self.now) (id_at self.now)) [] in
@@ -95,7 +96,7 @@ impl<'a> NodeRef<'a> {
         writer.write_str(self.own_label())
     }
 
-    /// Writes a part of a label, after a space where another part stands before it.
+    /// Writes a label part, after a space if it isn't the first.
     fn write_part<W: TextWrite>(&self, is_later: bool, writer: &mut W) -> Result<(), TextFault>
         requires { W.faults writer.old + 1 < 2 ^ 128 }
         ensures ok { let part = unwrap_or (label_part (world_at self.now) (id_at self.now)) [] in
@@ -110,12 +111,14 @@ impl<'a> NodeRef<'a> {
         self.write_bare_part(writer)
     }
 
-    /// Writes the label, and says whether there is one: its own, or else the parts of what labels it, with a space between
-    /// each two. A label gives its value as a part, another node its own label. No memory is taken.
+    /// Writes the label and returns whether there is one: the node's own label, or else the parts of the nodes in
+    /// [`NodeRef::labelled_by`], joined by spaces. The part of a label is its value, that of any other node its own
+    /// label. Does not allocate.
     ///
     /// # Errors
     ///
-    /// The writer took no more. It has a beginning of the label then, and counts one failure more.
+    /// Returns `TextFault` if the writer fails. It has then received a beginning of the label and counts one more
+    /// failure.
     pub fn write_label<W: TextWrite>(&self, writer: &mut W) -> Result<bool, TextFault>
         requires { W.faults writer.old + 1 < 2 ^ 128 }
         ensures ok { let label = label_of (world_at self.now) (id_at self.now) in
@@ -130,18 +133,18 @@ impl<'a> NodeRef<'a> {
         write_parts(self.labelled_by(), writer)
     }
 
-    /// Whether there is a label.
+    /// Whether the node has a label.
     pub fn has_label(&self) -> bool
         ensures { result ≡ is_some (label_of (world_at self.now) (id_at self.now)) }
     {
         self.has_own_label() || has_part(self.labelled_by())
     }
 
-    /// The label, as [`NodeRef::write_label`] writes it.
+    /// Returns the label, as [`NodeRef::write_label`] writes it, or `None` if there is none.
     ///
     /// # Errors
     ///
-    /// `AllocError`: there is no memory for the text.
+    /// Returns `AllocError` if memory runs out.
     pub fn label(&self, alloc: Global) -> Result<Option<String>, AllocError>
         ensures { IfOk result (λ text. option_map string_bytes text ≡ label_of (world_at self.now) (id_at self.now)) }
     {

@@ -1,4 +1,4 @@
-//! Passwords are shown as bullets, unless all of their characters are alike.
+//! Passwords are shown as bullets, unless all of their characters are the same.
 ghost use Rattle.std.specs.Prelude.{◌≡◌, ◌==◌, ◌+◌, ◌<◌, ◌^◌, length, OnOk, OnErr};
 ghost use Rattle.std.specs.Str.{chars};
 ghost use Rattle.model.specs.FlatText.{are_alike};
@@ -7,14 +7,15 @@ ghost use Rattle.views.specs.Writes.{bullet_calls, IsCalled, IsCalledTillFault, 
 
 use schema::{TextFault, TextWrite};
 
-/// What is shown for a character of a password.
+/// The character shown in place of each character of a password.
 const BULLET: char = '\u{2022}';
 
-/// Writes so many bullets, each by a call of its own.
+/// Writes this many bullets, each by one call.
 ///
 /// # Errors
 ///
-/// The writer took no more. It has a beginning of the bullets then, counts one failure more, and isn't called again.
+/// Returns `TextFault` if the writer fails. It has then received a beginning of the bullets, counts one more failure,
+/// and isn't called again.
 pub fn write_bullets<W: TextWrite>(count: usize, writer: &mut W) -> Result<(), TextFault>
     requires { W.faults writer.old + 1 < 2 ^ 128 }
     ensures ok { OnOk result (IsWritten W.received W.faults (bullets count) writer.old writer.new) }
@@ -28,7 +29,7 @@ pub fn write_bullets<W: TextWrite>(count: usize, writer: &mut W) -> Result<(), T
     Ok(())
 }
 
-/// Whether no two scalars of the text differ.
+/// Whether all scalars of the text are the same.
 pub(crate) fn has_one_scalar(text: &str) -> bool
     ensures { result ≡ are_alike (λ a b. a == b) (chars text.now) }
 {
@@ -44,7 +45,7 @@ pub(crate) fn has_one_scalar(text: &str) -> bool
     true
 }
 
-/// How many scalars the text has.
+/// The number of scalars of the text.
 pub fn scalar_count(text: &str) -> usize
     ensures { result ≡ length (chars text.now) }
 {

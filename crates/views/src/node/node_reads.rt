@@ -1,4 +1,4 @@
-//! What is read of a node.
+//! Basic properties of a node.
 ghost use Rattle.std.specs.Prelude.{◌≡◌, ◌↔◌, Some, IsTrue, IfSome, option_map};
 ghost use Rattle.model.specs.World.{HasData, root_of, local_id_of};
 ghost use Rattle.model.specs.Forest.{place_of};
@@ -20,14 +20,14 @@ impl<'a> NodeRef<'a> {
         self.id
     }
 
-    /// The state in which the node is seen.
+    /// The state that the node is read in.
     pub fn tree_state(&self) -> StateRef<'a>
         ensures { world_of result ≡ world_at self.now }
     {
         self.state
     }
 
-    /// What the node says.
+    /// The node's data, as sent in updates.
     pub fn data(&self) -> &'a Node
         ensures is { result.now ≡ data_at self.now }
         ensures known { HasData (world_at self.now) (id_at self.now) (data_at self.now) }
@@ -35,29 +35,30 @@ impl<'a> NodeRef<'a> {
         self.node
     }
 
-    /// The node's id within its tree, and the tree's name.
+    /// The node's id within its tree, and the id of the tree.
     pub fn locate(&self) -> (NodeId, TreeId)
         ensures { local_id_of (world_at self.now) (id_at self.now) ≡ Some result }
     {
         (self.id.node, self.state.tree_of(self.id))
     }
 
-    /// What the node is.
+    /// The role of the node.
     pub fn role(&self) -> Role
         ensures { result ≡ (data_at self.now).role }
     {
         self.node.role()
     }
 
-    /// Whether it is the root tree's root.
+    /// Whether the node is the root tree's root.
     pub fn is_root(&self) -> bool
         ensures { IsTrue result ↔ (root_of (world_at self.now) 0 ≡ Some (id_at self.now)) }
     {
         is_same(self.id, self.state.root_id())
     }
 
-    /// Whether the host is focused and the node is the focus: the effective focus where that names no active
-    /// descendant in its tree, or else that other node. An effective focus that names itself isn't.
+    /// Whether the node is focused. This holds while the host is focused, of the effective focus if it has no active
+    /// descendant in its tree, and of that active descendant otherwise. An effective focus that names itself as its
+    /// active descendant is not focused.
     pub fn is_focused(&self) -> bool
         ensures { IsTrue result ↔ IsFocusedNode (world_at self.now) (id_at self.now) }
     {
@@ -75,14 +76,15 @@ impl<'a> NodeRef<'a> {
         }
     }
 
-    /// Whether it is the effective focus.
+    /// Whether the node is the effective focus, whether or not the host is focused.
     pub fn is_focused_in_tree(&self) -> bool
         ensures { IsTrue result ↔ IsEffectiveFocus (world_at self.now) (id_at self.now) }
     {
         is_same(self.id, self.state.focus_id_in_tree())
     }
 
-    /// The parent's id. The parent of a tree's root is the node that grafts the tree; the root tree's root has none.
+    /// The parent's id. The parent of a tree's root is the node that grafts the tree; the root tree's root has no
+    /// parent.
     pub fn parent_id(&self) -> Option<FullNodeId>
         ensures { result ≡ option_map (λ p. p.0) (place_of (world_at self.now) (id_at self.now)) }
     {
@@ -98,7 +100,7 @@ impl<'a> NodeRef<'a> {
         Some(parent)
     }
 
-    /// The parent, and the index among its children.
+    /// The parent, and the node's index among its children.
     pub fn parent_and_index(self) -> Option<(NodeRef<'a>, usize)>
         ensures world { IfSome result (λ it. world_at it.0 ≡ world_at self.entry) }
         ensures place { option_map (λ it. (id_at it.0, it.1)) result ≡ place_of (world_at self.entry) (id_at self.entry) }
@@ -109,7 +111,7 @@ impl<'a> NodeRef<'a> {
         }
     }
 
-    /// The node of its tree that it names as its active descendant, if that is in the state.
+    /// The node's active descendant, if that is a node of the same tree in the state.
     pub fn active_descendant(&self) -> Option<NodeRef<'a>>
         ensures { ShowsThe (world_at self.now) (Resolves (world_at self.now) (id_at self.now)) result }
     {

@@ -11,7 +11,7 @@ use crate::StateRef;
 use model::{FullNodeId, Place};
 use schema::Node;
 
-/// A node of a state, as it is read.
+/// A read-only view of a node in a state.
 #[derive(Clone, Copy)]
 pub struct NodeRef<'a> {
     pub(crate) state: StateRef<'a>,

@@ -1,4 +1,4 @@
-//! The text of a root's runs, as a value shows it. Nothing takes memory.
+//! The text of a root's runs, as shown in its value. Nothing here allocates.
 ghost use Rattle.std.specs.Prelude.{◌≡◌, ◌+◌, ◌<◌, ◌^◌, true, OnOk, OnErr, slice_get, option_copied, bytes_eq};
 ghost use Rattle.std.specs.Option.{option_or};
 ghost use Rattle.std.specs.List.{flat_map, list_all};
@@ -15,7 +15,7 @@ use crate::node::masking::write_bullets;
 use crate::runs::Run;
 use schema::{TextFault, TextWrite};
 
-/// Writes what is shown of a run.
+/// Writes a run's text as it is shown.
 fn write_run<W: TextWrite>(run: Run<'_>, masked: bool, writer: &mut W) -> Result<(), TextFault>
     requires { W.faults writer.old + 1 < 2 ^ 128 }
     ensures ok { OnOk result (IsWritten W.received W.faults (shown_of masked (sent_of run.entry)) writer.old writer.new) }
@@ -27,7 +27,7 @@ fn write_run<W: TextWrite>(run: Run<'_>, masked: bool, writer: &mut W) -> Result
     writer.write_str(run.value())
 }
 
-/// Writes what is shown of all runs.
+/// Writes the text of all runs as it is shown.
 fn write_runs<W: TextWrite>(
     root: NodeRef<'_>,
     masked: bool,
@@ -47,7 +47,7 @@ fn write_runs<W: TextWrite>(
     Ok(())
 }
 
-/// Whether all characters that the lengths cut off the text are this one.
+/// Whether all characters of the text, cut by these lengths, are this one.
 fn has_only(text: &[u8], lengths: &[u16], character: &[u8]) -> bool
     ensures { result ≡ list_all (bytes_eq character.now) (cut_by text.now lengths.now) }
 {
@@ -62,7 +62,7 @@ fn has_only(text: &[u8], lengths: &[u16], character: &[u8]) -> bool
     true
 }
 
-/// The first character of a run, where it has one.
+/// The first character of a run, if it has one.
 fn first_character<'a>(run: Run<'a>) -> Option<&'a [u8]>
     ensures { option_copied result ≡ slice_get (sent_characters (sent_of run.entry)) 0 }
 {
@@ -71,7 +71,7 @@ fn first_character<'a>(run: Run<'a>) -> Option<&'a [u8]>
     Some(text.split_at(text.len().min(usize::from(*length))).0)
 }
 
-/// The character that the ones of a run are compared with: the one that was seen, or else the run's first.
+/// The character to compare a run's characters with: the one seen before, or else the run's first.
 fn seen_first<'a>(seen: Option<&'a [u8]>, run: Run<'a>) -> Option<&'a [u8]>
     ensures { option_copied result ≡ option_or (option_copied seen.entry) (slice_get (sent_characters (sent_of run.entry)) 0) }
 {
@@ -81,7 +81,7 @@ fn seen_first<'a>(seen: Option<&'a [u8]>, run: Run<'a>) -> Option<&'a [u8]>
     }
 }
 
-/// Whether all characters of a run are the one that was seen, where one was.
+/// Whether all characters of a run are the one seen before, if there is one.
 fn is_like(run: Run<'_>, seen: Option<&[u8]>) -> bool
     ensures { result ≡ are_all (option_copied seen.entry) (sent_characters (sent_of run.entry)) }
 {
@@ -95,7 +95,7 @@ fn is_like(run: Run<'_>, seen: Option<&[u8]>) -> bool
     }
 }
 
-/// Whether no two characters of the runs differ.
+/// Whether all characters of the runs are the same.
 fn has_one_character(root: NodeRef<'_>) -> bool
     ensures { result ≡ are_alike bytes_eq (flat_map sent_characters (sent_runs (world_at root.entry) (id_at root.entry))) }
 {
@@ -111,14 +111,14 @@ fn has_one_character(root: NodeRef<'_>) -> bool
     true
 }
 
-/// Whether the runs are those of a password of which two characters differ.
+/// Whether the runs are those of a password and not all of its characters are the same.
 pub fn needs_masking(root: NodeRef<'_>) -> bool
     ensures { result ≡ needs_masking (world_at root.entry) (id_at root.entry) }
 {
     root.is_password_input() && !has_one_character(root)
 }
 
-/// Writes what is shown of all runs of a text, which are masked where they need it.
+/// Writes the text of all runs, masked if necessary.
 pub(crate) fn write_document<W: TextWrite>(
     root: NodeRef<'_>,
     writer: &mut W,

@@ -34,7 +34,7 @@ impl<'a> NodeRef<'a> {
         None
     }
 
-    /// The nearest node, from this one upwards, whose data pass the test.
+    /// The nearest node, from this one upwards, whose data passes the test.
     pub(crate) fn nearest<F: Fn(&Node) -> bool>(self, test: F) -> Option<NodeRef<'a>>
         requires { F.IsAlwaysCallable test }
         ensures world { IfSome result (λ node. world_at node ≡ world_at self.entry) }

@@ -1,4 +1,4 @@
-//! The text that a node has as its value.
+//! The value of a node, as text.
 ghost use Rattle.std.specs.Prelude.{◌≡◌, ◌+◌, ◌<◌, ◌^◌, [], is_some, unwrap_or, option_copied, option_map, IfOk, OnOk, OnErr};
 ghost use Rattle.std.specs.String.{string_bytes};
 ghost use Rattle.model.specs.Values.{shown_alone, shown_value, has_value_in_runs, is_without_text, placeholder, value_of};
@@ -13,7 +13,7 @@ use crate::runs::Run;
 use schema::{TextBuffer, TextFault, TextSelection, TextWrite};
 use std::alloc::{AllocError, Global};
 
-/// Writes the own value of a password without a text of runs.
+/// Writes the own value of a password whose runs make no text.
 fn write_alone<W: TextWrite>(value: &str, writer: &mut W) -> Result<(), TextFault>
     requires { W.faults writer.old + 1 < 2 ^ 128 }
     ensures ok { OnOk result (IsWritten W.received W.faults (shown_alone value.now) writer.old writer.new) }
@@ -26,28 +26,28 @@ fn write_alone<W: TextWrite>(value: &str, writer: &mut W) -> Result<(), TextFaul
 }
 
 impl<'a> NodeRef<'a> {
-    /// The value as it was sent. That of a password is not masked.
+    /// The value as sent in the update. That of a password is not masked.
     pub fn raw_value(&self) -> Option<&'a str>
         ensures { option_copied result ≡ (data_at self.now).value }
     {
         self.node.value()
     }
 
-    /// Whether a selection of text is given.
+    /// Whether the node has a text selection.
     pub fn has_text_selection(&self) -> bool
         ensures { result ≡ is_some (data_at self.now).text_selection }
     {
         self.node.text_selection().is_some()
     }
 
-    /// The selection of text as it was sent. Its ends may name nodes that aren't there.
+    /// The text selection as sent in the update. Its ends may name nodes that aren't in the state.
     pub fn raw_text_selection(&self) -> Option<TextSelection>
         ensures { result ≡ (data_at self.now).text_selection }
     {
         self.node.text_selection()
     }
 
-    /// Whether there is no run, or one alone whose text is empty.
+    /// Whether there is no run, or a single run with empty text.
     fn is_without_text(&self) -> bool
         ensures { result ≡ is_without_text (world_at self.now) (id_at self.now) }
     {
@@ -57,7 +57,7 @@ impl<'a> NodeRef<'a> {
         first.next().is_none() && first.value().is_empty()
     }
 
-    /// What stands in a text input while nothing is filled in.
+    /// The hint that a text input shows while it is empty.
     pub fn placeholder(&self) -> Option<&'a str>
         ensures { option_copied result ≡ placeholder (world_at self.now) (id_at self.now) }
     {
@@ -67,21 +67,21 @@ impl<'a> NodeRef<'a> {
         None
     }
 
-    /// Whether a value of its own is given.
+    /// Whether the node has a value of its own.
     fn has_own_value(&self) -> bool
         ensures { result ≡ is_some (data_at self.now).value }
     {
         self.node.value().is_some()
     }
 
-    /// Whether the text of its runs is its value, where it has none of its own.
+    /// Whether the text of the node's runs is its value, if it has no value of its own.
     fn has_value_in_runs(&self) -> bool
         ensures { result ≡ has_value_in_runs (world_at self.now) (id_at self.now) }
     {
         self.supports_text_ranges() && !self.is_multiline()
     }
 
-    /// Writes an own value as it is shown.
+    /// Writes the node's own value as it is shown.
     fn write_own_value<W: TextWrite>(&self, value: &str, writer: &mut W) -> Result<(), TextFault>
         requires { W.faults writer.old + 1 < 2 ^ 128 }
         ensures ok { let text = shown_value (world_at self.now) (id_at self.now) value.now in
@@ -101,12 +101,14 @@ impl<'a> NodeRef<'a> {
         writer.write_str(value)
     }
 
-    /// Writes the value, and says whether there is one: the own value, or else, unless the role has many lines, the text
-    /// of the runs. Of a password of which two characters differ, each is a bullet. No memory is taken.
+    /// Writes the value and returns whether there is one: the node's own value, or else, unless the role is multiline,
+    /// the text of its runs. Each character of a password is written as a bullet, unless all of them are the same. Does
+    /// not allocate.
     ///
     /// # Errors
     ///
-    /// The writer took no more. It has a beginning of the value then, and counts one failure more.
+    /// Returns `TextFault` if the writer fails. It has then received a beginning of the value and counts one more
+    /// failure.
     pub fn write_value<W: TextWrite>(&self, writer: &mut W) -> Result<bool, TextFault>
         requires { W.faults writer.old + 1 < 2 ^ 128 }
         ensures ok { let value = value_of (world_at self.now) (id_at self.now) in
@@ -127,18 +129,18 @@ impl<'a> NodeRef<'a> {
         Ok(true)
     }
 
-    /// Whether there is a value.
+    /// Whether the node has a value.
     pub fn has_value(&self) -> bool
         ensures { result ≡ is_some (value_of (world_at self.now) (id_at self.now)) }
     {
         self.has_own_value() || self.has_value_in_runs()
     }
 
-    /// The value, as [`NodeRef::write_value`] writes it.
+    /// Returns the value, as [`NodeRef::write_value`] writes it, or `None` if there is none.
     ///
     /// # Errors
     ///
-    /// `AllocError`: there is no memory for the text.
+    /// Returns `AllocError` if memory runs out.
     #[tactic(auto, using(model::proofs::Text::Secrets::one_value))]
     pub fn value(&self, alloc: Global) -> Result<Option<String>, AllocError>
         ensures text { IfOk result (λ text. option_map string_bytes text ≡ value_of (world_at self.now) (id_at self.now)) }

@@ -1,9 +1,9 @@
-//! What a run says of its characters.
+//! A run's fields about its characters.
 ghost use Rattle.std.specs.Prelude.{◌≡◌, ◌==◌, ◌&&◌, nat_lt, length};
 ghost use Rattle.std.specs.List.{list_all};
 ghost use Rattle.model.specs.TextRuns.{neighbours, is_cut_by as is_cut};
 
-/// Whether all lengths are 1, and all bytes those of ASCII. Each is looked at, so that many are at once.
+/// Whether all lengths are 1 and all bytes are ASCII. All of them are looked at, so that the loop can be vectorised.
 fn are_single(lengths: &[u16], bytes: &[u8]) -> bool
     requires { length bytes.now ≡ length lengths.now }
     ensures { result ≡ (list_all (λ n. n == 1) lengths.now && list_all (λ b. nat_lt b 128) bytes.now) }
@@ -17,7 +17,7 @@ fn are_single(lengths: &[u16], bytes: &[u8]) -> bool
     are_ones && most < 128
 }
 
-/// Whether lengths of at least 1 cut a text into whole texts that make it up.
+/// Whether all lengths are at least 1 and cut the text at character boundaries, with nothing left over.
 pub(crate) fn is_cut_by(value: &str, lengths: &[u16]) -> bool
     ensures { result ≡ is_cut value.now lengths.now }
 {
@@ -37,7 +37,7 @@ pub(crate) fn is_cut_by(value: &str, lengths: &[u16]) -> bool
     rest.is_empty()
 }
 
-/// Whether the numbers rise, and are below the count.
+/// Whether the numbers strictly rise and are below the count.
 pub(crate) fn rise_below(numbers: &[u16], count: usize) -> bool
     ensures { result ≡ (list_all (λ p. nat_lt p.0 p.1) (neighbours numbers.now)
         && list_all (λ k. nat_lt k count) numbers.now) }

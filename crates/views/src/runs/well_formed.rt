@@ -1,4 +1,4 @@
-//! Whether a root has a text that can be walked by characters.
+//! Whether a node's runs make a text that can be walked by characters.
 ghost use Rattle.std.specs.Prelude.{◌≡◌};
 ghost use Rattle.model.specs.TextRuns.{is_enough as is_enough_for, is_measured as are_metrics_right, leads_to as leads_to_run, links_agree as agree, supports_text_ranges};
 ghost use Rattle.model.specs.RoleClasses.{holds_text};
@@ -11,7 +11,7 @@ use crate::runs::Run;
 use crate::runs::parts::{is_cut_by, rise_below};
 use schema::NodeId;
 
-/// Whether so many numbers are enough for the characters: one for each, or of a password one at least.
+/// Whether there are enough numbers for the characters: one for each, or for a password at least one.
 fn is_enough(password: bool, count: usize, given: usize) -> bool
     ensures { result ≡ is_enough_for password count given }
 {
@@ -19,7 +19,7 @@ fn is_enough(password: bool, count: usize, given: usize) -> bool
     given <= count && least <= given
 }
 
-/// Whether the positions and the widths of a run's characters, where given, are enough.
+/// Whether a run has enough positions and widths of its characters, if it has any.
 fn is_measured(run: Run<'_>, password: bool) -> bool
     ensures { result ≡ are_metrics_right password (sent_of run.entry) }
 {
@@ -35,7 +35,7 @@ fn is_measured(run: Run<'_>, password: bool) -> bool
     }
 }
 
-/// Whether the run is right by itself.
+/// Whether the run itself is well-formed.
 fn is_fit(run: Run<'_>, tree: u32, password: bool) -> bool
     ensures { result ≡ is_fit_run tree password (sent_of run.entry) }
 {
@@ -70,7 +70,7 @@ fn links_agree(a: Run<'_>, b: Run<'_>) -> bool
     (next.is_none() && previous.is_none()) || (leads_to(next, b) && leads_to(previous, a))
 }
 
-/// Whether a first run and those after it are right, each by itself and beside the next one.
+/// Whether a first run and those after it are well-formed, each by itself and in relation to the next one.
 fn are_fit(first: Run<'_>, tree: u32, password: bool) -> bool
     ensures { result ≡
         are_fit_from tree password 0 (sent_of first.entry) (sents_after first.entry) }
@@ -95,7 +95,7 @@ fn are_fit(first: Run<'_>, tree: u32, password: bool) -> bool
     }
 }
 
-/// Whether the runs of the node can make a text, by its role.
+/// Whether the node's role is one whose runs can make a text.
 fn holds_text(node: NodeRef<'_>) -> bool
     ensures { result ≡ holds_text (data_at node.entry).role }
 {
@@ -103,11 +103,11 @@ fn holds_text(node: NodeRef<'_>) -> bool
 }
 
 impl NodeRef<'_> {
-    /// Whether the node has a text of runs that can be walked by characters: its role holds text, there is a run, all
-    /// runs lie in its own tree, each value is made up of the characters that its lengths cut, word starts rise and are
-    /// below the count, no run but the last is empty, neighbours are linked both ways or not at all and no other run is,
-    /// all values together have fewer bytes than a `usize` counts, and positions and widths, where given, are one for each
-    /// character (of a password one at least).
+    /// Whether the node's runs make a text that can be walked by characters. This needs all of the following: its role
+    /// holds text; there is a run; all runs are in its own tree; each run's lengths cut its value into characters with
+    /// nothing left over; word starts rise and are below the number of characters; no run but the last is empty;
+    /// neighbours are linked both ways or not at all, and no other runs are linked; all values together have at most
+    /// `usize::MAX` bytes; positions and widths, if given, are one for each character (for a password, at least one).
     pub fn supports_text_ranges(&self) -> bool
         ensures { result ≡ supports_text_ranges (world_at self.now) (id_at self.now) }
     {

@@ -1,4 +1,4 @@
-//! The nodes that a node controls. The walk takes no memory.
+//! The nodes that a node controls. The walk does not allocate.
 ghost use Rattle.std.specs.Prelude.{◌≡◌, ◌<◌, [], ◌∷◌, ◌++◌, length, map, IfSome, MatchOption};
 ghost use Rattle.model.specs.Views.{controls as controls_of};
 ghost use Rattle.views.specs.Nodes.{world_at, id_at};
@@ -12,7 +12,7 @@ use model::FullNodeId;
 use schema::NodeId;
 use std::iter::FusedIterator;
 
-/// The nodes of a tree that a list names, in order, without those that aren't in the state.
+/// A walk over the nodes of a tree that a list names, in order, skipping those that aren't in the state.
 #[derive(Drop)]
 pub struct Controls<'a> {
     state: StateRef<'a>,
@@ -30,7 +30,7 @@ impl<'a> Controls<'a> {
         Controls::over(node, node.node.controls())
     }
 
-    /// Those that the list names in the tree of a node.
+    /// The nodes that the list names in the tree of a node.
     pub(crate) fn over(node: NodeRef<'a>, ids: &'a [NodeId]) -> Controls<'a>
         ensures { let w = world_at node.entry in
             controls_left result ≡ named_nodes w (id_at node.entry).tree ids.entry.now }
@@ -75,7 +75,7 @@ impl<'a> DoubleEndedIterator for Controls<'a> {
 
 impl FusedIterator for Controls<'_> {}
 
-/// The first of these nodes that is in the state, and those that are left without it.
+/// The first of these nodes that is in the state, and the rest after it.
 fn first_named<'a>(
     state: StateRef<'a>,
     tree: u32,
@@ -99,7 +99,7 @@ fn first_named<'a>(
     (None, ids)
 }
 
-/// The last of these nodes that is in the state, and those that are left without it.
+/// The last of these nodes that is in the state, and the rest before it.
 fn last_named<'a>(
     state: StateRef<'a>,
     tree: u32,

@@ -1,4 +1,4 @@
-//! Where a walk over what a filter shows stands.
+//! The state of a walk over the nodes that a filter shows.
 ghost use Rattle.views.specs.Courses.{AreEndsIf, AreEndsIf-prop};
 ghost use Rattle.views.specs.ShownWorlds.{world_of};
 
@@ -12,8 +12,8 @@ use crate::walks::filter::Filter;
 use crate::walks::spot::Member;
 use model::FullNodeId;
 
-/// The nodes that a walk has left: those that a filter shows below `top`, from one end to the other. It is over where
-/// there are no ends.
+/// The nodes that a walk has left: those that a filter shows below `top`, from one end to the other. Without ends the
+/// walk is over.
 #[derive(Clone, Copy)]
 pub(crate) struct Course<'a> {
     state: StateRef<'a>,
@@ -98,7 +98,7 @@ impl<'a> Course<'a> {
         }
     }
 
-    /// Takes the node at the front, where one is left.
+    /// Takes the node at the front, if one is left.
     pub(crate) fn take_front<F: Filter>(&mut self, filter: &F) -> Option<NodeRef<'a>>
         requires { F.can_answer filter.now }
         ensures steps { TakesFront (F.answers filter.now) self.old result self.new }
@@ -111,7 +111,7 @@ impl<'a> Course<'a> {
         Some(ends.front.view(self.state))
     }
 
-    /// Takes the node at the back, where one is left.
+    /// Takes the node at the back, if one is left.
     pub(crate) fn take_back<F: Filter>(&mut self, filter: &F) -> Option<NodeRef<'a>>
         requires { F.can_answer filter.now }
         ensures steps { TakesBack (F.answers filter.now) self.old result self.new }
@@ -142,7 +142,7 @@ impl<'a> Course<'a> {
         }
     }
 
-    /// Takes the node at the front of a walk in pre-order, where one is left.
+    /// Takes the node at the front of a walk in pre-order, if one is left.
     pub(crate) fn take_first<F: Filter>(&mut self, filter: &F) -> Option<NodeRef<'a>>
         requires { F.can_answer filter.now }
         ensures steps { TakesFirst (F.answers filter.now) self.old result self.new }
@@ -155,7 +155,7 @@ impl<'a> Course<'a> {
         Some(ends.front.view(self.state))
     }
 
-    /// Takes the node at the back of a walk in pre-order, where one is left.
+    /// Takes the node at the back of a walk in pre-order, if one is left.
     pub(crate) fn take_last<F: Filter>(&mut self, filter: &F) -> Option<NodeRef<'a>>
         requires { F.can_answer filter.now }
         ensures steps { TakesLast (F.answers filter.now) self.old result self.new }

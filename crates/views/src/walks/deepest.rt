@@ -1,4 +1,4 @@
-//! The ends of what a filter shows below a node.
+//! The first and last nodes that a filter shows below a node, at any depth.
 ghost use Rattle.std.specs.Prelude.{◌≡◌, ◌<◌, IfSome, option_map};
 ghost use Rattle.std.specs.Fn.{FnReturnsAt};
 ghost use Rattle.model.specs.declared.FullNodeId.{FullNodeId};
@@ -95,7 +95,7 @@ fn deepest_last_item<'a, F: Filter>(node: NodeRef<'a>, filter: &F) -> Option<Nod
 }
 
 impl<'a> NodeRef<'a> {
-    /// The first filtered child, its first filtered child, and so on to a node without any.
+    /// The first filtered child, its first filtered child, and so on to a node without filtered children.
     pub fn deepest_first_filtered_child<F: Fn(&NodeRef<'_>) -> FilterResult>(
         self,
         filter: &F,
@@ -109,7 +109,7 @@ impl<'a> NodeRef<'a> {
         deepest_first_item(self, &ByRef { f: filter })
     }
 
-    /// The last filtered child, its last filtered child, and so on to a node without any.
+    /// The last filtered child, its last filtered child, and so on to a node without filtered children.
     pub fn deepest_last_filtered_child<F: Fn(&NodeRef<'_>) -> FilterResult>(
         self,
         filter: &F,

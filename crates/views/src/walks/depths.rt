@@ -1,4 +1,4 @@
-//! The ends of what is below a node, and the way to a node.
+//! The deepest first and last children, and index paths.
 ghost use Rattle.std.specs.Prelude.{◌≡◌, IfSome, IfOk, option_map};
 ghost use Rattle.model.specs.Lists.{IsWithin, last_child, deepest_first_child as deepest_first, deepest_last_child as deepest_last};
 ghost use Rattle.model.specs.Paths.{index_path as path_of, relative_index_path as path_from};
@@ -31,7 +31,8 @@ impl<'a> StateRef<'a> {
 }
 
 impl<'a> NodeRef<'a> {
-    /// The first child, its first child, and so on to a node without any.
+    /// The first child, its first child, and so on to a node without children. Returns `None` if this node has no
+    /// children.
     pub fn deepest_first_child(self) -> Option<NodeRef<'a>>
         ensures world { IfSome result (λ n. world_at n ≡ world_at self.entry) }
         ensures node { let w = world_at self.entry in
@@ -53,7 +54,8 @@ impl<'a> NodeRef<'a> {
         Some(state.view(deepest))
     }
 
-    /// The last child, its last child, and so on to a node without any.
+    /// The last child, its last child, and so on to a node without children. Returns `None` if this node has no
+    /// children.
     pub fn deepest_last_child(self) -> Option<NodeRef<'a>>
         ensures world { IfSome result (λ n. world_at n ≡ world_at self.entry) }
         ensures node { let w = world_at self.entry in
@@ -75,11 +77,11 @@ impl<'a> NodeRef<'a> {
         Some(state.view(deepest))
     }
 
-    /// The index of each child on the way from the root tree's root to the node. It takes memory.
+    /// The index of each child on the way from the root tree's root to the node. Allocates the list.
     ///
     /// # Errors
     ///
-    /// `AllocError`: there is no memory for the list.
+    /// Returns `AllocError` if memory runs out.
     pub fn index_path(&self, alloc: Global) -> Result<Vec<usize>, AllocError>
         ensures { IfOk result (λ path. path.items ≡ path_of (world_at self.now) (id_at self.now)) }
     {
@@ -98,11 +100,11 @@ impl<'a> NodeRef<'a> {
         Ok(path)
     }
 
-    /// The index of each child on the way from an ancestor, or from the node itself, to the node. It takes memory.
+    /// The index of each child on the way from an ancestor, or from the node itself, to the node. Allocates the list.
     ///
     /// # Errors
     ///
-    /// `AllocError`: there is no memory for the list.
+    /// Returns `AllocError` if memory runs out.
     pub fn relative_index_path(
         &self,
         alloc: Global,

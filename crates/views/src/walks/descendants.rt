@@ -1,4 +1,4 @@
-//! Walks over all that is below a node, in pre-order and from both ends. They take no memory.
+//! Walks over all nodes below a node, in pre-order and from both ends. They do not allocate.
 ghost use Rattle.std.specs.Prelude.{◌≡◌, ⊤, map};
 ghost use Rattle.std.specs.Iterator.{YieldsFirstBy, YieldsLastBy, item_count, at_most};
 ghost use Rattle.model.specs.declared.filters.FilterResult.TheVariants.{Include};
@@ -28,7 +28,7 @@ impl Filter for AllNodes {
     }
 }
 
-/// All nodes below a node, in pre-order.
+/// A walk over all nodes below a node, in pre-order.
 #[derive(Drop)]
 pub struct Descendants<'a> {
     course: Course<'a>,
@@ -47,7 +47,7 @@ impl<'a> Descendants<'a> {
         }
     }
 
-    /// Takes the first node, where one is left.
+    /// Takes the first node, if one is left.
     fn take_first(&mut self) -> Option<NodeRef<'a>>
         ensures { YieldsFirstBy node_of descendants_left self.old result self.new }
     {
@@ -57,7 +57,7 @@ impl<'a> Descendants<'a> {
         found
     }
 
-    /// Takes the last node, where one is left.
+    /// Takes the last node, if one is left.
     fn take_last(&mut self) -> Option<NodeRef<'a>>
         ensures { YieldsLastBy node_of descendants_left self.old result self.new }
     {
@@ -94,7 +94,7 @@ impl<'a> DoubleEndedIterator for Descendants<'a> {
 
 impl FusedIterator for Descendants<'_> {}
 
-/// What a filter shows below a node, in pre-order: each filtered child, and then what is shown below that.
+/// A walk over the nodes that a filter shows below a node, in pre-order: each filtered child, then those below it.
 #[derive(Drop)]
 pub struct FilteredDescendants<'a, F> {
     course: Course<'a>,

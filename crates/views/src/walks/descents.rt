@@ -101,7 +101,7 @@ pub(crate) fn previous_descendant<'a, F: Filter>(
     }
 }
 
-/// The ends that are left without the front, where there is more than that.
+/// The ends that are left without the front, if there is more than that.
 pub(crate) fn without_first<'a, F: Filter>(
     state: StateRef<'a>,
     top: FullNodeId,
@@ -134,7 +134,7 @@ pub(crate) fn without_first<'a, F: Filter>(
     }
 }
 
-/// The ends that are left without the back, where there is more than that.
+/// The ends that are left without the back, if there is more than that.
 pub(crate) fn without_last<'a, F: Filter>(
     state: StateRef<'a>,
     top: FullNodeId,

@@ -76,7 +76,7 @@ pub(crate) fn preceding<'a, F: Filter>(
     previous_shown(state, top, node.parent, node.index, filter)
 }
 
-/// The ends that are left without the front, where there is more than that.
+/// The ends that are left without the front, if there is more than that.
 pub(crate) fn without_front<'a, F: Filter>(
     state: StateRef<'a>,
     top: FullNodeId,
@@ -108,7 +108,7 @@ pub(crate) fn without_front<'a, F: Filter>(
     }
 }
 
-/// The ends that are left without the back, where there is more than that.
+/// The ends that are left without the back, if there is more than that.
 pub(crate) fn without_back<'a, F: Filter>(
     state: StateRef<'a>,
     top: FullNodeId,
@@ -167,7 +167,7 @@ pub(crate) fn all_ends<'a, F: Filter>(
     Some(Ends { front, back })
 }
 
-/// The nearest node above that isn't left out alone, if it is included.
+/// The nearest node above that isn't excluded alone, if it is included.
 pub(crate) fn cover<'a, F: Filter>(
     state: StateRef<'a>,
     node: Member<'a>,

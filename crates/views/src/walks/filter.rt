@@ -1,35 +1,35 @@
-//! Tests of nodes that say what a walk shows.
+//! Filters of walks.
 ghost use Rattle.std.specs.Prelude.{◌≡◌};
 ghost use Rattle.std.specs.Fn.{FnReturnsAt};
 
 use crate::node::NodeRef;
 use model::filters::FilterResult;
 
-/// A test of nodes: each is shown, left out alone, or left out with all that is below it.
+/// A filter of nodes: it includes a node, excludes it alone, or excludes it with its subtree.
 pub trait Filter: Drop {
     ghost use Rattle.views.specs.declared.node.node_ref.NodeRef.{NodeRef};
     ghost use Rattle.model.specs.declared.filters.FilterResult.{FilterResult};
 
-    /// Holds of a filter that may be asked.
+    /// The condition under which the filter may be called.
     ghost can_answer: { Self → Type 0 };
 
-    /// Holds of a filter, a node, and each answer that may come.
+    /// Relates a filter, a node, and each answer that the filter may give.
     ghost answers: { Self → NodeRef → FilterResult → Type 0 };
 
-    /// What the filter makes of the node.
+    /// The filter's answer for the node.
     fn answer(&self, node: &NodeRef<'_>) -> FilterResult
         requires { can_answer self.now }
         ensures { answers self.now node.now result };
 }
 
-/// A function of the caller's as a filter.
+/// A filter made of a caller's function.
 #[derive(Drop)]
 pub struct ByFn<F> {
     pub(crate) f: F,
 }
 
 impl<F> ByFn<F> {
-    /// The filter that answers what the function does.
+    /// The filter that answers as the function does.
     pub fn new(f: F) -> ByFn<F>
         ensures { result.f ≡ f }
     {
@@ -47,7 +47,7 @@ impl<F: Fn(&NodeRef<'_>) -> FilterResult + Drop> Filter for ByFn<F> {
     }
 }
 
-/// A function of the caller's, lent as a filter.
+/// A filter made of a borrowed function of the caller.
 #[derive(Clone, Copy)]
 pub(crate) struct ByRef<'f, F> {
     pub(crate) f: &'f F,

@@ -1,4 +1,4 @@
-//! Walks over what a filter shows of a state, from both ends. They take no memory.
+//! Walks over the nodes that a filter shows, from both ends. They do not allocate.
 ghost use Rattle.std.specs.Prelude.{◌≡◌};
 ghost use Rattle.std.specs.Iterator.{at_most};
 ghost use Rattle.model.specs.Frontier.{filtered_children};
@@ -12,7 +12,8 @@ use crate::walks::course::Course;
 use crate::walks::filter::Filter;
 use std::iter::FusedIterator;
 
-/// What a filter shows of a node's children: a child that is left out alone gives way to what is shown of its own.
+/// A walk over the filtered children of a node. A child that the filter excludes alone is replaced by its own filtered
+/// children.
 #[derive(Drop)]
 pub struct FilteredChildren<'a, F> {
     course: Course<'a>,
@@ -60,7 +61,7 @@ impl<'a, F: Filter> DoubleEndedIterator for FilteredChildren<'a, F> {
 
 impl<F: Filter> FusedIterator for FilteredChildren<'_, F> {}
 
-/// What a filter shows after a node, below the nearest node above that isn't left out alone.
+/// A walk over the filtered siblings after a node, below the nearest ancestor that isn't excluded alone.
 #[derive(Drop)]
 pub struct FollowingFilteredSiblings<'a, F> {
     course: Course<'a>,
@@ -108,7 +109,8 @@ impl<'a, F: Filter> DoubleEndedIterator for FollowingFilteredSiblings<'a, F> {
 
 impl<F: Filter> FusedIterator for FollowingFilteredSiblings<'_, F> {}
 
-/// What a filter shows before a node, below the nearest node above that isn't left out alone, nearest first.
+/// A walk over the filtered siblings before a node, nearest first, below the nearest ancestor that isn't excluded
+/// alone.
 #[derive(Drop)]
 pub struct PrecedingFilteredSiblings<'a, F> {
     course: Course<'a>,

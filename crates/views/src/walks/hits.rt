@@ -1,4 +1,4 @@
-//! What lies at a point.
+//! Hit tests: the node at a point.
 ghost use Rattle.std.specs.Prelude.{◌≡◌, ◌||◌, ℕ, ◌+◌, ◌^◌, ◌+ℤ◌, ◌-ℤ◌, false, IfSome, FitsSigned, option_map};
 ghost use Rattle.std.specs.Fn.{FnReturnsAt};
 ghost use Rattle.std.specs.Int.{w32};
@@ -21,14 +21,14 @@ use crate::walks::spot::Member;
 use model::filters::FilterResult;
 use schema::{Point, Rect, Translation};
 
-/// A point as a node sees it, however far it was moved.
+/// A point in a node's coordinates, in wide numbers.
 #[derive(Clone, Copy)]
 pub struct SeenPoint {
     pub x: i128,
     pub y: i128,
 }
 
-/// By how much a node moves itself and what is below it.
+/// By how much a node shifts itself and its subtree.
 fn own_move(node: NodeRef<'_>) -> Translation
     ensures exact { result ≡ direct_transform (world_at node.entry) (id_at node.entry) }
     ensures across { FitsSigned w32 result.x }
@@ -40,7 +40,7 @@ fn own_move(node: NodeRef<'_>) -> Translation
     }
 }
 
-/// A point's number, with room for moves.
+/// A coordinate as a wide number.
 fn wide(number: i64) -> i128
     ensures is { result ≡ number }
     ensures near { IsNear 0 result }
@@ -48,7 +48,7 @@ fn wide(number: i64) -> i128
     i128::from(number)
 }
 
-/// A point, before any move.
+/// A point before any translation.
 fn unmoved(point: Point) -> SeenPoint
     ensures is { wide_of result ≡ wide_point point }
     ensures across { IsNear 0 result.x }
@@ -60,7 +60,7 @@ fn unmoved(point: Point) -> SeenPoint
     }
 }
 
-/// A number less a move.
+/// A coordinate minus a translation.
 fn minus(seen: i128, own: i32) -> i128
     requires { IsNear (2 ^ 90) seen }
     ensures is { result ≡ seen -ℤ own }
@@ -69,7 +69,7 @@ fn minus(seen: i128, own: i32) -> i128
     seen - i128::from(own)
 }
 
-/// A number and a move.
+/// A coordinate plus a translation.
 fn plus(seen: i128, own: i32) -> i128
     requires { IsNear (2 ^ 90) seen }
     ensures is { result ≡ seen +ℤ own }
@@ -78,7 +78,7 @@ fn plus(seen: i128, own: i32) -> i128
     seen + i128::from(own)
 }
 
-/// The point, as a child sees it.
+/// The point in the coordinates of a child.
 fn into_child(seen: SeenPoint, child: NodeRef<'_>) -> SeenPoint
     requires across { IsNear (2 ^ 90) seen.x }
     requires along { IsNear (2 ^ 90) seen.y }
@@ -94,7 +94,7 @@ fn into_child(seen: SeenPoint, child: NodeRef<'_>) -> SeenPoint
     }
 }
 
-/// The point, as the parent of a node sees it.
+/// The point in the coordinates of a node's parent.
 fn out_of_child(seen: SeenPoint, child: NodeRef<'_>) -> SeenPoint
     requires across { IsNear (2 ^ 90) seen.x }
     requires along { IsNear (2 ^ 90) seen.y }
@@ -110,21 +110,21 @@ fn out_of_child(seen: SeenPoint, child: NodeRef<'_>) -> SeenPoint
     }
 }
 
-/// Whether a number is in a span, whose end isn't.
+/// Whether a number lies in a span, from its start to before its end.
 fn is_in_span(low: i32, high: i32, seen: i128) -> bool
     ensures { result ≡ is_between low high seen }
 {
     i128::from(low) <= seen && seen < i128::from(high)
 }
 
-/// Whether the rectangle as it was sent contains the point. A reversed one contains nothing.
+/// Whether a rectangle contains the point. A reversed one contains nothing.
 pub fn contains(rect: Rect, seen: SeenPoint) -> bool
     ensures { result ≡ contains_point rect (wide_of seen) }
 {
     is_in_span(rect.x0, rect.x1, seen.x) && is_in_span(rect.y0, rect.y1, seen.y)
 }
 
-/// Whether the node has a rectangle, and that contains the point.
+/// Whether the node has a rectangle that contains the point.
 fn is_at(node: NodeRef<'_>, seen: SeenPoint) -> bool
     ensures { let bounds = field_at (λ d. d.bounds) (world_at node.entry) (id_at node.entry) in
         result ≡ option_map_or (λ r. contains_point r (wide_of seen)) bounds false }
@@ -135,14 +135,14 @@ fn is_at(node: NodeRef<'_>, seen: SeenPoint) -> bool
     }
 }
 
-/// Whether a node with so many children has none, and isn't at the point itself.
+/// Whether a node with this many children has none and doesn't contain the point itself.
 fn is_bare_miss(node: NodeRef<'_>, count: usize, seen: SeenPoint) -> bool
     ensures { result ≡ is_bare_miss (world_at node.entry) (id_at node.entry) count (wide_of seen) }
 {
     count == 0 && !is_at(node, seen)
 }
 
-/// Whether the filter cuts a node off.
+/// Whether the filter excludes a node with its subtree.
 pub(crate) fn is_cut<F: Filter>(node: NodeRef<'_>, filter: &F) -> bool
     requires { F.can_answer filter.now }
     ensures { let w = world_at node.entry in
@@ -166,7 +166,8 @@ fn is_hit_itself<F: Filter>(node: NodeRef<'_>, seen: SeenPoint, filter: &F) -> b
     is_at(node, seen) && is_included(filter.answer(&node))
 }
 
-/// Whether a node with so many children is passed over: the filter cuts it off, or it has no child and isn't at the point.
+/// Whether a node with this many children can be skipped: the filter excludes its subtree, or it has no child and
+/// doesn't contain the point.
 fn is_missed<F: Filter>(node: NodeRef<'_>, count: usize, seen: SeenPoint, filter: &F) -> bool
     requires { F.can_answer filter.now }
     ensures { let w = world_at node.entry in
@@ -177,7 +178,7 @@ fn is_missed<F: Filter>(node: NodeRef<'_>, count: usize, seen: SeenPoint, filter
     is_bare_miss(node, count, seen) || is_cut(node, filter)
 }
 
-/// The node that is hit at a point, as `top` sees it: the last one in pre-order.
+/// The node hit at a point in the coordinates of `top`: the last one in pre-order.
 fn hit_below<'a, F: Filter>(top: NodeRef<'a>, at: SeenPoint, filter: &F) -> Option<NodeRef<'a>>
     requires can { F.can_answer filter.now }
     requires across { IsNear 0 at.x }
@@ -244,8 +245,9 @@ fn hit_below<'a, F: Filter>(top: NodeRef<'a>, at: SeenPoint, filter: &F) -> Opti
 }
 
 impl<'a> NodeRef<'a> {
-    /// The node at a point, which is given as this node sees it: the last in pre-order, from this node on, that isn't
-    /// cut off, is included, and whose own rectangle contains the point, as that node sees it.
+    /// The node at a point, given in this node's coordinates and in units of 1/64 pixel. It is the last node in
+    /// pre-order, among this node and those below it, that the filter includes and whose own rectangle contains the
+    /// point. Subtrees that the filter excludes are skipped.
     pub fn node_at_point<F: Fn(&NodeRef<'_>) -> FilterResult>(
         &self,
         point: Point,

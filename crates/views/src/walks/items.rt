@@ -1,4 +1,4 @@
-//! The items below a node. The walk takes no memory.
+//! The items below a node. The walk does not allocate.
 ghost use Rattle.std.specs.Prelude.{◌≡◌};
 ghost use Rattle.std.specs.Iterator.{at_most};
 ghost use Rattle.model.specs.RoleClasses.{is_item_like};
@@ -14,7 +14,7 @@ use model::filters::FilterResult;
 use schema::Role;
 use std::iter::FusedIterator;
 
-/// Whether a node of this role can be one of a set.
+/// Whether a node of this role can be an item of a set.
 pub(crate) fn is_item(role: Role) -> bool
     ensures { result ≡ is_item_like role }
 {
@@ -35,7 +35,7 @@ pub(crate) fn is_item(role: Role) -> bool
     )
 }
 
-/// As another filter, but what that includes and is no item is left out alone.
+/// Like another filter, but nodes that it includes and that are no items are excluded alone.
 #[derive(Drop)]
 pub(crate) struct ItemFilter<F> {
     filter: F,
@@ -57,7 +57,7 @@ impl<F: Filter> Filter for ItemFilter<F> {
     }
 }
 
-/// What a filter shows of a node's items.
+/// A walk over the items that a filter shows below a node.
 #[derive(Drop)]
 pub struct Items<'a, F> {
     course: Course<'a>,

@@ -1,4 +1,4 @@
-//! The nodes that label a node. The walk takes no memory.
+//! The nodes that label a node. The walk does not allocate.
 ghost use Rattle.std.specs.Prelude.{◌≡◌, ⊤, map};
 ghost use Rattle.model.specs.Frontier.{filtered_children};
 ghost use Rattle.model.specs.RoleClasses.{is_labelled_from_within};
@@ -15,7 +15,7 @@ use model::filters::FilterResult;
 use schema::Role;
 use std::iter::FusedIterator;
 
-/// Whether a node of this role that names no labels is labelled by what is in it.
+/// Whether a node of this role that names no labels is labelled by its contents.
 fn is_labelled_from_within(role: Role) -> bool
     ensures { result ≡ is_labelled_from_within role }
 {
@@ -32,14 +32,14 @@ fn is_labelled_from_within(role: Role) -> bool
     )
 }
 
-/// Whether the node is labelled by what is in it.
+/// Whether the node is labelled by its contents.
 fn looks_within(node: NodeRef<'_>) -> bool
     ensures { result ≡ looks_within (data_at node.entry) }
 {
     node.node.labelled_by().is_empty() && is_labelled_from_within(node.node.role())
 }
 
-/// Labels and pictures are shown, and looked for in containers alone.
+/// The filter that includes labels and images, and looks for them in containers only.
 #[derive(Drop)]
 struct LabelFilter;
 
@@ -57,7 +57,7 @@ impl Filter for LabelFilter {
     }
 }
 
-/// The labels and pictures in a node.
+/// The labels and images in a node.
 #[derive(Drop)]
 struct LabelsWithin<'a> {
     course: Course<'a>,
@@ -78,7 +78,7 @@ impl<'a> LabelsWithin<'a> {
         }
     }
 
-    /// Takes the first node, where one is left.
+    /// Takes the first node, if one is left.
     fn take_first(&mut self) -> Option<NodeRef<'a>>
         ensures { YieldsFirstBy node_of within_left self.old result self.new }
     {
@@ -88,7 +88,7 @@ impl<'a> LabelsWithin<'a> {
         found
     }
 
-    /// Takes the last node, where one is left.
+    /// Takes the last node, if one is left.
     fn take_last(&mut self) -> Option<NodeRef<'a>>
         ensures { YieldsLastBy node_of within_left self.old result self.new }
     {
@@ -99,15 +99,15 @@ impl<'a> LabelsWithin<'a> {
     }
 }
 
-/// Where the labels of a node come from: the node names them, or they are in it.
+/// Where a node's labels come from: the node names them, or they are in it.
 #[derive(Drop)]
 enum LabelSource<'a> {
     Named(Controls<'a>),
     Within(LabelsWithin<'a>),
 }
 
-/// The nodes that label a node: those that it names and that are in the state, or else, for a control such as a button,
-/// the labels and images in it.
+/// A walk over the nodes that label a node: those that it names, as far as they are in the state, or else, for a
+/// control such as a button, the labels and images in it.
 #[derive(Drop)]
 pub struct LabelledBy<'a> {
     source: LabelSource<'a>,

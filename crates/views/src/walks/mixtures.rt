@@ -1,5 +1,5 @@
-//! Laws of walks as a whole: however `next` and `next_back` are mixed, what came from the front, what is left, and what came
-//! from the back reversed are the list.
+//! Laws of whole walks: however calls of `next` and `next_back` are mixed, the items from the front, the items still
+//! left, and the reversed items from the back together are the list.
 ghost use Rattle.model.specs.Mixtures.{MixturesTake, MixturesTakeBy};
 ghost use Rattle.views.specs.PlainWalks.{node_of, child_ids_left, following_ids_left, preceding_ids_left, children_left, following_left, preceding_left};
 ghost use Rattle.views.specs.Controlled.{controls_left};
@@ -20,7 +20,7 @@ use crate::walks::plain::{
     PrecedingSiblings,
 };
 
-/// The walks over ids take what they have left.
+/// The law for the walks over ids.
 #[tactic(auto, using(model::proofs::Mixtures::items_are_taken))]
 fn walks_over_ids<'a>()
     ensures child_ids { MixturesTake ⟦<ChildIds<'a> as Iterator>⟧.next_gives
@@ -31,7 +31,7 @@ fn walks_over_ids<'a>()
         ⟦<PrecedingSiblings<'a> as DoubleEndedIterator>⟧.next_back_gives preceding_ids_left }
 {}
 
-/// The walks over nodes do, seen as their worlds and ids.
+/// The law for the walks over nodes, each read as its world and id.
 #[tactic(auto, using(model::proofs::Mixtures::views_are_taken))]
 fn walks_over_nodes<'a>()
     ensures children { MixturesTakeBy ⟦<Children<'a> as Iterator>⟧.next_gives
@@ -48,7 +48,7 @@ fn walks_over_nodes<'a>()
         ⟦<LabelledBy<'a> as DoubleEndedIterator>⟧.next_back_gives node_of labels_left }
 {}
 
-/// The walks over what a filter shows do, by each function that the filter follows.
+/// The law for the filtered walks, for each function that the filter follows.
 fn walks_over_shown<'a, F: Filter>()
     ensures filtered_children { MixturesTakeShown ⟦<FilteredChildren<'a, F> as Iterator>⟧.next_gives
         ⟦<FilteredChildren<'a, F> as DoubleEndedIterator>⟧.next_back_gives F.answers children_walk }

@@ -1,4 +1,4 @@
-//! Walks over the children and the siblings of a node, from both ends. They take no memory.
+//! Walks over the children and the siblings of a node, from both ends. They do not allocate.
 ghost use Rattle.std.specs.Prelude.{◌≡◌, map};
 ghost use Rattle.std.specs.Iterator.{YieldsFirst, YieldsLast, YieldsFirstBy, YieldsLastBy, item_count};
 ghost use Rattle.model.specs.World.{children as children_of};
@@ -11,7 +11,7 @@ use crate::walks::range::ChildRange;
 use model::FullNodeId;
 use std::iter::FusedIterator;
 
-/// The ids of a node's children.
+/// A walk over the ids of a node's children.
 #[derive(Drop)]
 pub struct ChildIds<'a> {
     range: ChildRange<'a>,
@@ -60,7 +60,7 @@ impl ExactSizeIterator for ChildIds<'_> {
 
 impl FusedIterator for ChildIds<'_> {}
 
-/// The ids of the parent's later children.
+/// A walk over the ids of the later siblings.
 #[derive(Drop)]
 pub struct FollowingSiblings<'a> {
     range: ChildRange<'a>,
@@ -110,7 +110,7 @@ impl ExactSizeIterator for FollowingSiblings<'_> {
 
 impl FusedIterator for FollowingSiblings<'_> {}
 
-/// The ids of the parent's earlier children, nearest first.
+/// A walk over the ids of the earlier siblings, nearest first.
 #[derive(Drop)]
 pub struct PrecedingSiblings<'a> {
     range: ChildRange<'a>,
@@ -160,7 +160,7 @@ impl ExactSizeIterator for PrecedingSiblings<'_> {
 
 impl FusedIterator for PrecedingSiblings<'_> {}
 
-/// The children of a node.
+/// A walk over the children of a node.
 #[derive(Drop)]
 pub struct Children<'a> {
     range: ChildRange<'a>,
@@ -210,7 +210,7 @@ impl ExactSizeIterator for Children<'_> {
 
 impl FusedIterator for Children<'_> {}
 
-/// The parent's later children.
+/// A walk over the later siblings.
 #[derive(Drop)]
 pub struct FollowingSiblingNodes<'a> {
     range: ChildRange<'a>,
@@ -260,7 +260,7 @@ impl ExactSizeIterator for FollowingSiblingNodes<'_> {
 
 impl FusedIterator for FollowingSiblingNodes<'_> {}
 
-/// The parent's earlier children, nearest first.
+/// A walk over the earlier siblings, nearest first.
 #[derive(Drop)]
 pub struct PrecedingSiblingNodes<'a> {
     range: ChildRange<'a>,

@@ -9,7 +9,7 @@ use crate::node::NodeRef;
 use crate::walks::spot::Member;
 use model::FullNodeId;
 
-/// The children of a node from the index `front` to the index `back`, which isn't one of theirs.
+/// The children of a node from the index `front` to before the index `back`.
 #[derive(Clone, Copy)]
 pub(crate) struct ChildRange<'a> {
     state: StateRef<'a>,
@@ -105,7 +105,7 @@ impl<'a> ChildRange<'a> {
         }
     }
 
-    /// How many are left.
+    /// The number of children left.
     pub(crate) fn count(&self) -> usize
         ensures { result ≡ length (range_left self.now) }
     {
@@ -142,7 +142,7 @@ impl<'a> ChildRange<'a> {
         Some(child)
     }
 
-    /// Takes the first child that is left, as it is seen.
+    /// Takes the first child that is left, as a view.
     pub(crate) fn take_first_node(&mut self) -> Option<NodeRef<'a>>
         ensures { YieldsFirstBy node_of range_nodes self.old result self.new }
     {
@@ -151,7 +151,7 @@ impl<'a> ChildRange<'a> {
         Some(state.node(id))
     }
 
-    /// Takes the last child that is left, as it is seen.
+    /// Takes the last child that is left, as a view.
     pub(crate) fn take_last_node(&mut self) -> Option<NodeRef<'a>>
         ensures { YieldsLastBy node_of range_nodes self.old result self.new }
     {

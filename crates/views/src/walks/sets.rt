@@ -1,4 +1,4 @@
-//! The size of a node's set, and the node's position in it, where they aren't sent.
+//! The size of a node's set and the node's position in it, computed if they weren't sent.
 ghost use Rattle.std.specs.Prelude.{◌≡◌, length, slice_get, Contains, None, Some, IfSome, MatchOption};
 ghost use Rattle.std.specs.Fn.{FnReturnsAt};
 ghost use Rattle.schema.specs.Roles.{same_role};
@@ -22,7 +22,7 @@ use model::FullNodeId;
 use model::filters::FilterResult;
 use schema::Role;
 
-/// The node below which the set of a node is shown, where the node has a set.
+/// The node whose filtered children are a node's set, if the node has a set.
 fn set_top<'a, F: Filter>(node: NodeRef<'a>, filter: &F) -> Option<Member<'a>>
     requires { F.can_answer filter.now }
     ensures known { IfSome result (IsMember (world_at node.entry)) }
@@ -100,8 +100,9 @@ fn index_shown<'a, F: Filter>(top: NodeRef<'a>, role: Role, id: FullNodeId, filt
 }
 
 impl<'a> NodeRef<'a> {
-    /// The size of the set that was sent, or else how many nodes of its role a filter shows below its cover, if the
-    /// filter includes the node and it can be one of a set.
+    /// The size of the node's set: as sent in the update, or else the number of nodes of its role that the filter shows
+    /// below its cover (the nearest ancestor that isn't excluded alone). Returns `None` if neither is there: the latter
+    /// needs a node that the filter includes and that can be an item of a set.
     pub fn computed_size_of_set<F: Fn(&NodeRef<'_>) -> FilterResult>(
         &self,
         filter: &F,
@@ -119,8 +120,8 @@ impl<'a> NodeRef<'a> {
         Some(count_shown(self.state.view(top), self.node.role(), &filter))
     }
 
-    /// The position that was sent, or else how many nodes of its set come before it: both count from 0, so that the first of a
-    /// set has the position 0.
+    /// The node's position in its set, counted from 0: as sent in the update, or else the number of nodes of its set
+    /// before it.
     pub fn computed_position_in_set<F: Fn(&NodeRef<'_>) -> FilterResult>(
         &self,
         filter: &F,

@@ -11,7 +11,7 @@ use crate::node::NodeRef;
 use model::FullNodeId;
 use schema::Node;
 
-/// A node, without the state in which it is seen.
+/// A node without its state.
 #[derive(Clone, Copy)]
 pub struct Member<'a> {
     pub id: FullNodeId,
@@ -27,7 +27,7 @@ pub struct Spot<'a> {
 }
 
 impl<'a> StateRef<'a> {
-    /// A node that is there.
+    /// A node that is in the state.
     #[inline(always)]
     pub(crate) fn member(self, id: FullNodeId) -> Member<'a>
         requires { IsNode (world_of self) id }
@@ -52,7 +52,7 @@ impl<'a> StateRef<'a> {
         }
     }
 
-    /// How many children a node has: a graft has the root of its tree, where that is present.
+    /// The number of children of a node. A graft's only child is the root of its tree, if that is present.
     pub(crate) fn child_count(self, parent: Member<'a>) -> usize
         requires { IsMember (world_of self) parent }
         ensures { result ≡ length (children (world_of self.entry) parent.entry.id) }
@@ -66,7 +66,7 @@ impl<'a> StateRef<'a> {
         }
     }
 
-    /// The child with this index, where the node has so many.
+    /// The child with this index, if the node has that many.
     #[inline(always)]
     pub(crate) fn child_id(self, parent: Member<'a>, index: usize) -> Option<FullNodeId>
         requires { IsMember (world_of self) parent }
@@ -82,7 +82,7 @@ impl<'a> StateRef<'a> {
         self.subtree_root(name)
     }
 
-    /// The child with this index at its place, where the node has so many.
+    /// The child with this index, with its place, if the node has that many.
     #[inline(always)]
     pub(crate) fn child(self, parent: Member<'a>, index: usize) -> Option<Spot<'a>>
         requires { IsMember (world_of self) parent }
@@ -101,7 +101,7 @@ impl<'a> StateRef<'a> {
         })
     }
 
-    /// A node at its place, where it has one.
+    /// A node with its place, if it has one.
     pub(crate) fn spot(self, member: Member<'a>) -> Option<Spot<'a>>
         requires { IsMember (world_of self) member }
         ensures place { let w = world_of self.entry in
@@ -138,7 +138,7 @@ impl<'a> Spot<'a> {
     }
 }
 
-/// The child that a node lists with this index, where it lists so many.
+/// The child that a node lists at this index, if it lists that many.
 #[inline(always)]
 fn listed_child(parent: Member<'_>, index: usize) -> Option<FullNodeId>
     ensures is { let ids = map (in_tree parent.entry.id.tree) parent.entry.node.now.children in

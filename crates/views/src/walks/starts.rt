@@ -1,4 +1,4 @@
-//! The walks that begin at a node.
+//! The calls that start a walk.
 ghost use Rattle.std.specs.Prelude.{◌≡◌, map};
 ghost use Rattle.std.specs.Fn.{FnReturnsAt};
 ghost use Rattle.model.specs.World.{children as children_of};
@@ -28,21 +28,21 @@ use crate::walks::plain::{
 use model::filters::FilterResult;
 
 impl<'a> NodeRef<'a> {
-    /// The ids of the children. The only child of a graft is the root of the tree that it names, where that is present.
+    /// The ids of the children. The only child of a graft is the root of the grafted tree, if that is present.
     pub fn child_ids(&self) -> ChildIds<'a>
         ensures { child_ids_left result ≡ children_of (world_at self.now) (id_at self.now) }
     {
         ChildIds::new(*self)
     }
 
-    /// The ids of the parent's later children, in order.
+    /// The ids of the later siblings, in order.
     pub fn following_sibling_ids(&self) -> FollowingSiblings<'a>
         ensures { following_ids_left result ≡ later_siblings (world_at self.now) (id_at self.now) }
     {
         FollowingSiblings::new(*self)
     }
 
-    /// The ids of the parent's earlier children, nearest first.
+    /// The ids of the earlier siblings, nearest first.
     pub fn preceding_sibling_ids(&self) -> PrecedingSiblings<'a>
         ensures { let w = world_at self.now in
             preceding_ids_left result ≡ earlier_siblings w (id_at self.now) }
@@ -58,7 +58,7 @@ impl<'a> NodeRef<'a> {
         Children::new(*self)
     }
 
-    /// The parent's later children, in order.
+    /// The later siblings, in order.
     pub fn following_siblings(&self) -> FollowingSiblingNodes<'a>
         ensures { let w = world_at self.now in
             following_left result ≡ map (node_in w) (later_siblings w (id_at self.now)) }
@@ -66,7 +66,7 @@ impl<'a> NodeRef<'a> {
         FollowingSiblingNodes::new(*self)
     }
 
-    /// The parent's earlier children, nearest first.
+    /// The earlier siblings, nearest first.
     pub fn preceding_siblings(&self) -> PrecedingSiblingNodes<'a>
         ensures { let w = world_at self.now in
             preceding_left result ≡ map (node_in w) (earlier_siblings w (id_at self.now)) }
@@ -74,8 +74,8 @@ impl<'a> NodeRef<'a> {
         PrecedingSiblingNodes::new(*self)
     }
 
-    /// What a filter shows of the children: over them in order, one that is included stands for itself, one that is left
-    /// out alone for what is shown of its own children, and one that is left out with its subtree for nothing.
+    /// The filtered children, in order: an included child itself, the filtered children of a child that is excluded
+    /// alone, and nothing of a child that is excluded with its subtree.
     pub fn filtered_children<F: Fn(&NodeRef<'_>) -> FilterResult + Drop>(
         &self,
         filter: F,
@@ -89,8 +89,8 @@ impl<'a> NodeRef<'a> {
         FilteredChildren::new(*self, ByFn { f: filter })
     }
 
-    /// What a filter shows after the node, below its cover: the nearest node above that isn't left out alone, if that is
-    /// included. Without a cover there are none.
+    /// The filtered siblings after the node: what the filter shows after it below its cover, the nearest ancestor that
+    /// isn't excluded alone. The walk is empty if that ancestor isn't included.
     pub fn following_filtered_siblings<F: Fn(&NodeRef<'_>) -> FilterResult + Drop>(
         &self,
         filter: F,
@@ -104,7 +104,8 @@ impl<'a> NodeRef<'a> {
         FollowingFilteredSiblings::new(*self, ByFn { f: filter })
     }
 
-    /// What a filter shows before the node, below its cover, nearest first.
+    /// The filtered siblings before the node, nearest first: what the filter shows before it below its cover, as for
+    /// [`NodeRef::following_filtered_siblings`].
     pub fn preceding_filtered_siblings<F: Fn(&NodeRef<'_>) -> FilterResult + Drop>(
         &self,
         filter: F,
@@ -118,7 +119,7 @@ impl<'a> NodeRef<'a> {
         PrecedingFilteredSiblings::new(*self, ByFn { f: filter })
     }
 
-    /// All nodes below the node, in pre-order: each child, and then all nodes below it.
+    /// All nodes below the node, in pre-order: each child, followed by all nodes below it.
     pub fn descendants(&self) -> Descendants<'a>
         ensures { let w = world_at self.now in
             descendants_left result ≡ map (node_in w) (descendants_of w (id_at self.now)) }
@@ -126,7 +127,7 @@ impl<'a> NodeRef<'a> {
         Descendants::new(*self)
     }
 
-    /// What a filter shows below the node, in pre-order: each filtered child, and then what the filter shows below it.
+    /// The nodes that the filter shows below the node, in pre-order: each filtered child, followed by those below it.
     pub fn filtered_descendants<F: Fn(&NodeRef<'_>) -> FilterResult + Drop>(
         &self,
         filter: F,
@@ -140,7 +141,7 @@ impl<'a> NodeRef<'a> {
         FilteredDescendants::new(*self, ByFn { f: filter })
     }
 
-    /// The items that a filter shows below the node. What it includes and is no item is left out alone.
+    /// The items that the filter shows below the node. Nodes that it includes and that are no items are looked into.
     pub fn items<F: Fn(&NodeRef<'_>) -> FilterResult + Drop>(&self, filter: F) -> Items<'a, ByFn<F>>
         requires { F.IsAlwaysCallable filter }
         ensures filter { (items_walk.filter result).f ≡ filter }
@@ -151,7 +152,7 @@ impl<'a> NodeRef<'a> {
         Items::new(*self, ByFn { f: filter })
     }
 
-    /// The nodes that the node controls, without those that aren't in the state.
+    /// The nodes that this node controls, skipping those that aren't in the state.
     pub fn controls(&self) -> Controls<'a>
         ensures { let w = world_at self.now in
             controls_left result ≡ map (node_in w) (controls_of w (id_at self.now)) }
