@@ -1,4 +1,4 @@
-//! A state as it is read: nodes, walks, filters, boxes and hits, labels and values, and the runs of a text.
+//! What callers read of a state: nodes, walks, filters, boxes and hits, labels and values, and the runs of a text.
 #![tactic(auto)]
 
 mod dialogs;
