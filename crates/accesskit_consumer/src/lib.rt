@@ -1,5 +1,4 @@
-//! The tree of an interface as adapters for assistive technology read it: states, their nodes and texts, and the changes
-//! between states. Each name is passed on from the crate in which it stands.
+//! The library's public face: the names of the Rust crate, re-exported from the crates below. It has no function.
 #![tactic(auto)]
 
 /// The common filters.

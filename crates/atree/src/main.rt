@@ -1,4 +1,4 @@
-//! Runs a script of updates from standard input, and prints the tree and its events.
+//! The program `atree`: runs a script from standard input, and prints events, answers and the tree.
 #![tactic(auto)]
 
 use atree_script::{Program, run_program, run_script};

@@ -1,4 +1,4 @@
-//! Scripts of updates: reads them line by line, keeps the tree, prints it with its events, and answers questions about it.
+//! The script engine: plays a script's commands on a session, and prints events, answers and the tree.
 #![tactic(auto)]
 
 mod ending;

@@ -1,5 +1,4 @@
-//! Finds a button by its role and label as a test harness does, and reads the text of an input by lines, words and characters as
-//! a text reader does.
+//! An example: finds a button by its role and label, and reads a text by lines, words and characters.
 #![tactic(auto)]
 
 mod form;

@@ -1,4 +1,4 @@
-//! Makes a window with a button, sends a second update, and prints what changed.
+//! An example: a window with a button gets a second update, and a handler counts what has changed.
 #![tactic(auto)]
 
 ghost use Rattle.std.specs.Prelude.{◌≡◌};

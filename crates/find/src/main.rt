@@ -1,7 +1,4 @@
-//! Finds a node by its role and label, as a test of an interface does: reads a script from standard input, and tells of each
-//! node of the tree that it leaves which the common filter shows, which has the role and, where one is given, the label.
-//!
-//!     find ROLE [LABEL]
+//! The program `find ROLE [LABEL]`: reads a script, and prints the nodes of its tree with that role and label.
 #![tactic(auto)]
 
 mod report;

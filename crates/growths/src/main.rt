@@ -1,5 +1,7 @@
-//! What takes memory, to be run with each growth refused in turn. With the argument `session` it runs six commands in one run
-//! with a mirror beside it; with `calls` it makes the calls that take memory, one after the other; with none it does both.
+//! Calls that allocate, and a session with a mirror, which the gate runs with each allocation refused in turn.
+//!
+//! With the argument `session` it runs six commands in one run with a mirror beside it; with `calls` it makes the calls
+//! that allocate, one after another; with none it does both.
 #![tactic(auto)]
 
 mod calls;

@@ -1,4 +1,4 @@
-//! Writes HTML: texts of which nothing is read as markup, and the elements and attributes that hold them.
+//! Writes HTML: elements and attributes whose texts are escaped, so that nothing in them is read as markup.
 #![tactic(auto)]
 
 mod elements;

@@ -1,4 +1,4 @@
-//! Values by node id: rows of cells for the small ids of each tree, and an ordered map for the others.
+//! Values by node id: rows of cells for the small ids of each tree, and an ordered map for all others.
 #![tactic(auto)]
 
 mod index;

@@ -1,4 +1,5 @@
-//! The worlds that the contracts of the tree speak of, and their laws.
+//! The definitions that all contracts cite (worlds, updates, events, views, texts, runs), and the laws proved about
+//! them.
 #![tactic(auto)]
 
 ghost use Rattle.model.specs.FullIds.{full_number};

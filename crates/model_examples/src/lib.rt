@@ -1,5 +1,5 @@
-//! More worked examples of the model's definitions: each was written for a turn of a definition with which no law and no example of
-//! `model` fell. Nothing stands on this crate, so that an example more has no other crate proved anew.
+//! More worked examples of the model's definitions. No crate depends on this one, so a new example has nothing else
+//! proved again.
 #![tactic(auto)]
 
 ghost use Rattle.model_examples.specs.Queries.{TakeMemory, OfWideText, OfTwoLines};

@@ -1,5 +1,4 @@
-//! Runs a script of updates from standard input, and writes a page of HTML that shows each state of the tree: its events, the
-//! tree as an outline, and its boxes as a picture.
+//! The program `page`: reads a script, and writes an HTML page with each of its states as an outline and a picture.
 #![tactic(auto)]
 
 mod boxes;

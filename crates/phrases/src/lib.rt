@@ -1,4 +1,5 @@
-//! What is said of an interface, in words: roles, states, numbers, what has become of a text, and in what order it is said.
+//! The words in which a screen reader says what is in an interface: roles, states, numbers, edits of a text, and their
+//! order.
 #![tactic(auto)]
 
 mod again;

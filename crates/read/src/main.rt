@@ -1,8 +1,4 @@
-//! Reads a text as a platform's text interface does: reads a script from standard input, and tells of the text of a node of the
-//! tree that it leaves: its selection, its lines, their words and the characters of these, each by its index in units of
-//! UTF-16.
-//!
-//!     read ID TREE
+//! The program `read ID TREE`: reads a script, and prints a text of its tree by lines, words and characters.
 #![tactic(auto)]
 
 mod asked;

@@ -1,5 +1,4 @@
-//! Writes a script anew, as an adapter's calls: reads commands from standard input, and writes each of them as lines that
-//! read back as the same command.
+//! The program `record`: reads a script, and writes each of its commands again in one form.
 #![tactic(auto)]
 
 mod recording;

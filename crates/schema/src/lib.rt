@@ -1,4 +1,4 @@
-//! The schema of an accessibility tree: nodes, the updates that bring them, and the writer of text.
+//! Nodes, the updates that bring them, and the writer of text. No rule about trees is here.
 //!
 //! A node is built by [`Node::new`] and its setters, and sent in a [`TreeUpdate`]. Contracts see a node as the
 //! plain record `NodeData` of `specs/`, field by field, and nothing of how the fields are kept in memory.

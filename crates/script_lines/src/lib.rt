@@ -1,4 +1,4 @@
-//! The lines of a script: what each of them says, and what is written of a command.
+//! The lines of a script: reads them as commands, and writes commands as lines. It needs no tree.
 #![tactic(auto)]
 
 mod actions;

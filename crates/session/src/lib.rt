@@ -1,4 +1,4 @@
-//! One run of commands over a tree: updates, changes of the host's focus, and questions, each with its reply.
+//! Runs of commands over a tree: updates, changes of the host's focus, and questions, each with its reply.
 #![tactic(auto)]
 
 mod answers;

@@ -1,4 +1,4 @@
-//! What tests are made of: small trees and texts as plain data, and a handler that keeps what it is told.
+//! What tests are made of: nodes, updates and texts as plain data, random updates, and a handler that records events.
 #![tactic(auto)]
 
 pub mod dice;

@@ -1,5 +1,4 @@
-//! Says what a screen reader would say: reads a script from standard input as `atree` does, and prints a line for each thing that is
-//! said of what it does.
+//! The program `speak`: reads a script, and prints what a screen reader would say at each of its steps.
 #![tactic(auto)]
 
 mod adapter;

@@ -1,4 +1,4 @@
-//! Says what a tree tells of its changes, as a screen reader does: an adapter between the tree and a person.
+//! What a screen reader says at each event of a tree: a handler that turns changes into sayings.
 #![tactic(auto)]
 
 mod changes;

@@ -1,4 +1,4 @@
-//! Tests of nodes: their fields as they are set, and what states and views answer of them.
+//! Tests of nodes: fields that are set, and what states and views answer of them.
 #![tactic(auto)]
 
 #[cfg(test)]

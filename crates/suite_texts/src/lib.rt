@@ -1,4 +1,4 @@
-//! Tests of texts: of what no script can say.
+//! Tests of texts, beside plain lists of their runs.
 #![tactic(auto)]
 
 #[cfg(test)]

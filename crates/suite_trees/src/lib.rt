@@ -1,4 +1,4 @@
-//! Tests of updates: their plans, their look-ups, and what handlers and mirrors are told of them.
+//! Tests of updates: plans, look-ups, and the events that handlers and mirrors get.
 #![tactic(auto)]
 
 #[cfg(test)]

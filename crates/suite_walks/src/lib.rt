@@ -1,4 +1,4 @@
-//! Tests of walks from nodes, and of where nodes are.
+//! Tests of walks, and of where nodes lie.
 #![tactic(auto)]
 
 #[cfg(test)]

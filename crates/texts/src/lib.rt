@@ -1,4 +1,4 @@
-//! Texts that are made of runs: positions in them, and ranges of them.
+//! Texts made of runs: positions and moves, ranges, lines, selections, boxes and points.
 #![tactic(auto)]
 
 mod betweens;

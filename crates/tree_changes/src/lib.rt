@@ -1,5 +1,4 @@
-//! The decision on an update, as those that make it and those that carry it out see it: what is looked up, what changes, and
-//! why an update is refused.
+//! What the store, the planner and the tree share: look-ups, the decision on an update, and why an update is refused.
 #![tactic(auto)]
 
 mod decision;

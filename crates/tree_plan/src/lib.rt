@@ -1,5 +1,4 @@
-//! The decision on an update of a state, by what it changes: records are looked up by id alone, and none that the update
-//! doesn't touch.
+//! The decision on an update, by look-ups of records alone: refused, or accepted with its changes and events.
 #![tactic(auto)]
 
 mod climbing;

@@ -1,4 +1,5 @@
-//! What a state keeps of its trees, and the changes that an update lays over it.
+//! The kept state: nodes with their places, trees, names and the focus; changes laid over it, room for them, and the
+//! commit.
 #![tactic(auto)]
 
 mod commit;

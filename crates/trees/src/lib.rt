@@ -1,4 +1,4 @@
-//! The tree of an interface as it changes: updates, what a handler is told of them, and records that follow what is told.
+//! `Tree` and its updates, the handlers that are notified of changes, and `Mirror`, a copy kept from events alone.
 #![tactic(auto)]
 
 mod handler;

@@ -1,5 +1,4 @@
-//! A state of an interface's tree, as it is read: its nodes, the walks over them, their labels, values and places, and the
-//! runs of their texts.
+//! What callers read of a state: nodes, walks, filters, boxes and hits, labels and values, and the runs of a text.
 #![tactic(auto)]
 
 mod dialogs;
