@@ -25,6 +25,8 @@ READING = [
     "checks/formatted",
     "docs/check-excerpts",
     "docs/index --check",
+    "docs/crates --check",
+    "docs/check-documents --docstrings",
     "checks/names",
     "checks/trust",
     "checks/turned --read",
@@ -36,6 +38,7 @@ ON_PROGRAMS = {
     "checks/made-up 20000 1": {"atree"},
     "checks/run-programs": {"find", "page", "read", "record", "speak"},
     "checks/refused-growths": {"atree", "growths"},
+    "docs/check-documents --programs": {"atree", "find", "page", "read", "record", "speak"},
 }
 WRONG = "checks/wrong --jobs 1"
 WRONG_BODIES = os.path.join(TOP, "checks", "wrong-bodies")
