@@ -101,7 +101,7 @@ fn main(rt: HostRuntime) -> anyhow::Result<()> {
     )?;
     print_state(&rt, tree.state().view())?;
 
-    // Node 9 has no data: the tree stays as it is, and the handler hears nothing.
+    // Node 9 has no data: the update is refused, the tree is unchanged, and the handler is not called.
     let update = next_update(alloc, &[BUTTON, INPUT, NodeId(9)])?;
     if let Err(refusal) = tree.update_and_process_changes(update, &mut changes) {
         println!(rt; "refused: {refusal}")?;
