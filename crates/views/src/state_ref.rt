@@ -335,7 +335,7 @@ impl<'a> StateRef<'a> {
         self.focus().map(|node| node.id)
     }
 
-    /// The toolkit's name; `AccessKit` if the tree has none.
+    /// The toolkit's name; `AccessKit` if the tree doesn't have one.
     pub fn toolkit_name(&self) -> &'a str
         ensures { result.now ≡ toolkit_name (world_of self.now) }
     {
