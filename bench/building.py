@@ -1,4 +1,4 @@
-"""Builds the programs that are measured, with proof, over what the gate or a check has kept of the crates."""
+"""Builds the programs that are measured, with proof, using what the gate or a check has kept of the crates."""
 
 import os
 import shutil

@@ -1,4 +1,4 @@
-"""What is measured, what was kept of the Rust crate, and what is to be reached: the rows of `figures.json`."""
+"""The rows of `figures.json`: what is measured, the Rust crate's figures, and the targets."""
 
 import json
 import os

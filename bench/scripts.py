@@ -1,4 +1,4 @@
-"""Scripts that `atree` reads, and what it prints of them."""
+"""Scripts for `atree`, and their expected output."""
 
 
 def flat(count):

@@ -1,4 +1,4 @@
-"""Lays out what was measured as tables of Markdown."""
+"""Formats the measurements as Markdown tables."""
 
 # A figure that is marked as reached may be past what is to be reached by this much.
 LEEWAY = 1.1

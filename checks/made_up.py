@@ -1,4 +1,4 @@
-"""What makes scripts up by dice: lines of updates and questions, with what the model says of each, and what is met."""
+"""Generates random scripts: lines of updates and queries, with the model's output for each, and counts the cases covered."""
 
 import random
 import uuid

@@ -1,4 +1,4 @@
-"""Scripts whose lines are spoiled: words that are left out, doubled, exchanged or written otherwise."""
+"""Scripts with spoiled lines: words are left out, doubled, swapped or written differently."""
 
 from collections import Counter
 

@@ -1,5 +1,4 @@
-"""Sessions that are made up: updates, the host's focus and questions of all kinds; and pairs of them that are alike but for
-a password's characters.
+"""Random sessions: updates, the host's focus and queries of all kinds; and pairs of them that differ in a password alone.
 """
 
 from model import ROOT, Node, Update, accepted, faults, node_named

@@ -1,4 +1,4 @@
-"""Makes up windows whose changes are spoken of: controls, fields with and without runs, live regions, and a dialog that comes and goes."""
+"""Random windows whose changes are spoken: controls, fields with and without runs, live regions, and a dialog that opens and closes."""
 
 from model_scripts import text_line
 

@@ -1,4 +1,4 @@
-"""Texts that are made up: fields with runs of all kinds, some of which make no text."""
+"""Random texts: fields with runs of all kinds, some of which make no text."""
 
 from model import ROOT, Node, Update
 from model_texts import broken_rules, runs_of

@@ -1,4 +1,4 @@
-"""Updates that are made up: most of them change the tree that there is, and some would break it."""
+"""Random updates: most of them change the current tree, and some are invalid."""
 
 from model import ROOT, Node, Update, index_of, root_named
 from model_views import upward

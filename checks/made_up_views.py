@@ -1,4 +1,4 @@
-"""Interfaces that are made up: several trees of nodes that are hidden, clip, have rectangles and are moved."""
+"""Random interfaces: several trees of nodes that are hidden, clip, have rectangles and are translated."""
 
 from made_up_trees import any_update, send_grove
 

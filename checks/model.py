@@ -1,8 +1,8 @@
-"""Worlds, updates, the focus and what is told: docs/MODEL.md and docs/MODEL-EVENTS.md as a program that computes everything from scratch.
+"""Worlds, updates, the focus and events: docs/MODEL.md and docs/MODEL-EVENTS.md as a program that computes everything from scratch.
 
-Nothing here is quick. Each answer is picked out of whole lists, as the definitions have it, and nothing is shared with the
-library but those definitions. An id is a pair: the index of a tree, and the number of a node in it. Trees go by their
-UUIDs. The toolkit's texts are left out: nothing that a script prints shows them.
+Nothing here is fast. Each answer is computed from whole lists, as the definitions have it, and nothing is shared with the
+library but those definitions. An id is a pair: the index of a tree, and the number of a node in it. Trees are named by their
+UUIDs. The toolkit's texts are left out: no output of a script shows them.
 """
 
 from collections import Counter

@@ -1,4 +1,4 @@
-"""What the program `record` writes of a script: each of its commands anew, with the fields of a line in a fixed order."""
+"""The model's output of the program `record`: each command of a script again, with the fields of a line in a fixed order."""
 
 from model import ROOT
 from model_scripts import QUESTIONS, UPDATE_FIELDS, BadLine, Play, Words, field_word, number, read_node, tree_name

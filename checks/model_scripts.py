@@ -1,6 +1,6 @@
-"""What a script prints: reads it line by line, as the README's table has it, and tells what the model says of it.
+"""The model's output for a script, which it reads line by line (docs/SCRIPT.md).
 
-Where several faults stand for an update, the line that is told has each of them: `refused NotReached 5 or NotReached 6`.
+If an update breaks several rules, the line has all of them: `refused NotReached 5 or NotReached 6`.
 """
 
 import re

@@ -1,7 +1,7 @@
 """Texts, values and labels: docs/MODEL-TEXT.md as one flat list of characters for each text, with marks in it.
 
-A position is the number of a run, and how many of its characters are before it. Its offset counts the characters before it
-in all runs.
+A position is the number of a run, and the number of its characters before the position. Its offset counts the characters
+before it in all runs.
 """
 
 from typing import NamedTuple

@@ -1,6 +1,6 @@
 """Lists, filters, boxes, hits and sets: docs/MODEL-LISTS.md and docs/MODEL-VIEWS.md, computed from pre-orders.
 
-A filter is a function of a world and a node. It includes the node, leaves it out alone, or cuts it off with all below it.
+A filter is a function of a world and a node. It includes the node, excludes it alone, or cuts it off with its subtree.
 """
 
 from model import ROOT, children, is_focused, once, places, root_named

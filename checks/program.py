@@ -1,4 +1,4 @@
-"""Runs a program, `atree` if no other one, on a script, and compares what it gives with what is told."""
+"""Runs a program, by default `atree`, on a script, and compares its results with the expected ones."""
 
 import itertools
 import os

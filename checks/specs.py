@@ -1,8 +1,8 @@
 """The definitions of crates/*/specs, and what a definition or a contract names.
 
-A name is looked up as the prover does it: in its own file, and then by the file's `use` lines. Names that are bound where
-they stand (by an equation's left side, a `λ`, a binder, or a field of a record) name no definition. Nothing here knows the
-language's types: it reads heads, equations and `use` lines, and relies on the layout that the crates have.
+A name is looked up as the prover does it: in its own file, and then by the file's `use` lines. Names that are bound locally
+(by an equation's left side, a `λ`, a binder, or a field of a record) name no definition. Nothing here knows the language's
+types: it reads heads, equations and `use` lines, and relies on the layout that the crates have.
 """
 
 import os

@@ -16,7 +16,7 @@ abbrev pub seen_id : Option Seen → Option FullNodeId
 seen_id None = None
 seen_id (Some s) = Some s.id
 
--- a line that says where the focus was, and where it is
+-- a line with the old and the new focus
 abbrev pub focus_line : Option FullNodeId → Option FullNodeId → List ℕ
 focus_line old new = codes "focus " ++ shown_or_dash old ++ codes " " ++ shown_or_dash new ++ codes "\n"
 

@@ -7,7 +7,7 @@ use Rattle.schema.specs.declared.TreeId.{TreeId}
 use Rattle.tree_changes.specs.declared.error.UpdateError.{UpdateError}
 use Rattle.tree_changes.specs.declared.error.UpdateError.TheVariants.{MissingTreeInfo, NotRootTree, MissingData, NotReached, NamedTwice, ListedTwice, RootTreeGrafted, GraftWithChildren, GraftedTwice, NoGraft, NoFirstTreeInfo, FocusMissing, FocusOnEmptyGraft, IndexesUsedUp, Memory}
 
--- the name of a refusal, and the node that it names
+-- the name of a broken rule, and its node
 abbrev pub refused_node : List ℕ → NodeId → List ℕ
 refused_node name id = codes "refused " ++ name ++ codes " " ++ decimal id.0 ++ codes "\n"
 

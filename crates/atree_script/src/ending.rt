@@ -83,7 +83,7 @@ impl<T: Teller> Program for Telling<T> {
     }
 }
 
-/// Reads a script and prints what was asked about the tree that it leaves, or that there is none. Returns the exit
+/// Reads a script and prints what was asked about the tree that it leaves, or that there isn't one. Returns the exit
 /// status: 0 if what was asked for exists, and 1 if it doesn't; 2, 3 and 4 are as for [`crate::run_script`].
 fn tell_script<T: Teller, R: BufRead, O: Write, E: Write>(
     teller: &T,
@@ -109,7 +109,7 @@ fn tell_script<T: Teller, R: BufRead, O: Write, E: Write>(
     status
 }
 
-/// Prints what was asked about the tree, or that there is none.
+/// Prints what was asked about the tree, or that there isn't one.
 fn told<T: Teller, O: Write>(
     teller: &T,
     alloc: Global,

@@ -23,7 +23,7 @@ impl fmt::Display for ShownId {
     }
 }
 
-/// An id, or `-` if there is none.
+/// An id, or `-` if there isn't one.
 #[derive(Clone, Copy)]
 struct ShownFocus(Option<FullNodeId>);
 

@@ -29,7 +29,7 @@ impl fmt::Display for SpacedIds<'_> {
     }
 }
 
-/// A number, or `-` if there is none.
+/// A number, or `-` if there isn't one.
 #[derive(Clone, Copy)]
 struct ShownCount(Option<usize>);
 
@@ -44,7 +44,7 @@ impl fmt::Display for ShownCount {
     }
 }
 
-/// Writes ids with one space between them, or `-` if there are none.
+/// Writes ids with one space between them, or `-` if there aren't any.
 fn write_ids<O: Write>(ids: &[FullNodeId], out: &mut O) -> io::Result<()>
     ensures { OnOk result (Appends (O.contents out.old) (O.contents out.new) (ids_line ids.now)) }
 {
@@ -69,7 +69,7 @@ fn write_found<O: Write>(found: Option<FullNodeId>, out: &mut O) -> io::Result<(
     }
 }
 
-/// Writes the size of a set and the position in it, each as `-` if there is none.
+/// Writes the size of a set and the position in it, each as `-` if there isn't one.
 fn write_set<O: Write>(size: Option<usize>, position: Option<usize>, out: &mut O) -> io::Result<()>
     ensures { OnOk result (Appends (O.contents out.old) (O.contents out.new) (set_line size position)) }
 {
@@ -90,7 +90,7 @@ pub fn write_text<O: Write>(text: Option<&str>, out: &mut O) -> io::Result<()>
     out.write_all(b"\"\n")
 }
 
-/// Writes a position: the id of its run in its tree, and the index there; `none` if there is none.
+/// Writes a position: the id of its run in its tree, and the index there; `none` if there isn't one.
 fn write_position<O: Write>(position: Option<TextPosition>, out: &mut O) -> io::Result<()>
     ensures { OnOk result (Appends (O.contents out.old) (O.contents out.new) (position_line position)) }
 {

@@ -67,7 +67,7 @@ impl<'a, O: Write> Player for Writing<'a, O> {
         }
     }
 
-    /// Prints the tree, or that there is none.
+    /// Prints the tree, or that there isn't one.
     fn print(&mut self, session: &Option<Session>) -> Result<(), Stop> {
         match session {
             Some(session) => print_outline(self.alloc, session.tree().state().view(), self.output),

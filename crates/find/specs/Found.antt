@@ -1,4 +1,4 @@
--- What is found in a tree.
+-- The nodes found in a tree.
 use Rattle.std.specs.Prelude.{ℕ, Bool, true, false, ◌&&◌, List, [], ◌∷◌, ◌++◌, filter, Option, Some, None, if◌then◌else◌}
 use Rattle.std.specs.Option.{option_map_or}
 use Rattle.std.specs.Str.{bytes_eq}
@@ -16,12 +16,12 @@ use Rattle.views.specs.Descendants.{filtered_descendants}
 abbrev pub shown_from : World → FullNodeId → List FullNodeId
 shown_from w top = (if is_included (common_filter w top) then top ∷ [] else []) ++ filtered_descendants (common_filter w) w top
 
--- whether the node has the label, where one is sought
+-- whether the node has the label, if one is given
 abbrev pub is_labelled : Option (List ℕ) → World → FullNodeId → Bool
 is_labelled None w id = true
 is_labelled (Some label) w id = option_map_or (bytes_eq label) (label_of w id) false
 
--- whether it is there, with the role and the label
+-- whether it exists, with the role and the label
 abbrev pub is_wanted : Role → Option (List ℕ) → World → FullNodeId → Bool
 is_wanted role label w id = says (λ d. same_role d.role role) w id && is_labelled label w id
 

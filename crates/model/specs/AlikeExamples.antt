@@ -1,4 +1,4 @@
--- Two passwords of one shape: what is answered of both, and two sessions that differ in the password alone.
+-- Two passwords of one shape: the answers about both, and two sessions that differ in the password alone.
 use Rattle.std.specs.Prelude.{codes, ◌≡◌, ℕ, List, [], ◌∷◌, Some, None}
 use Rattle.model.specs.declared.queries.Move.TheVariants as move
 use Rattle.model.specs.declared.queries.Query.TheVariants as query
@@ -61,7 +61,7 @@ other_longer = secret (codes "x") (run_node (codes "xy") (1 ∷ 1 ∷ [])) (run_
 abbrev pub run_told : World → World → List Event
 run_told old new = NodeUpdated (seen_in old (at 0 2)) (seen_in new (at 0 2)) ∷ []
 
--- both are runs, they are alike, and they reply the same; of what is told nothing is told openly
+-- both are runs, they are alike, and they have the same replies; no event is reported openly
 pub record SessionsAreAlike : Type 0 where
   pub first : Runs one_secret (session_of (codes "sst")) one_longer (run_told one_secret one_longer) its_replies
   pub second : Runs other_secret (session_of (codes "zwx")) other_longer (run_told other_secret other_longer) its_replies

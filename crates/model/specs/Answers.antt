@@ -1,4 +1,4 @@
--- What is answered to a query.
+-- The answers to queries.
 use Rattle.std.specs.Prelude.{ℕ, List, Option}
 use Rattle.schema.specs.declared.values.TextPosition.{TextPosition}
 use Rattle.model.specs.declared.FullNodeId.{FullNodeId}
@@ -11,7 +11,7 @@ pub data Answer : Type 0 where
   Node : (node : Option FullNodeId) → Answer
   Position : (position : Option TextPosition) → Answer
   Indexes : (usv utf16 line : ℕ) → Answer
-  -- the node isn't there
+  -- the node doesn't exist
   NoNode : Answer
-  -- the node has no text, or none with this index
+  -- the node has no text, or the index is out of range
   NotText : Answer

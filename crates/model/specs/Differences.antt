@@ -1,4 +1,4 @@
--- How two worlds differ, as a list in the order in which a handler is told.
+-- How two worlds differ, as a list in the order in which they are reported.
 use Rattle.std.specs.Prelude.{◌≡◌, ◌≢◌, ℕ, List, [], ◌∷◌, ◌++◌, map, Contains, Option, Some, None, ◌⊎◌, ◌↔◌, ◌==◌, if◌then◌else◌}
 use Rattle.std.specs.Option.{option_map}
 use Rattle.std.specs.List.Sorted.{IsStrictlySortedBy}
@@ -13,7 +13,7 @@ pub use Rattle.model.specs.declared.events.PlanEvent.TheVariants.{Added, Updated
 use Rattle.model.specs.Events.{Event, NodeAdded, NodeUpdated, NodeRemoved, seen_in}
 use Rattle.model.specs.Events as handler
 
--- the call that tells of a difference
+-- the call that reports a difference
 abbrev pub event : World → World → PlanEvent → Event
 event old new (Added id) = NodeAdded (seen_in new id)
 event old new (Updated id) = NodeUpdated (seen_in old id) (seen_in new id)
@@ -34,7 +34,7 @@ IsAdded old new id = IsNode new id × ¬ (IsNode old id)
 abbrev pub IsInBoth : World → World → FullNodeId → Type 0
 IsInBoth old new id = IsNode old id × IsNode new id
 
--- The root that an update is told of even where it is unchanged: the one in its tree info, where it isn't for the root tree.
+-- The root that is reported even if it is unchanged: the one in the update's tree info, if that isn't for the root tree.
 abbrev pub told_root : ℕ → Option InfoData → Option FullNodeId
 told_root index None = None
 told_root index (Some info) = if index == 0 then None else Some (in_tree index info.root)
@@ -43,16 +43,16 @@ told_root index (Some info) = if index == 0 then None else Some (in_tree index i
 abbrev pub IsUpdated : World → World → Option FullNodeId → FullNodeId → Type 0
 IsUpdated old new root id = IsInBoth old new id × (data_of old id ≢ data_of new id ⊎ place_of old id ≢ place_of new id ⊎ root ≡ Some id)
 
--- the id alone where it has P, and else nothing
+-- the id alone if P holds of it, and otherwise nothing
 abbrev pub IsAloneIf : Type 0 → FullNodeId → List FullNodeId → Type 0
 IsAloneIf P id ids = (P × (ids ≡ id ∷ [])) ⊎ (¬ P × (ids ≡ []))
 
--- a focus is told as updated where it is in both worlds and wasn't told before
+-- a focus is reported as updated if it is in both worlds and wasn't reported before
 abbrev pub IsToldForFocus : World → World → List FullNodeId → Option FullNodeId → List FullNodeId → Type 0
 IsToldForFocus old new told None ids = ids ≡ []
 IsToldForFocus old new told (Some id) ids = IsAloneIf (IsInBoth old new id × ¬ (Contains told id)) id ids
 
--- What is told of the focus, after these ids were told as updated: nothing where it is the same; else its old node, its new node, and the move.
+-- What is reported of the focus, after these ids were reported as updated: nothing if it is the same; otherwise its old node, its new node, and the move.
 abbrev pub AreOfFocus : World → World → List FullNodeId → List PlanEvent → Type 0
 AreOfFocus old new told differences =
     (before after : Option FullNodeId) × IsFocus old before × IsFocus new after
@@ -60,7 +60,7 @@ AreOfFocus old new told differences =
     ⊎ ((before ≢ after) × (left entered : List FullNodeId) × IsToldForFocus old new told before left × IsToldForFocus old new told after entered
     × (differences ≡ map Updated left ++ map Updated entered ++ FocusMoved before after ∷ [])))
 
--- All that is told of a change of worlds, in order. The root is the one that is told as updated even where it is unchanged.
+-- All that is reported of a change of worlds, in order. The root is the one that is reported as updated even if it is unchanged.
 pub record AreDifferences (old new : World) (root : Option FullNodeId) (differences : List PlanEvent) : Type 0 where
   pub added : List FullNodeId
   pub updated : List FullNodeId

@@ -1,4 +1,4 @@
--- Small worlds, and what is told of their changes.
+-- Small worlds, and the events of their changes.
 use Rattle.std.specs.Prelude.{◌≡◌, ℕ, List, [], ◌∷◌, true, false, Some, None}
 use Rattle.std.specs.FinMap.{from_sorted}
 use Rattle.schema.specs.NodeData.{NodeData}
@@ -34,16 +34,16 @@ window_with_button focus = root_tree focus ((at 0 0, window (1 ∷ [])) ∷ (at 
 abbrev pub window_with_buttons : ℕ → ℕ → World
 window_with_buttons first second = root_tree 0 ((at 0 0, window (first ∷ second ∷ [])) ∷ (at 0 1, button) ∷ (at 0 2, button) ∷ [])
 
--- the button goes
+-- the button is removed
 abbrev pub ButtonGoes : Type 0
 ButtonGoes = AreDifferences (window_with_button 0) window_alone None (Updated (at 0 0) ∷ Removed (at 0 1) ∷ [])
 
--- the focus goes from the window to the button
+-- the focus moves from the window to the button
 abbrev pub FocusGoesToButton : Type 0
 FocusGoesToButton =
     AreDifferences (window_with_button 0) (window_with_button 1) None (Updated (at 0 0) ∷ Updated (at 0 1) ∷ FocusMoved (Some (at 0 0)) (Some (at 0 1)) ∷ [])
 
--- the button goes, and the focus was on it: the removal is told last
+-- the button is removed, and the focus was on it: the removal is reported last
 abbrev pub FocusedButtonGoes : Type 0
 FocusedButtonGoes =
     AreDifferences (window_with_button 1) window_alone None (Updated (at 0 0) ∷ FocusMoved (Some (at 0 1)) (Some (at 0 0)) ∷ Removed (at 0 1) ∷ [])
@@ -52,7 +52,7 @@ FocusedButtonGoes =
 abbrev pub ButtonsChangePlaces : Type 0
 ButtonsChangePlaces = AreDifferences (window_with_buttons 1 2) (window_with_buttons 2 1) None (Updated (at 0 0) ∷ Updated (at 0 1) ∷ Updated (at 0 2) ∷ [])
 
--- Before: a window with the buttons 1 and 2, and the focus on 1. After: button 1 is gone, button 3 stands behind button 2, and the focus is on 2.
+-- Before: a window with the buttons 1 and 2, and the focus on 1. After: button 1 is gone, button 3 is after button 2, and the focus is on 2.
 abbrev pub pictured_before : World
 pictured_before = root_tree 1 ((at 0 0, window (1 ∷ 2 ∷ [])) ∷ (at 0 1, button) ∷ (at 0 2, button) ∷ [])
 
@@ -64,7 +64,7 @@ PicturedChange =
     AreDifferences pictured_before pictured_after None
     (Added (at 0 3) ∷ Updated (at 0 0) ∷ Updated (at 0 2) ∷ FocusMoved (Some (at 0 1)) (Some (at 0 2)) ∷ Removed (at 0 1) ∷ [])
 
--- The host loses its focus, and is told so again: the window that had the focus is updated, and then there is no focus; the second time nothing is told.
+-- The host loses its focus twice: the window that had the focus is updated, and then there is no focus; the second time nothing is reported.
 abbrev pub HostLosesFocus : Type 0
 HostLosesFocus =
     Runs (window_with_button 0) (ToHostFocus false ∷ ToHostFocus false ∷ []) (with_host (window_with_button 0) false)
@@ -77,7 +77,7 @@ label_button = record { nodes = (node 1, labelled_button) ∷ []; info = None; n
 abbrev pub window_with_label : World
 window_with_label = root_tree 0 ((at 0 0, window (1 ∷ [])) ∷ (at 0 1, labelled_button) ∷ [])
 
--- the button gets a label: one node is named, which lists nothing and stands one below the root; nothing goes; one tree is known
+-- the button gets a label: one node in the update, which lists nothing and has depth 1; nothing is removed; one tree is known
 abbrev pub LabelIsLittleWork : Type 0
 LabelIsLittleWork =
     IsWorkOf (window_with_button 0) label_button window_with_label (record { named = 1; children = 0; removed = 0; depths = 1; known = 1 }) × (allowance (record { named = 1; children = 0; removed = 0; depths = 1; known = 1 }) ≡ 80)

@@ -22,33 +22,33 @@ DifferencesAreOne = (old new : World) (root : Option FullNodeId) (xs ys : List P
 abbrev pub DifferencesExist : Type 0
 DifferencesExist = (old new : World) (root : Option FullNodeId) → IsState old → IsState new → (differences : List PlanEvent) × AreDifferences old new root differences
 
--- each difference has its reason, and what has a reason is told
+-- a difference is in the list exactly if it has a reason
 abbrev pub EachHasAReason : Type 0
 EachHasAReason =
     (old new : World) (root : Option FullNodeId) (differences : List PlanEvent) → AreDifferences old new root differences
     → (difference : PlanEvent) → Contains differences difference ↔ Reason old new root difference
 
--- each difference is told once, and the groups are told in order
+-- each difference is in the list once, and the groups are in order
 abbrev pub EachIsToldInOrder : Type 0
 EachIsToldInOrder = (old new : World) (root : Option FullNodeId) (differences : List PlanEvent) → AreDifferences old new root differences → AllPairs MayPrecede differences
 
--- where the world stays as it is, nothing is told without tree info, nor of the root tree
+-- if the world is unchanged, nothing is reported without tree info, nor for the root tree
 abbrev pub NothingToTell : Type 0
 NothingToTell =
     (focus : Option FullNodeId) (w : World) → IsFocus w focus
     → ((info : Option InfoData) → AreDifferences w w (told_root 0 info) []) × ((index : ℕ) → AreDifferences w w (told_root index None) [])
 
--- but the root of another tree is told of by tree info
+-- but tree info reports the root of another tree
 abbrev pub RootIsTold : Type 0
 RootIsTold =
     (focus : Option FullNodeId) (w : World) (index : ℕ) (info : InfoData) → IsFocus w focus → index ≢ 0 → IsNode w (in_tree index info.root)
     → AreDifferences w w (told_root index (Some info)) (Updated (in_tree index info.root) ∷ [])
 
--- where only the host's focus changes, the list is the focus's part alone
+-- if only the host's focus changes, the list is the part for the focus alone
 abbrev pub HostChangeTellsFocus : Type 0
 HostChangeTellsFocus = (w : World) (focused : Bool) (differences : List PlanEvent) → AreDifferences w (with_host w focused) None differences ↔ AreOfFocus w (with_host w focused) [] differences
 
--- the records of a world, stepped by its differences to the next world, are the next world's
+-- the records of a world, changed by its differences to the next world, are the next world's
 abbrev pub RecordsFollow : Type 0
 RecordsFollow =
     (old new : World) (root : Option FullNodeId) (differences : List PlanEvent) (before after : Records)
@@ -76,19 +76,19 @@ RecordsFollowRun =
     (old new : World) (commands : List CommandData) (told : List Event) (replies : List ReplyData) (before after : Records)
     → Runs old commands new told replies → AreRecordsOf old before → Told Mirrors before told after → AreRecordsOf new after
 
--- A mirror that may find no memory has the records of the world that a run comes to, or none.
+-- A mirror whose allocations may fail has the records of the world that a run comes to, or none.
 abbrev pub KeptRecordsFollowRun : Type 0
 KeptRecordsFollowRun =
     (old new : World) (commands : List CommandData) (told : List Event) (replies : List ReplyData) (before : Records) (after : Option Records)
     → Runs old commands new told replies → AreRecordsOf old before → Told MirrorsWhileKept (Some before) told after → IfSome after (AreRecordsOf new)
 
--- Two runs of the same commands, in which memory was wanting at the same ones, come to one world, tell the same, and reply alike.
+-- Two runs of the same commands, in which memory ran out at the same ones, end in the same world, report the same, and reply alike.
 abbrev pub RunsAreOne : Type 0
 RunsAreOne =
     (old v w : World) (commands : List CommandData) (told heard : List Event) (replies answers : List ReplyData)
     → Runs old commands v told replies → Runs old commands w heard answers → AllZip WantAlike replies answers → (v ≡ w) × (told ≡ heard) × AllZip AreAlike replies answers
 
--- each command of a state is done, where memory isn't wanting
+-- each command can be carried out on a state, as long as memory doesn't run out
 abbrev pub CommandIsDone : Type 0
 CommandIsDone =
     (old : World) (command : CommandData) → IsState old
@@ -104,23 +104,23 @@ RunIsThere =
 abbrev pub RunLeavesState : Type 0
 RunLeavesState = (old new : World) (commands : List CommandData) (told : List Event) (replies : List ReplyData) → Runs old commands new told replies → IsState old → IsState new
 
--- an update that repeats what a state has changes nothing, and tells nothing if it has no tree info or is for the root tree
+-- an update that repeats what a state has changes nothing, and reports nothing if it has no tree info or is for the root tree
 abbrev pub RepeatTellsNothing : Type 0
 RepeatTellsNothing = (w : World) (u : UpdateData) → IsState w → Repeats w u → (u.info ≡ None) ⊎ (index_for w u.name ≡ 0) → Does w (ToUpdate u) w [] Accepted
 
--- one of another tree that has tree info tells that tree's root
+-- one for another tree that has tree info reports that tree's root
 abbrev pub RepeatTellsRoot : Type 0
 RepeatTellsRoot =
     (w : World) (u : UpdateData) (info : InfoData) → IsState w → Repeats w u → u.info ≡ Some info → index_for w u.name ≢ 0
     → Does w (ToUpdate u) w (NodeUpdated (seen_in w (in_tree (index_for w u.name) info.root)) (seen_in w (in_tree (index_for w u.name) info.root)) ∷ []) Accepted
 
--- What a stopped run has done is the beginning of what the whole run does.
+-- The effects of a stopped run are the beginning of those of the whole run.
 abbrev pub StoppedRunBegins : Type 0
 StoppedRunBegins =
     (old new : World) (commands : List CommandData) (done : ℕ) (told : List Event) (replies : List ReplyData) → Runs old commands new told replies → MayStop done commands
     → (at : World) × (first rest : List Event) × RunsUpTo done old commands at first (take done replies) × (told ≡ first ++ rest)
 
--- Where a run stops after its start, no change is lost: the next command would have left the world as it is, and told nothing.
+-- If a run stops once it has started, no change is lost: the next command would have left the world unchanged and reported nothing.
 abbrev pub StopLosesNoChange : Type 0
 StopLosesNoChange =
     (old at new : World) (commands : List CommandData) (done : ℕ) (told heard : List Event) (replies : List ReplyData) (next : CommandData) (reply : ReplyData)

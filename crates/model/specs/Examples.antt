@@ -1,4 +1,4 @@
--- Small worlds and updates, on which the definitions are tried.
+-- Small worlds and updates, on which the definitions are worked out.
 use Rattle.std.specs.Prelude.{codes, ℕ, List, [], ◌∷◌, map, true, false, Some, None}
 use Rattle.std.specs.Ordering.{nat_cmp}
 use Rattle.std.specs.FinMap.{from_entries}
@@ -102,7 +102,7 @@ button_goes = root_update ((node 0, window []) ∷ [])
 abbrev pub window_alone : World
 window_alone = world (ROOT_NAME ∷ []) ((0, plain_tree) ∷ []) ((at 0 0, window []) ∷ [])
 
--- A window 0 whose child 1 grafts tree 1, which isn't there.
+-- A window 0 whose child 1 grafts tree 1, which isn't present.
 abbrev pub empty_graft : World
 empty_graft = world (ROOT_NAME ∷ []) ((0, plain_tree) ∷ []) ((at 0 0, window (1 ∷ [])) ∷ (at 0 1, graft (name 1)) ∷ [])
 

@@ -5,12 +5,12 @@ use Rattle.model.specs.declared.filters.FilterResult.{FilterResult}
 use Rattle.model.specs.declared.filters.FilterResult.TheVariants.{Include, ExcludeNode, ExcludeSubtree}
 use Rattle.model.specs.contracts.filters.FilterResultOrd.TheImpl as ord
 
--- how much an answer leaves out: nothing, the node, or the node with all that is below it
+-- how much an answer excludes: nothing, the node, or the node with its subtree
 abbrev pub exclusion : FilterResult → ℕ
 exclusion Include = 0
 exclusion ExcludeNode = 1
 exclusion ExcludeSubtree = 2
 
--- `cmp` of two answers goes by how much they leave out
+-- `cmp` of two answers compares how much they exclude
 abbrev pub OrderIsByExclusion : Type 0
 OrderIsByExclusion = (a b : FilterResult) → ord.ghosts.cmp a b ≡ nat_cmp (exclusion a) (exclusion b)

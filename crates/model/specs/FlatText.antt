@@ -1,5 +1,5 @@
 -- The text of a root as one list of runs, each with its characters as they are shown, and the marks in it.
--- All that is said of a text is said of this list. In a masked text each character is a bullet, here already.
+-- Everything else about a text is defined on this list. In a masked text each character is already a bullet here.
 use Rattle.std.specs.Prelude.{◌≡◌, position, ℕ, ℤ, ◌+◌, ◌-◌, ◌==◌, nat_lt, nat_le, Bool, true, false, not, ◌&&◌, ◌||◌, ◌<◌, ◌≤◌, List, [], ◌∷◌, ◌++◌, length, map, drop, take, reverse, slice_get, sum_by, filter, find, zip, Option, Some, is_some, option_map, option_and_then, if◌then◌else◌, bytes_eq}
 use Rattle.std.specs.Option.{option_map_or}
 use Rattle.std.specs.Ordering.{nat_cmp}
@@ -34,7 +34,7 @@ needs_masking w root = is_password w root && not (are_alike bytes_eq (flat_map s
 abbrev pub shown_character : Bool → List ℕ → List ℕ
 shown_character masked c = if masked then BULLET else c
 
--- Where the characters of a run stand along it, and how wide they are. Those of a password are told as if all were alike.
+-- The positions of a run's characters along it, and their widths. Those of a password are given as if all characters were the same.
 pub record Metrics : Type 0 where
   pub positions : List ℤ
   pub widths : List ℤ
@@ -53,14 +53,14 @@ pub record ShownRun : Type 0 where
   -- none in a password
   pub word_starts : List ℕ
   pub style : Style
-  -- a rectangle that all above it moves, and by how much: all, and all below the root
+  -- its rectangle before any translation, and its translation: by all ancestors, and by those below the root
   pub bounds : Option Rect
   pub move : WideTranslation
   pub move_in_root : WideTranslation
   pub metrics : Option Metrics
   pub direction : Option TextDirection
 
--- both lists, where both were sent
+-- both lists, if both were sent
 abbrev pub metrics_of : Bool → NodeData → Option Metrics
 metrics_of password d = option_and_then (λ ps. option_map (λ ws. record { positions = ps; widths = ws; are_alike = password }) d.character_widths) d.character_positions
 
@@ -103,7 +103,7 @@ total t = sum_by count t
 abbrev pub count_in : FlatText → ℕ → ℕ
 count_in t r = option_map_or count (slice_get t r) 0
 
--- how many characters stand before a run
+-- the number of characters before a run
 abbrev pub start_of : FlatText → ℕ → ℕ
 start_of t r = sum_by count (take r t)
 
@@ -140,7 +140,7 @@ document_end t = end_at t (length t - 1)
 abbrev pub same_position : Position → Position → Bool
 same_position p q = p.run == q.run && p.index == q.index
 
--- the position is said as this index in this run
+-- the position is this index in this run
 abbrev pub IsSaidAs : FlatText → Position → FullNodeId → ℕ → Type 0
 IsSaidAs t p run index = (option_map (λ r. r.id) (slice_get t p.run) ≡ Some run) × (index ≡ p.index)
 
@@ -166,11 +166,11 @@ run_has test t r = option_map_or test (slice_get t r) false
 
 -- ---- the two sides of an offset
 
--- at the end of a run: the start of the next one, where there is one
+-- at the end of a run: the start of the next one, if there is one
 abbrev pub biased_to_start : FlatText → Position → Position
 biased_to_start t p = if p.index == count_in t p.run && nat_lt (p.run + 1) (length t) then start_at (p.run + 1) else p
 
--- at the start of a run: the end of the one before it, where there is one
+-- at the start of a run: the end of the one before it, if there is one
 abbrev pub biased_to_end : FlatText → Position → Position
 biased_to_end t p = if p.index == 0 && nat_lt 0 p.run then end_at t (p.run - 1) else p
 

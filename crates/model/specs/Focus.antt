@@ -1,4 +1,4 @@
--- Where the keyboard focus is in a world.
+-- The keyboard focus in a world.
 use Rattle.std.specs.Prelude.{◌≡◌, ◌≢◌, ℕ, Option, Some, None, true, false, ◌⊎◌}
 use Rattle.std.specs.FinMap.{get}
 use Rattle.schema.specs.NodeData.{NodeData}
@@ -7,7 +7,7 @@ use Rattle.schema.specs.declared.Role.TheVariants.{AlertDialog, Dialog}
 use Rattle.model.specs.declared.FullNodeId.{FullNodeId}
 use Rattle.model.specs.World.{World, Tree, IsNode, HasData, in_tree, graft_name, focus_named, StandsAt, Reached, Kept}
 
--- from a graft that a kept tree reaches, the focus goes on to the declared focus of the tree that it names, where that is present
+-- from a reached graft of a kept tree, the focus goes on to the declared focus of the tree that it names, if that tree is present
 pub record GoesOn (w : World) (graft id : FullNodeId) : Type 0 where
   pub kept : Kept w graft.tree
   pub reached : Reached w graft
@@ -24,22 +24,22 @@ pub data OnChain (w : World) : FullNodeId → Type 0 where
 abbrev pub IsEffectiveFocus : World → FullNodeId → Type 0
 IsEffectiveFocus w id = OnChain w id × (d : NodeData) × HasData w id d × (d.tree_id ≡ None)
 
--- what `focus_id` answers: None unless the host is focused
+-- the result of `focus_id`: None unless the host is focused
 abbrev pub IsFocusId : World → Option FullNodeId → Type 0
 IsFocusId w None = w.host_focused ≡ false
 IsFocusId w (Some id) = (w.host_focused ≡ true) × IsEffectiveFocus w id
 
--- the node's active descendant names a node of its tree that is there
+-- the node's active descendant is an existing node of its tree
 abbrev pub Resolves : World → FullNodeId → FullNodeId → Type 0
 Resolves w id active = (d : NodeData) × HasData w id d × (d.active_descendant ≡ Some active.node) × (active.tree ≡ id.tree) × IsNode w active
 
--- what `focus` answers: None unless the host is focused
+-- the result of `focus`: None unless the host is focused
 abbrev pub IsFocus : World → Option FullNodeId → Type 0
 IsFocus w None = w.host_focused ≡ false
 IsFocus w (Some id) =
     (w.host_focused ≡ true) × (e : FullNodeId) × IsEffectiveFocus w e × (Resolves w e id ⊎ ((id ≡ e) × ((a : FullNodeId) → ¬ (Resolves w e a))))
 
--- whether a view says of itself that it is focused; one that names itself as its active descendant doesn't
+-- `is_focused` holds of the node; it doesn't hold of one that names itself as its active descendant
 abbrev pub IsFocusedNode : World → FullNodeId → Type 0
 IsFocusedNode w id =
     (w.host_focused ≡ true) × (e : FullNodeId) × IsEffectiveFocus w e × (((id ≡ e) × ((a : FullNodeId) → ¬ (Resolves w e a))) ⊎ ((id ≢ e) × Resolves w e id))
@@ -52,7 +52,7 @@ pub data IsNearestDialog (w : World) (dialog : FullNodeId) : FullNodeId → Type
   itself : IsDialog w dialog → IsNearestDialog w dialog dialog
   above : (id parent : FullNodeId) (index : ℕ) → ¬ (IsDialog w id) → StandsAt w (parent, index) id → IsNearestDialog w dialog parent → IsNearestDialog w dialog id
 
--- what `active_dialog` answers: the nearest dialog to the focus
+-- the result of `active_dialog`: the nearest dialog to the focus
 abbrev pub IsActiveDialog : World → Option FullNodeId → Type 0
 IsActiveDialog w (Some dialog) = (focus : FullNodeId) × IsFocus w (Some focus) × IsNearestDialog w dialog focus
 IsActiveDialog w None = (focus dialog : FullNodeId) → IsFocus w (Some focus) → ¬ (IsNearestDialog w dialog focus)

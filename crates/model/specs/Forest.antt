@@ -1,4 +1,4 @@
--- Where each node stands in a world, and the forest below it and the places above it, across grafts.
+-- The place of each node in a world, the forest below it and the places above it, across grafts.
 use Rattle.std.specs.Prelude.{◌≡◌, ℕ, Bool, List, [], ◌∷◌, suc, zero, Option, Some, None, option_map, position}
 use Rattle.std.specs.Option.{option_or}
 use Rattle.std.specs.Ordering.{eq_by_cmp}
@@ -7,7 +7,7 @@ use Rattle.model.specs.declared.FullNodeId.{FullNodeId}
 use Rattle.model.specs.FullIds.{full_cmp}
 use Rattle.model.specs.World.{World, children, Place, StandsAt}
 
--- whether two ids are one
+-- whether two ids are equal
 abbrev pub is_same : FullNodeId → FullNodeId → Bool
 is_same a b = eq_by_cmp full_cmp a b
 
@@ -53,7 +53,7 @@ places_up w (suc n) id = chain (places_up w n) (place_of w id)
 unfoldable pub above : World → FullNodeId → List Place
 above w id = places_up w (len w.nodes) id
 
--- no node stands at two places, and none is above itself
+-- no node has two places, and none is above itself
 pub record IsFormed (w : World) : Type 0 where
   pub placed : (p : Place) (c : FullNodeId) → StandsAt w p c → place_of w c ≡ Some p
   pub rooted : (c : FullNodeId) → above w c ≡ chain (above w) (place_of w c)

@@ -6,7 +6,7 @@ use Rattle.model.specs.declared.filters.FilterResult.TheVariants.{Include, Exclu
 use Rattle.model.specs.World.{World, Place}
 use Rattle.model.specs.Forest.{Forest, empty, tree, below, above}
 
--- what stands in a frontier for a node that is answered so, where inner is the frontier of what is below it
+-- what replaces a node with this answer in a frontier, if inner is the frontier of what is below it
 abbrev pub shown_part : FilterResult → FullNodeId → List FullNodeId → List FullNodeId
 shown_part Include c inner = c ∷ []
 shown_part ExcludeNode c inner = inner
@@ -20,7 +20,7 @@ frontier f (tree c inner rest) = shown_part (f c) c (frontier f inner) ++ fronti
 abbrev pub filtered_children : (FullNodeId → FilterResult) → World → FullNodeId → List FullNodeId
 filtered_children f w id = frontier f (below w id)
 
--- these places lead up to top, and each node that they pass on the way is left out alone
+-- these places lead up to top, and each node that they pass on the way is excluded alone
 abbrev pub LeadsUpTo : (FullNodeId → FilterResult) → FullNodeId → List Place → Type 0
 LeadsUpTo f top [] = ⊥
 LeadsUpTo f top (p ∷ up) = (p.0 ≡ top) ⊎ ((f p.0 ≡ ExcludeNode) × LeadsUpTo f top up)

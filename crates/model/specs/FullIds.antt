@@ -28,7 +28,7 @@ full_number id = id.node.0 * 2 ^ 64 + id.tree
 abbrev pub coded_full : Coded FullNodeId
 coded_full = code_by (ℕ × ℕ) (coded× coded_ℕ coded_ℕ) (λ a. (a.tree, a.node.0)) (λ p. record { tree = p.0; node = record { 0 = p.1 } }) (λ _. refl)
 
--- ids that compare alike are one
+-- ids that compare as equal are equal
 pub exact_full : CmpEqualImpliesEq full_cmp
 exact_full a b h =
     ap (λ (p : ℕ × ℕ). let n : NodeId = record { 0 = p.1 } in let f : FullNodeId = record { tree = p.0; node = n } in f)

@@ -1,4 +1,4 @@
--- Where nodes lie: sums of translations, boxes, and what is hit at a point.
+-- Geometry: sums of translations, boxes, and hits at a point.
 use Rattle.std.specs.Prelude.{ℤ, pos, ◌+ℤ◌, ◌-ℤ◌, int_lt, int_le, List, [], ◌∷◌, ◌++◌, take_while, filter, Bool, false, not, cond, ◌&&◌, Option, None, unwrap_or}
 use Rattle.std.specs.Option.{option_map, option_map_or}
 use Rattle.std.specs.Int.{int_min, int_max}
@@ -15,19 +15,19 @@ use Rattle.model.specs.Forest.{Forest, empty, tree, below, is_same}
 use Rattle.model.specs.Upward.{field_at, upward}
 use Rattle.model.specs.Covers.{is_included, is_cut_off}
 
--- by how much a node moves itself and what is below it
+-- by how much a node shifts itself and its subtree
 abbrev pub direct_transform : World → FullNodeId → Translation
 direct_transform w id = unwrap_or (field_at (λ d. d.transform) w id) (record { x = pos 0; y = pos 0 })
 
 abbrev pub no_move : WideTranslation
 no_move = record { x = pos 0; y = pos 0 }
 
--- by how much these nodes move together
+-- the sum of these nodes' translations
 abbrev pub sum_of_moves : World → List FullNodeId → WideTranslation
 sum_of_moves w [] = no_move
 sum_of_moves w (id ∷ ids) = record { x = (direct_transform w id).x +ℤ (sum_of_moves w ids).x; y = (direct_transform w id).y +ℤ (sum_of_moves w ids).y }
 
--- the node and its ancestors move it by this much
+-- the sum of the translations of the node and its ancestors
 abbrev pub transform : World → FullNodeId → WideTranslation
 transform w id = sum_of_moves w (upward w id)
 
@@ -35,7 +35,7 @@ transform w id = sum_of_moves w (upward w id)
 abbrev pub below_top : World → FullNodeId → FullNodeId → List FullNodeId
 below_top w top id = take_while (λ a. not (is_same top a)) (upward w id)
 
--- so much of the node's move is its own and theirs
+-- the part of the node's translation that is its own and theirs
 abbrev pub transform_within : World → FullNodeId → FullNodeId → WideTranslation
 transform_within w top id = sum_of_moves w (below_top w top id)
 
@@ -46,28 +46,28 @@ whole_rect r = record { x0 = r.x0; y0 = r.y0; x1 = r.x1; y1 = r.y1 }
 abbrev pub moved_rect : WideRect → WideTranslation → WideRect
 moved_rect r by = record { x0 = r.x0 +ℤ by.x; y0 = r.y0 +ℤ by.y; x1 = r.x1 +ℤ by.x; y1 = r.y1 +ℤ by.y }
 
--- on each axis from the lesser to the greater
+-- on each axis from the lower to the higher
 abbrev pub ordered_rect : WideRect → WideRect
 ordered_rect r = record { x0 = int_min r.x0 r.x1; y0 = int_min r.y0 r.y1; x1 = int_max r.x0 r.x1; y1 = int_max r.y0 r.y1 }
 
--- the rectangle that the node was sent with, moved by the whole sum
+-- the rectangle that the node was sent with, shifted by the whole sum
 abbrev pub bounding_box : World → FullNodeId → Option WideRect
 bounding_box w id = option_map (λ r. ordered_rect (moved_rect (whole_rect r) (transform w id))) (field_at (λ d. d.bounds) w id)
 
--- two boxes share a part: on both axes the greater start is below the lesser end
+-- two boxes overlap: on both axes the higher start is below the lower end
 abbrev pub meets : WideRect → WideRect → Bool
 meets a b = int_lt (int_max a.x0 b.x0) (int_min a.x1 b.x1) && int_lt (int_max a.y0 b.y0) (int_min a.y1 b.y1)
 
--- a point, however far it was moved
+-- a point, in wide numbers
 pub record WidePoint : Type 0 where
   pub x : ℤ
   pub y : ℤ
 
--- the point, as seen from what was moved
+-- the point in the coordinates of something shifted
 abbrev pub seen_from : WideTranslation → Point → WidePoint
 seen_from by p = record { x = p.x -ℤ by.x; y = p.y -ℤ by.y }
 
--- the number is in a span, whose end isn't
+-- the number is in a span, from its start to before its end
 abbrev pub is_between : ℤ → ℤ → ℤ → Bool
 is_between low high z = int_le low z && int_lt z high
 
@@ -84,7 +84,7 @@ uncut f (tree c inner rest) = cond (is_cut_off (f c)) [] (c ∷ uncut f inner) +
 abbrev pub uncut_preorder : (FullNodeId → FilterResult) → World → FullNodeId → List FullNodeId
 uncut_preorder f w top = cond (is_cut_off (f top)) [] (top ∷ uncut f (below w top))
 
--- the node's own rectangle contains the point, which is given as top sees it
+-- the node's own rectangle contains the point, which is given in the coordinates of top
 abbrev pub is_at_point : World → FullNodeId → Point → FullNodeId → Bool
 is_at_point w top p id = option_map_or (λ r. contains_point r (seen_from (transform_within w top id) p)) (field_at (λ d. d.bounds) w id) false
 

@@ -9,7 +9,7 @@ use Rattle.model.specs.contracts.FullNodeIdOrd.TheImpl as ord
 use Rattle.model.specs.contracts.FullNodeIdPartialEq.TheImpl as eq
 use Rattle.model.specs.contracts.FullNodeIdHash.TheImpl as hash
 
--- `cmp` of two ids goes by tree, and then by node
+-- `cmp` compares two ids by tree, and then by node
 abbrev pub OrderIsByTreeThenNode : Type 0
 OrderIsByTreeThenNode = (a b : FullNodeId) → ord.ghosts.cmp a b ≡ full_cmp a b
 
@@ -24,6 +24,6 @@ EqualIdsAreOne = (a b : FullNodeId) → ((full_cmp a b ≡ Equal) ↔ (a ≡ b))
 abbrev pub HashIsOfTreeAndNode : Type 0
 HashIsOfTreeAndNode = (a : FullNodeId) → hash.ghosts.hash_input a ≡ u32 a.tree ++ u64 a.node.0
 
--- what `==` finds equal feeds a hasher alike
+-- ids that are equal by `==` feed a hasher alike
 abbrev pub EqualIdsHashAlike : Type 0
 EqualIdsHashAlike = (a b : FullNodeId) → eq.ghosts.eq a b ≡ true → hash.ghosts.hash_input a ≡ hash.ghosts.hash_input b

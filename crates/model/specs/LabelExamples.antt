@@ -22,7 +22,7 @@ abbrev pub mail : List (FullNodeId × NodeData)
 mail = (at 0 0, parent Window (1 ∷ 2 ∷ 3 ∷ 4 ∷ [])) ∷ (at 0 1, record (parent CheckBox []) { labelled_by = ids (2 ∷ 4 ∷ []) }) ∷ (at 0 2, with_value (codes "Check email every") (parent Label []))
     ∷ (at 0 3, record (parent TextInput []) { labelled_by = ids (4 ∷ []) }) ∷ (at 0 4, with_value (codes "minutes") (parent Label [])) ∷ []
 
--- a check box labelled by an empty label, one without a value, one with a value, and a node that isn't there
+-- a check box labelled by an empty label, one without a value, one with a value, and a node that doesn't exist
 abbrev pub gaps : List (FullNodeId × NodeData)
 gaps = (at 0 0, record (parent CheckBox (1 ∷ 2 ∷ 3 ∷ [])) { labelled_by = ids (1 ∷ 2 ∷ 9 ∷ 3 ∷ []) }) ∷ (at 0 1, with_value [] (parent Label [])) ∷ (at 0 2, parent Label []) ∷ (at 0 3, with_value (codes "x") (parent Label [])) ∷ []
 

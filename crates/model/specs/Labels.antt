@@ -1,4 +1,4 @@
--- The label that a view answers for a node: its own, or what other nodes give.
+-- The label of a node: its own, or one made from other nodes.
 use Rattle.std.specs.Prelude.{ℕ, List, [], ◌∷◌, length, Bool, cond, ◌==◌, ◌&&◌, ◌||◌, Option, Some, None, is_some, filter_map}
 use Rattle.std.specs.Option.{option_or, option_map_or}
 use Rattle.std.specs.List.{list_any, join_with_byte}
@@ -15,7 +15,7 @@ use Rattle.model.specs.Upward.{field_at, says}
 use Rattle.model.specs.Views.{ids_in_field}
 use Rattle.model.specs.Values.{value_of}
 
--- labels and pictures are taken, and looked for in containers alone
+-- labels and images are included, and looked for in containers alone
 abbrev pub label_answer : Role → FilterResult
 label_answer Label = Include
 label_answer Image = Include
@@ -35,11 +35,11 @@ labelled_by w id = option_map_or (λ d. cond (looks_within d) (filtered_children
 abbrev pub own_label : World → FullNodeId → Option (List ℕ)
 own_label w id = field_at (λ d. d.label) w id
 
--- what a node gives to another one's label: a label node its value, another one its own label
+-- a node's part of another one's label: a label node its value, another one its own label
 abbrev pub label_part : World → FullNodeId → Option (List ℕ)
 label_part w id = cond (says (λ d. is_label d.role) w id) (value_of w id) (own_label w id)
 
--- the parts with one space between each two, empty ones too; none, where there is no part
+-- the parts joined by spaces, empty ones too; none if there is no part
 abbrev pub joined_text : List (List ℕ) → Option (List ℕ)
 joined_text [] = None
 joined_text (t ∷ ts) = Some (join_with_byte 32 (t ∷ ts))
@@ -47,6 +47,6 @@ joined_text (t ∷ ts) = Some (join_with_byte 32 (t ∷ ts))
 unfoldable pub label_of : World → FullNodeId → Option (List ℕ)
 label_of w id = option_or (own_label w id) (joined_text (filter_map (label_part w) (labelled_by w id)))
 
--- the own label is given, or a node that labels this one gives a part
+-- the own label is set, or a node that labels this one has a part
 abbrev pub has_label : World → FullNodeId → Bool
 has_label w id = is_some (own_label w id) || list_any (λ m. is_some (label_part w m)) (labelled_by w id)

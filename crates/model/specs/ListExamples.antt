@@ -37,11 +37,11 @@ pictured = record {
   host_focused = true;
 }
 
--- leaves out the (graft (name 1)) and the document alone, and the last paragraph with its subtree
+-- excludes the (graft (name 1)) and the document alone, and the last paragraph with its subtree
 abbrev pub some_nodes : FullNodeId → FilterResult
 some_nodes id = cond (is_same id (at 0 2)) ExcludeNode (cond (is_same id (at 1 0)) ExcludeNode (cond (is_same id (at 1 2)) ExcludeSubtree Include))
 
--- leaves out the (graft (name 1)) alone, and the document with its subtree
+-- excludes the (graft (name 1)) alone, and the document with its subtree
 abbrev pub no_document : FullNodeId → FilterResult
 no_document id = cond (is_same id (at 0 2)) ExcludeNode (cond (is_same id (at 1 0)) ExcludeSubtree Include)
 

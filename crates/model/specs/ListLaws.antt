@@ -10,11 +10,11 @@ use Rattle.model.specs.Lists.{preorder, IsWithin, following_siblings, preceding_
 use Rattle.model.specs.Paths.{depth, index_path, relative_index_path, IsBefore}
 use Rattle.model.specs.Frontier.{shown_part, filtered_children, IsShown}
 
--- in a state no node stands at two places, and the way up from each ends
+-- in a state no node has two places, and the way up from each ends
 abbrev pub StatesAreFormed : Type 0
 StatesAreFormed = (w : World) → IsState w → IsFormed w
 
--- the place of a node is the one at which it stands
+-- `place_of` gives the place of a node
 abbrev pub PlaceIsWhereItStands : Type 0
 PlaceIsWhereItStands = (w : World) → IsFormed w → (id : FullNodeId) (p : Place) → (place_of w id ≡ Some p) ↔ StandsAt w p id
 
@@ -50,7 +50,7 @@ RootPreorderCountsNodes = (w : World) → IsState w → (top : FullNodeId) → r
 abbrev pub PreorderIsPathOrder : Type 0
 PreorderIsPathOrder = (w : World) → IsFormed w → (top : FullNodeId) → AllPairs (λ a b. IsBefore (index_path w a) (index_path w b)) (preorder w top)
 
--- two nodes of a state with one index path are one
+-- two nodes of a state with the same index path are the same
 abbrev pub PathTellsNodes : Type 0
 PathTellsNodes = (w : World) → IsState w → (a b : FullNodeId) → IsNode w a → IsNode w b → index_path w a ≡ index_path w b → a ≡ b
 
@@ -74,21 +74,21 @@ SiblingsAreAround = (w : World) → IsFormed w → (p : Place) (id : FullNodeId)
 abbrev pub RootsHaveNoSiblings : Type 0
 RootsHaveNoSiblings = (w : World) → IsState w → (index : ℕ) (id : FullNodeId) → root_of w index ≡ Some id → (preceding_siblings w id ≡ []) × (following_siblings w id ≡ [])
 
--- the deepest first child is that of the first child, or the first child where it has none; and likewise the last
+-- the deepest first child is that of the first child, or the first child itself if it has none; likewise for the last
 abbrev pub DeepestIsOfChild : Type 0
 DeepestIsOfChild =
     (w : World) → IsFormed w → (id : FullNodeId) → (deepest_first_child w id ≡ option_map (λ c. unwrap_or (deepest_first_child w c) c) (first_child w id))
     × (deepest_last_child w id ≡ option_map (λ c. unwrap_or (deepest_last_child w c) c) (last_child w id))
 
--- over a node's children in order: one that is included stands for itself, one that is left out for what is shown of its own children, one that is left out with its subtree for nothing
+-- over a node's children in order: an included one is itself, one that is excluded alone is replaced by what is shown of its own children, one that is excluded with its subtree by nothing
 abbrev pub FrontierIsOfChildren : Type 0
 FrontierIsOfChildren =
     (f : FullNodeId → FilterResult) (w : World) → IsFormed w → (id : FullNodeId) → filtered_children f w id ≡ flat_map (λ c. shown_part (f c) c (filtered_children f w c)) (children w id)
 
--- the filtered children are the nodes that are included with no node between that is included or left out with its subtree
+-- the filtered children are the nodes that are included with only nodes between that are excluded alone
 abbrev pub FrontierIsAllShown : Type 0
 FrontierIsAllShown = (f : FullNodeId → FilterResult) (w : World) → IsFormed w → (top id : FullNodeId) → Contains (filtered_children f w top) id ↔ IsShown f w top id
 
--- they stand in the order of their index paths
+-- they are in the order of their index paths
 abbrev pub FrontierIsPathOrder : Type 0
 FrontierIsPathOrder = (f : FullNodeId → FilterResult) (w : World) → IsFormed w → (top : FullNodeId) → AllPairs (λ a b. IsBefore (index_path w a) (index_path w b)) (filtered_children f w top)

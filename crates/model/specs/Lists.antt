@@ -1,4 +1,4 @@
--- The lists of a tree, read off the forest below a node and the places above it.
+-- The lists of a tree, from the forest below a node and the places above it.
 use Rattle.std.specs.Prelude.{◌+◌, ◌-◌, List, [], ◌∷◌, ◌++◌, length, map, reverse, take, drop, slice_get, Option, Some, None, unwrap_or, Contains, ◌≡◌, ◌⊎◌}
 use Rattle.std.specs.Option.{option_or, option_map_or}
 use Rattle.model.specs.declared.FullNodeId.{FullNodeId}

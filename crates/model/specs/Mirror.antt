@@ -1,4 +1,4 @@
--- The records that a handler can keep of a world, by what the views of the nodes that it is told of show.
+-- The records that a handler can keep of a world, from the views in its events.
 use Rattle.std.specs.Prelude.{◌≡◌, Option, Some, None, IfSome, IsSomeAnd}
 use Rattle.std.specs.Option.{option_map}
 use Rattle.std.specs.FinMap.{FinMap, get, insert, remove}
@@ -32,7 +32,7 @@ pub record AreRecordsOf (w : World) (r : Records) : Type 0 where
   pub nodes : (id : FullNodeId) → IsRecordOf w id (get r.nodes id)
   pub focus : IsFocus w r.focus
 
--- the record of a node, made anew by what its view shows
+-- the record of a node is replaced by what its view shows
 abbrev pub Notes : Records → Seen → Records → Type 0
 Notes r new s = (m : Mirrored) × Shows new.world new.id m × (s ≡ record r { nodes = insert r.nodes new.id m })
 
@@ -43,6 +43,6 @@ Mirrors r (NodeUpdated old new) s = Notes r new s
 Mirrors r (FocusMoved old new) s = s ≡ record r { focus = option_map (λ n. n.id) new }
 Mirrors r (NodeRemoved old) s = s ≡ record r { nodes = remove r.nodes old.id }
 
--- The same of a mirror that may find no memory: what it keeps follows each event, and once it keeps nothing it never does again.
+-- The same with failing allocations: what it keeps follows each event, and once it keeps nothing it never keeps anything again.
 abbrev pub MirrorsWhileKept : Option Records → Event → Option Records → Type 0
 MirrorsWhileKept before e after = IfSome after (λ s. IsSomeAnd before (λ r. Mirrors r e s))

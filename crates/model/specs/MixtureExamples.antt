@@ -6,7 +6,7 @@ use Rattle.model.specs.Mixtures.{front, back, Call, AreCalls, AreTaken}
 abbrev pub three : List ℕ
 three = 1 ∷ 2 ∷ 3 ∷ []
 
--- the ends meet at 2, and after that both answer `None`
+-- the ends meet at 2, and after that both return `None`
 abbrev pub calls_on_three : List (Call ℕ)
 calls_on_three = (front, Some 1) ∷ (back, Some 3) ∷ (back, Some 2) ∷ (front, None) ∷ (back, None) ∷ []
 

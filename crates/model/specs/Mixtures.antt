@@ -7,11 +7,11 @@ pub data End : Type 0 where
   front : End
   back : End
 
--- a call at an end, and its answer
+-- a call at an end, and its result
 abbrev pub Call : Type 0 → Type 0
 Call A = End × Option A
 
--- what a call gave at this end
+-- the item of a call at this end
 abbrev pub given_at : {A : Type 0} → End → Call A → Option A
 given_at front (front, answer) = answer
 given_at front (back, answer) = None
@@ -23,7 +23,7 @@ abbrev pub items_from : {A : Type 0} → End → List (Call A) → List A
 items_from end calls = filter_map (given_at end) calls
 
 -- The calls took all of the list but what is left: what came from the front, what is left, and what came from the back
--- reversed are the list. A call that answered `None` left nothing, and each later one answered `None` too.
+-- reversed are the list. A call that returned `None` left nothing, and each later one returned `None` too.
 pub record AreTaken {A : Type 0} (list : List A) (calls : List (Call A)) (left : List A) : Type 0 where
   pub all : items_from front calls ++ left ++ reverse (items_from back calls) ≡ list
   pub ends : (end : End) → Contains calls (end, None) → left ≡ []

@@ -1,4 +1,4 @@
--- Where the moves of a position lead, and the indexes of positions: the nearest mark, or else an end of the document.
+-- Where movements end, and the indexes of positions: the nearest mark, or else an end of the document.
 use Rattle.std.specs.Prelude.{ℕ, ◌+◌, ◌-◌, ◌==◌, nat_lt, nat_le, Bool, false, ◌&&◌, not, List, length, take, reverse, slice_get, sum_by, count_by, find, Option, Some, None, unwrap_or, option_map, if◌then◌else◌, chars}
 use Rattle.std.specs.Option.{option_map_or, option_or}
 use Rattle.std.specs.List.{range_with_len}
@@ -94,7 +94,7 @@ backward_to_page_start t p = document_start
 abbrev pub scalar_len : List ℕ → ℕ
 scalar_len c = length (chars c)
 
--- how many units of UTF-16 it has: two for each scalar past the first 2^16
+-- how many UTF-16 code units it has: two for each scalar past the first 2^16
 abbrev pub utf16_len : List ℕ → ℕ
 utf16_len c = sum_by (λ s. if nat_lt s 0x1_0000 then 1 else 2) (chars c)
 
@@ -111,11 +111,11 @@ to_global_usv_index t p = global_index scalar_len t p
 abbrev pub to_global_utf16_index : FlatText → Position → ℕ
 to_global_utf16_index t p = global_index utf16_len t p
 
--- the character that holds an index: the first that ends past it
+-- the character that contains an index: the first that ends past it
 abbrev pub holder_of : (List ℕ → ℕ) → FlatText → ℕ → Option ℕ
 holder_of len t g = find (λ o. nat_lt g (length_before len t (o + 1))) (range_with_len 0 (total t))
 
--- before the character that holds the index; at the document's end if that has it
+-- before the character that contains the index; at the document's end if that has it
 abbrev pub position_of : (List ℕ → ℕ) → FlatText → ℕ → Option Position
 position_of len t g = option_or (option_map (start_side t) (holder_of len t g)) (if g == length_before len t (total t) then Some (document_end t) else None)
 

@@ -1,4 +1,4 @@
--- What is left of a world where the values of its nodes and the lengths of their characters aren't looked at.
+-- A world without the values of its nodes and the lengths of their characters.
 use Rattle.std.specs.Prelude.{◌≡◌, ◌↔◌, [], map, None}
 use Rattle.std.specs.FinMap.{entries, from_sorted}
 use Rattle.schema.specs.NodeData.{NodeData}

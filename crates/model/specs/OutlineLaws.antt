@@ -1,4 +1,4 @@
--- What reads the outline of a world alone: no value of a node, and no length of a character.
+-- What depends on the outline of a world alone: on no value of a node, and no length of a character.
 use Rattle.schema.specs.declared.NodeId.{NodeId}
 use Rattle.schema.specs.declared.TreeId.{TreeId}
 use Rattle.schema.specs.declared.geometry.Point.{Point}
@@ -18,7 +18,7 @@ use Rattle.model.specs.TextRuns.{run_ids}
 use Rattle.model.specs.Queries.{node_named}
 use Rattle.model.specs.Outline.{ReadsOutline, HoldsByOutline}
 
--- what is reached and kept, where the focus goes, and which faults of an update stand
+-- reached nodes, kept trees, the chain of the focus, and the rules that an update breaks
 pub record OutlineRules : Type 0 where
   pub reached : HoldsByOutline Reached
   pub kept : HoldsByOutline Kept

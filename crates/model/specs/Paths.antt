@@ -15,10 +15,10 @@ depth w id = length (above w id)
 abbrev pub index_path : World → FullNodeId → List ℕ
 index_path w id = reverse (map (λ p. p.1) (above w id))
 
--- what is left of a node's path past that of a node that it is within
+-- the rest of a node's path after that of a node that it is within
 abbrev pub relative_index_path : World → FullNodeId → FullNodeId → List ℕ
 relative_index_path w top id = drop (depth w top) (index_path w id)
 
--- in the lexicographic order: at the first index that differs the first path has the lesser, or it ends there
+-- in the lexicographic order: at the first index that differs the first path has the lower one, or it ends there
 abbrev pub IsBefore : List ℕ → List ℕ → Type 0
 IsBefore p q = slice_cmp nat_cmp p q ≡ Less

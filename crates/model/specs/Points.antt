@@ -11,7 +11,7 @@ use Rattle.model.specs.FlatText.{FlatText, ShownRun, Metrics, count, Position, e
 use Rattle.model.specs.Geometry.{WidePoint, seen_from, is_between, contains_point, whole_rect, moved_rect, ordered_rect}
 use Rattle.model.specs.Ranges.{width, place}
 
--- the point is in the run's own rectangle, which is moved along with the run
+-- the point is in the run's own rectangle, shifted as the run is
 abbrev pub is_in_run : Point → ShownRun → Bool
 is_in_run point s = option_map_or (λ b. contains_point b (seen_from s.move_in_root point)) s.bounds false
 
@@ -22,18 +22,18 @@ distance RightToLeft b p = b.x1 -ℤ p.x
 distance TopToBottom b p = p.y -ℤ b.y0
 distance BottomToTop b p = b.y1 -ℤ p.y
 
--- the last character that lies there, of those whose place and width were told
+-- the last character that lies there, of those whose position and width are known
 abbrev pub character_at : Metrics → ℤ → Option ℕ
 character_at m d = find (λ k. is_between (place m k) (place m k +ℤ width m k) d) (reverse (range_with_len 0 (min (length m.positions) (length m.widths))))
 
--- the index at a point in a run: 0 where nothing is told of its characters, and the end where none of them lies there
+-- the index at a point in a run: 0 if it has no metrics, and the end if no character lies there
 abbrev pub index_at : Point → ShownRun → ℕ
 index_at point s =
     unwrap_or
     (option_and_then (λ b. option_and_then (λ m. option_map (λ d. unwrap_or (character_at m (distance d b (seen_from s.move_in_root point))) (count s)) s.direction) s.metrics) s.bounds)
     0
 
--- the run's rectangle in the root
+-- the run's rectangle in the root's coordinates
 abbrev pub box_in_root : ShownRun → Option WideRect
 box_in_root s = option_map (λ b. ordered_rect (moved_rect (whole_rect b) s.move_in_root)) s.bounds
 
@@ -51,7 +51,7 @@ is_past_box point BottomToTop b = is_between b.x0 b.x1 point.x && int_lt point.y
 abbrev pub is_past : Point → ShownRun → Bool
 is_past point s = option_map_or (λ b. option_map_or (λ d. is_past_box point d b) s.direction false) (box_in_root s) false
 
--- in the last run that has the point; ahead of the first run the document's start; past a run the end of the last such one; else the document's end
+-- in the last run that contains the point; left of or above the first run the document's start; past a run the end of the last such one; otherwise the document's end
 unfoldable pub position_at_point : FlatText → Point → Position
 position_at_point t point =
     unwrap_or

@@ -1,4 +1,4 @@
--- What is answered to a query, by the definitions of lists, labels, values, hits, focus and texts.
+-- The answer to a query, by the definitions of lists, labels, values, hits, focus and texts.
 use Rattle.std.specs.Prelude.{ℕ, Bool, true, false, nat_lt, List, slice_get, Option, Some, None, is_some, option_map, option_and_then, if◌then◌else◌}
 use Rattle.std.specs.Option.{option_map_or}
 use Rattle.std.specs.Bool.{then_some}
@@ -30,17 +30,17 @@ use Rattle.model.specs.Ranges.{text_of, document_range, with_end}
 use Rattle.model.specs.Answers.{Answer}
 use Rattle.model.specs.Answers as answer
 
--- the node with this id in the tree of this name, where it is there
+-- the node with this id in the tree with this name, if it exists
 abbrev pub node_named : World → NodeId × TreeId → Option FullNodeId
 node_named w name = option_and_then (λ index. then_some (is_some (data_of w (in_tree index name.0))) (in_tree index name.0)) (index_of w name.1)
 
--- what is answered of a node that is named
+-- the answer about the node with this name
 abbrev pub of_node : World → NodeId × TreeId → (FullNodeId → Answer) → Answer
 of_node w name answer_at = option_map_or answer_at (node_named w name) answer.NoNode
 
 -- ---- positions
 
--- the position on this side of the place where it is
+-- the position on this side of its place
 abbrev pub on_side : FlatText → Side → Position → Position
 on_side t Start p = p
 on_side t End p = biased_to_end t p
@@ -53,7 +53,7 @@ position_at t at = option_map (on_side t at.side) (moves.position_from_usv t at.
 abbrev pub raw_of : FlatText → Position → Option TextPosition
 raw_of t p = option_map (λ s. record { node = s.id.node; character_index = p.index }) (slice_get t p.run)
 
--- where a move leads; a move by a character needs one
+-- where a movement ends; a movement by a character needs one
 abbrev pub moved : FlatText → Position → Move → Option Position
 moved t p move.ForwardToCharacterStart = if nat_lt (offset t p) (total t) then Some (moves.forward_to_character_start t p) else None
 moved t p move.ForwardToCharacterEnd = if nat_lt (offset t p) (total t) then Some (moves.forward_to_character_end t p) else None
@@ -76,7 +76,7 @@ moved t p move.DocumentEnd = Some (document_end t)
 moved t p move.BackwardToPageStart = Some (moves.backward_to_page_start t p)
 moved t p move.DocumentStart = Some document_start
 
--- what is answered of the text of a node that is named
+-- the answer about the text of the node with this name
 abbrev pub of_text : World → NodeId × TreeId → (FlatText → Answer) → Answer
 of_text w name answer_in = of_node w name (λ id. if supports_text_ranges w id then answer_in (flat_text w id) else answer.NotText)
 
@@ -88,7 +88,7 @@ of_position t at answer_at = option_map_or answer_at (position_at t at) answer.N
 abbrev pub text_between : FlatText → Position → Position → List ℕ
 text_between t from to = text_of t (with_end t (record { start = from; end = from }) to)
 
--- the text of all its runs, where the node has a text
+-- the text of all its runs, if the node has a text
 abbrev pub text_in_runs : World → FullNodeId → Option (List ℕ)
 text_in_runs w id = if supports_text_ranges w id then Some (text_of (flat_text w id) (document_range (flat_text w id))) else None
 
@@ -116,7 +116,7 @@ answer_of w (query.RangeText name from to) =
 
 -- ---- memory
 
--- lists and texts take memory
+-- answers that are lists or texts allocate
 abbrev pub takes_memory : Query → Bool
 takes_memory (query.Children name) = true
 takes_memory (query.FollowingSiblings name) = true

@@ -12,11 +12,11 @@ use Rattle.model.specs.FlatText.{FlatText, Position, IsPosition}
 use Rattle.model.specs.Ranges.{IsRaw}
 use Rattle.model.specs.Queries.{node_named, raw_of}
 
--- the node that is named is the one whose id in its tree, and whose tree, are these
+-- the node with a name is the one with this id in its tree and this tree
 abbrev pub NamedNodeIsLocated : Type 0
 NamedNodeIsLocated = (w : World) (name : NodeId × TreeId) (id : FullNodeId) → IsState w → (node_named w name ≡ Some id) ↔ (local_id_of w id ≡ Some name)
 
--- the focus that is shown is the focus, and nothing else is
+-- `shown_focus` is the focus, and nothing else is
 abbrev pub ShownFocusIsFocus : Type 0
 ShownFocusIsFocus = (w : World) (focus : Option FullNodeId) → IsState w → IsFocus w focus ↔ (focus ≡ shown_focus w)
 

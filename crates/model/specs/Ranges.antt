@@ -19,7 +19,7 @@ pub record Range : Type 0 where
   pub start : Position
   pub end : Position
 
--- the range of two positions: the one of lesser offset is the start
+-- the range of two positions: the one with the lower offset is the start
 abbrev pub range_between : FlatText → Position → Position → Range
 range_between t p q = if nat_lt (offset t q) (offset t p) then record { start = q; end = p } else record { start = p; end = q }
 
@@ -29,11 +29,11 @@ document_range t = record { start = document_start; end = document_end t }
 abbrev pub is_degenerate : FlatText → Range → Bool
 is_degenerate t r = offset t r.start == offset t r.end
 
--- a range with something in it, with its start on the start side
+-- a range that isn't empty, with its start on the start side
 abbrev pub start_biased : FlatText → Range → Range
 start_biased t r = if is_degenerate t r then r else record r { start = biased_to_start t r.start }
 
--- the end goes along where the new start isn't below it, and likewise the start
+-- the end moves too if the new start isn't below it, and likewise the start
 abbrev pub with_start : FlatText → Range → Position → Range
 with_start t r p = start_biased t (record { start = p; end = if nat_lt (offset t p) (offset t r.end) then r.end else p })
 
@@ -42,7 +42,7 @@ with_end t r p = start_biased t (record { start = if nat_lt (offset t r.start) (
 
 -- ---- pieces
 
--- a part of one run: its characters from one index up to another
+-- a part of a run: its characters from one index to before another
 pub record Piece : Type 0 where
   pub run : ℕ
   pub from : ℕ
@@ -85,7 +85,7 @@ pub data Property (A : Type 0) : Type 0 where
   Single : (value : A) → Property A
   Mixed : Property A
 
--- what a range says of a property of its runs
+-- the value of a property of a range's runs
 abbrev pub IsPropertyOf : {A : Type 0} → (FullNodeId → A) → FlatText → Range → Property A → Type 0
 IsPropertyOf of t r (Single v) = All (λ run. of run ≡ v) (passed_runs t r)
 IsPropertyOf of t r Mixed = (run other : FullNodeId) × Contains (passed_runs t r) run × Contains (passed_runs t r) other × (of run ≢ of other)
@@ -100,7 +100,7 @@ number_at zs k = slice_index_or zs k (pos 0)
 abbrev pub width : Metrics → ℕ → ℤ
 width m k = number_at m.widths (if m.are_alike then 0 else k)
 
--- from one of several alike characters to the next: from the first to the second, if a second was told of, and else its width
+-- from one of several alike characters to the next: from the first to the second, if a second is known, and otherwise its width
 abbrev pub step : Metrics → ℤ
 step m = if nat_lt 1 (length m.positions) then number_at m.positions 1 -ℤ number_at m.positions 0 else number_at m.widths 0
 
@@ -115,29 +115,29 @@ reach_from m count i = if nat_lt i count then place m i else place m (i - 1) +�
 abbrev pub reach_to : Metrics → ℕ → Piece → ℤ
 reach_to m count p = if p.from == p.to then reach_from m count p.from else place m (p.to - 1) +ℤ width m (p.to - 1)
 
--- what lies from one reach to another along a rectangle
+-- the part of a rectangle between two distances along it
 abbrev pub cut_along : TextDirection → Rect → ℤ → ℤ → WideRect
 cut_along LeftToRight b from to = record { x0 = b.x0 +ℤ from; y0 = b.y0; x1 = b.x0 +ℤ to; y1 = b.y1 }
 cut_along RightToLeft b from to = record { x0 = b.x1 -ℤ to; y0 = b.y0; x1 = b.x1 -ℤ from; y1 = b.y1 }
 cut_along TopToBottom b from to = record { x0 = b.x0; y0 = b.y0 +ℤ from; x1 = b.x1; y1 = b.y0 +ℤ to }
 cut_along BottomToTop b from to = record { x0 = b.x0; y0 = b.y1 -ℤ to; x1 = b.x1; y1 = b.y1 -ℤ from }
 
--- the rectangle of a piece within its run: all of it where the piece is the whole run
+-- the rectangle of a piece within its run: all of it if the piece is the whole run
 abbrev pub piece_rect : Rect → Metrics → TextDirection → ℕ → Piece → WideRect
 piece_rect b m direction count p =
     if p.from == 0 && p.to == count then whole_rect b else cut_along direction b (reach_from m count p.from) (reach_to m count p)
 
--- where a piece is shown, where its run has bounds, metrics and a direction
+-- the box of a piece, if its run has bounds, metrics and a direction
 abbrev pub piece_box : FlatText → Piece → Option WideRect
 piece_box t p =
     option_and_then (λ s. option_and_then (λ b. option_and_then (λ m. option_map (λ d. ordered_rect (moved_rect (piece_rect b m d (length s.characters) p) s.move)) s.direction) s.metrics) s.bounds) (slice_get t p.run)
 
--- all of them, where all are there
+-- all of them, if all are known
 abbrev pub all_given : {A : Type 0} → List (Option A) → Option (List A)
 all_given [] = Some []
 all_given (o ∷ os) = option_and_then (λ x. option_map (λ xs. x ∷ xs) (all_given os)) o
 
--- one box a run, and none at all where one can't be told
+-- one box for each run, and none at all if one isn't known
 abbrev pub bounding_boxes : FlatText → Range → List WideRect
 bounding_boxes t r = unwrap_or (all_given (map (piece_box t) (pieces t r))) []
 
@@ -147,12 +147,12 @@ bounding_boxes t r = unwrap_or (all_given (map (piece_box t) (pieces t r))) []
 abbrev pub run_named : FlatText → TextPosition → Option ℕ
 run_named t raw = position (λ s. s.id.node.0 == raw.node.0) t
 
--- the position that is named, where it is there
+-- the position that is named, if it exists
 abbrev pub position_named : FlatText → TextPosition → Option Position
 position_named t raw =
     option_and_then (λ r. if nat_le raw.character_index (count_in t r) then Some (record { run = r; index = raw.character_index }) else None) (run_named t raw)
 
--- the same, with an index past the run's end cut to it
+-- the same, with an index past the run's end clamped to it
 abbrev pub nearest_named : FlatText → TextPosition → Option Position
 nearest_named t raw = option_map (λ r. record { run = r; index = min raw.character_index (count_in t r) }) (run_named t raw)
 
@@ -176,7 +176,7 @@ selection w root = option_and_then (λ p. option_map (range_between (flat_text w
 
 -- ---- ranges that outlive a state
 
--- what is kept of an end for comparing: the path from the root to its run, on its start side, and the index there
+-- the comparable form of an end: the path from the root to its run, on its start side, and the index there
 abbrev pub comparable : World → FullNodeId → Position → Option (List ℕ × ℕ)
 comparable w root p =
     let s = biased_to_start (flat_text w root) p in
@@ -197,7 +197,7 @@ pub record IsWeak (w : World) (root : FullNodeId) (r : Range) (weak : WeakRange)
   pub start_compares : comparable w root r.start ≡ Some weak.start_comparable
   pub end_compares : comparable w root r.end ≡ Some weak.end_comparable
 
--- the range again in a later world, where its root has a text and both ends are there
+-- the range again in a later world, if its root has a text and both ends exist
 abbrev pub upgraded_range : World → WeakRange → Option Range
 upgraded_range w weak =
     let t = flat_text w weak.root in

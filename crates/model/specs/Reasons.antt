@@ -1,4 +1,4 @@
--- Why each difference is told, and in which order.
+-- Why each difference is reported, and in which order.
 use Rattle.std.specs.Prelude.{◌≡◌, ◌≢◌, ℕ, ◌≤◌, Option, Some, ◌⊎◌}
 use Rattle.model.specs.declared.FullNodeId.{FullNodeId}
 use Rattle.model.specs.World.{World, data_of, IsNode}
@@ -6,7 +6,7 @@ use Rattle.model.specs.Forest.{place_of}
 use Rattle.model.specs.Focus.{IsFocus}
 use Rattle.model.specs.Differences.{PlanEvent, Added, Updated, FocusMoved, Removed}
 
--- the focus goes from the one to the other
+-- the focus moves from the one to the other
 abbrev pub FocusGoes : World → World → Option FullNodeId → Option FullNodeId → Type 0
 FocusGoes old new before after = IsFocus old before × IsFocus new after × (before ≢ after)
 

@@ -1,4 +1,4 @@
--- Updates that say what is there already.
+-- Updates that repeat what a world already has.
 use Rattle.std.specs.Prelude.{◌≡◌, ℕ, Contains, Some}
 use Rattle.std.specs.FinMap.{get}
 use Rattle.schema.specs.NodeData.{NodeData}
@@ -6,7 +6,7 @@ use Rattle.schema.specs.declared.NodeId.{NodeId}
 use Rattle.model.specs.World.{World, Tree, index_of, in_tree, HasData}
 use Rattle.model.specs.Update.{UpdateData, root_after, toolkit_after, named_at}
 
--- the update says of a present tree what the world has of it: nodes, each once, root, focus and texts
+-- the update repeats what the world has of a present tree: nodes, each once, root, focus and texts
 pub record Repeats (w : World) (u : UpdateData) : Type 0 where
   pub index : ℕ
   pub tree : Tree

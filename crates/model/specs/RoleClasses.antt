@@ -1,4 +1,4 @@
--- What roles are, as far as views ask.
+-- Classes of roles.
 use Rattle.std.specs.Prelude.{Bool, true, false, ◌||◌, Option, Some, None}
 use Rattle.schema.specs.declared.Role.{Role}
 use Rattle.schema.specs.declared.Role.TheVariants.{GenericContainer, TextRun, Label, Image, Document, Terminal, TextInput, MultilineTextInput, SearchInput, DateInput, DateTimeInput, WeekInput, MonthInput, TimeInput, EmailInput, NumberInput, PasswordInput, PhoneNumberInput, UrlInput, EditableComboBox, SpinButton, ListBox, TabList, AlertDialog, Dialog, ComboBox, DisclosureTriangle, TreeItem, Button, CheckBox, DefaultButton, Link, MenuItem, MenuItemCheckBox, MenuItemRadio, RadioButton, DocBackLink, DocBiblioRef, DocGlossRef, DocNoteRef, ColorWell, Grid, MenuListPopup, RadioGroup, Slider, Switch, TreeGrid, Article, Definition, DescriptionList, GraphicsDocument, List, ListItem, PdfRoot, ProgressIndicator, RootWebArea, Term, Timer, Toolbar, Tooltip, Comment, Tab, ListBoxOption, MenuListOption, ListGrid, Menu, MenuBar, Tree}
@@ -32,7 +32,7 @@ abbrev pub is_password_input : Role → Bool
 is_password_input PasswordInput = true
 is_password_input _ = false
 
--- it holds a text that is read and not filled in, beside labels
+-- it holds text that is read and not edited, besides labels
 abbrev pub is_document : Role → Bool
 is_document Document = true
 is_document Terminal = true
@@ -43,13 +43,13 @@ is_dialog AlertDialog = true
 is_dialog Dialog = true
 is_dialog _ = false
 
--- the common filter leaves it out alone
+-- the common filter excludes it alone
 abbrev pub is_see_through : Role → Bool
 is_see_through GenericContainer = true
 is_see_through TextRun = true
 is_see_through _ = false
 
--- a field or choice that may be read-only, beside the text inputs
+-- a field or choice, other than a text input, that can be read-only
 abbrev pub is_other_field : Role → Bool
 is_other_field CheckBox = true
 is_other_field ColorWell = true
@@ -66,11 +66,11 @@ is_other_field Switch = true
 is_other_field TreeGrid = true
 is_other_field _ = false
 
--- it makes a difference whether it is read-only
+-- the read-only state applies to it
 abbrev pub is_read_only_supported : Role → Bool
 is_read_only_supported role = is_text_input role || is_other_field role
 
--- it is read-only unless something says otherwise
+-- it is read-only unless stated otherwise
 abbrev pub is_read_only_by_default : Role → Bool
 is_read_only_by_default Article = true
 is_read_only_by_default Definition = true
@@ -89,7 +89,7 @@ is_read_only_by_default Toolbar = true
 is_read_only_by_default Tooltip = true
 is_read_only_by_default _ = false
 
--- it can be one of a set
+-- it can be an item of a set
 abbrev pub is_item_like : Role → Bool
 is_item_like Article = true
 is_item_like Comment = true
@@ -105,7 +105,7 @@ is_item_like RadioButton = true
 is_item_like Term = true
 is_item_like _ = false
 
--- what is in it can be selected
+-- its children can be selected
 abbrev pub is_container_with_selectable_children : Role → Bool
 is_container_with_selectable_children ComboBox = true
 is_container_with_selectable_children EditableComboBox = true
@@ -139,7 +139,7 @@ is_link DocGlossRef = true
 is_link DocNoteRef = true
 is_link _ = false
 
--- as a part of another node's label it gives its value
+-- its part of another node's label is its value
 abbrev pub is_label : Role → Bool
 is_label Label = true
 is_label _ = false
@@ -148,7 +148,7 @@ is_label _ = false
 abbrev pub holds_text : Role → Bool
 holds_text role = is_text_input role || (is_document role || is_label role)
 
--- without a label of its own it is labelled by what is in it
+-- without a label of its own it is labelled by its contents
 abbrev pub is_labelled_from_within : Role → Bool
 is_labelled_from_within Button = true
 is_labelled_from_within CheckBox = true
@@ -160,7 +160,7 @@ is_labelled_from_within MenuItemRadio = true
 is_labelled_from_within RadioButton = true
 is_labelled_from_within _ = false
 
--- the axis along which it lies where it doesn't say
+-- its usual axis, if the node has none
 abbrev pub usual_orientation : Role → Option Orientation
 usual_orientation ListBox = Some Vertical
 usual_orientation TabList = Some Horizontal

@@ -13,28 +13,28 @@ use Rattle.model.specs.Outline.{outline}
 use Rattle.model.specs.Shape.{EqualShape, AreAlikeWorlds}
 use Rattle.model.specs.AlikeRuns.{AreAlikeUpdates, AreAlikeCommands, KeepsSecret, ReplyAlike, told_openly, RunsAlike}
 
--- worlds are alike both ways
+-- being alike is symmetric
 abbrev pub AlikeIsMutual : Type 0
 AlikeIsMutual = (p : FullNodeId) (w v : World) → AreAlikeWorlds p w v → AreAlikeWorlds p v w
 
--- in worlds of equal shape a query has one answer, if that shows nothing of the secret
+-- in worlds of equal shape a query has the same answer, if that reveals nothing of the secret
 abbrev pub ShapeKeepsAnswers : Type 0
 ShapeKeepsAnswers = (p : FullNodeId) (w v : World) → EqualShape p w v → (q : Query) → KeepsSecret p w q → answer_of w q ≡ answer_of v q
 
--- of alike updates of alike worlds the same faults stand
+-- alike updates of alike worlds break the same rules
 abbrev pub AlikeUpdatesFailAlike : Type 0
 AlikeUpdatesFailAlike = (p : FullNodeId) (w v : World) (u x : UpdateData) → AreAlikeWorlds p w v → AreAlikeUpdates p w u x → (f : Fault) → Stands w u f ↔ Stands v x f
 
--- where they are accepted they leave worlds of one outline: these differ in values and lengths of characters alone
+-- if they are accepted they leave worlds with the same outline: these differ in values and lengths of characters alone
 abbrev pub AlikeUpdatesLeaveOneOutline : Type 0
 AlikeUpdatesLeaveOneOutline =
     (p : FullNodeId) (w v next other : World) (u x : UpdateData) → AreAlikeWorlds p w v → AreAlikeUpdates p w u x → IsAccepted w u next → IsAccepted v x other → outline next ≡ outline other
 
--- no word is a mark in the text of a password, wherever words were sent
+-- no word start is kept in the text of a password, whatever word starts were sent
 abbrev pub PasswordsHideWords : Type 0
 PasswordsHideWords = (w : World) (root : FullNodeId) → is_password w root ≡ true → (r : ℕ) → words_in (flat_text w root) r ≡ []
 
--- alike commands of alike worlds that leave alike worlds are replied alike and tell the same openly
+-- alike commands of alike worlds that leave alike worlds have alike replies and report the same openly
 abbrev pub CommandsKeepSecret : Type 0
 CommandsKeepSecret =
     (p : FullNodeId) (w next v other : World) (c d : CommandData) (told heard : List Event) (r s : ReplyData) → AreAlikeWorlds p w v → AreAlikeCommands p w c d → WantAlike r s →

@@ -1,5 +1,5 @@
--- Worlds that differ in the characters of one password alone. A masked text is one flat text in both, so whatever is said
--- of the flat text is the same of both.
+-- Worlds that differ in the characters of one password alone. A masked text is the same flat text in both, so everything defined
+-- on the flat text is the same for both.
 use Rattle.std.specs.Prelude.{◌≡◌, ◌≢◌, ℕ, Bool, map, Contains, IsTrue, is_some, option_map, ◌⊎◌}
 use Rattle.model.specs.declared.FullNodeId.{FullNodeId}
 use Rattle.model.specs.World.{World, data_of}
@@ -13,11 +13,11 @@ pub record IsMaskedText (w : World) (root : FullNodeId) : Type 0 where
   pub supported : IsTrue (supports_text_ranges w root)
   pub masked : IsTrue (needs_masking w root)
 
--- what is seen of a masked run: how many characters it has, and whether a newline ends it
+-- what a masked run shows: its number of characters, and whether a newline ends it
 abbrev pub face : SentRun → ℕ × Bool
 face r = (said_count r, ends_with_newline r)
 
--- The password p is masked in both, and they differ at most in its own value, which is given in both or in neither, and in
+-- The password p is masked in both, and they differ at most in its own value, which is set in both or in neither, and in
 -- the values and character lengths of its runs, each of which has as many characters in both, and ends with a newline in
 -- both or in neither.
 pub record EqualShape (p : FullNodeId) (w v : World) : Type 0 where

@@ -8,19 +8,19 @@ use Rattle.model.specs.World.{ROOT_NAME, World, IsNode, root_of, root_named, lis
 use Rattle.model.specs.Focus.{OnChain}
 use Rattle.model.specs.Update.{UpdateData, IsAccepted}
 
--- what there is before the first update
+-- the world before the first update
 abbrev pub empty_world : Bool → World
 empty_world host_focused = record { known = []; trees = empty; nodes = empty; toolkit = (None, None); host_focused = host_focused }
 
--- the world, told whether the host is focused
+-- the world with this host focus
 abbrev pub with_host : World → Bool → World
 with_host w host_focused = record w { host_focused = host_focused }
 
--- an update of the root tree that says nothing new, where that tree declares this focus
+-- an update of the root tree that changes nothing, if that tree declares this focus
 abbrev pub idle_update : NodeId → UpdateData
 idle_update focus = record { nodes = []; info = None; name = ROOT_NAME; focus = focus }
 
--- the child stands in the parent's list there
+-- the child is in the parent's list at this index
 abbrev pub Lists : World → Place → FullNodeId → Type 0
 Lists w p child = slice_get (listed_ids w p.0) p.1 ≡ Some child
 

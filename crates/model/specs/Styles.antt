@@ -1,4 +1,4 @@
--- The format of a run: what it and the nodes above it say of how its text looks.
+-- The format of a run: the style that it has itself or inherits.
 use Rattle.std.specs.Prelude.{ℕ, List, Bool, Option, refl}
 use Rattle.std.specs.Coded.{Coded, code_by, coded×, coded_ℕ, coded_option, coded_list}
 use Rattle.schema.specs.SameBy.{same_by}
@@ -51,6 +51,6 @@ coded_style =
     (λ p. record { font_family = p.0; language = p.1.0; font_size = p.1.1.0; font_weight = p.1.1.1.0; background_color = p.1.1.1.1.0; foreground_color = p.1.1.1.1.1.0; overline = p.1.1.1.1.1.1.0; strikethrough = p.1.1.1.1.1.1.1.0; underline = p.1.1.1.1.1.1.1.1.0; text_align = p.1.1.1.1.1.1.1.1.1.0; vertical_offset = p.1.1.1.1.1.1.1.1.1.1 })
     (λ _. refl)
 
--- whether two formats are one
+-- whether two formats are equal
 unfoldable pub same_style : Style → Style → Bool
 same_style = same_by coded_style

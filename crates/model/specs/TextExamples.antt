@@ -1,4 +1,4 @@
--- Small texts, on which the words for texts are tried.
+-- Small texts, on which the definitions for texts are worked out.
 use Rattle.std.specs.Prelude.{◌≡◌, ℕ, ℤ, pos, negsuc, ◌+◌, List, [], ◌∷◌, map, replicate, true, false, Option, Some, None}
 use Rattle.schema.specs.NodeData.{empty_node}
 use Rattle.schema.specs.declared.Role.TheVariants.{TextRun}
@@ -178,7 +178,7 @@ pub record TwoSecrets : Type 0 where
   pub no_words : forward_to_word_start two_secrets (at 1 0) ≡ at 1 2
   pub paragraph : forward_to_paragraph_start two_secrets (at 0 0) ≡ at 1 0
 
--- Three letters side by side, in a run that is moved within a root that is moved.
+-- Three letters side by side, in a run that is shifted within a root that is shifted.
 abbrev pub measured : TextDirection → FlatText
 measured direction =
     record (run_of (letters (97 ∷ 98 ∷ 99 ∷ []))) {
@@ -274,7 +274,7 @@ pub record Styled : Type 0 where
   pub before : backward_to_format_start styled (at 2 0) ≡ at 0 0
   pub first : backward_to_format_start styled (at 1 1) ≡ at 0 0
 
--- Three bullets, told of by these positions and one width.
+-- Three bullets, with these positions and one width.
 abbrev pub measured_alike : List ℤ → FlatText
 measured_alike positions =
     record (run_of (BULLET ∷ BULLET ∷ BULLET ∷ [])) {

@@ -27,7 +27,7 @@ pub record IsWhole (t : FlatText) : Type 0 where
 abbrev pub TextsAreWhole : Type 0
 TextsAreWhole = (w : World) (root : FullNodeId) → IsText w root → IsWhole (flat_text w root)
 
--- the answer is that of the eight conditions
+-- `supports_text_ranges` is the conjunction of the eight conditions
 abbrev pub AnswersWhetherText : Type 0
 AnswersWhetherText = (w : World) (root : FullNodeId) → IsTrue (supports_text_ranges w root) ↔ IsText w root
 
@@ -61,18 +61,18 @@ TextIsCharacters =
     (t : FlatText) → IsWhole t → (r : Range) → IsPosition t r.start → IsPosition t r.end → offset t r.start ≤ offset t r.end →
     text_of t r ≡ concat (slice_range (characters t) (offset t r.start) (offset t r.end))
 
--- there is a value or a label exactly if its text is there
+-- the tests for a value and a label hold exactly if there is one
 abbrev pub HasValueIfThere : Type 0
 HasValueIfThere = (w : World) (id : FullNodeId) → has_value w id ≡ is_some (value_of w id)
 
 abbrev pub HasLabelIfThere : Type 0
 HasLabelIfThere = (w : World) (id : FullNodeId) → has_label w id ≡ is_some (label_of w id)
 
--- a masked password is one text, and has one value, in all worlds of its shape
+-- a masked password is the same text, and has the same value, in all worlds of its shape
 abbrev pub ShapeKeepsSecret : Type 0
 ShapeKeepsSecret = (p : FullNodeId) (w v : World) → EqualShape p w v → (flat_text w p ≡ flat_text v p) × (value_of w p ≡ value_of v p)
 
--- each character of a well-formed text has a scalar, and so a unit
+-- each character of a well-formed text has a scalar, and so a UTF-16 code unit
 abbrev pub CharactersHaveLength : Type 0
 CharactersHaveLength = (w : World) (root : FullNodeId) → IsText w root → All (λ c. (0 < scalar_len c) × (0 < utf16_len c)) (characters (flat_text w root))
 
@@ -86,7 +86,7 @@ pub record IsNearestAbove (t : FlatText) (Mark : Position → Type 0) (p q : Pos
   pub above : offset t p < offset t q
   pub nearest : (m : Position) → Mark m → offset t p < offset t m → offset t q ≤ offset t m
 
--- a move to the next word comes to the nearest word start above, or else to the end, past which there is none
+-- a movement to the next word ends at the nearest word start above, or else at the end, past which there is none
 abbrev pub WordStartIsNearest : Type 0
 WordStartIsNearest =
     (t : FlatText) → IsWhole t → (p : Position) → IsPosition t p → IsNearestAbove t (λ q. IsPosition t q × IsTrue (is_word_start t q)) p (forward_to_word_start t p)
@@ -108,7 +108,7 @@ WordStartBeforeIsNearest =
 abbrev pub AreJoined : FlatText → ℕ → ℕ → Type 0
 AreJoined t a b = (r : ℕ) → a ≤ r → r < b → ¬ (IsTrue (ends_line t r))
 
--- the lines are the greatest groups of joined runs, in order, and each run is in one
+-- the lines are the maximal groups of joined runs, in order, and each run is in one
 pub record LinesAreGroups (t : FlatText) : Type 0 where
   pub joined : (k a b : ℕ) → slice_get (lines t) k ≡ Some (a, b) → (a ≤ b) × AreJoined t a b
   pub greatest : (k a b : ℕ) → slice_get (lines t) k ≡ Some (a, b) → IsTrue (begins_line t a) × IsTrue (ends_line t b)

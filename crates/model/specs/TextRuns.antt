@@ -19,7 +19,7 @@ use Rattle.model.specs.Upward.{says}
 abbrev pub is_run : World → FullNodeId → Bool
 is_run w id = says (λ d. same_role d.role TextRun) w id
 
--- runs end the search below them, and so does the root; all else is passed through
+-- runs end the search below them, and so does the root; all other nodes are passed through
 abbrev pub run_filter : World → FullNodeId → FullNodeId → FilterResult
 run_filter w root id = cond (is_same id root || is_run w id) Include ExcludeNode
 
@@ -37,11 +37,11 @@ sent_run w id = record { id = id; node = unwrap_or (data_of w id) (empty_node Te
 abbrev pub sent_runs : World → FullNodeId → List SentRun
 sent_runs w root = map (sent_run w) (run_ids w root)
 
--- the bytes of its value; an absent one reads as empty
+-- the bytes of its value; empty if it has none
 abbrev pub run_value : SentRun → List ℕ
 run_value r = unwrap_or r.node.value []
 
--- how many characters it says that it has
+-- its number of characters, by its list of lengths
 abbrev pub said_count : SentRun → ℕ
 said_count r = length r.node.character_lengths
 
@@ -49,7 +49,7 @@ said_count r = length r.node.character_lengths
 abbrev pub ends_with_newline : SentRun → Bool
 ends_with_newline r = ends_with (λ a b. a == b) (run_value r) (10 ∷ [])
 
--- the lengths are at least 1 and cut the text into whole texts that make it up
+-- the lengths are at least 1 and cut the text at character boundaries, with nothing left over
 abbrev pub is_cut_by : List ℕ → List ℕ → Bool
 is_cut_by bs [] = length bs == 0
 is_cut_by bs (n ∷ ns) = nat_lt 0 n && (nat_le n (length bs) && (is_utf8 (take n bs) && is_cut_by (drop n bs) ns))
@@ -76,11 +76,11 @@ is_password w id = says (λ d. is_password_input d.role) w id
 abbrev pub has_runs : World → FullNodeId → List SentRun → Bool
 has_runs w root runs = says (λ d. holds_text d.role) w root && nat_lt 0 (length runs)
 
--- all runs lie in the tree with this index
+-- all runs are in the tree with this index
 abbrev pub lie_in_tree : ℕ → List SentRun → Bool
 lie_in_tree index runs = list_all (λ (r : SentRun). r.id.tree == index) runs
 
--- each value is made up of the characters that its lengths cut
+-- each value is cut by its lengths with nothing left over
 abbrev pub are_cut : List SentRun → Bool
 are_cut runs = list_all (λ r. is_cut_by (run_value r) r.node.character_lengths) runs
 
@@ -117,7 +117,7 @@ have_size runs = nat_lt (sum_by (λ r. length (run_value r)) runs) (2 ^ 64)
 abbrev pub is_enough : Bool → ℕ → ℕ → Bool
 is_enough password count given = nat_le given count && nat_le (if password then min count 1 else count) given
 
--- positions and widths, where given, are enough for the characters
+-- positions and widths, if given, are enough for the characters
 abbrev pub is_measured : Bool → SentRun → Bool
 is_measured password r =
     option_map_or (λ ps. is_enough password (said_count r) (length ps)) r.node.character_positions true
@@ -126,7 +126,7 @@ is_measured password r =
 abbrev pub are_measured : Bool → List SentRun → Bool
 are_measured password runs = list_all (is_measured password) runs
 
--- Well-formed text: what `supports_text_ranges` answers.
+-- Well-formed text: the result of `supports_text_ranges`.
 pub record IsText (w : World) (root : FullNodeId) : Type 0 where
   pub runs : IsTrue (has_runs w root (sent_runs w root))
   pub one_tree : IsTrue (lie_in_tree root.tree (sent_runs w root))
@@ -137,7 +137,7 @@ pub record IsText (w : World) (root : FullNodeId) : Type 0 where
   pub size : IsTrue (have_size (sent_runs w root))
   pub metrics : IsTrue (are_measured (is_password w root) (sent_runs w root))
 
--- the same of these runs, as an answer
+-- the same of these runs, as a boolean
 abbrev pub make_text : World → FullNodeId → List SentRun → Bool
 make_text w root runs =
     has_runs w root runs && (lie_in_tree root.tree runs && (are_cut runs && (have_rising_words runs && (are_empty_last runs && (are_linked_in_order runs && (have_size runs && are_measured (is_password w root) runs))))))

@@ -1,4 +1,4 @@
--- What an update does: the world that it leaves, and when it is refused.
+-- The effect of an update: the world that it leaves, and when it is refused.
 use Rattle.std.specs.Prelude.{IsSome, ◌<◌, ◌≡◌, ◌≢◌, ℕ, ◌≤◌, ◌-◌, ◌^◌, List, [], ◌∷◌, ◌++◌, length, map, slice_get, Contains, Option, Some, None, ◌⊎◌, ◌↔◌, ◌==◌, if◌then◌else◌}
 use Rattle.std.specs.Option.{unwrap_or, option_map, option_map_or}
 use Rattle.std.specs.Ordering.{nat_cmp}
@@ -12,7 +12,7 @@ use Rattle.model.specs.FullIds.{full_cmp}
 use Rattle.model.specs.World.{ROOT_NAME, Tree, World, index_of, in_tree, root_of, root_named, IsNode, HasData, listed_ids, graft_name, Place, Reached, Kept}
 use Rattle.model.specs.Focus.{OnChain}
 
--- the index of the tree of this name: its place among the known names, or the next one where the name is new
+-- the index of the tree with this name: its position among the known names, or the next one if the name is new
 abbrev pub index_for : World → TreeId → ℕ
 index_for w name = unwrap_or (index_of w name) (length w.known)
 
@@ -25,11 +25,11 @@ abbrev pub overwritten_nodes : FinMap full_cmp NodeData → ℕ → List (NodeId
 overwritten_nodes nodes index [] = nodes
 overwritten_nodes nodes index (e ∷ es) = overwritten_nodes (insert nodes (in_tree index e.0) e.1) index es
 
--- the named tree's root: that of the tree info, else the old one; where there is neither, there is no root
+-- the root of the update's tree: that of the tree info, or else the old one, or else none
 abbrev pub root_after : World → UpdateData → Option NodeId
 root_after w u = option_map_or (λ info. Some info.root) u.info (option_map (λ t. t.root) (get w.trees (index_for w u.name)))
 
--- the named tree has that root and the update's focus
+-- the update's tree has that root and the update's focus
 abbrev pub trees_after : World → UpdateData → FinMap nat_cmp Tree
 trees_after w u = option_map_or (λ root. insert w.trees (index_for w u.name) (record { root = root; focus = u.focus })) (root_after w u) w.trees
 
@@ -37,7 +37,7 @@ trees_after w u = option_map_or (λ root. insert w.trees (index_for w u.name) (r
 abbrev pub toolkit_after : World → UpdateData → Option (List ℕ) × Option (List ℕ)
 toolkit_after w u = option_map_or (λ info. if index_for w u.name == 0 then (info.toolkit_name, info.toolkit_version) else w.toolkit) u.info w.toolkit
 
--- The world with the update's nodes, root, focus and texts in the place of the named tree's, before anything is dropped.
+-- The world with the update's nodes, root, focus and texts instead of its tree's old ones, before anything is dropped.
 abbrev pub merged_world : World → UpdateData → World
 merged_world w u = record {
   known = known_after w u.name;
@@ -55,7 +55,7 @@ pub record IsRebuild (m new : World) : Type 0 where
   pub trees : (index : ℕ) (t : Tree) → (get new.trees index ≡ Some t) ↔ (Kept m index × (get m.trees index ≡ Some t))
   pub nodes : (id : FullNodeId) (d : NodeData) → HasData new id d ↔ (Kept m id.tree × Reached m id × HasData m id d)
 
--- one for each reason to refuse an update, but for want of memory
+-- one for each reason to refuse an update, except lack of memory
 pub data Fault : Type 0 where
   MissingTreeInfo : Fault
   NotRootTree : Fault
@@ -76,14 +76,14 @@ pub data Fault : Type 0 where
 abbrev pub IsFirst : World → Type 0
 IsFirst old = old.known ≡ []
 
--- the id that the entry at this place names
+-- the id in the entry at this index
 abbrev pub named_at : UpdateData → ℕ → Option NodeId
 named_at u i = slice_get (map (λ e. e.0) u.nodes) i
 
 abbrev pub IsNamed : World → UpdateData → FullNodeId → Type 0
 IsNamed old u id = (id.tree ≡ index_for old u.name) × Contains (map (λ e. e.0) u.nodes) id.node
 
--- a node that the rules look at: one that the update names, or a reached one of a kept tree
+-- a node that the rules look at ("a node that counts"): one of the update, or a reached one of a kept tree
 abbrev pub IsJudged : World → UpdateData → FullNodeId → Type 0
 IsJudged old u id = IsNamed old u id ⊎ (Kept (merged_world old u) id.tree × Reached (merged_world old u) id)
 
@@ -95,17 +95,17 @@ IsListedAt old u p child = IsJudged old u p.0 × (slice_get (listed_ids (merged_
 abbrev pub IsGraftOf : World → UpdateData → FullNodeId → TreeId → Type 0
 IsGraftOf old u id name = IsJudged old u id × (graft_name (merged_world old u) id ≡ Some name)
 
--- The fault stands, but for those of the focus.
+-- The update breaks the rule; the rules of the focus follow below.
 abbrev pub StandsApart : World → UpdateData → Fault → Type 0
 -- a first update has no tree info
 StandsApart old u MissingTreeInfo = IsFirst old × (u.info ≡ None)
 -- a first update is for another tree than the root tree
 StandsApart old u NotRootTree = IsFirst old × (u.name ≢ ROOT_NAME)
--- the named tree's root, or a child that a node that counts lists, has no data
+-- the root of the update's tree, or a child that a node that counts lists, has no data
 StandsApart old u (MissingData n) = (id : FullNodeId) × (id.node ≡ n) × ¬ (IsNode (merged_world old u) id) × ((root_of (merged_world old u) (index_for old u.name) ≡ Some id) ⊎ ((p : Place) × IsListedAt old u p id))
--- a named node isn't reached
+-- a node of the update isn't reached
 StandsApart old u (NotReached n) = (id : FullNodeId) × (id.node ≡ n) × IsNamed old u id × ¬ (Reached (merged_world old u) id)
--- two entries name this node
+-- two entries have this id
 StandsApart old u (NamedTwice n) = (i j : ℕ) × (i ≢ j) × (named_at u i ≡ Some n) × (named_at u j ≡ Some n)
 -- a node is listed at two places, or a root at one
 StandsApart old u (ListedTwice n) = (id : FullNodeId) × (id.node ≡ n) × (p : Place) × IsListedAt old u p id × (((q : Place) × (p ≢ q) × IsListedAt old u q id) ⊎ (root_of (merged_world old u) id.tree ≡ Some id))
@@ -124,11 +124,11 @@ StandsApart old u IndexesUsedUp = ¬ (IsFirst old) × (index_of old u.name ≡ N
 StandsApart old u (FocusMissing n) = ⊥
 StandsApart old u (FocusOnEmptyGraft name) = ⊥
 
--- the chain of the focus comes to a reached graft of a kept tree, and the tree of this name isn't present
+-- the chain of the focus comes to a reached graft of a kept tree, and the tree with this name isn't present
 abbrev pub IsOnEmptyGraft : World → TreeId → Type 0
 IsOnEmptyGraft m name = (id : FullNodeId) × OnChain m id × Kept m id.tree × Reached m id × (graft_name m id ≡ Some name) × (root_named m name ≡ None)
 
--- The fault stands, for an update of the world old. The faults of the focus stand only where no other does.
+-- The update of the world old breaks the rule. The rules of the focus count only if no other is broken.
 abbrev pub Stands : World → UpdateData → Fault → Type 0
 -- the chain of the focus comes to no empty graft, and ends at a node that isn't reached
 Stands old u (FocusMissing n) =
@@ -141,15 +141,15 @@ Stands old u f = StandsApart old u f
 abbrev pub IsAccepted : World → UpdateData → World → Type 0
 IsAccepted old u new = ((f : Fault) → ¬ (Stands old u f)) × IsRebuild (merged_world old u) new
 
--- The rules of an update, said as what holds. They are kept exactly where no fault stands.
+-- The rules of an update, stated positively. They are kept exactly if none is broken.
 pub record KeepsRules (old : World) (u : UpdateData) : Type 0 where
   -- a first update has tree info and is for the root tree
   pub first_has_info : IsFirst old → IsSome u.info
   pub first_for_root : IsFirst old → u.name ≡ ROOT_NAME
-  -- the named tree's root has data, and so has each child that a node that counts lists
+  -- the root of the update's tree has data, and so has each child that a node that counts lists
   pub root_is_node : (id : FullNodeId) → root_of (merged_world old u) (index_for old u.name) ≡ Some id → IsNode (merged_world old u) id
   pub listed_is_node : (p : Place) (child : FullNodeId) → IsListedAt old u p child → IsNode (merged_world old u) child
-  -- a named node is reached, and is named once
+  -- a node of the update is reached, and has one entry
   pub named_reached : (id : FullNodeId) → IsNamed old u id → Reached (merged_world old u) id
   pub named_once : (i j : ℕ) (n : NodeId) → named_at u i ≡ Some n → named_at u j ≡ Some n → i ≡ j
   -- a node is listed once, and a root not at all

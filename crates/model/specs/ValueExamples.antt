@@ -25,7 +25,7 @@ run_nodes d cs = (at 0 0, d) ∷ (at 0 1, record (parent TextRun []) { value = S
 abbrev pub with_run : NodeData → List (List ℕ) → World
 with_run d cs = one_tree None (run_nodes d cs)
 
--- a run of this value that says that its characters have these lengths
+-- a run with this value and these lengths of characters
 abbrev pub cut_nodes : NodeData → List ℕ → List ℕ → List (FullNodeId × NodeData)
 cut_nodes d value lengths = (at 0 0, d) ∷ (at 0 1, record (parent TextRun []) { value = Some value; character_lengths = lengths }) ∷ []
 
@@ -87,7 +87,7 @@ pub record Placeholders : Type 0 where
 abbrev pub moved_by : ℕ → ℕ → NodeData → NodeData
 moved_by x y d = record d { transform = Some (record { x = pos x; y = pos y }) }
 
--- a window, in it a label that sets a size and a direction, in it a container, in it a run: each moves what is in it
+-- a window, in it a label that sets a size and a direction, in it a container, in it a run: each shifts its contents
 abbrev pub moved_text : List (FullNodeId × NodeData)
 moved_text = (at 0 0, moved_by 1000 2000 (parent Window (1 ∷ [])))
     ∷ (at 0 1, moved_by 100 200 (record (parent Label (2 ∷ [])) { font_size = Some 12; text_direction = Some RightToLeft }))

@@ -1,4 +1,4 @@
--- The text that a node has as its value, and the one that stands for it where it has none.
+-- The value of a node as text, and the placeholder shown without one.
 use Rattle.std.specs.Prelude.{ℕ, ◌==◌, nat_lt, Bool, true, not, cond, ◌&&◌, ◌||◌, List, [], length, replicate, slice_get, Option, Some, None, is_some, option_map, unwrap_or, if◌then◌else◌, chars}
 use Rattle.std.specs.Option.{option_map_or, option_or}
 use Rattle.std.specs.List.{concat}
@@ -16,7 +16,7 @@ own_value w id = field_at (λ d. d.value) w id
 abbrev pub bullets : ℕ → List ℕ
 bullets n = concat (replicate n BULLET)
 
--- all that is shown of the text of runs
+-- the text of runs as it is shown
 abbrev pub document_text : World → FullNodeId → List ℕ
 document_text w id = text_of (flat_text w id) (document_range (flat_text w id))
 
@@ -24,7 +24,7 @@ document_text w id = text_of (flat_text w id) (document_range (flat_text w id))
 abbrev pub shown_alone : List ℕ → List ℕ
 shown_alone v = if are_alike (λ a b. a == b) (chars v) then v else bullets (length (chars v))
 
--- an own value as it is shown: of a password with runs that need masking, what is shown of the runs
+-- an own value as it is shown: for a password with runs that need masking, the text of the runs as it is shown
 abbrev pub shown_value : World → FullNodeId → List ℕ → List ℕ
 shown_value w id v =
     if is_password w id then (if supports_text_ranges w id then (if needs_masking w id then document_text w id else v) else shown_alone v) else v
@@ -39,7 +39,7 @@ value_of w id = option_or (option_map (shown_value w id) (own_value w id)) (if h
 abbrev pub has_value : World → FullNodeId → Bool
 has_value w id = is_some (own_value w id) || has_value_in_runs w id
 
--- ---- what stands for a value that isn't there
+-- ---- placeholders
 
 -- the run's value is absent or empty
 abbrev pub is_blank : World → FullNodeId → Bool

@@ -1,4 +1,4 @@
--- Small interfaces, and what filters and views answer for them.
+-- Small interfaces, and the answers of filters and views for them.
 use Rattle.std.specs.Prelude.{◌≡◌, ◌==◌, ℕ, ℤ, pos, negsuc, List, [], ◌∷◌, map, replicate, Bool, true, false, cond, Option, Some, None}
 use Rattle.std.specs.FinMap.{from_sorted}
 use Rattle.schema.specs.Actions.{with_action}
@@ -30,7 +30,7 @@ written known ts es host = record { known = known; trees = from_sorted ts; nodes
 abbrev pub root_tree : ℕ → List (ℕ × Tree)
 root_tree focus = (0, record { root = record { 0 = 0 }; focus = record { 0 = focus } }) ∷ []
 
--- one tree of these nodes; where the focus is given the host has it too
+-- one tree of these nodes; if a focus is given, the host is focused
 abbrev pub focus_at : Option ℕ → ℕ
 focus_at None = 0
 focus_at (Some n) = n
@@ -69,7 +69,7 @@ input = (at 0 0, parent TextInput (1 ∷ [])) ∷ (at 0 1, parent TextRun []) �
 abbrev pub hidden_window : List (FullNodeId × NodeData)
 hidden_window = (at 0 0, hidden (parent Window (1 ∷ []))) ∷ (at 0 1, parent GenericContainer []) ∷ []
 
--- a window with two grafts of trees that aren't there, one of them no container
+-- a window with two grafts of trees that aren't present, one of them no container
 abbrev pub empty_grafts : List (FullNodeId × NodeData)
 empty_grafts = (at 0 0, parent Window (1 ∷ 2 ∷ [])) ∷ (at 0 1, graft (name 1)) ∷ (at 0 2, record (parent Unknown []) { tree_id = Some (record { 0 = replicate 16 1 }) }) ∷ []
 
@@ -139,7 +139,7 @@ nested = (at 0 0, record (parent ScrollView (1 ∷ [])) { clips_children = true;
 abbrev pub unboxed : List (FullNodeId × NodeData)
 unboxed = (at 0 0, record (parent ScrollView (1 ∷ [])) { clips_children = true; bounds = Some (rect (pos 0) (pos 0) (pos 30) (pos 30)) }) ∷ (at 0 1, parent Unknown []) ∷ []
 
--- what is in a clipped node is cut off with it, but a container in it is left out alone, and what is in that is asked anew
+-- what is in a clipped node is cut off with it, but a container in it is excluded alone, and its contents are judged again
 pub record NestedAnswers : Type 0 where
   pub each : map (λ n. common_filter (one_tree None nested) (at 0 n)) (0 ∷ 1 ∷ 2 ∷ 3 ∷ 4 ∷ 5 ∷ []) ≡ Include ∷ ExcludeNode ∷ ExcludeSubtree ∷ ExcludeSubtree ∷ ExcludeNode ∷ Include ∷ []
   pub without_box : common_filter (one_tree None unboxed) (at 0 1) ≡ Include
@@ -150,7 +150,7 @@ pub record NestedAnswers : Type 0 where
 abbrev pub four : List (FullNodeId × NodeData)
 four = (at 0 0, parent Window (1 ∷ 2 ∷ 3 ∷ 4 ∷ [])) ∷ (at 0 1, parent Unknown []) ∷ (at 0 2, parent Unknown []) ∷ (at 0 3, parent Unknown (5 ∷ [])) ∷ (at 0 4, parent Unknown []) ∷ (at 0 5, parent Unknown []) ∷ []
 
--- leaves out 2 alone, and 3 with its subtree
+-- excludes 2 alone, and 3 with its subtree
 abbrev pub without_two_and_three : FullNodeId → FilterResult
 without_two_and_three id = cond (id.node.0 == 2) ExcludeNode (cond (id.node.0 == 3) ExcludeSubtree Include)
 
@@ -159,7 +159,7 @@ abbrev pub pairs : List (FullNodeId × NodeData)
 pairs = (at 0 0, parent Window (1 ∷ 2 ∷ 3 ∷ 4 ∷ [])) ∷ (at 0 1, parent Unknown []) ∷ (at 0 2, parent Unknown (5 ∷ 6 ∷ [])) ∷ (at 0 3, parent Unknown []) ∷ (at 0 4, parent Unknown (7 ∷ 8 ∷ []))
     ∷ (at 0 5, parent Unknown []) ∷ (at 0 6, parent Unknown []) ∷ (at 0 7, parent Unknown []) ∷ (at 0 8, parent Unknown []) ∷ []
 
--- leaves out 2 alone, and 4 with its subtree
+-- excludes 2 alone, and 4 with its subtree
 abbrev pub without_two_and_four : FullNodeId → FilterResult
 without_two_and_four id = cond (id.node.0 == 2) ExcludeNode (cond (id.node.0 == 4) ExcludeSubtree Include)
 
@@ -202,7 +202,7 @@ pub record PlacedViews : Type 0 where
 abbrev pub reversed : List (FullNodeId × NodeData)
 reversed = (at 0 0, record (parent Window []) { bounds = Some (rect (pos 30) (pos 0) (pos 0) (pos 10)) }) ∷ []
 
--- a window that is moved itself
+-- a window that is shifted itself
 abbrev pub shifted : List (FullNodeId × NodeData)
 shifted = (at 0 0, record (parent Window []) { bounds = Some (rect (pos 0) (pos 0) (pos 10) (pos 10)); transform = Some (record { x = pos 5; y = negsuc 4 }) }) ∷ []
 
@@ -225,7 +225,7 @@ pub record CoveredViews : Type 0 where
 
 -- ---- views
 
--- a window, in it a container that tells its changes, in it a label
+-- a window, in it a container that is a live region, in it a label
 abbrev pub polite : List (FullNodeId × NodeData)
 polite = (at 0 0, parent Window (1 ∷ [])) ∷ (at 0 1, record (parent GenericContainer (2 ∷ [])) { live = Some Polite }) ∷ (at 0 2, parent Label []) ∷ []
 

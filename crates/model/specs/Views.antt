@@ -1,4 +1,4 @@
--- What a view of a node answers. A call that only asks whether a field is given needs no word here.
+-- The results of calls on a node. A call that only tests whether a field is set needs no definition here.
 use Rattle.std.specs.Prelude.{ℕ, length, count_by, List, [], find, filter, filter_map, Bool, false, not, cond, ◌&&◌, ◌||◌, Option, None, is_some, unwrap_or, option_and_then}
 use Rattle.std.specs.Option.{option_map, option_or, option_map_or}
 use Rattle.schema.specs.Actions.{has_action}
@@ -45,7 +45,7 @@ supports_expand_collapse d = is_some d.has_popup || (is_some d.expanded || is_ex
 abbrev pub supports_url : NodeData → Bool
 supports_url d = is_some d.url && is_link d.role
 
--- it has no text to fill in or to read through, and nothing to toggle, to expand or to select
+-- it has no text to fill in or to read, and can't be toggled, expanded or selected
 abbrev pub is_only_clicked : NodeData → Bool
 is_only_clicked d = not (is_text_input d.role || (is_document d.role || (supports_toggle d || (supports_expand_collapse d || is_some d.selected))))
 
@@ -81,24 +81,24 @@ is_invocable f w id = is_clickable f w id && says is_only_clicked w id
 abbrev pub included_ancestors : (FullNodeId → FilterResult) → World → FullNodeId → List FullNodeId
 included_ancestors f w id = filter (λ a. is_included (f a)) (ancestors w id)
 
--- the nearest of them that gives a size of its set
+-- the size of the set, from the nearest of them that has one
 abbrev pub size_of_set_from_container : (FullNodeId → FilterResult) → World → FullNodeId → Option ℕ
 size_of_set_from_container f w id = nearest_given (λ d. d.size_of_set) w (included_ancestors f w id)
 
--- the nearest of them in which things can be selected
+-- the nearest of them whose children can be selected
 abbrev pub selection_container : (FullNodeId → FilterResult) → World → FullNodeId → Option FullNodeId
 selection_container f w id = find (says (λ d. is_container_with_selectable_children d.role) w) (included_ancestors f w id)
 
 -- ---- other nodes
 
--- the named nodes of its tree that are there, in order
+-- the named nodes of its tree that exist, in order
 abbrev pub ids_in_field : (NodeData → List NodeId) → World → FullNodeId → List FullNodeId
 ids_in_field field w id = option_map_or (λ d. filter_map (kin w id) (field d)) (data_of w id) []
 
 abbrev pub controls : World → FullNodeId → List FullNodeId
 controls w id = ids_in_field (λ d. d.controls) w id
 
--- as f, but what f includes and is no item is left out alone
+-- like f, but nodes that f includes and that are no items are excluded alone
 abbrev pub item_filter : (FullNodeId → FilterResult) → World → FullNodeId → FilterResult
 item_filter f w id = cond (is_included (f id) && not (says (λ d. is_item_like d.role) w id)) ExcludeNode (f id)
 
@@ -107,7 +107,7 @@ items f w id = filtered_children (item_filter f w) w id
 
 -- ---- the set of a node
 
--- what the filter shows beside a node of this role: the nodes of that role below its cover
+-- the set of a node of this role: the nodes of that role below its cover
 abbrev pub set_by_role : Role → (FullNodeId → FilterResult) → World → FullNodeId → Option (List FullNodeId)
 set_by_role role f w id = option_map (λ c. filter (says (λ d. same_role d.role role) w) (filtered_children f w c)) (cover f w id)
 
@@ -115,10 +115,10 @@ set_by_role role f w id = option_map (λ c. filter (says (λ d. same_role d.role
 abbrev pub set_of : (FullNodeId → FilterResult) → World → FullNodeId → Option (List FullNodeId)
 set_of f w id = option_and_then (λ d. cond (is_item_like d.role && is_included (f id)) (set_by_role d.role f w id) None) (data_of w id)
 
--- the size that was sent, or else that of its set
+-- the size as sent, or else that of its set
 abbrev pub computed_size_of_set : (FullNodeId → FilterResult) → World → FullNodeId → Option ℕ
 computed_size_of_set f w id = option_or (field_at (λ d. d.size_of_set) w id) (option_map length (set_of f w id))
 
--- the position that was sent, or else how many of its set come before it
+-- the position as sent, or else the number of nodes of its set before it
 abbrev pub computed_position_in_set : (FullNodeId → FilterResult) → World → FullNodeId → Option ℕ
 computed_position_in_set f w id = option_or (field_at (λ d. d.position_in_set) w id) (option_map (λ set. count_by (λ m. is_before w m id) set) (set_of f w id))

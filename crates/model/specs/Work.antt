@@ -7,13 +7,13 @@ use Rattle.model.specs.State.{Lists}
 use Rattle.model.specs.Differences.{IsAscendingListOf, IsAdded}
 
 pub record Work : Type 0 where
-  -- the named nodes
+  -- the update's nodes
   pub named : ℕ
   -- the ids in their child lists, old and new, each once
   pub children : ℕ
-  -- the nodes that are gone
+  -- the removed nodes
   pub removed : ℕ
-  -- how deep the named nodes stand in their tree afterwards, all together
+  -- the sum of the depths of the update's nodes in their tree afterwards
   pub depths : ℕ
   -- the names known afterwards
   pub known : ℕ
@@ -30,7 +30,7 @@ IsSumOfDepths w (id ∷ ids) sum = (depth others : ℕ) × HasDepthInTree w id d
 abbrev pub named_ids : World → UpdateData → List FullNodeId
 named_ids old u = map (λ e. in_tree (index_for old u.name) e.0) u.nodes
 
--- a named node lists it, before or after
+-- a node of the update lists it, before or after
 abbrev pub IsChildOfNamed : World → UpdateData → World → FullNodeId → Type 0
 IsChildOfNamed old u new id = (p : Place) × Contains (named_ids old u) p.0 × (Lists old p id ⊎ Lists new p id)
 

@@ -17,11 +17,11 @@ RebuildIsOne = (m a b : World) → IsRebuild m a → IsRebuild m b → a ≡ b
 abbrev pub RebuildIsThere : Type 0
 RebuildIsThere = (m : World) → (new : World) × IsRebuild m new
 
--- an update is accepted, and leaves some world, or some fault stands
+-- an update is accepted and leaves some world, or breaks some rule
 abbrev pub AcceptedOrFault : Type 0
 AcceptedOrFault = (old : World) (u : UpdateData) → ((new : World) × IsAccepted old u new) ⊎ ((f : Fault) × Stands old u f)
 
--- the rules of an update are kept exactly where no fault stands
+-- the rules of an update are kept exactly if none is broken
 abbrev pub RulesOrFault : Type 0
 RulesOrFault = (old : World) (u : UpdateData) → KeepsRules old u ↔ ((f : Fault) → ¬ (Stands old u f))
 
@@ -45,21 +45,21 @@ HostFocusLeavesState = (w : World) (host_focused : Bool) → IsState w → IsSta
 abbrev pub LaterWorldsAreStates : Type 0
 LaterWorldsAreStates = (host_focused : Bool) (w : World) → IsLater (empty_world host_focused) w → (w ≡ empty_world w.host_focused) ⊎ IsState w
 
--- a name that has an index keeps it: an update for it comes to that index, whether or not the tree was dropped in between
+-- a name keeps its index: an update for it gets that index, whether or not the tree was dropped in between
 abbrev pub NamesKeepTheirIndex : Type 0
 NamesKeepTheirIndex = (w later : World) (name : TreeId) (index : ℕ) → IsLater w later → index_of w name ≡ Some index → (index_of later name ≡ Some index) × (index_for later name ≡ index)
 
--- each node of a state but the root tree's root stands at one place, and its parent is a node
+-- each node of a state but the root tree's root has one place, and its parent is a node
 abbrev pub PlaceIsOne : Type 0
 PlaceIsOne =
     (w : World) → IsState w → (id : FullNodeId) → IsNode w id → root_of w 0 ≢ Some id → (p : Place) × StandsAt w p id × IsNode w p.0 × ((q : Place) → StandsAt w q id → q ≡ p)
 
--- the root of another tree stands at the graft of its tree and 0
+-- the root of another tree has the place (graft of its tree, 0)
 abbrev pub RootStandsAtGraft : Type 0
 RootStandsAtGraft =
     (w : World) → IsState w → (index : ℕ) (id : FullNodeId) → index ≢ 0 → root_of w index ≡ Some id → (graft : FullNodeId) × (name : TreeId) × (graft_name w graft ≡ Some name) × (index_of w name ≡ Some index) × StandsAt w (graft, 0) id
 
--- the root tree's root stands nowhere
+-- the root tree's root has no place
 abbrev pub RootHasNoPlace : Type 0
 RootHasNoPlace = (w : World) → IsState w → (p : Place) (id : FullNodeId) → root_of w 0 ≡ Some id → ¬ (StandsAt w p id)
 
@@ -87,7 +87,7 @@ FocusIdIsOne = (w : World) (a b : Option FullNodeId) → IsFocusId w a → IsFoc
 abbrev pub FocusIdIsThere : Type 0
 FocusIdIsThere = (w : World) → IsState w → (answer : Option FullNodeId) × IsFocusId w answer
 
--- a node that says that it is focused is the answer of `focus`; so none says so where the host isn't focused
+-- a node of which `is_focused` holds is the answer of `focus`; so it holds of none while the host isn't focused
 abbrev pub FocusedNodeIsTheFocus : Type 0
 FocusedNodeIsTheFocus = (w : World) (id : FullNodeId) → IsFocusedNode w id → IsFocus w (Some id)
 
@@ -106,7 +106,7 @@ NodesAreLocated =
     → (IsNode w id → (name : TreeId) × (name_of w id.tree ≡ Some name) × (local_id_of w id ≡ Some (id.node, name)))
     × (¬ (IsNode w id) → local_id_of w id ≡ None)
 
--- tree info for the root tree replaces both toolkit texts, and that of another tree neither
+-- tree info for the root tree replaces both toolkit texts, that of another tree replaces neither
 abbrev pub ToolkitIsTheRootTrees : Type 0
 ToolkitIsTheRootTrees =
     (old : World) (u : UpdateData) (info : InfoData) → u.info ≡ Some info → ((index_for old u.name ≡ 0) → (merged_world old u).toolkit ≡ (info.toolkit_name, info.toolkit_version)) × ((index_for old u.name ≢ 0) → (merged_world old u).toolkit ≡ old.toolkit)

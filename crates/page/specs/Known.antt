@@ -1,4 +1,4 @@
--- What is known of a node, and what follows from it below.
+-- Properties of a node that are computed from its parent's.
 use Rattle.std.specs.Prelude.{◌≡◌, ◌+ℤ◌, Bool, true, false, Option, Some, None, IfSome, option_map, option_and_then, find, if◌then◌else◌}
 use Rattle.std.specs.List.{list_any}
 use Rattle.schema.specs.declared.geometry.Translation.{Translation}
@@ -18,7 +18,7 @@ use Rattle.model.specs.Filters.{is_hidden, base_filter, common_filter}
 use Rattle.page.specs.declared.carried.Known.{Known}
 use Rattle.page.specs.declared.carried.Step.{Step}
 
--- a node's own move, and how far those above it move it
+-- a node's own translation, and the sum of those above it
 abbrev pub sum_of : Translation → WideTranslation → WideTranslation
 sum_of own above = record { x = own.x +ℤ above.x; y = own.y +ℤ above.y }
 
@@ -30,7 +30,7 @@ clip_frame w id = if says (λ d. d.clips_children) w id then bounding_box w id e
 abbrev pub frame_below : World → FullNodeId → Option WideRect
 frame_below w id = option_and_then (clip_frame w) (find (λ a. is_included (base_filter w a)) (upward w id))
 
--- a node with this box isn't clipped by this frame, so far as that is known
+-- a node with this box isn't clipped by this frame, as far as that is known
 abbrev pub is_clear : Option (Option WideRect) → Option WideRect → Bool
 is_clear None rect = false
 is_clear (Some None) rect = true
@@ -41,15 +41,15 @@ is_clear (Some (Some frame)) (Some rect) = meets rect frame
 abbrev pub secrets : World → FullNodeId → FilterResult
 secrets w id = if says (λ d. is_password_input d.role) w id then Include else ExcludeNode
 
--- a password input is above the node
+-- an ancestor of the node is a password input
 abbrev pub is_in_secret : World → FullNodeId → Bool
 is_in_secret w id = list_any (says (λ d. is_password_input d.role) w) (ancestors w id)
 
--- the node is one, or one is above it
+-- the node or an ancestor is a password input
 abbrev pub is_secret : World → FullNodeId → Bool
 is_secret w id = says_upward (λ d. is_password_input d.role) w id
 
--- it is known of this node
+-- the properties are those of this node
 pub record IsKnown (w : World) (id : FullNodeId) (known : Known) : Type 0 where
   pub shift : known.shift ≡ transform w id
   pub rect : known.rect ≡ bounding_box w id
@@ -62,6 +62,6 @@ pub record IsKnown (w : World) (id : FullNodeId) (known : Known) : Type 0 where
 abbrev pub IsStep : World → Step → Type 0
 IsStep w step = IsKnown w step.id step.known
 
--- the step is to the node's parent, where there is one
+-- the step is to the node's parent, if there is one
 abbrev pub IsStepAbove : World → FullNodeId → Option Step → Type 0
 IsStepAbove w id above = IfSome above (λ step. (Some step.id ≡ option_map (λ p. p.0) (place_of w id)) × IsStep w step)

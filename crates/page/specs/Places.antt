@@ -13,7 +13,7 @@ use Rattle.page.specs.Known.{is_in_secret}
 abbrev pub node_at : Place → NodeRef
 node_at place = place.node
 
--- what a place says is so of its node
+-- the properties are those of the node
 pub record IsPlace (place : Place) : Type 0 where
   pub answer : place.answer ≡ common_filter (world_at place.node) (id_at place.node)
   pub hidden : place.is_hidden ≡ is_hidden (world_at place.node) (id_at place.node)

@@ -4,7 +4,7 @@ use Rattle.std.specs.Fmt.{decimal}
 use Rattle.html.specs.Escaped.{element_text}
 use Rattle.model.specs.declared.FullNodeId.{FullNodeId}
 
--- a space and a text in an element, where there is one
+-- a space and a text in an element, if there is one
 abbrev pub word_text : List ℕ → List ℕ → Option (List ℕ) → List ℕ
 word_text name class None = []
 word_text name class (Some word) = codes " " ++ element_text name class word

@@ -106,7 +106,7 @@ impl Extent {
         }
     }
 
-    /// The frame of a picture: all boxes of included nodes, and others as far as they are near those.
+    /// The frame of a picture: all boxes of included nodes, and others as far as they lie near those.
     fn picture(self) -> Option<Frame> {
         let all = self.all?;
         let Some(shown) = self.shown else {

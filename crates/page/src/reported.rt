@@ -191,7 +191,7 @@ fn write_difference<O: Write>(
     write_text_or_none(new, out)
 }
 
-/// Writes a text in quotes, or that there is none.
+/// Writes a text in quotes, or that there isn't one.
 fn write_text_or_none<O: Write>(text: Option<&str>, out: &mut O) -> io::Result<()> {
     match text {
         Some(text) => write_element("q", "l", text, out),

@@ -1,4 +1,4 @@
--- What is said of the focus.
+-- What is said of the focused node.
 use Rattle.std.specs.Prelude.{ℕ, ◌+◌, List, [], ◌++◌, Option, Some, None, codes, option_copied}
 use Rattle.std.specs.Fmt.{decimal}
 use Rattle.phrases.specs.declared.focus.Focus.{Focus}
@@ -6,12 +6,12 @@ use Rattle.phrases.specs.declared.focus.Place.{Place}
 use Rattle.phrases.specs.Quoted.{named, part}
 use Rattle.phrases.specs.StateTexts.{state_text}
 
--- a place in a set, counted from 1
+-- a position in a set, counted from 1
 abbrev pub place_text : Option Place → List ℕ
 place_text None = []
 place_text (Some place) = codes ", " ++ decimal (place.position + 1) ++ codes " of " ++ decimal place.size
 
--- the role, the name, the value, what stands in place of a value, the state, and the place
+-- the role, the name, the value, the placeholder, the state, and the position in the set
 abbrev pub focus_text : Focus → List ℕ
 focus_text s =
     s.role.now ++ named (option_copied s.label) ++ part (codes "value") (option_copied s.value)

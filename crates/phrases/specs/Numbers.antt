@@ -2,7 +2,7 @@
 use Rattle.std.specs.Prelude.{ℕ, ◌/◌, ◌%◌, ◌==◌, List, [], ◌++◌, ℤ, pos, int_lt, unsigned_abs, codes, if◌then◌else◌}
 use Rattle.std.specs.Fmt.{decimal}
 
--- what stands behind the whole number, without zeros at its end
+-- the decimals, without trailing zeros
 abbrev pub fraction : ℕ → List ℕ
 fraction n =
     if n % 1000 == 0 then []
@@ -13,6 +13,6 @@ fraction n =
 abbrev pub sign : ℤ → List ℕ
 sign z = if int_lt z (pos 0) then codes "-" else []
 
--- the number that has so many thousandths
+-- the number with this many thousandths
 abbrev pub thousandths : ℤ → List ℕ
 thousandths z = sign z ++ decimal (unsigned_abs z / 1000) ++ fraction (unsigned_abs z)

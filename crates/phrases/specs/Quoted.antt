@@ -1,7 +1,7 @@
 -- Texts in quotes.
 use Rattle.std.specs.Prelude.{ℕ, ◌==◌, List, [], ◌++◌, Option, Some, None, codes, chars, flat_map, encode_utf8, if◌then◌else◌}
 
--- a character of a text in quotes: a quote, a backslash and a newline stand behind a backslash
+-- a character of a text in quotes: a quote, a backslash and a newline are escaped by a backslash
 abbrev pub quoted_char : ℕ → List ℕ
 quoted_char c =
     if c == 34 then codes "\\\"" else if c == 92 then codes "\\\\" else if c == 10 then codes "\\n" else encode_utf8 c
@@ -15,7 +15,7 @@ abbrev pub named : Option (List ℕ) → List ℕ
 named None = []
 named (Some name) = codes " " ++ quoted name
 
--- a text with what it is, after a comma
+-- a text with a word for what it is, after a comma
 abbrev pub part : List ℕ → Option (List ℕ) → List ℕ
 part what None = []
 part what (Some text) = codes ", " ++ what ++ codes " " ++ quoted text

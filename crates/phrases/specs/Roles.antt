@@ -1,4 +1,4 @@
--- What roles are called.
+-- Words for roles.
 use Rattle.std.specs.Prelude.{ℕ, List as Sequence, codes}
 use Rattle.schema.specs.declared.Role.{Role}
 use Rattle.schema.specs.declared.Role.TheVariants.{Unknown, Window, ScrollView, Paragraph, GenericContainer, TextRun, Label, Image, Document, Terminal, TextInput, MultilineTextInput, SearchInput, DateInput, DateTimeInput, WeekInput, MonthInput, TimeInput, EmailInput, NumberInput, PasswordInput, PhoneNumberInput, UrlInput, EditableComboBox, SpinButton, ListBox, TabList, AlertDialog, Dialog, ComboBox, DisclosureTriangle, TreeItem, Button, CheckBox, DefaultButton, Link, MenuItem, MenuItemCheckBox, MenuItemRadio, RadioButton, DocBackLink, DocBiblioRef, DocGlossRef, DocNoteRef, ColorWell, Grid, MenuListPopup, RadioGroup, Slider, Switch, TreeGrid, Article, Definition, DescriptionList, GraphicsDocument, List, ListItem, PdfRoot, ProgressIndicator, RootWebArea, Term, Timer, Toolbar, Tooltip, Comment, Tab, ListBoxOption, MenuListOption, ListGrid, Menu, MenuBar, Tree, Other}
@@ -81,7 +81,7 @@ role_word MenuBar = codes "menu bar"
 role_word Tree = codes "tree"
 role_word (Other number) = codes "element"
 
--- what is said of a control that can be toggled: that it is checked, that it is pressed, or that it is on
+-- how a toggle state is said: as checked, as pressed, or as on
 abbrev pub toggling_of : Role → Toggling
 toggling_of Button = Presses
 toggling_of DefaultButton = Presses

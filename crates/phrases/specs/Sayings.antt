@@ -1,4 +1,4 @@
--- What is said, line by line.
+-- The lines of speech.
 use Rattle.std.specs.Prelude.{ℕ, List, ◌++◌, Option, Some, None, codes, option_copied, length, ◌==◌, if◌then◌else◌}
 use Rattle.schema.specs.declared.values.Live.{Live}
 use Rattle.phrases.specs.declared.differences.Change.{Change}
@@ -9,7 +9,7 @@ use Rattle.phrases.specs.Quoted.{quoted}
 use Rattle.phrases.specs.Focus.{focus_text}
 use Rattle.phrases.specs.States.{after_comma, where_it_is, live_word}
 
--- a title, or that there is none
+-- a title, or that it is missing
 abbrev pub titled : Option (List ℕ) → List ℕ
 titled None = codes "no name"
 titled (Some title) = quoted title
@@ -24,11 +24,11 @@ change_text c =
     else if length c.typed.now == 0 then codes "removed " ++ quoted c.removed.now
     else codes "removed " ++ quoted c.removed.now ++ codes ", typed " ++ quoted c.typed.now
 
--- a line that tells a text of a live region
+-- a line that announces a text of a live region
 abbrev pub live_line : Live → List ℕ → List ℕ
 live_line live text = codes "live (" ++ live_word live ++ codes "): " ++ quoted text ++ codes "\n"
 
--- a line of the new label, of the new value, of a word for the state, and of the line on which the caret is
+-- a line of the new label, of the new value, of a word for the state, and of the line of the caret
 abbrev pub label_line : List ℕ → List ℕ
 label_line label = codes "label: " ++ quoted label ++ codes "\n"
 
@@ -41,7 +41,7 @@ state_line word = codes "state: " ++ word ++ codes "\n"
 abbrev pub caret_line : List ℕ → List ℕ
 caret_line line = codes "line: " ++ quoted line ++ codes "\n"
 
--- a line of what is said
+-- a line of speech
 abbrev pub saying : Saying → List ℕ
 saying (Focused focus) = codes "focus: " ++ focus_text focus ++ codes "\n"
 saying (InDialog dialog) = dialog_text dialog ++ codes "\n"

@@ -22,7 +22,7 @@ switched_word False = codes "off"
 switched_word True = codes "on"
 switched_word Mixed = codes "partly on"
 
--- to what a control is set that can be toggled
+-- the toggle state of a control
 abbrev pub toggled_word : Toggling → Toggled → List ℕ
 toggled_word Checks toggled = checked_word toggled
 toggled_word Presses toggled = pressed_word toggled
@@ -34,16 +34,16 @@ expanded_word is = if is then codes "expanded" else codes "collapsed"
 abbrev pub selected_word : Bool → List ℕ
 selected_word is = if is then codes "selected" else codes "not selected"
 
--- a word after a comma, where there is one
+-- a word after a comma, if there is one
 abbrev pub after_comma : Option (List ℕ) → List ℕ
 after_comma None = []
 after_comma (Some word) = codes ", " ++ word
 
--- a word where it applies
+-- a word if it applies
 abbrev pub where_it_is : Bool → List ℕ → Option (List ℕ)
 where_it_is is word = if is then Some word else None
 
--- what is said of a property that was `old` and is `new`: its word, if it is another one
+-- what is said of a property that was `old` and is `new`: its word, if it differs
 abbrev pub new_word : {A : Type 0} → (A → A → Bool) → (A → List ℕ) → Option A → Option A → Option (List ℕ)
 new_word same word old None = None
 new_word same word None (Some new) = Some (word new)
@@ -64,7 +64,7 @@ same_toggle _ _ = false
 abbrev pub flag_word : List ℕ → List ℕ → Bool → Bool → Option (List ℕ)
 flag_word on off old new = if same_flag old new then None else Some (if new then on else off)
 
--- how a change of a live region is told
+-- how a change of a live region is announced
 abbrev pub live_word : Live → List ℕ
 live_word Off = codes "off"
 live_word Polite = codes "polite"

@@ -1,11 +1,11 @@
--- How a change of a live region is told.
+-- How a change of a live region is announced.
 use Rattle.std.specs.Prelude.{ℕ, List, Option, Some, None}
 use Rattle.schema.specs.declared.values.Live.{Live}
 use Rattle.schema.specs.declared.values.Live.TheVariants.{Off, Polite, Assertive}
 use Rattle.phrases.specs.Sayings.{live_line}
 use Rattle.phrases.specs.Voices.{Speech, said_too, said_later}
 
--- a text of a live region is told at once, after everything else, or not at all
+-- a text of a live region is announced at once, after everything else, or not at all
 abbrev pub told : Live → Option (List ℕ) → Speech → Speech
 told live None s = s
 told Off (Some text) s = s

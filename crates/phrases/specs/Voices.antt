@@ -1,4 +1,4 @@
--- What is said, and what waits to be said.
+-- The lines said so far, and those that are postponed.
 use Rattle.std.specs.Prelude.{ℕ, List, [], ◌++◌}
 
 -- what is said so far, and what is said after everything else
@@ -14,6 +14,6 @@ said_too s line = record s { said = s.said ++ line }
 abbrev pub said_later : Speech → List ℕ → Speech
 said_later s line = record s { waiting = s.waiting ++ line }
 
--- what has waited is said
+-- the postponed lines are said
 abbrev pub all_said : Speech → Speech
 all_said s = record { said = s.said ++ s.waiting; waiting = [] }

@@ -40,7 +40,7 @@ pub struct Focus<'a> {
     /// The word for the role.
     pub role: &'a str,
     pub label: Option<&'a str>,
-    /// The value as it is shown.
+    /// The value as shown.
     pub value: Option<&'a str>,
     /// The hint that the node shows while it is empty.
     pub placeholder: Option<&'a str>,

@@ -34,7 +34,7 @@ impl Arguments for Asked {
 }
 
 impl Teller for Asked {
-    /// Prints the text of the node, or why it has none, and returns whether it has one.
+    /// Prints the text of the node, or why it has no text, and returns whether it has one.
     fn tell<O: Write>(
         &self,
         alloc: Global,

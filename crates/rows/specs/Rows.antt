@@ -13,7 +13,7 @@ module _ {X : Type 0} where
   abbrev pub Ascends : List (FullNodeId × X) → Type 0
   Ascends es = IsStrictlySortedBy full_cmp (keys_of es)
 
-  -- the value at an id, as `get full_cmp` of a map reads it
+  -- the value at an id, as `get full_cmp` of a map returns it
   abbrev pub row_at : List (FullNodeId × X) → FullNodeId → Option X
   row_at es id = lookup (is_at (full_cmp id)) es
 
@@ -33,6 +33,6 @@ module _ {X : Type 0} where
   abbrev pub IsPlace : List (FullNodeId × X) → FullNodeId → ℕ → Type 0
   IsPlace es id n = AllBelow es id n × NoneBelow es id n
 
-  -- both have one id
+  -- both have the same id
   abbrev pub same_id : FullNodeId × X → FullNodeId × X → Bool
   same_id x y = is_eq (full_cmp x.0 y.0)

@@ -11,7 +11,7 @@ use model::FullNodeId;
 use std::alloc::Global;
 use std::marker::Model;
 
-/// Values by id, in ascending order of ids, each id once.
+/// Values by id, in ascending order of ids; each id occurs once.
 #[derive(Drop)]
 pub struct Rows<V: Copy + Drop> {
     pub(crate) items: Vec<(FullNodeId, V)>,

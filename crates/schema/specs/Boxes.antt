@@ -1,11 +1,11 @@
--- What is read off a rectangle. A reversed one contains nothing.
+-- The size, centre and contents of a rectangle. A reversed one contains nothing.
 use Rattle.std.specs.Prelude.{ℤ, pos, ◌+ℤ◌, int_lt, int_le, Bool, ◌&&◌}
 use Rattle.std.specs.Int.{int_div_euclid}
 use Rattle.schema.specs.declared.geometry.Point.{Point}
 use Rattle.schema.specs.declared.geometry.Rect.{Rect}
 use Rattle.schema.specs.declared.geometry.WideRect.{WideRect}
 
--- the number is in a span, whose end isn't
+-- the number is in a span, from its start to before its end
 abbrev pub is_between : ℤ → ℤ → ℤ → Bool
 is_between low high z = int_le low z && int_lt z high
 

@@ -1,4 +1,4 @@
--- A node that is being built: what it has so far, or nothing once memory was wanting.
+-- A node that is being built: what it has so far, or nothing once an allocation has failed.
 use Rattle.std.specs.Prelude.{◌≡◌, Option, option_map, IsSome}
 use Rattle.schema.specs.NodeData.{NodeData}
 

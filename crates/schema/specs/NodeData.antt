@@ -1,4 +1,4 @@
--- What a node says, field by field. Nothing here tells how a node is kept in memory.
+-- The data of a node, field by field, independent of how a node is stored in memory.
 -- A text is the list of its UTF-8 bytes. A set of actions is the number whose bits are its members (Actions.antt).
 use Rattle.std.specs.Prelude.{ℕ, ℤ, List, [], Bool, false, Option, None}
 use Rattle.schema.specs.declared.NodeId.{NodeId}
@@ -57,7 +57,7 @@ pub record NodeData : Type 0 where
   pub touch_transparent : Bool
   pub italic : Bool
   pub clips_children : Bool
-  -- flags that may be absent
+  -- flags that may be unset
   pub expanded : Option Bool
   pub selected : Option Bool
   pub level : Option ℕ
@@ -69,7 +69,7 @@ pub record NodeData : Type 0 where
   pub max_numeric_value : Option ℤ
   pub numeric_value_step : Option ℤ
   pub numeric_value_jump : Option ℤ
-  -- scroll positions, a rectangle and a translation, in sixty-fourths of a pixel
+  -- scroll positions, a rectangle and a translation, in units of 1/64 pixel
   pub scroll_x : Option ℤ
   pub scroll_x_min : Option ℤ
   pub scroll_x_max : Option ℤ
@@ -86,7 +86,7 @@ pub record NodeData : Type 0 where
   pub character_lengths : List ℕ
   -- the index of the first character of each word
   pub word_starts : List ℕ
-  -- where each character begins and how far it reaches, in sixty-fourths of a pixel
+  -- where each character begins and its width, in units of 1/64 pixel
   pub character_positions : Option (List ℤ)
   pub character_widths : Option (List ℤ)
   -- in hundredths of a pixel

@@ -67,7 +67,7 @@ text_under RowIndexText d = d.row_index_text
 text_under FontFamily d = d.font_family
 text_under Language d = d.language
 
--- what stands under j once the text is under key, where old stood under j
+-- the text under j once the text is under key, if old was under j
 abbrev pub after_change : RareText → Option (List ℕ) → RareText → Option (List ℕ) → Option (List ℕ)
 after_change key text j old = if key_number j == key_number key then text else old
 
@@ -93,7 +93,7 @@ with_text key text d = record {
 abbrev pub entry_seen : {Z : Type 0} → RareText × String Z → RareText × List ℕ
 entry_seen e = (e.0, string_bytes e.1)
 
--- whether an entry stands under a key
+-- whether an entry is under a key
 abbrev pub is_under : {Z : Type 0} → RareText → RareText × String Z → Bool
 is_under key e = key_number e.0 == key_number key
 
@@ -101,7 +101,7 @@ is_under key e = key_number e.0 == key_number key
 abbrev pub text_at : {Z : Type 0} → List (RareText × String Z) → RareText → Option (List ℕ)
 text_at es key = option_map (λ e. string_bytes e.1) (find (is_under key) es)
 
--- what a list of entries says
+-- the texts of a list of entries
 abbrev pub texts_of : {Z : Type 0} → List (RareText × String Z) → RareTextsData
 texts_of es = record {
   description = text_at es Description;

@@ -156,7 +156,7 @@ other_number Menu = None
 other_number MenuBar = None
 other_number Tree = None
 
--- the name, and behind it the number in parentheses, where there is one
+-- the name, followed by the number in parentheses, if there is one
 abbrev pub with_number : Sequence ℕ → Option ℕ → Sequence ℕ
 with_number name None = name
 with_number name (Some n) = name ++ codes "(" ++ decimal n ++ codes ")"

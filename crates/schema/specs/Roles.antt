@@ -164,7 +164,7 @@ back MenuBar = refl
 back Tree = refl
 back (Other n) = let e : 72 + n - 72 ≡ n = omega arith in rw (not_below n, e)
 
--- whether two roles are one
+-- whether two roles are equal
 abbrev pub same_role : Role → Role → Bool
 same_role a b = role_number a == role_number b
 

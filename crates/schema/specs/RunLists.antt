@@ -1,4 +1,4 @@
--- What a text run says of its characters, as plain data.
+-- The lists about a text run's characters, as plain data.
 use Rattle.std.specs.Prelude.{ℕ, ℤ, List, [], Option, None}
 
 pub record RunListsData : Type 0 where

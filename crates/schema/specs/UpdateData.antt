@@ -1,4 +1,4 @@
--- What an update says, as plain data.
+-- An update, as plain data.
 use Rattle.std.specs.Prelude.{ℕ, List, Option, option_map}
 use Rattle.std.specs.String.{string_bytes}
 use Rattle.schema.specs.NodeData.{NodeData}
@@ -7,13 +7,13 @@ use Rattle.schema.specs.declared.TreeId.{TreeId}
 use Rattle.schema.specs.declared.update.TreeInfo.{TreeInfo}
 use Rattle.schema.specs.declared.update.TreeUpdate.{TreeUpdate}
 
--- of a tree as a whole: its root, and the texts of its toolkit
+-- the tree info: the tree's root, and the texts of its toolkit
 pub record InfoData : Type 0 where
   pub root : NodeId
   pub toolkit_name : Option (List ℕ)
   pub toolkit_version : Option (List ℕ)
 
--- of one tree: the nodes in the order in which they are sent, the tree as a whole, its name and its focus
+-- an update of one tree: the nodes in the order in which they are sent, the tree info, the tree's name and its focus
 pub record UpdateData : Type 0 where
   pub nodes : List (NodeId × NodeData)
   pub info : Option InfoData

@@ -1,4 +1,4 @@
--- What a buffer of text holds: the bytes that it received, and how many calls failed.
+-- The contents of a text buffer: the bytes that it received, and the number of failed calls.
 use Rattle.std.specs.Prelude.{ℕ, List}
 
 pub record Written : Type 0 where

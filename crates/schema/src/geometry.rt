@@ -10,7 +10,7 @@ ghost use Rattle.schema.specs.Boxes.{has_point, is_between, middle, wide_has_poi
 /// How many units a pixel has.
 const UNITS_OF_PIXEL: i32 = 64;
 
-/// A rectangle, from `(x0, y0)` to `(x1, y1)`, in units of 1/64 pixel. It may be empty or reversed.
+/// A rectangle, from `(x0, y0)` to `(x1, y1)`, in units of 1/64 pixel. A rectangle can be empty or reversed.
 #[derive(Clone, Copy, Debug, PartialEq, Eq, Hash)]
 pub struct Rect {
     pub x0: i32,

@@ -13,7 +13,7 @@ action_numbered n =
     else if n == 3 then Decrement
     else Other (n - 4)
 
--- an action as a list, where it is one of the set
+-- an action as a list, if it is one of the set
 unfoldable pub chosen : Bool → Action → List Action
 chosen is_in action = if is_in then action ∷ [] else []
 

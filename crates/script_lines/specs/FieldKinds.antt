@@ -1,4 +1,4 @@
--- The fields of a node by the kinds of their values: what they are called, and what they have.
+-- The fields of a node by the kinds of their values: their names and their values.
 use Rattle.std.specs.Prelude.{ℕ, ℤ, List, codes, Bool, Option}
 use Rattle.schema.specs.NodeData.{NodeData}
 use Rattle.schema.specs.declared.NodeId.{NodeId}
@@ -173,7 +173,7 @@ abbrev pub with_numbers : NumbersField → List ℕ → NodeData → NodeData
 with_numbers numbers.CharacterLengths value n = record n { character_lengths = value }
 with_numbers numbers.WordStarts value n = record n { word_starts = value }
 
--- ---- lists of numbers of units
+-- ---- lists of numbers in units of 1/64 pixel
 
 abbrev pub units_name : UnitsField → List ℕ
 units_name units.CharacterPositions = codes "character_positions"
@@ -187,7 +187,7 @@ abbrev pub with_units : UnitsField → Option (List ℤ) → NodeData → NodeDa
 with_units units.CharacterPositions value n = record n { character_positions = value }
 with_units units.CharacterWidths value n = record n { character_widths = value }
 
--- ---- flags that may be absent
+-- ---- flags that may be unset
 
 abbrev pub bool_name : BoolField → List ℕ
 bool_name bool.Expanded = codes "expanded"
@@ -215,7 +215,7 @@ abbrev pub with_color : ColorField → Option Color → NodeData → NodeData
 with_color color.Background value n = record n { background_color = value }
 with_color color.Foreground value n = record n { foreground_color = value }
 
--- ---- lines at a text
+-- ---- lines above, through or below text
 
 abbrev pub decoration_name : DecorationField → List ℕ
 decoration_name decoration.Overline = codes "overline"

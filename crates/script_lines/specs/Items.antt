@@ -1,4 +1,4 @@
--- A list of which each item but the first stands after a comma.
+-- A list in which each item but the first is after a comma.
 use Rattle.std.specs.Prelude.{ℕ, List, ◌++◌, codes, flat_map}
 
 -- an item after a comma

@@ -1,4 +1,4 @@
--- What is read of a line, and of the one that begins an update a field at a time.
+-- The reading of a line, and of the one that begins an update, field by field.
 use Rattle.std.specs.Bool.{⊤}
 use Rattle.std.specs.Prelude.{ℕ, List, [], ◌∷◌, ◌++◌, codes, Bool, true, false, Option, Some, None, MatchOption, option_map, ◌≡◌, ◌≢◌, slice_index_or}
 use Rattle.std.specs.Fmt.{decimal}
@@ -19,7 +19,7 @@ use Rattle.script_lines.specs.Reading.{IsId, IsTreeName, IsWord, after}
 abbrev pub IsLineWord : List ℕ → Type 0
 IsLineWord text = IsWord text × (slice_index_or text 0 0 ≢ 35)
 
--- what says whether the host has the focus
+-- the words for whether the host is focused
 abbrev pub host_word : Bool → List ℕ
 host_word true = codes "on"
 host_word false = codes "off"
@@ -28,7 +28,7 @@ host_word false = codes "off"
 abbrev pub BeginsUpdate : UpdateData → Line → Type 0
 BeginsUpdate u line = (update : TreeUpdate) × (line ≡ says.Update update) × (update_data update ≡ u)
 
--- ---- an update's head whose numbers, names and texts are such as their types have them
+-- ---- an update's head whose numbers, names and texts are within the bounds of their types
 
 abbrev pub IsInfo : InfoData → Type 0
 IsInfo info = IsId info.root × MatchOption info.toolkit_name ⊤ IsUtf8 × MatchOption info.toolkit_version ⊤ IsUtf8
@@ -62,7 +62,7 @@ IsHeadField (Root id) = IsId id
 IsHeadField (Toolkit text) = IsUtf8 text
 IsHeadField (Version text) = IsUtf8 text
 
--- what is left of the line where these fields come next
+-- the rest of the line if these fields come next
 unfoldable pub rest_text : List HeadField → Option (List ℕ)
 rest_text [] = None
 rest_text (field ∷ others) = Some (head_name field ++ codes "=" ++ head_value field ++ after (rest_text others))
@@ -107,7 +107,7 @@ with_head_field (Root id) head = record head { root = Some id }
 with_head_field (Toolkit text) head = record head { toolkit = Some text }
 with_head_field (Version text) head = record head { version = Some text }
 
--- a field that isn't there yet
+-- a field that wasn't read yet
 abbrev pub IsFree : HeadField → HeadData → Type 0
 IsFree (Focus id) head = head.focus ≡ None
 IsFree (Root id) head = head.root ≡ None
@@ -123,7 +123,7 @@ unfoldable pub AreFree : List HeadField → HeadData → Type 0
 AreFree [] head = ⊤
 AreFree (field ∷ others) head = IsHeadField field × IsFree field head × AreFree others (with_head_field field head)
 
--- all that an update's head says
+-- all fields of an update's head
 abbrev pub info_head : NodeId → Option InfoData → HeadData
 info_head focus None = record { focus = Some focus; root = None; toolkit = None; version = None }
 info_head focus (Some info) = record { focus = Some focus; root = Some info.root; toolkit = info.toolkit_name; version = info.toolkit_version }

@@ -1,4 +1,4 @@
--- What is written of a command: the text of its lines.
+-- The written form of a command: the text of its lines.
 use Rattle.std.specs.Prelude.{ℕ, List, [], ◌++◌, codes, flat_map, Bool, true, false, Option, Some, None, option_map, ◌≡◌, ◌⊎◌}
 use Rattle.std.specs.Fmt.{decimal}
 use Rattle.schema.specs.NodeData.{NodeData}
@@ -13,7 +13,7 @@ use Rattle.script_lines.specs.Parts.{word_field, tree_text}
 use Rattle.script_lines.specs.Quoted.{quoted}
 use Rattle.script_lines.specs.Questions.{question_line}
 
--- of a tree as a whole
+-- of the tree info
 abbrev pub info_text : InfoData → List ℕ
 info_text info = codes " root=" ++ decimal info.root.0 ++ word_field (codes "toolkit") (option_map quoted info.toolkit_name) ++ word_field (codes "version") (option_map quoted info.toolkit_version)
 
@@ -21,7 +21,7 @@ abbrev pub info_or_nothing : Option InfoData → List ℕ
 info_or_nothing None = []
 info_or_nothing (Some info) = info_text info
 
--- what stands in the line that begins an update, after its first word
+-- the line that begins an update, after its first word
 abbrev pub head_args : UpdateData → List ℕ
 head_args u = tree_text u.name ++ codes " focus=" ++ decimal u.focus.0 ++ info_or_nothing u.info
 
@@ -49,6 +49,6 @@ command_lines (command.HostFocus is_host_focused) = host_line is_host_focused
 command_lines command.Print = codes "print\n"
 command_lines (command.Query query) = question_line query
 
--- what stops a writing: a fault of the output, or want of memory
+-- what stops the writing: an error of the output, or lack of memory
 abbrev pub StopsWriting : Stop → Type 0
 StopsWriting stop = (stop ≡ WriteFault) ⊎ (stop ≡ Memory)

@@ -1,4 +1,4 @@
--- What the values of fields are called.
+-- The names of the values of fields.
 use Rattle.std.specs.Prelude.{ℕ, List, codes, Bool, true, false}
 use Rattle.schema.specs.declared.values.Toggled.{Toggled}
 use Rattle.schema.specs.declared.values.Toggled.TheVariants as toggled

@@ -1,4 +1,4 @@
--- What is read of a node: a field at a time, in any order.
+-- The reading of a node, field by field, in any order.
 use Rattle.std.specs.Bool.{⊤}
 use Rattle.std.specs.Prelude.{ℕ, ◌<◌, ◌^◌, All, List, [], ◌∷◌, ◌++◌, codes, false, None, MatchOption, ◌≡◌}
 use Rattle.std.specs.Fmt.{decimal}
@@ -12,9 +12,9 @@ use Rattle.script_lines.specs.declared.field_kinds.Field.TheVariants as field
 use Rattle.script_lines.specs.NodeText.{fields_text}
 use Rattle.script_lines.specs.Reading.{IsTreeName, IsCount, IsNumber, IsUnits, IsShort, IsId, IsRect, IsTranslation, IsSelection, IsColor, IsDecoration, IsRole}
 
--- ---- a node without a field, and with what another has there
+-- ---- a node without a field, and with another node's value of it
 
--- it isn't there
+-- it isn't set
 abbrev pub IsWithout : Field → NodeData → Type 0
 IsWithout (field.Ids which) n = ids_at which n ≡ []
 IsWithout (field.Id which) n = id_at which n ≡ None
@@ -44,7 +44,7 @@ IsWithout field.TextDirection n = n.text_direction ≡ None
 IsWithout field.TextAlign n = n.text_align ≡ None
 IsWithout field.VerticalOffset n = n.vertical_offset ≡ None
 
--- a node that has in a field what another one has
+-- a node with another node's value of a field
 unfoldable pub with_field : Field → NodeData → NodeData → NodeData
 with_field (field.Ids which) other n = with_ids which (ids_at which other) n
 with_field (field.Id which) other n = with_id which (id_at which other) n
@@ -107,7 +107,7 @@ unfoldable pub without_all : List Field → NodeData → NodeData
 without_all [] n = n
 without_all (which ∷ others) n = without which (without_all others n)
 
--- ---- nodes whose numbers and texts are such as their types have them
+-- ---- nodes whose numbers and texts are within the bounds of their types
 
 abbrev pub IsValue : Field → NodeData → Type 0
 IsValue (field.Ids which) n = All IsId (ids_at which n)

@@ -1,4 +1,4 @@
--- What is written of a node: its fields in a fixed order, each where it is there.
+-- The written form of a node: its fields in a fixed order, each if it is set.
 use Rattle.std.specs.Prelude.{ℕ, List, [], ◌∷◌, ◌++◌, codes, flat_map, Option, None, option_map}
 use Rattle.std.specs.Fmt.{decimal, signed_decimal}
 use Rattle.schema.specs.NodeData.{NodeData}
@@ -25,7 +25,7 @@ use Rattle.script_lines.specs.Names.{toggled_name, truth_name, live_name, orient
 use Rattle.script_lines.specs.Parts.{flag_text, word_field, id_text, ids_value, numbers_value, units_text, tree_text, rect_text, translation_text, selection_text, color_text, decoration_text, actions_value}
 use Rattle.script_lines.specs.Quoted.{quoted}
 
--- the value of a field, as it is written, where it is there
+-- the written value of a field, if it is set
 abbrev pub value_of : NodeData → Field → Option (List ℕ)
 value_of n (field.Ids which) = ids_value (ids_at which n)
 value_of n (field.Id which) = option_map id_text (id_at which n)
@@ -55,7 +55,7 @@ value_of n field.TextDirection = option_map text_direction_name n.text_direction
 value_of n field.TextAlign = option_map text_align_name n.text_align
 value_of n field.VerticalOffset = option_map vertical_offset_name n.vertical_offset
 
--- what is written of a field: nothing, where it isn't there
+-- the written form of a field: nothing if it isn't set
 abbrev pub piece : NodeData → Field → List ℕ
 piece n (field.Flag which) = flag_text (field_name (field.Flag which)) (flag_at which n)
 piece n which = word_field (field_name which) (value_of n which)
@@ -85,11 +85,11 @@ all_fields =
     field.Number number.ScrollYMin ∷ field.Number number.ScrollYMax ∷ field.Actions actions.Own ∷
     field.Actions actions.Children ∷ []
 
--- all that is written of a node's fields
+-- the written form of all of a node's fields
 unfoldable pub fields_text : NodeData → List ℕ
 fields_text n = flat_map (piece n) all_fields
 
--- what a node's line begins with
+-- the beginning of a node's line
 unfoldable pub node_head : NodeId → Role → List ℕ
 node_head id role = codes "node " ++ decimal id.0 ++ codes " " ++ role_text role
 

@@ -1,4 +1,4 @@
--- The parts of a line: how a field stands in it, and how its value does.
+-- The parts of a line: fields and their values.
 use Rattle.std.specs.Prelude.{ℕ, ℤ, List, [], ◌∷◌, ◌++◌, codes, flat_map, Bool, Option, Some, None, if◌then◌else◌}
 use Rattle.std.specs.Fmt.{decimal, signed_decimal}
 use Rattle.std.specs.Str.{bytes_eq}
@@ -16,7 +16,7 @@ use Rattle.schema.specs.declared.values.TextPosition.{TextPosition}
 use Rattle.schema.specs.declared.values.TextSelection.{TextSelection}
 use Rattle.script_lines.specs.Names.{decoration_style_name}
 
--- a flag, where it is set
+-- a flag, if it is set
 unfoldable pub flag_text : List ℕ → Bool → List ℕ
 flag_text name is_set = if is_set then codes " " ++ name else []
 
@@ -24,7 +24,7 @@ flag_text name is_set = if is_set then codes " " ++ name else []
 abbrev pub field_text : List ℕ → List ℕ → List ℕ
 field_text name value = codes " " ++ name ++ codes "=" ++ value
 
--- a field, where there is a value
+-- a field, if there is a value
 unfoldable pub word_field : List ℕ → Option (List ℕ) → List ℕ
 word_field name None = []
 word_field name (Some word) = field_text name word
@@ -63,7 +63,7 @@ color_text c = decimal c.red ++ codes "," ++ decimal c.green ++ codes "," ++ dec
 abbrev pub decoration_text : TextDecoration → List ℕ
 decoration_text d = decoration_style_name d.style ++ codes "," ++ color_text d.color
 
--- ---- lists, each item but the first after a comma; none where there are no items
+-- ---- lists, each item but the first after a comma; nothing if there are no items
 
 abbrev pub comma_id : NodeId → List ℕ
 comma_id id = codes "," ++ decimal id.0
@@ -88,7 +88,7 @@ numbers_value (number ∷ others) = Some (numbers_text number others)
 abbrev pub comma_units : ℤ → List ℕ
 comma_units number = codes "," ++ signed_decimal number
 
--- here `-` stands for a list without items, since there may also be none
+-- here `-` stands for an empty list, since the list may also be absent
 abbrev pub units_text : List ℤ → List ℕ
 units_text [] = codes "-"
 units_text (number ∷ others) = signed_decimal number ++ flat_map comma_units others

@@ -1,4 +1,4 @@
--- What is written of a question.
+-- The written form of a query.
 use Rattle.std.specs.Prelude.{ℕ, List, ◌++◌, codes, Option, Some, None, ⊤}
 use Rattle.std.specs.Fmt.{decimal, signed_decimal}
 use Rattle.schema.specs.declared.NodeId.{NodeId}
@@ -17,7 +17,7 @@ use Rattle.script_lines.specs.Reading.{IsCount, IsName, IsNumber, after}
 abbrev pub name_text : NodeId × TreeId → List ℕ
 name_text name = decimal name.0.0 ++ codes " " ++ tree_text name.1
 
--- a place in a text
+-- a position in a text
 abbrev pub at_text : At → List ℕ
 at_text at = decimal at.index ++ codes " " ++ side_name at.side
 
@@ -27,7 +27,7 @@ asked_line word name = word ++ codes " " ++ name_text name ++ codes "\n"
 abbrev pub asked_by_filter_line : List ℕ → NodeId × TreeId → NamedFilter → List ℕ
 asked_by_filter_line word name filter = word ++ codes " " ++ name_text name ++ codes " " ++ filter_name filter ++ codes "\n"
 
--- a point, as the node sees it
+-- a point in the node's coordinates
 unfoldable pub point_text : Point → List ℕ
 point_text point = signed_decimal point.x ++ codes " " ++ signed_decimal point.y
 
@@ -44,7 +44,7 @@ indexes_line name at = codes "indexes " ++ name_text name ++ codes " " ++ at_tex
 abbrev pub between_line : NodeId × TreeId → At → At → List ℕ
 between_line name start finish = codes "between " ++ name_text name ++ codes " " ++ at_text start ++ codes " " ++ at_text finish ++ codes "\n"
 
--- the word that a question begins with
+-- the word that a query begins with
 abbrev pub question_word : Query → List ℕ
 question_word (query.Children name) = codes "children"
 question_word (query.FollowingSiblings name) = codes "following"
@@ -83,14 +83,14 @@ question_args (query.Move name at movement) = Some (name_text name ++ codes " " 
 question_args (query.Indexes name at) = Some (name_text name ++ codes " " ++ at_text at)
 question_args (query.RangeText name start finish) = Some (name_text name ++ codes " " ++ at_text start ++ codes " " ++ at_text finish)
 
--- a question's line, without its end
+-- a query's line, without its end
 abbrev pub question_text : Query → List ℕ
 question_text q = question_word q ++ after (question_args q)
 
 abbrev pub question_line : Query → List ℕ
 question_line q = question_text q ++ codes "\n"
 
--- its numbers and names are such as their types have them
+-- its numbers and names are within the bounds of their types
 abbrev pub IsQuery : Query → Type 0
 IsQuery (query.Children name) = IsName name
 IsQuery (query.FollowingSiblings name) = IsName name

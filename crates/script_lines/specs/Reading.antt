@@ -1,4 +1,4 @@
--- What stands at the beginning of what is left of a line.
+-- The beginning of the rest of a line.
 use mir.Syntax.{w32, w64}
 use Rattle.std.specs.Prelude.{ℕ, ℤ, ◌<◌, ◌^◌, All, FitsSigned, List, [], ◌∷◌, ◌++◌, length, slice_index_or, Option, Some, None, Result, MatchResult, ◌≡◌, ◌≢◌}
 use Rattle.schema.specs.declared.NodeId.{NodeId}
@@ -24,16 +24,16 @@ Lacks c text = (i : ℕ) → i < length text → slice_index_or text i 0 ≢ c
 abbrev pub IsWord : List ℕ → Type 0
 IsWord text = Lacks 32 text × (0 < length text)
 
--- what is left, with this character before it
+-- the rest, with this character before it
 abbrev pub behind : ℕ → Option (List ℕ) → List ℕ
 behind c None = []
 behind c (Some rest) = c ∷ rest
 
--- what is left of a line, with the space before it
+-- the rest of a line, with the space before it
 abbrev pub after : Option (List ℕ) → List ℕ
 after = behind 32
 
--- this text comes next, and then what is left
+-- this text comes next, and then the rest
 abbrev pub Begins : Option (List ℕ) → List ℕ → Option (List ℕ) → Type 0
 Begins line text left = line ≡ Some (text ++ after left)
 
@@ -41,7 +41,7 @@ Begins line text left = line ≡ Some (text ++ after left)
 abbrev pub IsTreeName : TreeId → Type 0
 IsTreeName tree = (length tree.0 ≡ 16) × All (λ b. b < 256) tree.0
 
--- as a type of 64 bits, or of 32, has numbers
+-- a number that fits 64 bits, or 32
 abbrev pub IsCount : ℕ → Type 0
 IsCount n = n < 2 ^ 64
 
@@ -51,7 +51,7 @@ IsNumber z = FitsSigned w64 z
 abbrev pub IsUnits : ℤ → Type 0
 IsUnits z = FitsSigned w32 z
 
--- of 16 bits, and of eight
+-- and 16 bits, and eight
 abbrev pub IsShort : ℕ → Type 0
 IsShort n = n < 2 ^ 16
 
@@ -62,7 +62,7 @@ IsByte n = n < 2 ^ 8
 abbrev pub IsId : NodeId → Type 0
 IsId id = IsCount id.0
 
--- ---- values whose numbers are such as their types have them
+-- ---- values whose numbers are within the bounds of their types
 
 abbrev pub IsRect : Rect → Type 0
 IsRect r = IsUnits r.x0 × IsUnits r.y0 × IsUnits r.x1 × IsUnits r.y1
@@ -88,7 +88,7 @@ IsAction a = (code : ℕ) → a ≡ action.Other code → IsByte code
 abbrev pub IsRole : Role → Type 0
 IsRole r = (code : ℕ) → r ≡ role.Other code → IsShort code
 
--- a node's name has them
+-- a node's name is within them
 abbrev pub IsName : NodeId × TreeId → Type 0
 IsName name = IsCount name.0.0 × IsTreeName name.1
 
@@ -96,6 +96,6 @@ IsName name = IsCount name.0.0 × IsTreeName name.1
 abbrev pub IsFieldName : List ℕ → Type 0
 IsFieldName name = IsWord name × Lacks 61 name
 
--- what is read is such, want of memory aside
+-- what is read is such, unless memory runs out
 abbrev pub Reads : {T : Type 0} → Result T Stop → (T → Type 0) → Type 0
 Reads result P = MatchResult result P (λ stop. stop ≡ Memory)

@@ -1,4 +1,4 @@
--- What a word says, in each of the forms in which a script may say it.
+-- The value that a word stands for, in each form that a script may use.
 use Rattle.std.specs.Prelude.{ℕ, ℤ, pos, neg_ℤ, ◌≡◌, ◌⊎◌, List, ◌++◌, codes, Some, MatchOption}
 use Rattle.std.specs.Str.Parse.{IsNumeral, digits_value}
 use Rattle.uuid.specs.Text.{parsed}

@@ -1,4 +1,4 @@
--- What a word says that has parts with commas or a colon between them.
+-- The value of a word that has parts separated by commas or a colon.
 use Rattle.std.specs.Prelude.{ℕ, ℤ, ◌≡◌, ◌⊎◌, List, [], ◌∷◌, ◌++◌, codes, Option, Some, None}
 use Rattle.schema.specs.declared.NodeId.{NodeId}
 use Rattle.schema.specs.declared.actions.Action.{Action}
@@ -14,7 +14,7 @@ use Rattle.script_lines.specs.Says.{SaysAction, SaysNumber, SaysSigned}
 
 -- ---- two parts
 
--- this character stands between a first part and a second one
+-- this character is between a first part and a second one
 abbrev pub SaysBoth : List ℕ → ℕ → (List ℕ → Type 0) → (List ℕ → Type 0) → Type 0
 SaysBoth word c First Second = (first : List ℕ) × (second : List ℕ) × (word ≡ first ++ (c ∷ second)) × First first × Second second
 
@@ -44,7 +44,7 @@ SaysDecoration word d = SaysBoth word 44 (λ part. part ≡ decoration_style_nam
 
 -- ---- lists
 
--- what is left, if anything is, are parts with one comma between them, and each says its item
+-- the rest, if there is any, consists of parts separated by commas, each standing for its item
 abbrev pub SaysItems : {T : Type 0} → (List ℕ → T → Type 0) → Option (List ℕ) → List T → Type 0
 SaysItems Says left [] = left ≡ None
 SaysItems Says left (item ∷ others) = (part : List ℕ) × (more : Option (List ℕ)) × (left ≡ Some (part ++ behind 44 more)) × Says part item × SaysItems Says more others
@@ -62,6 +62,6 @@ SaysListed part action = IsAction action × SaysAction part action
 abbrev pub SaysUnits : List ℕ → ℤ → Type 0
 SaysUnits part z = IsUnits z × SaysSigned part z
 
--- `-` for none
+-- `-` for an empty list
 abbrev pub SaysUnitList : List ℕ → List ℤ → Type 0
 SaysUnitList word units = ((word ≡ codes "-") × (units ≡ [])) ⊎ SaysItems SaysUnits (Some word) units

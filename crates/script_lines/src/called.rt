@@ -1,4 +1,4 @@
-//! The names of values, as they are written.
+//! The written names of values.
 ghost use Rattle.std.specs.Prelude.{◌≡◌, option_map, option_copied};
 ghost use Rattle.script_lines.specs.Names.{toggled_name, orientation_name, sort_direction_name, aria_current_name, has_popup_name, live_name, text_direction_name, text_align_name, vertical_offset_name, decoration_style_name, truth_name, filter_name, side_name, move_name};
 

@@ -28,7 +28,7 @@ command_said (command.Update u) = ToUpdate (update_data u)
 command_said (command.HostFocus focused) = ToHostFocus focused
 command_said (command.Query q) = ToQuery q
 
--- an error is a refusal with the fault that it names, or want of memory
+-- an error is a refusal with the rule that it names, or lack of memory
 abbrev pub reply_said : Reply → ReplyData
 reply_said reply.Accepted = Accepted
 reply_said (reply.Refused e) = option_map_or Refused (fault_of e) OutOfMemory
@@ -41,7 +41,7 @@ reply_said (reply.Indexes usv utf16 line) = Answered (answer.Indexes usv utf16 l
 reply_said reply.NoNode = Answered answer.NoNode
 reply_said reply.NotText = Answered answer.NotText
 
--- the name of the node that a query is about; that of the focus is about none
+-- the name of the node that a query is about; none for the query about the focus
 abbrev pub subject : Query → Option (NodeId × TreeId)
 subject (query.Children name) = Some name
 subject (query.FollowingSiblings name) = Some name
@@ -63,31 +63,31 @@ subject (query.RangeText name from to) = Some name
 abbrev pub IsAbout : World → FullNodeId → Query → Type 0
 IsAbout w id q = option_and_then (node_named w) (subject q) ≡ Some id
 
--- the reply is what is answered to a query of this world
+-- the reply is the answer to a query about this world
 abbrev pub IsAnswer : World → Query → Reply → Type 0
 IsAnswer w q r = reply_said r ≡ Answered (answer_of w q)
 
--- and to one that is asked of this node, by whatever name
+-- and to one about this node, by whatever name
 abbrev pub IsAnswerAt : World → FullNodeId → (NodeId × TreeId → Query) → Reply → Type 0
 IsAnswerAt w id asked r = (name : NodeId × TreeId) → node_named w name ≡ Some id → IsAnswer w (asked name) r
 
--- the reply to the command takes memory
+-- the reply to the command allocates
 abbrev pub TakesMemory : Command → Type 0
 TakesMemory (command.Update u) = ⊥
 TakesMemory (command.HostFocus focused) = ⊥
 TakesMemory (command.Query q) = IsTrue (takes_memory q)
 
--- the command takes one world to another, these events are told, and this is the reply; or memory was wanting for the reply, and nothing is done
+-- the command takes one world to another, these events are reported, and this is the reply; or memory for the reply ran out, and nothing is done
 abbrev pub IsStep : World → Command → World → List Event → Result Reply AllocError → Type 0
 IsStep old c new told (Ok reply) = Does old (command_said c) new told (reply_said reply)
 IsStep old c new told (Err wanting) = (new ≡ old) × (told ≡ []) × TakesMemory c
 
--- the commands in turn take one world to another, these events are told, and these are the replies; or memory was wanting, and so did the first of them
+-- the commands in turn take one world to another, these events are reported, and these are the replies; or memory ran out, and the first of them did so
 abbrev pub RunsAs : World → List Command → World → List Event → Result (Vec Reply) RunStopped → Type 0
 RunsAs old commands new told (Ok replies) = Runs old (map command_said commands) new told (map reply_said replies.items)
 RunsAs old commands new told (Err stopped) = RunsUpTo stopped.done old (map command_said commands) new told (map reply_said stopped.replies.items)
 
--- each session that is alike to this one, and wasn't stopped, replies alike and tells the same openly
+-- each session that is alike to this one, and wasn't stopped, has alike replies and reports the same openly
 abbrev pub IsAlike : World → List Command → List Event → Result (Vec Reply) RunStopped → Type 0
 IsAlike old commands told (Ok replies) = RunsAlike old (map command_said commands) told (map reply_said replies.items)
 IsAlike old commands told (Err stopped) = ⊤

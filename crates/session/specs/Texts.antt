@@ -1,4 +1,4 @@
--- Places in the text of a node.
+-- Positions in the text of a node.
 use Rattle.std.specs.Prelude.{ℕ, Option, None, if◌then◌else◌}
 use Rattle.model.specs.declared.FullNodeId.{FullNodeId}
 use Rattle.model.specs.declared.queries.At.{At}
@@ -9,10 +9,10 @@ use Rattle.model.specs.Queries.{position_at}
 use Rattle.texts.specs.declared.position.TextPosition.{TextPosition}
 use Rattle.texts.specs.Positions.{position_text, flat_position}
 
--- how many characters are before a position
+-- the number of characters before a position
 abbrev pub offset_at : TextPosition → ℕ
 offset_at p = offset (position_text p) (flat_position p)
 
--- the position of a place in the node's text, where there is both
+-- the position in the node's text, if the node has a text and the position exists
 abbrev pub position_in : World → FullNodeId → At → Option Position
 position_in w id at = if supports_text_ranges w id then position_at (flat_text w id) at else None

@@ -1,4 +1,4 @@
--- What a speaker and the mirror beside it are told of a step, and what is written of it.
+-- The events of a step that a speaker and its mirror receive, and what is written of the step.
 use Rattle.std.specs.Prelude.{◌≡◌, ℕ, List, [], false, Option, Some, option_map, Result}
 use Rattle.std.specs.Io.KnownBytes.{Appends}
 use Rattle.std.specs.declared.alloc.AllocError.{AllocError}
@@ -14,7 +14,7 @@ use Rattle.speaking.specs.Edits.{Settles}
 use Rattle.speaking.specs.Events.{Begins, Speaks}
 use Rattle.speaking.specs.Speakers.{said_by, waiting_in, text_held_by, fell_silent}
 
--- a speaker that had said nothing has said where the focus is as a tree begins
+-- a speaker that had said nothing has said the focus of a new tree
 pub record IsBegun (w : World) (t : Speaker) : Type 0 where
   pub before : Speaker
   pub said : said_by before ≡ []
@@ -22,11 +22,11 @@ pub record IsBegun (w : World) (t : Speaker) : Type 0 where
   pub speaks : fell_silent before ≡ false
   pub begins : Begins w before t
 
--- both hear of an event
+-- both receive an event
 abbrev pub Hears : Speaker × Option Records → Event → Speaker × Option Records → Type 0
 Hears s e t = Speaks s.0 e t.0 × MirrorsWhileKept s.1 e t.1
 
--- the command takes a step of the session, and both hear of its events in order, and of no others
+-- the command takes a step of the session, and both receive its events in order, and no others
 pub record StepsHeard (old : World) (c : Command) (new : World) (s t : Speaker × Option Records) : Type 0 where
   pub events : List Event
   pub reply : Result Reply AllocError
@@ -34,7 +34,7 @@ pub record StepsHeard (old : World) (c : Command) (new : World) (s t : Speaker �
   pub heard : Told Hears s events t
 
 -- A step ends in this world, with the focus that the mirror has: exactly what the speaker has said since the last one, to the step's
--- end, is written. The speaker keeps the text that has the focus.
+-- end, is written. The speaker keeps the focused text.
 pub record SaysAtEnd (w : World) (m : Option Records) (s t : Speaker) (before after : Option (List ℕ)) : Type 0 where
   pub focus : Option FullNodeId
   pub mirrored : option_map (λ r. r.focus) m ≡ Some focus
@@ -47,7 +47,7 @@ pub record SaysAtEnd (w : World) (m : Option Records) (s t : Speaker) (before af
   pub text : text_held_by t ≡ text_held_by settled
   pub still_speaks : fell_silent t ≡ false
 
--- both hear of a step, and what is said of it is written
+-- both receive the events of a step, and what is said of it is written
 pub record SpokenStep (old : World) (c : Command) (new : World) (s t : Speaker × Option Records) (before after : Option (List ℕ)) : Type 0 where
   pub between : Speaker × Option Records
   pub heard : StepsHeard old c new s between

@@ -1,4 +1,4 @@
--- What is said of a change on the node that has the focus.
+-- What is said of a change on the focused node.
 use Rattle.std.specs.Prelude.{◌≡◌, ℕ, List, codes, Option, Some, None, if◌then◌else◌}
 use Rattle.schema.specs.NodeData.{NodeData}
 use Rattle.model.specs.World.{HasData}
@@ -11,7 +11,7 @@ use Rattle.phrases.specs.States.{toggled_word, expanded_word, selected_word, new
 use Rattle.phrases.specs.Voices.{Speech, said_too}
 use Rattle.speaking.specs.NodeTexts.{value_said, state_said, is_edited}
 
--- a line is said where there is something to say
+-- a line is said if there is something to say
 abbrev pub said_if : (List ℕ → List ℕ) → Option (List ℕ) → Speech → Speech
 said_if line None v = v
 said_if line (Some text) v = said_too v (line text)
@@ -19,7 +19,7 @@ said_if line (Some text) v = said_too v (line text)
 abbrev pub label_said : Seen → Seen → Speech → Speech
 label_said old new v = said_if label_line (news (label_of old.world old.id) (label_of new.world new.id)) v
 
--- the new value, unless what is typed into it is said
+-- the new value, unless typing in the node is said as edits
 abbrev pub value_change : Seen → NodeData → Seen → NodeData → Speech → Speech
 value_change old d new e v =
     if is_edited e then v else said_if value_line (news (value_said old.world old.id d) (value_said new.world new.id e)) v
@@ -31,14 +31,14 @@ toggles_said s t v =
     (said_if state_line (new_word same_flag expanded_word s.expanded t.expanded)
     (said_if state_line (new_word same_toggle (toggled_word t.toggling) s.toggled t.toggled) v))
 
--- words for flags that are another way
+-- words for flags that changed
 abbrev pub flags_said : State → State → Speech → Speech
 flags_said s t v =
     said_if state_line (flag_word (codes "required") (codes "not required") s.is_required t.is_required)
     (said_if state_line (flag_word (codes "read-only") (codes "editable") s.is_read_only t.is_read_only)
     (said_if state_line (flag_word (codes "disabled") (codes "enabled") s.is_disabled t.is_disabled) v))
 
--- the label, the value and the state, where they are new
+-- the label, the value and the state, if they are new
 abbrev pub change_said : Seen → NodeData → Seen → NodeData → Speech → Speech
 change_said old d new e v =
     flags_said (state_said d) (state_said e) (toggles_said (state_said d) (state_said e) (value_change old d new e (label_said old new v)))

@@ -1,4 +1,4 @@
--- What is said where the focus comes to: the dialog that it enters, and the node.
+-- What is said of a moved focus: the dialog that it enters, and the node.
 use Rattle.std.specs.Prelude.{◌≡◌, ◌≢◌, ⊤, ◌⊎◌, Option, Some, None, option_copied}
 use Rattle.schema.specs.NodeData.{NodeData}
 use Rattle.model.specs.declared.FullNodeId.{FullNodeId}
@@ -35,7 +35,7 @@ pub record ShowsDialog (w : World) (id : FullNodeId) (d : NodeData) (g : Dialog)
   pub label : option_copied g.label ≡ news None (label_of w id)
   pub modal : g.is_modal ≡ d.modal
 
--- a line names the dialog
+-- a line says the dialog
 pub record SaysDialog (w : World) (id : FullNodeId) (v u : Speech) : Type 0 where
   pub node : NodeData
   pub has : HasData w id node
@@ -43,7 +43,7 @@ pub record SaysDialog (w : World) (id : FullNodeId) (v u : Speech) : Type 0 wher
   pub shows : ShowsDialog w id node dialog
   pub said : u ≡ said_too v (saying (InDialog dialog))
 
--- a line says what the node shows
+-- a line says the node
 pub record SaysFocus (new : Seen) (v u : Speech) : Type 0 where
   pub node : NodeData
   pub has : HasData new.world new.id node
@@ -63,7 +63,7 @@ pub record SaysMove (old : Option Seen) (new : Seen) (v u : Speech) : Type 0 whe
   pub dialog : SaysEntered new.world entered v between
   pub focus : SaysFocus new between u
 
--- nothing is said of a focus that is gone
+-- nothing is said if there is no focus any more
 abbrev pub SaysMoved : Option Seen → Option Seen → Speech → Speech → Type 0
 SaysMoved old None v u = u ≡ v
 SaysMoved old (Some new) v u = SaysMove old new v u

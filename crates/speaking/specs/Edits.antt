@@ -1,4 +1,4 @@
--- What is said of the text that has the focus, once all events are told.
+-- What is said of the focused text, after all events.
 use Rattle.std.specs.Prelude.{◌≡◌, ◌≢◌, ℕ, List, [], ◌∷◌, ◌++◌, true, false, IsTrue, Option, Some, None, IfSome, IsSome, option_map, option_and_then, unwrap_or, ◌⊎◌, if◌then◌else◌}
 use Rattle.std.specs.String.{string_bytes}
 use Rattle.schema.specs.NodeData.{NodeData}
@@ -26,7 +26,7 @@ use Rattle.speaking.specs.NodeTexts.{is_edited}
 abbrev pub edited_text : World → FullNodeId → List ℕ
 edited_text w id = if supports_text_ranges w id then document_text w id else unwrap_or (value_of w id) []
 
--- the number of the line on which the caret is
+-- the number of the caret's line
 abbrev pub caret_index : World → FullNodeId → Option ℕ
 caret_index w id = option_map (to_line_index (flat_text w id)) (selection_focus w id)
 
@@ -46,28 +46,28 @@ abbrev pub SaysLine : World → FullNodeId → Option ℕ → Speech → Speech 
 SaysLine w id None v u = u ≡ v
 SaysLine w id (Some k) v u = SaysText (text_of_line w id k) v u
 
--- the text as it is, and where its caret is
+-- the current text, and the line of its caret
 pub record IsReadOf (w : World) (id : FullNodeId) (t : FocusedText) : Type 0 where
   pub node : t.id ≡ id
   pub text : string_bytes t.text ≡ edited_text w id
   pub line : t.line ≡ caret_index w id
 
--- the line to which the caret has come, where it was on another one
+-- the line of the caret, if it moved to another line
 pub record SaysCaret (w : World) (id : FullNodeId) (before now : Option ℕ) (v u : Speech) : Type 0 where
   pub moved : before ≢ now → SaysLine w id now v u
   pub stayed : before ≡ now → u ≡ v
 
--- a text that has the focus as before: what was removed and typed, or else the line to which the caret has come
+-- a text that was focused before: what was removed and typed, or else the line to which the caret moved
 pub record SaysEdit (w : World) (id : FullNodeId) (before now : FocusedText) (v u : Speech) : Type 0 where
   pub typed : string_bytes before.text ≢ string_bytes now.text →
       (c : Change) × IsDifference (string_bytes before.text) (string_bytes now.text) c.removed.now c.typed.now × (u ≡ said_too v (saying (Changed c)))
   pub same : string_bytes before.text ≡ string_bytes now.text → SaysCaret w id before.line now.line v u
 
--- a text to which the focus has come: the line of the caret, where it can have several
+-- a newly focused text: the line of the caret, if it can have several
 abbrev pub SaysArrival : World → FullNodeId → FocusedText → Speech → Speech → Type 0
 SaysArrival w id now v u = (says (λ d. is_multiline d.role) w id ≡ true → SaysLine w id now.line v u) × (says (λ d. is_multiline d.role) w id ≡ false → u ≡ v)
 
--- what is held of a text, where that is the node's
+-- what was last said of a text, if it is the node's
 abbrev pub held_of : FullNodeId → Option FocusedText → Option FocusedText
 held_of id held = option_and_then (λ t. if is_same t.id id then Some t else None) held
 
@@ -75,33 +75,33 @@ abbrev pub SaysTextOf : World → FullNodeId → Option FocusedText → FocusedT
 SaysTextOf w id None now v u = SaysArrival w id now v u
 SaysTextOf w id (Some before) now v u = SaysEdit w id before now v u
 
--- what is new of the node's text, of which something else may be held
+-- what changed in the node's text, given what was last said
 abbrev pub SaysEdited : World → FullNodeId → Option FocusedText → FocusedText → Speech → Speech → Type 0
 SaysEdited w id held now v u = IsReadOf w id now × SaysTextOf w id (held_of id held) now v u
 
--- of no text nothing is said or held
+-- without a text nothing is said or kept
 abbrev pub SaysOf : World → Option FullNodeId → Option FocusedText → Option FocusedText → Speech → Speech → Type 0
 SaysOf w None held now v u = (now ≡ None) × (u ≡ v)
 SaysOf w (Some id) held now v u = IfSome now (λ t. SaysEdited w id held t v u) × IsSome now
 
--- what is typed into the focus is said of its text
+-- typing in the focused node is said as edits of its text
 abbrev pub IsEdited : World → Option FullNodeId → Option FullNodeId → Type 0
 IsEdited w focus None = (id : FullNodeId) (d : NodeData) → focus ≡ Some id → HasData w id d → is_edited d ≡ false
 IsEdited w focus (Some id) = (focus ≡ Some id) × ((d : NodeData) × HasData w id d × (is_edited d ≡ true))
 
--- what is said of the text that has the focus, where what is typed into it is said of that
+-- what is said of the focused text, if typing in it is said as edits
 pub record SaysFocused (w : World) (focus : Option FullNodeId) (held now : Option FocusedText) (v u : Speech) : Type 0 where
   pub node : Option FullNodeId
   pub edited : IsEdited w focus node
   pub says : SaysOf w node held now v u
 
--- that, and then what has waited
+-- that, and then the postponed lines
 pub record SaysEnd (w : World) (focus : Option FullNodeId) (held now : Option FocusedText) (v u : Speech) : Type 0 where
   pub between : Speech
   pub text : SaysFocused w focus held now v between
   pub waited : u ≡ all_said between
 
--- What is said at the end of a step, where this one has the focus. A speaker that finds no memory falls silent, and one that is
+-- What is said at the end of a step, if this node is focused. A speaker whose allocation fails falls silent, and one that is
 -- silent does nothing.
 pub record Settles (w : World) (focus : Option FullNodeId) (s t : Speaker) : Type 0 where
   pub silent : IsTrue s.is_silent → t ≡ s

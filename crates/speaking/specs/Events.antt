@@ -13,12 +13,12 @@ use Rattle.speaking.specs.LiveTexts.{TellsNew, TellsChange}
 abbrev pub HasFocus : Seen → Type 0
 HasFocus n = IsFocusedNode n.world n.id
 
--- a node that is new is told where it isn't the focus, of which the move is said
+-- a new node is announced unless it is focused; then the move of the focus is said
 pub record SaysAdded (new : Seen) (v u : Speech) : Type 0 where
   pub focus : HasFocus new → u ≡ v
   pub other : ¬ (HasFocus new) → TellsNew new v u
 
--- of the focus it is said what has changed on it, unless it has just come there; another node is told
+-- of the focused node the changes are said, unless the focus has just moved there; any other node is announced
 pub record SaysUpdated (old new : Seen) (v u : Speech) : Type 0 where
   pub stayed : HasFocus old → HasFocus new → SaysChange old new v u
   pub come : ¬ (HasFocus old) → HasFocus new → u ≡ v
@@ -30,13 +30,13 @@ Says (NodeUpdated old new) v u = SaysUpdated old new v u
 Says (FocusMoved old new) v u = SaysMoved old new v u
 Says (NodeRemoved old) v u = u ≡ v
 
--- A speaker says what there is to say of the event, unless it finds no memory; then, and from then on, it is silent.
+-- A speaker says what there is to say of the event, unless an allocation fails; from then on it is silent.
 pub record Speaks (s : Speaker) (e : Event) (t : Speaker) : Type 0 where
   pub silent : IsTrue s.is_silent → t ≡ s
   pub says : t.is_silent ≡ false → Says e s.voice t.voice
   pub text : t.text ≡ s.text
 
--- of a tree that begins it is said where the focus is
+-- of a new tree the focus is said
 pub record Begins (w : World) (s t : Speaker) : Type 0 where
   pub focus : Option FullNodeId
   pub is : IsFocus w focus

@@ -1,4 +1,4 @@
--- What is told of nodes in live regions.
+-- What is announced of nodes in live regions.
 use Rattle.std.specs.Prelude.{◌≡◌, ℕ, List, Bool, true, false, not, ◌&&◌, ◌||◌, Option, None, is_some, is_none, if◌then◌else◌}
 use Rattle.std.specs.Option.{option_or}
 use Rattle.schema.specs.NodeData.{NodeData}
@@ -25,35 +25,35 @@ is_live Off = false
 is_live Polite = true
 is_live Assertive = true
 
--- it is in a live region, is shown, isn't busy, and isn't filled in by typing
+-- it is in a live region, is shown, isn't busy, and isn't edited by typing
 abbrev pub is_told : World → FullNodeId → NodeData → Bool
 is_told w id d = is_live (live w id) && (not (is_text_input d.role) && (not (is_hidden w id) && not d.busy))
 
--- what is typed is said of the input, and a value in place of its runs
+-- typing is said for the input, and a value replaces its runs
 abbrev pub speaks_for_runs : NodeData → Bool
 speaks_for_runs d = is_text_input d.role || is_some d.value
 
 abbrev pub holder_answer : World → FullNodeId → FilterResult
 holder_answer w id = if says speaks_for_runs w id then Include else ExcludeNode
 
--- whether no node above it speaks for a run
+-- whether a run is announced itself and not by an ancestor
 abbrev pub speaks_itself : World → FullNodeId → Bool
 speaks_itself w id = is_none (filtered_parent (holder_answer w) w id)
 
--- what a node has to tell: a run its text, unless a node above it does; another node its value, or else its own label
+-- the text to announce: of a run its text, unless an ancestor is announced instead; of another node its value, or else its own label
 abbrev pub own_text : World → FullNodeId → NodeData → Option (List ℕ)
 own_text w id d = if same_role d.role TextRun then (if speaks_itself w id then d.value else None) else option_or d.value d.label
 
 abbrev pub told_text : World → FullNodeId → NodeData → Option (List ℕ)
 told_text w id d = if is_told w id d then own_text w id d else None
 
--- a new node tells its text
+-- a new node's text is announced
 pub record TellsNew (new : Seen) (v u : Speech) : Type 0 where
   pub node : NodeData
   pub has : HasData new.world new.id node
   pub tells : u ≡ told (live new.world new.id) (news None (told_text new.world new.id node)) v
 
--- one that has changed tells its text where that is another one
+-- a changed node's text is announced if it differs
 pub record TellsChange (old new : Seen) (v u : Speech) : Type 0 where
   pub before : NodeData
   pub had : HasData old.world old.id before

@@ -3,15 +3,15 @@ use Rattle.std.specs.Prelude.{ℕ, List, Option, Bool}
 use Rattle.speaking.specs.declared.edits.FocusedText.{FocusedText}
 use Rattle.speaking.specs.declared.speaker.Speaker.{Speaker}
 
--- what it has said and was not taken yet
+-- what it has said and was not written yet
 abbrev pub said_by : Speaker → List ℕ
 said_by s = s.voice.said
 
--- what waits to be said after everything else
+-- the postponed lines, to be said after everything else
 abbrev pub waiting_in : Speaker → List ℕ
 waiting_in s = s.voice.waiting
 
--- the text that has the focus, as far as it was said
+-- the focused text as it was last said
 abbrev pub text_held_by : Speaker → Option FocusedText
 text_held_by s = s.text
 

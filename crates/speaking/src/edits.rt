@@ -22,7 +22,7 @@ pub(crate) struct FocusedText {
     line: Option<usize>,
 }
 
-/// The value, or an empty text if there is none.
+/// The value, or an empty text if there isn't one.
 fn value_or_empty(alloc: Global, node: NodeRef) -> Result<String, AllocError>
     ensures { IfOk result (λ text. string_bytes text ≡ unwrap_or (value_of (world_at node.entry) (id_at node.entry)) []) }
 {

@@ -16,7 +16,7 @@ use std::alloc::{AllocError, Global};
 #[derive(Drop)]
 struct Texts {
     label: Option<String>,
-    /// The value as it is shown.
+    /// The value as shown.
     value: Option<String>,
 }
 

@@ -28,7 +28,7 @@ fn number_text(alloc: Global, number: Option<i64>) -> Result<Option<String>, All
     }
 }
 
-/// The value as it is shown: the text, or else the number. `None` if the text is empty.
+/// The value as shown: the text, or else the number. `None` if the text is empty.
 pub(crate) fn shown_value(alloc: Global, node: NodeRef) -> Result<Option<String>, AllocError>
     ensures { let n = node.entry in
         IfOk result (λ text. option_map string_bytes text ≡ value_said (world_at n) (id_at n) (data_at n)) }

@@ -1,4 +1,4 @@
--- The range of two positions, each of which comes with a state of its own.
+-- The range between two positions, each with a state of its own.
 use Rattle.std.specs.Prelude.{Option, None, option_map, if◌then◌else◌}
 use Rattle.schema.specs.declared.values.TextPosition.{TextPosition as Raw}
 use Rattle.model.specs.Forest.{is_same}
@@ -7,7 +7,7 @@ use Rattle.views.specs.Nodes.{id_at}
 use Rattle.texts.specs.declared.position.TextPosition.{TextPosition}
 use Rattle.texts.specs.Positions.{root_at, position_text, flat_position}
 
--- a range, if the positions are of one root
+-- a range, if the positions have the same root
 abbrev pub if_one_root : TextPosition → TextPosition → Option Range → Option Range
 if_one_root p q range = if is_same (id_at (root_at p)) (id_at (root_at q)) then range else None
 

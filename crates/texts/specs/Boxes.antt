@@ -1,4 +1,4 @@
--- Boxes of pieces, and of a run before it is moved.
+-- Boxes of pieces, and of a run before any translation.
 use Rattle.schema.specs.declared.geometry.Rect.{Rect}
 use Rattle.schema.specs.declared.geometry.WideRect.{WideRect}
 use Rattle.schema.specs.declared.values.TextDirection.{TextDirection}
@@ -11,11 +11,11 @@ use Rattle.views.specs.Runs.{sent_of}
 use Rattle.texts.specs.Pieces.{piece_data}
 use Rattle.texts.specs.Measures.{shown_in, IsAlong}
 
--- where a piece is shown, by what is told of its run
+-- the box of a piece, from its run's data
 abbrev pub box_of : Piece → Rect → Metrics → TextDirection → WideRect
 box_of p b m d = ordered_rect (moved_rect (piece_rect b m d (said_count (sent_of p.run)) (piece_data p)) (shown_in p.run).move)
 
--- what a piece cuts out of its run, along a rectangle
+-- the part of a rectangle that a piece covers in its run
 abbrev pub cut_of : Piece → Rect → Metrics → TextDirection → WideRect
 cut_of p b m d = cut_along d b (reach_from m (said_count (sent_of p.run)) p.from) (reach_to m (said_count (sent_of p.run)) (piece_data p))
 

@@ -1,4 +1,4 @@
--- What a range is cut into: by words, by lines, and by characters.
+-- The parts of a range: words, lines, and characters.
 use Rattle.std.specs.Prelude.{ℕ, ◌+◌, ◌-◌, Bool, true, List, [], ◌∷◌, map, filter, if◌then◌else◌}
 use Rattle.std.specs.List.{range_with_len}
 use Rattle.model.specs.FlatText.{FlatText, Position, offset, start_side, is_word_start, is_line_start}
@@ -13,7 +13,7 @@ cut_at p (q ∷ qs) end = record { start = p; end = q } ∷ cut_at q qs end
 abbrev pub places_within : FlatText → Range → List Position
 places_within t r = map (start_side t) (range_with_len (offset t r.start + 1) (offset t r.end - offset t r.start - 1))
 
--- a range, cut at each place within it where one starts: nothing of a range with nothing in it
+-- a range, cut at each place within it where one starts; an empty range has no parts
 abbrev pub cut_where : (FlatText → Position → Bool) → FlatText → Range → List Range
 cut_where is_start t r = if is_degenerate t r then [] else cut_at r.start (filter (is_start t) (places_within t r)) r.end
 

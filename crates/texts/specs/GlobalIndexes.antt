@@ -6,7 +6,7 @@ use Rattle.model.specs.Moves.{scalar_len, utf16_len}
 use Rattle.texts.specs.declared.indexes.Units.{Units}
 use Rattle.texts.specs.declared.indexes.Units.TheVariants.{Scalars, Utf16}
 
--- how many of them a character has
+-- the number of units of a character
 abbrev pub unit_len : Units → List ℕ → ℕ
 unit_len Scalars = scalar_len
 unit_len Utf16 = utf16_len
@@ -15,10 +15,10 @@ unit_len Utf16 = utf16_len
 abbrev pub IsCut : SentRun → Type 0
 IsCut r = is_cut_by (run_value r) r.node.character_lengths ≡ true
 
--- how many the first so many characters of a run have, as they are shown
+-- the number of units of a run's first characters, as they are shown
 abbrev pub length_to : Units → Bool → SentRun → ℕ → ℕ
 length_to units masked r i = sum_by (unit_len units) (take i (map (shown_character masked) (sent_characters r)))
 
--- how many all of its characters have
+-- the number of units of all of its characters
 abbrev pub length_of : Units → Bool → SentRun → ℕ
 length_of units masked r = length_to units masked r (said_count r)

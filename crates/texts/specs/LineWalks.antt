@@ -1,4 +1,4 @@
--- Where a search among the lines of a text is.
+-- The state of a search among the lines of a text.
 use Rattle.std.specs.Prelude.{◌≡◌, ◌<◌, ℕ, [], ◌⊎◌}
 use Rattle.views.specs.declared.node.node_ref.NodeRef.{NodeRef}
 use Rattle.views.specs.Nodes.{world_at, id_at}
@@ -9,7 +9,7 @@ use Rattle.texts.specs.declared.text_lines.TextLines.{TextLines}
 abbrev pub lines_root : TextLines → NodeRef
 lines_root l = l.root
 
--- no run stands after the line that was found
+-- there is no run after the line that was found
 abbrev pub IsAtLastLine : TextLines → Type 0
 IsAtLastLine l = runs_after (world_at l.root) (id_at l.root) l.last.member.id ≡ []
 

@@ -7,7 +7,7 @@ use Rattle.views.specs.declared.walks.spot.Spot.{Spot}
 use Rattle.views.specs.Nodes.{world_at, id_at}
 use Rattle.views.specs.RunPlaces.{runs_before}
 
--- how many of the root's runs are before the one that stands there
+-- the number of the root's runs before the one at this place
 abbrev pub number_at : NodeRef → Spot → ℕ
 number_at n s = length (runs_before (world_at n) (id_at n) s.member.id)
 

@@ -1,4 +1,4 @@
--- How a text looks, look by look.
+-- The style of a text, property by property.
 use Rattle.std.specs.Prelude.{◌≡◌, Option}
 use Rattle.schema.specs.NodeData.{NodeData}
 use Rattle.model.specs.declared.FullNodeId.{FullNodeId}
@@ -8,11 +8,11 @@ use Rattle.model.specs.Views.{is_italic}
 use Rattle.texts.specs.declared.looks.Look.{Look}
 use Rattle.texts.specs.declared.looks.Look.TheVariants.{Direction, FontFamily, Language, FontSize, FontWeight, BackgroundColor, ForegroundColor, Overline, Strikethrough, Underline, Alignment, Offset, Italic}
 
--- two nodes have the same field from above
+-- two nodes inherit the same value of a field
 abbrev pub LookAlike : {A : Type 0} → (NodeData → Option A) → World → FullNodeId → FullNodeId → Type 0
 LookAlike field w a b = inherited_field field w a ≡ inherited_field field w b
 
--- two nodes have the same of it
+-- two nodes have the same value of it
 abbrev pub AreSame : Look → World → FullNodeId → FullNodeId → Type 0
 AreSame Direction = LookAlike (λ d. d.text_direction)
 AreSame FontFamily = LookAlike (λ d. d.font_family)

@@ -14,7 +14,7 @@ abbrev pub ends_at : Mark → FlatText → ℕ → Bool
 ends_at Line = ends_line
 ends_at Paragraph = ends_paragraph
 
--- the run itself ends one, wherever it stands
+-- the run itself ends one, wherever it is
 abbrev pub closes_at : Mark → FlatText → ℕ → Bool
 closes_at Line = ends_line
 closes_at Paragraph = closes_paragraph

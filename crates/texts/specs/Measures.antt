@@ -1,4 +1,4 @@
--- What is read of where the characters of a run stand along it.
+-- The positions of a run's characters along it.
 use Rattle.std.specs.Prelude.{ℕ, ◌+◌, ◌*◌, ◌^◌, ℤ, pos, neg_ℤ, ◌≤ℤ◌}
 use Rattle.model.specs.FlatText.{Metrics as MetricsData, ShownRun, shown_run, needs_masking}
 use Rattle.model.specs.TextRuns.{is_password}
@@ -18,6 +18,6 @@ shown_in r = shown_run (run_world r) (root_id r) (is_password (run_world r) (roo
 abbrev pub IsMetricStep : ℤ → Type 0
 IsMetricStep z = (neg_ℤ (pos (2 ^ 32)) ≤ℤ z) × (z ≤ℤ pos (2 ^ 32))
 
--- no farther along a run than so many steps as a `usize` counts, and so many numbers of its metrics
+-- no farther along a run than this many steps and numbers of its metrics
 abbrev pub IsAlong : ℕ → ℤ → Type 0
 IsAlong n z = (neg_ℤ (pos (2 ^ 96 + 2 ^ 31 * n)) ≤ℤ z) × (z ≤ℤ pos (2 ^ 96 + 2 ^ 31 * n))

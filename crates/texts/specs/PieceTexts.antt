@@ -7,12 +7,12 @@ use Rattle.model.specs.FlatText.{shown_character}
 use Rattle.texts.specs.declared.pieces.Piece.{Piece}
 use Rattle.views.specs.Runs.{sent_of}
 
--- the lengths cut whole texts off the beginning of a text
+-- the lengths cut the beginning of a text at character boundaries
 abbrev pub are_cut_off : List ℕ → List ℕ → Bool
 are_cut_off bs [] = true
 are_cut_off bs (n ∷ ns) = nat_le n (length bs) && (is_utf8 (take n bs) && are_cut_off (drop n bs) ns)
 
--- what they leave of it
+-- the rest of it
 abbrev pub left_by : List ℕ → List ℕ → List ℕ
 left_by bs [] = bs
 left_by bs (n ∷ ns) = left_by (drop n bs) ns
@@ -27,6 +27,6 @@ pub record IsPart (p : Piece) : Type 0 where
 abbrev pub sent_part : Piece → List (List ℕ)
 sent_part p = slice_range (sent_characters (sent_of p.run)) p.from p.to
 
--- what is shown of it
+-- its text as it is shown
 abbrev pub shown_piece : Bool → Piece → List ℕ
 shown_piece masked p = concat (map (shown_character masked) (sent_part p))

@@ -8,7 +8,7 @@ use Rattle.texts.specs.declared.points.PointTest.{PointTest}
 use Rattle.texts.specs.declared.points.PointTest.TheVariants.{Inside, Past}
 use Rattle.texts.specs.Positions.{node_text}
 
--- what a run's point is asked for
+-- the test of a run and a point
 abbrev pub passes : PointTest → Point → ShownRun → Bool
 passes Inside point = is_in_run point
 passes Past point = is_past point
@@ -17,6 +17,6 @@ passes Past point = is_past point
 abbrev pub last_passing : NodeRef → PointTest → Point → Option ℕ
 last_passing n test point = last_run (node_text n) (length (node_text n)) (run_has (passes test point) (node_text n))
 
--- a point's number, less a move
+-- a coordinate minus a translation
 abbrev pub IsSeen : ℤ → Type 0
 IsSeen z = (neg_ℤ (pos (2 ^ 96)) ≤ℤ z) × (z ≤ℤ pos (2 ^ 96))

@@ -25,6 +25,6 @@ pub record IsPositionAt (root : NodeRef) (q : Position) (p : TextPosition) : Typ
   pub same : root_at p ≡ root
   pub at : flat_position p ≡ q
 
--- the second position is this move of the first
+-- the second position is this movement from the first
 abbrev pub IsMoved : (FlatText → Position → Position) → TextPosition → TextPosition → Type 0
 IsMoved move p q = IsPositionAt (root_at p) (move (position_text p) (flat_position p)) q

@@ -15,11 +15,11 @@ use Rattle.views.specs.Nodes.{world_at, id_at}
 use Rattle.texts.specs.Looks.{AreSame}
 use Rattle.texts.specs.TextRanges.{world_in, text_in, range_at}
 
--- two runs of the range have not the same of it
+-- two runs of the range have different values of it
 abbrev pub SomeDiffer : Look → TextRange → Type 0
 SomeDiffer what r = (run other : FullNodeId) × Contains (passed_runs (text_in r) (range_at r)) run × Contains (passed_runs (text_in r) (range_at r)) other × ¬ (AreSame what (world_in r) run other)
 
--- all runs of the range have the same of it as this node
+-- all runs of the range have the same value of it as this node
 pub record IsSample (what : Look) (r : TextRange) (node : NodeRef) : Type 0 where
   pub world : world_at node ≡ world_in r
   pub alike : All (λ run. AreSame what (world_in r) run (id_at node)) (passed_runs (text_in r) (range_at r))
@@ -29,20 +29,20 @@ abbrev pub as_property : {T A : Type 0} → (T → A) → TextRangePropertyValue
 as_property of (Single v) = single (of v)
 as_property of Mixed = mixed
 
--- it is what the range says of what its runs have from above
+-- it is the range's property, which its runs inherit
 abbrev pub IsInherited : {T A : Type 0} → (NodeData → Option A) → (T → Option A) → TextRange → TextRangePropertyValue T → Type 0
 IsInherited field of r p = IsPropertyOf (inherited_field field (world_in r)) (text_in r) (range_at r) (as_property of p)
 
 abbrev pub IsItalic : TextRange → TextRangePropertyValue Bool → Type 0
 IsItalic r p = IsPropertyOf (is_italic (world_in r)) (text_in r) (range_at r) (as_property (λ b. b) p)
 
--- a call may be made with the value, where all runs have one
+-- a call may be made with the value, if all runs have the same
 abbrev pub TakesValue : {T : Type 0} → (T → Type 0) → TextRangePropertyValue (Option T) → Type 0
 TakesValue takes (Single (Some x)) = takes x
 TakesValue takes (Single None) = ⊤
 TakesValue takes Mixed = ⊤
 
--- the other value is what a call may give of the value, where all runs have one
+-- the other value is a possible result of a call with the value, if all runs have the same
 abbrev pub MapsValue : {T U : Type 0} → (T → U → Type 0) → TextRangePropertyValue (Option T) → TextRangePropertyValue (Option U) → Type 0
 MapsValue gives (Single (Some x)) q = (y : _) × gives x y × (q ≡ Single (Some y))
 MapsValue gives (Single None) q = q ≡ Single None

@@ -5,7 +5,7 @@ use Rattle.model.specs.TextRuns.{supports_text_ranges}
 use Rattle.views.specs.declared.node.node_ref.NodeRef.{NodeRef}
 use Rattle.views.specs.Nodes.{world_at, id_at}
 
--- the node has text ranges
+-- the node supports text ranges
 abbrev pub HasText : NodeRef → Type 0
 HasText n = supports_text_ranges (world_at n) (id_at n) ≡ true
 

@@ -14,7 +14,7 @@ abbrev pub longest : List PieceData → ℕ
 longest [] = 0
 longest (p ∷ ps) = max (p.to - p.from) (longest ps)
 
--- where masking is needed, the text is so many bullets or more
+-- if masking is needed, the text is at least this many bullets
 abbrev pub IsEnough : Bool → List ℕ → ℕ → Type 0
 IsEnough masked text n = masked ≡ true → (count : ℕ) × (text ≡ bullets count) × (n ≤ count)
 
@@ -27,12 +27,12 @@ pub record IsCallWith {F T : Type 0} (g : Mut F (Bor NodeRef × (Bor (List ℕ) 
   pub shows : text.now ≡ passed.1
   pub called : Called g f (view, (text, tt)) answer f'
 
--- what was answered ends it; else the rest follows
+-- a result ends it; otherwise the rest follows
 abbrev pub EndsOr : {F T : Type 0} → Type 0 → Option T → F → Option T → F → Type 0
 EndsOr rest (Some x) h answer last = (answer ≡ Some x) × (last ≡ h)
 EndsOr rest None h answer last = rest
 
--- the function is called with these, one after another, till it answers something, which is the answer
+-- the function is called with these, one after another, until it returns something, which is the result
 abbrev pub PassesAll : {F T : Type 0} → Mut F (Bor NodeRef × (Bor (List ℕ) × Unit {0})) (Option T) → World → List (Option FullNodeId × List ℕ) → F → Option T → F → Type 0
 PassesAll g w [] f answer last = (answer ≡ None) × (last ≡ f)
 PassesAll {F} {T} g w (x ∷ xs) f answer last = (a : Option T) × (h : F) × IsCallWith g w x f a h × EndsOr (PassesAll g w xs h answer last) a h answer last

@@ -16,7 +16,7 @@ use Rattle.views.specs.declared.node.node_ref.NodeRef.{NodeRef}
 use Rattle.views.specs.ShownWorlds.{world_of}
 use Rattle.views.specs.Nodes.{world_at, id_at}
 
--- the node with this id, where it is there and has text ranges
+-- the node with this id, if it exists and has text ranges
 pub record IsNodeFound (w : World) (id : FullNodeId) (found : Option NodeRef) : Type 0 where
   pub world : IfSome found (λ n. world_at n ≡ w)
   pub node : option_map id_at found ≡ (if supports_text_ranges w id then Some id else None)
@@ -36,7 +36,7 @@ coded_weak = code_by _ (coded× coded_full (coded× coded_raw (coded× coded_raw
     (λ a. (a.root, (a.start, (a.end, (a.start_comparable, a.end_comparable)))))
     (λ p. record { root = p.0; start = p.1.0; end = p.1.1.0; start_comparable = p.1.1.1.0; end_comparable = p.1.1.1.1 }) (λ _. refl)
 
--- what is kept of an end for comparing, without its memory
+-- the comparable form of an end, as plain data
 abbrev pub kept_of : Vec ℕ × ℕ → List ℕ × ℕ
 kept_of p = (p.0.items, p.1)
 

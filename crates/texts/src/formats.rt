@@ -86,7 +86,7 @@ impl<'a> TextPosition<'a> {
         }
     }
 
-    /// The start of the next format, or the end of the text if there is none.
+    /// The start of the next format, or the end of the text if there isn't one.
     pub fn forward_to_format_start(&self) -> TextPosition<'a>
         ensures moved { IsMoved forward_to_format_start self.now result }
         ensures secret { IsMovedInEach forward_to_format_start self.now result }
@@ -110,7 +110,7 @@ impl<'a> TextPosition<'a> {
         }
     }
 
-    /// The start of the next format, as the end of the run before it, or the end of the text if there is none.
+    /// The start of the next format, as the end of the run before it, or the end of the text if there isn't one.
     pub fn forward_to_format_end(&self) -> TextPosition<'a>
         ensures moved { IsMoved forward_to_format_end self.now result }
         ensures secret { IsMovedInEach forward_to_format_end self.now result }

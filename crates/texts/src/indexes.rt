@@ -60,7 +60,7 @@ impl Units {
         }
     }
 
-    /// The number of units of a run's first characters, as they are shown.
+    /// The number of units of a run's first characters, as shown.
     fn count_front(self, run: Run<'_>, index: usize, masked: bool) -> usize
         requires cut { IsCut (sent_of run) }
         requires within { index ≤ said_count (sent_of run) }
@@ -72,7 +72,7 @@ impl Units {
         self.count(front(run, index))
     }
 
-    /// The number of units of a run, as it is shown.
+    /// The number of units of a run, as shown.
     fn count_run(self, run: Run<'_>, masked: bool) -> usize
         requires { IsCut (sent_of run) }
         ensures { result ≡ length_of self masked (sent_of run.entry) }

@@ -26,11 +26,11 @@ use views::NodeRef;
 pub trait TextRoot<'a> {
     ghost may_ask: { Self → Type 0 };
 
-    /// The start of the node's text, which has text ranges.
+    /// The start of the node's text. Requires that the node supports text ranges.
     fn document_start(&self) -> TextPosition<'a>
         requires { may_ask self.now };
 
-    /// The end of the node's text, which has text ranges.
+    /// The end of the node's text. Requires that the node supports text ranges.
     fn document_end(&self) -> TextPosition<'a>
         requires { may_ask self.now };
 

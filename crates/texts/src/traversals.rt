@@ -48,7 +48,7 @@ impl<'a> Piece<'a> {
         rest.split_at(rest.len() - after.len()).0
     }
 
-    /// Writes the text of the piece as it is shown.
+    /// Writes the text of the piece as shown.
     fn write<W: TextWrite>(self, masked: bool, writer: &mut W) -> Result<(), TextFault>
         requires room { W.faults writer.old + 1 < 2 ^ 128 }
         requires part { IsPart self }
@@ -118,7 +118,7 @@ impl TextRange<'_> {
 }
 
 impl<'a> Piece<'a> {
-    /// The text of the piece as it is shown; for a masked piece, the first bullets of `bullets`.
+    /// The text of the piece as shown; for a masked piece, the first bullets of `bullets`.
     fn shown<'b>(self, masked: bool, bullets: &'b str) -> &'b str
     where
         'a: 'b,

@@ -50,7 +50,7 @@ fn last_below(numbers: &[u16], other: usize) -> Option<usize>
     found
 }
 
-/// The indexes at which words begin in the run, as it is shown. A password has none.
+/// The indexes at which words begin in the run, as shown. A password has no such indexes.
 fn shown_words<'a>(run: Run<'a>) -> &'a [u16]
     ensures { result.now ≡ words_in (text_around run.entry) (number_in run.entry) }
 {
@@ -134,7 +134,7 @@ impl<'a> TextPosition<'a> {
         }
     }
 
-    /// The start of the next word or paragraph, or the end of the text if there is none.
+    /// The start of the next word or paragraph, or the end of the text if there isn't one.
     pub fn forward_to_word_start(&self) -> TextPosition<'a>
         ensures moved { IsMoved forward_to_word_start self.now result }
         ensures secret { IsMovedInEach forward_to_word_start self.now result }
@@ -142,8 +142,8 @@ impl<'a> TextPosition<'a> {
         self.biased_to_start().word_after()
     }
 
-    /// The start of the next word or paragraph, on the end side where two runs meet, or the end of the text if there is
-    /// none.
+    /// The start of the next word or paragraph, on the end side where two runs meet, or the end of the text if there
+    /// isn't one.
     pub fn forward_to_word_end(&self) -> TextPosition<'a>
         ensures moved { IsMoved forward_to_word_end self.now result }
         ensures secret { IsMovedInEach forward_to_word_end self.now result }
@@ -151,7 +151,7 @@ impl<'a> TextPosition<'a> {
         self.forward_to_word_start().biased_to_end()
     }
 
-    /// The start of the previous word or paragraph, or the start of the text if there is none.
+    /// The start of the previous word or paragraph, or the start of the text if there isn't one.
     pub fn backward_to_word_start(&self) -> TextPosition<'a>
         ensures moved { IsMoved backward_to_word_start self.now result }
         ensures secret { IsMovedInEach backward_to_word_start self.now result }

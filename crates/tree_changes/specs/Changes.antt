@@ -21,7 +21,7 @@ use Rattle.tree_changes.specs.declared.decision.Decision.{Decision}
 abbrev pub NodeChanges : Type 0
 NodeChanges = List (FullNodeId × NodeChange)
 
--- what becomes of a node, where it changes
+-- the change of a node, if it changes
 abbrev pub change_at : NodeChanges → FullNodeId → Option NodeChange
 change_at cs id = lookup (is_at (full_cmp id)) cs
 
@@ -54,7 +54,7 @@ abbrev pub put_all : List (NodeId × NodeData) → FinMap full_cmp NodeData → 
 put_all nodes m [] = m
 put_all nodes m (e ∷ es) = set_at (put_all nodes m es) e.0 (changed_data nodes e.1 (get m e.0))
 
--- the tree of a record is present where the record has a root and a declared focus
+-- the tree of a record is present if the record has a root and a declared focus
 abbrev pub tree_from : Option NodeId → Option NodeId → Option Tree
 tree_from (Some root) (Some focus) = Some (record { root = root; focus = focus })
 tree_from (Some root) None = None
@@ -81,7 +81,7 @@ tree_change (r ∷ rs) name = if is_eq (slice_cmp nat_cmp r.id.0 name.0) then So
 abbrev pub if_kept : TreeRecord → Option TreeRecord
 if_kept r = if is_some r.index || is_some r.graft then Some r else None
 
--- the record of this name after the changes, where this is the one before
+-- the record of this name after the changes, if this is the one before
 abbrev pub tree_after : List TreeRecord → TreeId → Option TreeRecord → Option TreeRecord
 tree_after rs name before = option_map_or if_kept (tree_change rs name) before
 

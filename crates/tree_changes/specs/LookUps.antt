@@ -1,4 +1,4 @@
--- What a look-up gives.
+-- The results of look-ups.
 use Rattle.std.specs.Prelude.{◌≡◌, ℕ, ◌+◌, ◌-◌, ◌^◌, ◌≤◌, min, Option, Some, IsSome, option_and_then, ◌↔◌, ◌⊎◌}
 use Rattle.std.specs.Option.{option_map}
 use Rattle.std.specs.FinMap.{get}
@@ -8,27 +8,27 @@ use Rattle.model.specs.World.{World, Tree, Place, StandsAt, HasData, index_of, g
 use Rattle.tree_changes.specs.declared.look_ups.NodeRecord.{NodeRecord}
 use Rattle.tree_changes.specs.declared.look_ups.TreeRecord.{TreeRecord}
 
--- a count after one more, which stays at its last value
+-- a saturating count after one more
 abbrev pub raised_count : ℕ → ℕ
 raised_count n = min (n + 1) (2 ^ 128 - 1)
 
--- a count after so many more at least: at its last value it stays
+-- a saturating count after at least this many more
 abbrev pub IsRaisedAtLeast : ℕ → ℕ → ℕ → Type 0
 IsRaisedAtLeast before more after = min (before + more) (2 ^ 128 - 1) ≤ after
 
--- after so many and no more
+-- after exactly this many more
 abbrev pub IsRaisedBy : ℕ → ℕ → ℕ → Type 0
 IsRaisedBy before more after = (after ≤ before + more) × IsRaisedAtLeast before more after
 
--- after so many at most, and no fewer than before
+-- after at most this many more, and no fewer than before
 abbrev pub IsRaisedUpTo : ℕ → ℕ → ℕ → Type 0
 IsRaisedUpTo before most after = (after ≤ before + most) × IsRaisedAtLeast before 0 after
 
--- the place is where the node stands, and there is none where it stands nowhere
+-- the place is the node's, and there is none if it has none
 abbrev pub IsPlaceOf : World → FullNodeId → Option Place → Type 0
 IsPlaceOf w id place = (p : Place) → (place ≡ Some p) ↔ StandsAt w p id
 
--- the record has the node's data, and the place where it stands
+-- the record has the node's data and its place
 pub record IsNodeRecord (w : World) (id : FullNodeId) (r : NodeRecord) : Type 0 where
   pub node : HasData w id r.node.now
   pub place : IsPlaceOf w id r.place
@@ -37,7 +37,7 @@ pub record IsNodeRecord (w : World) (id : FullNodeId) (r : NodeRecord) : Type 0 
 abbrev pub tree_named : World → TreeId → Option Tree
 tree_named w name = option_and_then (λ i. get w.trees i) (index_of w name)
 
--- There is a record of a name exactly where it is known or grafted: it has the index, the node that grafts it, and the root and the declared
+-- There is a record of a name exactly if it is known or grafted: it has the index, the node that grafts it, and the root and the declared
 -- focus of the present tree.
 pub record IsTreeRecord (w : World) (name : TreeId) (r : Option TreeRecord) : Type 0 where
   pub id : (t : TreeRecord) → r ≡ Some t → t.id ≡ name

@@ -1,11 +1,11 @@
--- Which fault a refusal names.
+-- The rule that a refusal names.
 use Rattle.std.specs.Prelude.{Option, Some, None, IfSome}
 use Rattle.model.specs.World.{World}
 use Rattle.model.specs.Update.{UpdateData, Fault, MissingTreeInfo, NotRootTree, MissingData, NotReached, NamedTwice, ListedTwice, RootTreeGrafted, GraftWithChildren, GraftedTwice, NoGraft, NoFirstTreeInfo, FocusMissing, FocusOnEmptyGraft, IndexesUsedUp, Stands}
 use Rattle.tree_changes.specs.declared.error.UpdateError.{UpdateError}
 use Rattle.tree_changes.specs.declared.error.UpdateError.TheVariants as error
 
--- the fault that an error names: none for want of memory
+-- the rule that an error names: none for lack of memory
 abbrev pub fault_of : UpdateError → Option Fault
 fault_of error.MissingTreeInfo = Some MissingTreeInfo
 fault_of error.NotRootTree = Some NotRootTree
@@ -23,6 +23,6 @@ fault_of (error.FocusOnEmptyGraft name) = Some (FocusOnEmptyGraft name)
 fault_of error.IndexesUsedUp = Some IndexesUsedUp
 fault_of error.Memory = None
 
--- the fault that the error names stands, or it is want of memory
+-- the update breaks the rule that the error names, or the error is lack of memory
 abbrev pub IsRefusal : World → UpdateData → UpdateError → Type 0
 IsRefusal w u e = IfSome (fault_of e) (Stands w u)

@@ -21,7 +21,7 @@ IsNext w c id parent = (k : ℕ) × ((at c.entered id ≡ Some (Some (parent, k)
 abbrev pub IsOldPlace : World → FullNodeId → Named → Type 0
 IsOldPlace w id n = MatchOption n.was (¬ (IsNode w id)) (λ was. IsPlaceOf w id was)
 
--- the node is the root, or it is an old node that is named, where no old node has moved
+-- the node is the root, or an old node of the update if no old node has moved
 abbrev pub IsKnown : Opened → Compared → Settled → FullNodeId → Type 0
 IsKnown o c s id = (id ≡ in_tree o.index o.root) ⊎ ((s.has_moved ≡ false) × (n : Named) × (at c.named id ≡ Some n) × IsSome n.was)
 
@@ -34,18 +34,18 @@ pub record AreClimbed (w : World) (u : UpdateData) (starts : List FullNodeId) (c
   pub reached : (n q : FullNodeId) → at climbed.entries n ≡ Some q → Reached (merged_world w u) n
   pub begun : (n q : FullNodeId) → at climbed.entries n ≡ Some q → Contains starts q
 
--- in so many steps a climb from q came to a reached node, or it stayed where it began
+-- in this many steps a climb from q came to a reached node, or it stayed where it began
 abbrev pub IsWay : World → UpdateData → FullNodeId → ℕ → Type 0
 IsWay w u q steps = (x : FullNodeId) × LeadsDown (merged_world w u) x q steps × (Reached (merged_world w u) x ⊎ (x ≡ q))
 
--- the node of this entry is reached where it got a child, and so many steps are climbed from it
+-- the node of this entry is reached if it got a child, and this many steps are climbed from it
 pub record IsClimbedFrom (w : World) (u : UpdateData) (entry steps : ℕ) : Type 0 where
   pub start : FullNodeId
   pub at : slice_get (named_ids w u) entry ≡ Some start
   pub reached : Adopts w u start → Reached (merged_world w u) start
   pub way : IsWay w u start steps
 
--- the steps of climbs from these nodes, all together
+-- the steps of climbs from these nodes, in sum
 abbrev pub AreWays : World → UpdateData → List FullNodeId → ℕ → Type 0
 AreWays w u [] sum = sum ≡ 0
 AreWays w u (q ∷ qs) sum = (steps others : ℕ) × IsWay w u q steps × AreWays w u qs others × (sum ≡ steps + others)

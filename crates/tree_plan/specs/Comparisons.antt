@@ -1,4 +1,4 @@
--- How far the named nodes have been compared with their old records.
+-- The comparison of the update's nodes with their old records, up to some entry.
 use Rattle.std.specs.Prelude.{◌≡◌, ◌≢◌, ℕ, ◌<◌, ◌≤◌, List, [], ◌++◌, length, map, slice_get, AllPairs, Contains, Option, Some, None, IsSome, IsTrue, ⊤, ◌⊎◌, ◌↔◌, if◌then◌else◌}
 use Rattle.std.specs.Option.{option_map, option_to_list}
 use Rattle.std.specs.BTreeMap.{is_at}
@@ -31,7 +31,7 @@ pub record AreEntriesTaken (index : ℕ) (u : UpdateData) (count : ℕ) (named :
   pub once : (i j : ℕ) (n : NodeId) → i < count → j < count → named_at u i ≡ Some n → named_at u j ≡ Some n → i ≡ j
   pub count_of : length named ≡ count
 
--- two entries name the node, or memory is wanting
+-- two entries have the node's id, or memory runs out
 abbrev pub IsNamedTwice : UpdateData → UpdateError → Type 0
 IsNamedTwice u error.Memory = ⊤
 IsNamedTwice u (error.NamedTwice n) = (i j : ℕ) × (i ≢ j) × (named_at u i ≡ Some n) × (named_at u j ≡ Some n)
@@ -60,7 +60,7 @@ IsOnly this other c = (this ≡ Some c) × (other ≢ Some c)
 abbrev pub OnlyAt : Seat → Option FullNodeId → Option FullNodeId → FullNodeId → Seat → Type 0
 OnlyAt spot this other c s = (s ≡ spot) × IsOnly this other c
 
--- it stands in this list of the parent, and not at the same index of the other one
+-- it is in this list of the parent, and not at the same index of the other one
 abbrev pub OnlyIn : FullNodeId → List FullNodeId → List FullNodeId → FullNodeId → Seat → Type 0
 OnlyIn parent this other c s = (k : ℕ) × OnlyAt (Some (parent, k)) (slice_get this k) (slice_get other k) c s
 
@@ -79,7 +79,7 @@ pub record TakesGraft (id : FullNodeId) (d : NodeData) (before after : TreeId �
   pub taken : (name : TreeId) → d.tree_id ≡ Some name → (before name ≡ None) × (after name ≡ Some id)
   pub others : (name : TreeId) → d.tree_id ≢ Some name → after name ≡ before name
 
--- it may not, or memory is wanting
+-- it may not, or memory runs out
 abbrev pub IsGraftFault : FullNodeId → NodeData → (TreeId → Option FullNodeId) → UpdateError → Type 0
 IsGraftFault id d before error.Memory = ⊤
 IsGraftFault id d before (error.RootTreeGrafted n) = (id.node ≡ n) × (d.tree_id ≡ Some ROOT_NAME)
@@ -87,7 +87,7 @@ IsGraftFault id d before (error.GraftWithChildren n) = (id.node ≡ n) × (name 
 IsGraftFault id d before (error.GraftedTwice name) = (d.tree_id ≡ Some name) × (k : FullNodeId) × (before name ≡ Some k)
 IsGraftFault id d before e = ⊥
 
--- the tree that is grafted no more comes to the lost ones, and the one that is grafted now to the gained ones
+-- the tree that is no longer grafted is added to the lost ones, and the one that is grafted now to the gained ones
 abbrev pub ChangesGraft : Option TreeId → Option TreeId → Comparing → Comparing → Type 0
 ChangesGraft old new a b =
     ((old ≡ new) × (b.lost.items ≡ a.lost.items) × (b.gained.items ≡ a.gained.items))

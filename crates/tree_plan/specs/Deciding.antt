@@ -9,7 +9,7 @@ use Rattle.tree_changes.specs.LookUps.{IsRaisedAtLeast}
 use Rattle.tree_plan.specs.declared.verdicts.Found.{Found}
 use Rattle.tree_plan.specs.Passes.{HoldsOpened, HoldsCompared, HoldsRemoved, HoldsRegrafted}
 
--- the passes have named no fault, and have found this
+-- the passes have found no broken rule, and this is what they found
 pub record AreFindings (w : World) (u : UpdateData) (f : Found) : Type 0 where
   pub old : IsOld w
   pub opening : HoldsOpened w u f.opened

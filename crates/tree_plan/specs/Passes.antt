@@ -32,7 +32,7 @@ has s id = IsTrue (contains full_cmp s id)
 abbrev pub at_name : {X : Type 0} → BTreeMap TreeId X → TreeId → Option X
 at_name m name = get name_cmp m name
 
--- what is known of a name, where a record says so, or where there is none
+-- the record of a name, or an empty one
 pub record IsOfName (w : World) (name : TreeId) (t : TreeRecord) : Type 0 where
   pub id : t.id ≡ name
   pub index : t.index ≡ index_of w name
@@ -48,7 +48,7 @@ pub record HoldsOpened (w : World) (u : UpdateData) (o : Opened) : Type 0 where
   pub root : root_of (merged_world w u) o.index ≡ Some (in_tree o.index o.root)
   pub first : IsTrue o.is_first ↔ IsFirst w
 
--- an entry names the node, it was an old node at this place or a new one, and its data are others than before or the same
+-- an entry names the node, it was an old node at this place or a new one, and whether its data differs from before
 pub record IsNamedAs (w : World) (u : UpdateData) (id : FullNodeId) (n : Named) : Type 0 where
   pub named : IsNamed w u id
   pub entry : named_at u n.entry ≡ Some id.node
@@ -95,7 +95,7 @@ IsUngrafted w u name = ¬ (IsGraftedByNamed w u name) × (g : FullNodeId) × (gr
 abbrev pub cut_record : World → TreeId → TreeRecord
 cut_record w name = record { id = name; index = index_of w name; graft = None; root = None; focus = None }
 
--- pass 3: what goes
+-- pass 3: what is removed
 pub record HoldsRemoved (w : World) (u : UpdateData) (r : Removed) : Type 0 where
   pub removed : IsRemoved w u
   pub gone : (id : FullNodeId) → has r.gone id ↔ Gone w u id

@@ -1,4 +1,4 @@
--- What a plan of an update says.
+-- The meaning of a plan of an update.
 use Rattle.std.specs.Prelude.{Bool, ◌≡◌, ◌≢◌, ℕ, ◌+◌, ◌*◌, ◌≤◌, List, [], ◌∷◌, length, slice_get, AllPairs, Contains, Option, Some, None, ◌↔◌, if◌then◌else◌}
 use Rattle.std.specs.Option.{option_and_then, option_map_or}
 use Rattle.std.specs.List.Sorted.{IsStrictlySortedBy}
@@ -29,9 +29,9 @@ changed_nodes (Put id place given ∷ cs) = id ∷ changed_nodes cs
 changed_nodes (Gone id ∷ cs) = id ∷ changed_nodes cs
 changed_nodes (TreeChange t ∷ cs) = changed_nodes cs
 
--- What a plan of an accepted update says: its changes make the rebuilt world, and are exactly those of the records that differ, one for each;
--- data are given only where they are others than before; the focus is the effective one there; and the events are the differences. Of the first
--- update nothing is told.
+-- The plan of an accepted update: its changes make the rebuilt world, and are exactly those of the records that differ, one for each;
+-- data is given only if it differs from before; the focus is the effective one there; and the events are the differences. Of the first
+-- update has no events.
 pub record IsPlan (w : World) (u : UpdateData) (p : Plan) : Type 0 where
   pub accepted : IsAccepted w u (planned_world w p)
   pub once : IsStrictlySortedBy full_cmp (changed_nodes p.changes.items)
@@ -46,7 +46,7 @@ pub record IsPlan (w : World) (u : UpdateData) (p : Plan) : Type 0 where
   pub told : ¬ (IsFirst w) → AreToldBy w u (planned_world w p) p.events.items
   pub quiet : IsFirst w → p.events.items ≡ []
 
--- The look-ups, from `before` to `after`, with two for each event and each change, are within what is allowed.
+-- The look-ups, from `before` to `after`, with two for each event and each change, are within the bound.
 abbrev pub IsPlannedWithin : World → UpdateData → Plan → ℕ → ℕ → Type 0
 IsPlannedWithin w u p before after =
     (work : Work) → IsWorkOf w u (planned_world w p) work → after + 2 * (length p.events.items + length p.changes.items) ≤ before + allowance work

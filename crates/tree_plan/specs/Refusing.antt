@@ -60,7 +60,7 @@ pub record SearchesAll (w : World) (u : UpdateData) (a b : Search) : Type 0 wher
 abbrev pub HasReached : World → UpdateData → BTreeSet FullNodeId → Type 0
 HasReached w u s = (id : FullNodeId) → has s id ↔ (Reached (merged_world w u) id × (id.tree ≡ index_for w u.name))
 
--- the error names a named node that isn't reached, or where all are the double
+-- the error names a node of the update that isn't reached, or, if all are reached, the double
 abbrev pub Explains : Compared → BTreeSet FullNodeId → FullNodeId → UpdateError → Type 0
 Explains c reached double e =
     ((id : FullNodeId) × IsSome (at c.named id) × ¬ (has reached id) × (e ≡ error.NotReached id.node))

@@ -15,11 +15,11 @@ use Rattle.tree_plan.specs.declared.passes.Removed.{Removed}
 use Rattle.tree_plan.specs.declared.regrafting.Regrafted.{Regrafted}
 use Rattle.tree_plan.specs.Passes.{at, at_name, has, GainsGraft}
 
--- a node grafted the tree of this name, and neither goes nor is named
+-- a node grafted the tree of this name, and is neither removed nor in the update
 abbrev pub HasRival : World → Compared → Removed → TreeId → Type 0
 HasRival w c r name = (g : FullNodeId) × (graft_name w g ≡ Some name) × ¬ (has r.gone g) × (at c.named g ≡ None)
 
--- what grafted the tree of this name goes, or is named
+-- what grafted the tree of this name is removed, or in the update
 abbrev pub HasNoRival : World → Compared → Removed → TreeId → Type 0
 HasNoRival w c r name = (g : FullNodeId) → graft_name w g ≡ Some name → has r.gone g ⊎ IsSome (at c.named g)
 

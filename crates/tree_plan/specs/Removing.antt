@@ -1,4 +1,4 @@
--- What goes, as it is found.
+-- The removed nodes and trees found so far.
 use Rattle.std.specs.Prelude.{◌≡◌, ◌≢◌, ℕ, ◌+◌, ◌≤◌, List, length, AllPairs, Contains, Some, slice_get, ◌⊎◌, ◌↔◌}
 use Rattle.std.specs.BTreeSet.{btree_set_len}
 use Rattle.schema.specs.declared.TreeId.{TreeId}
@@ -12,7 +12,7 @@ use Rattle.tree_plan.specs.declared.passes.Compared.{Compared}
 use Rattle.tree_plan.specs.declared.removing.Removing.{Removing}
 use Rattle.tree_plan.specs.Passes.{HoldsCompared, has, IsUngrafted, LosesGraft, cut_record}
 
--- What is found goes and isn't named, and stands in the queue once. Each record is that of a tree that loses its graft, each of another one.
+-- What is found is removed and isn't in the update, and is in the queue once. Each record is that of a tree that loses its graft, each of another one.
 pub record FindsGone (w : World) (u : UpdateData) (r : Removing) : Type 0 where
   pub gone : (id : FullNodeId) → has r.gone id ↔ Contains r.queue.items id
   pub once : (i j : ℕ) (id : FullNodeId) → slice_get r.queue.items i ≡ Some id → slice_get r.queue.items j ≡ Some id → i ≡ j
@@ -89,7 +89,7 @@ pub record FollowsUp (w : World) (u : UpdateData) (a b : Removing) : Type 0 wher
   pub expanded : (id : FullNodeId) → Contains b.queue.items id → IsExpanded w u id b
   pub few : length b.trees.items ≤ length a.trees.items + length b.queue.items
 
--- all that goes is found
+-- everything that is removed is found
 pub record IsWorkedOff (w : World) (u : UpdateData) (c : Compared) (r : Removing) : Type 0 where
   pub found : FindsGone w u r
   pub left : (s : Seat) (id : FullNodeId) → Left w u s id → IsPlacedOrFound w u r id

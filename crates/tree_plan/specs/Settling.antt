@@ -1,4 +1,4 @@
--- Where those that entered stood, node by node.
+-- The old places of the nodes that entered, node by node.
 use Rattle.std.specs.Prelude.{◌≡◌, ◌≢◌, ℕ, false, ◌||◌, is_some, Option, Some, None, ◌↔◌}
 use Rattle.model.specs.declared.FullNodeId.{FullNodeId}
 use Rattle.model.specs.World.{World, Place, IsNode, root_of}
@@ -13,13 +13,13 @@ pub record Comes (w : World) (u : UpdateData) (c : FullNodeId) : Type 0 where
   pub entered : HasEntered w u c
   pub root : root_of (merged_world w u) (index_for w u.name) ≡ Some c → Entered w u None c
 
--- where a node stood: an old one at a place of a list, or at none, and a new one nowhere
+-- the old place of a node: for an old one a place in a list, or none, and for a new one nothing
 pub record StoodAt (w : World) (id : FullNodeId) (was : Option (Option Place)) : Type 0 where
   pub new : was ≡ None → ¬ (IsNode w id)
   pub old : (s : Option Place) → was ≡ Some s → IsNode w id
   pub place : (s : Option Place) (p : Place) → was ≡ Some s → (s ≡ Some p) ↔ Lists w p id
 
--- b has the place where the node stood, if it is old, and else what a has
+-- b has the node's old place, if it is old, and otherwise what a has
 pub record KeepsPlace (id : FullNodeId) (was : Option (Option Place)) (a b : Settled) : Type 0 where
   pub here : (s : Option Place) → was ≡ Some s → at b.old_places.entries id ≡ Some s
   pub none : was ≡ None → b.old_places ≡ a.old_places
@@ -27,11 +27,11 @@ pub record KeepsPlace (id : FullNodeId) (was : Option (Option Place)) (a b : Set
   pub adopters : b.adopters ≡ a.adopters
   pub moved : b.has_moved ≡ a.has_moved
 
--- the node stood in the list of this parent
+-- the node was in the list of this parent
 abbrev pub WasBelow : Option (Option Place) → FullNodeId → Type 0
 WasBelow was parent = (k : ℕ) × (was ≡ Some (Some (parent, k)))
 
--- b has the parent as an adopter too, unless the node stood below it
+-- b has the parent as an adopter too, unless the node was below it
 pub record KeepsAdopter (parent : FullNodeId) (was : Option (Option Place)) (a b : Settled) : Type 0 where
   pub below : WasBelow was parent → b ≡ a
   pub here : ¬ (WasBelow was parent) → has b.adopters parent × (b.has_moved ≡ (a.has_moved || is_some was))

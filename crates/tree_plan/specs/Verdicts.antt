@@ -1,4 +1,4 @@
--- What an accepted update makes of a node.
+-- The effect of an accepted update on a node.
 use Rattle.std.specs.Prelude.{◌≡◌, ◌≢◌, List, Contains, Option, Some, None}
 use Rattle.model.specs.declared.FullNodeId.{FullNodeId}
 use Rattle.model.specs.World.{World, Place, IsNode, data_of}
@@ -41,12 +41,12 @@ Makes s id c = IsChangeOf s.old s.update s.new id c × (changed_data s.update.no
 abbrev pub Stays : Transition → FullNodeId → Type 0
 Stays s id = (data_of s.old id ≡ data_of s.new id) × (place_of s.old id ≡ place_of s.new id)
 
--- the node comes to this place, which is another than before, or it stays where it was
+-- the node's place differs from before and is this one, or it is unchanged
 abbrev pub Moves : Transition → FullNodeId → Option (Option Place) → Type 0
 Moves s id None = place_of s.old id ≡ place_of s.new id
 Moves s id (Some place) = IsNode s.new id × IsPlaceOf s.new id place × (IsNode s.old id → place_of s.old id ≢ place_of s.new id)
 
--- this becomes of the node
+-- the verdict is right for the node
 abbrev pub Becomes : Transition → FullNodeId → Option Verdict → Type 0
 Becomes s id (Some (Added place entry)) = IsAdded s.old s.new id × Makes s id (Put place (Some entry))
 Becomes s id (Some (Renewed place entry)) = IsInBoth s.old s.new id × Makes s id (Put place (Some entry))
@@ -58,11 +58,11 @@ Becomes s id None = Stays s id × (told_root (index_for s.old s.update.name) s.u
 abbrev pub Verdicts : Type 0
 Verdicts = List (FullNodeId × Verdict)
 
--- each verdict says what becomes of its node
+-- each verdict is right for its node
 abbrev pub AreSound : Transition → Verdicts → Type 0
 AreSound s vs = (id : FullNodeId) (v : Verdict) → Contains vs (id, v) → Becomes s id (Some v)
 
--- To verdicts, each of which says what becomes of its node, those on these nodes are added.
+-- The verdicts on these nodes are added to verdicts that are all right.
 pub record Adds (s : Transition) (ids : List FullNodeId) (before after : Verdicts) : Type 0 where
   pub sound : AreSound s after
   pub judged : (id : FullNodeId) → Contains ids id → Becomes s id (at after id)

@@ -1,4 +1,4 @@
--- What a decision lists.
+-- The lists of a decision.
 use Rattle.std.specs.Prelude.{◌≡◌, ◌≢◌, ◌+◌, ◌*◌, ◌≤◌, length, List, [], ◌∷◌, ◌++◌, Option, Some, None, is_some, option_to_list, if◌then◌else◌, ◌⊎◌}
 use Rattle.std.specs.Option.{option_map}
 use Rattle.std.specs.List.{flat_map}
@@ -44,7 +44,7 @@ group_of (verdict.Moved place) = group.Updated
 group_of verdict.Told = group.Updated
 group_of verdict.Removed = group.Removed
 
--- the event of a node of one group, where this group is told of
+-- the event of a node, if it belongs to the group
 abbrev pub event_in : Group → Group → FullNodeId → List PlanEvent
 event_in group.Added group.Added id = event.Added id ∷ []
 event_in group.Updated group.Updated id = event.Updated id ∷ []
@@ -65,27 +65,27 @@ abbrev pub untold_updates : (FullNodeId → Option Verdict) → Option FullNodeI
 untold_updates verdicts None = []
 untold_updates verdicts (Some id) = if is_some (verdicts id) then [] else event.Updated id ∷ []
 
--- what a move of the focus tells
+-- the events of a moved focus
 abbrev pub IsMove : (FullNodeId → Option Verdict) → Option FullNodeId → Option FullNodeId → List PlanEvent → Type 0
 IsMove verdicts before after events =
     ((before ≡ after) × (events ≡ []))
     ⊎ ((before ≢ after) × (events ≡ untold_updates verdicts before ++ untold_updates verdicts after ++ event.FocusMoved before after ∷ []))
 
--- the record of the named tree afterwards, where the update declares this focus
+-- the record of the update's tree afterwards, if the update declares this focus
 abbrev pub own_record : TreeId → NodeId → Opened → TreeRecord
 own_record name focus o = record { id = name; index = Some o.index; graft = o.record.graft; root = Some o.root; focus = Some focus }
 
--- what is told of verdicts and of a move of the focus, in order
+-- the events of verdicts and of a moved focus, in order
 pub record AreEvents (vs : Verdicts) (f : Focused) (events : List PlanEvent) : Type 0 where
   pub moved : List PlanEvent
   pub is_move : IsMove (at vs) f.before f.after moved
   pub all : events ≡ flat_map (told_of group.Added) vs ++ flat_map (told_of group.Updated) vs ++ moved ++ flat_map (told_of group.Removed) vs
 
--- the record of the named tree, where it is another than before
+-- the record of the update's tree, if it differs from before
 abbrev pub IsOwnPart : TreeRecord → TreeRecord → List TreeRecord → Type 0
 IsOwnPart before own named = ((own ≡ before) × (named ≡ [])) ⊎ ((own ≢ before) × (named ≡ own ∷ []))
 
--- the trees that were cut off, those that were gained, and the named one where its record is another than before
+-- the trees that were cut off, those that were gained, and the update's tree if its record differs from before
 abbrev pub AreTrees : Found → TreeRecord → List TreeRecord → Type 0
 AreTrees f own trees =
     (named : List TreeRecord) × (trees ≡ f.removed.trees.items ++ f.regrafted.trees.items ++ named) × IsOwnPart f.opened.record own named

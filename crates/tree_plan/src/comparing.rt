@@ -202,7 +202,7 @@ impl Comparing {
         self.compare_grafts(graft, node.tree_id())
     }
 
-    /// Compares a named node with its old record.
+    /// Compares a node of the update with its old record.
     fn compare_node<L: LookUps>(
         &mut self,
         look_ups: &mut L,

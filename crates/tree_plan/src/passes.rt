@@ -5,7 +5,7 @@ use schema::{NodeId, TreeId};
 use std::collections::{BTreeMap, BTreeSet};
 use tree_changes::TreeRecord;
 
-/// The update's tree: its old record (empty if there is none), and its index and root afterwards.
+/// The update's tree: its old record (empty if there isn't one), and its index and root afterwards.
 #[derive(Clone, Copy)]
 pub(crate) struct Opened {
     pub(crate) record: TreeRecord,

@@ -6,7 +6,7 @@ ghost use Rattle.tree_plan.specs.Passes.{IsOfName};
 use schema::TreeId;
 use tree_changes::{LookUps, TreeRecord};
 
-/// The record of a tree, or an empty one if there is none.
+/// The record of a tree, or an empty one if there isn't one.
 pub(crate) fn tree_record<L: LookUps>(look_ups: &mut L, name: &TreeId) -> TreeRecord
     ensures world { L.world look_ups.new ≡ L.world look_ups.old }
     ensures counts { L.asked look_ups.new ≡ raised_count (L.asked look_ups.old) }

@@ -155,7 +155,7 @@ fn push_move(
     Ok(())
 }
 
-/// The events, in order. The first update has none.
+/// The events, in order. The first update has no events.
 fn told_events(
     alloc: Global,
     is_first: bool,

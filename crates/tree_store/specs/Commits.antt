@@ -1,4 +1,4 @@
--- What has to be there so that an update's changes can be written without memory.
+-- What has to be reserved so that an update's changes can be written without allocating.
 use Rattle.std.specs.Prelude.{◌≡◌, Option, Some, None, Bool, true, All, AllPairs, IfSome, Contains, ◌≢◌, ◌<◌, ℕ, length, ◌||◌, is_some, List, [], ◌∷◌, ◌++◌, if◌then◌else◌}
 use Rattle.std.specs.Option.{option_map}
 use Rattle.std.specs.FinSet.{contains}
@@ -57,11 +57,11 @@ HasNoSpare es = (id : FullNodeId) → is_some (slot_at es id) ≡ is_some (recor
 abbrev pub HasRoomFor : Slots → NodeChanges → Type 0
 HasRoomFor es cs = (id : FullNodeId) → is_some (slot_at es id) ≡ (is_some (record_at es id) || is_some (change_at cs id))
 
--- the names, with one more where it is new
+-- the names, with one more if it is new
 abbrev pub with_name : Bool → List TreeId → TreeId → List TreeId
 with_name is_new known name = if is_new then known ++ name ∷ [] else known
 
--- the toolkit's texts, after they are replaced by those of this tree info, where it is given
+-- the toolkit's texts, after they are replaced by those of this tree info, if it is given
 abbrev pub texts_after : Option InfoData → Option (List ℕ) × Option (List ℕ) → Option (List ℕ) × Option (List ℕ)
 texts_after None before = before
 texts_after (Some info) before = (info.toolkit_name, info.toolkit_version)

@@ -16,7 +16,7 @@ copy_of r = record { place = r.place; node = r.node }
 abbrev pub copy_at : List (FullNodeId × MirrorRecord) → FullNodeId → Option MirrorRecord
 copy_at es id = lookup (is_at (full_cmp id)) es
 
--- the node's place and data, and none where it isn't there
+-- the node's place and data, or none if it doesn't exist
 abbrev pub IsCopyOf : World → FullNodeId → Option MirrorRecord → Type 0
 IsCopyOf w id None = ¬ (IsNode w id)
 IsCopyOf w id (Some r) = IsPlaceOf w id r.place × HasData w id r.node

@@ -1,4 +1,4 @@
--- What is kept of names, and what becomes of it.
+-- The records of names, and their changes.
 use Rattle.std.specs.Prelude.{◌≡◌, ℕ, List, Option, Some, None, All, Contains, IsSome, ◌⊎◌, ◌||◌, is_some, option_and_then, if◌then◌else◌}
 use Rattle.std.specs.BTreeMap.{BTreeMap, get}
 use Rattle.schema.specs.declared.TreeId.{TreeId}
@@ -11,11 +11,11 @@ use Rattle.tree_store.specs.declared.records.NameRecord.{NameRecord}
 abbrev pub name_at : BTreeMap TreeId NameRecord → TreeId → Option NameRecord
 name_at m name = get name_cmp m name
 
--- the index and the graft; a record without both says what no record says
+-- the index and the graft; a record without both means the same as no record
 abbrev pub kept_in : Option NameRecord → Option ℕ × Option FullNodeId
 kept_in r = (option_and_then (λ r. r.index) r, option_and_then (λ r. r.graft) r)
 
--- what is kept of a changed record: nothing where it has neither an index nor a graft
+-- what is kept of a changed record: nothing if it has neither an index nor a graft
 abbrev pub name_kept : TreeRecord → Option NameRecord
 name_kept r = if is_some r.index || is_some r.graft then Some (record { index = r.index; graft = r.graft }) else None
 

@@ -1,4 +1,4 @@
--- The record of a name, put together from what is kept of it.
+-- The record of a name, made from what is stored of it.
 use Rattle.std.specs.Prelude.{ℕ, Option, Some, None, ◌||◌, is_some, if◌then◌else◌}
 use Rattle.std.specs.Option.{option_map}
 use Rattle.schema.specs.declared.TreeId.{TreeId}

@@ -23,7 +23,7 @@ IsLaidOver w o = ∥ IsDecision w (update_data o.update.now) o.decision.now ∥�
 abbrev pub IsRecordAfter : World → Overlay → TreeId → Option TreeRecord → Type 0
 IsRecordAfter w o name r = (before : Option TreeRecord) × IsTreeRecord w name before × (r ≡ tree_after o.decision.now.trees.items name before)
 
--- the tree info that replaces the toolkit's texts: that of an update of the root tree, where it has one
+-- the tree info that replaces the toolkit's texts: that of an update of the root tree, if it has one
 abbrev pub replacing : World → UpdateData → Option InfoData
 replacing w u = if index_for w u.name == 0 then u.info else None
 

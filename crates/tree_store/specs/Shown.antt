@@ -1,4 +1,4 @@
--- The world that a store shows, and what has to hold of its records.
+-- The world that a store shows, and the invariant of its records.
 use Rattle.std.specs.Prelude.{◌≡◌, Some, ◌↔◌, option_and_then}
 use Rattle.std.specs.BTreeMap.{BTreeMap}
 use Rattle.schema.specs.declared.TreeId.{TreeId}

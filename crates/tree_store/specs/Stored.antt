@@ -32,7 +32,7 @@ nodes_shown (e ∷ es) = set_at (nodes_shown es) e.0 (option_map (λ r. r.node) 
 abbrev pub tree_of : PresentTree → Tree
 tree_of t = record { root = t.root; focus = t.focus }
 
--- the tree of a known name, where it is present
+-- the tree of a known name, if it exists
 abbrev pub tree_in : Option KnownTree → Option Tree
 tree_in k = option_map tree_of (option_and_then (λ x. x.tree) k)
 
@@ -64,6 +64,6 @@ record_at es id = record_in (slot_at es id)
 abbrev pub names_shown : List KnownTree → List TreeId
 names_shown ks = map (λ k. k.name) ks
 
--- the places that the records keep are those where the nodes stand
+-- the places in the records are those of the nodes
 abbrev pub HasTruePlaces : Slots → World → Type 0
 HasTruePlaces es w = (id : FullNodeId) (r : Record) → record_at es id ≡ Some r → IsPlaceOf w id r.place

@@ -1,4 +1,4 @@
--- Records that wait for their places, by the entries of an update's nodes.
+-- Records waiting for their places, by the entries of an update's nodes.
 use Rattle.std.specs.Prelude.{ℕ, List, Option, Some, None, option_and_then, slice_get}
 use Rattle.std.specs.Option.{option_map}
 use Rattle.std.specs.declared.boxed.Box.{Box}

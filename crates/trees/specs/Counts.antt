@@ -7,11 +7,11 @@ use Rattle.model.specs.Run.{ToUpdate, Accepted, Does}
 use Rattle.tree_changes.specs.declared.decision.Decision.{Decision}
 use Rattle.tree_changes.specs.LookUps.{IsRaisedAtLeast}
 
--- two are counted for each event that the accepted update tells
+-- two are counted for each event of the accepted update
 abbrev pub CountsEvents : World → UpdateData → World → ℕ → ℕ → Type 0
 CountsEvents old u new before after = (told : List Event) → Does old (ToUpdate u) new told Accepted → IsRaisedAtLeast before (2 * length told) after
 
--- and one for each node that it names
+-- and one for each of its nodes
 abbrev pub CountsLookUps : World → UpdateData → World → ℕ → ℕ → Type 0
 CountsLookUps old u new before after = (told : List Event) → Does old (ToUpdate u) new told Accepted → IsRaisedAtLeast before (length u.nodes + 2 * length told) after
 

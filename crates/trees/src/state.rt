@@ -149,7 +149,7 @@ impl TreeState {
         self.view().subtree_root(name)
     }
 
-    /// The toolkit's name; `AccessKit` if the tree has none.
+    /// The toolkit's name; `AccessKit` if the tree doesn't have one.
     pub fn toolkit_name(&self) -> &str
         ensures { result.now ≡ toolkit_name self.now }
     {

@@ -8,6 +8,6 @@ use Rattle.views.specs.Walks.{walked_world}
 use Rattle.views.specs.PlainWalks.{node_in}
 use Rattle.views.specs.Descents.{descent_left}
 
--- its nodes, each with the world in which it is seen
+-- its nodes, each with the world in which it is read
 abbrev pub descendants_left : Descendants → List (World × FullNodeId)
 descendants_left s = map (node_in (walked_world s.course)) (descent_left (λ _. Include) s.course)

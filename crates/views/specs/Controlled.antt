@@ -8,7 +8,7 @@ use Rattle.views.specs.declared.walks.controls.Controls.{Controls}
 use Rattle.views.specs.ShownWorlds.{world_of}
 use Rattle.views.specs.PlainWalks.{node_in}
 
--- the nodes of the tree with this index that are there, as a walk gives them
+-- the existing nodes of the tree with this index, as a walk returns them
 abbrev pub named_nodes : World → ℕ → List NodeId → List (World × FullNodeId)
 named_nodes w tree ids = map (node_in w) (filter_map (λ n. if_there w (in_tree tree n)) ids)
 

@@ -1,4 +1,4 @@
--- Where a walk over what a filter shows stands.
+-- The state of a walk over what a filter shows.
 use Rattle.std.specs.Prelude.{◌≡◌, ℕ, ◌+◌, List, [], true, Option, Some, None, refl}
 use Rattle.std.specs.Coded.{Coded-set, coded_bool}
 use Rattle.model.specs.declared.FullNodeId.{FullNodeId}
@@ -16,12 +16,12 @@ pub record AreEnds (w : World) (top : FullNodeId) (e : Ends) : Type 0 where
   pub front_below : is_below w top e.front.member.id ≡ true
   pub back_below : is_below w top e.back.member.id ≡ true
 
--- the ends of a walk, which is over where there are none
+-- the ends of a walk, which is over if it has none
 abbrev pub AreEndsIf : World → FullNodeId → Option Ends → Type 0
 AreEndsIf w top None = Unit {0}
 AreEndsIf w top (Some e) = AreEnds w top e
 
--- both ends are shown, and the front isn't behind the back
+-- both ends are shown, and the front isn't after the back
 abbrev pub SpansEnds : (FullNodeId → FilterResult) → World → FullNodeId → Ends → Type 0
 SpansEnds f w top e = Spans f w top e.front.member.id e.back.member.id
 

@@ -8,11 +8,11 @@ use Rattle.model.specs.Forest.{Forest, empty, tree, below, IsFormed}
 use Rattle.model.specs.Lists.{preorder}
 use Rattle.model.specs.Frontier.{filtered_children}
 
--- the node's pre-order without its first, which is the node
+-- the node's pre-order without the node itself
 abbrev pub descendants : World → FullNodeId → List FullNodeId
 descendants w id = drop 1 (preorder w id)
 
--- what stands for a node that is answered so, where inner is what is shown below it
+-- what replaces a node with this answer, if inner is what is shown below it
 abbrev pub shown_tree : FilterResult → FullNodeId → List FullNodeId → List FullNodeId
 shown_tree Include c inner = c ∷ inner
 shown_tree ExcludeNode c inner = inner

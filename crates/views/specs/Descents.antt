@@ -1,4 +1,4 @@
--- Where a walk in pre-order stands over what a filter shows below a node, and what it has left.
+-- The state of a walk in pre-order over what a filter shows below a node, and what it has left.
 use Rattle.std.specs.Prelude.{◌≡◌, ℕ, ◌+◌, ◌≤◌, List, [], ◌∷◌, ◌++◌, length, take, drop, slice_range, cond, Option, Some, None, refl}
 use Rattle.std.specs.Coded.{Coded-set, coded_list, le_prop}
 use Rattle.std.specs.Iterator.{YieldsFirstBy, YieldsLastBy}
@@ -17,7 +17,7 @@ use Rattle.views.specs.Follows.{Follows}
 use Rattle.views.specs.Walks.{walked_world, WalksOn}
 use Rattle.views.specs.Descendants.{shown_nodes, filtered_descendants}
 
--- the node, where it is included
+-- the node, if it is included
 abbrev pub own_part : (FullNodeId → FilterResult) → FullNodeId → List FullNodeId
 own_part f id = cond (is_included (f id)) (id ∷ []) []
 
@@ -47,7 +47,7 @@ module _ (f : FullNodeId → FilterResult) (w : World) (top : FullNodeId) where
   abbrev pub IsAmong : FullNodeId → Type 0
   IsAmong id = earlier_in id ++ id ∷ later_in id ≡ filtered_descendants f w top
 
--- both ends are shown, and the front isn't behind the back
+-- both ends are shown, and the front isn't after the back
 pub record SpansAll (f : FullNodeId → FilterResult) (w : World) (top front back : FullNodeId) : Type 0 where
   pub first : IsAmong f w top front
   pub last : IsAmong f w top back
@@ -63,7 +63,7 @@ SpansAllEnds f w top e = SpansAll f w top e.front.member.id e.back.member.id
 abbrev pub all_between_ends : (FullNodeId → FilterResult) → World → FullNodeId → Ends → List FullNodeId
 all_between_ends f w top e = all_between f w top e.front.member.id e.back.member.id
 
--- the walk is over where there are no ends
+-- the walk is over if it has no ends
 abbrev pub SpansAllIf : (FullNodeId → FilterResult) → World → FullNodeId → Option Ends → Type 0
 SpansAllIf f w top None = Unit {0}
 SpansAllIf f w top (Some e) = SpansAllEnds f w top e
@@ -89,7 +89,7 @@ IsOnDescent f c = SpansAllIf f (walked_world c) c.top c.ends
 abbrev pub descent_left : (FullNodeId → FilterResult) → Course → List FullNodeId
 descent_left f c = all_between_if f (walked_world c) c.top c.ends
 
--- more than it can give, whatever the filter answers
+-- more than it can return, whatever the filter answers
 abbrev pub descent_work : Course → ℕ
 descent_work c = work_inside_if (walked_world c) c.top c.ends
 

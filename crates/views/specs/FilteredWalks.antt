@@ -1,4 +1,4 @@
--- The walks over what a filter shows: what each has left, and what its calls give from either end.
+-- The filtered walks: what each has left, and what its calls return from either end.
 use Rattle.std.specs.Prelude.{◌≡◌, List, map, reverse, Option}
 use Rattle.std.specs.Iterator.{YieldsFirstBy, YieldsLastBy}
 use Rattle.model.specs.declared.FullNodeId.{FullNodeId}
@@ -18,7 +18,7 @@ use Rattle.views.specs.Follows.{Follows}
 use Rattle.views.specs.Walks.{walked_world, IsOnCourse, ids_left, WalksOn}
 use Rattle.views.specs.Descents.{IsOnDescent, descent_left}
 
--- what is seen of a walk of type S with a filter of type F: the filter, where it stands, and for a filter that answers f
+-- a walk of type S with a filter of type F, as contracts see it: the filter, the walk's state, and for a filter that answers f
 -- that its ends are shown, and the ids that it has left
 pub record WalkOf (S F : Type 0) : Type 1 where
   pub filter : S → F
@@ -32,7 +32,7 @@ pub record BeginsWalk {S F : Type 0} (answers : NodeRef → FilterResult → Typ
   pub list : (f : FullNodeId → FilterResult) → Follows answers w f → walk.OnCourse f s × (walk.left f s ≡ ids f)
 
 -- the filter stays; the walk stays in its world, each item is a node of that, and at its end the walk stays there;
--- and by each f that the filter follows the call gives the first of what is left
+-- and by each f that the filter follows the call returns the first of what is left
 pub record GivesFirst {S F : Type 0} (answers : F → NodeRef → FilterResult → Type 0) (walk : WalkOf S F) (s : S) (r : Option NodeRef) (t : S) : Type 0 where
   pub filter : walk.filter t ≡ walk.filter s
   pub goes : WalksOn (walk.course s) r (walk.course t)
@@ -66,7 +66,7 @@ preceding_walk = record { filter = λ s. s.filter; course = λ s. s.course; OnCo
 abbrev pub descendants_walk : {F : Type 0} → WalkOf (FilteredDescendants F) F
 descendants_walk = record { filter = λ s. s.filter; course = λ s. s.course; OnCourse = λ f s. IsOnDescent f s.course; left = λ f s. descent_left f s.course }
 
--- of the items, by what f makes of a node that is one
+-- of the items, by the answer of f for a node that is one
 abbrev pub items_walk : {F : Type 0} → WalkOf (Items F) F
 items_walk = record {
   filter = λ s. s.filter.filter;

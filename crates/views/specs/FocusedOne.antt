@@ -12,10 +12,10 @@ use Rattle.model.specs.Filters.{is_transparent, first_answer, is_clipped}
 pub record IsFocusedOne (w : World) (focused : Option FullNodeId) : Type 0 where
   pub at : (id : FullNodeId) → is_focused w id ≡ option_map_or (is_same id) focused false
 
--- a node that isn't focused and is left out alone, unless it is hidden
+-- a node that isn't focused and is excluded alone, unless it is hidden
 abbrev pub is_passed : World → FullNodeId → Bool
 is_passed w id = not (is_focused w id) && is_transparent w id
 
--- one of these nodes is clipped, before the first of which anything is settled
+-- one of these nodes is clipped, before the first that decides its own answer
 abbrev pub clipped_from : World → List FullNodeId → Bool
 clipped_from w ids = list_any (is_clipped w) (take_while (λ a. is_none (first_answer w a)) ids)

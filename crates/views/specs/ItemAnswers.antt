@@ -1,4 +1,4 @@
--- What the filter of items answers.
+-- The answers of the filter of items.
 use Rattle.std.specs.Prelude.{◌≡◌, not, cond, ◌&&◌}
 use Rattle.schema.specs.NodeData.{NodeData}
 use Rattle.model.specs.declared.filters.FilterResult.{FilterResult}
@@ -8,7 +8,7 @@ use Rattle.model.specs.Covers.{is_included}
 use Rattle.views.specs.declared.node.node_ref.NodeRef.{NodeRef}
 use Rattle.views.specs.Nodes.{data_at}
 
--- an answer for a node of this data: what is included and is no item is left out alone
+-- an answer for a node of this data: what is included and is no item is excluded alone
 abbrev pub item_answer : FilterResult → NodeData → FilterResult
 item_answer r d = cond (is_included r && not (is_item_like d.role)) ExcludeNode r
 

@@ -1,9 +1,9 @@
--- Walks over the labels and pictures in a node.
+-- Walks over the labels and images in a node.
 use Rattle.model.specs.Labels.{label_filter}
 use Rattle.views.specs.declared.walks.course.Course.{Course}
 use Rattle.views.specs.Walks.{walked_world, IsOnCourse}
 
--- its ends are labels or pictures
+-- its ends are labels or images
 abbrev pub IsLabelCourse : Course → Type 0
 IsLabelCourse c = ∥ IsOnCourse (label_filter (walked_world c)) c ∥₁
 

@@ -12,7 +12,7 @@ use Rattle.views.specs.PlainWalks.{node_in}
 use Rattle.views.specs.Walks.{walked_world, ids_left}
 use Rattle.views.specs.Controlled.{controls_left}
 
--- the labels and pictures from one end of the walk to the other
+-- the labels and images from one end of the walk to the other
 abbrev pub shown_labels : Course → List FullNodeId
 shown_labels c = ids_left (label_filter (walked_world c)) c
 

@@ -18,7 +18,7 @@ id_at n = n.id
 abbrev pub data_at : NodeRef → NodeData
 data_at n = n.node.now
 
--- what the view shows: the node, and the world in which it is seen
+-- what the view shows: the node, and the world in which it is read
 abbrev pub seen_node : NodeRef → Seen
 seen_node n = seen_in (world_at n) (id_at n)
 
@@ -30,7 +30,7 @@ pub record IsView (w : World) (id : FullNodeId) (n : NodeRef) : Type 0 where
   pub world : world_at n ≡ w
   pub is : id_at n ≡ id
 
--- a view of the node of this world with P, where there is one
+-- a view of the node of this world with P, if there is one
 pub record ShowsThe (w : World) (P : FullNodeId → Type 0) (found : Option NodeRef) : Type 0 where
   pub world : IfSome found (λ n. world_at n ≡ w)
   pub node : (id : FullNodeId) → (option_map id_at found ≡ Some id) ↔ P id

@@ -13,7 +13,7 @@ use Rattle.views.specs.declared.walks.plain.PrecedingSiblingNodes.{PrecedingSibl
 use Rattle.views.specs.ShownWorlds.{world_of}
 use Rattle.views.specs.Nodes.{world_at, id_at}
 
--- a node as a walk gives it: the world and the id
+-- a node as a walk returns it: the world and the id
 abbrev pub node_in : World → FullNodeId → World × FullNodeId
 node_in w id = (w, id)
 

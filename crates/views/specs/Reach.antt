@@ -1,4 +1,4 @@
--- By how much the nodes above a node move it, up to one of them, and how far sums of moves reach.
+-- The sum of the translations above a node, up to one of its ancestors, and the bounds of such sums.
 use Rattle.std.specs.Prelude.{ℕ, ◌^◌, ℤ, pos, neg_ℤ, ◌≤ℤ◌, Bool, false, not, List, take_while, Option}
 use Rattle.std.specs.Option.{option_map_or}
 use Rattle.schema.specs.declared.geometry.WideTranslation.{WideTranslation}
@@ -8,7 +8,7 @@ use Rattle.model.specs.Forest.{is_same}
 use Rattle.model.specs.Upward.{upward}
 use Rattle.model.specs.Geometry.{sum_of_moves}
 
--- the node is the top, where there is one
+-- the node is the top, if there is one
 abbrev pub is_top : Option FullNodeId → FullNodeId → Bool
 is_top top id = option_map_or (λ t. is_same t id) top false
 
@@ -16,14 +16,14 @@ is_top top id = option_map_or (λ t. is_same t id) top false
 abbrev pub up_to_top : World → Option FullNodeId → FullNodeId → List FullNodeId
 up_to_top w top id = take_while (λ a. not (is_top top a)) (upward w id)
 
--- they move it together by this much
+-- the sum of their translations
 abbrev pub transform_to_top : World → Option FullNodeId → FullNodeId → WideTranslation
 transform_to_top w top id = sum_of_moves w (up_to_top w top id)
 
--- no more than 2 ^ 64 nodes are above one another, as there are no more; and each moves by at most 2 ^ 31
+-- at most 2 ^ 64 nodes are above one another, since there are no more, and each translates by at most 2 ^ 31
 abbrev pub FARTHEST : ℕ
 FARTHEST = 2 ^ 95
 
--- so far and no farther, so that a rectangle may be added
+-- bounded, so that a rectangle can be added
 abbrev pub IsInReach : ℤ → Type 0
 IsInReach z = (neg_ℤ (pos FARTHEST) ≤ℤ z) × (z ≤ℤ pos FARTHEST)

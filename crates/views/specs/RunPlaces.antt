@@ -16,7 +16,7 @@ runs_after w root id = after_in (run_filter w root) w root id
 abbrev pub runs_before : World → FullNodeId → FullNodeId → List FullNodeId
 runs_before w root id = before_in (run_filter w root) w root id
 
--- the node stands there, and is one of the root's runs: these are the ones before it, itself, and the ones after it
+-- the node has this place, and is one of the root's runs: these are the ones before it, itself, and the ones after it
 pub record IsRunPlace (w : World) (root : FullNodeId) (s : Spot) : Type 0 where
   pub spot : IsSpot w s
   pub below : is_below w root s.member.id ≡ true

@@ -61,7 +61,7 @@ pub record IsPreviousRun (r s : Run) : Type 0 where
   pub after : ids_after s ≡ run_id r ∷ ids_after r
   pub before : ids_before r ≡ ids_before s ++ run_id s ∷ []
 
--- the next run after it stands there
+-- the next run after it is at this place
 pub record IsSpotAfter (r : Run) (s : Spot) : Type 0 where
   pub there : IsSpot (run_world r) s
   pub below : is_below (run_world r) (root_id r) s.member.id ≡ true

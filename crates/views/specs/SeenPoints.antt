@@ -1,4 +1,4 @@
--- A point as nodes see it.
+-- A point in nodes' coordinates.
 use Rattle.std.specs.Prelude.{ℕ, ◌+◌, ◌*◌, ◌^◌, ℤ, pos, neg_ℤ, ◌≤ℤ◌, Bool, false, not, ◌&&◌, ◌==◌}
 use Rattle.std.specs.Option.{option_map_or}
 use Rattle.model.specs.declared.FullNodeId.{FullNodeId}
@@ -10,10 +10,10 @@ use Rattle.views.specs.declared.walks.hits.SeenPoint.{SeenPoint}
 abbrev pub wide_of : SeenPoint → WidePoint
 wide_of s = record { x = s.x; y = s.y }
 
--- no farther than a point's number and so many moves
+-- no farther than a coordinate and this many translations
 abbrev pub IsNear : ℕ → ℤ → Type 0
 IsNear n z = (neg_ℤ (pos (2 ^ 63 + 2 ^ 31 * n)) ≤ℤ z) × (z ≤ℤ pos (2 ^ 63 + 2 ^ 31 * n))
 
--- of so many children there is none, and the node isn't at the point itself
+-- the node has no children and doesn't contain the point itself
 abbrev pub is_bare_miss : World → FullNodeId → ℕ → WidePoint → Bool
 is_bare_miss w id count q = (count == 0) && not (option_map_or (λ r. contains_point r q) (field_at (λ d. d.bounds) w id) false)

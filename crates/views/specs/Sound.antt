@@ -1,4 +1,4 @@
--- What a view needs to read a world: where an update's changes are laid over it, that they are those of a decision on the update,
+-- What a view needs to read a world: if an update's changes are laid over it, that they are those of a decision on the update,
 -- and that there are slots for them.
 use Rattle.std.specs.Prelude.{Option, Some, None, refl, ◌||◌, is_some}
 use Rattle.std.specs.Coded.{coded_bool, Coded-set, Π_prop}
@@ -10,7 +10,7 @@ use Rattle.tree_store.specs.Commits.{HasSlots}
 use Rattle.tree_store.specs.declared.overlay.Overlay.{Overlay}
 use Rattle.tree_store.specs.Overlays.{laid_over, IsLaidOver}
 
--- the world with the changes over it, where there are any
+-- the world with the changes over it, if there are any
 abbrev pub laid_world : World → Option Overlay → World
 laid_world w None = w
 laid_world w (Some o) = laid_over w o

@@ -15,7 +15,7 @@ IsMember w m = HasData w m.id m.node.now
 abbrev pub place_at : Spot → Place
 place_at s = (s.parent.id, s.index)
 
--- the node stands there, below the parent
+-- the node has this place, below the parent
 pub record IsSpot (w : World) (s : Spot) : Type 0 where
   pub parent : IsMember w s.parent
   pub member : IsMember w s.member

@@ -22,7 +22,7 @@ IsOnCourse f c = SpansIf f (walked_world c) c.top c.ends
 abbrev pub ids_left : (FullNodeId → FilterResult) → Course → List FullNodeId
 ids_left f c = between_if f (walked_world c) c.top c.ends
 
--- more than it can give, whatever the filter answers
+-- more than it can return, whatever the filter answers
 abbrev pub work_of : Course → ℕ
 work_of c = work_if (walked_world c) c.top c.ends
 

@@ -1,9 +1,9 @@
--- What a call that writes a text leaves of its writer, and how it calls it.
+-- The effect of a call that writes a text on its writer, and how it calls the writer.
 use Rattle.std.specs.Prelude.{◌≡◌, ℕ, ◌+◌, Bool, true, false, List, ◌∷◌, ◌++◌, replicate}
 use Rattle.std.specs.List.{FoldsTo}
 use Rattle.schema.specs.TextCalls.{TextCall, WithCharacter}
 
--- by what a writer received, and how many of its calls failed
+-- by what a writer received, and the number of its failed calls
 module _ {W : Type 0} (received : W → List ℕ) (faults : W → ℕ) where
   -- it has the text, and no call failed
   pub record IsWritten (text : List ℕ) (old new : W) : Type 0 where
@@ -18,23 +18,23 @@ module _ {W : Type 0} (received : W → List ℕ) (faults : W → ℕ) where
     pub has : received new ≡ received old ++ front
     pub failed : faults new ≡ faults old + 1
 
-  -- it has the text but for the rest of it, and no call failed
+  -- it has the text except for the rest, and no call failed
   pub record IsUnderWay (text rest : List ℕ) (old new : W) : Type 0 where
     pub front : List ℕ
     pub whole : front ++ rest ≡ text
     pub written : IsWritten front old new
 
--- one call for each of so many bullets
+-- one call for each of this many bullets
 abbrev pub bullet_calls : ℕ → List TextCall
 bullet_calls n = replicate n (WithCharacter 8226)
 
--- by what one call makes of a writer
+-- by the effect of one call on a writer
 module _ {W : Type 0} (steps : W → TextCall → Bool → W → Type 0) where
-  -- these calls were made of it, one after another, and each was taken
+  -- these calls were made, one after another, and each succeeded
   abbrev pub IsCalled : List TextCall → W → W → Type 0
   IsCalled calls old new = FoldsTo (λ w call v. steps w call true v) old calls new
 
-  -- of these calls the first ones were made of it, and each but the last was taken
+  -- the first of these calls were made, and each but the last succeeded
   pub record IsCalledTillFault (calls : List TextCall) (old new : W) : Type 0 where
     pub front : List TextCall
     pub call : TextCall

@@ -36,7 +36,7 @@ impl<'a> StateRef<'a> {
         StateRef::with_host_focused(base, base.is_host_focused())
     }
 
-    /// A view of the stored state with another host focus.
+    /// A view of the stored state with this host focus.
     pub fn with_host_focused(base: &'a Store, is_host_focused: bool) -> StateRef<'a>
         ensures { world_of result ≡ with_host base.now.world is_host_focused }
     {
@@ -335,7 +335,7 @@ impl<'a> StateRef<'a> {
         self.focus().map(|node| node.id)
     }
 
-    /// The toolkit's name; `AccessKit` if the tree has none.
+    /// The toolkit's name; `AccessKit` if the tree doesn't have one.
     pub fn toolkit_name(&self) -> &'a str
         ensures { result.now ≡ toolkit_name (world_of self.now) }
     {

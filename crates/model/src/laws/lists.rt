@@ -94,7 +94,8 @@ pub fn roots_have_no_siblings()
     ensures { RootsHaveNoSiblings }
 {}
 
-/// The deepest first child is that of the first child, or the first child itself if it has none; likewise for the last.
+/// The deepest first child is that of the first child, or the first child itself if that has no children; likewise for
+/// the last.
 pub fn deepest_is_of_child()
     ensures { DeepestIsOfChild }
 {}

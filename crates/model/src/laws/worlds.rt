@@ -21,7 +21,7 @@ pub fn accepted_or_fault()
     ensures { AcceptedOrFault }
 {}
 
-/// `KeepsRules` holds exactly if no fault stands (`Stands`).
+/// `KeepsRules` holds exactly if no rule is broken.
 #[tactic(auto, using(crate::proofs::Update::RulesOrFault::rules_or_fault))]
 pub fn rules_or_fault()
     ensures { RulesOrFault }

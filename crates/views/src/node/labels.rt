@@ -140,7 +140,7 @@ impl<'a> NodeRef<'a> {
         self.has_own_label() || has_part(self.labelled_by())
     }
 
-    /// Returns the label, as [`NodeRef::write_label`] writes it, or `None` if there is none.
+    /// Returns the label, as [`NodeRef::write_label`] writes it, or `None` if there isn't one.
     ///
     /// # Errors
     ///

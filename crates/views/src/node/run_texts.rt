@@ -15,7 +15,7 @@ use crate::node::masking::write_bullets;
 use crate::runs::Run;
 use schema::{TextFault, TextWrite};
 
-/// Writes a run's text as it is shown.
+/// Writes a run's text as shown.
 fn write_run<W: TextWrite>(run: Run<'_>, masked: bool, writer: &mut W) -> Result<(), TextFault>
     requires { W.faults writer.old + 1 < 2 ^ 128 }
     ensures ok { OnOk result (IsWritten W.received W.faults (shown_of masked (sent_of run.entry)) writer.old writer.new) }
@@ -27,7 +27,7 @@ fn write_run<W: TextWrite>(run: Run<'_>, masked: bool, writer: &mut W) -> Result
     writer.write_str(run.value())
 }
 
-/// Writes the text of all runs as it is shown.
+/// Writes the text of all runs as shown.
 fn write_runs<W: TextWrite>(
     root: NodeRef<'_>,
     masked: bool,

@@ -81,7 +81,7 @@ impl<'a> NodeRef<'a> {
         self.supports_text_ranges() && !self.is_multiline()
     }
 
-    /// Writes the node's own value as it is shown.
+    /// Writes the node's own value as shown.
     fn write_own_value<W: TextWrite>(&self, value: &str, writer: &mut W) -> Result<(), TextFault>
         requires { W.faults writer.old + 1 < 2 ^ 128 }
         ensures ok { let text = shown_value (world_at self.now) (id_at self.now) value.now in
@@ -136,7 +136,7 @@ impl<'a> NodeRef<'a> {
         self.has_own_value() || self.has_value_in_runs()
     }
 
-    /// Returns the value, as [`NodeRef::write_value`] writes it, or `None` if there is none.
+    /// Returns the value, as [`NodeRef::write_value`] writes it, or `None` if there isn't one.
     ///
     /// # Errors
     ///

@@ -135,7 +135,7 @@ fn is_at(node: NodeRef<'_>, seen: SeenPoint) -> bool
     }
 }
 
-/// Whether a node with this many children has none and doesn't contain the point itself.
+/// Whether a node with this many children has no child and doesn't contain the point itself.
 fn is_bare_miss(node: NodeRef<'_>, count: usize, seen: SeenPoint) -> bool
     ensures { result ≡ is_bare_miss (world_at node.entry) (id_at node.entry) count (wide_of seen) }
 {

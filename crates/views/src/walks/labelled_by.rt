@@ -106,8 +106,8 @@ enum LabelSource<'a> {
     Within(LabelsWithin<'a>),
 }
 
-/// A walk over the nodes that label a node: those that it names, as far as they are in the state, or else, for a
-/// control such as a button, the labels and images in it.
+/// A walk over the nodes that label a node: those that it names, if they are in the state, or else, for a control such
+/// as a button, the labels and images in it.
 #[derive(Drop)]
 pub struct LabelledBy<'a> {
     source: LabelSource<'a>,
