@@ -126,33 +126,38 @@ def path_of(module, blocks, homes):
         elif kind == "trait":
             return [*module, head]
         else:
-            trait, _, of = without_parameters(head).partition(" for ")
+            parameters, head = split_head(head)
+            trait, _, of = head.partition(" for ")
             if of:
-                return [*module, words_of(of) + words_of(trait)]
+                return [*module, words_of(of, parameters) + words_of(trait, parameters)]
             name = WORD.search(of or trait)
             home = homes.get(name.group(), [module]) if name else [module]
             return [*(module if module in home else home[0]), name.group() if name else "?"]
     return module
 
 
-def without_parameters(head):
-    """The head of an `impl` without its own type parameters and without what stands in `where`."""
-    head, depth = head.strip(), 0
+def split_head(head):
+    """The names of an `impl`'s own type parameters, and its head without these and without what stands in `where`."""
+    head, depth, parameters = head.strip(), 0, ""
     if head.startswith("<"):
         for offset, sign in enumerate(head):
             depth += {"<": 1, ">": -1}.get(sign, 0) if head[offset - 1 : offset + 1] != "->" else 0
             if depth == 0:
-                head = head[offset + 1 :]
+                parameters, head = head[1:offset], head[offset + 1 :]
                 break
-    return re.split(r"\bwhere\b|\n\s*ghost\b", head)[0]
+    return re.findall(r"(?:^|,)\s*(?:const )?(\w+)", parameters), re.split(r"\bwhere\b|\n\s*ghost\b", head)[0]
 
 
-def words_of(text):
-    """The name of a type or a trait in a path of the prover: its words, each with a capital, as `FromU64` of `From<u64>`."""
+def words_of(text, parameters):
+    """The name of a type or a trait in a path of the prover: its words, each with a capital and without the type parameters of the
+    `impl`, as `FromU64` of `From<u64>`, and `Tuple2Eprint` of a pair's."""
+    text = text.strip()
+    if text.startswith("("):
+        text = "Tuple%d" % len(text.strip("(),").split(","))
     words = re.findall(r"\w+", re.sub(r"'\w+|\b\w+::", "", text.replace("&mut ", "RefMut ").replace("&", "Ref ")))
-    return "".join(it[:1].upper() + it[1:] for it in words if it not in ("dyn", "mut", "const"))
+    return "".join(it[:1].upper() + it[1:] for it in words if it not in ("dyn", "mut", "const", *parameters))
 
 
 def function_at(found, path, offset):
     """The function in whose body this offset of a file lies, or `None`."""
-    return next((it for it in found if it.file == path and it.body <= offset < it.end), None)
+    return next((it for it in found if it.file == path and it.body <= offset <= it.end), None)

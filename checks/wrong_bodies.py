@@ -10,9 +10,9 @@ import functions as sources
 # alone, what it has to come to (`refused`), its pairs of texts as (file, old, new), and why it can't be read, or None.
 Body = namedtuple("Body", "name functions clause demand wanted pairs fault")
 
-# Where a wrong body stands in its crate: the lines that it changes as (file, line), the functions in whose bodies these are, and why
-# it can't be made, or None.
-Place = namedtuple("Place", "lines inside fault")
+# Where a wrong body stands in its crate: the lines that it changes as (file, line), the functions in whose bodies these are, whether
+# it changes anything outside of bodies and comments, as a constant or a type, and why it can't be made, or None.
+Place = namedtuple("Place", "lines inside is_outside fault")
 
 # What a try of a wrong body came to, and what is told of it. A body has passed where it is refused.
 REFUSED, PROVED, UNREAD, CALLS, NAMES, NO_FUNCTION, UNSURE = "refused", "proved", "unread", "calls", "names", "no function", "unsure"
@@ -86,35 +86,36 @@ def made(body, texts):
 def place_of(body, texts, found):
     """Where the wrong body stands in the crate of these sources and functions."""
     if body.fault:
-        return Place(set(), [], body.fault)
+        return Place(set(), [], False, body.fault)
     changed, fault = made(body, texts)
-    lines, inside = set(), []
-    for file, old, _ in body.pairs:
-        at = texts.get(file, "").find(old)
-        if at >= 0:
-            at += len(old) - len(old.lstrip())
+    lines, inside, is_outside = set(), [], False
+    for file, old, new in body.pairs:
+        start = texts.get(file, "").find(old)
+        if start >= 0:
+            at = start + len(os.path.commonprefix([old, new]))
+            function = sources.function_at(found, file, at)
             lines.add((file, texts[file].count("\n", 0, at) + 1))
-            inside.append(sources.function_at(found, file, at))
+            inside += [function] if function else []
+            is_outside |= not function and sources.blanked(texts[file])[start : start + len(old)].strip() != ""
     if not fault and not body.functions:
-        held = sorted({it.path for it in inside if it})
+        held = sorted({it.path for it in inside})
         fault = "it has no line `function:`" + (", and its old text stands in %s" % " and ".join(held) if held else "")
-    return Place(lines, inside, fault)
+    return Place(lines, inside, is_outside, fault)
 
 
 class Round:
-    """Wrong bodies that are tried in one check: no two of one function, of one cycle of calls or on one line. What isn't in a
-    function's body, as a constant or a type, is tried by itself."""
+    """Wrong bodies that are tried in one check: no two of one function, of one cycle of calls or on one line. What changes
+    anything outside of bodies, as a constant or a type, is tried by itself."""
 
     def __init__(self, texts):
         self.texts, self.changed, self.bodies, self.taken, self.is_alone = texts, {}, [], set(), False
 
     def add(self, body, place, is_alone=False):
         """Takes the wrong body up, if it can be tried with those that are there."""
-        held = [it for it in place.inside if it]
-        is_alone = is_alone or len(held) < len(body.pairs)
+        is_alone = is_alone or place.is_outside
         if self.bodies and (is_alone or self.is_alone):
             return False
-        taken = {*place.lines, *body.functions, *(it.path for it in held), *("cycle " + it.cycle for it in held if it.cycle)}
+        taken = {*place.lines, *body.functions, *(it.path for it in place.inside), *("cycle " + it.cycle for it in place.inside if it.cycle)}
         changed, fault = made(body, {**self.texts, **self.changed})
         if fault or taken & self.taken:
             return False
@@ -132,7 +133,8 @@ def judged(crate, body, place, ran, found):
     touched = {*place.lines}
 
     def is_own(file, line):
-        return file.startswith(tuple(folders)) or any(it.file == file and it.first <= line <= it.last for it in spans) or (file, line) in touched
+        # (what changes a constant or a type is tried by itself, so that all that is said is said of it)
+        return place.is_outside or file.startswith(tuple(folders)) or any(it.file == file and it.first <= line <= it.last for it in spans) or (file, line) in touched
 
     said = [(it.group(0), it.group(1), it.group(4)) for it in map(SAID.match, ran.said.splitlines()) if it and is_own(it.group(1), int(it.group(2)))]
     refusal = next((line for line, file, text in said if not_compiled(text) or file.startswith("src/") and is_unread(text)), None)
