@@ -1,5 +1,6 @@
 """Runs the prover on a copy of a crate, over the libraries that earlier checks have left of the crates below it."""
 
+import contextlib
 import hashlib
 import os
 import re
@@ -10,8 +11,11 @@ import tempfile
 import time
 from collections import namedtuple
 
+import functions
+
 TOP = os.path.join(os.path.dirname(os.path.abspath(__file__)), "..")
 PARTS = ("src", "specs", "proofs")
+CLAUSE = re.compile(r"\b(?:requires|ensures)\b[^{};]*\{")
 ANSWERS = ("Answers.antt", "Invariants.antt", "Proof.antt")
 
 # What a check gave: its exit status, what it wrote, and how many seconds, seconds of a processor and megabytes it took.
@@ -89,6 +93,15 @@ class Crate:
             return "the library of %s below it can't be built: %s" % (self.name, last_lines(ran.stdout, 3))
         return None
 
+    def is_left(self):
+        """Whether the library stands here that `rt ci` has left, which `rt lib` would build anew since it has no stamp, and states what
+        the crate states now."""
+        lang = os.path.join(self.library, "lang")
+        if not os.path.isdir(lang) or os.path.isfile(os.path.join(self.folder, "out", "rlib", "stamp")):
+            return False
+        specs = [(path, text) for path, text in files_of(self.folder, ("specs",)) if path != "specs/Lib.antt"]
+        return specs == list(files_of(os.path.join(lang, "antt"), ("specs",))) and clauses(self.folder) == clauses(lang)
+
     def statements(self):
         """A sum of what a crate above can read of this one: its functions without their bodies, its definitions and its lemmas."""
         kept = hashlib.sha256(self.name.encode())
@@ -113,15 +126,20 @@ class Crate:
             if os.path.isdir(os.path.join(self.folder, part)):
                 shutil.copytree(os.path.join(self.folder, part), os.path.join(room, part))
 
-    def begin(self, room):
-        """Gives this folder what checks of the crate have kept, by other names of the same files: a check replaces such a file and
-        changes none. Without it, a check proves what it needs."""
+    @contextlib.contextmanager
+    def kept(self):
+        """Gives a folder with what checks of the crate have kept, by other names of the same files: a check replaces such a file and
+        changes none. Where nothing is kept, a check proves what it needs."""
         kept = os.path.join(self.folder, "out", "incremental")
-        try:
-            shutil.copytree(kept, room, copy_function=link_or_copy)
-        except (OSError, shutil.Error):
-            shutil.rmtree(room, ignore_errors=True)
-            os.makedirs(room)
+        with tempfile.TemporaryDirectory(prefix="wrong-", dir=os.path.dirname(kept) if os.path.isdir(kept) else None) as room:
+            folder = os.path.join(room, "kept")
+            try:
+                shutil.copytree(kept, folder, copy_function=link_or_copy)
+            except (OSError, shutil.Error):
+                # (another command may write what this one copies)
+                shutil.rmtree(folder, ignore_errors=True)
+                os.makedirs(folder)
+            yield folder
 
 
 def link_or_copy(one, other):
@@ -143,6 +161,16 @@ def files_of(folder, parts):
                 yield os.path.relpath(path, folder), read(path)
 
 
+def clauses(folder):
+    """The clauses of all functions of the sources in a folder, as a sorted list, without their blanks."""
+    found = []
+    for text in functions.sources(folder).values():
+        blanked = functions.blanked(text)
+        for clause in CLAUSE.finditer(blanked):
+            found.append(re.sub(r"\s+", "", text[clause.start() : functions.end_of_block(blanked, clause.end() - 1)]))
+    return sorted(found)
+
+
 def read(path):
     with open(path, "rb") as file:
         return file.read()
@@ -153,15 +181,17 @@ def last_lines(text, count):
     return " | ".join([it for it in text.splitlines() if it.strip()][-count:])[:600]
 
 
-# The checks that run, so that a run that is broken off can end them.
-RUNNING = set()
+# The checks that run, so that a run that is broken off can end them, and whether it is.
+RUNNING, BROKEN_OFF = set(), []
 
 
-def check(crate, room, kept, functions):
+def check(crate, room, kept, names):
     """Checks these functions of the copy of a crate in a folder, over what another folder keeps."""
     words = [*crate.words(), "--incremental", kept]
-    for function in functions:
-        words += ["--only", function]
+    for name in names:
+        words += ["--only", name]
+    if BROKEN_OFF:
+        raise SystemExit(1)
     with tempfile.TemporaryFile() as written:
         begun = time.monotonic()
         child = subprocess.Popen(words, cwd=room, stdin=subprocess.DEVNULL, stdout=written, stderr=written, start_new_session=True)
@@ -177,7 +207,8 @@ def check(crate, room, kept, functions):
 
 
 def end_all():
-    """Ends the checks that run."""
+    """Ends the checks that run, and lets no other begin."""
+    BROKEN_OFF.append(True)
     for child in list(RUNNING):
         try:
             os.killpg(child, signal.SIGKILL)

@@ -16,6 +16,8 @@ Place = namedtuple("Place", "lines inside is_outside fault")
 
 # What a try of a wrong body came to, and what is told of it. A body has passed where it is refused.
 REFUSED, PROVED, UNREAD, CALLS, NAMES, NO_FUNCTION, UNSURE = "refused", "proved", "unread", "calls", "names", "no function", "unsure"
+# What is known of a wrong body whatever is tried with it. Where one doesn't compile, nothing is known of the others.
+SETTLED = (REFUSED, PROVED, UNREAD, NAMES, NO_FUNCTION)
 TELL = {
     REFUSED: "refused",
     PROVED: "FAILED: NOT REFUSED: the function is still proved",
@@ -36,10 +38,12 @@ OWN = re.compile(r"did not prove `")
 UNKNOWN = re.compile(r"^rattle: error: `\w+` has no function `([^`]*)`", re.M)
 
 
-def read(path):
-    """Reads a wrong body from its file."""
+def read(path, is_own=False):
+    """Reads a wrong body from its file. One that tries the runner itself may come to something else than a refusal, and says what."""
     name = os.path.basename(path)[: -len(".edit")]
-    said, pairs, file, old = {"function": [], "clause": [], "on": [], "comes to": []}, [], None, None
+    said, pairs, file, old = {"function": [], "clause": [], "on": []}, [], None, None
+    if is_own:
+        said["comes to"] = []
     with open(path, encoding="utf-8") as lines:
         for number, line in enumerate(lines.read().split("\n"), 1):
             key, colon, text = line.partition(":")
@@ -64,7 +68,7 @@ def read(path):
         fault = "a line `on:` says `demand`, and nothing else"
     elif not all(file.startswith("src/") and os.path.normpath(file) == file for file, _, _ in pairs):
         fault = "a line `file:` names no file below src/"
-    wanted = (said["comes to"] or [REFUSED])[0]
+    wanted = (said.get("comes to") or [REFUSED])[0]
     return Body(name, said["function"], " ".join(said["clause"]), bool(said["on"]), wanted, pairs, fault)
 
 
@@ -151,7 +155,7 @@ def judged(crate, body, place, ran, found):
     name, state = next((it for it in states if not it[1].startswith("proved")), states[0])
     if any("could not tell" in text for _, text in states):
         return UNSURE, "%s: %s" % (name, state)
-    told = [(line, file) for line, file, text in said if line.startswith("note: ") or "error" in text]
+    told = [(line, file) for line, file, text in said if text.startswith(("it is not proved", "error: "))]
     taken = [line for line, file in told if file.startswith("proofs/") and TAKEN_AWAY.search(line)]
     taken += [it.group(0) for it in map(UNUSED.match, ran.said.splitlines()) if it and it.group(1).startswith(tuple(folders))]
     if taken:
