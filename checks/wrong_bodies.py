@@ -15,7 +15,8 @@ Body = namedtuple("Body", "name functions clause demand wanted pairs fault")
 Place = namedtuple("Place", "lines inside is_outside fault")
 
 # What a try of a wrong body came to, and what is told of it. A body has passed where it is refused.
-REFUSED, PROVED, UNREAD, CALLS, NAMES, NO_FUNCTION, UNSURE = "refused", "proved", "unread", "calls", "names", "no function", "unsure"
+REFUSED, PROVED, UNREAD, CALLS, NAMES, UNSURE = "refused", "proved", "unread", "calls", "names", "unsure"
+NO_PLACE, NO_FUNCTION = "no place", "no function"
 # What is known of a wrong body whatever is tried with it. Where one doesn't compile, nothing is known of the others.
 SETTLED = (REFUSED, PROVED, UNREAD, NAMES, NO_FUNCTION)
 TELL = {
@@ -24,6 +25,7 @@ TELL = {
     UNREAD: "FAILED: it doesn't compile, or the prover can't read it",
     CALLS: "FAILED: only a function that it calls isn't proved",
     NAMES: "FAILED: a proof file names what the edit took away, so that nothing is shown of the contract: change a value and keep the names",
+    NO_PLACE: "FAILED: it can't be made",
     NO_FUNCTION: "FAILED: the prover knows no such function",
     UNSURE: "FAILED: nothing is known of it",
 }
