@@ -1,45 +1,72 @@
 //! Why an update is refused.
-ghost use Rattle.std.specs.Prelude.{◌≡◌};
+ghost use Rattle.std.specs.Prelude.{◌≡◌, Some};
+ghost use Rattle.tree_changes.specs.RefusalTexts.{refusal_text};
 ghost use Rattle.tree_changes.specs.declared.error.UpdateError.TheVariants.{Memory};
 
 use schema::{NodeId, TreeId};
 use std::alloc::{AllocError, AllocFailed};
-use thiserror::Error;
+use std::error::Error;
+use std::fmt;
 
 /// The reason why an update was refused. A refused update changes nothing.
-#[derive(Clone, Copy, Debug, PartialEq, Eq, Error)]
+#[derive(Clone, Copy, Debug, PartialEq, Eq)]
 pub enum UpdateError {
-    #[error("the first update has no tree info")]
     MissingTreeInfo,
-    #[error("the first update is not for the root tree")]
     NotRootTree,
-    #[error("no data for node {0}")]
     MissingData(NodeId),
-    #[error("node {0} is named and not reached from the root")]
     NotReached(NodeId),
-    #[error("node {0} is named twice")]
     NamedTwice(NodeId),
-    #[error("node {0} is listed at two places, or is the root and listed")]
     ListedTwice(NodeId),
-    #[error("node {0} grafts the root tree")]
     RootTreeGrafted(NodeId),
-    #[error("node {0} is a graft and lists children")]
     GraftWithChildren(NodeId),
-    #[error("tree {0} is grafted twice")]
     GraftedTwice(TreeId),
-    #[error("no node grafts tree {0}")]
     NoGraft(TreeId),
-    #[error("tree {0} is not present, and the update has no tree info")]
     NoFirstTreeInfo(TreeId),
-    #[error("the focus {0} is not reached")]
     FocusMissing(NodeId),
-    #[error("the focus is on a graft of tree {0}, which is not present")]
     FocusOnEmptyGraft(TreeId),
-    #[error("all tree indexes are used up")]
     IndexesUsedUp,
-    #[error("out of memory")]
     Memory,
 }
+
+/// Prints why the update is refused, with the node or tree that it names.
+impl fmt::Display for UpdateError {
+    ghost output = { λ error. Some (refusal_text error) };
+
+    fn fmt<W: fmt::Write>(&self, f: &mut fmt::Formatter<W>) -> fmt::Result {
+        match *self {
+            UpdateError::MissingTreeInfo => f.write_str("the first update has no tree info"),
+            UpdateError::NotRootTree => f.write_str("the first update is not for the root tree"),
+            UpdateError::MissingData(node) => write!(f, "no data for node {node}"),
+            UpdateError::NotReached(node) => {
+                write!(f, "node {node} is named and not reached from the root")
+            }
+            UpdateError::NamedTwice(node) => write!(f, "node {node} is named twice"),
+            UpdateError::ListedTwice(node) => write!(
+                f,
+                "node {node} is listed at two places, or is the root and listed"
+            ),
+            UpdateError::RootTreeGrafted(node) => write!(f, "node {node} grafts the root tree"),
+            UpdateError::GraftWithChildren(node) => {
+                write!(f, "node {node} is a graft and lists children")
+            }
+            UpdateError::GraftedTwice(tree) => write!(f, "tree {tree} is grafted twice"),
+            UpdateError::NoGraft(tree) => write!(f, "no node grafts tree {tree}"),
+            UpdateError::NoFirstTreeInfo(tree) => write!(
+                f,
+                "tree {tree} is not present, and the update has no tree info"
+            ),
+            UpdateError::FocusMissing(node) => write!(f, "the focus {node} is not reached"),
+            UpdateError::FocusOnEmptyGraft(tree) => write!(
+                f,
+                "the focus is on a graft of tree {tree}, which is not present"
+            ),
+            UpdateError::IndexesUsedUp => f.write_str("all tree indexes are used up"),
+            UpdateError::Memory => f.write_str("out of memory"),
+        }
+    }
+}
+
+impl Error for UpdateError {}
 
 impl From<AllocError> for UpdateError {
     ghost from_gives = { λ _ e. e ≡ Memory };
