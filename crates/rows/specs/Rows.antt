@@ -1,5 +1,5 @@
 -- Values by id, as lists of entries.
-use Rattle.std.specs.Prelude.{◌≡◌, ℕ, ◌<◌, List, length, slice_get, Option, Some, None, Bool, true, false}
+use Rattle.std.specs.Prelude.{◌≡◌, ℕ, ◌<◌, List, length, slice_get, Option, Some, Bool, true, false}
 use Rattle.std.specs.Ordering.{is_lt, is_eq}
 use Rattle.std.specs.Map.{keys_of, lookup}
 use Rattle.std.specs.List.{AllWithin}

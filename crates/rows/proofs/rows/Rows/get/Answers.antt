@@ -1,5 +1,5 @@
-use Rattle.std.proofs.Common.{rules, ◌≡◌, sym, ap, subst, ◌∙◌}
-use Rattle.rows.specs.Rows.{IsPlace, row_at}
+use Rattle.std.proofs.Common.{rules, sym, ap, ◌∙◌}
+use Rattle.rows.specs.Rows.{row_at}
 use Rattle.rows.proofs.Places.{found_here, not_here}
 use Rattle.rows.proofs.rows.Rows.get.Goals as goal
 
