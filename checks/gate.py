@@ -30,6 +30,7 @@ READING = [
     "checks/names",
     "checks/trust",
     "checks/turned --read",
+    "checks/wrong --read",
 ]
 PROVING = "rt ci"
 # What runs on programs that `rt ci` has built, with those programs.

@@ -94,13 +94,14 @@ class Crate:
         return None
 
     def is_left(self):
-        """Whether the library stands here that `rt ci` has left, which `rt lib` would build anew since it has no stamp, and states what
-        the crate states now."""
+        """Whether the library that stands here is one that `rt ci` has left: it has no stamp, so that `rt lib` would build it anew."""
+        return os.path.isdir(self.library) and not os.path.isfile(os.path.join(self.folder, "out", "rlib", "stamp"))
+
+    def is_stated(self):
+        """Whether the library that stands here states what the crate states now."""
         lang = os.path.join(self.library, "lang")
-        if not os.path.isdir(lang) or os.path.isfile(os.path.join(self.folder, "out", "rlib", "stamp")):
-            return False
         specs = [(path, text) for path, text in files_of(self.folder, ("specs",)) if path != "specs/Lib.antt"]
-        return specs == list(files_of(os.path.join(lang, "antt"), ("specs",))) and clauses(self.folder) == clauses(lang)
+        return os.path.isdir(lang) and specs == list(files_of(os.path.join(lang, "antt"), ("specs",))) and clauses(self.folder) == clauses(lang)
 
     def statements(self):
         """A sum of what a crate above can read of this one: its functions without their bodies, its definitions and its lemmas."""
