@@ -3,7 +3,8 @@
 use crate::TreeChangeHandler;
 use views::NodeRef;
 
-/// Both handlers are told of each change, the first before the second, as a [`Mirror`](crate::Mirror) beside one's own.
+/// Both handlers are told of each change, as a [`Mirror`](crate::Mirror) beside one's own. Which of the two is told first is not
+/// said.
 impl<A: TreeChangeHandler, B: TreeChangeHandler> TreeChangeHandler for (A, B) {
     ghost steps = { λ old event new. A.steps old.0 event new.0 × B.steps old.1 event new.1 };
 

@@ -92,7 +92,7 @@ impl Tree {
     ///
     /// # Errors
     ///
-    /// As [`Tree::update_and_process_changes`]. What was looked up till then is counted.
+    /// As [`Tree::update_and_process_changes`]. The count is no less than before; how many look-ups a refusal takes is not said.
     pub fn update_and_process_changes_counted<H: TreeChangeHandler>(
         &mut self,
         update: TreeUpdate,
@@ -107,6 +107,7 @@ impl Tree {
             → steps.new ≤ steps.old + allowance work) }
         ensures counted { let u = update_data update in
             OnOk result (CountsLookUps self.old u self.new steps.old steps.new) }
+        ensures kept { steps.old ≤ steps.new }
     {
         let decision = self.state.decide(self.alloc, &update, steps)?;
         self.state.apply(update, decision, handler, steps)?;
