@@ -1,5 +1,5 @@
 //! A state, and how changes are applied to it.
-ghost use Rattle.std.specs.Prelude.{◌≡◌, ◌<◌, ◌^◌, ◌*◌, ◌↔◌, List, [], length, IsTrue, Some, IfSome, IfOk, IfErr, OnOk, OnErr, option_copied, option_map};
+ghost use Rattle.std.specs.Prelude.{◌≡◌, ◌<◌, ◌≤◌, ◌^◌, ◌*◌, ◌↔◌, List, [], length, IsTrue, Some, IfSome, IfOk, IfErr, OnOk, OnErr, option_copied, option_map};
 ghost use Rattle.schema.specs.UpdateData.{update_data};
 ghost use Rattle.model.specs.declared.events.PlanEvent.{PlanEvent};
 ghost use Rattle.model.specs.World.{World, IsNode, root_of, root_named, local_id_of, toolkit_name, toolkit_version};
@@ -192,6 +192,7 @@ impl TreeState {
             IfOk result (λ decision. IsRaisedAtLeast 0 (length u.nodes) decision.looked) }
         ensures work { let u = update_data update.now in
             IfOk result (λ decision. IsWithinWork self.now u decision 0 decision.looked) }
+        ensures kept { steps.old ≤ steps.new }
     {
         let mut look_ups = StoreLookUps::new(&self.store, 0);
         let decided = decide(alloc, &mut look_ups, update);
@@ -218,6 +219,7 @@ impl TreeState {
         ensures steps { OnOk result (IsRaisedBy steps.old (2 * change_count decision) steps.new) }
         ensures counted { let u = update_data update in
             OnOk result (CountsEvents self.old u self.new steps.old steps.new) }
+        ensures kept { steps.old ≤ steps.new }
         ensures err { OnErr result ((self.new ≡ self.old) × (handler.new ≡ handler.old)) }
     {
         self.store.reserve(&update, &decision)?;

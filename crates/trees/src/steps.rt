@@ -1,5 +1,5 @@
 //! A count of look-ups.
-ghost use Rattle.std.specs.Prelude.{◌≡◌};
+ghost use Rattle.std.specs.Prelude.{◌≡◌, ◌≤◌};
 ghost use Rattle.tree_changes.specs.LookUps.{IsRaisedBy};
 
 use std::marker::Model;
@@ -38,7 +38,8 @@ impl Steps {
 
     /// Adds this many look-ups.
     pub(crate) fn add(&mut self, more: u128)
-        ensures { IsRaisedBy self.old more self.new }
+        ensures raised { IsRaisedBy self.old more self.new }
+        ensures kept { self.old ≤ self.new }
     {
         self.count = self.count.saturating_add(more);
     }

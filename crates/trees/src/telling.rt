@@ -1,13 +1,34 @@
 //! Notifies a handler of an update's events.
-ghost use Rattle.std.specs.Prelude.{All};
+ghost use Rattle.std.specs.Prelude.{◌≡◌, All, IfSome, option_map};
+ghost use Rattle.model.specs.World.{IsNode};
 ghost use Rattle.model.specs.Events.{Told};
 ghost use Rattle.model.specs.Differences.{event, events};
 ghost use Rattle.trees.specs.Telling.{IsTellable};
+ghost use Rattle.views.specs.Nodes.{world_at, id_at, IsView};
 ghost use Rattle.views.specs.ShownWorlds.{world_of};
 
 use crate::TreeChangeHandler;
-use model::PlanEvent;
-use views::StateRef;
+use model::{FullNodeId, PlanEvent};
+use views::{NodeRef, StateRef};
+
+/// The view of a node that is there.
+#[tactic(auto, using(crate::proofs::Seen::is_there, crate::proofs::Seen::is_seen))]
+fn node(state: StateRef<'_>, id: FullNodeId) -> NodeRef<'_>
+    requires { IsNode (world_of state) id }
+    ensures { IsView (world_of state.entry) id result }
+{
+    state.node_by_id(id).unwrap()
+}
+
+/// The view of the node that is named, where one is.
+fn optional_node(state: StateRef<'_>, id: Option<FullNodeId>) -> Option<NodeRef<'_>>
+    requires { IfSome id (IsNode (world_of state)) }
+    ensures world { IfSome result (λ node. world_at node ≡ world_of state.entry) }
+    ensures node { option_map id_at result ≡ id }
+{
+    let id = id?;
+    Some(node(state, id))
+}
 
 /// Reports one event: its old nodes are views of the old state, its new ones of the new state.
 pub(crate) fn tell<H: TreeChangeHandler>(
@@ -20,14 +41,14 @@ pub(crate) fn tell<H: TreeChangeHandler>(
     ensures { H.steps handler.old (event (world_of old.entry) (world_of new.entry) told) handler.new }
 {
     match told {
-        PlanEvent::Added(id) => handler.node_added(&new.node(id)),
-        PlanEvent::Updated(id) => handler.node_updated(&old.node(id), &new.node(id)),
+        PlanEvent::Added(id) => handler.node_added(&node(new, id)),
+        PlanEvent::Updated(id) => handler.node_updated(&node(old, id), &node(new, id)),
         PlanEvent::FocusMoved(before, after) => {
-            let before = old.optional_node(before);
-            let after = new.optional_node(after);
+            let before = optional_node(old, before);
+            let after = optional_node(new, after);
             handler.focus_moved(before.as_ref(), after.as_ref());
         }
-        PlanEvent::Removed(id) => handler.node_removed(&old.node(id)),
+        PlanEvent::Removed(id) => handler.node_removed(&node(old, id)),
     }
 }
 

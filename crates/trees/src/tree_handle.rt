@@ -108,6 +108,7 @@ impl Tree {
             → steps.new ≤ steps.old + allowance work) }
         ensures counted { let u = update_data update in
             OnOk result (CountsLookUps self.old u self.new steps.old steps.new) }
+        ensures kept { steps.old ≤ steps.new }
     {
         let decision = self.state.decide(self.alloc, &update, steps)?;
         self.state.apply(update, decision, handler, steps)?;

@@ -188,7 +188,7 @@ impl<'a> StateRef<'a> {
     }
 
     /// The view of a node that is in the state.
-    pub fn node(self, id: FullNodeId) -> NodeRef<'a>
+    pub(crate) fn node(self, id: FullNodeId) -> NodeRef<'a>
         requires { IsNode (world_of self) id }
         ensures { IsView (world_of self.entry) id result }
     {
@@ -199,16 +199,6 @@ impl<'a> StateRef<'a> {
             node: found.node,
             place: found.place,
         }
-    }
-
-    /// The view of the node with this id, if there is one.
-    pub fn optional_node(self, id: Option<FullNodeId>) -> Option<NodeRef<'a>>
-        requires { IfSome id (IsNode (world_of self)) }
-        ensures world { IfSome result (λ node. world_at node ≡ world_of self.entry) }
-        ensures node { option_map id_at result ≡ id }
-    {
-        let id = id?;
-        Some(self.node(id))
     }
 
     /// The root tree's root. It is always in the state.

@@ -36,4 +36,4 @@ returns-clause-counted g c =
     let same = ap (λ x. overlaid_world x u c.args.decision) (c.reserve.ensures.same ∙ c.self.view_is) in
     events_counted w c.commit.new.self.world u c.args.decision c.args.steps.now c.add.new.self
     (does_accepted w u c.args.decision (subst IsState old c.know.ensures.state) c.requires c.commit.new.self.world (c.commit.ensures.world ∙ same))
-    (subst (λ n. IsRaisedBy c.args.steps.now (2 * n) c.add.new.self) c.change_count.ensures.is c.add.ensures)
+    (subst (λ n. IsRaisedBy c.args.steps.now (2 * n) c.add.new.self) c.change_count.ensures.is c.add.ensures.raised)

@@ -7,7 +7,7 @@ use Rattle.trees.proofs.state.TreeState.decide.Goals as goal
 pub returns-clause-counted : goal.returns-clause-counted
 returns-clause-counted c =
     looked_counted _ _ c.new-look_ups.ensures.count c.decide-decided.result c.args.steps.now c.add.new.self c.decide-decided.ensures.looked
-    (subst (λ n. IsRaisedBy c.args.steps.now n c.add.new.self) c.count.ensures c.add.ensures)
+    (subst (λ n. IsRaisedBy c.args.steps.now n c.add.new.self) c.count.ensures c.add.ensures.raised)
 
 pub returns-clause-named : goal.returns-clause-named
 returns-clause-named c =
