@@ -22,3 +22,5 @@ pub mod Stopped
 pub mod GivenValues
 pub mod LineWords
 pub mod FieldNames
+pub mod Places
+pub mod LineEnds

@@ -15,3 +15,7 @@ pub mod NodeReading
 pub mod Ends
 pub mod NamedIn
 pub mod LineReading
+pub mod Commands
+pub mod Taking
+pub mod InputLines
+pub mod ScriptReading

@@ -1,5 +1,11 @@
 //! Reading a script from an input, line by line.
 
+ghost use Rattle.std.specs.Prelude.{◌≡◌, ◌≢◌, ◌-◌, ◌≤◌, ◌<◌, All, IfErr, IfSome, Ok, Err, None, OnOk, OnSome, length, take, true, false};
+ghost use Rattle.std.specs.Io.{IsEmptyOrEndsWith, StartsWith, StopsAt, appended_bytes};
+ghost use Rattle.std.specs.Io.BufRead.{DropsThrough, take_through};
+ghost use Rattle.std.specs.Io.KnownBytes.{Consumes, IsAtEnd};
+ghost use Rattle.script_lines.specs.InputLines.{CountsLine, ReadsLine, ReadsNext, StopsReading, without_end};
+
 use crate::lines::{Line, read_line};
 use crate::stops::Stop;
 use std::alloc::Global;
@@ -17,7 +23,9 @@ pub(crate) struct LineReader {
 }
 
 impl LineReader {
-    pub(crate) fn new(alloc: Global) -> LineReader {
+    pub(crate) fn new(alloc: Global) -> LineReader
+        ensures { result.number ≡ 0 }
+    {
         LineReader {
             alloc,
             bytes: Vec::new(alloc),
@@ -26,44 +34,83 @@ impl LineReader {
     }
 
     /// The meaning of the next line, or `None` at the end of the input.
-    pub(crate) fn next<R: BufRead>(&mut self, input: &mut R) -> Result<Option<Line>, Stop> {
-        self.bytes.clear();
-        if !read_bytes(input, &mut self.bytes)? {
+    pub(crate) fn next<R: BufRead>(&mut self, input: &mut R) -> Result<Option<Line>, Stop>
+        ensures reads { IfSome (R.remaining input.old) (λ bytes. ReadsNext bytes result) }
+        ensures rest { OnOk result (DropsThrough (R.remaining input.old) (R.remaining input.new) 10) }
+        ensures counts { CountsLine self.old.number result self.new.number }
+    {
+        read_bytes(input, &mut self.bytes)?;
+        if self.bytes.is_empty() {
             return Ok(None);
         }
         self.number = self.number.saturating_add(1);
-        let Ok(text) = str::from_utf8(&self.bytes) else {
-            return Err(Stop::BadLine);
-        };
-        let line = read_line(self.alloc, without_line_end(text))?;
+        let line = line_of(self.alloc, &self.bytes)?;
         Ok(Some(line))
     }
 }
 
-/// Adds the bytes up to a newline, and returns whether there were any.
-fn read_bytes<R: BufRead>(input: &mut R, bytes: &mut Vec<u8>) -> Result<bool, Stop> {
+/// What a line says that stands in these bytes, with its line end.
+fn line_of(alloc: Global, bytes: &[u8]) -> Result<Line, Stop>
+    ensures { ReadsLine bytes.now result }
+{
+    let Ok(text) = str::from_utf8(bytes) else {
+        return Err(Stop::BadLine);
+    };
+    read_line(alloc, without_line_end(text))
+}
+
+/// Reads the next line, with its line end. At the end of the input there are no bytes of it.
+fn read_bytes<R: BufRead>(input: &mut R, bytes: &mut Vec<u8>) -> Result<(), Stop>
+    ensures bytes { OnOk result (IfSome (R.remaining input.old) (λ left. bytes.new.items ≡ take_through 10 left)) }
+    ensures rest { OnOk result (DropsThrough (R.remaining input.old) (R.remaining input.new) 10) }
+    ensures stops { IfErr result StopsReading }
+{
+    bytes.clear();
     for _ in 0..u64::MAX {
-        let buffer = match input.fill_buf() {
-            Ok(buffer) => buffer,
-            Err(error) if error.kind() == ErrorKind::Interrupted => continue,
-            Err(_) => return Err(Stop::ReadFault),
-        };
-        let (read, is_done) = match buffer.iter().position(|byte| *byte == b'\n') {
-            Some(newline) => (&buffer[..=newline], true),
-            None => (buffer, buffer.is_empty()),
-        };
-        bytes.extend_from_slice(read)?;
-        let count = read.len();
-        input.consume(count);
-        if is_done {
-            break;
+        if read_part(input, bytes)? {
+            return Ok(());
         }
     }
-    Ok(!bytes.is_empty())
+    Err(Stop::ReadFault)
+}
+
+/// Adds the bytes that the input shows, up to a newline, and answers whether the line has ended.
+fn read_part<R: BufRead>(input: &mut R, bytes: &mut Vec<u8>) -> Result<bool, Stop>
+    ensures appends { StartsWith bytes.new.items bytes.old.items }
+    ensures bytes { Consumes (R.remaining input.old) (R.remaining input.new) (appended_bytes bytes.old.items bytes.new.items) }
+    ensures ended { result ≡ Ok true → StopsAt (appended_bytes bytes.old.items bytes.new.items) 10 × IsEmptyOrEndsWith (appended_bytes bytes.old.items bytes.new.items) 10 }
+    ensures end { result ≡ Ok true → length (appended_bytes bytes.old.items bytes.new.items) ≡ 0 → OnSome (R.remaining input.old) (IsAtEnd (R.remaining input.new)) }
+    ensures goes_on { result ≡ Ok false → All (λ byte. byte ≢ 10) (appended_bytes bytes.old.items bytes.new.items) }
+    ensures stops { IfErr result StopsReading }
+{
+    let shown = match input.fill_buf() {
+        Ok(shown) => shown,
+        Err(error) if error.kind() == ErrorKind::Interrupted => return Ok(false),
+        Err(_) => return Err(Stop::ReadFault),
+    };
+    let end = line_length(shown);
+    bytes.extend_from_slice(&shown[..end])?;
+    let is_done = end == 0 || shown[end - 1] == b'\n';
+    input.consume(end);
+    Ok(is_done)
+}
+
+/// How many bytes there are up to and with the first newline, or at all.
+fn line_length(bytes: &[u8]) -> usize
+    ensures bound { result ≤ length bytes.now }
+    ensures some { 0 < length bytes.now → 0 < result }
+    ensures before { All (λ byte. byte ≢ 10) (take (result - 1) bytes.now) }
+{
+    match bytes.iter().position(|byte| *byte == b'\n') {
+        Some(newline) => newline + 1,
+        None => bytes.len(),
+    }
 }
 
 /// The line without its newline, and without one carriage return before it.
-fn without_line_end(line: &str) -> &str {
+fn without_line_end(line: &str) -> &str
+    ensures { result.now ≡ without_end line.now }
+{
     let line = line.strip_suffix('\n').unwrap_or(line);
     line.strip_suffix('\r').unwrap_or(line)
 }

@@ -1,10 +1,11 @@
 //! The lines of a script.
 
-ghost use Rattle.std.specs.Prelude.{ℕ, ◌≡◌, ◌++◌, Bool, List, [], Ok, Option, Some, None, codes, false, option_copied};
+ghost use Rattle.std.specs.Prelude.{ℕ, ◌≡◌, ◌≢◌, ◌↔◌, ◌++◌, Bool, IsTrue, List, [], Ok, Option, Some, None, codes, false, option_copied};
 ghost use Rattle.model.specs.declared.queries.Query.{Query};
 ghost use Rattle.schema.specs.NodeData.{NodeData};
 ghost use Rattle.schema.specs.UpdateData.{UpdateData};
 ghost use Rattle.schema.specs.declared.NodeId.{NodeId};
+ghost use Rattle.script_lines.specs.InputLines.{IsBlank};
 ghost use Rattle.script_lines.specs.LineReading.{BeginsUpdate, IsHead, IsLineWord, host_word};
 ghost use Rattle.script_lines.specs.Lines.{head_args, host_text};
 ghost use Rattle.script_lines.specs.NodeReading.{IsNode, node_args};
@@ -43,6 +44,7 @@ pub(crate) enum Line {
 
 /// Reads a line, without its line end.
 pub(crate) fn read_line(alloc: Global, line: &str) -> Result<Line, Stop>
+    ensures nothing { (result ≡ Ok says.Nothing) ↔ IsBlank line.now }
     ensures reads_head { (u : UpdateData) → IsHead u → u.nodes ≡ [] → line.now ≡ codes "update " ++ head_args u → Reads result (BeginsUpdate u) }
     ensures reads_node { (id : NodeId) (n : NodeData) → IsId id → IsNode n → line.now ≡ node_text id n → Reads result (λ read. read ≡ says.Node id n) }
     ensures reads_end { line.now ≡ codes "end" → result ≡ Ok says.End }
@@ -60,13 +62,15 @@ pub(crate) fn read_line(alloc: Global, line: &str) -> Result<Line, Stop>
 
 /// Whether the line is empty or a comment.
 fn says_nothing(line: &str) -> bool
-    ensures { (text : List ℕ) (rest : Option (List ℕ)) → IsLineWord text → line.now ≡ text ++ after rest → result ≡ false }
+    ensures exact { IsTrue result ↔ IsBlank line.now }
+    ensures word { (text : List ℕ) (rest : Option (List ℕ)) → IsLineWord text → line.now ≡ text ++ after rest → result ≡ false }
 {
     line.is_empty() || line.starts_with('#')
 }
 
 /// The line that begins with this word, from the next word on.
 fn line_by_word(alloc: Global, word: &str, words: Words) -> Result<Line, Stop>
+    ensures something { result ≢ Ok says.Nothing }
     ensures reads_head { (u : UpdateData) → IsHead u → u.nodes ≡ [] → word.now ≡ codes "update" → option_copied words.entry.rest ≡ Some (head_args u) → Reads result (BeginsUpdate u) }
     ensures reads_node { (id : NodeId) (n : NodeData) → IsId id → IsNode n → word.now ≡ codes "node" → option_copied words.entry.rest ≡ Some (node_args id n) → Reads result (λ read. read ≡ says.Node id n) }
     ensures reads_end { word.now ≡ codes "end" → option_copied words.entry.rest ≡ None → result ≡ Ok says.End }
@@ -95,6 +99,7 @@ fn line_by_word(alloc: Global, word: &str, words: Words) -> Result<Line, Stop>
 
 /// `host on` or `host off`, from the second word on.
 fn host_line(mut words: Words) -> Result<Line, Stop>
+    ensures something { result ≢ Ok says.Nothing }
     ensures reads { (is_focused : Bool) → option_copied words.entry.rest ≡ Some (host_word is_focused) → result ≡ Ok (says.HostFocus is_focused) }
 {
     match words.last_word()? {

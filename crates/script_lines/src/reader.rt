@@ -1,14 +1,11 @@
 //! Reading a script's commands from its input, line by line.
 
-ghost use Rattle.std.specs.Prelude.{◌≡◌, ◌++◌, ◌∷◌, [], Bool, Ok, Some, None, option_map};
-ghost use Rattle.model.specs.declared.queries.Query.{Query};
-ghost use Rattle.schema.specs.NodeData.{NodeData};
+ghost use Rattle.std.specs.Prelude.{◌≡◌, ◌++◌, ◌∷◌, [], Err, IfSome, MatchOption, None, Ok, OnOk, Some};
 ghost use Rattle.schema.specs.UpdateData.{update_data};
-ghost use Rattle.schema.specs.declared.NodeId.{NodeId};
-ghost use Rattle.schema.specs.declared.update.TreeUpdate.{TreeUpdate};
-ghost use Rattle.script_lines.specs.declared.lines.Line.TheVariants as line_;
-ghost use Rattle.script_lines.specs.declared.reader.ScriptCommand.TheVariants as command;
 ghost use Rattle.script_lines.specs.Reading.{Reads};
+ghost use Rattle.script_lines.specs.ScriptReading.{IsPlace, Place, ReadsTo, place};
+ghost use Rattle.script_lines.specs.Taking.{IsNodeLine, TakesAs, begun_of, number_of, taken};
+ghost use Rattle.script_lines.specs.declared.stops.Stop.TheVariants as stop_;
 
 use crate::line_reader::LineReader;
 use crate::lines::Line;
@@ -41,7 +38,10 @@ pub struct ScriptReader {
 
 impl ScriptReader {
     /// A script of which nothing has been read.
-    pub fn new(alloc: Global) -> ScriptReader {
+    pub fn new(alloc: Global) -> ScriptReader
+        ensures begun { begun_of result ≡ None }
+        ensures number { number_of result ≡ 0 }
+    {
         ScriptReader {
             lines: LineReader::new(alloc),
             begun: None,
@@ -49,7 +49,9 @@ impl ScriptReader {
     }
 
     /// The number of the last line that was read, counted from 1; 0 before there is one.
-    pub fn line_number(&self) -> u64 {
+    pub fn line_number(&self) -> u64
+        ensures { result ≡ number_of self.now }
+    {
         self.lines.number
     }
 
@@ -59,32 +61,36 @@ impl ScriptReader {
     ///
     /// Returns `Stop` if a line is malformed or out of place, if the input ends inside an update or has an error, or if
     /// memory runs out. Nothing more can be read then.
-    pub fn next_command<R: BufRead>(
-        &mut self,
-        input: &mut R,
-    ) -> Result<Option<ScriptCommand>, Stop> {
+    pub fn next_command<R: BufRead>(&mut self, input: &mut R) -> Result<Option<ScriptCommand>, Stop>
+        ensures reads { IfSome (R.remaining input.old) (λ bytes. (next : Place) × ReadsTo (place self.old bytes) result next × IsPlace next result self.new (R.remaining input.new)) }
+        ensures whole { OnOk result (begun_of self.new ≡ None) }
+    {
         for _ in 0..u64::MAX {
             let Some(line) = self.lines.next(input)? else {
-                break;
+                return self.end();
             };
             if let Some(command) = self.take(line)? {
                 return Ok(Some(command));
             }
         }
-        if self.begun.is_some() {
-            return Err(Stop::BadLine);
+        Err(Stop::ReadFault)
+    }
+
+    /// The end of the input, which is not in place inside an update.
+    fn end(&self) -> Result<Option<ScriptCommand>, Stop>
+        ensures { MatchOption (begun_of self.now) (result ≡ Ok None) (λ _. result ≡ Err stop_.BadLine) }
+    {
+        match self.begun {
+            Some(_) => Err(Stop::BadLine),
+            None => Ok(None),
         }
-        Ok(None)
     }
 
     /// The command that a line completes, if it does. Inside an update only its nodes and its end are allowed.
     fn take(&mut self, line: Line) -> Result<Option<ScriptCommand>, Stop>
-        ensures opens { (update : TreeUpdate) → line ≡ line_.Update update → self.old.begun ≡ None → (result ≡ Ok None) × (self.new.begun ≡ Some update) }
-        ensures goes_on { (id : NodeId) (node : NodeData) (update : TreeUpdate) → line ≡ line_.Node id node → self.old.begun ≡ Some update → Reads result (λ command. (command ≡ None) × (option_map update_data self.new.begun ≡ Some (record (update_data update) { nodes = update.nodes.items ++ (id, node) ∷ [] }))) }
-        ensures closes { (update : TreeUpdate) → line ≡ line_.End → self.old.begun ≡ Some update → (result ≡ Ok (Some (command.Update update))) × (self.new.begun ≡ None) }
-        ensures host { (is_focused : Bool) → line ≡ line_.HostFocus is_focused → self.old.begun ≡ None → (result ≡ Ok (Some (command.HostFocus is_focused))) × (self.new.begun ≡ None) }
-        ensures prints { line ≡ line_.Print → self.old.begun ≡ None → (result ≡ Ok (Some command.Print)) × (self.new.begun ≡ None) }
-        ensures asks { (query : Query) → line ≡ line_.Query query → self.old.begun ≡ None → (result ≡ Ok (Some (command.Query query))) × (self.new.begun ≡ None) }
+        ensures takes { TakesAs (taken (begun_of self.old) line) result (begun_of self.new) }
+        ensures memory { result ≡ Err stop_.Memory → IsNodeLine line }
+        ensures lines { self.new.lines ≡ self.old.lines }
     {
         match line {
             Line::Nothing => Ok(None),

@@ -10,7 +10,7 @@ use Rattle.script_lines.proofs.lines.read_line.Goals as goal
 -- ---- a line with a word in it says something
 
 something : (c : goal.Then-says_nothing) (text : List ℕ) (rest : Option (List ℕ)) → IsLineWord text → c.args.line.now ≡ text ++ after rest → ⊥
-something c text rest w e = true≢false (c.if-says_nothing.ensures text rest w e)
+something c text rest w e = true≢false (c.if-says_nothing.ensures.word text rest w e)
 
 pub returns-then-says_nothing-clause-reads_head : goal.returns-then-says_nothing-clause-reads_head
 returns-then-says_nothing-clause-reads_head c = λ u h nodes e. absurd (something c (codes "update") (Some (head_args u)) update_is_line_word e)
