@@ -5,7 +5,9 @@ use Rattle.model.specs.Update.{UpdateData, index_for}
 use Rattle.model.specs.Differences.{told_root}
 use Rattle.model.specs.Work.{named_ids}
 use Rattle.model.specs.Surgery.{IsOld, AreSteps}
-use Rattle.tree_changes.specs.LookUps.{IsRaisedAtLeast}
+use Rattle.tree_changes.specs.LookUps.{IsRaisedAtLeast, IsRaisedUpTo}
+use Rattle.tree_plan.specs.declared.passes.Compared.{Compared}
+use Rattle.tree_plan.specs.declared.passes.Removed.{Removed}
 use Rattle.tree_plan.specs.declared.verdicts.Found.{Found}
 use Rattle.tree_plan.specs.Passes.{HoldsOpened, HoldsCompared, HoldsRemoved, HoldsRegrafted}
 
@@ -21,6 +23,13 @@ pub record AreFindings (w : World) (u : UpdateData) (f : Found) : Type 0 where
 -- before the passes the tree was looked up, and at most each named node, and twice for each known name where the focus is
 abbrev pub HasBegun : World → UpdateData → ℕ → ℕ → Type 0
 HasBegun w u before start = start ≤ before + (1 + (length u.nodes + 2 * length w.known))
+
+-- the look-ups of the passes from the second to the fifth, one after another, and how many trees lose their grafts
+pub record IsRemovedCount (w : World) (u : UpdateData) (c : Compared) (r : Removed) (before after : ℕ) : Type 0 where
+  pub steps : ℕ
+  pub are_steps : AreSteps w u (named_ids w u) steps
+  pub cut : length r.trees.items ≤ length r.gone.keys + length c.lost.items
+  pub asked : IsRaisedUpTo before (length c.entered + (2 * length r.gone.keys + length c.lost.items) + steps) after
 
 -- the look-ups of these passes after the first, one after another, at least one for each named node, and how many trees they change
 pub record IsCount (w : World) (u : UpdateData) (f : Found) (before after : ℕ) : Type 0 where

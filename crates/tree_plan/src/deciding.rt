@@ -3,13 +3,13 @@ ghost use Rattle.std.specs.Prelude.{◌≡◌, ◌+◌, ◌-◌, ◌*◌, length
 ghost use Rattle.schema.specs.UpdateData.{update_data};
 ghost use Rattle.model.specs.Update.{IsRebuild, KeepsRules, merged_world};
 ghost use Rattle.model.specs.Work.{Work, IsWorkOf};
-ghost use Rattle.model.specs.Surgery.{IsOld};
+ghost use Rattle.model.specs.Surgery.{IsOld, IsClimbed};
 ghost use Rattle.tree_changes.specs.LookUps.{IsRaisedAtLeast, IsRaisedUpTo};
 ghost use Rattle.tree_changes.specs.Changes.{overlaid_world};
 ghost use Rattle.tree_changes.specs.Decisions.{IsDecision, IsWithinWork};
 ghost use Rattle.tree_changes.specs.Refusals.{IsRefusal};
-ghost use Rattle.tree_plan.specs.Passes.{HoldsOpened};
-ghost use Rattle.tree_plan.specs.Deciding.{AreFindings, HasBegun, IsCount};
+ghost use Rattle.tree_plan.specs.Passes.{HoldsOpened, HoldsCompared, HoldsRemoved};
+ghost use Rattle.tree_plan.specs.Deciding.{AreFindings, HasBegun, IsCount, IsRemovedCount};
 ghost use Rattle.tree_plan.specs.Verdicts.{Transition};
 ghost use Rattle.tree_plan.specs.Writing.{IsSmall};
 
@@ -18,7 +18,7 @@ use crate::comparing::compare;
 use crate::focusing::find_focus;
 use crate::news::decide_news;
 use crate::opening::open_tree;
-use crate::passes::Opened;
+use crate::passes::{Compared, Opened, Removed};
 use crate::refusing::refuse_misplaced;
 use crate::regrafting::regraft;
 use crate::removing::remove;
@@ -28,6 +28,33 @@ use crate::writing::{told_root, write};
 use schema::TreeUpdate;
 use std::alloc::Global;
 use tree_changes::{Decision, LookUps, UpdateError};
+
+/// What goes, where each node is listed once, no listed node goes, and each named node that got a child is reached.
+fn find_removed<L: LookUps>(
+    alloc: Global,
+    look_ups: &mut L,
+    update: &TreeUpdate,
+    opened: &Opened,
+    compared: &Compared,
+) -> Result<Removed, UpdateError>
+    requires old { IsOld (L.world look_ups.old) }
+    requires opening { HoldsOpened (L.world look_ups.old) (update_data update.now) opened.now }
+    requires comparison { HoldsCompared (L.world look_ups.old) (update_data update.now) compared.now }
+    ensures world { L.world look_ups.new ≡ L.world look_ups.old }
+    ensures err { IfErr result (λ e. IsRefusal (L.world look_ups.old) (update_data update.now) e) }
+    ensures ok { IfOk result (HoldsRemoved (L.world look_ups.old) (update_data update.now)) }
+    ensures climbed { OnOk result (IsClimbed (L.world look_ups.old) (update_data update.now)) }
+    ensures count { IfOk result (λ r.
+        IsRemovedCount (L.world look_ups.old) (update_data update.now) compared.now r (L.asked look_ups.old) (L.asked look_ups.new)) }
+{
+    let settled = settle(alloc, look_ups, update, opened, compared)?;
+    let removed = remove(alloc, look_ups, update, compared)?;
+    refuse_misplaced(
+        alloc, look_ups, update, opened, compared, &settled, &removed,
+    )?;
+    climb_all(alloc, look_ups, update, opened, compared, &settled)?;
+    Ok(removed)
+}
 
 /// The passes, one after another.
 fn find<L: LookUps>(
@@ -46,12 +73,7 @@ fn find<L: LookUps>(
 {
     let told = told_root(&opened, update);
     let compared = compare(alloc, look_ups, update, &opened)?;
-    let settled = settle(alloc, look_ups, update, &opened, &compared)?;
-    let removed = remove(alloc, look_ups, update, &compared)?;
-    refuse_misplaced(
-        alloc, look_ups, update, &opened, &compared, &settled, &removed,
-    )?;
-    climb_all(alloc, look_ups, update, &opened, &compared, &settled)?;
+    let removed = find_removed(alloc, look_ups, update, &opened, &compared)?;
     let regrafted = regraft(alloc, look_ups, update, &compared, &removed)?;
     Ok(Found {
         opened,

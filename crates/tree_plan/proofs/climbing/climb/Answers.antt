@@ -2,14 +2,26 @@ use Rattle.std.proofs.Common.{◌≡◌, ◌+◌, length, take, None, Some, opti
 use Rattle.schema.specs.UpdateData.{UpdateData, update_data}
 use Rattle.model.specs.declared.FullNodeId.{FullNodeId}
 use Rattle.model.specs.World.{World, data_of}
-use Rattle.model.specs.Surgery.{here}
+use Rattle.model.specs.Surgery.{IsOld, here}
 use Rattle.model.specs.Work.{named_ids}
 use Rattle.model.proofs.Worlds.Names.{cases_some}
 use Rattle.model.proofs.Surgery.ClimbsUp.{named_spotted}
 use Rattle.tree_plan.specs.Passes.{at}
-use Rattle.tree_plan.specs.Climbs.{IsNext, IsOldPlace}
-use Rattle.tree_plan.proofs.Ascents.{known_by, starts_at, next_there, old_place_known, begins, step, others_step, below_root, known_reached, comes_round, at_other, all_climbed_to, climbed_from, up_to, marks_left}
+use Rattle.tree_plan.specs.Climbs.{IsNext, IsOldPlace, AreClimbed}
+use Rattle.tree_plan.proofs.Ascents.{known_by, starts_at, next_there, old_place_known, begins, step, others_step, below_root, known_reached, comes_round, at_other, all_climbed_to, climbed_from, up_to, marks_left, stays_climbed}
 use Rattle.tree_plan.proofs.climbing.climb.Goals as goal
+
+pub returns-then-not-contains-clause-world : goal.returns-then-not-contains-clause-world
+returns-then-not-contains-clause-world g c = refl
+
+pub returns-then-not-contains-clause-climbed : goal.returns-then-not-contains-clause-climbed
+returns-then-not-contains-clause-climbed g c =
+    let q = c.requires in
+    let known = known_by q.old q.opening q.comparison q.settlement q.refined in
+    let first = starts_at known c.args.entry c.named_id-start.result c.named_id-start.ensures in
+    let w : World = g.L.LookUps.world c.args.look_ups.now in
+    let u : UpdateData = update_data c.args.update.now in
+    subst (λ ids. AreClimbed w u ids c.args.climbed.now) (sym first.more) (stays_climbed known (take c.args.entry (named_ids w u)) c.named_id-start.result c.args.climbed.now q.before)
 
 pub returns-then-not-contains-clause-way : goal.returns-then-not-contains-clause-way
 returns-then-not-contains-clause-way g c =
@@ -34,6 +46,9 @@ up-init g c =
       found = named_spotted w u q.old q.refined start first.named (cases_some (data_of w start));
     }
 
+pub returns-then-is_same-clause-world : goal.returns-then-is_same-clause-world
+returns-then-is_same-clause-world g c = c.up.invariant.world
+
 pub returns-then-is_same-clause-err : goal.returns-then-is_same-clause-err
 returns-then-is_same-clause-err g c =
     let q = c.requires in
@@ -41,6 +56,9 @@ returns-then-is_same-clause-err g c =
     let first = starts_at known c.args.entry c.named_id-start.result c.named_id-start.ensures in
     let marked = sym c.get.ensures.value ∙ ap option_copied c.in-Some.is in
     comes_round known c.named_id-start.result c.up.id c.up.invariant.climb.0 c.up.climbed first.named c.up.invariant.climb.1 (marked ∙ ap Some (c.if-is_same.ensures.0 refl))
+
+pub returns-in-Some-clause-world : goal.returns-in-Some-clause-world
+returns-in-Some-clause-world g c = c.up.invariant.world
 
 pub returns-in-Some-clause-climbed : goal.returns-in-Some-clause-climbed
 returns-in-Some-clause-climbed g c =
@@ -59,6 +77,12 @@ returns-in-Some-clause-way g c =
     let i = c.up.invariant in
     let marked = sym c.get.ensures.value ∙ ap option_copied c.in-Some.is in
     (i.climb.0, climbed_from known first c.up.climbed i.others i.climb.1 (at_other known first c.up.climbed i.others i.climb.1 c.in-Some.other.now marked (λ same. let no = c.if-is_same.ensures.1 same in cc)), i.climb.2)
+
+pub returns-in_err-insert-clause-world : goal.returns-in_err-insert-clause-world
+returns-in_err-insert-clause-world g c = c.up.invariant.world
+
+pub parent_after-id-requires-clause-old : goal.parent_after-id-requires-clause-old
+parent_after-id-requires-clause-old g c = subst (λ v. IsOld v) (sym c.up.invariant.world) c.requires.old
 
 pub parent_after-id-requires-clause-next : goal.parent_after-id-requires-clause-next
 parent_after-id-requires-clause-next g c =
@@ -108,6 +132,9 @@ up-preserved g c =
       climb = (i.climb.0 + 1, step known start c.up.id parent up.0 i.climb.0 c.up.climbed c.insert.new.self put i.climb.1 up.1 up.2, (omega (arith, c.parent_after-id.ensures.counts.0, i.climb.2.0), omega (arith, c.parent_after-id.ensures.counts.1, i.climb.2.1)));
       found = up.3;
     }
+
+pub returns-clause-world : goal.returns-clause-world
+returns-clause-world g c = c.up.invariant.world
 
 pub returns-clause-climbed : goal.returns-clause-climbed
 returns-clause-climbed g c =

@@ -120,6 +120,15 @@ returns-then-is_hit_itself g c =
           (ap (is_hit f w c.loop-index.parent.id) (sym c.loop-index.invariant.seen) ∙ sym (c.is_hit_itself.ensures f follows) ∙ c.if-is_hit_itself.true));
     }
 
+pub loop-index-smaller : goal.loop-index-smaller
+loop-index-smaller g c =
+    let w = world_of c.args.top.state in
+    let q = place_at c.in-Some-spot.above in
+    let stands : StandsAt w q c.loop-index.parent.id = subst (StandsAt w q) c.in-Some-spot.ensures.there.1 c.in-Some-spot.ensures.there.0.stands in
+    let other : is_same_id c.args.top.id c.loop-index.parent.id ≡ false = tested_same c.is_same.result c.args.top.id c.loop-index.parent.id c.is_same.ensures ∙ c.if-is_same.false in
+    let start : c.loop-index.index ≡ 0 = omega arith in
+    work_until_up w c.know.ensures.formed c.args.top.id (c.loop-index.parent.id, c.loop-index.index) q start stands other
+
 pub loop-index-preserved : goal.loop-index-preserved
 loop-index-preserved g c =
     let w = world_of c.args.top.state in
