@@ -6,7 +6,8 @@ ghost use Rattle.views.specs.Nodes.{world_at, id_at, data_at};
 ghost use Rattle.views.specs.PlainWalks.{node_in};
 ghost use Rattle.views.specs.LabelWalks.{labels_left};
 ghost use Rattle.views.specs.LabelTexts.{parts_of, spaced};
-ghost use Rattle.views.specs.Writes.{IsWritten, IsCutShort};
+ghost use Rattle.views.specs.ValueCalls.{calls_of, joined_calls, label_calls, part_calls, spaced_calls};
+ghost use Rattle.views.specs.Writes.{IsWritten, IsCutShort, IsCalled, IsCalledTillFault};
 
 use crate::node::NodeRef;
 use crate::walks::LabelledBy;
@@ -20,6 +21,8 @@ fn write_parts<W: TextWrite>(labels: LabelledBy<'_>, writer: &mut W) -> Result<b
         IfOk result (λ there. (there ≡ is_some text) × IsWritten W.received W.faults (unwrap_or text []) writer.old writer.new) }
     ensures err { let text = joined_text (parts_of (labels_left labels.entry)) in
         OnErr result (IsCutShort W.received W.faults (unwrap_or text []) writer.old writer.new) }
+    ensures called { OnOk result (IsCalled W.steps (joined_calls (calls_of (labels_left labels.entry))) writer.old writer.new) }
+    ensures stopped { OnErr result (IsCalledTillFault W.steps (joined_calls (calls_of (labels_left labels.entry))) writer.old writer.new) }
 {
     let mut nodes = labels;
     let mut is_later = false;
@@ -87,6 +90,8 @@ impl<'a> NodeRef<'a> {
             OnOk result (IsWritten W.received W.faults part writer.old writer.new) }
         ensures err { let part = unwrap_or (label_part (world_at self.now) (id_at self.now)) [] in
             OnErr result (IsCutShort W.received W.faults part writer.old writer.new) }
+        ensures called { OnOk result (IsCalled W.steps (part_calls (world_at self.now) (id_at self.now)) writer.old writer.new) }
+        ensures stopped { OnErr result (IsCalledTillFault W.steps (part_calls (world_at self.now) (id_at self.now)) writer.old writer.new) }
     {
         if self.label_comes_from_value() {
             self.write_value(writer)?;
@@ -102,6 +107,8 @@ impl<'a> NodeRef<'a> {
             OnOk result (IsWritten W.received W.faults (spaced is_later part) writer.old writer.new) }
         ensures err { let part = unwrap_or (label_part (world_at self.now) (id_at self.now)) [] in
             OnErr result (IsCutShort W.received W.faults (spaced is_later part) writer.old writer.new) }
+        ensures called { OnOk result (IsCalled W.steps (spaced_calls is_later (part_calls (world_at self.now) (id_at self.now))) writer.old writer.new) }
+        ensures stopped { OnErr result (IsCalledTillFault W.steps (spaced_calls is_later (part_calls (world_at self.now) (id_at self.now))) writer.old writer.new) }
     {
         if !is_later {
             return self.write_bare_part(writer);
@@ -111,17 +118,20 @@ impl<'a> NodeRef<'a> {
     }
 
     /// Writes the label, and says whether there is one: its own, or else the parts of what labels it, with a space between
-    /// each two. A label gives its value as a part, another node its own label. No memory is taken.
+    /// each two. A label gives its value as a part, another node its own label. No memory is taken. The writer is called once for
+    /// a label of its own, by `write_str`, or else as each part is written, with a `write_char` for each space.
     ///
     /// # Errors
     ///
-    /// The writer took no more. It has a beginning of the label then, and counts one failure more.
+    /// The writer took no more. It has a beginning of the label then, counts one failure more, and isn't called again.
     pub fn write_label<W: TextWrite>(&self, writer: &mut W) -> Result<bool, TextFault>
         requires { W.faults writer.old + 1 < 2 ^ 128 }
         ensures ok { let label = label_of (world_at self.now) (id_at self.now) in
             IfOk result (λ there. (there ≡ is_some label) × IsWritten W.received W.faults (unwrap_or label []) writer.old writer.new) }
         ensures err { let label = label_of (world_at self.now) (id_at self.now) in
             OnErr result (IsCutShort W.received W.faults (unwrap_or label []) writer.old writer.new) }
+        ensures called { OnOk result (IsCalled W.steps (label_calls (world_at self.now) (id_at self.now)) writer.old writer.new) }
+        ensures stopped { OnErr result (IsCalledTillFault W.steps (label_calls (world_at self.now) (id_at self.now)) writer.old writer.new) }
     {
         if let Some(label) = self.node.label() {
             writer.write_str(label)?;
