@@ -17,6 +17,7 @@ pub mod Alike
 pub mod LabelSteps
 pub mod LabelTexts
 pub mod ValueTexts
+pub mod ValueCalling
 pub mod Writing
 pub mod Calling
 pub mod Named

@@ -30,3 +30,4 @@ pub mod Runs
 pub mod RunTexts
 pub mod WellFormed
 pub mod Secrets
+pub mod ValueCalls

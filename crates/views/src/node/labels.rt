@@ -6,7 +6,8 @@ ghost use Rattle.views.specs.Nodes.{world_at, id_at, data_at};
 ghost use Rattle.views.specs.PlainWalks.{node_in};
 ghost use Rattle.views.specs.LabelWalks.{labels_left};
 ghost use Rattle.views.specs.LabelTexts.{parts_of, spaced};
-ghost use Rattle.views.specs.Writes.{IsWritten, IsCutShort};
+ghost use Rattle.views.specs.ValueCalls.{calls_of, joined_calls, label_calls, part_calls, spaced_calls};
+ghost use Rattle.views.specs.Writes.{IsWritten, IsCutShort, IsCalled, IsCalledTillFault};
 
 use crate::node::NodeRef;
 use crate::walks::LabelledBy;
@@ -20,6 +21,8 @@ fn write_parts<W: TextWrite>(labels: LabelledBy<'_>, writer: &mut W) -> Result<b
         IfOk result (λ there. (there ≡ is_some text) × IsWritten W.received W.faults (unwrap_or text []) writer.old writer.new) }
     ensures err { let text = joined_text (parts_of (labels_left labels.entry)) in
         OnErr result (IsCutShort W.received W.faults (unwrap_or text []) writer.old writer.new) }
+    ensures called { OnOk result (IsCalled W.steps (joined_calls (calls_of (labels_left labels.entry))) writer.old writer.new) }
+    ensures stopped { OnErr result (IsCalledTillFault W.steps (joined_calls (calls_of (labels_left labels.entry))) writer.old writer.new) }
 {
     let mut nodes = labels;
     let mut is_later = false;
@@ -88,6 +91,8 @@ impl<'a> NodeRef<'a> {
             OnOk result (IsWritten W.received W.faults part writer.old writer.new) }
         ensures err { let part = unwrap_or (label_part (world_at self.now) (id_at self.now)) [] in
             OnErr result (IsCutShort W.received W.faults part writer.old writer.new) }
+        ensures called { OnOk result (IsCalled W.steps (part_calls (world_at self.now) (id_at self.now)) writer.old writer.new) }
+        ensures stopped { OnErr result (IsCalledTillFault W.steps (part_calls (world_at self.now) (id_at self.now)) writer.old writer.new) }
     {
         if self.label_comes_from_value() {
             self.write_value(writer)?;
@@ -103,6 +108,8 @@ impl<'a> NodeRef<'a> {
             OnOk result (IsWritten W.received W.faults (spaced is_later part) writer.old writer.new) }
         ensures err { let part = unwrap_or (label_part (world_at self.now) (id_at self.now)) [] in
             OnErr result (IsCutShort W.received W.faults (spaced is_later part) writer.old writer.new) }
+        ensures called { OnOk result (IsCalled W.steps (spaced_calls is_later (part_calls (world_at self.now) (id_at self.now))) writer.old writer.new) }
+        ensures stopped { OnErr result (IsCalledTillFault W.steps (spaced_calls is_later (part_calls (world_at self.now) (id_at self.now))) writer.old writer.new) }
     {
         if !is_later {
             return self.write_bare_part(writer);
@@ -113,18 +120,21 @@ impl<'a> NodeRef<'a> {
 
     /// Writes the label and returns whether there is one: the node's own label, or else the parts of the nodes in
     /// [`NodeRef::labelled_by`], joined by spaces. The part of a label is its value, that of any other node its own
-    /// label. Does not allocate.
+    /// label. The node's own label is written by one `write_str`, each other part likewise or bullet by bullet, and each
+    /// space by one `write_char`. Does not allocate.
     ///
     /// # Errors
     ///
-    /// Returns `TextFault` if the writer fails. It has then received a beginning of the label and counts one more
-    /// failure.
+    /// Returns `TextFault` if the writer fails. It has then received a beginning of the label, counts one more failure,
+    /// and is not called again.
     pub fn write_label<W: TextWrite>(&self, writer: &mut W) -> Result<bool, TextFault>
         requires { W.faults writer.old + 1 < 2 ^ 128 }
         ensures ok { let label = label_of (world_at self.now) (id_at self.now) in
             IfOk result (λ there. (there ≡ is_some label) × IsWritten W.received W.faults (unwrap_or label []) writer.old writer.new) }
         ensures err { let label = label_of (world_at self.now) (id_at self.now) in
             OnErr result (IsCutShort W.received W.faults (unwrap_or label []) writer.old writer.new) }
+        ensures called { OnOk result (IsCalled W.steps (label_calls (world_at self.now) (id_at self.now)) writer.old writer.new) }
+        ensures stopped { OnErr result (IsCalledTillFault W.steps (label_calls (world_at self.now) (id_at self.now)) writer.old writer.new) }
     {
         if let Some(label) = self.node.label() {
             writer.write_str(label)?;

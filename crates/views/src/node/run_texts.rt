@@ -8,7 +8,8 @@ ghost use Rattle.model.specs.Values.{document_text};
 ghost use Rattle.views.specs.Nodes.{world_at, id_at};
 ghost use Rattle.views.specs.Runs.{sent_of};
 ghost use Rattle.views.specs.RunTexts.{shown_of, shown_text, are_all};
-ghost use Rattle.views.specs.Writes.{IsWritten, IsCutShort};
+ghost use Rattle.views.specs.ValueCalls.{run_calls, calls_of_runs, document_calls};
+ghost use Rattle.views.specs.Writes.{IsWritten, IsCutShort, IsCalled, IsCalledTillFault};
 
 use crate::node::NodeRef;
 use crate::node::masking::write_bullets;
@@ -20,6 +21,8 @@ fn write_run<W: TextWrite>(run: Run<'_>, masked: bool, writer: &mut W) -> Result
     requires { W.faults writer.old + 1 < 2 ^ 128 }
     ensures ok { OnOk result (IsWritten W.received W.faults (shown_of masked (sent_of run.entry)) writer.old writer.new) }
     ensures err { OnErr result (IsCutShort W.received W.faults (shown_of masked (sent_of run.entry)) writer.old writer.new) }
+    ensures called { OnOk result (IsCalled W.steps (run_calls masked (sent_of run.entry)) writer.old writer.new) }
+    ensures stopped { OnErr result (IsCalledTillFault W.steps (run_calls masked (sent_of run.entry)) writer.old writer.new) }
 {
     if masked {
         return write_bullets(run.character_count(), writer);
@@ -38,6 +41,10 @@ fn write_runs<W: TextWrite>(
         OnOk result (IsWritten W.received W.faults text writer.old writer.new) }
     ensures err { let text = shown_text masked (world_at root.entry) (id_at root.entry) in
         OnErr result (IsCutShort W.received W.faults text writer.old writer.new) }
+    ensures called { let calls = calls_of_runs masked (sent_runs (world_at root.entry) (id_at root.entry)) in
+        OnOk result (IsCalled W.steps calls writer.old writer.new) }
+    ensures stopped { let calls = calls_of_runs masked (sent_runs (world_at root.entry) (id_at root.entry)) in
+        OnErr result (IsCalledTillFault W.steps calls writer.old writer.new) }
 {
     let mut rest = Run::first(root);
     while let Some(run) = rest {
@@ -129,6 +136,8 @@ pub(crate) fn write_document<W: TextWrite>(
         OnOk result (IsWritten W.received W.faults text writer.old writer.new) }
     ensures err { let text = document_text (world_at root.entry) (id_at root.entry) in
         OnErr result (IsCutShort W.received W.faults text writer.old writer.new) }
+    ensures called { OnOk result (IsCalled W.steps (document_calls (world_at root.entry) (id_at root.entry)) writer.old writer.new) }
+    ensures stopped { OnErr result (IsCalledTillFault W.steps (document_calls (world_at root.entry) (id_at root.entry)) writer.old writer.new) }
 {
     write_runs(root, needs_masking(root), writer)
 }

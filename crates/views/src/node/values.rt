@@ -4,7 +4,8 @@ ghost use Rattle.std.specs.String.{string_bytes};
 ghost use Rattle.model.specs.Values.{shown_alone, shown_value, has_value_in_runs, is_without_text, placeholder, value_of};
 ghost use Rattle.views.specs.Nodes.{world_at, id_at, data_at};
 ghost use Rattle.views.specs.Secrets.{InEachOfShape};
-ghost use Rattle.views.specs.Writes.{IsWritten, IsCutShort};
+ghost use Rattle.views.specs.ValueCalls.{alone_calls, own_value_calls, value_calls};
+ghost use Rattle.views.specs.Writes.{IsWritten, IsCutShort, IsCalled, IsCalledTillFault};
 
 use crate::node::NodeRef;
 use crate::node::masking::{has_one_scalar, scalar_count, write_bullets};
@@ -18,6 +19,8 @@ fn write_alone<W: TextWrite>(value: &str, writer: &mut W) -> Result<(), TextFaul
     requires { W.faults writer.old + 1 < 2 ^ 128 }
     ensures ok { OnOk result (IsWritten W.received W.faults (shown_alone value.now) writer.old writer.new) }
     ensures err { OnErr result (IsCutShort W.received W.faults (shown_alone value.now) writer.old writer.new) }
+    ensures called { OnOk result (IsCalled W.steps (alone_calls value.now) writer.old writer.new) }
+    ensures stopped { OnErr result (IsCalledTillFault W.steps (alone_calls value.now) writer.old writer.new) }
 {
     if has_one_scalar(value) {
         return writer.write_str(value);
@@ -88,6 +91,10 @@ impl<'a> NodeRef<'a> {
             OnOk result (IsWritten W.received W.faults text writer.old writer.new) }
         ensures err { let text = shown_value (world_at self.now) (id_at self.now) value.now in
             OnErr result (IsCutShort W.received W.faults text writer.old writer.new) }
+        ensures called { let calls = own_value_calls (world_at self.now) (id_at self.now) value.now in
+            OnOk result (IsCalled W.steps calls writer.old writer.new) }
+        ensures stopped { let calls = own_value_calls (world_at self.now) (id_at self.now) value.now in
+            OnErr result (IsCalledTillFault W.steps calls writer.old writer.new) }
     {
         if !self.is_password_input() {
             return writer.write_str(value);
@@ -102,19 +109,21 @@ impl<'a> NodeRef<'a> {
     }
 
     /// Writes the value and returns whether there is one: the node's own value, or else, unless the role is multiline,
-    /// the text of its runs. Each character of a password is written as a bullet, unless all of them are the same. Does
-    /// not allocate.
+    /// the text of its runs. Each character of a password is written as a bullet, unless all of them are the same. A
+    /// bullet is written by one `write_char`; otherwise the own value, or each run, by one `write_str`. Does not allocate.
     ///
     /// # Errors
     ///
-    /// Returns `TextFault` if the writer fails. It has then received a beginning of the value and counts one more
-    /// failure.
+    /// Returns `TextFault` if the writer fails. It has then received a beginning of the value, counts one more failure,
+    /// and is not called again.
     pub fn write_value<W: TextWrite>(&self, writer: &mut W) -> Result<bool, TextFault>
         requires { W.faults writer.old + 1 < 2 ^ 128 }
         ensures ok { let value = value_of (world_at self.now) (id_at self.now) in
             IfOk result (λ there. (there ≡ is_some value) × IsWritten W.received W.faults (unwrap_or value []) writer.old writer.new) }
         ensures err { let value = value_of (world_at self.now) (id_at self.now) in
             OnErr result (IsCutShort W.received W.faults (unwrap_or value []) writer.old writer.new) }
+        ensures called { OnOk result (IsCalled W.steps (value_calls (world_at self.now) (id_at self.now)) writer.old writer.new) }
+        ensures stopped { OnErr result (IsCalledTillFault W.steps (value_calls (world_at self.now) (id_at self.now)) writer.old writer.new) }
         ensures secret { IfOk result (λ there. InEachOfShape self.now (λ v. let value = value_of v (id_at self.now) in
             (there ≡ is_some value) × IsWritten W.received W.faults (unwrap_or value []) writer.old writer.new)) }
     {
