@@ -5,7 +5,7 @@ use Rattle.std.proofs.lemmas.Str.Pattern.{IsSplitOnceResult, split_parts, split_
 use Rattle.script_lines.specs.Reading.{Lacks, Begins, after, behind, IsFieldName}
 
 -- a text that lacks a character isn't cut there
-lacks_no_cut : (c : ℕ) (text front back : List ℕ) → Lacks c text → text ≢ front ++ c ∷ back
+pub lacks_no_cut : (c : ℕ) (text front back : List ℕ) → Lacks c text → text ≢ front ++ c ∷ back
 lacks_no_cut c text front back lacks e = lacks (length front) (omega (arith, ap length e, length-append front (c ∷ back))) (ap (λ t. slice_index_or t (length front) 0) e ∙ get_or-append_seam front c back 0)
 
 pub cut_at : (c : ℕ) → c < 128 → (line text : List ℕ) (rest : Option (List ℕ)) (r : Option (Bor (List ℕ) × Bor (List ℕ))) → Lacks c text → line ≡ text ++ behind c rest → IsSplitOnceResult c line r

@@ -21,11 +21,11 @@ use Rattle.script_lines.specs.NamedIn.{named_in}
 use Rattle.script_lines.specs.NodeText.{all_fields}
 
 -- the first of these fields that is called so
-unfoldable named : List ℕ → List Field → Option Field
+unfoldable pub named : List ℕ → List Field → Option Field
 named name [] = None
 named name (which ∷ others) = if bytes_eq (field_name which) name then Some which else named name others
 
-named_back : (which : Field) → named (field_name which) all_fields ≡ Some which
+pub named_back : (which : Field) → named (field_name which) all_fields ≡ Some which
 unfolding named
 named_back (field.Ids ids.Children) = refl
 named_back (field.Ids ids.LabelledBy) = refl

@@ -24,3 +24,8 @@ pub mod LineWords
 pub mod FieldNames
 pub mod Places
 pub mod LineEnds
+pub mod Beginnings
+pub mod LineTexts
+pub mod NameLines
+pub mod NodeLines
+pub mod ReadingBack

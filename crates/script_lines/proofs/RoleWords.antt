@@ -39,7 +39,7 @@ named_nowhere word table i high = ap (named_in word) (drop_of_length-le table hi
 -- ---- the roles by their names
 
 -- each role that has a name
-all_roles : List Role
+unfoldable pub all_roles : List Role
 all_roles =
     role.Unknown ∷ role.Window ∷ role.ScrollView ∷ role.Paragraph ∷ role.GenericContainer ∷ role.TextRun ∷ role.Label ∷
     role.Image ∷ role.Document ∷ role.Terminal ∷ role.TextInput ∷ role.MultilineTextInput ∷ role.SearchInput ∷
@@ -55,7 +55,7 @@ all_roles =
     role.ListBoxOption ∷ role.MenuListOption ∷ role.ListGrid ∷ role.Menu ∷ role.MenuBar ∷ role.Tree ∷ []
 
 -- the first of them that is called so
-role_by : List ℕ → List Role → Option Role
+unfoldable pub role_by : List ℕ → List Role → Option Role
 role_by word [] = None
 role_by word (r ∷ others) = if bytes_eq (role_name r) word then Some r else role_by word others
 
@@ -74,7 +74,7 @@ same_numbers (x ∷ xs) (y ∷ ys) e =
     ap₂ (λ r rs. r ∷ rs) ((same_role-decides x y).0 (eq-eqb (role_number x) (role_number y) first)) (same_numbers xs ys rest)
 
 -- a role is found by its name; an other one by none
-role_found : (r : Role) → (role_by (role_text r) all_roles ≡ Some r) ⊎ ((n : ℕ) × (r ≡ role.Other n) × (role_by (role_text r) all_roles ≡ None))
+pub role_found : (r : Role) → (role_by (role_text r) all_roles ≡ Some r) ⊎ ((n : ℕ) × (r ≡ role.Other n) × (role_by (role_text r) all_roles ≡ None))
 unfolding role_by all_roles
 role_found role.Unknown = inl refl
 role_found role.Window = inl refl

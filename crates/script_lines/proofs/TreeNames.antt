@@ -1,5 +1,5 @@
 -- The name of a tree, read back.
-use Rattle.std.proofs.Common.{◌≡◌, ◌≢◌, ℕ, List, codes, bytes_eq, Option, Some, None, Result, Ok, Err, IfOk, IsOk, ap, sym, refl, ◌∙◌, ◌↔◌, ⊎_elim, inl, inr, zero, suc, ◌+◌, ◌-◌, [], ◌∷◌, Bool, true, false, if◌then◌else◌, nat_lt, arith, true≢false}
+use Rattle.std.proofs.Common.{◌≡◌, ◌≢◌, ℕ, ◌≤◌, List, codes, bytes_eq, Option, Some, None, Result, Ok, Err, IfOk, IsOk, ap, sym, refl, ◌∙◌, ◌↔◌, ⊎_elim, inl, inr, zero, suc, ◌+◌, ◌-◌, [], ◌∷◌, Bool, true, false, if◌then◌else◌, nat_lt, arith, true≢false}
 use Rattle.std.specs.Result.{result_ok}
 use Rattle.std.proofs.lemmas.Bool.{cases_Bool, cond-true, cond-false, cond_both}
 use Rattle.std.proofs.lemmas.Option.{none-some, same_Some}
@@ -63,11 +63,14 @@ if_not : (b : Bool) (x y c : ℕ) → x ≢ c → y ≢ c → (if b then x else 
 if_not true x y c p q = p
 if_not false x y c p q = q
 
-no_space : (d : ℕ) → hex_digit lower d ≢ 32
-no_space d = if_not (nat_lt d 10) (48 + d) (97 + d - 10) 32 (λ e. omega (arith, e)) (λ e. omega (arith, e))
+no_mark : (c d : ℕ) → c ≤ 32 → hex_digit lower d ≢ c
+no_mark c d low = if_not (nat_lt d 10) (48 + d) (97 + d - 10) c (λ e. omega (arith, e)) (λ e. omega (arith, e))
+
+pub uuid_lacks : (c : ℕ) → c ≤ 32 → (xs : List ℕ) → Lacks c (hyphenated_text lower xs)
+uuid_lacks c low xs = by_index_lacks c 36 _ (λ k. if_not (is_hyphen_place k) 45 _ c (λ e. omega (arith, e)) (no_mark c (nibble xs (digit_place k)) low))
 
 uuid_is_word : (xs : List ℕ) → IsWord (hyphenated_text lower xs)
-uuid_is_word xs = (by_index_lacks 32 36 _ (λ k. if_not (is_hyphen_place k) 45 _ 32 (λ e. omega (arith, e)) (no_space (nibble xs (digit_place k)))), omega (arith, by_index_length 36 (λ k. if is_hyphen_place k then 45 else hex_digit lower (nibble xs (digit_place k)))))
+uuid_is_word xs = (uuid_lacks 32 (omega arith) xs, omega (arith, by_index_length 36 (λ k. if is_hyphen_place k then 45 else hex_digit lower (nibble xs (digit_place k)))))
 
 root_is_word : IsWord (codes "root")
 root_is_word = (lacks_by 32 (codes "root") refl, omega arith)

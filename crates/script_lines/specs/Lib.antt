@@ -19,3 +19,4 @@ pub mod Commands
 pub mod Taking
 pub mod InputLines
 pub mod ScriptReading
+pub mod ReadingBack

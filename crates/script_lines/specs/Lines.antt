@@ -1,13 +1,14 @@
 -- The written form of a command: the text of its lines.
 use Rattle.std.specs.Prelude.{ℕ, List, [], ◌++◌, codes, flat_map, Bool, true, false, Option, Some, None, option_map, ◌≡◌, ◌⊎◌}
 use Rattle.std.specs.Fmt.{decimal}
+use Rattle.std.specs.Io.KnownBytes.{Appends}
 use Rattle.schema.specs.NodeData.{NodeData}
 use Rattle.schema.specs.UpdateData.{UpdateData, InfoData, update_data}
 use Rattle.schema.specs.declared.NodeId.{NodeId}
 use Rattle.script_lines.specs.declared.stops.Stop.{Stop}
 use Rattle.script_lines.specs.declared.stops.Stop.TheVariants.{Memory, WriteFault}
 use Rattle.script_lines.specs.declared.reader.ScriptCommand.{ScriptCommand}
-use Rattle.script_lines.specs.declared.reader.ScriptCommand.TheVariants as command
+use Rattle.script_lines.specs.Commands.{Said, Sends, Turns, Prints, Asks, said}
 use Rattle.script_lines.specs.NodeText.{node_line}
 use Rattle.script_lines.specs.Parts.{word_field, tree_text}
 use Rattle.script_lines.specs.Quoted.{quoted}
@@ -43,12 +44,19 @@ host_text false = codes "host off"
 abbrev pub host_line : Bool → List ℕ
 host_line is_focused = host_text is_focused ++ codes "\n"
 
+abbrev pub said_lines : Said → List ℕ
+said_lines (Sends u) = update_lines u
+said_lines (Turns is_focused) = host_line is_focused
+said_lines Prints = codes "print\n"
+said_lines (Asks q) = question_line q
+
 abbrev pub command_lines : ScriptCommand → List ℕ
-command_lines (command.Update update) = update_lines (update_data update)
-command_lines (command.HostFocus is_host_focused) = host_line is_host_focused
-command_lines command.Print = codes "print\n"
-command_lines (command.Query query) = question_line query
+command_lines command = said_lines (said command)
 
 -- what stops the writing: an error of the output, or lack of memory
 abbrev pub StopsWriting : Stop → Type 0
 StopsWriting stop = (stop ≡ WriteFault) ⊎ (stop ≡ Memory)
+
+-- known bytes grow by a beginning of this text
+abbrev pub AppendsBeginning : Option (List ℕ) → Option (List ℕ) → List ℕ → Type 0
+AppendsBeginning before after text = (written : List ℕ) × (left : List ℕ) × (text ≡ written ++ left) × Appends before after written

@@ -1,8 +1,10 @@
 //! Reading a script's commands from its input, line by line.
 
-ghost use Rattle.std.specs.Prelude.{◌≡◌, ◌++◌, ◌∷◌, [], Err, IfSome, MatchOption, None, Ok, OnOk, Some};
+ghost use Rattle.std.specs.Prelude.{◌≡◌, ◌++◌, ◌∷◌, [], All, Err, IfSome, List, MatchOption, None, Ok, OnOk, Some};
 ghost use Rattle.schema.specs.UpdateData.{update_data};
+ghost use Rattle.script_lines.specs.Commands.{Said};
 ghost use Rattle.script_lines.specs.Reading.{Reads};
+ghost use Rattle.script_lines.specs.ReadingBack.{IsSaid, ReadsBack, script_text};
 ghost use Rattle.script_lines.specs.ScriptReading.{IsPlace, Place, ReadsTo, place};
 ghost use Rattle.script_lines.specs.Taking.{IsNodeLine, TakesAs, begun_of, number_of, taken};
 ghost use Rattle.script_lines.specs.declared.stops.Stop.TheVariants as stop_;
@@ -64,6 +66,7 @@ impl ScriptReader {
     pub fn next_command<R: BufRead>(&mut self, input: &mut R) -> Result<Option<ScriptCommand>, Stop>
         ensures reads { IfSome (R.remaining input.old) (λ bytes. (next : Place) × ReadsTo (place self.old bytes) result next × IsPlace next result self.new (R.remaining input.new)) }
         ensures whole { OnOk result (begun_of self.new ≡ None) }
+        ensures reads_back { (commands : List Said) → All IsSaid commands → begun_of self.old ≡ None → R.remaining input.old ≡ Some (script_text commands) → ReadsBack commands result (R.remaining input.new) }
     {
         for _ in 0..u64::MAX {
             let Some(line) = self.lines.next(input)? else {

@@ -1,17 +1,21 @@
 //! Writing commands as lines of a script.
-ghost use Rattle.std.specs.Prelude.{IfErr, OnOk, option_map, flat_map};
+ghost use Rattle.std.specs.Prelude.{◌≡◌, IfErr, IfOk, OnErr, OnOk, flat_map};
 ghost use Rattle.std.specs.Io.KnownBytes.{Appends};
 ghost use Rattle.schema.specs.UpdateData.{info_data, update_data};
-ghost use Rattle.script_lines.specs.Lines.{StopsWriting, update_head, info_text, entry_line, update_lines, host_line, command_lines};
+ghost use Rattle.script_lines.specs.Lines.{AppendsBeginning, StopsWriting, command_lines, entry_line, host_line, info_text, update_head, update_lines};
+ghost use Rattle.script_lines.specs.NodeText.{node_line};
+ghost use Rattle.script_lines.specs.Questions.{question_line};
+ghost use Rattle.script_lines.specs.declared.stops.Stop.TheVariants as stop_;
 
 use crate::reader::ScriptCommand;
 use crate::stops::Stop;
 use crate::write_node::write_node;
 use crate::write_parts::{ShownTree, write_quoted_field};
 use crate::write_questions::write_question;
+use model::Query;
 use schema::{Node, NodeId, TreeInfo, TreeUpdate};
 use std::alloc::Global;
-use std::io::{self, Write};
+use std::io::{self, ErrorKind, Write};
 
 /// Writes a command as lines of a script.
 ///
@@ -20,21 +24,27 @@ use std::io::{self, Write};
 ///
 /// # Errors
 ///
-/// Returns `Stop::WriteFault` for an error of the output, and `Stop::Memory` if memory for a node's list of actions
-/// runs out. A beginning of the lines may have been written.
+/// Returns `Stop::WriteFault` for an error of the output, and `Stop::Memory` if memory for a line runs out. A beginning
+/// of the lines, which may be empty, has then been written.
 pub fn write_command<O: Write>(
     alloc: Global,
     command: &ScriptCommand,
     out: &mut O,
 ) -> Result<(), Stop>
     ensures written { OnOk result (Appends (O.contents out.old) (O.contents out.new) (command_lines command.now)) }
+    ensures begun { OnErr result (AppendsBeginning (O.contents out.old) (O.contents out.new) (command_lines command.now)) }
     ensures stops { IfErr result StopsWriting }
 {
     match command {
         ScriptCommand::Update(update) => write_update(alloc, update, out),
-        ScriptCommand::HostFocus(is_host_focused) => Ok(write_host(*is_host_focused, out)?),
-        ScriptCommand::Print => Ok(out.write_all(b"print\n")?),
-        ScriptCommand::Query(query) => Ok(write_question(*query, out)?),
+        ScriptCommand::HostFocus(is_host_focused) => {
+            write_bytes(host_bytes(*is_host_focused), out)
+        }
+        ScriptCommand::Print => write_bytes(b"print\n", out),
+        ScriptCommand::Query(query) => {
+            let line = question_bytes(alloc, *query)?;
+            write_bytes(&line, out)
+        }
     }
 }
 
@@ -45,22 +55,59 @@ pub fn write_command<O: Write>(
 /// As for [`write_command`].
 pub fn write_update<O: Write>(alloc: Global, update: &TreeUpdate, out: &mut O) -> Result<(), Stop>
     ensures written { OnOk result (Appends (O.contents out.old) (O.contents out.new) (update_lines (update_data update.now))) }
+    ensures begun { OnErr result (AppendsBeginning (O.contents out.old) (O.contents out.new) (update_lines (update_data update.now))) }
     ensures stops { IfErr result StopsWriting }
 {
-    write_head(update, out)?;
+    let head = head_bytes(alloc, update)?;
+    write_bytes(&head, out)?;
     write_nodes(alloc, &update.nodes, out)?;
-    out.write_all(b"end\n")?;
-    Ok(())
+    write_bytes(b"end\n", out)
 }
 
 /// Writes whether the host is focused.
-fn write_host<O: Write>(is_host_focused: bool, out: &mut O) -> io::Result<()>
-    ensures { OnOk result (Appends (O.contents out.old) (O.contents out.new) (host_line is_host_focused)) }
+fn host_bytes(is_host_focused: bool) -> &'static [u8]
+    ensures { result.now ≡ host_line is_host_focused }
 {
     if is_host_focused {
-        out.write_all(b"host on\n")
+        b"host on\n"
     } else {
-        out.write_all(b"host off\n")
+        b"host off\n"
+    }
+}
+
+/// The line of a question.
+fn question_bytes(alloc: Global, query: Query) -> Result<Vec<u8>, Stop>
+    ensures line { IfOk result (λ line. line.items ≡ question_line query) }
+    ensures stops { IfErr result (λ stop. stop ≡ stop_.Memory) }
+{
+    let mut line = Vec::new(alloc);
+    match write_question(query, &mut line) {
+        Ok(()) => Ok(line),
+        Err(_) => Err(Stop::Memory),
+    }
+}
+
+/// The line that begins an update.
+fn head_bytes(alloc: Global, update: &TreeUpdate) -> Result<Vec<u8>, Stop>
+    ensures line { IfOk result (λ line. line.items ≡ update_head (update_data update.now)) }
+    ensures stops { IfErr result (λ stop. stop ≡ stop_.Memory) }
+{
+    let mut line = Vec::new(alloc);
+    match write_head(update, &mut line) {
+        Ok(()) => Ok(line),
+        Err(_) => Err(Stop::Memory),
+    }
+}
+
+/// The line of a node, in place of what these bytes were.
+fn set_node_bytes(alloc: Global, id: NodeId, node: &Node, line: &mut Vec<u8>) -> Result<(), Stop>
+    ensures line { OnOk result (line.new.items ≡ node_line id node.now) }
+    ensures stops { IfErr result (λ stop. stop ≡ stop_.Memory) }
+{
+    line.clear();
+    match write_node(alloc, id, node, line) {
+        Ok(()) => Ok(()),
+        Err(_) => Err(Stop::Memory),
     }
 }
 
@@ -90,10 +137,34 @@ fn write_info<O: Write>(info: &TreeInfo, out: &mut O) -> io::Result<()>
 /// Writes the lines of nodes.
 fn write_nodes<O: Write>(alloc: Global, nodes: &[(NodeId, Node)], out: &mut O) -> Result<(), Stop>
     ensures written { OnOk result (Appends (O.contents out.old) (O.contents out.new) (flat_map entry_line nodes.now)) }
+    ensures begun { OnErr result (AppendsBeginning (O.contents out.old) (O.contents out.new) (flat_map entry_line nodes.now)) }
     ensures stops { IfErr result StopsWriting }
 {
+    let mut line = Vec::new(alloc);
     for entry in nodes {
-        write_node(alloc, entry.0, &entry.1, out)?;
+        set_node_bytes(alloc, entry.0, &entry.1, &mut line)?;
+        write_bytes(&line, out)?;
     }
     Ok(())
+}
+
+/// Writes bytes. Where the output gives an error, a beginning of them is written.
+fn write_bytes<O: Write>(bytes: &[u8], out: &mut O) -> Result<(), Stop>
+    ensures written { OnOk result (Appends (O.contents out.old) (O.contents out.new) bytes.now) }
+    ensures begun { OnErr result (AppendsBeginning (O.contents out.old) (O.contents out.new) bytes.now) }
+    ensures stops { IfErr result (λ stop. stop ≡ stop_.WriteFault) }
+{
+    let mut written = 0;
+    for _ in 0..u64::MAX {
+        if written == bytes.len() {
+            return Ok(());
+        }
+        match out.write(&bytes[written..]) {
+            Ok(0) => break,
+            Ok(count) => written += count,
+            Err(error) if error.kind() == ErrorKind::Interrupted => {}
+            Err(_) => break,
+        }
+    }
+    Err(Stop::WriteFault)
 }

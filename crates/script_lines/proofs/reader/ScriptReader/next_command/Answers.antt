@@ -1,4 +1,4 @@
-use Rattle.std.proofs.Common.{◌≡◌, List, ℕ, IfSome, None, Ok, Option, Result, Some, ap, refl, rules, subst, sym, ◌∙◌}
+use Rattle.std.proofs.Common.{◌≡◌, List, ℕ, Err, IfSome, None, Ok, Option, Result, Some, ap, refl, rules, subst, sym, ◌∙◌}
 use Rattle.script_lines.specs.InputLines.{CountsLine, ReadsNext}
 use Rattle.script_lines.specs.Taking.{begun_of, number_of, taken}
 use Rattle.script_lines.specs.declared.line_reader.LineReader.{LineReader}
@@ -6,7 +6,9 @@ use Rattle.script_lines.specs.declared.lines.Line.{Line}
 use Rattle.script_lines.specs.declared.reader.ScriptCommand.{ScriptCommand}
 use Rattle.script_lines.specs.declared.reader.ScriptReader.{ScriptReader}
 use Rattle.script_lines.specs.declared.stops.Stop.{Stop}
+use Rattle.script_lines.specs.declared.stops.Stop.TheVariants.{ReadFault}
 use Rattle.script_lines.proofs.Places.{Answers, at_first, ended, err_is, gave, given_up, refused, stopped_at, took, went_on}
+use Rattle.script_lines.proofs.ReadingBack.{reads_back}
 use Rattle.script_lines.proofs.reader.ScriptReader.next_command.Goals as goal
 
 -- a line is read where the answer is one
@@ -67,3 +69,18 @@ returns-in_default-clause-reads g c =
 
 pub returns-clause-reads : goal.returns-clause-reads
 returns-clause-reads g c = given_up (g.R.Read.remaining c.args.input.now) c.args.self.now (g.R.Read.remaining c.loop.input) (g.R.Read.remaining c.loop.input) c.loop.self c.loop.self c.loop.invariant
+
+pub returns-in_err-line-clause-reads_back : goal.returns-in_err-line-clause-reads_back
+returns-in_err-line-clause-reads_back g c = reads_back (g.R.Read.remaining c.args.input.now) (g.R.Read.remaining c.next.new.input) c.args.self.now (record { lines = c.next.new.self; begun = c.loop.self.begun }) c.from_residual.result (returns-in_err-line-clause-reads g c)
+
+pub returns-in_default-clause-reads_back : goal.returns-in_default-clause-reads_back
+returns-in_default-clause-reads_back g c = reads_back (g.R.Read.remaining c.args.input.now) (g.R.Read.remaining c.next.new.input) c.args.self.now (record { lines = c.next.new.self; begun = c.loop.self.begun }) c.end.result (returns-in_default-clause-reads g c)
+
+pub returns-in_err-command-clause-reads_back : goal.returns-in_err-command-clause-reads_back
+returns-in_err-command-clause-reads_back g c = reads_back (g.R.Read.remaining c.args.input.now) (g.R.Read.remaining c.next.new.input) c.args.self.now c.take.new.self c.from_residual-in_err-command.result (returns-in_err-command-clause-reads g c)
+
+pub returns-in-Some-2-clause-reads_back : goal.returns-in-Some-2-clause-reads_back
+returns-in-Some-2-clause-reads_back g c = reads_back (g.R.Read.remaining c.args.input.now) (g.R.Read.remaining c.next.new.input) c.args.self.now c.take.new.self (Ok (Some c.in-Some-2.command)) (returns-in-Some-2-clause-reads g c)
+
+pub returns-clause-reads_back : goal.returns-clause-reads_back
+returns-clause-reads_back g c = reads_back (g.R.Read.remaining c.args.input.now) (g.R.Read.remaining c.loop.input) c.args.self.now c.loop.self (Err ReadFault) (returns-clause-reads g c)
