@@ -36,11 +36,7 @@ pub(crate) fn preceding_ids(alloc: Global, node: NodeRef) -> Result<Vec<FullNode
 }
 
 /// The ids of what a walk gives, in its order.
-///
-/// # Errors
-///
-/// Memory for the list is refused.
-pub fn ids_of<'a, W: Iterator<Item = NodeRef<'a>> + Drop>(
+fn ids_of<'a, W: Iterator<Item = NodeRef<'a>> + Drop>(
     alloc: Global,
     walk: W,
 ) -> Result<Vec<FullNodeId>, AllocError>
