@@ -1,7 +1,9 @@
 //! Searching the tree that a script leaves.
-ghost use Rattle.std.specs.Prelude.{◌≡◌, ◌==◌, length, IfOk, option_map, string_bytes};
+ghost use Rattle.std.specs.Prelude.{◌≡◌, ◌==◌, List, map, length, IfOk, option_map, string_bytes};
+ghost use Rattle.std.specs.Iterator.{IsFinite, Drains};
 ghost use Rattle.model.specs.Filters.{common_filter as common};
 ghost use Rattle.views.specs.Descendants.{filtered_descendants};
+ghost use Rattle.views.specs.declared.node.node_ref.NodeRef.{NodeRef as ANode};
 ghost use Rattle.views.specs.Nodes.{world_at, id_at};
 ghost use Rattle.views.specs.ShownWorlds.{world_of};
 ghost use Rattle.find.specs.Found.{shown_from, is_labelled, is_wanted, found};
@@ -12,7 +14,6 @@ use accesskit_consumer::filters::{FilterResult, common_filter};
 use accesskit_consumer::node::{FullNodeId, NodeRef};
 use accesskit_consumer::tree::StateRef;
 use atree_script::Stop;
-use session::ids_of;
 use std::alloc::{AllocError, Global};
 use std::io::Write;
 
@@ -71,6 +72,22 @@ fn ids_below(alloc: Global, top: NodeRef) -> Result<Vec<FullNodeId>, AllocError>
 {
     let shown = move |shown: &NodeRef<'_>| common_filter(shown);
     ids_of(alloc, top.filtered_descendants(shown))
+}
+
+/// The ids of the nodes of a walk, in order.
+fn ids_of<'a, W: Iterator<Item = NodeRef<'a>> + Drop>(
+    alloc: Global,
+    walk: W,
+) -> Result<Vec<FullNodeId>, AllocError>
+    requires can { W.can_next walk }
+    requires ends { IsFinite (W.remaining walk) }
+    ensures { IfOk result (λ ids. (nodes : List ANode) × Drains W.next_gives walk nodes × (ids.items ≡ map id_at nodes)) }
+{
+    let mut ids = Vec::new(alloc);
+    for node in walk {
+        ids.push(node.id())?;
+    }
+    Ok(ids)
 }
 
 /// Whether the node exists and has the role, and the label if one is given.

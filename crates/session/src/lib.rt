@@ -11,4 +11,3 @@ mod walked;
 pub use commands::{Command, Reply, RunStopped};
 pub use model::{At, Move, NamedFilter, NodeName, Query, Side};
 pub use session::Session;
-pub use walked::ids_of;

@@ -40,7 +40,7 @@ pub(crate) fn preceding_ids(alloc: Global, node: NodeRef) -> Result<Vec<FullNode
 /// # Errors
 ///
 /// Returns `AllocError` if memory runs out.
-pub fn ids_of<'a, W: Iterator<Item = NodeRef<'a>> + Drop>(
+fn ids_of<'a, W: Iterator<Item = NodeRef<'a>> + Drop>(
     alloc: Global,
     walk: W,
 ) -> Result<Vec<FullNodeId>, AllocError>
