@@ -121,8 +121,8 @@ module _ (r : TextRange) where
             ∙ ap (λ (p : Position). (let d : PieceData = record { run = p.run; from = p.index; to = p.index } in d) ∷ pieces_past (text_in r) (range_at r) p.run) (sym at.at);
       }
 
-  pub caret_ends : (s : TextPosition) → IsPositionAt r.root (range_at r).start s → is_degenerate (text_in r) (range_at r) ≡ true → IsLastPassed r s.run
-  caret_ends s at none = record { same = at.same; number = ap (λ q. q.run) at.at ∙ sym (last_of_caret (text_in r) (range_at r) none) }
+  pub caret_ends : (s : TextPosition) → IsPositionAt r.root (range_at r).start s → is_degenerate (text_in r) (range_at r) ≡ true → (id : FullNodeId) → id ≡ run_id s.run → IsLastPassed r id
+  caret_ends s at none id is = record { run = s.run; same = at.same; number = ap (λ q. q.run) at.at ∙ sym (last_of_caret (text_in r) (range_at r) none); is = is }
 
   -- of one with something in it
   pub first_part : (s a : TextPosition) (p : Piece) → IsPositionAt r.root (range_at r).start s → IsPositionAt (root_at s) (biased_to_start (position_text s) (flat_position s)) a → is_degenerate (text_in r) (range_at r) ≡ false →
@@ -134,20 +134,20 @@ module _ (r : TextRange) where
       let last = last_of_some (text_in r) (range_at r) some in
       part_of (pieces (text_in r) (range_at r)) a.run p at.same (omega (arith, number, order, last)) here is (first_in_range (text_in r) (range_at r) (number_in a.run) number order some)
 
-  pub side_ends : (e b : TextPosition) → IsPositionAt r.root (range_at r).end e → IsPositionAt (root_at e) (biased_to_end (position_text e) (flat_position e)) b → is_degenerate (text_in r) (range_at r) ≡ false → IsLastPassed r b.run
-  side_ends e b ends side some =
+  pub side_ends : (e b : TextPosition) → IsPositionAt r.root (range_at r).end e → IsPositionAt (root_at e) (biased_to_end (position_text e) (flat_position e)) b → is_degenerate (text_in r) (range_at r) ≡ false → (id : FullNodeId) → id ≡ run_id b.run → IsLastPassed r id
+  side_ends e b ends side some id is =
       let at : IsPositionAt r.root (biased_to_end (text_in r) (range_at r).end) b = then_at biased_to_end r.root (range_at r).end e b ends side in
-      record { same = at.same; number = ap (λ q. q.run) at.at ∙ sym (last_of_some (text_in r) (range_at r) some) }
+      record { run = b.run; same = at.same; number = ap (λ q. q.run) at.at ∙ sym (last_of_some (text_in r) (range_at r) some); is = is }
 
   -- whether a run is the last one
-  module _ (k last : Run) (same : text_root_of k ≡ r.root) (ends : IsLastPassed r last) (x y : FullNodeId) (t : Bool) (xs : x ≡ run_id k) (ys : y ≡ run_id last) (tested : (t ≡ true) ↔ (x ≡ y)) where
+  module _ (k : Run) (last : FullNodeId) (same : text_root_of k ≡ r.root) (ends : IsLastPassed r last) (x : FullNodeId) (t : Bool) (xs : x ≡ run_id k) (tested : (t ≡ true) ↔ (x ≡ last)) where
     pub none_after : t ≡ true → pieces_past (text_in r) (range_at r) (number_in k) ≡ []
-    none_after is = none_past_last (text_in r) (range_at r) (number_in k) (one_number k last (same ∙ sym ends.same) (sym xs ∙ tested.0 is ∙ ys) ∙ ends.number)
+    none_after is = none_past_last (text_in r) (range_at r) (number_in k) (one_number k ends.run (same ∙ sym ends.same) (sym xs ∙ tested.0 is ∙ ends.is) ∙ ends.number)
 
     some_after : t ≡ false → IsUpTo r k → number_in k < last_passed (text_in r) (range_at r)
     some_after is upto =
         let apart : number_in k ≢ last_passed (text_in r) (range_at r) =
-        λ h. is_not t (x ≡ y) tested is (xs ∙ one_id k last (same ∙ sym ends.same) (h ∙ sym ends.number) ∙ sym ys) in
+        λ h. is_not t (x ≡ last) tested is (xs ∙ one_id k ends.run (same ∙ sym ends.same) (h ∙ sym ends.number) ∙ sym ends.is) in
         omega (arith, upto, apart)
 
     pub next_part : (n : Run) (p : Piece) → t ≡ false → IsUpTo r k → IsAfter k n → p.run ≡ n → piece_data p ≡ piece_in (text_in r) (range_at r) (number_in n) →

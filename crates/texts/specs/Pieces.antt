@@ -1,13 +1,14 @@
 -- The pieces of a range, one after another.
 use Rattle.std.specs.Prelude.{◌≡◌, ◌≤◌, ℕ, ◌+◌, ◌-◌, List, ◌∷◌, map, if◌then◌else◌}
 use Rattle.std.specs.List.{range_with_len}
+use Rattle.model.specs.declared.FullNodeId.{FullNodeId}
 use Rattle.model.specs.TextRuns.{said_count}
 use Rattle.model.specs.FlatText.{FlatText, biased_to_end}
 use Rattle.model.specs.Ranges.{Range, Piece as PieceData, is_degenerate, piece_in}
 use Rattle.texts.specs.declared.range.TextRange.{TextRange}
 use Rattle.texts.specs.declared.pieces.Piece.{Piece}
 use Rattle.views.specs.declared.runs.Run.{Run}
-use Rattle.views.specs.Runs.{text_root_of, sent_of}
+use Rattle.views.specs.Runs.{text_root_of, run_id, sent_of}
 use Rattle.texts.specs.RunNumbers.{number_in}
 use Rattle.texts.specs.TextRanges.{text_in, range_at}
 
@@ -27,10 +28,12 @@ pieces_past t r k = map (piece_in t r) (range_with_len (k + 1) (last_passed t r 
 abbrev pub IsUpTo : TextRange → Run → Type 0
 IsUpTo range k = number_in k ≤ last_passed (text_in range) (range_at range)
 
--- it is the last one
-pub record IsLastPassed (range : TextRange) (k : Run) : Type 0 where
-  pub same : text_root_of k ≡ range.root
-  pub number : number_in k ≡ last_passed (text_in range) (range_at range)
+-- the id is that of the last run that the range passes
+pub record IsLastPassed (range : TextRange) (id : FullNodeId) : Type 0 where
+  pub run : Run
+  pub same : text_root_of run ≡ range.root
+  pub number : number_in run ≡ last_passed (text_in range) (range_at range)
+  pub is : id ≡ run_id run
 
 -- of these pieces of the range it is the first, and the others are those past its run
 pub record IsNextPiece (range : TextRange) (left : List PieceData) (p : Piece) : Type 0 where

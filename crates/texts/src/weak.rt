@@ -66,7 +66,8 @@ impl TextRange<'_> {
         ensures { IfOk result (IsWeak (world_in self.now) (root_in self.now) (range_at self.now)) }
     {
         let range = *self;
-        let (start, end) = (range.start(), range.end());
+        let start = range.start();
+        let end = range.end();
         let start_comparable = start.comparable(alloc)?;
         let end_comparable = end.comparable(alloc)?;
         Ok(WeakTextRange {
