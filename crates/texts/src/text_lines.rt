@@ -40,7 +40,7 @@ impl<'a> TextLines<'a> {
     ghost use Rattle.texts.specs.LineWalks.{lines_root, IsAtLastLine, IsNearest};
 
     /// The lines of the text of a node, which has text ranges. The first search begins at the first line.
-    pub fn new(root: NodeRef<'a>) -> TextLines<'a>
+    pub(crate) fn new(root: NodeRef<'a>) -> TextLines<'a>
         requires { supports_text_ranges (world_at root) (id_at root) ≡ true }
         ensures { lines_root result ≡ root.entry }
     {
