@@ -1,8 +1,8 @@
 //! Lines by their numbers, where each search goes on from the line that was found last.
 
 use crate::asking::both_ends;
-use accesskit_consumer::TextLines;
 use accesskit_consumer::node::NodeRef;
+use accesskit_consumer::{NodeText, TextLines};
 use sketches::small_texts::PARAGRAPHS;
 use sketches::{Spot, planted, root_of};
 use std::process::Abort;
@@ -39,10 +39,13 @@ fn are_of(lines: &TextLines, root: &NodeRef) -> bool {
 }
 
 fn assert_root(rt: &impl Abort, root: NodeRef) {
-    assert!(rt; root.supports_text_ranges());
-    let mut lines = TextLines::new(root);
-    assert!(rt; are_of(&lines, &root));
-    assert_lines(rt, &mut lines);
+    let text = root.text();
+    assert!(rt; text.is_some());
+    if let Some(text) = text {
+        let mut lines = text.lines();
+        assert!(rt; are_of(&lines, &root));
+        assert_lines(rt, &mut lines);
+    }
 }
 
 #[test]

@@ -41,7 +41,7 @@ impl<'a> TextLines<'a> {
 
     /// The lines of a node's text. The first search starts at the first line. Requires that the node supports text
     /// ranges.
-    pub fn new(root: NodeRef<'a>) -> TextLines<'a>
+    pub(crate) fn new(root: NodeRef<'a>) -> TextLines<'a>
         requires { supports_text_ranges (world_at root) (id_at root) ≡ true }
         ensures { lines_root result ≡ root.entry }
     {

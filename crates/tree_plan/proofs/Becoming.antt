@@ -240,17 +240,17 @@ module _ (s : Transition) (f : Found) (h : IsFound s f) where
   pub unnamed_by : (id : FullNodeId) → at f.compared.named id ≡ None → ¬ (IsNamed w u id)
   unnamed_by id none named = let n = value_of (at f.compared.named id) (h.comparison.has_named id named) in nothing_at (at f.compared.named id) n.0 none n.1
 
-  pub told_by : (id : FullNodeId) → f.told ≡ Some id → data_of w id ≡ data_of s.new id → Moves s id None → Becomes s id (Some Told)
-  told_by id told same moves = told_becomes w u h.old h.kept s.new h.rebuilt id (sym h.told ∙ told) same moves
+  pub told_by : (id : FullNodeId) (moved : Option (Option Place)) → f.told ≡ Some id → data_of w id ≡ data_of s.new id → Moves s id moved → moved ≡ None → Becomes s id (Some Told)
+  told_by id moved told same moves none = told_becomes w u h.old h.kept s.new h.rebuilt id (sym h.told ∙ told) same (subst (Moves s id) none moves)
 
-  pub untold_by : (id : FullNodeId) → f.told ≢ Some id → data_of w id ≡ data_of s.new id → Moves s id None → Becomes s id None
-  untold_by id other same moves = ((same, moves), λ told. other (h.told ∙ told))
+  pub untold_by : (id : FullNodeId) (moved : Option (Option Place)) → f.told ≢ Some id → data_of w id ≡ data_of s.new id → Moves s id moved → moved ≡ None → Becomes s id None
+  untold_by id moved other same moves none = ((same, subst (Moves s id) none moves), λ told. other (h.told ∙ told))
 
   -- what is in none of the maps, and isn't told, is as it was
   pub untouched : (id : FullNodeId) → ¬ (has f.removed.gone id) → at f.compared.named id ≡ None → at f.compared.entered id ≡ None → at f.regrafted.moved_in.entries id ≡ None → f.told ≢ Some id → Becomes s id None
   untouched id stays unnamed none none' other =
       let stays' : ¬ (Gone w u id) = λ gone. stays ((h.removal.gone id).1 gone) in
-      untold_by id other (unnamed_same w u h.old h.kept s.new h.rebuilt id (unnamed_by id unnamed) stays') (by_none id stays' none none')
+      untold_by id None other (unnamed_same w u h.old h.kept s.new h.rebuilt id (unnamed_by id unnamed) stays') (by_none id stays' none none') refl
 
   -- a new node: one that is named and wasn't there
   pub new_by : (id : FullNodeId) (n : Named) (moved : Option (Option Place)) → at f.compared.named id ≡ Some n → n.was ≡ None → Moves s id moved → Becomes s id (Some (Added (unwrap_or moved None) n.entry))

@@ -31,16 +31,12 @@ use Rattle.tree_changes.specs.LookUps as look
 use Rattle.tree_plan.specs.declared.passes.Opened.{Opened}
 use Rattle.tree_plan.specs.Passes.{HoldsOpened}
 use Rattle.tree_plan.specs.Writing.{own_record}
-use Rattle.tree_plan.specs.News.{KeepsForest, IsNamedOnce}
+use Rattle.tree_plan.specs.News.{KeepsForest, AllKeep, IsNamedOnce}
 use Rattle.tree_plan.proofs.Entries.{entry_named}
 use Rattle.tree_plan.proofs.IdMaps.{at_contains}
 use Rattle.tree_plan.proofs.Opens.{tree_is}
 use Rattle.tree_plan.proofs.Trees.{KnownAlike, AreAfter, same_option}
 use Rattle.tree_plan.proofs.Forests.{HaveOneForest, root_same, root_named_same, tree_named_same, lists_same, grafts_same, stands_same, reached_same, kept_same, chain_same}
-
--- each entry names an old node, whose forest it keeps
-abbrev pub AllKeep : World → UpdateData → Type 0
-AllKeep w u = (k : ℕ) (e : NodeId × NodeData) → slice_get u.nodes k ≡ Some e → (old : NodeData) × HasData w (in_tree (index_for w u.name) e.0) old × KeepsForest old e.1
 
 pub same_data : (d : NodeData) → KeepsForest d d
 same_data d = record { children = refl; graft = refl; active = refl }

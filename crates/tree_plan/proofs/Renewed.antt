@@ -37,12 +37,12 @@ use Rattle.tree_plan.specs.declared.writing.Group.TheVariants as group
 use Rattle.tree_plan.specs.Passes.{at, HoldsOpened}
 use Rattle.tree_plan.specs.Verdicts.{Transition, Becomes, Verdicts}
 use Rattle.tree_plan.specs.Writing.{own_record, change_entry}
-use Rattle.tree_plan.specs.News.{IsNewsOf, AreNews, IsNamedOnce}
+use Rattle.tree_plan.specs.News.{AllKeep, IsNewsOf, AreNews, IsNamedOnce}
 use Rattle.tree_plan.proofs.Entries.{entry_named}
 use Rattle.tree_plan.proofs.IdMaps.{at_contains, contains_at, read_here}
 use Rattle.tree_plan.proofs.Listed.{ids_where, is_in, changes_in}
 use Rattle.tree_plan.proofs.Assembled.{IsKept, all_told, decision_is}
-use Rattle.tree_plan.proofs.OtherData.{AllKeep, later, named_data, rules, rebuilt, state_before, place_same, place_now, none_after, effective_now, focus_now}
+use Rattle.tree_plan.proofs.OtherData.{later, named_data, rules, rebuilt, state_before, place_same, place_now, none_after, effective_now, focus_now}
 
 -- ---- changes as verdicts
 

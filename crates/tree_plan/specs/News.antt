@@ -1,5 +1,7 @@
 -- An update that gives nodes of a tree other data, and changes nothing else.
 use Rattle.std.specs.Prelude.{◌≡◌, ◌≢◌, ℕ, ◌<◌, ◌≤◌, [], ◌∷◌, ◌++◌, length, slice_get, Contains, Option, Some, None, ◌⊎◌}
+use Rattle.std.specs.Map.{keys_of}
+use Rattle.rows.specs.Rows.{IsTwice}
 use Rattle.schema.specs.NodeData.{NodeData}
 use Rattle.schema.specs.declared.NodeId.{NodeId}
 use Rattle.model.specs.declared.FullNodeId.{FullNodeId}
@@ -20,6 +22,18 @@ pub record KeepsForest (old d : NodeData) : Type 0 where
   pub graft : old.tree_id ≡ d.tree_id
   pub active : old.active_descendant ≡ d.active_descendant
 
+-- it is an old node, whose forest these data keep
+abbrev pub KeepsOld : World → FullNodeId → NodeData → Type 0
+KeepsOld w id d = (old : NodeData) × HasData w id old × KeepsForest old d
+
+-- each entry names an old node, and keeps its forest
+abbrev pub AllKeep : World → UpdateData → Type 0
+AllKeep w u = (k : ℕ) (e : NodeId × NodeData) → slice_get u.nodes k ≡ Some e → KeepsOld w (in_tree (index_for w u.name) e.0) e.1
+
+-- each node is named by one entry
+abbrev pub IsNamedOnce : UpdateData → Type 0
+IsNamedOnce u = (i j : ℕ) (n : NodeId) → named_at u i ≡ Some n → named_at u j ≡ Some n → i ≡ j
+
 -- the change gives an old node the data of the entry that names it, which are others than before, and the place where it stands
 pub record IsNewsOf (w : World) (u : UpdateData) (id : FullNodeId) (c : NodeChange) : Type 0 where
   pub entry : ℕ
@@ -39,19 +53,22 @@ pub record AddsNews (w : World) (id : FullNodeId) (entry : ℕ) (d : NodeData) (
 
 -- The first so many entries name old nodes, which keep the forest, and the list has the changes of those with other data.
 pub record AreNews (w : World) (u : UpdateData) (count : ℕ) (list : NodeChanges) : Type 0 where
-  pub keep : (k : ℕ) (e : NodeId × NodeData) → k < count → slice_get u.nodes k ≡ Some e → (old : NodeData) × HasData w (in_tree (index_for w u.name) e.0) old × KeepsForest old e.1
+  pub keep : (k : ℕ) (e : NodeId × NodeData) → k < count → slice_get u.nodes k ≡ Some e → KeepsOld w (in_tree (index_for w u.name) e.0) e.1
   pub found : (id : FullNodeId) (c : NodeChange) → Contains list (id, c) → IsNewsOf w u id c
   pub each : (k : ℕ) (e : NodeId × NodeData) → k < count → slice_get u.nodes k ≡ Some e → HasData w (in_tree (index_for w u.name) e.0) e.1 ⊎ ((c : NodeChange) × Contains list (in_tree (index_for w u.name) e.0, c))
   pub few : length list ≤ count
-
--- each node is named by one entry
-abbrev pub IsNamedOnce : UpdateData → Type 0
-IsNamedOnce u = (i j : ℕ) (n : NodeId) → named_at u i ≡ Some n → named_at u j ≡ Some n → i ≡ j
+  pub early : (id : FullNodeId) → Contains (keys_of list) id → (k : ℕ) × (k < count) × (named_at u k ≡ Some id.node)
+  pub once : IsNamedOnce u → (id : FullNodeId) → ¬ (IsTwice list id)
 
 -- the record of the named tree stays as it was, and no root is told
 pub record KeepsTree (u : UpdateData) (o : Opened) : Type 0 where
   pub same : own_record u.name u.focus o ≡ o.record
   pub untold : told_root o.index u.info ≡ None
+
+-- the update gives nodes other data, and changes nothing else
+pub record GivesDataAlone (w : World) (u : UpdateData) (o : Opened) : Type 0 where
+  pub tree : KeepsTree u o
+  pub nodes : AllKeep w u
 
 -- no more is decided than a change and an event for each named node
 pub record IsBrief (u : UpdateData) (d : Decision) : Type 0 where

@@ -72,6 +72,7 @@ impl Found {
     }
 
     /// The verdict on a node whose data is unchanged.
+    #[tactic(auto, using(crate::proofs::Becoming::moved_by, crate::proofs::Becoming::told_by, crate::proofs::Becoming::untold_by))]
     fn moved_or_told(&self, id: FullNodeId, moved: Option<Option<Place>>) -> Option<Verdict>
         ghost step: { Transition }
         requires found { IsFound step self.now }
