@@ -174,6 +174,15 @@ class Pages(Play):
         return printed
 
 
+def as_read(shown):
+    """What can be read of what is shown: no page can show U+0000, in whose place stands U+FFFD."""
+    if isinstance(shown, str):
+        return shown.replace("\0", "\ufffd")
+    if isinstance(shown, dict):
+        return {key: as_read(value) for key, value in shown.items()}
+    return type(shown)(map(as_read, shown)) if isinstance(shown, (list, tuple, set)) else shown
+
+
 def states_of(script, without=None):
     """What a page shows of a script, which is bytes, and the number of its bad line, if it has one. The update that would make
     the state `without`, counted from 0, finds no memory."""
@@ -183,7 +192,7 @@ def states_of(script, without=None):
             pages.line(line)
     except BadLine:
         pass
-    return pages.states, told_by(script)[1]
+    return as_read(pages.states), told_by(script)[1]
 
 
 # ---- pages as they are read
@@ -214,6 +223,15 @@ class Reader(HTMLParser):
 
     def handle_data(self, text):
         self.open[-1][2].append(text)
+
+
+def top_of(page):
+    """A page, which is bytes, as a parser of HTML reads it: it drops U+0000, and makes a line feed of a carriage return."""
+    reader = Reader()
+    reader.feed(page.decode().replace("\0", "").replace("\r\n", "\n").replace("\r", "\n"))
+    reader.close()
+    assert len(reader.open) == 1, f"<{reader.open[-1][0]}> has no end"
+    return reader.top
 
 
 def elements(top, name):
@@ -333,24 +351,23 @@ def difference_of_states(told, read):
 
 def difference_of_page(script, page, without=None):
     """In what a page differs from what the model says of the script; `None` where it doesn't."""
-    reader = Reader()
-    reader.feed(page.decode())
-    reader.close()
-    if len(reader.open) != 1:
-        return f"<{reader.open[-1][0]}> has no end"
+    try:
+        top = top_of(page)
+    except AssertionError as fault:
+        return str(fault)
     told, bad = states_of(script, without)
-    read = [state_read(section) for section in elements(reader.top, "section")]
+    read = [state_read(section) for section in elements(top, "section")]
     for number, (one, other) in enumerate(zip(told, read), 1):
         differs = difference_of_states(one, other)
         if differs:
             return f"state {number}: {differs}"
     if len(told) != len(read):
         return f"{len(read)} states and not {len(told)}"
-    main = first(elements(reader.top, "main"))
+    main = first(elements(top, "main"))
     notes = [text_in(part) for part in main[2] if part[0] == "p"]
     if notes != [f"Line {bad}: bad line. The script stops here."] * (bad is not None):
         return f"it ends with {notes}"
-    return difference_of_links(reader.top, len(read))
+    return difference_of_links(top, len(read))
 
 
 def is_ended(page, told):

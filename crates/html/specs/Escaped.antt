@@ -1,10 +1,15 @@
 -- What is written of texts, attributes and elements.
 use Rattle.std.specs.Prelude.{ℕ, ◌==◌, List, [], ◌∷◌, ◌++◌, codes, flat_map, if◌then◌else◌}
 
--- what is written of a byte of a text: the entity of <, >, &, " and ', and any other byte as it is
+-- the bytes of U+FFFD, which stands for a character that can't be shown
+abbrev pub replacement : List ℕ
+replacement = 239 ∷ 191 ∷ 189 ∷ []
+
+-- what is written of a byte of a text: the entity of <, >, &, " and ' and of a carriage return, U+FFFD for U+0000, and any other byte
+-- as it is
 abbrev pub escaped_byte : ℕ → List ℕ
 escaped_byte byte =
-    if byte == 60 then codes "&lt;" else if byte == 62 then codes "&gt;" else if byte == 38 then codes "&amp;" else if byte == 34 then codes "&quot;" else if byte == 39 then codes "&#39;" else byte ∷ []
+    if byte == 60 then codes "&lt;" else if byte == 62 then codes "&gt;" else if byte == 38 then codes "&amp;" else if byte == 34 then codes "&quot;" else if byte == 39 then codes "&#39;" else if byte == 13 then codes "&#13;" else if byte == 0 then replacement else byte ∷ []
 
 -- what is written of a text
 abbrev pub escaped : List ℕ → List ℕ

@@ -4,6 +4,7 @@
 mod elements;
 mod escaping;
 pub mod laws;
+mod writing;
 
 pub use elements::{write_attribute, write_element};
 pub use escaping::write_escaped;

@@ -1,3 +1,5 @@
 pub mod Known
+pub mod Named
 pub mod Places
+pub mod Said
 pub mod Written

@@ -1,5 +1,5 @@
 -- What a page says of nodes.
-use Rattle.std.specs.Prelude.{◌≡◌, ℕ, List, [], ◌++◌, codes, Option, Some, None, ⊤}
+use Rattle.std.specs.Prelude.{ℕ, List, [], ◌++◌, codes, Option, Some, None}
 use Rattle.std.specs.Fmt.{decimal}
 use Rattle.html.specs.Escaped.{element_text}
 use Rattle.model.specs.declared.FullNodeId.{FullNodeId}
@@ -16,8 +16,3 @@ anchor_text state id = codes "s" ++ decimal state ++ codes "-" ++ decimal id.tre
 -- an id, as 1:2, in small letters
 abbrev pub small_id : FullNodeId → List ℕ
 small_id id = codes "<small>" ++ decimal id.tree ++ codes ":" ++ decimal id.node.0 ++ codes "</small>"
-
--- nothing, or this text
-abbrev pub IsNoneOr : Option (List ℕ) → Option (List ℕ) → Type 0
-IsNoneOr None text = ⊤
-IsNoneOr (Some shown) text = text ≡ Some shown

@@ -1,6 +1,8 @@
 //! Writing the identification of a node.
 ghost use Rattle.std.specs.Prelude.{OnOk, option_copied};
 ghost use Rattle.std.specs.Io.KnownBytes.{Appends};
+ghost use Rattle.views.specs.Nodes.{data_at};
+ghost use Rattle.page.specs.Named.{role_bold, name_text, role_and_text};
 ghost use Rattle.page.specs.Written.{anchor_text, small_id, word_text};
 
 use crate::words::{caption, is_in_password};
@@ -11,7 +13,9 @@ use std::alloc::Global;
 use std::io::{self, Write};
 
 /// Writes the node's role, its label or else its value, and its id.
-pub(crate) fn write_name<O: Write>(alloc: Global, node: &NodeRef, out: &mut O) -> Result<(), Stop> {
+pub(crate) fn write_name<O: Write>(alloc: Global, node: &NodeRef, out: &mut O) -> Result<(), Stop>
+    ensures { OnOk result (Appends (O.contents out.old) (O.contents out.new) (name_text node.now)) }
+{
     write_role_and_text(alloc, node, out)?;
     out.write_all(b" ")?;
     write_id(node.id(), out)?;
@@ -35,7 +39,9 @@ pub(crate) fn write_linked_name<O: Write>(
 }
 
 /// Writes the node's role, and its label or else its value, if it has one.
-fn write_role_and_text<O: Write>(alloc: Global, node: &NodeRef, out: &mut O) -> Result<(), Stop> {
+fn write_role_and_text<O: Write>(alloc: Global, node: &NodeRef, out: &mut O) -> Result<(), Stop>
+    ensures { OnOk result (Appends (O.contents out.old) (O.contents out.new) (role_and_text node.now)) }
+{
     write_role(node, out)?;
     let text = caption(alloc, node, is_in_password(node))?;
     write_word("q", "l", text.as_deref(), out)?;
@@ -43,7 +49,9 @@ fn write_role_and_text<O: Write>(alloc: Global, node: &NodeRef, out: &mut O) -> 
 }
 
 /// Writes the node's role.
-pub(crate) fn write_role<O: Write>(node: &NodeRef, out: &mut O) -> io::Result<()> {
+pub(crate) fn write_role<O: Write>(node: &NodeRef, out: &mut O) -> io::Result<()>
+    ensures { OnOk result (Appends (O.contents out.old) (O.contents out.new) (role_bold (data_at node.now).role)) }
+{
     let role = node.role();
     write!(out, "<b>{role}</b>")
 }

@@ -1,4 +1,7 @@
 //! Writing a tree as an outline.
+ghost use Rattle.std.specs.Prelude.{OnOk};
+ghost use Rattle.std.specs.Io.KnownBytes.{Appends};
+ghost use Rattle.page.specs.Named.{outline_texts};
 
 use crate::marks::Mark;
 use crate::names::{write_anchor, write_id, write_role, write_word};
@@ -61,7 +64,9 @@ fn row_class(place: &Place) -> &'static str {
 }
 
 /// Writes a node's label and value, if it has them.
-fn write_texts<O: Write>(alloc: Global, place: &Place, out: &mut O) -> Result<(), Stop> {
+fn write_texts<O: Write>(alloc: Global, place: &Place, out: &mut O) -> Result<(), Stop>
+    ensures { OnOk result (Appends (O.contents out.old) (O.contents out.new) (outline_texts place.now.is_in_password place.now.node)) }
+{
     let label = shown_label(alloc, &place.node, place.is_in_password)?;
     write_word("q", "l", label.as_deref(), out)?;
     let value = shown_value(alloc, &place.node, place.is_in_password)?;

@@ -1,5 +1,7 @@
 //! Writing each event of an update as it is reported.
-ghost use Rattle.std.specs.Prelude.{⊤};
+ghost use Rattle.std.specs.Prelude.{OnOk, option_copied, ⊤};
+ghost use Rattle.std.specs.Io.KnownBytes.{Appends};
+ghost use Rattle.page.specs.Said.{TellsChange, change_text, text_or_none};
 
 use crate::marks::{Mark, Marks, Tally};
 use crate::names::{write_linked_name, write_name};
@@ -181,10 +183,24 @@ fn write_difference<O: Write>(
     old: Option<&str>,
     new: Option<&str>,
     out: &mut O,
-) -> io::Result<()> {
+) -> io::Result<()>
+    ensures { OnOk result (TellsChange what.now (option_copied old.entry) (option_copied new.entry) (O.contents out.old) (O.contents out.new)) }
+{
     if old == new {
         return Ok(());
     }
+    write_change(what, old, new, out)
+}
+
+/// Writes that a text was the one and is the other.
+fn write_change<O: Write>(
+    what: &str,
+    old: Option<&str>,
+    new: Option<&str>,
+    out: &mut O,
+) -> io::Result<()>
+    ensures { OnOk result (Appends (O.contents out.old) (O.contents out.new) (change_text what.now (option_copied old.entry) (option_copied new.entry))) }
+{
     write!(out, "; {what} ")?;
     write_text_or_none(old, out)?;
     out.write_all(" → ".as_bytes())?;
@@ -192,7 +208,9 @@ fn write_difference<O: Write>(
 }
 
 /// Writes a text in quotes, or that there isn't one.
-fn write_text_or_none<O: Write>(text: Option<&str>, out: &mut O) -> io::Result<()> {
+fn write_text_or_none<O: Write>(text: Option<&str>, out: &mut O) -> io::Result<()>
+    ensures { OnOk result (Appends (O.contents out.old) (O.contents out.new) (text_or_none (option_copied text.entry))) }
+{
     match text {
         Some(text) => write_element("q", "l", text, out),
         None => out.write_all(b"<i>none</i>"),

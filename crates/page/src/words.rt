@@ -1,11 +1,13 @@
 //! The texts and words that a page shows for a node. Of a password it shows bullets at most.
-ghost use Rattle.std.specs.Prelude.{◌≡◌, None, IfOk, IsTrue, option_map, string_bytes};
-ghost use Rattle.model.specs.Labels.{label_of};
-ghost use Rattle.model.specs.Values.{value_of};
-ghost use Rattle.views.specs.Nodes.{world_at, id_at};
+ghost use Rattle.std.specs.Prelude.{◌≡◌, None, IfOk, IsTrue, map, option_copied, option_map, string_bytes};
+ghost use Rattle.std.specs.List.{list_any};
+ghost use Rattle.views.specs.AllNodes.{descendants_left};
+ghost use Rattle.views.specs.LabelWalks.{labels_left};
+ghost use Rattle.views.specs.Nodes.{world_at, id_at, data_at};
 ghost use Rattle.page.specs.Known.{secrets, is_in_secret};
-ghost use Rattle.page.specs.Written.{IsNoneOr};
+ghost use Rattle.page.specs.Said.{is_labelled_from_secret, has_secret_in_runs, is_part_of_secret, is_secret_node, label_shown, value_shown, caption_shown, state_words};
 
+use accesskit_consumer::walks::{Descendants, LabelledBy};
 use accesskit_consumer::{FilterResult, NodeRef};
 use phrases::{expanded_word, selected_word, switched_word, where_it_is};
 use std::alloc::{AllocError, Global};
@@ -27,17 +29,50 @@ pub(crate) fn is_in_password(node: &NodeRef) -> bool
     node.filtered_parent(&password_inputs).is_some()
 }
 
+/// Whether one of these nodes stands in a password.
+fn has_part_of_password(labels: LabelledBy<'_>) -> bool
+    ensures { result ≡ list_any is_part_of_secret (labels_left labels.entry) }
+{
+    let mut nodes = labels;
+    while let Some(node) = nodes.next() {
+        if is_in_password(&node) {
+            return true;
+        }
+    }
+    false
+}
+
 /// Whether the node has no label of its own, and something below a password input labels it.
-fn is_labelled_from_password(node: &NodeRef) -> bool {
-    node.data().label().is_none() && node.labelled_by().any(|part| is_in_password(&part))
+fn is_labelled_from_password(node: &NodeRef) -> bool
+    ensures { result ≡ is_labelled_from_secret (world_at node.now) (id_at node.now) }
+{
+    if node.data().label().is_some() {
+        return false;
+    }
+    has_part_of_password(node.labelled_by())
+}
+
+/// Whether one of these nodes is a password input.
+fn has_password_input(below: Descendants<'_>) -> bool
+    ensures { result ≡ list_any is_secret_node (descendants_left below.entry) }
+{
+    let mut nodes = below;
+    while let Some(node) = nodes.next() {
+        if node.is_password_input() {
+            return true;
+        }
+    }
+    false
 }
 
 /// Whether the node's value is the text of runs, and a password input is among them.
-fn has_password_in_runs(node: &NodeRef) -> bool {
-    node.data().value().is_none()
-        && !node.is_password_input()
-        && node.supports_text_ranges()
-        && node.descendants().any(|below| below.is_password_input())
+fn has_password_in_runs(node: &NodeRef) -> bool
+    ensures { result ≡ has_secret_in_runs (world_at node.now) (id_at node.now) }
+{
+    if node.data().value().is_some() || node.is_password_input() {
+        return false;
+    }
+    node.supports_text_ranges() && has_password_input(node.descendants())
 }
 
 /// The node's label, unless a password may be a part of it.
@@ -46,7 +81,7 @@ pub(crate) fn shown_label(
     node: &NodeRef,
     is_in_password: bool,
 ) -> Result<Option<String>, AllocError>
-    ensures label { IfOk result (λ label. IsNoneOr (option_map string_bytes label) (label_of (world_at node.now) (id_at node.now))) }
+    ensures label { IfOk result (λ label. option_map string_bytes label ≡ label_shown is_in_password (world_at node.now) (id_at node.now)) }
     ensures secret { IsTrue is_in_password → IfOk result (λ label. label ≡ None) }
 {
     if is_in_password || is_labelled_from_password(node) {
@@ -61,7 +96,7 @@ pub(crate) fn shown_value(
     node: &NodeRef,
     is_in_password: bool,
 ) -> Result<Option<String>, AllocError>
-    ensures value { IfOk result (λ value. IsNoneOr (option_map string_bytes value) (value_of (world_at node.now) (id_at node.now))) }
+    ensures value { IfOk result (λ value. option_map string_bytes value ≡ value_shown is_in_password (world_at node.now) (id_at node.now)) }
     ensures secret { IsTrue is_in_password → IfOk result (λ value. value ≡ None) }
 {
     if is_in_password || has_password_in_runs(node) {
@@ -75,7 +110,9 @@ pub(crate) fn caption(
     alloc: Global,
     node: &NodeRef,
     is_in_password: bool,
-) -> Result<Option<String>, AllocError> {
+) -> Result<Option<String>, AllocError>
+    ensures { IfOk result (λ text. option_map string_bytes text ≡ caption_shown is_in_password (world_at node.now) (id_at node.now)) }
+{
     match shown_label(alloc, node, is_in_password)? {
         Some(label) => Ok(Some(label)),
         None => shown_value(alloc, node, is_in_password),
@@ -83,7 +120,9 @@ pub(crate) fn caption(
 }
 
 /// The words for the node's state.
-pub(crate) fn state_words(node: &NodeRef) -> [Option<&'static str>; 8] {
+pub(crate) fn state_words(node: &NodeRef) -> [Option<&'static str>; 8]
+    ensures { map option_copied result ≡ state_words (data_at node.now) }
+{
     let is_read_only = node.is_read_only_supported() && node.is_read_only();
     [
         node.toggled().map(|toggled| switched_word(toggled)),

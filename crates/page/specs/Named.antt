@@ -1,0 +1,25 @@
+-- What names a node on a page.
+use Rattle.std.specs.Prelude.{ℕ, List, ◌++◌, codes, Bool}
+use Rattle.schema.specs.declared.Role.{Role}
+use Rattle.schema.specs.RoleNames.{role_text}
+use Rattle.views.specs.declared.node.node_ref.NodeRef.{NodeRef}
+use Rattle.views.specs.Nodes.{world_at, id_at, data_at}
+use Rattle.page.specs.Known.{is_in_secret}
+use Rattle.page.specs.Said.{caption_shown, label_shown, value_shown}
+use Rattle.page.specs.Written.{small_id, word_text}
+
+abbrev pub role_bold : Role → List ℕ
+role_bold role = codes "<b>" ++ role_text role ++ codes "</b>"
+
+-- a node's role, and its label or else its value, where it has one that is shown
+abbrev pub role_and_text : NodeRef → List ℕ
+role_and_text n = role_bold (data_at n).role ++ word_text (codes "q") (codes "l") (caption_shown (is_in_secret (world_at n) (id_at n)) (world_at n) (id_at n))
+
+-- and its id
+abbrev pub name_text : NodeRef → List ℕ
+name_text n = role_and_text n ++ codes " " ++ small_id (id_at n)
+
+-- a node's label and value as an outline shows them, of a node that stands in a password, or doesn't
+abbrev pub outline_texts : Bool → NodeRef → List ℕ
+outline_texts is_in_password n =
+    word_text (codes "q") (codes "l") (label_shown is_in_password (world_at n) (id_at n)) ++ word_text (codes "q") (codes "v") (value_shown is_in_password (world_at n) (id_at n))
