@@ -1,12 +1,13 @@
-//! What takes memory, to be run with each growth refused in turn. With the argument `session` it runs six commands in one run
-//! with a mirror beside it; with `calls` it makes the calls that take memory, one after the other; with none it does both.
+//! What takes memory, to be run with each growth refused in turn. With the argument `run` or `mirrored` it runs six commands in
+//! one run with a mirror beside it, by either call of a session; with `calls` it makes the calls that take memory, one after
+//! the other; with none it does all three.
 #![tactic(auto)]
 
 mod calls;
-mod mirrored_run;
 mod planning;
 mod planting;
 mod reading;
+mod runs;
 mod setting;
 
 use anyhow::anyhow;
@@ -15,9 +16,10 @@ use std::env::{Env, FillError};
 /// What is run.
 #[derive(Clone, Copy)]
 enum Wanted {
-    Session,
+    Run,
+    Mirrored,
     Calls,
-    Both,
+    All,
     Unknown,
 }
 
@@ -25,9 +27,10 @@ enum Wanted {
 fn asked_for(rt: &impl Env) -> Wanted {
     let mut word = [0u8; 16];
     match rt.arg(1, &mut word) {
-        Ok(7) if word.starts_with(b"session") => Wanted::Session,
+        Ok(3) if word.starts_with(b"run") => Wanted::Run,
+        Ok(8) if word.starts_with(b"mirrored") => Wanted::Mirrored,
         Ok(5) if word.starts_with(b"calls") => Wanted::Calls,
-        Err(FillError::NotPresent) => Wanted::Both,
+        Err(FillError::NotPresent) => Wanted::All,
         _ => Wanted::Unknown,
     }
 }
@@ -35,12 +38,14 @@ fn asked_for(rt: &impl Env) -> Wanted {
 fn main(rt: HostRuntime) -> anyhow::Result<()> {
     let alloc = rt.alloc();
     match asked_for(&rt) {
-        Wanted::Session => mirrored_run::run(&rt, alloc),
+        Wanted::Run => runs::run(&rt, alloc, true),
+        Wanted::Mirrored => runs::run(&rt, alloc, false),
         Wanted::Calls => calls::run(&rt, alloc),
-        Wanted::Both => {
-            mirrored_run::run(&rt, alloc)?;
+        Wanted::All => {
+            runs::run(&rt, alloc, true)?;
+            runs::run(&rt, alloc, false)?;
             calls::run(&rt, alloc)
         }
-        Wanted::Unknown => Err(anyhow!("`session`, `calls`, or no argument")),
+        Wanted::Unknown => Err(anyhow!("`run`, `mirrored`, `calls`, or no argument")),
     }
 }
