@@ -1,11 +1,7 @@
-//! Tests of sessions: their replies, and their runs with a mirror beside them.
+//! Tests of sessions: their replies, and runs with a mirror beside them.
 #![tactic(auto)]
 
 #[cfg(test)]
 mod mirrored;
-#[cfg(test)]
-mod replayed;
-#[cfg(test)]
-mod replies;
 #[cfg(test)]
 mod sent;

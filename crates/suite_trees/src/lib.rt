@@ -1,4 +1,4 @@
-//! Tests of updates: their plans, their look-ups, and what handlers and mirrors are told of them.
+//! Tests of trees: walks from both ends, look-ups, and what handlers and mirrors are told of updates.
 #![tactic(auto)]
 
 #[cfg(test)]
@@ -8,4 +8,6 @@ mod counted;
 #[cfg(test)]
 mod mirrors;
 #[cfg(test)]
-mod planning;
+mod mixtures;
+#[cfg(test)]
+mod walked;
