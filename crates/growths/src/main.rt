@@ -1,14 +1,14 @@
 //! Calls that allocate, and a session with a mirror, which the gate runs with each allocation refused in turn.
 //!
-//! With the argument `session` it runs six commands in one run with a mirror beside it; with `calls` it makes the calls
-//! that allocate, one after another; with none it does both.
+//! With the argument `run` or `mirrored` it runs six commands in one run with a mirror beside it, by either call of a
+//! session; with `calls` it makes the calls that allocate, one after another; with none it does all three.
 #![tactic(auto)]
 
 mod calls;
-mod mirrored_run;
 mod planning;
 mod planting;
 mod reading;
+mod runs;
 mod setting;
 
 use anyhow::anyhow;
@@ -17,9 +17,10 @@ use std::env::{Env, FillError};
 /// What to run.
 #[derive(Clone, Copy)]
 enum Wanted {
-    Session,
+    Run,
+    Mirrored,
     Calls,
-    Both,
+    All,
     Unknown,
 }
 
@@ -27,9 +28,10 @@ enum Wanted {
 fn asked_for(rt: &impl Env) -> Wanted {
     let mut word = [0u8; 16];
     match rt.arg(1, &mut word) {
-        Ok(7) if word.starts_with(b"session") => Wanted::Session,
+        Ok(3) if word.starts_with(b"run") => Wanted::Run,
+        Ok(8) if word.starts_with(b"mirrored") => Wanted::Mirrored,
         Ok(5) if word.starts_with(b"calls") => Wanted::Calls,
-        Err(FillError::NotPresent) => Wanted::Both,
+        Err(FillError::NotPresent) => Wanted::All,
         _ => Wanted::Unknown,
     }
 }
@@ -37,12 +39,14 @@ fn asked_for(rt: &impl Env) -> Wanted {
 fn main(rt: HostRuntime) -> anyhow::Result<()> {
     let alloc = rt.alloc();
     match asked_for(&rt) {
-        Wanted::Session => mirrored_run::run(&rt, alloc),
+        Wanted::Run => runs::run(&rt, alloc, true),
+        Wanted::Mirrored => runs::run(&rt, alloc, false),
         Wanted::Calls => calls::run(&rt, alloc),
-        Wanted::Both => {
-            mirrored_run::run(&rt, alloc)?;
+        Wanted::All => {
+            runs::run(&rt, alloc, true)?;
+            runs::run(&rt, alloc, false)?;
             calls::run(&rt, alloc)
         }
-        Wanted::Unknown => Err(anyhow!("`session`, `calls`, or no argument")),
+        Wanted::Unknown => Err(anyhow!("`run`, `mirrored`, `calls`, or no argument")),
     }
 }

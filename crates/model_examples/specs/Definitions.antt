@@ -6,7 +6,9 @@ use Rattle.model.specs.World.{World, data_of}
 use Rattle.model.specs.declared.FullNodeId.{FullNodeId}
 use Rattle.model.specs.declared.filters.FilterResult.TheVariants.{ExcludeSubtree}
 use Rattle.model.specs.Labels.{label_filter}
+use Rattle.model.specs.Examples.{at}
 use Rattle.model.specs.FlatText.{are_alike, metrics_of}
+use Rattle.model.specs.FullIds.{full_number}
 use Rattle.model.specs.TextRuns.{is_enough}
 use Rattle.model.specs.Upward.{is_root}
 
@@ -36,3 +38,7 @@ pub record PasswordsAreMeasuredAlike : Type 0 where
 -- a node that isn't there is cut off from labels
 abbrev pub AbsentNodeIsCutOff : Type 0
 AbsentNodeIsCutOff = (w : World) (id : FullNodeId) → data_of w id ≡ None → label_filter w id ≡ ExcludeSubtree
+
+-- a node's number is above its tree's index
+abbrev pub NodeIsAboveItsTree : Type 0
+NodeIsAboveItsTree = full_number (at 1 2) ≡ 36893488147419103233

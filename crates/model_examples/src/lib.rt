@@ -4,8 +4,8 @@
 
 ghost use Rattle.model_examples.specs.Queries.{TakeMemory, OfWideText, OfTwoLines};
 ghost use Rattle.model_examples.specs.Places.{OfMovedRun, OfWidths, OfLineEnds, OfStarts};
-ghost use Rattle.model_examples.specs.Abilities.{OfButtons, FocusedIsFocusable};
-ghost use Rattle.model_examples.specs.Definitions.{RootIsOfTheRootTree, CountsAreEnough, ListsAreAlike, PasswordsAreMeasuredAlike, AbsentNodeIsCutOff};
+ghost use Rattle.model_examples.specs.Abilities.{OfButtons, OfControls, FocusedIsFocusable};
+ghost use Rattle.model_examples.specs.Definitions.{RootIsOfTheRootTree, CountsAreEnough, ListsAreAlike, PasswordsAreMeasuredAlike, AbsentNodeIsCutOff, NodeIsAboveItsTree};
 
 /// Queries about lists and texts allocate, those about one node don't.
 pub fn questions_take_memory()
@@ -67,6 +67,11 @@ pub fn buttons_are_more_than_clicked()
     ensures { OfButtons }
 {}
 
+/// A control can be toggled, expanded or selected if the node says in which state it is.
+pub fn controls_go_by_what_is_set()
+    ensures { OfControls }
+{}
+
 /// The focused node is focusable.
 pub fn focused_is_focusable()
     ensures { FocusedIsFocusable }
@@ -75,4 +80,9 @@ pub fn focused_is_focusable()
 /// A node that isn't in the state labels nothing.
 pub fn absent_node_is_cut_off()
     ensures { AbsentNodeIsCutOff }
+{}
+
+/// The number of an id is its node's, above its tree's index.
+pub fn ids_have_numbers()
+    ensures { NodeIsAboveItsTree }
 {}

@@ -3,7 +3,7 @@
 use crate::fields::{Has, node_of};
 use crate::ids::{id, tree_id};
 use crate::recorder::Recorder;
-use schema::{Node, NodeBuilder, NodeId, Role, TreeInfo, TreeUpdate};
+use schema::{Node, NodeId, Role, TreeInfo, TreeUpdate};
 use std::alloc::{AllocError, Global};
 use std::test::Fail;
 use trees::Tree;
@@ -71,13 +71,9 @@ pub fn first_update(tree: u128, nodes: Vec<(NodeId, Node)>) -> TreeUpdate {
 }
 
 /// The root tree of these nodes, whose root is 0.
-pub fn grown(alloc: Global, nodes: Vec<(NodeId, Node)>) -> Result<Tree, Fail> {
-    Ok(Tree::new(alloc, first_update(0, nodes), false)?)
-}
-
-/// The root tree of these nodes, whose root is 0.
 pub fn planted(alloc: Global, sketches: &[Sketch]) -> Result<Tree, Fail> {
-    grown(alloc, nodes_of(alloc, sketches)?)
+    let update = first_update(0, nodes_of(alloc, sketches)?);
+    Ok(Tree::new(alloc, update, false)?)
 }
 
 /// The tree that the first update brings, after the others, each of which is accepted.
@@ -89,18 +85,6 @@ pub fn grown_by(alloc: Global, sent: &[Sent], is_host_focused: bool) -> Result<T
         tree.update_and_process_changes(other.update(alloc)?, &mut recorder)?;
     }
     Ok(tree)
-}
-
-/// A window with these nodes as its children, whose ids count from 1.
-pub fn row_of(alloc: Global, children: Vec<Node>) -> Result<Tree, Fail> {
-    let mut window = NodeBuilder::new(alloc, Role::Window);
-    let mut nodes = Vec::new(alloc);
-    for (id, child) in (1u64..).zip(children) {
-        window = window.child(NodeId(id));
-        nodes.push((NodeId(id), child))?;
-    }
-    nodes.push((NodeId(0), window.build()?))?;
-    grown(alloc, nodes)
 }
 
 /// The root of the root tree.

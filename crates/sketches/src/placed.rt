@@ -34,3 +34,12 @@ pub fn has_places(mirror: &Mirror, places: &[Placed]) -> bool {
         None => false,
     }
 }
+
+/// Whether the mirror has this focus, or that there is none.
+pub fn has_focus(mirror: &Mirror, focus: Option<Id>) -> bool {
+    match mirror.focus() {
+        Some(Some(id)) => focus == Some(pair(id)),
+        Some(None) => focus.is_none(),
+        None => false,
+    }
+}

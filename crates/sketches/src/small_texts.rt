@@ -220,17 +220,6 @@ pub const SECRET_LINES: Text = &[
     Sketch(2, Role::TextRun, &[Value("b"), Lengths(&[1]), Words(&[])]),
 ];
 
-/// Another one of its shape.
-pub const OTHER_SECRET_LINES: Text = &[
-    PASSWORD,
-    Sketch(
-        1,
-        Role::TextRun,
-        &[Value("\u{e4}\n"), Lengths(&[2, 1]), Words(&[])],
-    ),
-    Sketch(2, Role::TextRun, &[Value("c"), Lengths(&[1]), Words(&[])]),
-];
-
 /// A password that says where words start.
 pub const SECRET_WORDS: Text = &[
     PASSWORD,
@@ -240,17 +229,6 @@ pub const SECRET_WORDS: Text = &[
         &[Value("p\u{e4}"), Lengths(&[1, 2]), Words(&[0, 1])],
     ),
     SS,
-];
-
-/// Another one of its shape.
-pub const OTHER_SECRET_WORDS: Text = &[
-    PASSWORD,
-    Sketch(
-        1,
-        Role::TextRun,
-        &[Value("xy"), Lengths(&[1, 1]), Words(&[0, 1])],
-    ),
-    ZW,
 ];
 
 /// A password of one character again and again.
@@ -285,24 +263,5 @@ pub const SIZES: Text = &[
         3,
         Role::TextRun,
         &[Value("ef"), Lengths(&[1, 1]), FontSize(12)],
-    ),
-];
-
-/// A run with two positions and widths for three characters, and a selection of the first.
-pub const UNMEASURED: Text = &[
-    Sketch(
-        0,
-        Role::TextInput,
-        &[Children(&[1]), Selection((1, 0), (1, 1))],
-    ),
-    Sketch(
-        1,
-        Role::TextRun,
-        &[
-            Value("abc"),
-            Lengths(&[1, 1, 1]),
-            Positions(&[0, 10]),
-            Widths(&[0, 10]),
-        ],
     ),
 ];

@@ -1,6 +1,6 @@
 //! Updates of small interfaces.
 
-use crate::Has::{Children, Graft};
+use crate::Has::{Children, Graft, Label};
 use crate::{BROUGHT, CHANGED, Sent, Sketch};
 use schema::Role::GenericContainer;
 
@@ -40,6 +40,19 @@ pub const WINDOW: Sent = Sent {
 
 /// The tree that is grafted: a document with a button.
 pub const DOCUMENT: Sent = Sent { tree: 1, ..PLAIN };
+
+/// The document gets a label,
+pub const LABELLED: Sent = Sent {
+    tree: 1,
+    nodes: &[Sketch(0, GenericContainer, &[Children(&[1]), Label("label")])],
+    ..CHANGED
+};
+
+/// and again with tree info.
+pub const LABELLED_AGAIN: Sent = Sent {
+    root: Some(0),
+    ..LABELLED
+};
 
 /// The window's graft names another tree.
 pub const GRAFT_RENAMED: Sent = Sent {

@@ -4,8 +4,4 @@
 #[cfg(test)]
 mod mirrored;
 #[cfg(test)]
-mod replayed;
-#[cfg(test)]
-mod replies;
-#[cfg(test)]
 mod sent;

@@ -10,11 +10,10 @@ use schema::{NodeId, TreeId};
 use session::{At, Command, Query, Reply, Session, Side};
 use sketches::Sent;
 use sketches::ids::id;
-use sketches::placed::{Placed, has_places};
-use sketches::recorder::{Id, Recorder, Told, pair};
+use sketches::placed::{Placed, has_focus, has_places};
+use sketches::recorder::{Id, Recorder, Told};
 use std::alloc::{AllocError, Global};
 use std::collections::BTreeMap;
-use std::process::Abort;
 use std::test::Fail;
 
 /// The records of a mirror.
@@ -53,7 +52,7 @@ fn are_mirrored(records: &Records, state: StateRef) -> bool {
 }
 
 /// Whether a mirror has the nodes of a state, with their places and data, no others, and its focus.
-pub fn mirrors(mirror: &Mirror, state: StateRef) -> bool {
+fn mirrors(mirror: &Mirror, state: StateRef) -> bool {
     let focus = match state.focus() {
         Some(node) => Some(node.id()),
         None => None,
@@ -133,89 +132,68 @@ static FOLLOWED: [Followed; 5] = [
     },
 ];
 
-/// Runs one command with a mirror beside the session, and answers its reply, if the run didn't stop.
-pub fn run_one(
-    alloc: Global,
-    session: &mut Session,
-    mirror: &mut Mirror,
-    command: Command,
-) -> Result<Reply, Fail> {
-    let mut commands = Vec::new(alloc);
-    commands.push(command)?;
-    let Ok(mut replies) = session.run_mirrored(commands, mirror) else {
-        return Err("the run stopped".into());
-    };
-    let reply = replies.pop().ok_or("no reply")?;
-    if !replies.is_empty() {
-        return Err("a reply too many".into());
-    }
-    Ok(reply)
-}
-
-/// Whether a mirror has what the session's tree has.
-pub fn is_mirror_of(mirror: &Mirror, session: &Session) -> bool {
-    mirrors(mirror, session.tree().state().view())
-}
-
 /// A session of a first update, with a mirror.
 #[derive(Drop)]
-pub struct Beside {
-    pub session: Session,
-    pub mirror: Mirror,
+struct Beside {
+    session: Session,
+    mirror: Mirror,
 }
 
 /// A session of this first update, with a mirror beside it.
-pub fn begin_beside(alloc: Global, first: Sent, is_host_focused: bool) -> Result<Beside, Fail> {
+fn begun(alloc: Global, first: Sent, is_host_focused: bool) -> Result<Beside, Fail> {
     let session = session(alloc, first, is_host_focused)?;
     let mirror = Mirror::new(alloc, session.tree())?;
     Ok(Beside { session, mirror })
 }
 
-/// Sends an update, and says whether it is accepted and the mirror has what the session's tree has.
-fn is_mirrored_update(alloc: Global, both: &mut Beside, sent: Sent) -> Result<bool, Fail> {
-    let update = Command::Update(sent.update(alloc)?);
-    let reply = run_one(alloc, &mut both.session, &mut both.mirror, update)?;
-    Ok(reply == Reply::Accepted && is_mirror_of(&both.mirror, &both.session))
-}
-
-/// Whether the mirror has this focus, if it has any.
-fn has_focus(mirror: &Mirror, focus: Option<Id>) -> bool {
-    match mirror.focus() {
-        Some(Some(id)) => focus == Some(pair(id)),
-        Some(None) => focus.is_none(),
-        None => false,
+/// Runs one command with the mirror beside the session, and says whether its only reply is that it is accepted.
+fn is_accepted(alloc: Global, both: &mut Beside, command: Command) -> Result<bool, Fail> {
+    let commands = vec![in alloc; command]?;
+    match both.session.run_mirrored(commands, &mut both.mirror) {
+        Ok(replies) => Ok(replies.as_slice() == [Reply::Accepted].as_slice()),
+        Err(_) => Err("the run stopped".into()),
     }
 }
 
-/// Sends the updates one at a time to a session with a mirror beside it.
-fn assert_followed(
-    rt: &impl Abort,
-    alloc: Global,
-    followed: &Followed,
-    is_host_focused: bool,
-) -> Result<(), Fail> {
-    let name = followed.name;
-    let first = followed.sent.first().ok_or("no update")?;
-    let mut both = begin_beside(alloc, *first, is_host_focused)?;
-    assert!(rt; is_mirror_of(&both.mirror, &both.session), "{name}");
-    for sent in followed.sent.iter().skip(1) {
-        assert!(rt; is_mirrored_update(alloc, &mut both, *sent)?, "{name}");
+/// Whether the mirror has what the session's tree has.
+fn is_right(both: &Beside) -> bool {
+    mirrors(&both.mirror, both.session.tree().state().view())
+}
+
+/// Sends an update, and says whether it is accepted and the mirror has what the session's tree has then.
+fn is_followed(alloc: Global, both: &mut Beside, sent: Sent) -> Result<bool, Fail> {
+    let command = Command::Update(sent.update(alloc)?);
+    Ok(is_accepted(alloc, both, command)? && is_right(both))
+}
+
+/// Sends the updates one at a time to a session with a mirror beside it, which follows each: the mirror.
+fn followed(alloc: Global, sent: &[Sent], is_host_focused: bool) -> Result<Mirror, Fail> {
+    let (first, others) = sent.split_first().ok_or("no update")?;
+    let mut both = begun(alloc, *first, is_host_focused)?;
+    for other in others {
+        if !is_followed(alloc, &mut both, *other)? {
+            return Err("another mirror".into());
+        }
     }
-    let focus = if is_host_focused {
-        Some(followed.focus)
-    } else {
-        None
-    };
-    assert!(rt; has_focus(&both.mirror, focus), "{name}");
-    assert!(rt; has_places(&both.mirror, followed.places), "{name}");
-    Ok(())
+    Ok(both.mirror)
 }
 
 #[test]
 fn mirror_follows_each_update(rt: HostRuntime) -> Result<(), Fail> {
-    for followed in &FOLLOWED {
-        assert_followed(&rt, rt.alloc(), followed, false)?;
-        assert_followed(&rt, rt.alloc(), followed, true)?;
+    for Followed {
+        name,
+        sent,
+        places,
+        focus,
+    } in FOLLOWED {
+        for is_host_focused in [false, true] {
+            let mirror = followed(rt.alloc(), sent, is_host_focused)?;
+            assert!(rt; has_places(&mirror, places), "{name}");
+            assert!(rt;
+                has_focus(&mirror, is_host_focused.then_some(focus)),
+                "{name}"
+            );
+        }
     }
     Ok(())
 }
@@ -254,11 +232,6 @@ const WINDOW_TOLD: [Told; 4] = [
     Told::FocusMoved(None, Some((0, 0))),
 ];
 
-/// Whether these are the replies of the window.
-fn are_window_replies(alloc: Global, replies: &[Reply]) -> Result<bool, AllocError> {
-    Ok(replies == window_replies(alloc)?.as_slice())
-}
-
 /// What the run of a window replies, and what it tells.
 fn window_run(alloc: Global) -> Result<(Vec<Reply>, Recorder), Fail> {
     let mut session = session(alloc, PLAIN, false)?;
@@ -272,26 +245,7 @@ fn window_run(alloc: Global) -> Result<(Vec<Reply>, Recorder), Fail> {
 #[test]
 fn commands_are_replied_to_in_order(rt: HostRuntime) -> Result<(), Fail> {
     let (replies, recorder) = window_run(rt.alloc())?;
-    assert!(rt; are_window_replies(rt.alloc(), &replies)?);
+    assert!(rt; replies.as_slice() == window_replies(rt.alloc())?.as_slice());
     assert!(rt; recorder.told.as_slice() == WINDOW_TOLD.as_slice());
-    Ok(())
-}
-
-/// What the same run replies with a mirror beside it, and the mirror.
-fn mirrored_run(alloc: Global) -> Result<(Vec<Reply>, Mirror), Fail> {
-    let mut both = begin_beside(alloc, PLAIN, false)?;
-    let commands = window_commands(alloc)?;
-    match both.session.run_mirrored(commands, &mut both.mirror) {
-        Ok(replies) => Ok((replies, both.mirror)),
-        Err(_) => Err("the run stopped".into()),
-    }
-}
-
-#[test]
-fn mirror_follows_a_run(rt: HostRuntime) -> Result<(), Fail> {
-    let (replies, mirror) = mirrored_run(rt.alloc())?;
-    assert!(rt; are_window_replies(rt.alloc(), &replies)?);
-    assert!(rt; has_places(&mirror, &[((0, 0), None)]));
-    assert!(rt; has_focus(&mirror, Some((0, 0))));
     Ok(())
 }

@@ -2,7 +2,7 @@
 
 use schema::Role;
 use session::Session;
-use sketches::Has::{Bounds, Children, Graft, Label, Lengths, Value};
+use sketches::Has::{Children, Graft, Label};
 use sketches::{BROUGHT, CHANGED, Sent, Sketch};
 use std::alloc::Global;
 use std::test::Fail;
@@ -27,18 +27,9 @@ pub const DROPPED: Sent = Sent {
     ..CHANGED
 };
 
-/// the button gets the focus,
+/// or the button gets the focus.
 pub const FOCUSED: Sent = Sent {
     focus: 1,
-    ..CHANGED
-};
-
-/// or there is a field with a text in its place.
-pub const FIELD: Sent = Sent {
-    nodes: &[
-        Sketch(0, Role::TextInput, &[Children(&[1])]),
-        Sketch(1, Role::TextRun, &[Value("ab"), Lengths(&[1, 1])]),
-    ],
     ..CHANGED
 };
 
@@ -48,7 +39,7 @@ pub const SHELVES: Sent = Sent {
         Sketch(0, Role::Window, &[Children(&[1, 2])]),
         Sketch(1, Role::ListItem, &[Children(&[3])]),
         Sketch(2, Role::ListItem, &[]),
-        Sketch(3, Role::Button, &[Bounds(0, 0, 9, 9)]),
+        Sketch(3, Role::Button, &[]),
     ],
     ..BROUGHT
 };
@@ -89,7 +80,7 @@ pub const LABELLED: Sent = Sent {
 };
 
 /// A document with a graft of the tree 2 in its place.
-pub const NESTING: Sent = Sent {
+const NESTING: Sent = Sent {
     tree: 1,
     nodes: &[
         Sketch(0, Role::Document, &[Children(&[1])]),
@@ -99,7 +90,7 @@ pub const NESTING: Sent = Sent {
 };
 
 /// The window has that graft itself, in place of the other one.
-pub const HIGHER: Sent = Sent {
+const HIGHER: Sent = Sent {
     nodes: &[
         Sketch(0, Role::Window, &[Children(&[2])]),
         Sketch(2, Role::GenericContainer, &[Graft(2)]),

@@ -34,8 +34,6 @@ pub enum Place {
 pub enum Span {
     /// From one position, with its end set to another one.
     Between(Place, Place),
-    /// From the second position, with its start set to the first one.
-    UpTo(Place, Place),
     /// Between the first two positions, with its start set to the third one.
     WithStart(Place, Place, Place),
     /// Between the first two positions, with its end set to the third one.
@@ -101,13 +99,6 @@ fn between<'a>(root: &NodeRef<'a>, from: Place, to: Place) -> Result<TextRange<'
     Ok(range)
 }
 
-/// The range from the second position, with its start set to the first one.
-fn up_to<'a>(root: &NodeRef<'a>, from: Place, to: Place) -> Result<TextRange<'a>, Fail> {
-    let mut range = placed(root, to)?.to_degenerate_range();
-    range.set_start(placed(root, from)?);
-    Ok(range)
-}
-
 /// The range between the first two positions, with its start set to the third one,
 fn with_start<'a>(
     root: &NodeRef<'a>,
@@ -148,7 +139,6 @@ fn known<'a>(root: &NodeRef<'a>, span: Span) -> Result<Option<TextRange<'a>>, Fa
 pub fn ranged<'a>(root: &NodeRef<'a>, span: Span) -> Result<Option<TextRange<'a>>, Fail> {
     let range = match span {
         Span::Between(from, to) => between(root, from, to),
-        Span::UpTo(from, to) => up_to(root, from, to),
         Span::WithStart(from, to, start) => with_start(root, from, to, start),
         Span::WithEnd(from, to, end) => with_end(root, from, to, end),
         Span::Line(_) | Span::Selection | Span::Document => return known(root, span),
@@ -162,29 +152,4 @@ pub fn range<'a>(root: &NodeRef<'a>, span: Span) -> Result<TextRange<'a>, Fail> 
         Some(range) => Ok(range),
         None => Err("no range".into()),
     }
-}
-
-/// The ends of the range, if it is there.
-pub fn ends(root: &NodeRef, span: Span) -> Result<Option<(Spot, Spot)>, Fail> {
-    match ranged(root, span)? {
-        Some(range) => Ok(Some(both_ends(&range))),
-        None => Ok(None),
-    }
-}
-
-/// Where the moves by format lead: forwards to a start and to an end, and back.
-pub fn moved_by_format(position: &TextPosition) -> (Spot, Spot, Spot) {
-    (
-        named(position.forward_to_format_start()),
-        named(position.forward_to_format_end()),
-        named(position.backward_to_format_start()),
-    )
-}
-
-/// Whether the runs make no text, and nothing is selected.
-pub fn is_spoilt(root: &NodeRef) -> bool {
-    !root.supports_text_ranges()
-        && root.text_selection().is_none()
-        && root.text_selection_anchor().is_none()
-        && root.text_selection_focus().is_none()
 }

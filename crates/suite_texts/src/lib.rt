@@ -4,19 +4,9 @@
 #[cfg(test)]
 mod asking;
 #[cfg(test)]
-mod beside;
+mod pairs;
 #[cfg(test)]
-mod betweens;
-#[cfg(test)]
-mod flat;
-#[cfg(test)]
-mod flat_texts;
-#[cfg(test)]
-mod looks;
-#[cfg(test)]
-mod numbered;
-#[cfg(test)]
-mod parts;
+mod spoilt;
 #[cfg(test)]
 mod tables;
 #[cfg(test)]

@@ -2,7 +2,7 @@
 
 ghost use Rattle.std.specs.Prelude.{⊤};
 
-use sketches::ids::{id, tree_id};
+use sketches::ids::id;
 use sketches::recorder::Told::{Added, FocusMoved, Removed, Updated};
 use sketches::recorder::{Id, Told, id_of, pair};
 use sketches::updates::{CHILD_MOVED, FAMILY, INNER_DOCUMENT, INNER_MOVED, OUTER_DOCUMENT, WINDOW};
@@ -16,20 +16,11 @@ use views::{NodeRef, StateRef};
 #[derive(Clone, Copy, PartialEq, Eq)]
 struct Kin(Option<Id>, Option<Id>);
 
-/// Where a state has the nodes that are asked for and are there, and the root of tree 2.
-#[derive(Clone, Copy, PartialEq, Eq)]
-struct Shown {
-    nodes: [Option<Kin>; 4],
-    inner_root: Option<Id>,
-}
+/// Where a state has the nodes that are asked for and are there.
+type Shown = [Option<Kin>; 4];
 
 /// What is told, and what the old and the new state show then.
-#[derive(Clone, Copy, PartialEq, Eq)]
-struct Asked {
-    told: Told,
-    old: Option<Shown>,
-    new: Option<Shown>,
-}
+type Asked = (Told, Option<Shown>, Option<Shown>);
 
 /// Asks the states of the views that it is told with.
 #[derive(Drop)]
@@ -41,32 +32,23 @@ struct Asker {
 
 impl Asker {
     fn ask(&mut self, told: Told, old: Option<&NodeRef>, new: Option<&NodeRef>) {
-        let old = self.shown(old);
-        let new = self.shown(new);
-        if self.asked.push(Asked { told, old, new }).is_err() {
+        let asked = (told, shown(old, self.ids), shown(new, self.ids));
+        if self.asked.push(asked).is_err() {
             self.has_lost = true;
         }
-    }
-
-    fn shown(&self, node: Option<&NodeRef>) -> Option<Shown> {
-        let state = node?.tree_state();
-        Some(Shown {
-            nodes: kin_of_all(state, self.ids),
-            inner_root: inner_root(state),
-        })
-    }
-}
-
-fn first_child(node: &NodeRef) -> Option<Id> {
-    match node.child_ids().next() {
-        Some(child) => Some(pair(child)),
-        None => None,
     }
 }
 
 fn parent(node: &NodeRef) -> Option<Id> {
     match node.parent_id() {
         Some(parent) => Some(pair(parent)),
+        None => None,
+    }
+}
+
+fn first_child(node: &NodeRef) -> Option<Id> {
+    match node.child_ids().next() {
+        Some(child) => Some(pair(child)),
         None => None,
     }
 }
@@ -78,20 +60,14 @@ fn kin_in(state: StateRef, (tree, node): Id) -> Option<Kin> {
     }
 }
 
-fn kin_of_all(state: StateRef, [first, second, third, last]: [Id; 4]) -> [Option<Kin>; 4] {
-    [
+fn shown(beside: Option<&NodeRef>, [first, second, third, last]: [Id; 4]) -> Option<Shown> {
+    let state = beside?.tree_state();
+    Some([
         kin_in(state, first),
         kin_in(state, second),
         kin_in(state, third),
         kin_in(state, last),
-    ]
-}
-
-fn inner_root(state: StateRef) -> Option<Id> {
-    match state.subtree_root(tree_id(2)) {
-        Some(root) => Some(pair(root)),
-        None => None,
-    }
+    ])
 }
 
 impl TreeChangeHandler for Asker {
@@ -118,13 +94,15 @@ impl TreeChangeHandler for Asker {
     }
 }
 
-/// An update after others, what is asked of both states, and what is told.
+/// An update after others, what is asked of both states, what is told, and what the old state and the new one show then.
 #[derive(Clone, Copy)]
 struct Case {
     before: &'static [Sent],
     sent: Sent,
     ids: [Id; 4],
     told: &'static [Told],
+    old: Shown,
+    new: Shown,
 }
 
 /// A child moves between its parents. A graft moves out of a tree that goes: the old views show that tree to the end, and
@@ -135,6 +113,18 @@ static CASES: [Case; 2] = [
         sent: CHILD_MOVED,
         ids: [(0, 0), (0, 1), (0, 2), (0, 3)],
         told: &[Updated(0, 1), Updated(0, 2), Updated(0, 3)],
+        old: [
+            Some(Kin(None, Some((0, 1)))),
+            Some(Kin(Some((0, 0)), Some((0, 3)))),
+            Some(Kin(Some((0, 0)), None)),
+            Some(Kin(Some((0, 1)), None)),
+        ],
+        new: [
+            Some(Kin(None, Some((0, 1)))),
+            Some(Kin(Some((0, 0)), None)),
+            Some(Kin(Some((0, 0)), Some((0, 3)))),
+            Some(Kin(Some((0, 2)), None)),
+        ],
     },
     Case {
         before: &[WINDOW, OUTER_DOCUMENT, INNER_DOCUMENT],
@@ -148,57 +138,18 @@ static CASES: [Case; 2] = [
             Removed(1, 0),
             Removed(1, 1),
         ],
-    },
-];
-
-/// What the state before an update and the one after it show.
-#[derive(Clone, Copy)]
-struct Both {
-    old: Shown,
-    new: Shown,
-}
-
-/// What both states show in each case.
-static SHOWN: [Both; 2] = [
-    Both {
-        old: Shown {
-            nodes: [
-                Some(Kin(None, Some((0, 1)))),
-                Some(Kin(Some((0, 0)), Some((0, 3)))),
-                Some(Kin(Some((0, 0)), None)),
-                Some(Kin(Some((0, 1)), None)),
-            ],
-            inner_root: None,
-        },
-        new: Shown {
-            nodes: [
-                Some(Kin(None, Some((0, 1)))),
-                Some(Kin(Some((0, 0)), None)),
-                Some(Kin(Some((0, 0)), Some((0, 3)))),
-                Some(Kin(Some((0, 2)), None)),
-            ],
-            inner_root: None,
-        },
-    },
-    Both {
-        old: Shown {
-            nodes: [
-                Some(Kin(Some((0, 0)), Some((1, 0)))),
-                None,
-                Some(Kin(Some((0, 1)), Some((1, 1)))),
-                Some(Kin(Some((1, 1)), Some((2, 1)))),
-            ],
-            inner_root: Some((2, 0)),
-        },
-        new: Shown {
-            nodes: [
-                None,
-                Some(Kin(Some((0, 0)), Some((2, 0)))),
-                None,
-                Some(Kin(Some((0, 2)), Some((2, 1)))),
-            ],
-            inner_root: Some((2, 0)),
-        },
+        old: [
+            Some(Kin(Some((0, 0)), Some((1, 0)))),
+            None,
+            Some(Kin(Some((0, 1)), Some((1, 1)))),
+            Some(Kin(Some((1, 1)), Some((2, 1)))),
+        ],
+        new: [
+            None,
+            Some(Kin(Some((0, 0)), Some((2, 0)))),
+            None,
+            Some(Kin(Some((0, 2)), Some((2, 1)))),
+        ],
     },
 ];
 
@@ -220,36 +171,25 @@ fn ask_about(alloc: Global, case: &Case) -> Result<Asker, Fail> {
     Ok(asker)
 }
 
-/// What is asked of states that show this, and told so.
-fn wanted(told: Told, shown: &Both) -> Asked {
-    let has_old = !matches!(told, Added(..));
-    let has_new = !matches!(told, Removed(..));
-    Asked {
-        told,
-        old: if has_old { Some(shown.old) } else { None },
-        new: if has_new { Some(shown.new) } else { None },
-    }
-}
-
 /// Whether all this was asked, in order.
-fn are_asked(asker: &Asker, told: &[Told], shown: &Both) -> bool {
-    if asker.has_lost || asker.asked.len() != told.len() {
-        return false;
-    }
-    for (asked, told) in asker.asked.iter().zip(told) {
-        if *asked != wanted(*told, shown) {
+fn are_asked(asker: &Asker, case: &Case) -> bool {
+    for ((told, old, new), wanted) in asker.asked.iter().zip(case.told) {
+        let has_old = !matches!(told, Added(..));
+        let has_new = !matches!(told, Removed(..));
+        let are_shown = *old == has_old.then_some(case.old) && *new == has_new.then_some(case.new);
+        if told != wanted || !are_shown {
             return false;
         }
     }
-    true
+    !asker.has_lost && asker.asked.len() == case.told.len()
 }
 
 /// Each view shows its own state, whatever is told.
 #[test]
 fn views_show_their_states_while_told(rt: HostRuntime) -> Result<(), Fail> {
-    for (case, shown) in CASES.iter().zip(SHOWN) {
+    for (row, case) in CASES.iter().enumerate() {
         let asker = ask_about(rt.alloc(), case)?;
-        assert!(rt; are_asked(&asker, case.told, &shown));
+        assert!(rt; are_asked(&asker, case), "row {row}");
     }
     Ok(())
 }

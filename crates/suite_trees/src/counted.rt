@@ -9,31 +9,51 @@ use std::alloc::{AllocError, Global};
 use std::test::Fail;
 use trees::{Steps, Tree};
 
+/// How the nodes of a tree, whose ids count from the root's on, stand.
+#[derive(Clone, Copy)]
+enum Shape {
+    /// All are children of the root.
+    Flat,
+    /// Each has the next one as its child.
+    Chain,
+    /// The root has one child, which has all others.
+    Fan,
+}
+
+/// The ids of the children of a node: the first, and the one after the last.
+fn children(shape: Shape, count: u64, id: u64) -> (u64, u64) {
+    match (shape, id) {
+        (Shape::Flat, 0) => (1, count),
+        (Shape::Chain, _) => (id.saturating_add(1), id.saturating_add(2).min(count)),
+        (Shape::Fan, 0) => (1, 2),
+        (Shape::Fan, 1) => (2, count),
+        _ => (0, 0),
+    }
+}
+
 /// A node that has the ids from `first` on below `end` as its children.
-fn over(alloc: Global, id: u64, first: u64, end: u64) -> Result<(NodeId, Node), AllocError> {
+fn over(alloc: Global, (first, end): (u64, u64)) -> Result<Node, AllocError> {
     let mut node = NodeBuilder::new(alloc, Role::GenericContainer);
     for child in first..end {
         node = node.child(NodeId(child));
     }
-    Ok((NodeId(id), node.build()?))
+    node.build()
 }
 
-/// A tree in which node 0 has one child or more, and the others none or, of a chain, the next.
-fn tree_of(alloc: Global, count: u64, is_chain: bool) -> Result<Tree, Fail> {
+/// A tree of so many nodes.
+fn tree_of(alloc: Global, shape: Shape, count: u64) -> Result<Tree, Fail> {
     let mut nodes = Vec::new(alloc);
-    nodes.push(over(alloc, 0, 1, if is_chain { 2 } else { count })?)?;
-    for id in 1..count {
-        let next = id.saturating_add(1);
-        let end = next.saturating_add(u64::from(is_chain && next < count));
-        nodes.push(over(alloc, id, next, end)?)?;
+    for id in 0..count {
+        let node = over(alloc, children(shape, count, id))?;
+        nodes.push((NodeId(id), node))?;
     }
     Ok(Tree::new(alloc, first_update(0, nodes), false)?)
 }
 
-/// An update of the root tree that names one node, with a label or, where it has none, with no children.
-fn naming(alloc: Global, id: u64, label: &'static [Has]) -> Result<TreeUpdate, AllocError> {
+/// An update of the root tree that names one node, with a label or with nothing.
+fn naming(alloc: Global, id: u64, having: &[Has]) -> Result<TreeUpdate, AllocError> {
     Ok(TreeUpdate {
-        nodes: vec![in alloc; (NodeId(id), node_of(alloc, Role::GenericContainer, label)?)]?,
+        nodes: vec![in alloc; (NodeId(id), node_of(alloc, Role::GenericContainer, having)?)]?,
         tree: None,
         tree_id: TreeId::root(),
         focus: NodeId(0),
@@ -42,116 +62,81 @@ fn naming(alloc: Global, id: u64, label: &'static [Has]) -> Result<TreeUpdate, A
 
 const LABEL: &[Has] = &[Has::Label("label")];
 
-/// What is told of an update, and how many look-ups it makes.
-#[derive(Drop)]
-struct Counted {
-    told: Vec<Told>,
-    count: u128,
-}
-
-/// Sends an update that is accepted.
-fn count_sent(alloc: Global, tree: &mut Tree, update: TreeUpdate) -> Result<Counted, Fail> {
+/// Sends an update that is accepted: what is told of it, and how many look-ups it makes.
+fn count_sent(alloc: Global, mut tree: Tree, update: TreeUpdate) -> Result<(Recorder, u128), Fail> {
     let mut recorder = Recorder::new(alloc);
     let mut steps = Steps::new();
     tree.update_and_process_changes_counted(update, &mut recorder, &mut steps)?;
-    if recorder.has_lost {
-        return Err("no memory".into());
+    Ok((recorder, steps.count()))
+}
+
+/// A tree, the node of it that is named, what the node has then, and the most look-ups. A node that has nothing loses what is
+/// below it.
+static NAMED: [(Shape, u64, u64, &[Has], u128); 4] = [
+    (Shape::Flat, 10_001, 5_000, LABEL, 80),
+    (Shape::Chain, 1_000, 999, LABEL, 16_048),
+    (Shape::Fan, 5_002, 0, &[], 80_096),
+    (Shape::Chain, 100_000, 0, &[], 1_600_064),
+];
+
+/// Whether a node is told as updated, and then so many others as removed, in order from the next one on.
+fn are_told(recorder: &Recorder, named: u64, removed: usize) -> bool {
+    let mut wanted = Told::Updated(0, named);
+    let mut next = named;
+    for told in &recorder.told {
+        if *told != wanted {
+            return false;
+        }
+        next = next.saturating_add(1);
+        wanted = Told::Removed(0, next);
     }
-    Ok(Counted {
-        told: recorder.told,
-        count: steps.count(),
-    })
+    !recorder.has_lost && recorder.told.len() == removed.saturating_add(1)
 }
 
-/// Whether there are some look-ups, and at most so many.
-fn is_within(count: u128, most: u128) -> bool {
-    0 < count && count <= most
-}
-
-/// Sends a label of a node to a tree of so many nodes.
-fn labelled(alloc: Global, count: u64, is_chain: bool, named: u64) -> Result<Counted, Fail> {
-    let mut tree = tree_of(alloc, count, is_chain)?;
-    count_sent(alloc, &mut tree, naming(alloc, named, LABEL)?)
-}
-
-/// Among ten thousand leaves, and at the end of a chain of a thousand nodes.
 #[test]
-fn label_is_counted(rt: HostRuntime) -> Result<(), Fail> {
-    for (count, is_chain, named, most) in [(10_001, false, 5_000, 80), (1_000, true, 999, 16_048)] {
-        let counted = labelled(rt.alloc(), count, is_chain, named)?;
-        assert!(rt; is_within(counted.count, most), "{count}");
-        assert!(rt; counted.told.as_slice() == [Told::Updated(0, named)].as_slice());
+fn look_ups_are_within_their_bound(rt: HostRuntime) -> Result<(), Fail> {
+    for (shape, count, named, having, most) in NAMED {
+        let tree = tree_of(rt.alloc(), shape, count)?;
+        let update = naming(rt.alloc(), named, having)?;
+        let (recorder, made) = count_sent(rt.alloc(), tree, update)?;
+        assert!(rt; 0 < made && made <= most, "{count}: {made}");
+        let removed = if having.is_empty() { count as usize } else { 1 };
+        assert!(rt;
+            are_told(&recorder, named, removed.saturating_sub(1)),
+            "{count}"
+        );
     }
     Ok(())
 }
 
 /// Sends a window whose graft moves.
-fn moved(alloc: Global) -> Result<Counted, Fail> {
-    let mut tree = grown_by(alloc, &[WINDOW, OUTER_DOCUMENT, INNER_DOCUMENT], false)?;
-    count_sent(alloc, &mut tree, INNER_MOVED.update(alloc)?)
+fn moved(alloc: Global) -> Result<(Recorder, u128), Fail> {
+    let tree = grown_by(alloc, &[WINDOW, OUTER_DOCUMENT, INNER_DOCUMENT], false)?;
+    count_sent(alloc, tree, INNER_MOVED.update(alloc)?)
 }
 
 #[test]
 fn graft_that_moves_is_counted(rt: HostRuntime) -> Result<(), Fail> {
-    let counted = moved(rt.alloc())?;
-    assert!(rt; is_within(counted.count, 208));
-    assert!(rt; counted.told.len() == 6);
-    Ok(())
-}
-
-/// Sends a root of a tree of so many nodes with no children.
-fn emptied(alloc: Global, count: u64, is_chain: bool) -> Result<Counted, Fail> {
-    let mut tree = tree_of(alloc, count, is_chain)?;
-    count_sent(alloc, &mut tree, naming(alloc, 0, &[])?)
-}
-
-/// Whether the root is updated, and then all other nodes are removed in order.
-fn are_removed(told: &[Told], count: u64) -> bool {
-    let mut wanted = Told::Updated(0, 0);
-    let mut next = 1u64;
-    for told in told {
-        if *told != wanted {
-            return false;
-        }
-        wanted = Told::Removed(0, next);
-        next = next.saturating_add(1);
-    }
-    told.len() as u64 == count
-}
-
-/// All nodes but the root go: five thousand leaves, or a chain of a hundred thousand nodes.
-#[test]
-fn removal_is_counted(rt: HostRuntime) -> Result<(), Fail> {
-    for (count, is_chain) in [(5_002, false), (100_000, true)] {
-        let counted = emptied(rt.alloc(), count, is_chain)?;
-        let most = u128::from(count).saturating_mul(16).saturating_add(64);
-        assert!(rt; is_within(counted.count, most), "{count}");
-        assert!(rt; are_removed(&counted.told, count), "{count}");
-    }
+    let (recorder, made) = moved(rt.alloc())?;
+    assert!(rt; 0 < made && made <= 208);
+    assert!(rt; recorder.told.len() == 6);
     Ok(())
 }
 
 /// The path to the last node of a chain of so many.
 fn path_to_last(alloc: Global, count: u64) -> Result<Vec<usize>, Fail> {
-    let tree = tree_of(alloc, count, true)?;
+    let tree = tree_of(alloc, Shape::Chain, count)?;
     let last = tree.state().node_by_id(id(0, count.saturating_sub(1)));
     Ok(last.ok_or("no node")?.index_path(alloc)?)
-}
-
-/// Whether all of them are 0.
-fn are_zero(indexes: &[usize]) -> bool {
-    for index in indexes {
-        if *index != 0 {
-            return false;
-        }
-    }
-    true
 }
 
 #[test]
 fn end_of_a_chain_has_a_path(rt: HostRuntime) -> Result<(), Fail> {
     let path = path_to_last(rt.alloc(), 100_000)?;
-    assert!(rt; path.len() == 99_999 && are_zero(&path));
+    assert!(rt; path.len() == 99_999);
+    for index in &path {
+        assert!(rt; *index == 0);
+    }
     Ok(())
 }
 
@@ -171,16 +156,14 @@ fn count(steps: &Steps) -> u128 {
 /// The count goes on from where it was, also over an update that is refused.
 #[test]
 fn steps_add_up(rt: HostRuntime) -> Result<(), Fail> {
-    let alloc = rt.alloc();
-    let mut tree = tree_of(alloc, 3, true)?;
+    let mut tree = tree_of(rt.alloc(), Shape::Chain, 3)?;
     let mut steps = Steps::new();
-    assert!(rt; count(&steps) == 0);
-    assert!(rt; sent(alloc, &mut tree, 2, &mut steps)?);
-    let first = count(&steps);
-    assert!(rt; !sent(alloc, &mut tree, 7, &mut steps)?);
-    let second = count(&steps);
-    assert!(rt; 0 < first && first <= second);
-    assert!(rt; sent(alloc, &mut tree, 2, &mut steps)?);
-    assert!(rt; second < count(&steps));
+    let mut before = 0u128;
+    for (named, is_accepted) in [(2, true), (7, false), (2, true)] {
+        assert!(rt; sent(rt.alloc(), &mut tree, named, &mut steps)? == is_accepted);
+        let after = count(&steps);
+        assert!(rt; before < after, "{named}");
+        before = after;
+    }
     Ok(())
 }

@@ -1,4 +1,4 @@
-//! Tests of updates: plans, look-ups, and the events that handlers and mirrors get.
+//! Tests of trees: walks from both ends, look-ups, and the events that handlers and mirrors get.
 #![tactic(auto)]
 
 #[cfg(test)]
@@ -8,4 +8,6 @@ mod counted;
 #[cfg(test)]
 mod mirrors;
 #[cfg(test)]
-mod planning;
+mod mixtures;
+#[cfg(test)]
+mod walked;

@@ -1,8 +1,6 @@
 //! Walks from nodes, taken by mixtures of calls from both ends, as the ids that are given.
 
-use schema::Point;
-use sketches::dice::Dice;
-use sketches::ids::id_of;
+use sketches::ids::{id, id_of};
 use std::alloc::{AllocError, Global};
 use std::cell::Cell;
 use views::filters::common_filter;
@@ -18,7 +16,7 @@ fn calls(mixture: u128) -> u32 {
 }
 
 /// What a walk gives to this mixture of calls.
-pub fn given<'a, I: DoubleEndedIterator<Item = NodeRef<'a>> + Drop>(
+fn given<'a, I: DoubleEndedIterator<Item = NodeRef<'a>> + Drop>(
     alloc: Global,
     mut walk: I,
     mixture: u128,
@@ -40,8 +38,8 @@ pub fn given<'a, I: DoubleEndedIterator<Item = NodeRef<'a>> + Drop>(
     Ok(given)
 }
 
-/// What a list gives to this mixture of calls.
-fn listed(alloc: Global, list: &[FullNodeId], mixture: u128) -> Result<Given, AllocError> {
+/// What a list of nodes of the root tree gives to this mixture of calls.
+pub fn listed(alloc: Global, list: &[u64], mixture: u128) -> Result<Given, AllocError> {
     let mut given = Vec::new(alloc);
     let (mut list, mut left) = (list, mixture);
     for _ in 0..calls(mixture) {
@@ -51,9 +49,9 @@ fn listed(alloc: Global, list: &[FullNodeId], mixture: u128) -> Result<Given, Al
             list.split_first()
         };
         given.push(match next {
-            Some((id, rest)) => {
+            Some((node, rest)) => {
                 list = rest;
-                Some(*id)
+                Some(id(0, *node))
             }
             None => None,
         })?;
@@ -62,14 +60,20 @@ fn listed(alloc: Global, list: &[FullNodeId], mixture: u128) -> Result<Given, Al
     Ok(given)
 }
 
+/// A filter that always gives the same answers.
+#[derive(Clone, Copy)]
+pub enum Steady {
+    Common,
+    /// Leaves node 2 out alone, and cuts node 4 off.
+    Family,
+}
+
 /// A filter.
 #[derive(Clone, Copy)]
 pub enum Pick<'a> {
-    /// Leaves node 2 out alone, and cuts node 4 off.
-    Family,
-    Common,
-    /// Has no rule.
-    Numbered(u64),
+    Steady(Steady),
+    /// Answers as that of the family, and notes by a bit for which nodes it is asked.
+    Noting(&'a Cell<u64>),
     /// Changes its answers, which are counted.
     Wavering(&'a Cell<u64>),
 }
@@ -77,9 +81,9 @@ pub enum Pick<'a> {
 impl Pick<'_> {
     pub fn answer(&self, node: &NodeRef<'_>) -> FilterResult {
         match self {
-            Pick::Family => family_answer(node.id()),
-            Pick::Common => common_filter(node),
-            Pick::Numbered(number) => numbered_answer(*number, node.id()),
+            Pick::Steady(Steady::Common) => common_filter(node),
+            Pick::Steady(Steady::Family) => family_answer(node.id()),
+            Pick::Noting(asked) => note(asked, node.id()),
             Pick::Wavering(calls) => waver(calls),
         }
     }
@@ -93,19 +97,9 @@ fn family_answer(id: FullNodeId) -> FilterResult {
     }
 }
 
-/// The answer of the filter of this number.
-pub fn numbered_answer(number: u64, id: FullNodeId) -> FilterResult {
-    let node = id
-        .node
-        .0
-        .saturating_mul(2)
-        .saturating_add(u64::from(id.tree));
-    let mut dice = Dice::new(number.saturating_mul(32).saturating_add(node));
-    match dice.below(5) {
-        0 | 1 => Include,
-        2 | 3 => ExcludeNode,
-        _ => ExcludeSubtree,
-    }
+fn note(asked: &Cell<u64>, id: FullNodeId) -> FilterResult {
+    asked.set(asked.get() | 1u64.checked_shl(id.node.0 as u32).unwrap_or(0));
+    family_answer(id)
 }
 
 /// An answer that changes with each call.
@@ -130,13 +124,13 @@ pub enum Walk {
     Inside,
     After,
     Before,
+    LabelledBy,
+    Controls,
     ShownBelow,
     ShownInside,
     ShownAfter,
     ShownBefore,
     Items,
-    LabelledBy,
-    Controls,
 }
 
 fn below(alloc: Global, node: &NodeRef, mixture: u128) -> Result<Given, AllocError> {
@@ -221,36 +215,12 @@ pub fn walked(
         Walk::Inside => inside(alloc, node, mixture),
         Walk::After => after(alloc, node, mixture),
         Walk::Before => before(alloc, node, mixture),
+        Walk::LabelledBy => labels(alloc, node, mixture),
+        Walk::Controls => controls(alloc, node, mixture),
         Walk::ShownBelow => shown_below(alloc, node, pick, mixture),
         Walk::ShownInside => shown_inside(alloc, node, pick, mixture),
         Walk::ShownAfter => shown_after(alloc, node, pick, mixture),
         Walk::ShownBefore => shown_before(alloc, node, pick, mixture),
         Walk::Items => items(alloc, node, pick, mixture),
-        Walk::LabelledBy => labels(alloc, node, mixture),
-        Walk::Controls => controls(alloc, node, mixture),
     }
-}
-
-/// Whether the walk gives what the list does, for this mixture of calls.
-pub fn is_walk_of(
-    alloc: Global,
-    node: &NodeRef,
-    walk: Walk,
-    pick: Pick,
-    mixture: u128,
-    list: &[FullNodeId],
-) -> Result<bool, AllocError> {
-    let given = walked(alloc, node, walk, pick, mixture)?;
-    let listed = listed(alloc, list, mixture)?;
-    Ok(given.as_slice() == listed.as_slice())
-}
-
-/// The node that the filter shows at the origin, as the node sees it.
-pub fn hit(node: &NodeRef, pick: Pick) -> Option<FullNodeId> {
-    id_of(node.node_at_point(Point::new(0, 0), &|node: &NodeRef<'_>| pick.answer(node)))
-}
-
-/// The nearest ancestor that the filter shows.
-pub fn shown_parent(node: &NodeRef, pick: Pick) -> Option<FullNodeId> {
-    id_of(node.filtered_parent(&|node: &NodeRef<'_>| pick.answer(node)))
 }

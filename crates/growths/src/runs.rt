@@ -12,37 +12,29 @@ const WINDOW: NodeId = NodeId(0);
 
 const BUTTON: NodeId = NodeId(1);
 
-const LABEL: NodeId = NodeId(2);
-
-/// A window with this child and its label.
-fn nodes(
-    alloc: Global,
-    child: NodeId,
-    role: Role,
-    label: &str,
-) -> Result<Vec<(NodeId, Node)>, AllocError> {
+/// A window with these children.
+fn window(alloc: Global, children: &[NodeId]) -> Result<(NodeId, Node), AllocError> {
     let mut window = Node::new(alloc, Role::Window);
     window.set_label("Mail")?;
-    window.set_children(&[child])?;
-    let mut named = Node::new(alloc, role);
-    named.set_label(label)?;
-    Ok(vec![in alloc; (WINDOW, window), (child, named)]?)
+    window.set_children(children)?;
+    Ok((WINDOW, window))
 }
 
 /// A window with a button.
 fn first_update(alloc: Global) -> Result<TreeUpdate, AllocError> {
+    let button = Node::new(alloc, Role::Button);
     Ok(TreeUpdate {
-        nodes: nodes(alloc, BUTTON, Role::Button, "Send")?,
+        nodes: vec![in alloc; window(alloc, &[BUTTON])?, (BUTTON, button)]?,
         tree: Some(TreeInfo::new(WINDOW)),
         tree_id: TreeId::root(),
         focus: WINDOW,
     })
 }
 
-/// The window has a label in place of its button.
+/// The window loses its button.
 fn next_update(alloc: Global) -> Result<TreeUpdate, AllocError> {
     Ok(TreeUpdate {
-        nodes: nodes(alloc, LABEL, Role::Label, "Sent")?,
+        nodes: vec![in alloc; window(alloc, &[])?]?,
         tree: None,
         tree_id: TreeId::root(),
         focus: WINDOW,
@@ -55,17 +47,14 @@ fn name(node: NodeId) -> NodeName {
 
 /// An update, a change of the host's focus, and four questions.
 fn commands(alloc: Global) -> Result<Vec<Command>, AllocError> {
-    let start = At {
-        index: 0,
-        side: Side::Start,
-    };
+    let (index, side) = (0, Side::Start);
     let commands = vec![in alloc;
         Command::Query(Query::Children(name(WINDOW))),
         Command::Update(next_update(alloc)?),
-        Command::Query(Query::Label(name(LABEL))),
+        Command::Query(Query::Label(name(BUTTON))),
         Command::HostFocus(true),
         Command::Query(Query::Focus),
-        Command::Query(Query::Indexes(name(WINDOW), start)),
+        Command::Query(Query::Indexes(name(WINDOW), At { index, side })),
     ]?;
     Ok(commands)
 }
@@ -77,15 +66,14 @@ fn id(node: NodeId) -> FullNodeId {
 
 /// Prints which nodes there are, and where the focus is.
 fn print_tree(rt: &impl Print, state: StateRef) -> io::Result<()> {
-    print!(rt; "tree")?;
-    for node in [WINDOW, BUTTON, LABEL] {
-        if state.has_node(id(node)) {
-            print!(rt; " {node}")?;
-        }
-    }
+    let nodes = if state.has_node(id(BUTTON)) {
+        "0 1"
+    } else {
+        "0"
+    };
     match state.focus() {
-        Some(node) => println!(rt; ", focus {}", node.id().node),
-        None => println!(rt; ", no focus"),
+        Some(node) => println!(rt; "tree {nodes}, focus {}", node.id().node),
+        None => println!(rt; "tree {nodes}, no focus"),
     }
 }
 
@@ -118,32 +106,52 @@ fn mirrored(mirror: &Mirror, state: StateRef) -> &'static str {
         None => "nothing, for want of memory",
         Some(seen) if seen != focus => "another focus",
         Some(_) => {
-            for node in [WINDOW, BUTTON, LABEL] {
-                if !is_mirrored(mirror, state, id(node)) {
-                    return "other records";
-                }
+            if is_mirrored(mirror, state, id(WINDOW)) && is_mirrored(mirror, state, id(BUTTON)) {
+                "the tree's records"
+            } else {
+                "other records"
             }
-            "the tree's records"
         }
     }
 }
 
-/// Makes the run.
-pub fn run(rt: &impl Print, alloc: Global) -> anyhow::Result<()> {
-    let mut session = Session::new(alloc, first_update(alloc)?, false)?;
-    let mut mirror = Mirror::new(alloc, session.tree())?;
-    let commands = commands(alloc)?;
-    println!(rt; "begun")?;
-    let (ended, replies) = match session.run_mirrored(commands, &mut mirror) {
+/// Makes the run, with the mirror as its handler or as what follows it, and prints the replies.
+fn tell_run(
+    rt: &impl Print,
+    session: &mut Session,
+    mirror: &mut Mirror,
+    commands: Vec<Command>,
+    is_handler: bool,
+) -> io::Result<()> {
+    let ended = if is_handler {
+        session.run(commands, mirror)
+    } else {
+        session.run_mirrored(commands, mirror)
+    };
+    let (ended, replies) = match ended {
         Ok(replies) => ("done", replies),
         Err(stopped) => ("stopped", stopped.replies),
     };
     for reply in &replies {
         println!(rt; "{reply:?}")?;
     }
-    println!(rt; "{ended} {}", replies.len())?;
+    println!(rt; "{ended} {}", replies.len())
+}
+
+/// Prints the tree, and what the mirror has of it.
+fn tell_tree(rt: &impl Print, session: &Session, mirror: &Mirror) -> io::Result<()> {
     let state = session.tree().state().view();
     print_tree(rt, state)?;
-    println!(rt; "the mirror has {}", mirrored(&mirror, state))?;
+    println!(rt; "the mirror has {}", mirrored(mirror, state))
+}
+
+/// Makes the run, with the mirror as its handler or as what follows it.
+pub fn run(rt: &impl Print, alloc: Global, is_handler: bool) -> anyhow::Result<()> {
+    let mut session = Session::new(alloc, first_update(alloc)?, false)?;
+    let mut mirror = Mirror::new(alloc, session.tree())?;
+    let commands = commands(alloc)?;
+    println!(rt; "begun")?;
+    tell_run(rt, &mut session, &mut mirror, commands, is_handler)?;
+    tell_tree(rt, &session, &mirror)?;
     Ok(())
 }
