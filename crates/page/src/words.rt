@@ -29,7 +29,7 @@ pub(crate) fn is_in_password(node: &NodeRef) -> bool
     node.filtered_parent(&password_inputs).is_some()
 }
 
-/// Whether one of these nodes stands in a password.
+/// Whether one of these nodes is in a password.
 fn has_part_of_password(labels: LabelledBy<'_>) -> bool
     ensures { result ≡ list_any is_part_of_secret (labels_left labels.entry) }
 {

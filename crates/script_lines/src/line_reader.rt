@@ -49,7 +49,7 @@ impl LineReader {
     }
 }
 
-/// What a line says that stands in these bytes, with its line end.
+/// What a line says that is in these bytes, with its line end.
 fn line_of(alloc: Global, bytes: &[u8]) -> Result<Line, Stop>
     ensures { ReadsLine bytes.now result }
 {

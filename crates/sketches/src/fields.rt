@@ -37,7 +37,7 @@ pub enum Has {
     FontSize(u32),
 }
 
-/// A position as it is sent.
+/// A position as sent.
 fn sent(spot: Spot) -> TextPosition {
     TextPosition {
         node: NodeId(spot.0),
@@ -45,7 +45,7 @@ fn sent(spot: Spot) -> TextPosition {
     }
 }
 
-/// A selection as it is sent.
+/// A selection as sent.
 fn selected(anchor: Spot, focus: Spot) -> TextSelection {
     TextSelection {
         anchor: sent(anchor),
@@ -72,7 +72,7 @@ fn give_letters(
     }
 }
 
-/// Gives the node what takes no memory.
+/// Sets the node's fields that need no allocation.
 fn give_plain(node: &mut Node, has: Has) {
     match has {
         Has::Graft(name) => node.set_tree_id(tree_id(name)),

@@ -37,7 +37,7 @@ pub const CHANGED: Sent = Sent {
 };
 
 impl Sent {
-    /// The update as it is sent.
+    /// The update as sent.
     pub fn update(&self, alloc: Global) -> Result<TreeUpdate, AllocError> {
         Ok(TreeUpdate {
             nodes: nodes_of(alloc, self.nodes)?,
@@ -51,7 +51,7 @@ impl Sent {
     }
 }
 
-/// The nodes as they are sent.
+/// The nodes as sent.
 pub fn nodes_of(alloc: Global, sketches: &[Sketch]) -> Result<Vec<(NodeId, Node)>, AllocError> {
     let mut nodes = Vec::new(alloc);
     for Sketch(id, role, having) in sketches {

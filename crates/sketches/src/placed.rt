@@ -1,10 +1,10 @@
-//! Where the nodes of a mirror stand.
+//! The places of a mirror's nodes.
 
 use crate::ids::id;
 use crate::recorder::{Id, pair};
 use trees::Mirror;
 
-/// A node, and where it stands: its parent, and its index there. A root stands nowhere.
+/// A node, and its place: its parent, and its index there. A root has no place.
 pub type Placed = (Id, Option<(Id, usize)>);
 
 /// Whether the mirror has the node at its place.
@@ -35,7 +35,7 @@ pub fn has_places(mirror: &Mirror, places: &[Placed]) -> bool {
     }
 }
 
-/// Whether the mirror has this focus, or that there is none.
+/// Whether the mirror has this focus, or none if there isn't one.
 pub fn has_focus(mirror: &Mirror, focus: Option<Id>) -> bool {
     match mirror.focus() {
         Some(Some(id)) => focus == Some(pair(id)),

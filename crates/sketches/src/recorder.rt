@@ -1,4 +1,4 @@
-//! A handler that keeps what it is told.
+//! A handler that keeps its events.
 
 ghost use Rattle.std.specs.Prelude.{⊤};
 

@@ -19,7 +19,7 @@ use std::test::Fail;
 /// The records of a mirror.
 type Records = BTreeMap<FullNodeId, MirrorRecord>;
 
-/// Where a node stands.
+/// The place of a node.
 fn place(node: NodeRef) -> Option<Place> {
     let (parent, index) = node.parent_and_index()?;
     Some((parent.id(), index))

@@ -1,4 +1,4 @@
-//! Writers: a buffer gets the whole text. One that fails has a beginning of it, and hears no more.
+//! Writers: a buffer gets the whole text. One that fails has a beginning of it, and isn't called again.
 
 ghost use Rattle.std.specs.Prelude.{◌≡◌, ◌+◌, ◌^◌, ◌<◌};
 ghost use Rattle.std.specs.String.{string_bytes};

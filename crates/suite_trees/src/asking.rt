@@ -1,4 +1,4 @@
-//! What views show while a handler is told.
+//! What views show while a handler is called.
 
 ghost use Rattle.std.specs.Prelude.{⊤};
 
@@ -184,7 +184,7 @@ fn are_asked(asker: &Asker, case: &Case) -> bool {
     !asker.has_lost && asker.asked.len() == case.told.len()
 }
 
-/// Each view shows its own state, whatever is told.
+/// Each view shows its own state, whatever the event is.
 #[test]
 fn views_show_their_states_while_told(rt: HostRuntime) -> Result<(), Fail> {
     for (row, case) in CASES.iter().enumerate() {

@@ -62,7 +62,7 @@ fn naming(alloc: Global, id: u64, having: &[Has]) -> Result<TreeUpdate, AllocErr
 
 const LABEL: &[Has] = &[Has::Label("label")];
 
-/// Sends an update that is accepted: what is told of it, and how many look-ups it makes.
+/// Sends an update that is accepted: its events, and the number of its look-ups.
 fn count_sent(alloc: Global, mut tree: Tree, update: TreeUpdate) -> Result<(Recorder, u128), Fail> {
     let mut recorder = Recorder::new(alloc);
     let mut steps = Steps::new();
@@ -79,7 +79,7 @@ static NAMED: [(Shape, u64, u64, &[Has], u128); 4] = [
     (Shape::Chain, 100_000, 0, &[], 1_600_064),
 ];
 
-/// Whether a node is told as updated, and then so many others as removed, in order from the next one on.
+/// Whether a node is reported as updated, and then this many others as removed, in order from the next one on.
 fn are_told(recorder: &Recorder, named: u64, removed: usize) -> bool {
     let mut wanted = Told::Updated(0, named);
     let mut next = named;

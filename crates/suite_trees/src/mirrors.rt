@@ -1,4 +1,5 @@
-//! A mirror that is told of each update, beside another handler, holds the nodes where the tree has them.
+//! A mirror that receives the events of each update, beside another handler, has the nodes at the places that the tree
+//! has.
 
 use sketches::Sent;
 use sketches::placed::{Placed, has_focus, has_places};
@@ -103,7 +104,7 @@ fn is_so(mirrored: &Mirrored, places: &[Placed], focus: Option<Id>) -> bool {
     has_places(&mirrored.both.1, places) && has_focus(&mirrored.both.1, focus)
 }
 
-/// Whether this was told last.
+/// Whether this was reported last.
 fn was_told(mirrored: &Mirrored, told: Told) -> bool {
     mirrored.both.0.told.as_slice().last() == Some(&told)
 }

@@ -29,7 +29,7 @@ use schema::TreeUpdate;
 use std::alloc::Global;
 use tree_changes::{Decision, LookUps, UpdateError};
 
-/// What goes, where each node is listed once, no listed node goes, and each named node that got a child is reached.
+/// What goes, where each node is listed once, no listed node goes, and each of the update's nodes that got a child is reached.
 fn find_removed<L: LookUps>(
     alloc: Global,
     look_ups: &mut L,

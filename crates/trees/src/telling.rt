@@ -20,7 +20,7 @@ fn node(state: StateRef<'_>, id: FullNodeId) -> NodeRef<'_>
     state.node_by_id(id).unwrap()
 }
 
-/// The view of the node that is named, where one is.
+/// The view of the node that is named, if there is one.
 fn optional_node(state: StateRef<'_>, id: Option<FullNodeId>) -> Option<NodeRef<'_>>
     requires { IfSome id (IsNode (world_of state)) }
     ensures world { IfSome result (λ node. world_at node ≡ world_of state.entry) }
