@@ -25,9 +25,11 @@ impl<'a> TextRange<'a> {
             result ≡ nat_lt (offset t (flat_position position.entry)) (offset t (range_at self.entry).end) }
     {
         let end = self.end().biased_to_start();
+        let last = end.run.id();
+        let wanted = position.run.id();
         let mut run = self.start().biased_to_start().run;
-        while !is_same(run.id(), position.run.id()) {
-            if is_same(run.id(), end.run.id()) {
+        while !is_same(run.id(), wanted) {
+            if is_same(run.id(), last) {
                 return false;
             }
             let Some(next) = run.next() else {
@@ -35,7 +37,7 @@ impl<'a> TextRange<'a> {
             };
             run = next;
         }
-        if is_same(run.id(), end.run.id()) {
+        if is_same(run.id(), last) {
             return position.index < end.index;
         }
         true
@@ -59,8 +61,9 @@ impl<'a> TextRange<'a> {
             let cut = (if nat_lt (offset t p) (offset t r.end) then p else r.end) in
             IsRangeOf (world_in self.old) (root_in self.old) (record { start = cut; end = r.end }) self.new }
     {
-        let (start, end) = (self.start(), self.end());
+        let end = self.end();
         if self.has_before_end(position) {
+            let start = self.start();
             *self = TextRange::over(position, end);
             return TextRange::over(start, position);
         }
