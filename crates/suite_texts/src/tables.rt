@@ -288,35 +288,45 @@ fn has_size(range: &TextRange, size: Option<Option<u32>>) -> bool {
     }
 }
 
-/// Whether a walk gives ranges with these texts, and then no more.
-fn gives<'a, I: Iterator<Item = TextRange<'a>> + Drop>(
-    alloc: Global,
-    mut walk: I,
-    texts: &[&str],
-) -> Result<bool, AllocError>
-    requires next { (walk : I) → I.can_next walk }
-{
+/// Whether a part is there and has this text.
+fn is_part(alloc: Global, part: Option<TextRange>, text: &str) -> Result<bool, AllocError> {
+    match part {
+        Some(range) => Ok(range.text(alloc)?.as_str() == text),
+        None => Ok(false),
+    }
+}
+
+/// Whether the range's characters have these texts, and there are no more.
+fn has_characters(alloc: Global, range: &TextRange, texts: &[&str]) -> Result<bool, AllocError> {
+    let mut walk = range.characters();
     for text in texts {
-        let Some(part) = walk.next() else {
-            return Ok(false);
-        };
-        if part.text(alloc)?.as_str() != *text {
+        if !is_part(alloc, walk.next(), text)? {
             return Ok(false);
         }
     }
     Ok(walk.next().is_none())
 }
 
-fn has_characters(alloc: Global, range: &TextRange, texts: &[&str]) -> Result<bool, AllocError> {
-    gives(alloc, range.characters(), texts)
-}
-
+/// Whether the range's words have these texts, and there are no more.
 fn has_words(alloc: Global, range: &TextRange, texts: &[&str]) -> Result<bool, AllocError> {
-    gives(alloc, range.words(), texts)
+    let mut walk = range.words();
+    for text in texts {
+        if !is_part(alloc, walk.next(), text)? {
+            return Ok(false);
+        }
+    }
+    Ok(walk.next().is_none())
 }
 
+/// Whether the range's lines have these texts, and there are no more.
 fn has_lines(alloc: Global, range: &TextRange, texts: &[&str]) -> Result<bool, AllocError> {
-    gives(alloc, range.lines(), texts)
+    let mut walk = range.lines();
+    for text in texts {
+        if !is_part(alloc, walk.next(), text)? {
+            return Ok(false);
+        }
+    }
+    Ok(walk.next().is_none())
 }
 
 fn has_parts(

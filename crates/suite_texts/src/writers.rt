@@ -8,7 +8,6 @@ use crate::asking::Span::{self, Between};
 use crate::asking::range;
 use Writing::{Label, Value};
 use accesskit_consumer::node::NodeRef;
-use accesskit_consumer::text::TextRange;
 use schema::{TextBuffer, TextFault, TextWrite};
 use sketches::small_texts::{
     ALIKE, BULLETS, LABELLED, MEETING, OWN_VALUE, SECRET, SECRET_WITHOUT_RUNS, Text,
@@ -104,40 +103,35 @@ static WRITINGS: [(Text, Writing, &str, Option<usize>); 9] = [
     (MEETING, Writing::Text(ALL), "abcd", Some(2)),
 ];
 
-fn write_label<W: TextWrite>(root: &NodeRef, writer: &mut W) -> Result<bool, TextFault> {
-    root.write_label(writer)
-}
-
-fn write_value<W: TextWrite>(root: &NodeRef, writer: &mut W) -> Result<bool, TextFault> {
-    root.write_value(writer)
-}
-
-fn write_text<W: TextWrite>(range: &TextRange, writer: &mut W) -> Result<bool, TextFault> {
-    range.write_text(writer)?;
-    Ok(true)
-}
-
-/// Writes it, and answers whether it is there.
-fn write<W: TextWrite>(
+/// Writes it to a writer that fails at this call: what it has then, and the answer, which says whether it is there.
+fn written(
+    alloc: Global,
     root: &NodeRef,
     writing: Writing,
-    writer: &mut W,
-) -> Result<Result<bool, TextFault>, Fail> {
-    Ok(match writing {
-        Label => write_label(root, writer),
-        Value => write_value(root, writer),
-        Writing::Text(span) => write_text(&range(root, span)?, writer),
-    })
+    fails_at: u32,
+) -> Result<(Failing, Result<bool, TextFault>), Fail> {
+    let mut writer = Failing::new(alloc, fails_at);
+    let answer = match writing {
+        Label => root.write_label(&mut writer),
+        Value => root.write_value(&mut writer),
+        Writing::Text(span) => range(root, span)?.write_text(&mut writer).map(|()| true),
+    };
+    Ok((writer, answer))
 }
 
-/// All that is written, if it is there.
-fn buffered(alloc: Global, root: &NodeRef, writing: Writing) -> Result<String, Fail> {
+/// Writes it to a buffer: all that is written, and the answer.
+fn buffered(
+    alloc: Global,
+    root: &NodeRef,
+    writing: Writing,
+) -> Result<(String, Result<bool, TextFault>), Fail> {
     let mut buffer = TextBuffer::new(alloc);
-    match write(root, writing, &mut buffer)? {
-        Ok(true) => Ok(buffer.into_string()),
-        Ok(false) => Err("no text".into()),
-        Err(_) => Err("no memory".into()),
-    }
+    let answer = match writing {
+        Label => root.write_label(&mut buffer),
+        Value => root.write_value(&mut buffer),
+        Writing::Text(span) => range(root, span)?.write_text(&mut buffer).map(|()| true),
+    };
+    Ok((buffer.into_string(), answer))
 }
 
 /// Asserts that the writer has a beginning of the text, and that the call that failed was the last one.
@@ -165,8 +159,8 @@ fn assert_writing(
     fails_at: u32,
     (text, length): (&str, Option<usize>),
 ) -> Result<bool, Fail> {
-    let mut writer = Failing::new(alloc, fails_at);
-    match write(root, writing, &mut writer)? {
+    let (writer, answer) = written(alloc, root, writing, fails_at)?;
+    match answer {
         Ok(is_there) => {
             assert!(rt; is_there && writer.text.as_str() == text, "{text}");
             Ok(true)
@@ -183,8 +177,11 @@ fn writers_that_fail_have_a_beginning(rt: HostRuntime) -> Result<(), Fail> {
     for (root, writing, text, length) in &WRITINGS {
         let tree = planted(rt.alloc(), root)?;
         let root = root_of(&tree);
-        let whole = buffered(rt.alloc(), &root, *writing)?;
-        assert!(rt; whole.as_str() == *text, "{text}");
+        let (whole, answer) = buffered(rt.alloc(), &root, *writing)?;
+        assert!(rt;
+            matches!(answer, Ok(true)) && whole.as_str() == *text,
+            "{text}"
+        );
         let mut has_ended = false;
         for fails_at in 1..9u32 {
             let told = (*text, *length);

@@ -98,7 +98,8 @@ fn family_answer(id: FullNodeId) -> FilterResult {
 }
 
 fn note(asked: &Cell<u64>, id: FullNodeId) -> FilterResult {
-    asked.set(asked.get() | 1u64.checked_shl(id.node.0 as u32).unwrap_or(0));
+    let number = u32::try_from(id.node.0).unwrap_or(64);
+    asked.set(asked.get() | 1u64.checked_shl(number).unwrap_or(0));
     family_answer(id)
 }
 
