@@ -167,7 +167,7 @@ fn is_followed(alloc: Global, both: &mut Beside, sent: Sent) -> Result<bool, Fai
 }
 
 /// Sends the updates one at a time to a session with a mirror beside it, which follows each: the mirror.
-fn followed(alloc: Global, sent: &[Sent], is_host_focused: bool) -> Result<Mirror, Fail> {
+fn mirror_after(alloc: Global, sent: &[Sent], is_host_focused: bool) -> Result<Mirror, Fail> {
     let (first, others) = sent.split_first().ok_or("no update")?;
     let mut both = begun(alloc, *first, is_host_focused)?;
     for other in others {
@@ -187,7 +187,7 @@ fn mirror_follows_each_update(rt: HostRuntime) -> Result<(), Fail> {
         focus,
     } in FOLLOWED {
         for is_host_focused in [false, true] {
-            let mirror = followed(rt.alloc(), sent, is_host_focused)?;
+            let mirror = mirror_after(rt.alloc(), sent, is_host_focused)?;
             assert!(rt; has_places(&mirror, places), "{name}");
             assert!(rt;
                 has_focus(&mirror, is_host_focused.then_some(focus)),

@@ -12,7 +12,7 @@ use trees::Tree;
 use views::NodeRef;
 
 /// The number after the last mixture of up to six calls; the first, which has no calls, is 1.
-const MIXTURES: u128 = 128;
+const MIXTURES: u32 = 128;
 
 /// A row whose second child is passed over and has children, and whose fourth is cut off and has children.
 const FAMILY: &[Sketch] = &[
@@ -109,6 +109,7 @@ fn is_list(
     list: &[u64],
 ) -> Result<bool, AllocError> {
     for mixture in 1..MIXTURES {
+        let mixture = u128::from(mixture);
         let given = walked(alloc, node, walk, pick, mixture)?;
         if given.as_slice() != listed(alloc, list, mixture)?.as_slice() {
             return Ok(false);
