@@ -45,4 +45,4 @@ pub use text::{
     NodeText, RangeCharacters, RangeLines, RangeWords, Text, TextIndexes, TextLines, TextPlaces,
     TextPosition, TextRange, TextRangePropertyValue, TextRoot, TextSelections, WeakTextRange,
 };
-pub use tree::{StateRef, Tree, TreeChangeHandler, TreeState, UpdateError};
+pub use tree::{Mirror, StateRef, Tree, TreeChangeHandler, TreeState, UpdateError};
