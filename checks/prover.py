@@ -195,7 +195,9 @@ def check(crate, room, kept, names):
         raise SystemExit(1)
     with tempfile.TemporaryFile() as written:
         begun = time.monotonic()
-        child = subprocess.Popen(words, cwd=room, stdin=subprocess.DEVNULL, stdout=written, stderr=written, start_new_session=True)
+        # (a group of its own, to be stopped as one; in a session of its own its niceness wouldn't count beside others)
+        how = {"stdin": subprocess.DEVNULL, "stdout": written, "stderr": written}
+        child = subprocess.Popen(words, cwd=room, preexec_fn=lambda: os.setpgid(0, 0), **how)
         RUNNING.add(child.pid)
         try:
             _, ended, used = os.wait4(child.pid, 0)
