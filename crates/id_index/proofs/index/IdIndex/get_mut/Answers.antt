@@ -11,7 +11,7 @@ use Rattle.id_index.proofs.index.IdIndex.get_mut.Goals as goal
 pub invariant_of-self-lent : goal.invariant_of-self-lent
 invariant_of-self-lent g c w =
     let rows = c.self.inside.rows in
-    let others = c.self.inside.others.entries in
+    let others = c.self.inside.others in
     let k = c.self.invariant in
     let v = c.value_mut.result.now in
     let there = filled rows c.args.id.now v c.value_mut.ensures.value in
@@ -26,7 +26,7 @@ invariant_of-self-lent g c w =
 pub returns-then-is_some : goal.returns-then-is_some
 returns-then-is_some g c =
     let rows = c.self.inside.rows in
-    let others = c.self.inside.others.entries in
+    let others = c.self.inside.others in
     let id = c.args.id.now in
     let v = c.value_mut.result.now in (
       (refl, (λ w. written_cell rows others id w v c.value_mut.ensures.value ∙ ap (λ es. set_value (is_at (full_cmp id)) es w) c.self.view_is), refl),
@@ -36,7 +36,7 @@ returns-then-is_some g c =
 pub invariant_of-self-lent-2 : goal.invariant_of-self-lent-2
 invariant_of-self-lent-2 g c r =
     let rows = c.self.inside.rows in
-    let others = c.self.inside.others.entries in
+    let others = c.self.inside.others in
     let id = c.args.id.now in
     let k = c.self.invariant in (
       (λ w. record {
@@ -54,7 +54,7 @@ invariant_of-self-lent-2 g c r =
 pub returns : goal.returns
 returns g c =
     let rows = c.self.inside.rows in
-    let others = c.self.inside.others.entries in
+    let others = c.self.inside.others in
     let id = c.args.id.now in
     let none = sym c.get.ensures ∙ copied_none c.get.result (sym c.is_some.ensures ∙ c.if-is_some.false) in (
       (
