@@ -1,19 +1,28 @@
 -- Entries to which a trie leads, and what changes of the list leave of them.
-use Rattle.std.proofs.Common.{◌≡◌, ◌≢◌, ℕ, zero, suc, ◌+◌, ◌-◌, ◌<◌, ◌≤◌, List, [], ◌∷◌, ◌++◌, length, get_or, set, take, Bool, true, false, true≢false, cond, Option, Some, None, refl, sym, ap, subst, ◌∙◌, arith, ◌⊎◌, inl, inr, eqb, get_or-set_same, get_or-set_other, length-append}
-use Rattle.std.specs.Prelude.{slice_get, is_some, IsSome}
+use Rattle.std.proofs.Common.{◌≡◌, ◌≢◌, ℕ, zero, suc, ◌+◌, ◌-◌, ◌<◌, ◌≤◌, List, [], ◌∷◌, ◌++◌, length, get_or, set, take, Bool, true, false, true≢false, cond, Option, Some, None, refl, sym, ap, subst, ◌∙◌, arith, append_assoc, ◌⊎◌, inl, inr, eqb, get_or-set_same, get_or-set_other, length-append}
+use Rattle.std.specs.Prelude.{slice_get, is_some, IsSome, Result, Ok, Err, OnOk, OnErr}
 use Rattle.std.specs.Option.{option_map}
-use Rattle.std.specs.Map.{lookup, set_value}
+use Rattle.std.specs.Map.{lookup, set_value, keys_of}
 use Rattle.std.specs.BTreeMap.{is_at}
+use Rattle.std.specs.Cmp.{eq_by_cmp_equiv}
+use Rattle.std.proofs.lemmas.Map.{lookup-set_value}
+use Rattle.std.proofs.lemmas.List.{map-append}
 use Rattle.std.proofs.lemmas.Bool.{cases_lt}
 use Rattle.std.proofs.lemmas.Bool.Decides.{eqb_tells}
 use Rattle.std.proofs.lemmas.Option.{same_Some, slice_get_within, slice_get_read, get_or_from_slice_get}
 use Rattle.model.specs.declared.FullNodeId.{FullNodeId}
-use Rattle.model.specs.FullIds.{full_cmp}
+use Rattle.model.specs.FullIds.{full_cmp, full_total}
 use Rattle.id_index.specs.declared.trie.Cell.{Cell}
 use Rattle.id_index.specs.Cells.{value_at}
 use Rattle.id_index.specs.Ways.{found}
-use Rattle.id_index.specs.Found.{IsFound, HasNo, AreApart, id_at}
+use Rattle.id_index.specs.Found.{IsFound, IsFoundBelow, HasNo, HasNoBelow, AreApart, id_at}
 use Rattle.id_index.proofs.Entries.{same_id, at_itself, apart_from, lookup_right, lookup_left}
+
+none_some : {A : Type 0} (x : A) → None ≡ Some x → ⊥
+none_some x e = cc
+
+pub not_both : (b : Bool) → b ≡ true → b ≡ false → ⊥
+not_both b e f = true≢false (sym e ∙ f)
 
 module _ {X : Type 0} where
   -- no entry has an id exactly where there is no value at it
@@ -32,7 +41,7 @@ module _ {X : Type 0} where
   head_none false v o h e = cc
 
   pub has_no : (es : List (FullNodeId × X)) (q : FullNodeId) → value_at es q ≡ None → HasNo es q
-  has_no [] q h k e g = cc
+  has_no [] q h k e g = absurd (none_some e g)
   has_no (x ∷ es) q h zero e g = λ same. head_none (is_at (full_cmp q) x.0) x.1 (value_at es q) h
       (ap (is_at (full_cmp q)) (ap (λ (y : FullNodeId × X). y.0) (same_Some x e g) ∙ same) ∙ at_itself q)
   has_no (x ∷ es) q h (suc k) e g = has_no es q (rest_none (is_at (full_cmp q) x.0) x.1 (value_at es q) h) k e g
@@ -45,7 +54,7 @@ module _ {X : Type 0} where
 
   -- the value at the id of an entry is the entry's
   pub at_index : (es : List (FullNodeId × X)) (k : ℕ) (e : FullNodeId × X) → AreApart es → slice_get es k ≡ Some e → value_at es e.0 ≡ Some e.1
-  at_index [] k e h g = cc
+  at_index [] k e h g = absurd (none_some e g)
   at_index (x ∷ es) zero e h g =
       ap (λ (y : FullNodeId × X). value_at (x ∷ es) y.0) (sym (same_Some x e g))
       ∙ ap (λ b. cond b (Some x.1) (value_at es x.0)) (at_itself x.0)
@@ -66,7 +75,7 @@ module _ {X : Type 0} where
   in_by false x es q v e h f = let p = f h in (suc p.0, p.1)
 
   pub in_list : (es : List (FullNodeId × X)) (q : FullNodeId) (v : X) → value_at es q ≡ Some v → HasAt es q v
-  in_list [] q v h = cc
+  in_list [] q v h = absurd (none_some v h)
   in_list (x ∷ es) q v h = in_by (is_at (full_cmp q) x.0) x es q v refl h (in_list es q v)
 
   -- one entry more
@@ -84,7 +93,7 @@ module _ {X : Type 0} where
 
   get_added : (es : List (FullNodeId × X)) (x : FullNodeId × X) (k : ℕ) (e : FullNodeId × X) → slice_get (es ++ x ∷ []) k ≡ Some e → (slice_get es k ≡ Some e) ⊎ ((k ≡ length es) × (x ≡ e))
   get_added [] x zero e g = inr (refl, same_Some x e g)
-  get_added [] x (suc k) e g = cc
+  get_added [] x (suc k) e g = absurd (none_some e g)
   get_added (y ∷ es) x zero e g = inl g
   get_added (y ∷ es) x (suc k) e g = elim (get_added es x k e g) as (λ _. (slice_get es k ≡ Some e) ⊎ ((suc k ≡ suc (length es)) × (x ≡ e))) [ inl a ↦ inl a | inr b ↦ inr (ap suc b.0, b.1) ]
 
@@ -100,7 +109,7 @@ module _ {X : Type 0} where
   id_at_is es k e id g h = same_Some e.0 id (ap (option_map (λ (y : FullNodeId × X). y.0)) (sym g) ∙ h)
 
   has_entry : (o : Option (FullNodeId × X)) (id : FullNodeId) → option_map (λ (y : FullNodeId × X). y.0) o ≡ Some id → (e : FullNodeId × X) × ((o ≡ Some e) × (e.0 ≡ id))
-  has_entry None id h = cc
+  has_entry None id h = absurd (none_some id h)
   has_entry (Some e) id h = (e, (refl, same_Some e.0 id h))
 
   pub entry_at : (es : List (FullNodeId × X)) (k : ℕ) (id : FullNodeId) → id_at es k ≡ Some id → (e : FullNodeId × X) × ((slice_get es k ≡ Some e) × (e.0 ≡ id))
@@ -115,7 +124,7 @@ module _ {X : Type 0} where
   set_by false x es new w e = refl
 
   pub set_at_number : (es : List (FullNodeId × X)) (k : ℕ) (id : FullNodeId) (w : X) → AreApart es → id_at es k ≡ Some id → set es k (id, w) ≡ set_value (is_at (full_cmp id)) es w
-  set_at_number [] k id w h g = cc
+  set_at_number [] k id w h g = absurd (none_some id g)
   set_at_number (x ∷ es) zero id w h g =
       ap (λ (i : FullNodeId). let p : FullNodeId × X = (i, w) in p ∷ es) (sym (same_Some x.0 id g))
       ∙ sym (ap (λ b. cond b ((x.0, w) ∷ es) (x ∷ set_value (is_at (full_cmp id)) es w)) (ap (is_at (full_cmp id)) (same_Some x.0 id g) ∙ at_itself id))
@@ -133,7 +142,7 @@ module _ {X : Type 0} where
   ids_by false x e es new w (suc k) g f = f k g
 
   ids_after : (test : FullNodeId → Bool) (es : List (FullNodeId × X)) (w : X) (k : ℕ) (e : FullNodeId × X) → slice_get (set_value test es w) k ≡ Some e → id_at es k ≡ Some e.0
-  ids_after test [] w k e g = cc
+  ids_after test [] w k e g = absurd (none_some e g)
   ids_after test (x ∷ es) w k e g = ids_by (test x.0) x e es (set_value test es w) w k g (λ j. ids_after test es w j e)
 
   pub found_set : (cells : List Cell) (es : List (FullNodeId × X)) (test : FullNodeId → Bool) (w : X) → IsFound cells es → IsFound cells (set_value test es w)
@@ -245,17 +254,120 @@ module _ {X : Type 0} (cells : List Cell) (es : List (FullNodeId × X)) (led : I
   only_at k j e h g same = same_Some j k (sym (led j e g) ∙ ap (found cells) same ∙ h)
 
   pub no_number : found cells id ≡ None → HasNo es id
-  no_number h k e g same = some_none k (sym (led k e g) ∙ ap (found cells) same ∙ h)
-    where
-      some_none : (k : ℕ) → Some k ≡ None → ⊥
-      some_none k e = cc
+  no_number h k e g same = none_some k (sym h ∙ ap (found cells) (sym same) ∙ led k e g)
 
-  pub no_entry : (k : ℕ) → found cells id ≡ Some k → slice_get es k ≡ None → HasNo es id
-  no_entry k h none j e g same = none_some e (sym none ∙ ap (slice_get es) (sym (only_at k j e h g same)) ∙ g)
-    where
-      none_some : (e : FullNodeId × X) → None ≡ Some e → ⊥
-      none_some e h = cc
+  pub no_id : (k : ℕ) → found cells id ≡ Some k → id_at es k ≡ None → HasNo es id
+  no_id k h none j e g same = none_some e.0 (sym none ∙ ap (id_at es) (sym (only_at k j e h g same)) ∙ ap (option_map (λ (y : FullNodeId × X). y.0)) g)
 
-  pub other_entry : (k : ℕ) (x : FullNodeId × X) → found cells id ≡ Some k → slice_get es k ≡ Some x → x.0 ≢ id → HasNo es id
-  other_entry k x h at_k apart j e g same =
-      apart (ap (λ (y : FullNodeId × X). y.0) (same_Some x e (sym at_k ∙ ap (slice_get es) (sym (only_at k j e h g same)) ∙ g)) ∙ same)
+  pub other_id : (k : ℕ) (i : FullNodeId) → found cells id ≡ Some k → id_at es k ≡ Some i → (i ≡ id → ⊥) → HasNo es id
+  other_id k i h own apart j e g same =
+      apart (same_Some i e.0 (sym own ∙ ap (id_at es) (sym (only_at k j e h g same)) ∙ ap (option_map (λ (y : FullNodeId × X). y.0)) g) ∙ same)
+
+  pub found_at : (k : ℕ) → id_at es k ≡ Some id → found cells id ≡ Some k
+  found_at k own = let e = entry_at es k id own in ap (found cells) (sym e.1.1) ∙ led k e.0 e.1.0
+
+module _ {X : Type 0} (cells new : List Cell) (es : List (FullNodeId × X)) (n : ℕ) (led : IsFoundBelow cells es n) where
+  -- the first entries are found still
+  pub below_kept : ((q : FullNodeId) (k : ℕ) → found cells q ≡ Some k → found new q ≡ Some k) → IsFoundBelow new es n
+  below_kept kept k e less g = kept e.0 k (led k e less g)
+
+  pub below_set : (o : Option ℕ) → ((q : FullNodeId) (k : ℕ) → found cells q ≡ Some k → o ≢ Some k → found new q ≡ Some k) → ((k : ℕ) → k < n → o ≢ Some k) → IsFoundBelow new es n
+  below_set o kept none k e less g = kept e.0 k (led k e less g) (none k less)
+
+  pub below_split : (o : Option ℕ) (j : ℕ) (x : FullNodeId × X) → ((q : FullNodeId) (k : ℕ) → found cells q ≡ Some k → (o ≡ Some k → q ≡ x.0) → found new q ≡ Some k) → o ≡ Some j → slice_get es j ≡ Some x → IsFoundBelow new es n
+  below_split o j x kept is at_j k e less g =
+      kept e.0 k (led k e less g)
+      (λ h. ap (λ (y : FullNodeId × X). y.0) (same_Some e x (sym g ∙ ap (slice_get es) (same_Some k j (sym h ∙ is)) ∙ at_j)))
+
+module _ {X : Type 0} (cells : List Cell) (es : List (FullNodeId × X)) where
+  pub none_below : IsFoundBelow cells es 0
+  none_below k e less g = absurd (omega arith)
+
+  next_by : (n k : ℕ) (e x : FullNodeId × X) → ((eqb k n ≡ true) × (k ≡ n)) ⊎ ((eqb k n ≡ false) × (k ≢ n)) → IsFoundBelow cells es n → slice_get es n ≡ Some x → found cells x.0 ≡ Some n → k < n + 1 → slice_get es k ≡ Some e → found cells e.0 ≡ Some k
+  next_by n k e x (inl (b, is)) led at_n own less g =
+      ap (λ (y : FullNodeId × X). found cells y.0) (same_Some e x (sym g ∙ ap (slice_get es) is ∙ at_n)) ∙ own ∙ ap Some (sym is)
+  next_by n k e x (inr (b, apart)) led at_n own less g = led k e (omega (arith, less, apart)) g
+
+  pub next_below : (n : ℕ) (x : FullNodeId × X) → IsFoundBelow cells es n → slice_get es n ≡ Some x → found cells x.0 ≡ Some n → IsFoundBelow cells es (n + 1)
+  next_below n x led at_n own k e less g = next_by n k e x (eqb_tells k n) led at_n own less g
+
+  pub all_below : IsFoundBelow cells es (length es) → IsFound cells es
+  all_below led k e g = led k e (slice_get_within es k e g) g
+
+  pub below_all : (n : ℕ) → IsFound cells es → IsFoundBelow cells es n
+  below_all n led k e less g = led k e g
+
+-- no entry before one of entries that are apart has its id
+pub apart_before : {X : Type 0} (es : List (FullNodeId × X)) (n : ℕ) (x : FullNodeId × X) → AreApart es → slice_get es n ≡ Some x → HasNoBelow es n x.0
+apart_before es n x apart at_n k e less g same = let is : k ≡ n = apart k n e x g at_n same in absurd (omega (arith, is, less))
+
+pub none_before : {X : Type 0} (es : List (FullNodeId × X)) (n : ℕ) (id : FullNodeId) → HasNo es id → HasNoBelow es n id
+none_before es n id none k e less g = none k e g
+
+-- the ids of one entry more
+take_next : {X : Type 0} (es : List X) (k : ℕ) (x : X) → slice_get es k ≡ Some x → take (suc k) es ≡ take k es ++ x ∷ []
+take_next [] k x g = absurd (none_some x g)
+take_next (y ∷ es) zero x g = ap (λ z. z ∷ []) (same_Some y x g)
+take_next (y ∷ es) (suc k) x g = ap (λ l. y ∷ l) (take_next es k x g)
+
+one_more : (k : ℕ) → suc k ≡ k + 1
+one_more k = omega arith
+
+pub keys_next : {X : Type 0} (es : List (FullNodeId × X)) (k : ℕ) (x : FullNodeId × X) (before now later : List FullNodeId) → slice_get es k ≡ Some x
+    → now ≡ before ++ keys_of (take k es) → later ≡ now ++ x.0 ∷ [] → later ≡ before ++ keys_of (take (k + 1) es)
+keys_next {X} es k x before now later g e f =
+    f ∙ ap (λ l. l ++ x.0 ∷ []) e ∙ append_assoc before (keys_of (take k es)) (x.0 ∷ [])
+    ∙ ap (λ l. before ++ l)
+    (sym (map-append (λ (p : FullNodeId × X). p.0) (take k es) (x ∷ []))
+    ∙ ap keys_of (sym (take_next es k x g)) ∙ ap (λ n. keys_of (take n es)) (one_more k))
+
+pub some_value : {X : Type 0} (es : List (FullNodeId × X)) (k : ℕ) (id : FullNodeId) → AreApart es → id_at es k ≡ Some id → is_some (value_at es id) ≡ true
+some_value es k id apart own = let e = entry_at es k id own in ap is_some (ap (value_at es) (sym e.1.1) ∙ at_index es k e.0 apart e.1.0)
+
+pub set_value_at : {X : Type 0} (es : List (FullNodeId × X)) (id : FullNodeId) (w : X) → IsSome (value_at es id) → (q : FullNodeId) → value_at (set_value (is_at (full_cmp id)) es w) q ≡ cond (is_at (full_cmp id) q) (Some w) (value_at es q)
+set_value_at es id w some q = lookup-set_value {eq = λ a b. is_at (full_cmp a) b} (eq_by_cmp_equiv full_total) (is_at (full_cmp id)) (λ x y e. ap (λ i. is_at (full_cmp i) y) (same_id id x e)) q w es some
+
+pub split_by : {X A B : Type 0} (r : Result A B) (cells new : List Cell) (es : List (FullNodeId × X)) (n : ℕ) → IsFoundBelow cells es n → (o : Option ℕ) (j : ℕ) (x : FullNodeId × X)
+    → OnOk r ((q : FullNodeId) (k : ℕ) → found cells q ≡ Some k → (o ≡ Some k → q ≡ x.0) → found new q ≡ Some k) → OnErr r (new ≡ cells) → o ≡ Some j → slice_get es j ≡ Some x → IsFoundBelow new es n
+split_by (Ok a) cells new es n led o j x others err is at_j = below_split cells new es n led o j x others is at_j
+split_by (Err b) cells new es n led o j x others err is at_j = subst (λ l. IsFoundBelow l es n) (sym err) led
+
+-- what std says of `swap_remove`, in lengths of lists
+pub swapped_from : {X : Type 0} (es new : List (FullNodeId × X)) (n size left : ℕ) → size ≡ length es → left ≡ length new → n < size → left + 1 ≡ size
+    → (((d : FullNodeId × X) → n + 1 < size → get_or new n d ≡ get_or es (size - 1) d) × ((k : ℕ) (d : FullNodeId × X) → k ≢ n → k + 1 < size → get_or new k d ≡ get_or es k d)) → IsSwapped es new n
+swapped_from es new n size left e f within count by = record {
+  within = omega (arith, within, e);
+  count = omega (arith, count, e, f);
+  moved = λ d less. by.0 d (omega (arith, less, e)) ∙ ap (λ m. get_or es (m - 1) d) e;
+  others = λ k d apart less. by.1 k d apart (omega (arith, less, e));
+}
+
+module _ {X : Type 0} (cells first : List Cell) (es new : List (FullNodeId × X)) (n : ℕ) (id : FullNodeId) (swap : IsSwapped es new n) (led : IsFound cells es) (own : id_at es n ≡ Some id) (kept : (q : FullNodeId) (k : ℕ) → found cells q ≡ Some k → (found cells id ≡ Some k → ⊥) → found first q ≡ Some k) where
+  found_first : (k : ℕ) (e : FullNodeId × X) → slice_get es k ≡ Some e → k ≢ n → found first e.0 ≡ Some k
+  found_first k e g apart = kept e.0 k (led k e g) (λ h. apart (same_Some k n (sym h ∙ found_at cells es led id n own)))
+
+  -- the last entry was removed
+  pub removed_last : length new ≤ n → IsFound first new
+  removed_last past j e g = by (stood es new n swap j e g)
+    where
+      by : Stood es new n swap j e → found first e.0 ≡ Some j
+      by p = elim p.1.1.1 [
+        | inl x ↦ absurd (omega (arith, past, x.0, slice_get_within new j e g))
+        | inr x ↦ found_first p.0 e p.1.0 p.1.1.0 ∙ ap Some x.1
+      ]
+
+  module _ (x : FullNodeId × X) (read : x ≡ get_or new n x) (less : n < length new) where
+    last_at : slice_get es (length es - 1) ≡ Some x
+    last_at = slice_get_read es (length es) (length es - 1) x refl (omega (arith, swap.within)) (read ∙ swap.moved x (omega (arith, less, swap.count)))
+
+    pub found_last : found first x.0 ≡ Some (length es - 1)
+    found_last = found_first (length es - 1) x last_at (λ same. absurd (omega (arith, less, swap.count, same)))
+
+    pub removed_moved : (later : List Cell) → found later x.0 ≡ Some n → ((q : FullNodeId) (k : ℕ) → found first q ≡ Some k → (found first x.0 ≡ Some k → ⊥) → found later q ≡ Some k) → IsFound later new
+    removed_moved later moved others j e g = by (stood es new n swap j e g)
+      where
+        by : Stood es new n swap j e → found later e.0 ≡ Some j
+        by p = elim p.1.1.1 [
+          | inl y ↦ ap (λ (z : FullNodeId × X). found later z.0) (same_Some e x (sym g ∙ ap (slice_get new) y.0 ∙ slice_get_read new (length new) n x refl less read)) ∙ moved ∙ ap Some (sym y.0)
+          | inr y ↦ others e.0 p.0 (found_first p.0 e p.1.0 p.1.1.0) (λ h. let same : p.0 ≡ length es - 1 = same_Some p.0 (length es - 1) (sym h ∙ found_last) in absurd (omega (arith, same, y.1, swap.count, slice_get_within new j e g))) ∙ ap Some y.1
+        ]

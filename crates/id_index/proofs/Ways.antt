@@ -3,7 +3,7 @@ use Rattle.std.proofs.Common.{◌≡◌, ◌≢◌, ℕ, zero, suc, ◌+◌, ◌
 use Rattle.std.proofs.lemmas.Bool.{cases_lt}
 use Rattle.std.proofs.lemmas.Bool.Decides.{eqb_tells}
 use Rattle.std.proofs.lemmas.Option.{same_Some}
-use Rattle.std.proofs.lemmas.List.{get_or_append_left, get_or-append-add, get_or-append_right, length-set}
+use Rattle.std.proofs.lemmas.List.{get_or_default, get_or_append_left, get_or-append-add, get_or-append_right, length-set}
 use Rattle.model.specs.declared.FullNodeId.{FullNodeId}
 use Rattle.id_index.specs.declared.trie.Cell.{Cell}
 use Rattle.id_index.specs.declared.trie.Cell.TheVariants.{Empty, Entry, Node}
@@ -189,7 +189,7 @@ module _ (cells node : List Cell) (p s : ℕ) (within : p < length cells) (last 
           let is : cell_at cells p ≡ Entry k = sym (stay cells q f (cell_at cells p) last) ∙ e in
           ap (λ n. after split_cells q n (cell_at split_cells p)) (later_one f)
           ∙ ap (after split_cells q (suc f)) split_at
-          ∙ ap (λ w. after split_cells q f (cell_at split_cells (length cells + digit_of s w))) (to_other is)
+          ∙ ap (λ w. after split_cells q f (cell_at split_cells (length cells + digit_of s w))) (to_other (ap number_of is))
           ∙ ap (after split_cells q f) (split_new (digit_of s other) ∙ stands ∙ is)
           ∙ stay split_cells q f (Entry k) refl
 
@@ -268,8 +268,7 @@ pub on_end : (cells : List Cell) (q : FullNodeId) (s f p : ℕ) → IsOn cells q
 on_end cells q s f p on place within last = record { steps = on.steps; shift = s; first = f; leads = on.leads; place_is = place; within = within; soon = omega (arith, on.soon, place); last = last }
 
 -- the new node has the cell that was there, and the new entry
-module _ (cells blank : List Cell) (p s number : ℕ) (id other : FullNodeId) (within : p < length cells) (last : is_last (cell_at cells p) ≡ true) (sixteen : length blank ≡ 16) (lasts : (d : ℕ) → is_last (cell_at blank d) ≡ true)
-    (differ : digit_of s id ≢ digit_of s other) (own_fits : digit_of s id < 16) (other_fits : digit_of s other < 16) where
+module _ (cells blank : List Cell) (p s number : ℕ) (id other : FullNodeId) (within : p < length cells) (last : is_last (cell_at cells p) ≡ true) (sixteen : length blank ≡ 16) (lasts : (d : ℕ) → is_last (cell_at blank d) ≡ true) (differ : digit_of s id ≢ digit_of s other) (own_fits : digit_of s id < 16) (other_fits : digit_of s other < 16) where
   abbrev pub new_node : List Cell
   new_node = set (set blank (digit_of s other) (cell_at cells p)) (digit_of s id) (Entry number)
 
@@ -295,3 +294,30 @@ module _ (cells blank : List Cell) (p s number : ℕ) (id other : FullNodeId) (w
 
   pub parted_ordered : s < 128 → IsOrdered cells → IsOrdered (set (cells ++ new_node) p (Node s (length cells)))
   parted_ordered b o = split_ordered cells new_node p s within last node_long node_lasts b o
+
+  pub same_split : {grown room : List Cell} {first d_own d_other : ℕ} {x : Cell} → grown ≡ room ++ set (set blank d_other x) d_own (Entry number) → room ≡ cells → x ≡ cell_at cells p → first ≡ length cells → d_own ≡ digit_of s id → d_other ≡ digit_of s other
+      → set grown p (Node s first) ≡ set (cells ++ new_node) p (Node s (length cells))
+  same_split {grown} {room} {first} {d_own} {d_other} {x} grown_is room_is x_is first_is own_is other_is =
+      ap (λ g. set g p (Node s first)) grown_is
+      ∙ ap (λ r. set (r ++ set (set blank d_other x) d_own (Entry number)) p (Node s first)) room_is
+      ∙ ap (λ y. set (cells ++ set (set blank d_other y) d_own (Entry number)) p (Node s first)) x_is
+      ∙ ap (λ d. set (cells ++ set (set blank d (cell_at cells p)) d_own (Entry number)) p (Node s first)) other_is
+      ∙ ap (λ d. set (cells ++ set (set blank (digit_of s other) (cell_at cells p)) d (Entry number)) p (Node s first)) own_is
+      ∙ ap (λ f. set (cells ++ new_node) p (Node s f)) first_is
+
+-- what was read is the cell
+pub cell_is : (cells : List Cell) (p : ℕ) (x : Cell) → x ≡ get_or cells p x → p < length cells → cell_at cells p ≡ x
+cell_is cells p x h less = sym (h ∙ get_or_default cells p x Empty less)
+
+pub smaller : (n f g : ℕ) → f < g → g + 16 ≤ n → n - g < n - f
+smaller n f g less fits = omega arith
+
+-- empty cells
+abbrev pub blanks : ℕ → List Cell
+blanks zero = []
+blanks (suc n) = Empty ∷ blanks n
+
+pub blanks_last : (n d : ℕ) → is_last (cell_at (blanks n) d) ≡ true
+blanks_last zero d = refl
+blanks_last (suc n) zero = refl
+blanks_last (suc n) (suc d) = blanks_last n d

@@ -138,6 +138,7 @@ impl<V: Drop> IdIndex<V> {
         Some(value)
     }
 
+    #[tactic(auto, using(crate::proofs::Led::keys_next))]
     /// The ids that have a value.
     ///
     /// # Errors

@@ -1,13 +1,13 @@
 //! Entries in a list, which a trie finds by their ids.
-ghost use Rattle.std.specs.Prelude.{◌≡◌, ◌≢◌, ◌<◌, ◌+◌, ℕ, [], length, cond, slice_get, option_copied, is_some, Some, None, IsSome, IfSome, IfOk, OnOk, OnErr, option_and_then};
-ghost use Rattle.std.specs.Option.{option_copied_mut, option_map};
+ghost use Rattle.std.specs.Prelude.{◌≡◌, ◌<◌, ◌≤◌, ◌+◌, [], length, cond, option_copied, is_some, Some, None, IsSome, IfSome, IfOk, OnOk, OnErr, IsTrue, ◌↔◌};
+ghost use Rattle.std.specs.Option.{option_copied_mut};
 ghost use Rattle.std.specs.Borrow.{sem};
 ghost use Rattle.std.specs.BTreeMap.{is_at};
 ghost use Rattle.model.specs.declared.FullNodeId.{FullNodeId};
 ghost use Rattle.model.specs.FullIds.{full_cmp};
 ghost use Rattle.id_index.specs.Cells.{value_at, size};
-ghost use Rattle.id_index.specs.Ways.{found, number_of, cell_at};
-ghost use Rattle.id_index.specs.Found.{IsFound, HasNo, AreApart, id_at};
+ghost use Rattle.id_index.specs.Ways.{found};
+ghost use Rattle.id_index.specs.Found.{IsFound, IsFoundBelow, HasNo, HasNoBelow, AreApart, id_at};
 ghost use Rattle.id_index.specs.Lends.{lends_value, lends_other};
 
 use crate::room::make_room;
@@ -54,23 +54,25 @@ impl<V: Drop> Others<V> {
         self.entries.as_slice()
     }
 
+    #[tactic(auto, using(crate::proofs::Led::no_number, crate::proofs::Led::none_there))]
     // the number of an id's entry
-    fn number(&self, id: FullNodeId) -> Option<usize>
+    fn number(&self, id: FullNodeId) -> Option<u32>
         ensures there { IfSome result (λ k. id_at self.now k ≡ Some id) }
         ensures none { result ≡ None → HasNo self.now id }
         ensures found { is_some result ≡ is_some (value_at self.now id) }
     {
-        let number = self.trie.find(id)? as usize;
-        let entry = self.entries.get(number)?;
-        if entry.0 == id { Some(number) } else { None }
+        let number = self.trie.find(id)?;
+        let kept = id_of(self.entries.as_slice(), number as usize)?;
+        if is_same(kept, id) { Some(number) } else { None }
     }
 
+    #[tactic(auto, using(crate::proofs::Led::none_there))]
     /// The value at an id.
     pub(crate) fn get(&self, id: FullNodeId) -> Option<&V>
         ensures { option_copied result ≡ value_at self.now id }
     {
         let number = self.number(id)?;
-        Some(&self.entries[number].1)
+        Some(&self.entries[number as usize].1)
     }
 
     /// Whether an id has a value.
@@ -86,7 +88,7 @@ impl<V: Drop> Others<V> {
         ensures value { option_copied_mut result ≡ value_at self.old id }
     {
         match self.number(id) {
-            Some(number) => Some(self.value_mut(id, number)),
+            Some(number) => Some(self.value_mut(id, number as usize)),
             None => None,
         }
     }
@@ -114,7 +116,7 @@ impl<V: Drop> Others<V> {
     {
         self.tidy(alloc)?;
         make_room(&mut self.entries, 1)?;
-        lead(&mut self.trie, self.entries.as_slice(), id)?;
+        lead(&mut self.trie, self.entries.as_slice(), self.entries.len(), id)?;
         self.entries.push_reserved((id, value));
         Ok(())
     }
@@ -148,10 +150,11 @@ impl<V: Drop> Others<V> {
     {
         let number = self.number(id)?;
         self.trie.put(id, None);
-        let (_, value) = self.entries.swap_remove(number);
-        if number < self.entries.len() {
-            let moved = self.entries[number].0;
-            self.trie.put(moved, Some(number as u32));
+        let index = number as usize;
+        let (_, value) = self.entries.swap_remove(index);
+        if index < self.entries.len() {
+            let moved = self.entries[index].0;
+            self.trie.put(moved, Some(number));
         }
         Some(value)
     }
@@ -160,42 +163,49 @@ impl<V: Drop> Others<V> {
 /// How many entries there may be, so that their numbers fit 32 bits.
 const MOST: usize = u32::MAX as usize;
 
-// makes the id of the next entry lead to its number
-fn lead<V>(
-    trie: &mut Trie,
-    entries: &[(FullNodeId, V)],
-    id: FullNodeId,
-) -> Result<(), AllocError>
-    requires known { IsFound trie.old entries.now }
-    requires absent { HasNo entries.now id }
-    ensures known { IsFound trie.new entries.now }
-    ensures next { OnOk result (found trie.new id ≡ Some (length entries.now)) }
+// the id of the entry with a number
+fn id_of<V>(entries: &[(FullNodeId, V)], number: usize) -> Option<FullNodeId>
+    ensures { result ≡ id_at entries.now number }
 {
-    if entries.len() > MOST {
-        return Err(AllocError);
-    }
-    let number = entries.len() as u32;
-    trie.make_first()?;
-    let place = trie.end(id);
-    match standing(trie, entries, place) {
-        None => {
-            trie.set(place, Some(number));
-            Ok(())
-        }
-        Some(other) => trie.split(place, id, number, other),
-    }
-}
-
-// the id of the entry whose number is in a cell
-fn standing<V>(trie: &Trie, entries: &[(FullNodeId, V)], place: usize) -> Option<FullNodeId>
-    requires { place < length trie.now }
-    ensures { result ≡ option_and_then (λ k. id_at entries.now k) (number_of (cell_at trie.now place)) }
-{
-    let number = trie.number_at(place)?;
-    let entry = entries.get(number as usize)?;
+    let entry = entries.get(number)?;
     Some(entry.0)
 }
 
+fn is_same(a: FullNodeId, b: FullNodeId) -> bool
+    ensures { IsTrue result ↔ (a ≡ b) }
+{
+    a == b
+}
+
+#[tactic(auto, using(crate::proofs::Led::below_kept, crate::proofs::Led::below_set, crate::proofs::Led::below_split))]
+// makes the id of an entry lead to its number, after those before it
+fn lead<V>(
+    trie: &mut Trie,
+    entries: &[(FullNodeId, V)],
+    number: usize,
+    id: FullNodeId,
+) -> Result<(), AllocError>
+    requires within { number ≤ length entries.now }
+    requires known { IsFoundBelow trie.old entries.now number }
+    requires absent { HasNoBelow entries.now number id }
+    ensures known { IsFoundBelow trie.new entries.now number }
+    ensures next { OnOk result (found trie.new id ≡ Some number) }
+{
+    if number > MOST {
+        return Err(AllocError);
+    }
+    trie.make_first()?;
+    let place = trie.end(id);
+    match trie.number_below(place, number) {
+        None => {
+            trie.set(place, Some(number as u32));
+            Ok(())
+        }
+        Some(other) => trie.split(place, id, number as u32, entries[other].0),
+    }
+}
+
+#[tactic(auto, using(crate::proofs::Led::none_below, crate::proofs::Led::next_below, crate::proofs::Led::apart_before, crate::proofs::Led::all_below))]
 // a trie in which the id of each entry leads to its number
 fn trie_of<V>(alloc: Global, entries: &[(FullNodeId, V)]) -> Result<Trie, AllocError>
     requires { AreApart entries.now }
@@ -203,7 +213,7 @@ fn trie_of<V>(alloc: Global, entries: &[(FullNodeId, V)]) -> Result<Trie, AllocE
 {
     let mut trie = Trie::new(alloc);
     for (number, entry) in entries.iter().enumerate() {
-        lead(&mut trie, &entries[..number], entry.0)?;
+        lead(&mut trie, entries, number, entry.0)?;
     }
     Ok(trie)
 }

@@ -1,5 +1,5 @@
 //! A trie: numbers of entries, found by the digits of their ids.
-ghost use Rattle.std.specs.Prelude.{◌≡◌, ◌≢◌, ℕ, ◌≤◌, ◌<◌, ◌^◌, ◌/◌, ◌%◌, [], length, true, Some, OnOk, OnErr};
+ghost use Rattle.std.specs.Prelude.{◌≡◌, ◌≢◌, ℕ, ◌≤◌, ◌<◌, ◌^◌, ◌/◌, ◌%◌, [], length, true, Some, None, IfSome, OnOk, OnErr};
 ghost use Rattle.model.specs.declared.FullNodeId.{FullNodeId};
 ghost use Rattle.id_index.specs.Ways.{digit_of, cell_at, is_last, number_of, found, IsEnd};
 
@@ -104,6 +104,17 @@ impl Trie {
         }
     }
 
+    /// The number in a cell, if it is below another one.
+    pub(crate) fn number_below(&self, place: usize, count: usize) -> Option<usize>
+        requires { place < length self.now }
+        ensures there { IfSome result (λ k. number_of (cell_at self.now place) ≡ Some k) }
+        ensures below { IfSome result (λ k. k < count) }
+        ensures none { result ≡ None → (k : ℕ) → k < count → number_of (cell_at self.now place) ≢ Some k }
+    {
+        let number = self.number_at(place)? as usize;
+        if number < count { Some(number) } else { None }
+    }
+
     /// Makes the first node, if there is none.
     pub(crate) fn make_first(&mut self) -> Result<(), AllocError>
         ensures there { OnOk result (0 < length self.new) }
@@ -123,10 +134,11 @@ impl Trie {
         ensures ends { (id : FullNodeId) → IsEnd self.old id place → found self.new id ≡ number }
         ensures others { (id : FullNodeId) (k : ℕ) → found self.old id ≡ Some k → number_of (cell_at self.old place) ≢ Some k → found self.new id ≡ Some k }
     {
-        self.cells[place] = match number {
+        let cell = match number {
             Some(number) => Cell::Entry(number),
             None => Cell::Empty,
         };
+        self.cells[place] = cell;
     }
 
     #[tactic(auto, using(crate::proofs::Ways::end_found))]

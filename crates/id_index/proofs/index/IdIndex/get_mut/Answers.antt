@@ -40,15 +40,11 @@ invariant_of-self-lent-2 g c r =
     let id = c.args.id.now in
     let k = c.self.invariant in (
       (λ w. record {
-        apart = λ q h. ap (λ es. value_at es q) (c.get_mut.follows.holds w).0 ∙ none_after (is_at (full_cmp id)) q w others (k.apart q h);
-        count = ap (λ es. length (cell_entries 0 rows ++ es)) (c.get_mut.follows.holds w).0 ∙ length_written rows others id w ∙ k.count;
+        apart = λ q h. none_after (is_at (full_cmp id)) q w others (k.apart q h);
+        count = length_written rows others id w ∙ k.count;
         bound = k.bound;
       }),
-      record {
-        apart = λ q h. ap (λ m. value_at m.entries q) c.get_mut.follows.holds-at-none ∙ k.apart q h;
-        count = ap (λ m. length (cell_entries 0 rows ++ m.entries)) c.get_mut.follows.holds-at-none ∙ k.count;
-        bound = k.bound;
-      },
+      k,
     )
 
 pub returns : goal.returns
@@ -59,8 +55,8 @@ returns g c =
     let none = sym c.get.ensures ∙ copied_none c.get.result (sym c.is_some.ensures ∙ c.if-is_some.false) in (
       (
         refl,
-        (λ w. on_some c.get_mut.result _ (ap (λ es. cell_entries 0 rows ++ es) (c.get_mut.follows.holds w).0 ∙ written_other rows others id w none ∙ ap (λ es. set_value (is_at (full_cmp id)) es w) c.self.view_is)),
-        ap (λ m. cell_entries 0 rows ++ m.entries) c.get_mut.follows.holds-at-none ∙ c.self.view_is,
+        (λ w. on_some c.get_mut.result _ (written_other rows others id w none ∙ ap (λ es. set_value (is_at (full_cmp id)) es w) c.self.view_is)),
+        c.self.view_is,
       ),
       record { writes_back = tt; value = c.get_mut.ensures.value ∙ sym (at_none rows others id none) ∙ ap (λ es. value_at es id) c.self.view_is },
     )

@@ -8,8 +8,8 @@ use Rattle.id_index.proofs.Entries.{at_none, at_some, set_at, counted}
 use Rattle.id_index.proofs.Kept.{at_both, both_after, stays, apart_cells, apart_others, not_in_cells, nothing_there, no_cell, length_by, length_before, length_kept, found_in_cell}
 use Rattle.id_index.proofs.index.IdIndex.insert.Goals as goal
 
-pub invariant_of-self-then-contains_key : goal.invariant_of-self-then-contains_key
-invariant_of-self-then-contains_key g c =
+pub invariant_of-self : goal.invariant_of-self
+invariant_of-self g c =
     let rows = c.self-2.inside.rows in
     let others = c.self-2.inside.others in
     let k = c.self-2.invariant in
