@@ -187,9 +187,11 @@ module _ {X : Type 0} (es new : List (FullNodeId × X)) (n : ℕ) (swap : IsSwap
   stands_by k e (inr more) apart g =
       let within : k < length es = slice_get_within es k e g in
       let last : length es - 1 ≡ k = omega (arith, within, more) in
-      let less : n + 1 < length es = omega (arith, swap.within, within, more, apart) in
-      (n, slice_get_read new (length new) n e refl (omega (arith, less, swap.count))
-      (sym (get_or_from_slice_get es k e e g) ∙ ap (λ i. get_or es i e) (sym last) ∙ sym (swap.moved e less)))
+      let less : n + 1 < length es = omega (arith, swap.within, within, more, apart) in (
+        n,
+        slice_get_read new (length new) n e refl (omega (arith, less, swap.count))
+            (sym (get_or_from_slice_get es k e e g) ∙ ap (λ i. get_or es i e) (sym last) ∙ sym (swap.moved e less)),
+      )
 
   pub stands : (k : ℕ) (e : FullNodeId × X) → k ≢ n → slice_get es k ≡ Some e → (j : ℕ) × (slice_get new j ≡ Some e)
   stands k e apart g = stands_by k e (cases_lt (k + 1) (length es)) apart g

@@ -63,7 +63,11 @@ impl<V: Drop> Others<V> {
     {
         let number = self.trie.find(id)?;
         let kept = id_of(self.entries.as_slice(), number as usize)?;
-        if is_same(kept, id) { Some(number) } else { None }
+        if is_same(kept, id) {
+            Some(number)
+        } else {
+            None
+        }
     }
 
     #[tactic(auto, using(crate::proofs::Led::none_there))]
@@ -116,7 +120,12 @@ impl<V: Drop> Others<V> {
     {
         self.tidy(alloc)?;
         make_room(&mut self.entries, 1)?;
-        lead(&mut self.trie, self.entries.as_slice(), self.entries.len(), id)?;
+        lead(
+            &mut self.trie,
+            self.entries.as_slice(),
+            self.entries.len(),
+            id,
+        )?;
         self.entries.push_reserved((id, value));
         Ok(())
     }

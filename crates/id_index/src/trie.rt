@@ -15,10 +15,7 @@ pub(crate) enum Cell {
     /// The number of an entry: no other entry has an id that leads here.
     Entry(u32),
     /// A node that goes by the digit at this shift, and the place of its first cell.
-    Node {
-        shift: u8,
-        first: u32,
-    },
+    Node { shift: u8, first: u32 },
 }
 
 /// The cells of all nodes, sixteen for each. The first node goes by the lowest digit.
