@@ -1,6 +1,6 @@
 -- Digits of numbers, four bits each.
-use Rattle.std.proofs.Common.{◌≡◌, ◌≢◌, ℕ, ◌+◌, ◌*◌, ◌/◌, ◌%◌, ◌^◌, ◌<◌, sym, ap, ◌∙◌, arith, lit<}
-use Rattle.std.proofs.Math.Nat.{div-add-mod, div-div-eq-div-mul, mod-eq_of_lt, div-lt_iff_lt-mul, div-one}
+use Rattle.std.proofs.Common.{◌≡◌, ◌≢◌, ℕ, ◌+◌, ◌*◌, ◌/◌, ◌%◌, ◌^◌, ◌<◌, sym, ap, ◌∙◌, lit<}
+use Rattle.std.proofs.Math.Nat.{div-add-mod, div-div-eq-div-mul, mod-eq_of_lt, div-lt_iff_lt-mul}
 use Rattle.std.proofs.lemmas.Nat.{pow-add}
 
 shifted : (a s : ℕ) → a / 2 ^ (s + 4) ≡ a / 2 ^ s / 16

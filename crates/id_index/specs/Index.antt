@@ -1,5 +1,5 @@
 -- What is kept by id.
-use Rattle.std.specs.Prelude.{◌≡◌, ℕ, List, ◌++◌, Option, Some, None, length, IsSome, ◌<◌, ◌^◌}
+use Rattle.std.specs.Prelude.{◌≡◌, List, ◌++◌, None, length, IsSome, ◌<◌, ◌^◌}
 use Rattle.model.specs.declared.FullNodeId.{FullNodeId}
 use Rattle.id_index.specs.declared.index.IdIndex.TheInside.{Inside}
 use Rattle.id_index.specs.Cells.{cell_entries, cell_at, value_at}

@@ -1,5 +1,5 @@
 -- The way of an id through a trie. From a cell that is a node it goes to that node's cell for the id's digit; it ends at any other cell.
-use Rattle.std.specs.Prelude.{◌≡◌, ℕ, zero, suc, ◌+◌, ◌-◌, ◌/◌, ◌%◌, ◌^◌, ◌<◌, ◌≤◌, Bool, true, false, cond, nat_lt, List, length, Option, Some, None, slice_get, slice_index_or}
+use Rattle.std.specs.Prelude.{◌≡◌, ℕ, zero, suc, ◌+◌, ◌-◌, ◌/◌, ◌%◌, ◌^◌, ◌<◌, ◌≤◌, Bool, true, false, cond, nat_lt, List, length, Option, Some, None, slice_index_or}
 use Rattle.model.specs.declared.FullNodeId.{FullNodeId}
 use Rattle.id_index.specs.declared.trie.Cell.{Cell}
 use Rattle.id_index.specs.declared.trie.Cell.TheVariants.{Empty, Entry, Node}

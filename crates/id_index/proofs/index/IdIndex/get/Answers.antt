@@ -1,5 +1,4 @@
-use Rattle.std.proofs.Common.{sym, ap, ◌∙◌}
-use Rattle.id_index.specs.Cells.{value_at}
+use Rattle.std.proofs.Common.{sym, ◌∙◌}
 use Rattle.id_index.proofs.Entries.{at_some, at_none}
 use Rattle.id_index.proofs.index.IdIndex.get.Goals as goal
 

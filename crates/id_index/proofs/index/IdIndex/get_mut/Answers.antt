@@ -1,9 +1,9 @@
-use Rattle.std.proofs.Common.{◌≡◌, ◌++◌, length, Some, None, refl, sym, ap, ◌∙◌, arith}
-use Rattle.std.specs.Prelude.{is_some, OnSome}
+use Rattle.std.proofs.Common.{Some, refl, sym, ap, ◌∙◌, arith}
+use Rattle.std.specs.Prelude.{is_some}
 use Rattle.std.specs.Map.{set_value}
 use Rattle.std.specs.BTreeMap.{is_at}
 use Rattle.model.specs.FullIds.{full_cmp}
-use Rattle.id_index.specs.Cells.{cell_entries, with_cell, value_at, size}
+use Rattle.id_index.specs.Cells.{cell_entries, with_cell, value_at}
 use Rattle.id_index.proofs.Entries.{at_none, at_some, set_at, counted}
 use Rattle.id_index.proofs.Kept.{apart_cells, filled, none_after, copied_none, on_some, length_before, written_cell, written_other, length_written}
 use Rattle.id_index.proofs.index.IdIndex.get_mut.Goals as goal

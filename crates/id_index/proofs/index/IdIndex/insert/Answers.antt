@@ -1,11 +1,10 @@
-use Rattle.std.proofs.Common.{◌≡◌, ◌+◌, ◌++◌, length, cond, Some, None, sym, ap, ◌∙◌, arith}
-use Rattle.std.specs.Prelude.{is_some}
+use Rattle.std.proofs.Common.{◌≡◌, ◌++◌, length, cond, Some, None, sym, ap, ◌∙◌, arith}
 use Rattle.std.specs.BTreeMap.{is_at}
 use Rattle.model.specs.declared.FullNodeId.{FullNodeId}
 use Rattle.model.specs.FullIds.{full_cmp}
 use Rattle.id_index.specs.Cells.{cell_at, cell_entries, with_cell, value_at, size}
-use Rattle.id_index.proofs.Entries.{at_none, at_some, set_at, counted}
-use Rattle.id_index.proofs.Kept.{at_both, both_after, stays, apart_cells, apart_others, not_in_cells, nothing_there, no_cell, length_by, length_before, length_kept, found_in_cell}
+use Rattle.id_index.proofs.Entries.{at_none, set_at, counted}
+use Rattle.id_index.proofs.Kept.{both_after, stays, apart_cells, apart_others, not_in_cells, nothing_there, no_cell, length_by, length_before, length_kept, found_in_cell}
 use Rattle.id_index.proofs.index.IdIndex.insert.Goals as goal
 
 pub invariant_of-self : goal.invariant_of-self

@@ -1,8 +1,8 @@
-use Rattle.std.proofs.Common.{◌≡◌, cond, Some, None, refl, sym, ap, subst, ◌∙◌}
+use Rattle.std.proofs.Common.{cond, None, refl, sym, ap, subst, ◌∙◌}
 use Rattle.std.specs.Prelude.{IsSome}
 use Rattle.std.specs.BTreeMap.{is_at}
 use Rattle.model.specs.FullIds.{full_cmp}
-use Rattle.id_index.specs.Cells.{cell_at, value_at}
+use Rattle.id_index.specs.Cells.{value_at}
 use Rattle.id_index.proofs.Entries.{at_none, at_some}
 use Rattle.id_index.proofs.Kept.{both_after, stays}
 use Rattle.id_index.proofs.index.IdIndex.remove.Goals as goal

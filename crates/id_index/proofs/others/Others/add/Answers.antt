@@ -1,4 +1,4 @@
-use Rattle.std.proofs.Common.{◌≡◌, ◌∷◌, [], length, cond, Some, None, sym, ap, subst, ◌∙◌}
+use Rattle.std.proofs.Common.{cond, Some, sym, ap, subst, ◌∙◌}
 use Rattle.std.specs.BTreeMap.{is_at}
 use Rattle.model.specs.FullIds.{full_cmp}
 use Rattle.id_index.specs.Cells.{value_at}

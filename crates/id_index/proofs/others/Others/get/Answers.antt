@@ -1,4 +1,4 @@
-use Rattle.std.proofs.Common.{◌≡◌, sym, ap, ◌∙◌}
+use Rattle.std.proofs.Common.{sym, ap, ◌∙◌}
 use Rattle.id_index.specs.Cells.{value_at}
 use Rattle.id_index.specs.Found.{id_at}
 use Rattle.id_index.proofs.Led.{read_value, apart_when_found}

@@ -1,5 +1,5 @@
-use Rattle.std.proofs.Common.{◌≡◌, Some, None, sym, ap, subst, ◌∙◌}
-use Rattle.std.specs.Prelude.{is_some, IsTrue}
+use Rattle.std.proofs.Common.{Some, sym, ap, subst, ◌∙◌}
+use Rattle.std.specs.Prelude.{is_some}
 use Rattle.id_index.specs.Cells.{value_at}
 use Rattle.id_index.specs.Found.{HasNo, id_at}
 use Rattle.id_index.proofs.Led.{not_both, no_id, other_id, none_there, some_value, apart_when_found}

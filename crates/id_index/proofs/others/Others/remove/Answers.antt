@@ -1,11 +1,11 @@
-use Rattle.std.proofs.Common.{◌≡◌, ◌-◌, ◌<◌, length, cond, None, sym, ap, ◌∙◌, arith}
+use Rattle.std.proofs.Common.{◌-◌, ◌<◌, length, cond, None, sym, ap, ◌∙◌, arith}
 use Rattle.std.specs.BTreeMap.{is_at}
 use Rattle.std.specs.Vec.{vec_len}
 use Rattle.model.specs.FullIds.{full_cmp}
 use Rattle.id_index.specs.Cells.{value_at}
 use Rattle.id_index.specs.Found.{id_at}
 use Rattle.id_index.proofs.Ways.{has_cells}
-use Rattle.id_index.proofs.Led.{found_at, within_entries, read_value, apart_when_found, apart_swapped, swapped_from, removed, removed_last, removed_moved, found_last, IsSwapped}
+use Rattle.id_index.proofs.Led.{found_at, within_entries, read_value, apart_when_found, apart_swapped, swapped_from, removed, removed_last, removed_moved, found_last}
 use Rattle.id_index.proofs.others.Others.remove.Goals as goal
 use Rattle.id_index.proofs.others.Others.remove.Goals.{then-index-len, else-index-len}
 

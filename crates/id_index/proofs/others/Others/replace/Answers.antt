@@ -1,4 +1,4 @@
-use Rattle.std.proofs.Common.{◌≡◌, Some, cond, ap, ◌∙◌}
+use Rattle.std.proofs.Common.{Some, cond, ap, ◌∙◌}
 use Rattle.std.specs.BTreeMap.{is_at}
 use Rattle.std.proofs.lemmas.Map.{length-set_value}
 use Rattle.model.specs.FullIds.{full_cmp}

@@ -1,4 +1,4 @@
-use Rattle.std.proofs.Common.{◌≡◌, ◌+◌, ◌<◌, length, sym, ap, ◌∙◌, arith}
+use Rattle.std.proofs.Common.{◌≡◌, ◌+◌, ◌<◌, length, ap, ◌∙◌, arith}
 use Rattle.id_index.specs.declared.trie.Cell.TheVariants.{Node}
 use Rattle.id_index.specs.Ways.{cell_at}
 use Rattle.id_index.proofs.Ways.{on_next, cell_is, smaller}

@@ -1,4 +1,4 @@
-use Rattle.std.proofs.Common.{◌≡◌, true, sym, ap, ◌∙◌}
+use Rattle.std.proofs.Common.{sym, ap, ◌∙◌}
 use Rattle.id_index.specs.Ways.{is_last, number_of}
 use Rattle.id_index.proofs.Ways.{put_ends, put_others}
 use Rattle.id_index.proofs.trie.Trie.set.Goals as goal

@@ -1,5 +1,5 @@
-use Rattle.std.proofs.Common.{◌≡◌, ◌<◌, ◌++◌, length, refl, sym, ap, subst, ◌∙◌}
-use Rattle.id_index.specs.Ways.{digit_of, cell_at, number_of, found, IsEnd, IsOrdered}
+use Rattle.std.proofs.Common.{◌<◌, refl, sym, ap, subst, ◌∙◌}
+use Rattle.id_index.specs.Ways.{cell_at, number_of, found, IsEnd, IsOrdered}
 use Rattle.id_index.proofs.Ways.{same_split, cell_is, blanks, blanks_last, parted_own, parted_others, parted_ordered}
 use Rattle.id_index.proofs.trie.Trie.split.Goals as goal
 
