@@ -1,13 +1,13 @@
 -- What an index keeps after a change.
-use Rattle.std.proofs.Common.{◌≡◌, ℕ, zero, suc, ◌+◌, ◌<◌, List, [], ◌∷◌, ◌++◌, length, Bool, true, false, true≢false, cond, Option, Some, None, refl, sym, ap, subst, ◌∙◌, arith, length-append, get_or, set, Bor}
+use Rattle.std.proofs.Common.{◌≡◌, ℕ, zero, suc, ◌+◌, List, [], ◌∷◌, ◌++◌, length, Bool, true, false, cond, Option, Some, None, refl, sym, ap, subst, ◌∙◌, arith, length-append, get_or, set, Bor}
 use Rattle.std.specs.Prelude.{is_some, IsSome, OnSome, option_copied, slice_get, if◌then◌else◌}
 use Rattle.std.specs.Map.{lookup, set_value}
 use Rattle.std.proofs.lemmas.Map.{length-set_value}
 use Rattle.std.specs.BTreeMap.{is_at}
 use Rattle.model.specs.declared.FullNodeId.{FullNodeId}
 use Rattle.model.specs.FullIds.{full_cmp}
-use Rattle.id_index.specs.Cells.{value_in, cell_of, cell_at, with_cell, row_entries, cell_entries, value_at, size}
-use Rattle.id_index.proofs.Entries.{id_of, same_id, at_itself, apart_from, row_at, row_other, at_cell, at_some, at_none, set_at, counted}
+use Rattle.id_index.specs.Cells.{value_in, cell_of, cell_at, with_cell, row_entries, cell_entries, value_at}
+use Rattle.id_index.proofs.Entries.{id_of, same_id, at_itself, apart_from, row_at, row_other, at_cell, at_some, at_none}
 
 plus_zero : (n : ℕ) → zero + n ≡ n
 plus_zero n = omega arith

@@ -1,2 +1,5 @@
 pub mod Entries
 pub mod Kept
+pub mod Ways
+pub mod Led
+pub mod Digits

@@ -1,3 +1,5 @@
 pub mod Cells
 pub mod Lends
 pub mod Index
+pub mod Ways
+pub mod Found

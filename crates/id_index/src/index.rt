@@ -9,10 +9,10 @@ ghost use Rattle.model.specs.FullIds.{full_cmp};
 ghost use Rattle.id_index.specs.Cells.{value_at, size};
 ghost use Rattle.id_index.specs.Lends.{lends_get};
 
+use crate::others::Others;
 use crate::rows::Rows;
 use model::FullNodeId;
 use std::alloc::{AllocError, Global};
-use std::collections::BTreeMap;
 use std::marker::Model;
 
 /// The maximum number of values of an index, far beyond any memory.
@@ -23,7 +23,7 @@ const MOST: usize = isize::MAX as usize;
 pub struct IdIndex<V: Drop> {
     alloc: Global,
     rows: Rows<V>,
-    others: BTreeMap<FullNodeId, V>,
+    others: Others<V>,
     len: usize,
 }
 
@@ -47,7 +47,7 @@ impl<V: Drop> IdIndex<V> {
         IdIndex {
             alloc,
             rows: Rows::new(alloc),
-            others: BTreeMap::new(alloc),
+            others: Others::new(alloc),
             len: 0,
         }
     }
@@ -65,7 +65,7 @@ impl<V: Drop> IdIndex<V> {
     {
         match self.rows.get(*id) {
             Some(value) => Some(value),
-            None => self.others.get(id),
+            None => self.others.get(*id),
         }
     }
 
@@ -84,7 +84,7 @@ impl<V: Drop> IdIndex<V> {
         if self.rows.get(*id).is_some() {
             return Some(self.rows.value_mut(*id));
         }
-        self.others.get_mut(id)
+        self.others.get_mut(*id)
     }
 
     /// Sets the value at an id and returns the one that it had.
@@ -101,15 +101,15 @@ impl<V: Drop> IdIndex<V> {
             return Err(AllocError);
         }
         self.make_place(id)?;
-        if self.others.contains_key(&id) {
-            return Ok(self.others.insert(id, value)?);
+        if self.others.contains_key(id) {
+            return Ok(self.others.replace(id, value));
         }
         if self.rows.has_cell(id) {
             let old = self.rows.put(id, Some(value));
             self.len += missing(&old);
             return Ok(old);
         }
-        drop(self.others.insert(id, value)?);
+        self.others.add(self.alloc, id, value)?;
         self.len += 1;
         Ok(None)
     }
@@ -133,11 +133,12 @@ impl<V: Drop> IdIndex<V> {
             self.len -= 1;
             return Some(value);
         }
-        let value = self.others.remove(id)?;
+        let value = self.others.remove(*id)?;
         self.len -= 1;
         Some(value)
     }
 
+    #[tactic(auto, using(crate::proofs::Led::keys_next))]
     /// The ids that have a value.
     ///
     /// # Errors
@@ -147,8 +148,8 @@ impl<V: Drop> IdIndex<V> {
         ensures { IfOk result (λ ids. ids.items ≡ keys_of self.now) }
     {
         let mut ids = self.rows.ids(alloc)?;
-        for (id, _) in self.others.iter() {
-            ids.push(*id)?;
+        for entry in self.others.entries() {
+            ids.push(entry.0)?;
         }
         Ok(ids)
     }

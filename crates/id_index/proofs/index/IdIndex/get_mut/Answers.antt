@@ -1,9 +1,9 @@
-use Rattle.std.proofs.Common.{◌≡◌, ◌++◌, length, Some, None, refl, sym, ap, ◌∙◌, arith}
-use Rattle.std.specs.Prelude.{is_some, OnSome}
+use Rattle.std.proofs.Common.{Some, refl, sym, ap, ◌∙◌, arith}
+use Rattle.std.specs.Prelude.{is_some}
 use Rattle.std.specs.Map.{set_value}
 use Rattle.std.specs.BTreeMap.{is_at}
 use Rattle.model.specs.FullIds.{full_cmp}
-use Rattle.id_index.specs.Cells.{cell_entries, with_cell, value_at, size}
+use Rattle.id_index.specs.Cells.{cell_entries, with_cell, value_at}
 use Rattle.id_index.proofs.Entries.{at_none, at_some, set_at, counted}
 use Rattle.id_index.proofs.Kept.{apart_cells, filled, none_after, copied_none, on_some, length_before, written_cell, written_other, length_written}
 use Rattle.id_index.proofs.index.IdIndex.get_mut.Goals as goal
@@ -11,7 +11,7 @@ use Rattle.id_index.proofs.index.IdIndex.get_mut.Goals as goal
 pub invariant_of-self-lent : goal.invariant_of-self-lent
 invariant_of-self-lent g c w =
     let rows = c.self.inside.rows in
-    let others = c.self.inside.others.entries in
+    let others = c.self.inside.others in
     let k = c.self.invariant in
     let v = c.value_mut.result.now in
     let there = filled rows c.args.id.now v c.value_mut.ensures.value in
@@ -26,7 +26,7 @@ invariant_of-self-lent g c w =
 pub returns-then-is_some : goal.returns-then-is_some
 returns-then-is_some g c =
     let rows = c.self.inside.rows in
-    let others = c.self.inside.others.entries in
+    let others = c.self.inside.others in
     let id = c.args.id.now in
     let v = c.value_mut.result.now in (
       (refl, (λ w. written_cell rows others id w v c.value_mut.ensures.value ∙ ap (λ es. set_value (is_at (full_cmp id)) es w) c.self.view_is), refl),
@@ -36,31 +36,27 @@ returns-then-is_some g c =
 pub invariant_of-self-lent-2 : goal.invariant_of-self-lent-2
 invariant_of-self-lent-2 g c r =
     let rows = c.self.inside.rows in
-    let others = c.self.inside.others.entries in
+    let others = c.self.inside.others in
     let id = c.args.id.now in
     let k = c.self.invariant in (
       (λ w. record {
-        apart = λ q h. ap (λ es. value_at es q) (c.get_mut.follows.holds w).0 ∙ none_after (is_at (full_cmp id)) q w others (k.apart q h);
-        count = ap (λ es. length (cell_entries 0 rows ++ es)) (c.get_mut.follows.holds w).0 ∙ length_written rows others id w ∙ k.count;
+        apart = λ q h. none_after (is_at (full_cmp id)) q w others (k.apart q h);
+        count = length_written rows others id w ∙ k.count;
         bound = k.bound;
       }),
-      record {
-        apart = λ q h. ap (λ m. value_at m.entries q) c.get_mut.follows.holds-at-none ∙ k.apart q h;
-        count = ap (λ m. length (cell_entries 0 rows ++ m.entries)) c.get_mut.follows.holds-at-none ∙ k.count;
-        bound = k.bound;
-      },
+      k,
     )
 
 pub returns : goal.returns
 returns g c =
     let rows = c.self.inside.rows in
-    let others = c.self.inside.others.entries in
+    let others = c.self.inside.others in
     let id = c.args.id.now in
     let none = sym c.get.ensures ∙ copied_none c.get.result (sym c.is_some.ensures ∙ c.if-is_some.false) in (
       (
         refl,
-        (λ w. on_some c.get_mut.result _ (ap (λ es. cell_entries 0 rows ++ es) (c.get_mut.follows.holds w).0 ∙ written_other rows others id w none ∙ ap (λ es. set_value (is_at (full_cmp id)) es w) c.self.view_is)),
-        ap (λ m. cell_entries 0 rows ++ m.entries) c.get_mut.follows.holds-at-none ∙ c.self.view_is,
+        (λ w. on_some c.get_mut.result _ (written_other rows others id w none ∙ ap (λ es. set_value (is_at (full_cmp id)) es w) c.self.view_is)),
+        c.self.view_is,
       ),
       record { writes_back = tt; value = c.get_mut.ensures.value ∙ sym (at_none rows others id none) ∙ ap (λ es. value_at es id) c.self.view_is },
     )

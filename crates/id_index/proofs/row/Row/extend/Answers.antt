@@ -1,4 +1,4 @@
-use Rattle.std.proofs.Common.{◌≡◌, ◌+◌, length, ap, sym, ◌∙◌, arith, length-append}
+use Rattle.std.proofs.Common.{length, ap, sym, ◌∙◌, arith, length-append}
 use Rattle.id_index.proofs.Entries.{row_pushed_after, count_pushed}
 use Rattle.id_index.proofs.row.Row.extend.Goals as goal
 
