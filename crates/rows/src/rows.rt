@@ -1,5 +1,5 @@
 //! Values by id that ascend by id.
-ghost use Rattle.std.specs.Prelude.{◌≡◌, [], length};
+ghost use Rattle.std.specs.Prelude.{◌≡◌, [], length, Some, IfSome};
 ghost use Rattle.std.specs.Option.{is_some, option_copied};
 ghost use Rattle.std.specs.BTreeMap.{is_at};
 ghost use Rattle.std.specs.Map.{set_value};
@@ -62,13 +62,33 @@ impl<V: Copy + Drop> Rows<V> {
         self.items
     }
 
+    /// The value of the entry at an index, if that entry has this id.
+    #[tactic(auto, using(crate::proofs::Places::found_here))]
+    fn value_at(&self, id: FullNodeId, index: usize) -> Option<V>
+        ensures { IfSome result (λ value. row_at self.now id ≡ Some value) }
+    {
+        if index >= self.items.len() {
+            return None;
+        }
+        let entry = self.items[index];
+        if entry.0 == id {
+            return Some(entry.1);
+        }
+        None
+    }
+
     /// The value at an id. The search starts at the index `near`, and `near` is set to the entry after the one found,
     /// so that looking up ascending ids needs no search.
     #[tactic(auto, using(crate::proofs::Places::at_end, crate::proofs::Places::found_here, crate::proofs::Places::not_here))]
     pub fn get_near(&self, id: FullNodeId, near: &mut usize) -> Option<V>
         ensures { result ≡ row_at self.now id }
     {
-        let index = place(&self.items, id, *near);
+        let hint = *near;
+        if let Some(value) = self.value_at(id, hint) {
+            *near = hint.saturating_add(1);
+            return Some(value);
+        }
+        let index = place(&self.items, id, hint);
         *near = index;
         if index == self.items.len() {
             return None;
