@@ -19,7 +19,7 @@ use Rattle.tree_changes.specs.declared.decision.NodeChange.{NodeChange}
 use Rattle.tree_changes.specs.declared.decision.NodeChange.TheVariants.{Put, Gone}
 use Rattle.tree_changes.specs.Changes.{NodeChanges, change_at, entry_of}
 use Rattle.tree_store.specs.declared.records.Record.{Record}
-use Rattle.tree_store.specs.Stored.{Slots, slot_at, record_at}
+use Rattle.tree_store.specs.Cells.{SlotsView, slot_at, record_at}
 use Rattle.tree_store.specs.Commits.{record_after, changed_record, AreEntriesApart, HasRoomFor}
 use Rattle.tree_store.proofs.KeptSlots.{same_id, symmetric}
 
@@ -55,7 +55,7 @@ or-false : (a : Bool) → (a || false) ≡ a
 or-false true = refl
 or-false false = refl
 
-module _ (nodes : List (NodeId × NodeData)) (es fs : Slots) (k : FullNodeId) (c : NodeChange) (cs : NodeChanges)
+module _ (nodes : List (NodeId × NodeData)) (es fs : SlotsView) (k : FullNodeId) (c : NodeChange) (cs : NodeChanges)
     (sorted : IsStrictlySortedBy full_cmp (keys_of ((k, c) ∷ cs)))
     (records : (q : FullNodeId) → record_at fs q ≡ cond (is_at (full_cmp k) q) (record_after nodes c (record_at es k)) (record_at es q)) where
   none_here : (q : FullNodeId) → is_at (full_cmp k) q ≡ true → change_at cs q ≡ None
@@ -91,7 +91,7 @@ same_given first now (Put place (Some k)) before h = ap (λ o. option_map (λ d.
 same_given first now (Put place None) before h = refl
 same_given first now Gone before h = refl
 
-module _ (first now later : List (NodeId × NodeData)) (es fs : Slots) (e : FullNodeId × NodeChange) (cs : NodeChanges)
+module _ (first now later : List (NodeId × NodeData)) (es fs : SlotsView) (e : FullNodeId × NodeChange) (cs : NodeChanges)
     (room : HasRoomFor es (e ∷ cs)) (sorted : IsStrictlySortedBy full_cmp (keys_of (e ∷ cs))) (entries : HasEntriesOf first now (e ∷ cs)) (apart : AreEntriesApart (e ∷ cs)) where
   pub slot_here : IsSome (slot_at es e.0)
   slot_here = room e.0 ∙ ap (λ o. is_some (record_at es e.0) || is_some o) (ap (λ b. cond b (Some e.1) (change_at cs e.0)) (at_itself e.0)) ∙ or-true (is_some (record_at es e.0))

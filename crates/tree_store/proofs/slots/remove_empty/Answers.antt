@@ -1,6 +1,6 @@
 use Rattle.std.proofs.Common.{refl, sym, ◌∙◌, None}
 use Rattle.tree_store.proofs.KeptSlots.{blank_same, none_from_false}
-use Rattle.tree_store.specs.Stored.{record_at}
+use Rattle.tree_store.specs.Cells.{record_at}
 use Rattle.tree_store.proofs.slots.remove_empty.Goals as goal
 
 pub returns-then-not-has_record-clause-same : goal.returns-then-not-has_record-clause-same

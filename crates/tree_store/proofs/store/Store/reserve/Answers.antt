@@ -25,19 +25,19 @@ pub make_all-requires : goal.make_all-requires
 make_all-requires c = no_spare c.self.inside.tables.nodes (subst IsTight (sym c.self.view_is) c.requires.tight)
 
 pub invariant_of-self : goal.invariant_of-self
-invariant_of-self c = stored_same c.self.inside _ c.self.invariant c.make_all.ensures.nodes c.make_all.ensures.names c.make_all.ensures.known (ap texts_shown c.make_all.ensures.texts) refl refl
+invariant_of-self c = stored_same c.self.inside _ c.self.invariant c.make_all.ensures.nodes c.make_all.ensures.names c.make_all.ensures.known (ap texts_shown c.make_all.ensures.texts) refl refl c.know.ensures
 
 pub returns-clause-same : goal.returns-clause-same
 returns-clause-same c =
     let b : Inside = record { tables = c.make_all.new.self; host_focused = c.self.inside.host_focused; focus = c.self.inside.focus } in
-    world_same c.self.inside b c.self.invariant c.make_all.ensures.nodes c.make_all.ensures.names c.make_all.ensures.known (ap texts_shown c.make_all.ensures.texts) refl refl
+    world_same c.self.inside b c.self.invariant c.make_all.ensures.nodes c.make_all.ensures.names c.make_all.ensures.known (ap texts_shown c.make_all.ensures.texts) refl refl c.know.ensures
     ∙ ap (λ (k : StoreView). k.world) c.self.view_is
 
 pub returns-clause-ok : goal.returns-clause-ok
 returns-clause-ok c =
     let b : Inside = record { tables = c.make_all.new.self; host_focused = c.self.inside.host_focused; focus = c.self.inside.focus } in
     let same =
-    world_same c.self.inside b c.self.invariant c.make_all.ensures.nodes c.make_all.ensures.names c.make_all.ensures.known (ap texts_shown c.make_all.ensures.texts) refl refl
+    world_same c.self.inside b c.self.invariant c.make_all.ensures.nodes c.make_all.ensures.names c.make_all.ensures.known (ap texts_shown c.make_all.ensures.texts) refl refl c.know.ensures
     ∙ ap (λ (k : StoreView). k.world) c.self.view_is in
     on_ok c.make_all.result _ _ _ _ (λ room there spare. record {
       slots = ready c.make_all.new.self.nodes c.args.decision.now.nodes.items room;
