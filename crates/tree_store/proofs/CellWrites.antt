@@ -56,7 +56,7 @@ stays s id n o at some q = go (is_at (full_cmp id) q) refl
 module _ (s : SlotsView) (k : HasOwnCells s) (id : FullNodeId) (n : ℕ) (c0 c : Cell) (numbers : List (FullNodeId × ℕ)) (here : slice_get s.cells n ≡ Some c0) (own_id : c.id ≡ id)
     (up : (q : FullNodeId) → lookup (is_at (full_cmp q)) numbers ≡ cond (is_at (full_cmp id) q) (number_if n (kept_in c)) (number_of s q))
     (before : (number_of s id ≡ Some n) ⊎ ((number_of s id ≡ None) × (kept_in c0 ≡ None))) where
-  after : SlotsView
+  abbrev after : SlotsView
   after = record { numbers = numbers; cells = slice_set s.cells n c }
 
   low : n < length s.cells
@@ -131,7 +131,7 @@ cases_last xs x m y e = ⊎_elim (λ old. inl old) (λ end. inr (end.0, sym end.
 -- there is a cell more, of an id that had none
 module _ (s : SlotsView) (k : HasOwnCells s) (id : FullNodeId) (c : Cell) (numbers : List (FullNodeId × ℕ)) (own_id : c.id ≡ id) (some : IsSome (kept_in c)) (none : number_of s id ≡ None)
     (up : (q : FullNodeId) → lookup (is_at (full_cmp q)) numbers ≡ cond (is_at (full_cmp id) q) (Some (length s.cells)) (number_of s q)) where
-  more : SlotsView
+  abbrev more : SlotsView
   more = record { numbers = numbers; cells = s.cells ++ c ∷ [] }
 
   more_own : (p : FullNodeId) (m : ℕ) → lookup (is_at (full_cmp p)) numbers ≡ Some m → (x : Cell) × (slice_get (s.cells ++ c ∷ []) m ≡ Some x) × (x.id ≡ p) × IsSome (kept_in x)

@@ -27,8 +27,5 @@ blank_same es fs k x blank up none q =
     ap record_in (up q)
     ∙ blank_by (is_at (full_cmp k) q) x (slot_at es q) blank (λ b. subst (λ i. record_at es i ≡ None) (same_id k q b) none)
 
-pub record_none : (es : SlotsView) (k : FullNodeId) → slot_at es k ≡ None → record_at es k ≡ None
-record_none es k e = ap record_in e
-
 pub symmetric : (k q : FullNodeId) → eq_by_cmp full_cmp q k ≡ is_at (full_cmp k) q
 symmetric k q = (eq_by_cmp_equiv full_total).symm q k

@@ -46,16 +46,17 @@ and-none false see n o e = refl
 
 pub contains-ids_in : (es : List (FullNodeId × ℕ)) (see : ℕ → Option (Option Record)) (q : FullNodeId) → set.contains (ids_in es see) q ≡ is_some (option_and_then see (lookup (is_at (full_cmp q)) es))
 contains-ids_in [] see q = set.contains-empty full_cmp q
-contains-ids_in (e ∷ es) see q = go (is_some (see e.1)) refl
+contains-ids_in (e ∷ es) see q = go (is_some (see e.1)) refl (contains-ids_in es see q)
   where
-    go : (b : Bool) → is_some (see e.1) ≡ b → set.contains (if b then set.insert (ids_in es see) e.0 else set.remove (ids_in es see) e.0) q ≡ is_some (option_and_then see (cond (is_at (full_cmp q) e.0) (Some e.1) (lookup (is_at (full_cmp q)) es)))
-    go true s =
+    go : (b : Bool) → is_some (see e.1) ≡ b → set.contains (ids_in es see) q ≡ is_some (option_and_then see (lookup (is_at (full_cmp q)) es))
+        → set.contains (if b then set.insert (ids_in es see) e.0 else set.remove (ids_in es see) e.0) q ≡ is_some (option_and_then see (cond (is_at (full_cmp q) e.0) (Some e.1) (lookup (is_at (full_cmp q)) es)))
+    go true s rest =
         set.contains-insert full_total (ids_in es see) e.0 q
-        ∙ ap (λ b. is_at (full_cmp q) e.0 || b) (contains-ids_in es see q)
+        ∙ ap (λ b. is_at (full_cmp q) e.0 || b) rest
         ∙ or-some (is_at (full_cmp q) e.0) see e.1 (lookup (is_at (full_cmp q)) es) s
-    go false s =
+    go false s rest =
         set.contains-remove full_total (ids_in es see) e.0 q
-        ∙ ap (λ b. not (is_at (full_cmp q) e.0) && b) (contains-ids_in es see q)
+        ∙ ap (λ b. not (is_at (full_cmp q) e.0) && b) rest
         ∙ and-none (is_at (full_cmp q) e.0) see e.1 (lookup (is_at (full_cmp q)) es) s
 
 pub contains-slots_shown : (s : SlotsView) (q : FullNodeId) → set.contains (slots_shown s) q ≡ is_some (slot_at s q)

@@ -73,11 +73,11 @@ one_fewer false n k h = omega (arith, h)
 
 ids_fit : (es : List (FullNodeId × ℕ)) (see : ℕ → Option (Option Record)) → set.len (ids_in es see) ≤ length es
 ids_fit [] see = omega (arith, set.len-empty full_cmp)
-ids_fit (e ∷ es) see = go (is_some (see e.1))
+ids_fit (e ∷ es) see = go (is_some (see e.1)) (ids_fit es see)
   where
-    go : (b : Bool) → set.len (if b then set.insert (ids_in es see) e.0 else set.remove (ids_in es see) e.0) ≤ suc (length es)
-    go true = omega (arith, set.len-insert full_total (ids_in es see) e.0, one_more (set.contains (ids_in es see) e.0) (set.len (ids_in es see)) (length es) (ids_fit es see))
-    go false = omega (arith, set.len-remove full_total (ids_in es see) e.0, one_fewer (set.contains (ids_in es see) e.0) (set.len (ids_in es see)) (length es) (ids_fit es see))
+    go : (b : Bool) → set.len (ids_in es see) ≤ length es → set.len (if b then set.insert (ids_in es see) e.0 else set.remove (ids_in es see) e.0) ≤ suc (length es)
+    go true rest = omega (arith, set.len-insert full_total (ids_in es see) e.0, one_more (set.contains (ids_in es see) e.0) (set.len (ids_in es see)) (length es) rest)
+    go false rest = omega (arith, set.len-remove full_total (ids_in es see) e.0, one_fewer (set.contains (ids_in es see) e.0) (set.len (ids_in es see)) (length es) rest)
 
 pub slots_fit : (s : SlotsView) → set.len (slots_shown s) ≤ length s.numbers
 slots_fit s = ids_fit s.numbers (slot_in s)

@@ -109,13 +109,29 @@ impl Slots {
         self.index.ids(alloc)
     }
 
+    /// Makes room for so many cells more, and for no others.
+    ///
+    /// # Errors
+    ///
+    /// Returns `AllocError` if memory runs out.
+    pub(crate) fn reserve(&mut self, count: usize) -> Result<(), AllocError>
+        ensures { self.new ≡ self.old }
+    {
+        self.cells.reserve_exact(count)?;
+        self.free.reserve_exact(count)
+    }
+
     /// Gives a slot to an id that has none.
     ///
     /// # Errors
     ///
     /// Returns `AllocError` if memory runs out, or if there are as many cells as numbers of 32 bits. The slots are then
     /// unchanged.
-    pub(crate) fn add(&mut self, id: FullNodeId, slot: Box<Option<Record>>) -> Result<(), AllocError>
+    pub(crate) fn add(
+        &mut self,
+        id: FullNodeId,
+        slot: Box<Option<Record>>,
+    ) -> Result<(), AllocError>
         requires { slot_at self.old id ≡ None }
         ensures ok { OnOk result ((q : FullNodeId) → slot_at self.new q ≡ cond (is_at (full_cmp id) q) (Some slot.value) (slot_at self.old q)) }
         ensures err { OnErr result (self.new ≡ self.old) }

@@ -18,7 +18,7 @@ invariant_of-self-2 c =
     let n : c.len-number.result ≡ length a.cells.items = search rules in
     let cells : c.push.new.self.items ≡ a.cells.items ++ new ∷ [] = search rules in
     let free : c.grow-2.new.list.items ≡ a.free.items = search rules in
-    let up = λ q. c.in_ok-insert.ensures.updates q ∙ ap (λ m. cond (is_at (full_cmp c.args.id) q) (Some m) (number_of (slots_of a) q)) n in
+    let up = λ (q : FullNodeId). c.in_ok-insert.ensures.updates q ∙ ap (λ m. cond (is_at (full_cmp c.args.id) q) (Some m) (number_of (slots_of a) q)) n in
     let long : length c.push.new.self.items ≡ length a.cells.items + 1 = ap length cells ∙ length-append a.cells.items (new ∷ []) in
     record {
       cells = subst (λ l. HasOwnCells (record { numbers = c.insert.new.self; cells = l })) (sym cells) (cells_more (slots_of a) k.cells c.args.id new c.insert.new.self refl refl none up);
@@ -35,7 +35,7 @@ returns-clause-ok c q =
     let none = no_number (slots_of a) k.cells c.args.id (ap (λ v. slot_at v c.args.id) c.self.view_is ∙ c.requires) in
     let n : c.len-number.result ≡ length a.cells.items = search rules in
     let cells : c.push.new.self.items ≡ a.cells.items ++ new ∷ [] = search rules in
-    let up = λ p. c.in_ok-insert.ensures.updates p ∙ ap (λ m. cond (is_at (full_cmp c.args.id) p) (Some m) (number_of (slots_of a) p)) n in
+    let up = λ (p : FullNodeId). c.in_ok-insert.ensures.updates p ∙ ap (λ m. cond (is_at (full_cmp c.args.id) p) (Some m) (number_of (slots_of a) p)) n in
     ap (λ l. let s : SlotsView = record { numbers = c.insert.new.self; cells = l } in slot_at s q) cells
     ∙ slots_more (slots_of a) k.cells c.args.id new c.insert.new.self refl refl none up q
     ∙ ap (λ v. cond (is_at (full_cmp c.args.id) q) (Some c.args.slot.value) (slot_at v q)) c.self.view_is
