@@ -1,6 +1,6 @@
 -- What there is in cells once one of them is written, or there is one more.
-use Rattle.std.proofs.Common.{◌≡◌, ◌≢◌, ℕ, ◌+◌, ◌<◌, ◌≤◌, List, [], ◌∷◌, ◌++◌, length, Bool, true, false, true≢false, cond, Option, Some, None, refl, sym, ap, subst, ◌∙◌, arith, slice_get, slice_set, ◌-◌, Result, Ok, Err, length-append, get_or, eqb, ◌⊎◌, inl, inr, ⊎_elim}
-use Rattle.std.specs.Prelude.{IsSome, is_some, is_none, count_by, option_and_then, option_to_list, is_ok, is_err}
+use Rattle.std.proofs.Common.{◌≡◌, ◌≢◌, ℕ, ◌+◌, ◌<◌, List, [], ◌∷◌, ◌++◌, length, Bool, true, false, true≢false, cond, Option, Some, None, refl, sym, ap, subst, ◌∙◌, arith, slice_get, slice_set, ◌-◌, Result, Ok, Err, length-append, eqb, ◌⊎◌, inl, inr, ⊎_elim}
+use Rattle.std.specs.Prelude.{IsSome, is_none, count_by, option_and_then, option_to_list, is_ok, is_err}
 use Rattle.std.specs.Map.{lookup}
 use Rattle.std.specs.BTreeMap.{is_at}
 use Rattle.std.specs.Cmp.{eq_by_cmp_equiv}

@@ -1,5 +1,5 @@
 -- What is kept of cells.
-use Rattle.std.specs.Prelude.{ℕ, ◌≤◌, ◌<◌, ◌^◌, length}
+use Rattle.std.specs.Prelude.{◌≤◌, ◌<◌, ◌^◌, length}
 use Rattle.std.specs.Vec.{vec_capacity}
 use Rattle.tree_store.specs.declared.cells.Slots.TheInside.{Inside}
 use Rattle.tree_store.specs.Cells.{SlotsView, HasOwnCells, IsFreeList}
