@@ -23,13 +23,13 @@ IsFront now first = (k : ℕ) (entry : NodeId × NodeData) → slice_get now k �
 pub front_next : (first now rest : List (NodeId × NodeData)) (last : NodeId × NodeData) → IsFront now first → now ≡ rest ++ last ∷ [] → IsFront rest first
 front_next first now rest last front is k entry e = front k entry (ap (λ xs. slice_get xs k) is ∙ slice_get_front rest (last ∷ []) k entry e)
 
-last_of : (rest : List (NodeId × NodeData)) (last : NodeId × NodeData) → slice_get (rest ++ last ∷ []) (length rest) ≡ Some last
+pub last_of : {X : Type 0} → (rest : List X) (last : X) → slice_get (rest ++ last ∷ []) (length rest) ≡ Some last
 last_of rest last = slice_get-get_or (rest ++ last ∷ []) (length rest) last (omega (arith, length-append rest (last ∷ []))) ∙ ap Some (get_or-append_seam rest last [] last)
 
-set_here : {X : Type 0} → (xs : List X) (m : ℕ) (x : X) → m < length xs → slice_get (slice_set xs m x) m ≡ Some x
+pub set_here : {X : Type 0} → (xs : List X) (m : ℕ) (x : X) → m < length xs → slice_get (slice_set xs m x) m ≡ Some x
 set_here xs m x low = slice_get-get_or (slice_set xs m x) m x (subst (λ n. m < n) (sym (length-set xs m x)) low) ∙ ap Some (get_or-set_same xs m x x low)
 
-set_there : {X : Type 0} → (xs : List X) (m k : ℕ) (x : X) → k ≢ m → slice_get (slice_set xs m x) k ≡ slice_get xs k
+pub set_there : {X : Type 0} → (xs : List X) (m k : ℕ) (x : X) → k ≢ m → slice_get (slice_set xs m x) k ≡ slice_get xs k
 set_there xs m k x other = ⊎_elim
     (λ low. slice_get-get_or (slice_set xs m x) k x (subst (λ n. k < n) (sym (length-set xs m x)) low) ∙ ap Some (get_or-set_other xs m k x x other) ∙ sym (slice_get-get_or xs k x low))
     (λ high. slice_get_past (slice_set xs m x) k (subst (λ n. n ≤ k) (sym (length-set xs m x)) high) ∙ sym (slice_get_past xs k high))

@@ -9,7 +9,7 @@ use Rattle.schema.specs.declared.NodeId.{NodeId}
 use Rattle.schema.specs.declared.TreeId.{TreeId}
 use Rattle.model.specs.declared.FullNodeId.{FullNodeId}
 use Rattle.model.specs.FullIds.{full_cmp, full_total, exact_full}
-use Rattle.model.specs.World.{World, Place, index_of, graft_name}
+use Rattle.model.specs.World.{World, Place, data_of, index_of, graft_name}
 use Rattle.model.specs.Focus.{IsEffectiveFocus}
 use Rattle.model.specs.Update.{UpdateData, known_after, toolkit_after}
 use Rattle.model.specs.State.{IsState, empty_world}
@@ -24,7 +24,9 @@ use Rattle.tree_store.specs.declared.records.Record.{Record}
 use Rattle.tree_store.specs.declared.records.PresentTree.{PresentTree}
 use Rattle.tree_store.specs.declared.records.NameRecord.{NameRecord}
 use Rattle.tree_store.specs.declared.store.Store.TheInside.{Inside}
-use Rattle.tree_store.specs.Stored.{Slots, nodes_shown, trees_shown, texts_shown, slots_shown, names_shown, record_at, HasTruePlaces}
+use Rattle.tree_store.specs.Cells.{SlotsView, slot_in, record_at, HasOwnCells}
+use Rattle.tree_store.specs.Stored.{nodes_shown, trees_shown, texts_shown, slots_shown, names_shown}
+use Rattle.tree_store.specs.Seated.{IsSeated}
 use Rattle.tree_store.specs.KeptNames.{name_at, name_after, kept_in}
 use Rattle.tree_store.specs.NameRecords.{record_of}
 use Rattle.tree_store.specs.Shown.{world_shown, NamesAreTrue, IsStored}
@@ -37,36 +39,48 @@ some_node : (r : Option Record) → is_some (node_in r) ≡ is_some r
 some_node None = refl
 some_node (Some r) = refl
 
-pub shown_some : (es : Slots) (q : FullNodeId) → is_some (get (nodes_shown es) q) ≡ is_some (record_at es q)
+pub shown_some : (es : SlotsView) (q : FullNodeId) → is_some (get (nodes_shown es) q) ≡ is_some (record_at es q)
 shown_some es q = ap is_some (get-nodes_shown es q) ∙ some_node (record_at es q)
 
 -- room as the world and the slots show it, and as the records do
-pub no_spare : (es : Slots) → ((id : FullNodeId) → set.contains (slots_shown es) id ≡ is_some (get (nodes_shown es) id)) → HasNoSpare es
+pub no_spare : (es : SlotsView) → ((id : FullNodeId) → set.contains (slots_shown es) id ≡ is_some (get (nodes_shown es) id)) → HasNoSpare es
 no_spare es h id = sym (contains-slots_shown es id) ∙ h id ∙ shown_some es id
 
-pub tight : (es : Slots) → HasNoSpare es → (id : FullNodeId) → set.contains (slots_shown es) id ≡ is_some (get (nodes_shown es) id)
+pub tight : (es : SlotsView) → HasNoSpare es → (id : FullNodeId) → set.contains (slots_shown es) id ≡ is_some (get (nodes_shown es) id)
 tight es h id = contains-slots_shown es id ∙ h id ∙ sym (shown_some es id)
 
-pub room_for : (es : Slots) (cs : NodeChanges) → ((id : FullNodeId) → set.contains (slots_shown es) id ≡ (is_some (get (nodes_shown es) id) || is_some (change_at cs id))) → HasRoomFor es cs
+pub room_for : (es : SlotsView) (cs : NodeChanges) → ((id : FullNodeId) → set.contains (slots_shown es) id ≡ (is_some (get (nodes_shown es) id) || is_some (change_at cs id))) → HasRoomFor es cs
 room_for es cs h id = sym (contains-slots_shown es id) ∙ h id ∙ ap (λ b. b || is_some (change_at cs id)) (shown_some es id)
 
-pub ready : (es : Slots) (cs : NodeChanges) → HasRoomFor es cs → (id : FullNodeId) → set.contains (slots_shown es) id ≡ (is_some (get (nodes_shown es) id) || is_some (change_at cs id))
+pub ready : (es : SlotsView) (cs : NodeChanges) → HasRoomFor es cs → (id : FullNodeId) → set.contains (slots_shown es) id ≡ (is_some (get (nodes_shown es) id) || is_some (change_at cs id))
 ready es cs h id = contains-slots_shown es id ∙ h id ∙ ap (λ b. b || is_some (change_at cs id)) (sym (shown_some es id))
 
-pub same_nodes : (es fs : Slots) → ((id : FullNodeId) → record_at fs id ≡ record_at es id) → nodes_shown fs ≡ nodes_shown es
+pub same_nodes : (es fs : SlotsView) → ((id : FullNodeId) → record_at fs id ≡ record_at es id) → nodes_shown fs ≡ nodes_shown es
 same_nodes es fs same = same_map full_total exact_full _ _ (λ q. get-nodes_shown fs q ∙ ap node_in (same q) ∙ sym (get-nodes_shown es q))
+
+-- the places in the records are those of the nodes
+abbrev pub HasTruePlaces : SlotsView → World → Type 0
+HasTruePlaces s w = (id : FullNodeId) (r : Record) → record_at s id ≡ Some r → IsPlaceOf w id r.place
+
+-- cells that are their ids' own, and have the data and the places, show the world
+pub seated_by : (s : SlotsView) (w : World) → HasOwnCells s → ((id : FullNodeId) → node_in (record_at s id) ≡ data_of w id) → HasTruePlaces s w → IsSeated s (slot_in s) w
+seated_by s w cells nodes places = record {
+  own = λ id n is. let c = cells.own id n is in ap (option_map (λ x. x.id)) c.1 ∙ ap Some c.2;
+  nodes = nodes;
+  place = places;
+}
 
 -- a store with room shows what it showed, and keeps what it kept
 module _ (a b : Inside) (stored : IsStored a (world_shown a)) (nodes : (id : FullNodeId) → record_at b.tables.nodes id ≡ record_at a.tables.nodes id)
     (names : (name : TreeId) → kept_in (name_at b.tables.names name) ≡ kept_in (name_at a.tables.names name)) (known : b.tables.known.items ≡ a.tables.known.items)
-    (texts : texts_shown b.tables.toolkit ≡ texts_shown a.tables.toolkit) (host : b.host_focused ≡ a.host_focused) (focus : b.focus ≡ a.focus) where
+    (texts : texts_shown b.tables.toolkit ≡ texts_shown a.tables.toolkit) (host : b.host_focused ≡ a.host_focused) (focus : b.focus ≡ a.focus) (cells : HasOwnCells b.tables.nodes) where
   pub world_same : world_shown b ≡ world_shown a
   world_same = λ i. record { known = names_shown (known i); trees = trees_shown 0 (known i); nodes = same_nodes a.tables.nodes b.tables.nodes nodes i; toolkit = texts i; host_focused = host i }
 
   stored_by : (v : World) → v ≡ world_shown a → IsStored b v
   stored_by v e = subst (IsStored b) (sym e) (record {
     state = stored.state;
-    places = λ id r is. stored.places id r (sym (nodes id) ∙ is);
+    seated = seated_by b.tables.nodes (world_shown a) cells (λ id. ap node_in (nodes id) ∙ stored.seated.nodes id) (λ id r is. stored.seated.place id r (sym (nodes id) ∙ is));
     names = record {
       index = λ name. ap (λ p. p.0) (names name) ∙ stored.names.index name;
       graft = λ name g. ((λ e. (stored.names.graft name g).0 (sym (ap (λ p. p.1) (names name)) ∙ e)), (λ e. ap (λ p. p.1) (names name) ∙ (stored.names.graft name g).1 e));
@@ -149,7 +163,7 @@ module _ (a b : Inside) (u : UpdateData) (d : Decision) (old_places : HasTruePla
     (records : (id : FullNodeId) → record_at b.tables.nodes id ≡ changed_record u.nodes (change_at d.nodes.items id) (record_at a.tables.nodes id))
     (known : names_shown b.tables.known.items ≡ known_after (world_shown a) u.name) (trees : trees_shown 0 b.tables.known.items ≡ put_trees (trees_shown 0 a.tables.known.items) d.trees.items)
     (names : (name : TreeId) → name_at b.tables.names name ≡ name_after (tree_change d.trees.items name) (name_at a.tables.names name))
-    (texts : texts_shown b.tables.toolkit ≡ toolkit_after (world_shown a) u) (host : b.host_focused ≡ a.host_focused) (focus : b.focus ≡ d.focus) where
+    (texts : texts_shown b.tables.toolkit ≡ toolkit_after (world_shown a) u) (host : b.host_focused ≡ a.host_focused) (focus : b.focus ≡ d.focus) (cells : HasOwnCells b.tables.nodes) where
   nodes_written : nodes_shown b.tables.nodes ≡ put_all u.nodes (nodes_shown a.tables.nodes) d.nodes.items
   nodes_written = same_map full_total exact_full _ _ (λ q.
       get-nodes_shown b.tables.nodes q ∙ ap node_in (records q) ∙ node_after u.nodes (change_at d.nodes.items q) (record_at a.tables.nodes q)
@@ -182,7 +196,9 @@ module _ (a b : Inside) (u : UpdateData) (d : Decision) (old_places : HasTruePla
   written_by : (v : World) → v ≡ overlaid_world (world_shown a) u d → IsStored b v
   written_by v e = subst (IsStored b) (sym e) (record {
     state = leaves;
-    places = λ id r is. place_by id r (change_at d.nodes.items id) refl (sym (records id) ∙ is);
+    seated = seated_by b.tables.nodes (overlaid_world (world_shown a) u d) cells
+        (λ id. sym (get-nodes_shown b.tables.nodes id) ∙ ap (λ w. data_of w id) world_written)
+        (λ id r is. place_by id r (change_at d.nodes.items id) refl (sym (records id) ∙ is));
     names = names_written;
     focus = subst (IsEffectiveFocus (overlaid_world (world_shown a) u d)) (sym focus) decided.focus;
   })

@@ -15,8 +15,9 @@ use Rattle.tree_store.specs.declared.store.Store.TheInside.{Inside}
 use Rattle.tree_store.specs.Commits.{with_name, texts_after, changed_record}
 use Rattle.tree_store.specs.KeptNames.{name_at, name_after}
 use Rattle.tree_store.specs.Shown.{world_shown, NamesAreTrue, IsStored}
-use Rattle.tree_store.specs.Stored.{record_at, texts_shown, names_shown, trees_shown, HasTruePlaces}
-use Rattle.tree_store.proofs.Commits.{record_of_name, world_written, stored_written}
+use Rattle.tree_store.specs.Cells.{record_at, HasOwnCells}
+use Rattle.tree_store.specs.Stored.{texts_shown, names_shown, trees_shown}
+use Rattle.tree_store.proofs.Commits.{HasTruePlaces, record_of_name, world_written, stored_written}
 use Rattle.tree_store.proofs.Decided.{names_same, texts_same, indexes_known}
 
 -- the store shows v, and a name that v doesn't know is new
@@ -36,7 +37,7 @@ module _ (a : Inside) (v : World) (shows : world_shown a ≡ v) (old_names : Nam
       (records : (id : FullNodeId) → record_at b.tables.nodes id ≡ changed_record u.nodes (change_at d.nodes.items id) (record_at a.tables.nodes id))
       (known : names_shown b.tables.known.items ≡ with_name is_new (names_shown a.tables.known.items) u.name) (trees : trees_shown 0 b.tables.known.items ≡ put_trees (trees_shown 0 a.tables.known.items) d.trees.items)
       (names : (name : TreeId) → name_at b.tables.names name ≡ name_after (tree_change d.trees.items name) (name_at a.tables.names name))
-      (texts : texts_shown b.tables.toolkit ≡ texts_after (if is_root then u.info else None) (texts_shown a.tables.toolkit)) (host : b.host_focused ≡ a.host_focused) (focus : b.focus ≡ d.focus) where
+      (texts : texts_shown b.tables.toolkit ≡ texts_after (if is_root then u.info else None) (texts_shown a.tables.toolkit)) (host : b.host_focused ≡ a.host_focused) (focus : b.focus ≡ d.focus) (cells : HasOwnCells b.tables.nodes) where
     state_left : IsState (overlaid_world (world_shown a) u d)
     state_left = subst (λ w. IsState (overlaid_world w u d)) (sym shows) leaves
 
@@ -46,7 +47,7 @@ module _ (a : Inside) (v : World) (shows : world_shown a ≡ v) (old_names : Nam
         ∙ ap (λ x. option_map_or (λ (i : InfoData). if x then (i.toolkit_name, i.toolkit_version) else (world_shown a).toolkit) u.info (world_shown a).toolkit) (root ∙ ap (λ w. index_for w u.name == 0) (sym shows))
 
     pub stored_after : IsStored b (world_shown b)
-    stored_after = stored_written a b u d old_places old_names state_left decided records (known ∙ names_known) trees names texts_left host focus
+    stored_after = stored_written a b u d old_places old_names state_left decided records (known ∙ names_known) trees names texts_left host focus cells
 
     pub world_after : world_shown b ≡ overlaid_world v u d
-    world_after = world_written a b u d old_places old_names state_left decided records (known ∙ names_known) trees names texts_left host focus ∙ ap (λ w. overlaid_world w u d) shows
+    world_after = world_written a b u d old_places old_names state_left decided records (known ∙ names_known) trees names texts_left host focus cells ∙ ap (λ w. overlaid_world w u d) shows

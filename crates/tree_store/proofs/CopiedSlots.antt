@@ -1,22 +1,19 @@
 -- What is copied of slots, id by id.
 use Rattle.std.proofs.Common.{◌≡◌, List, [], ◌∷◌, Bool, true, false, true≢false, cond, Option, Some, None, refl, sym, ap, subst, ◌∙◌}
-use Rattle.std.specs.Prelude.{◌||◌, IsSome}
+use Rattle.std.specs.Prelude.{ℕ, ◌||◌, IsSome, option_and_then}
 use Rattle.std.specs.Option.{option_map}
-use Rattle.std.specs.FinMap.{get}
 use Rattle.std.specs.Map.{lookup, keys_of}
 use Rattle.std.specs.BTreeMap.{is_at}
-use Rattle.std.specs.declared.boxed.Box.{Box}
-use Rattle.std.specs.declared.alloc.Global.{Global}
 use Rattle.model.specs.declared.FullNodeId.{FullNodeId}
 use Rattle.model.specs.FullIds.{full_cmp}
 use Rattle.tree_store.specs.declared.records.Record.{Record}
 use Rattle.tree_store.specs.declared.copies.MirrorRecord.{MirrorRecord}
-use Rattle.tree_store.specs.Stored.{Slots, record_at, record_in}
+use Rattle.tree_store.specs.Cells.{SlotsView, slot_in, record_at, record_in}
+use Rattle.tree_store.specs.Seated.{IsSeated}
 use Rattle.tree_store.specs.Copied.{copy_at, copy_of, IsCopyOf}
 use Rattle.model.specs.World.{World, data_of}
-use Rattle.tree_store.specs.Stored.{nodes_shown, HasTruePlaces}
 use Rattle.tree_store.proofs.KeptSlots.{same_id, symmetric}
-use Rattle.tree_store.proofs.Maps.{node_in, get-nodes_shown}
+use Rattle.tree_store.proofs.Maps.{node_in}
 
 -- one of these is the id
 abbrev pub among : FullNodeId → List FullNodeId → Bool
@@ -24,7 +21,7 @@ among q [] = false
 among q (i ∷ is) = is_at (full_cmp q) i || among q is
 
 -- What isn't among the rest of the ids is copied, and what is there is a copy.
-pub record IsCopied (whole : Slots) (rest : List FullNodeId) (es : List (FullNodeId × MirrorRecord)) : Type 0 where
+pub record IsCopied (whole : SlotsView) (rest : List FullNodeId) (es : List (FullNodeId × MirrorRecord)) : Type 0 where
   pub copied : (q : FullNodeId) → among q rest ≡ false → copy_at es q ≡ option_map copy_of (record_at whole q)
   pub right : (q : FullNodeId) → IsSome (copy_at es q) → copy_at es q ≡ option_map copy_of (record_at whole q)
 
@@ -36,14 +33,14 @@ absent_by : {A : Type 0} (b : Bool) (t : Bool) (x o : Option A) → (b || t) ≡
 absent_by true t x o e f = absurd (true≢false e)
 absent_by false t x o e f = f e
 
-absent : (q : FullNodeId) (whole : Slots) → among q (keys_of whole) ≡ false → lookup (is_at (full_cmp q)) whole ≡ None
+absent : (q : FullNodeId) (es : List (FullNodeId × ℕ)) → among q (keys_of es) ≡ false → lookup (is_at (full_cmp q)) es ≡ None
 absent q [] e = refl
 absent q (x ∷ xs) e = absent_by (is_at (full_cmp q) x.0) (among q (keys_of xs)) (Some x.1) (lookup (is_at (full_cmp q)) xs) e (absent q xs)
 
 -- at first all is left
-pub none_copied : (whole : Slots) (es : List (FullNodeId × MirrorRecord)) → ((q : FullNodeId) → copy_at es q ≡ None) → IsCopied whole (keys_of whole) es
+pub none_copied : (whole : SlotsView) (es : List (FullNodeId × MirrorRecord)) → ((q : FullNodeId) → copy_at es q ≡ None) → IsCopied whole (keys_of whole.numbers) es
 none_copied whole es none = record {
-  copied = λ q e. none q ∙ ap (λ (o : Option (Box (Option Record) Global)). option_map copy_of (record_in (option_map (λ b. b.value) o))) (sym (absent q whole e));
+  copied = λ q e. none q ∙ ap (λ o. option_map copy_of (record_in (option_and_then (slot_in whole) o))) (sym (absent q whole.numbers e));
   right = λ q there. absurd (not_none (copy_at es q) there (none q));
 }
 
@@ -58,7 +55,7 @@ by_right : (o r : Option MirrorRecord) → (IsSome o → o ≡ r) → r ≡ None
 by_right None r f e = sym e
 by_right (Some x) r f e = f refl
 
-module _ (whole : Slots) (k : FullNodeId) (rest : List FullNodeId) (es : List (FullNodeId × MirrorRecord)) (i : IsCopied whole (k ∷ rest) es) where
+module _ (whole : SlotsView) (k : FullNodeId) (rest : List FullNodeId) (es : List (FullNodeId × MirrorRecord)) (i : IsCopied whole (k ∷ rest) es) where
   -- where there is no record nothing is copied
   pub skipped : record_at whole k ≡ None → IsCopied whole rest es
   skipped none = record { copied = λ q e. go q (is_at (full_cmp k) q) refl e; right = i.right }
@@ -87,13 +84,10 @@ module _ (whole : Slots) (k : FullNodeId) (rest : List FullNodeId) (es : List (F
       keep q false s h = else_same q s ∙ i.right q (subst IsSome (else_same q s) h)
 
 -- a copy of a record that shows the world's node
-module _ (es : Slots) (w : World) (places : HasTruePlaces es w) (nodes : w.nodes ≡ nodes_shown es) (id : FullNodeId) where
-  data_is : data_of w id ≡ node_in (record_at es id)
-  data_is = ap (λ m. get m id) nodes ∙ get-nodes_shown es id
-
+module _ (es : SlotsView) (w : World) (seated : IsSeated es (slot_in es) w) (id : FullNodeId) where
   by_record : (r : Option Record) → record_at es id ≡ r → (o : Option MirrorRecord) → o ≡ option_map copy_of r → IsCopyOf w id o
-  by_record None is o e = subst (IsCopyOf w id) (sym e) (λ there. not_none (data_of w id) there (data_is ∙ ap node_in is))
-  by_record (Some r) is o e = subst (IsCopyOf w id) (sym e) (places id r is, data_is ∙ ap node_in is)
+  by_record None is o e = subst (IsCopyOf w id) (sym e) (λ there. not_none (data_of w id) there (sym (seated.nodes id) ∙ ap node_in is))
+  by_record (Some r) is o e = subst (IsCopyOf w id) (sym e) (seated.place id r is, sym (seated.nodes id) ∙ ap node_in is)
 
   pub copy_is : (o : Option MirrorRecord) → o ≡ option_map copy_of (record_at es id) → IsCopyOf w id o
   copy_is o e = by_record (record_at es id) refl o e

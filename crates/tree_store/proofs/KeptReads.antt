@@ -83,7 +83,7 @@ empty_record host name = record {
 pub told_stored : (a b : Inside) (host : Bool) → IsStored a (world_shown a) → b ≡ record a { host_focused = host } → IsStored b (world_shown b)
 told_stored a b host s e = subst (λ x. IsStored x (world_shown x)) (sym e) (record {
   state = host_leaves_state (world_shown a) host s.state;
-  places = s.places;
+  seated = record { own = s.seated.own; nodes = s.seated.nodes; place = s.seated.place };
   names = record { index = s.names.index; graft = s.names.graft };
   focus = (chain_before {w = record (world_shown a) { host_focused = host }} (world_shown a).host_focused a.focus s.focus.0, s.focus.1, s.focus.2, s.focus.3);
 })

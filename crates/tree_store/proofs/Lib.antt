@@ -3,6 +3,7 @@ pub mod KeptReads
 pub mod Searches
 pub mod Laid
 pub mod KeptSlots
+pub mod CellWrites
 pub mod WrittenSlots
 pub mod NamesKept
 pub mod KnownTrees

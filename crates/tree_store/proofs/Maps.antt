@@ -6,10 +6,8 @@ use Rattle.std.specs.Ordering.{nat_cmp, eq_by_cmp, is_eq}
 use Rattle.std.specs.Map.{lookup}
 use Rattle.std.specs.BTreeMap.{is_at}
 use Rattle.std.specs.FinSet as set
-use Rattle.std.specs.Prelude.{◌||◌, is_some, slice_get}
+use Rattle.std.specs.Prelude.{◌||◌, ◌&&◌, not, is_some, slice_get, option_and_then, if◌then◌else◌}
 use Rattle.std.specs.FinMap.{get, get-empty}
-use Rattle.std.specs.declared.boxed.Box.{Box}
-use Rattle.std.specs.declared.alloc.Global.{Global}
 use Rattle.std.proofs.lemmas.Map.Lookups.{exact_unsigned}
 use Rattle.schema.specs.NodeData.{NodeData}
 use Rattle.model.specs.declared.FullNodeId.{FullNodeId}
@@ -17,36 +15,52 @@ use Rattle.model.specs.FullIds.{full_cmp, full_total}
 use Rattle.tree_changes.proofs.Overlays.{get-set_at, get-set_tree}
 use Rattle.tree_store.specs.declared.records.Record.{Record}
 use Rattle.tree_store.specs.declared.records.KnownTree.{KnownTree}
-use Rattle.tree_store.specs.Stored.{Slots, nodes_shown, trees_shown, slots_shown, tree_of, tree_in, slot_at, record_at, record_in}
+use Rattle.tree_store.specs.Cells.{SlotsView, slot_in, slot_at, record_at, record_in}
+use Rattle.tree_store.specs.Stored.{nodes_in, nodes_shown, ids_in, trees_shown, slots_shown, tree_of, tree_in}
 
 -- the data of a record that may be missing
 abbrev pub node_in : Option Record → Option NodeData
 node_in r = option_map (λ x. x.node) r
 
-abbrev pub held : Option (Box (Option Record) Global) → Option (Option Record)
-held o = option_map (λ b. b.value) o
+node_in-cond : (b : Bool) (see : ℕ → Option (Option Record)) (n : ℕ) (o : Option ℕ) → cond b (node_in (record_in (see n))) (node_in (record_in (option_and_then see o))) ≡ node_in (record_in (option_and_then see (cond b (Some n) o)))
+node_in-cond true see n o = refl
+node_in-cond false see n o = refl
 
-node_in-cond : (b : Bool) (x : Box (Option Record) Global) (o : Option (Box (Option Record) Global)) → cond b (node_in x.value) (node_in (record_in (held o))) ≡ node_in (record_in (held (cond b (Some x) o)))
-node_in-cond true x o = refl
-node_in-cond false x o = refl
+pub get-nodes_in : (es : List (FullNodeId × ℕ)) (see : ℕ → Option (Option Record)) (q : FullNodeId) → get (nodes_in es see) q ≡ node_in (record_in (option_and_then see (lookup (is_at (full_cmp q)) es)))
+get-nodes_in [] see q = get-empty full_cmp q
+get-nodes_in (e ∷ es) see q =
+    get-set_at (nodes_in es see) e.0 (option_map (λ r. r.node) (record_in (see e.1))) q
+    ∙ ap (cond (is_at (full_cmp q) e.0) (option_map (λ r. r.node) (record_in (see e.1)))) (get-nodes_in es see q)
+    ∙ node_in-cond (is_at (full_cmp q) e.0) see e.1 (lookup (is_at (full_cmp q)) es)
 
-or-some : (b : Bool) (x : Box (Option Record) Global) (o : Option (Box (Option Record) Global)) → (b || is_some (held o)) ≡ is_some (held (cond b (Some x) o))
-or-some true x o = refl
-or-some false x o = refl
+pub get-nodes_shown : (s : SlotsView) (q : FullNodeId) → get (nodes_shown s) q ≡ node_in (record_at s q)
+get-nodes_shown s q = get-nodes_in s.numbers (slot_in s) q
 
-pub get-nodes_shown : (es : Slots) (q : FullNodeId) → get (nodes_shown es) q ≡ node_in (record_at es q)
-get-nodes_shown [] q = get-empty full_cmp q
-get-nodes_shown (e ∷ es) q =
-    get-set_at (nodes_shown es) e.0 (option_map (λ r. r.node) e.1.value) q
-    ∙ ap (cond (is_at (full_cmp q) e.0) (option_map (λ r. r.node) e.1.value)) (get-nodes_shown es q)
-    ∙ node_in-cond (is_at (full_cmp q) e.0) e.1 (lookup (is_at (full_cmp q)) es)
+or-some : (b : Bool) (see : ℕ → Option (Option Record)) (n : ℕ) (o : Option ℕ) → is_some (see n) ≡ true → (b || is_some (option_and_then see o)) ≡ is_some (option_and_then see (cond b (Some n) o))
+or-some true see n o e = sym e
+or-some false see n o e = refl
 
-pub contains-slots_shown : (es : Slots) (q : FullNodeId) → set.contains (slots_shown es) q ≡ is_some (slot_at es q)
-contains-slots_shown [] q = set.contains-empty full_cmp q
-contains-slots_shown (e ∷ es) q =
-    set.contains-insert full_total (slots_shown es) e.0 q
-    ∙ ap (λ b. is_at (full_cmp q) e.0 || b) (contains-slots_shown es q)
-    ∙ or-some (is_at (full_cmp q) e.0) e.1 (lookup (is_at (full_cmp q)) es)
+and-none : (b : Bool) (see : ℕ → Option (Option Record)) (n : ℕ) (o : Option ℕ) → is_some (see n) ≡ false → (not b && is_some (option_and_then see o)) ≡ is_some (option_and_then see (cond b (Some n) o))
+and-none true see n o e = sym e
+and-none false see n o e = refl
+
+pub contains-ids_in : (es : List (FullNodeId × ℕ)) (see : ℕ → Option (Option Record)) (q : FullNodeId) → set.contains (ids_in es see) q ≡ is_some (option_and_then see (lookup (is_at (full_cmp q)) es))
+contains-ids_in [] see q = set.contains-empty full_cmp q
+contains-ids_in (e ∷ es) see q = go (is_some (see e.1)) refl (contains-ids_in es see q)
+  where
+    go : (b : Bool) → is_some (see e.1) ≡ b → set.contains (ids_in es see) q ≡ is_some (option_and_then see (lookup (is_at (full_cmp q)) es))
+        → set.contains (if b then set.insert (ids_in es see) e.0 else set.remove (ids_in es see) e.0) q ≡ is_some (option_and_then see (cond (is_at (full_cmp q) e.0) (Some e.1) (lookup (is_at (full_cmp q)) es)))
+    go true s rest =
+        set.contains-insert full_total (ids_in es see) e.0 q
+        ∙ ap (λ b. is_at (full_cmp q) e.0 || b) rest
+        ∙ or-some (is_at (full_cmp q) e.0) see e.1 (lookup (is_at (full_cmp q)) es) s
+    go false s rest =
+        set.contains-remove full_total (ids_in es see) e.0 q
+        ∙ ap (λ b. not (is_at (full_cmp q) e.0) && b) rest
+        ∙ and-none (is_at (full_cmp q) e.0) see e.1 (lookup (is_at (full_cmp q)) es) s
+
+pub contains-slots_shown : (s : SlotsView) (q : FullNodeId) → set.contains (slots_shown s) q ≡ is_some (slot_at s q)
+contains-slots_shown s q = contains-ids_in s.numbers (slot_in s) q
 
 pub tied_same : (i j : ℕ) → i ≡ j → eq_by_cmp nat_cmp j i ≡ true
 tied_same i j e = ap (λ k. eq_by_cmp nat_cmp j k) e ∙ ap is_eq (tied_itself nat_cmp_total j)

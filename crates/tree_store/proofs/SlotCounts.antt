@@ -1,6 +1,6 @@
 -- A world has no more nodes than there are slots for them.
 use Rattle.std.proofs.Common.{◌≡◌, ℕ, zero, suc, ◌+◌, ◌-◌, ◌≤◌, List, [], ◌∷◌, length, Bool, true, false, cond, Option, Some, None, not, true≢false, subst, refl, sym, ap, ◌∙◌, arith}
-use Rattle.std.specs.Prelude.{◌||◌, ◌&&◌, is_some}
+use Rattle.std.specs.Prelude.{◌||◌, ◌&&◌, is_some, if◌then◌else◌}
 use Rattle.std.specs.List.{IsDistinct, AllByRecursion, list_any}
 use Rattle.std.specs.FinMap.{FinMap, keys, len, entries, entries_sorted, len-entries, contains_key, contains_key-keys}
 use Rattle.std.specs.FinSet as set
@@ -20,7 +20,8 @@ use Rattle.tree_changes.specs.Changes.{change_at, overlaid_world}
 use Rattle.tree_store.specs.declared.records.Record.{Record}
 use Rattle.tree_store.specs.StoreViews.{StoreView}
 use Rattle.tree_store.specs.Commits.{HasSlots}
-use Rattle.tree_store.specs.Stored.{Slots, nodes_shown, slots_shown, slot_at, record_in}
+use Rattle.tree_store.specs.Cells.{SlotsView, slot_in, slot_at, record_in}
+use Rattle.tree_store.specs.Stored.{ids_in, nodes_shown, slots_shown}
 use Rattle.tree_store.proofs.Maps.{get-nodes_shown, contains-slots_shown, node_in}
 use Rattle.tree_changes.proofs.Overlays.{effect}
 use Rattle.tree_store.proofs.Laid.{data_laid}
@@ -66,15 +67,26 @@ one_more : (b : Bool) (n k : ℕ) → n ≤ k → cond b n (n + 1) ≤ 1 + k
 one_more true n k h = omega (arith, h)
 one_more false n k h = omega (arith, h)
 
-pub slots_fit : (es : Slots) → set.len (slots_shown es) ≤ length es
-slots_fit [] = omega (arith, set.len-empty full_cmp)
-slots_fit (e ∷ es) = omega (arith, set.len-insert full_total (slots_shown es) e.0, one_more (set.contains (slots_shown es) e.0) (set.len (slots_shown es)) (length es) (slots_fit es))
+one_fewer : (b : Bool) (n k : ℕ) → n ≤ k → cond b (n - 1) n ≤ 1 + k
+one_fewer true n k h = omega (arith, h)
+one_fewer false n k h = omega (arith, h)
+
+ids_fit : (es : List (FullNodeId × ℕ)) (see : ℕ → Option (Option Record)) → set.len (ids_in es see) ≤ length es
+ids_fit [] see = omega (arith, set.len-empty full_cmp)
+ids_fit (e ∷ es) see = go (is_some (see e.1)) (ids_fit es see)
+  where
+    go : (b : Bool) → set.len (ids_in es see) ≤ length es → set.len (if b then set.insert (ids_in es see) e.0 else set.remove (ids_in es see) e.0) ≤ suc (length es)
+    go true rest = omega (arith, set.len-insert full_total (ids_in es see) e.0, one_more (set.contains (ids_in es see) e.0) (set.len (ids_in es see)) (length es) rest)
+    go false rest = omega (arith, set.len-remove full_total (ids_in es see) e.0, one_fewer (set.contains (ids_in es see) e.0) (set.len (ids_in es see)) (length es) rest)
+
+pub slots_fit : (s : SlotsView) → set.len (slots_shown s) ≤ length s.numbers
+slots_fit s = ids_fit s.numbers (slot_in s)
 
 filled_some : (o : Option (Option Record)) → is_some (node_in (record_in o)) ≡ true → is_some o ≡ true
 filled_some None h = h
 filled_some (Some r) h = refl
 
-pub nodes_fit : (es : Slots) → len (nodes_shown es) ≤ length es
+pub nodes_fit : (es : SlotsView) → len (nodes_shown es) ≤ length es.numbers
 nodes_fit es =
     omega (arith, slots_fit es, nodes_within (nodes_shown es) (slots_shown es) (λ q h. contains-slots_shown es q ∙ filled_some (slot_at es q) (sym (ap is_some (get-nodes_shown es q)) ∙ h)))
 

@@ -16,7 +16,7 @@ use Rattle.tree_changes.specs.declared.decision.NodeChange.{NodeChange}
 use Rattle.tree_changes.specs.declared.decision.NodeChange.TheVariants.{Put, Gone}
 use Rattle.tree_changes.specs.Changes.{NodeChanges, change_at, entry_data, entry_of}
 use Rattle.tree_store.specs.declared.records.Record.{Record}
-use Rattle.tree_store.specs.Stored.{Slots, slot_at, record_at}
+use Rattle.tree_store.specs.Cells.{SlotsView, slot_at, record_at}
 use Rattle.tree_store.specs.Commits.{record_after, changed_record, AreEntriesApart, HasNoSpare}
 use Rattle.tree_store.specs.Waiting.{data_waiting, placed_record, record_from}
 use Rattle.tree_store.proofs.WrittenSlots.{written_next, rest_sorted}
@@ -34,7 +34,7 @@ tight_by : (b : Bool) (r s t : Option Record) (slot old : Bool) → r ≡ cond b
 tight_by true r s t slot old e f g = f
 tight_by false r s t slot old e f g = f ∙ g ∙ ap is_some (sym e)
 
-module _ (first : List (NodeId × NodeData)) (now later : List (Option (Box (Option Record) Global))) (es fs : Slots) (e : FullNodeId × NodeChange) (cs : NodeChanges)
+module _ (first : List (NodeId × NodeData)) (now later : List (Option (Box (Option Record) Global))) (es fs : SlotsView) (e : FullNodeId × NodeChange) (cs : NodeChanges)
     (sorted : IsStrictlySortedBy full_cmp (keys_of (e ∷ cs))) (waits : AreWaiting first now (e ∷ cs)) (apart : AreEntriesApart (e ∷ cs)) (tight : HasNoSpare es)
     (written : (q : FullNodeId) → record_at fs q ≡ cond (is_at (full_cmp e.0) q) (record_from now e.1 (record_at es e.0)) (record_at es q))
     (slots : (q : FullNodeId) → is_some (slot_at fs q) ≡ cond (is_at (full_cmp e.0) q) (is_some (record_at fs q)) (is_some (slot_at es q)))

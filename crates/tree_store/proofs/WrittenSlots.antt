@@ -1,5 +1,5 @@
 -- What is left to write after the first of some changes is written.
-use Rattle.std.proofs.Common.{◌≡◌, ◌≢◌, ℕ, suc, ◌+◌, ◌<◌, get_or, length, List, [], ◌∷◌, drop, Bool, true, false, cond, Option, Some, None, refl, sym, ap, subst, ◌∙◌, arith}
+use Rattle.std.proofs.Common.{◌≡◌, ◌≢◌, ℕ, zero, suc, ◌+◌, ◌<◌, get_or, length, List, [], ◌∷◌, drop, Bool, true, false, cond, Option, Some, None, refl, sym, ap, subst, ◌∙◌, arith}
 use Rattle.std.specs.Prelude.{◌||◌, is_some, IsSome, IfSome, All, slice_get}
 use Rattle.std.specs.Option.{option_map}
 use Rattle.std.specs.BTreeMap.{is_at}
@@ -15,11 +15,12 @@ use Rattle.schema.specs.NodeData.{NodeData}
 use Rattle.schema.specs.declared.NodeId.{NodeId}
 use Rattle.model.specs.declared.FullNodeId.{FullNodeId}
 use Rattle.model.specs.FullIds.{full_cmp, full_total}
+use Rattle.model.specs.World.{Place}
 use Rattle.tree_changes.specs.declared.decision.NodeChange.{NodeChange}
 use Rattle.tree_changes.specs.declared.decision.NodeChange.TheVariants.{Put, Gone}
-use Rattle.tree_changes.specs.Changes.{NodeChanges, change_at, entry_of}
+use Rattle.tree_changes.specs.Changes.{NodeChanges, change_at, entry_data, entry_of}
 use Rattle.tree_store.specs.declared.records.Record.{Record}
-use Rattle.tree_store.specs.Stored.{Slots, slot_at, record_at}
+use Rattle.tree_store.specs.Cells.{SlotsView, slot_at, record_at, record_in}
 use Rattle.tree_store.specs.Commits.{record_after, changed_record, AreEntriesApart, HasRoomFor}
 use Rattle.tree_store.proofs.KeptSlots.{same_id, symmetric}
 
@@ -55,7 +56,22 @@ or-false : (a : Bool) → (a || false) ≡ a
 or-false true = refl
 or-false false = refl
 
-module _ (nodes : List (NodeId × NodeData)) (es fs : Slots) (k : FullNodeId) (c : NodeChange) (cs : NodeChanges)
+entry_there : (nodes : List (NodeId × NodeData)) (k : ℕ) → k < length nodes → is_some (entry_data nodes k) ≡ true
+entry_there [] k low = absurd (omega (arith, low))
+entry_there (x ∷ xs) zero low = refl
+entry_there (x ∷ xs) (suc k) low = entry_there xs k (omega (arith, low))
+
+given_there : (place : Option Place) (o : Option NodeData) → is_some o ≡ true → is_some (option_map (λ d. let r : Record = record { place = place; node = d } in r) o) ≡ true
+given_there place None h = cc
+given_there place (Some d) h = refl
+
+-- a slot into which an entry is put has a record
+pub tight_put : (nodes : List (NodeId × NodeData)) (k : ℕ) (place : Option Place) (before : Option Record) (b : Bool) (new old : Option (Option Record)) → new ≡ cond b (Some (record_after nodes (Put place (Some k)) before)) old → k < length nodes
+    → is_some new ≡ cond b (is_some (record_in new)) (is_some old)
+tight_put nodes k place before true new old e low = ap is_some e ∙ sym (ap (λ x. is_some (record_in x)) e ∙ given_there place (entry_data nodes k) (entry_there nodes k low))
+tight_put nodes k place before false new old e low = ap is_some e
+
+module _ (nodes : List (NodeId × NodeData)) (es fs : SlotsView) (k : FullNodeId) (c : NodeChange) (cs : NodeChanges)
     (sorted : IsStrictlySortedBy full_cmp (keys_of ((k, c) ∷ cs)))
     (records : (q : FullNodeId) → record_at fs q ≡ cond (is_at (full_cmp k) q) (record_after nodes c (record_at es k)) (record_at es q)) where
   none_here : (q : FullNodeId) → is_at (full_cmp k) q ≡ true → change_at cs q ≡ None
@@ -91,7 +107,7 @@ same_given first now (Put place (Some k)) before h = ap (λ o. option_map (λ d.
 same_given first now (Put place None) before h = refl
 same_given first now Gone before h = refl
 
-module _ (first now later : List (NodeId × NodeData)) (es fs : Slots) (e : FullNodeId × NodeChange) (cs : NodeChanges)
+module _ (first now later : List (NodeId × NodeData)) (es fs : SlotsView) (e : FullNodeId × NodeChange) (cs : NodeChanges)
     (room : HasRoomFor es (e ∷ cs)) (sorted : IsStrictlySortedBy full_cmp (keys_of (e ∷ cs))) (entries : HasEntriesOf first now (e ∷ cs)) (apart : AreEntriesApart (e ∷ cs)) where
   pub slot_here : IsSome (slot_at es e.0)
   slot_here = room e.0 ∙ ap (λ o. is_some (record_at es e.0) || is_some o) (ap (λ b. cond b (Some e.1) (change_at cs e.0)) (at_itself e.0)) ∙ or-true (is_some (record_at es e.0))

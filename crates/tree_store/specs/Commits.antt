@@ -15,7 +15,7 @@ use Rattle.tree_changes.specs.declared.decision.Decision.{Decision}
 use Rattle.tree_changes.specs.Changes.{NodeChanges, change_at, entry_data, entry_of}
 use Rattle.tree_store.specs.declared.records.Record.{Record}
 use Rattle.tree_store.specs.StoreViews.{StoreView}
-use Rattle.tree_store.specs.Stored.{Slots, slot_at, record_at}
+use Rattle.tree_store.specs.Cells.{SlotsView, slot_at, record_at}
 
 -- there is a slot for each node and for each changed one, and no other
 abbrev pub HasSlots : StoreView → Decision → Type 0
@@ -50,12 +50,12 @@ changed_record nodes None before = before
 changed_record nodes (Some c) before = record_after nodes c before
 
 -- there is a slot for the records, and no other
-abbrev pub HasNoSpare : Slots → Type 0
-HasNoSpare es = (id : FullNodeId) → is_some (slot_at es id) ≡ is_some (record_at es id)
+abbrev pub HasNoSpare : SlotsView → Type 0
+HasNoSpare s = (id : FullNodeId) → is_some (slot_at s id) ≡ is_some (record_at s id)
 
 -- there is a slot for the records and for each change, and no other
-abbrev pub HasRoomFor : Slots → NodeChanges → Type 0
-HasRoomFor es cs = (id : FullNodeId) → is_some (slot_at es id) ≡ (is_some (record_at es id) || is_some (change_at cs id))
+abbrev pub HasRoomFor : SlotsView → NodeChanges → Type 0
+HasRoomFor s cs = (id : FullNodeId) → is_some (slot_at s id) ≡ (is_some (record_at s id) || is_some (change_at cs id))
 
 -- the names, with one more if it is new
 abbrev pub with_name : Bool → List TreeId → TreeId → List TreeId

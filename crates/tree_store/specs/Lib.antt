@@ -1,5 +1,8 @@
 pub mod StoreViews
+pub mod Cells
+pub mod CellsKept
 pub mod Stored
+pub mod Seated
 pub mod NameRecords
 pub mod KeptNames
 pub mod Shown

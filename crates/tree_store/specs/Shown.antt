@@ -9,7 +9,9 @@ use Rattle.model.specs.State.{IsState}
 use Rattle.tree_store.specs.declared.records.NameRecord.{NameRecord}
 use Rattle.tree_store.specs.declared.store.Store.TheInside.{Inside}
 use Rattle.tree_store.specs.KeptNames.{name_at}
-use Rattle.tree_store.specs.Stored.{nodes_shown, trees_shown, texts_shown, names_shown, HasTruePlaces}
+use Rattle.tree_store.specs.Stored.{nodes_shown, trees_shown, texts_shown, names_shown}
+use Rattle.tree_store.specs.Cells.{slot_in}
+use Rattle.tree_store.specs.Seated.{IsSeated}
 
 abbrev pub world_shown : Inside → World
 world_shown a = record {
@@ -28,6 +30,6 @@ pub record NamesAreTrue (m : BTreeMap TreeId NameRecord) (w : World) : Type 0 wh
 -- a store's records are those of the world that it shows, which is a state
 pub record IsStored (a : Inside) (w : World) : Type 0 where
   pub state : IsState w
-  pub places : HasTruePlaces a.tables.nodes w
+  pub seated : IsSeated a.tables.nodes (slot_in a.tables.nodes) w
   pub names : NamesAreTrue a.tables.names w
   pub focus : IsEffectiveFocus w a.focus

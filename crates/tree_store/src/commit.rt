@@ -1,7 +1,8 @@
 //! The first state, and how changes are written into a state: memory for them is reserved first.
 ghost use Rattle.std.specs.Prelude.{◌≡◌, ◌≢◌, ◌<◌, true, None, map, length, All, AllPairs, Contains, IfSome, option_map, IfOk, OnOk, OnErr, if◌then◌else◌};
 ghost use Rattle.std.specs.Vec.{vec_len, vec_capacity};
-ghost use Rattle.tree_store.specs.Stored.{texts_shown, names_shown, trees_shown, record_at};
+ghost use Rattle.tree_store.specs.Stored.{texts_shown, names_shown, trees_shown};
+ghost use Rattle.tree_store.specs.Cells.{record_at};
 ghost use Rattle.schema.specs.UpdateData.{update_data, info_data};
 ghost use Rattle.tree_changes.specs.Changes.{change_at, overlaid_world, put_trees, tree_change};
 ghost use Rattle.model.specs.State.{empty_world};
@@ -14,13 +15,13 @@ ghost use Rattle.tree_store.specs.KeptNames.{name_at, name_after, kept_in, HasNa
 ghost use Rattle.model.specs.declared.FullNodeId.{FullNodeId};
 ghost use Rattle.schema.specs.declared.TreeId.{TreeId};
 
+use crate::cells::Slots;
 use crate::known::write_known;
 use crate::names::{make_names, take_names_back, write_names};
 use crate::overlay::is_root_index;
 use crate::records::{KnownTree, Tables};
 use crate::slots::{first_slots, make_room, take_back, write_all};
 use crate::store::Store;
-use id_index::IdIndex;
 use schema::{TreeId, TreeInfo, TreeUpdate};
 use std::alloc::{AllocError, Global};
 use std::collections::BTreeMap;
@@ -42,7 +43,9 @@ impl Store {
         ensures names { OnErr result ((name : TreeId) → Contains self.new.names name → Contains self.old.names name) }
     {
         let is_new = self.tree_index(update.tree_id).is_none();
-        self.tables.make_all(is_new, decision)
+        let made = self.tables.make_all(is_new, decision);
+        self.tables.nodes.know();
+        made
     }
 
     /// Writes the changes into the state, after [`Store::reserve`]. Nothing is allocated, and no node's data is copied.
@@ -56,6 +59,7 @@ impl Store {
         let is_root = is_root_index(self, update.tree_id);
         self.tables
             .write_decision(update, &decision, is_new, is_root);
+        self.tables.nodes.know();
         self.focus = decision.focus;
     }
 
@@ -82,7 +86,7 @@ impl Store {
         } = update;
         let mut tables = Tables {
             alloc,
-            nodes: IdIndex::new(alloc),
+            nodes: Slots::new(alloc),
             known: Vec::new(alloc),
             names: BTreeMap::new(alloc),
             toolkit: (None, None),
@@ -90,6 +94,7 @@ impl Store {
         tables.make_trees(&decision)?;
         tables.nodes = first_slots(alloc, nodes, decision.nodes.as_slice())?;
         tables.write_trees(tree, tree_id, &decision, true, true);
+        tables.nodes.know();
         Ok(Store {
             tables,
             host_focused: is_host_focused,

@@ -2,10 +2,10 @@
 ghost use Rattle.std.specs.Prelude.{◌≡◌, IfOk, option_map};
 ghost use Rattle.model.specs.declared.FullNodeId.{FullNodeId};
 ghost use Rattle.tree_store.specs.Copied.{IsCopyOf, copy_at, copy_of};
-ghost use Rattle.tree_store.specs.Stored.{record_at};
+ghost use Rattle.tree_store.specs.Cells.{record_at};
 
+use crate::cells::Slots;
 use crate::records::Record;
-use crate::slots::{Slots, record};
 use crate::store::Store;
 use model::{FullNodeId, Place};
 use schema::Node;
@@ -42,7 +42,7 @@ fn copy_all(alloc: Global, slots: &Slots) -> Result<BTreeMap<FullNodeId, MirrorR
     let ids = slots.ids(alloc)?;
     let mut copies = BTreeMap::new(alloc);
     for id in &ids {
-        if let Some(record) = record(slots, *id) {
+        if let Some(record) = slots.record(*id) {
             let copy = copy_record(record)?;
             drop(copies.insert(*id, copy)?);
         }

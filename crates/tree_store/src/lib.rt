@@ -2,6 +2,7 @@
 //! commit.
 #![tactic(auto)]
 
+mod cells;
 mod commit;
 mod copies;
 mod known;

@@ -1,5 +1,5 @@
 //! The records of nodes and trees.
-use crate::slots::Slots;
+use crate::cells::Slots;
 use model::{FullNodeId, Place};
 use schema::{Node, NodeId, TreeId};
 use std::alloc::Global;

@@ -1,39 +1,22 @@
-//! The slots for records, filled and empty.
+//! Slots for the nodes that an update changes, and what is written into them.
 ghost use Rattle.std.specs.Prelude.{◌≡◌, ◌≢◌, ◌<◌, ℕ, length, slice_get, option_copied, option_map, Some, None, is_some, map, IsSome, IfSome, IsTrue, ◌||◌, cond, IfOk, OnOk, OnErr};
 ghost use Rattle.std.specs.BTreeMap.{is_at};
 ghost use Rattle.model.specs.declared.FullNodeId.{FullNodeId};
 ghost use Rattle.model.specs.FullIds.{full_cmp};
 ghost use Rattle.tree_changes.specs.Changes.{change_at, entry_data, entry_of};
-ghost use Rattle.tree_store.specs.Stored.{slot_at, record_at};
+ghost use Rattle.tree_store.specs.Cells.{slot_at, record_at};
 ghost use Rattle.tree_store.specs.Waiting.{data_waiting, placed_record, record_from};
 ghost use Rattle.tree_store.specs.Commits.{record_moved_to, record_after, changed_record, HasEntries, AreEntriesApart, HasNoSpare, HasRoomFor};
 ghost use Rattle.std.specs.List.Sorted.{IsStrictlySortedBy};
 ghost use Rattle.tree_changes.specs.declared.decision.NodeChange.TheVariants.{Put};
 ghost use Rattle.tree_store.specs.declared.records.Record.{Record};
 
+use crate::cells::Slots;
 use crate::records::Record;
-use id_index::IdIndex;
 use model::{FullNodeId, Place};
-use schema::{Node, NodeId, Role};
+use schema::{Node, NodeId};
 use std::alloc::{AllocError, Global};
-use std::mem;
 use tree_changes::NodeChange;
-
-/// The slots of nodes. An empty slot is one that a commit will fill.
-pub(crate) type Slots = IdIndex<Box<Option<Record>>>;
-
-/// The record of an id, if there is one.
-pub(crate) fn record(slots: &Slots, id: FullNodeId) -> Option<&Record>
-    ensures { option_copied result ≡ record_at slots.now id }
-{
-    filled(slots.get(&id)?)
-}
-
-fn filled(slot: &Box<Option<Record>>) -> Option<&Record>
-    ensures { option_copied result ≡ slot.now.value }
-{
-    (**slot).as_ref()
-}
 
 /// Makes an empty slot for each changed node that has none. If an allocation fails, all of them are removed.
 pub(crate) fn make_room(
@@ -60,12 +43,10 @@ fn add_slot(alloc: Global, slots: &mut Slots, id: FullNodeId) -> Result<(), Allo
     ensures ok { OnOk result ((q : FullNodeId) → is_some (slot_at slots.new q) ≡ (is_at (full_cmp id) q || is_some (slot_at slots.old q))) }
     ensures err { OnErr result ((q : FullNodeId) → is_some (slot_at slots.new q) ≡ is_some (slot_at slots.old q)) }
 {
-    if slots.contains_key(&id) {
+    if slots.contains_key(id) {
         return Ok(());
     }
-    let slot = Box::new(alloc, None)?;
-    drop(slots.insert(id, slot)?);
-    Ok(())
+    slots.add(id, Box::new(alloc, None)?)
 }
 
 /// Removes the empty slots of changed nodes.
@@ -83,70 +64,8 @@ fn remove_empty(slots: &mut Slots, id: FullNodeId)
     ensures same { (q : FullNodeId) → record_at slots.new q ≡ record_at slots.old q }
     ensures tight { (q : FullNodeId) → is_some (slot_at slots.new q) ≡ cond (is_at (full_cmp id) q) (is_some (record_at slots.old q)) (is_some (slot_at slots.old q)) }
 {
-    if !has_record(slots, id) {
-        drop(slots.remove(&id));
-    }
-}
-
-fn has_record(slots: &Slots, id: FullNodeId) -> bool
-    ensures { result ≡ is_some (record_at slots.now id) }
-{
-    record(slots, id).is_some()
-}
-
-// takes an entry's node out, and leaves another one in its place
-fn take_node(nodes: &mut Vec<(NodeId, Node)>, entry: usize, other: Node) -> Node
-    requires { entry < length nodes.old.items }
-    ensures node { entry_data nodes.old.items entry ≡ Some result }
-    ensures others { (k : ℕ) → k ≢ entry → slice_get nodes.new.items k ≡ slice_get nodes.old.items k }
-    ensures count { length nodes.new.items ≡ length nodes.old.items }
-{
-    mem::replace(&mut nodes[entry].1, other)
-}
-
-// sets a node's place and gives it an entry's data
-fn put_node(
-    alloc: Global,
-    slots: &mut Slots,
-    nodes: &mut Vec<(NodeId, Node)>,
-    id: FullNodeId,
-    place: Option<Place>,
-    entry: usize,
-)
-    requires slot { IsSome (slot_at slots.old id) }
-    requires entry { entry < length nodes.old.items }
-    ensures slots { (q : FullNodeId) → slot_at slots.new q ≡ cond (is_at (full_cmp id) q) (Some (record_after nodes.old.items (Put place (Some entry)) (record_at slots.old id))) (slot_at slots.old q) }
-    ensures nodes { (k : ℕ) → k ≢ entry → slice_get nodes.new.items k ≡ slice_get nodes.old.items k }
-    ensures count { length nodes.new.items ≡ length nodes.old.items }
-{
-    match slots.get_mut(&id) {
-        Some(slot) => put_record(alloc, &mut **slot, nodes, place, entry),
-        None => unreachable!(),
-    }
-}
-
-// sets the place of what is in a slot and swaps its data with an entry's
-fn put_record(
-    alloc: Global,
-    slot: &mut Option<Record>,
-    nodes: &mut Vec<(NodeId, Node)>,
-    place: Option<Place>,
-    entry: usize,
-)
-    requires { entry < length nodes.old.items }
-    ensures slot { slot.new ≡ record_after nodes.old.items (Put place (Some entry)) slot.old }
-    ensures nodes { (k : ℕ) → k ≢ entry → slice_get nodes.new.items k ≡ slice_get nodes.old.items k }
-    ensures count { length nodes.new.items ≡ length nodes.old.items }
-{
-    match slot {
-        Some(record) => {
-            record.place = place;
-            mem::swap(&mut record.node, &mut nodes[entry].1);
-        }
-        None => {
-            let node = take_node(nodes, entry, Node::new(alloc, Role::Unknown));
-            *slot = Some(Record { place, node });
-        }
+    if !slots.has_record(id) {
+        slots.remove(id);
     }
 }
 
@@ -156,35 +75,28 @@ fn put_place(slots: &mut Slots, id: FullNodeId, place: Option<Place>)
     ensures records { (q : FullNodeId) → record_at slots.new q ≡ cond (is_at (full_cmp id) q) (record_moved_to place (record_at slots.old id)) (record_at slots.old q) }
     ensures tight { (q : FullNodeId) → is_some (slot_at slots.new q) ≡ cond (is_at (full_cmp id) q) (is_some (record_at slots.new q)) (is_some (slot_at slots.old q)) }
 {
-    if !set_place(slots, id, place) {
-        drop(slots.remove(&id));
+    if !slots.set_place(id, place) {
+        slots.remove(id);
     }
 }
 
-// sets the place of the record in a slot, and returns whether there is one
-fn set_place(slots: &mut Slots, id: FullNodeId, place: Option<Place>) -> bool
-    requires { IsSome (slot_at slots.old id) }
-    ensures there { result ≡ is_some (record_at slots.old id) }
-    ensures after { (q : FullNodeId) → slot_at slots.new q ≡ cond (is_at (full_cmp id) q) (Some (record_moved_to place (record_at slots.old id))) (slot_at slots.old q) }
+// sets a node's place and gives it an entry's data
+fn put_entry(
+    alloc: Global,
+    slots: &mut Slots,
+    nodes: &mut Vec<(NodeId, Node)>,
+    id: FullNodeId,
+    place: Option<Place>,
+    entry: usize,
+)
+    requires slot { IsSome (slot_at slots.old id) }
+    requires entry { entry < length nodes.old.items }
+    ensures records { (q : FullNodeId) → record_at slots.new q ≡ cond (is_at (full_cmp id) q) (record_after nodes.old.items (Put place (Some entry)) (record_at slots.old id)) (record_at slots.old q) }
+    ensures tight { (q : FullNodeId) → is_some (slot_at slots.new q) ≡ cond (is_at (full_cmp id) q) (is_some (record_at slots.new q)) (is_some (slot_at slots.old q)) }
+    ensures nodes { (k : ℕ) → k ≢ entry → slice_get nodes.new.items k ≡ slice_get nodes.old.items k }
+    ensures count { length nodes.new.items ≡ length nodes.old.items }
 {
-    match slots.get_mut(&id) {
-        Some(slot) => move_record(&mut **slot, place),
-        None => unreachable!(),
-    }
-}
-
-// sets a record's place, and returns whether there is one
-fn move_record(slot: &mut Option<Record>, place: Option<Place>) -> bool
-    ensures there { result ≡ is_some slot.old }
-    ensures moved { slot.new ≡ record_moved_to place slot.old }
-{
-    match slot {
-        Some(record) => {
-            record.place = place;
-            true
-        }
-        None => false,
-    }
+    slots.put_node(alloc, nodes, id, place, entry);
 }
 
 fn write(
@@ -205,9 +117,9 @@ fn write(
         NodeChange::Put {
             place,
             entry: Some(entry),
-        } => put_node(alloc, slots, nodes, id, place, entry),
+        } => put_entry(alloc, slots, nodes, id, place, entry),
         NodeChange::Put { place, entry: None } => put_place(slots, id, place),
-        NodeChange::Gone => drop(slots.remove(&id)),
+        NodeChange::Gone => slots.remove(id),
     }
 }
 
@@ -251,7 +163,8 @@ pub(crate) fn first_slots(
     ensures tight { IfOk result HasNoSpare }
 {
     let mut waiting = boxed(alloc, nodes)?;
-    let mut slots = IdIndex::new(alloc);
+    let mut slots = Slots::new(alloc);
+    slots.reserve(changes.len())?;
     for change in changes {
         place_first(&mut slots, &mut waiting, change.0, change.1)?;
     }
@@ -290,18 +203,18 @@ fn place_first(
             place,
             entry: Some(entry),
         } => {
-            drop(slots.remove(&id));
+            slots.remove(id);
             if let Some(slot) = placed(waiting, entry, place) {
-                drop(slots.insert(id, slot)?);
+                slots.add(id, slot)?;
             }
         }
         NodeChange::Put { place, entry: None } => {
-            if slots.contains_key(&id) {
+            if slots.contains_key(id) {
                 put_place(slots, id, place);
             }
         }
         NodeChange::Gone => {
-            drop(slots.remove(&id));
+            slots.remove(id);
         }
     }
     Ok(())

@@ -14,7 +14,6 @@ use crate::names::{
     focus_in, graft_in, index_in, known_name, name_record, present_tree, root_in, tree_in,
 };
 use crate::records::{PresentTree, Tables};
-use crate::slots::record;
 use model::{FullNodeId, Place};
 use schema::{Node, TreeId};
 use std::marker::Model;
@@ -67,7 +66,7 @@ impl Store {
     pub fn get(&self, id: FullNodeId) -> Option<&Node>
         ensures { option_copied result ≡ data_of self.now.world id }
     {
-        let record = record(&self.tables.nodes, id)?;
+        let record = self.tables.nodes.record(id)?;
         Some(&record.node)
     }
 
@@ -76,7 +75,7 @@ impl Store {
         requires { IsNode self.now.world id }
         ensures { IsPlaceOf self.now.world id result }
     {
-        match record(&self.tables.nodes, id) {
+        match self.tables.nodes.record(id) {
             Some(record) => record.place,
             None => unreachable!(),
         }
@@ -87,7 +86,7 @@ impl Store {
         ensures found { is_some result ≡ is_some (data_of self.now.world id) }
         ensures given { IfSome result (λ r. IsNodeRecord self.now.world id r) }
     {
-        let record = record(&self.tables.nodes, id)?;
+        let record = self.tables.nodes.record(id)?;
         Some(NodeRecord {
             place: record.place,
             node: &record.node,

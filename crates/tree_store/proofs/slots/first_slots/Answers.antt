@@ -6,7 +6,7 @@ use Rattle.model.specs.FullIds.{full_cmp}
 use Rattle.tree_changes.specs.declared.decision.NodeChange.{NodeChange}
 use Rattle.tree_changes.specs.declared.decision.NodeChange.TheVariants.{Put}
 use Rattle.tree_changes.specs.Changes.{NodeChanges, change_at}
-use Rattle.tree_store.specs.Stored.{record_at}
+use Rattle.tree_store.specs.Cells.{record_at}
 use Rattle.tree_store.specs.Commits.{changed_record, AreEntriesApart}
 use Rattle.tree_store.proofs.WrittenSlots.{step_at}
 use Rattle.tree_store.proofs.Waits.{AreWaiting, next_records, next_tight, next_sorted, next_waits, next_apart}

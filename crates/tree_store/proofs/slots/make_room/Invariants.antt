@@ -2,7 +2,7 @@ use Rattle.std.proofs.Common.{◌≡◌, drop}
 use Rattle.std.specs.Prelude.{◌||◌, is_some}
 use Rattle.model.specs.declared.FullNodeId.{FullNodeId}
 use Rattle.tree_changes.specs.Changes.{change_at}
-use Rattle.tree_store.specs.Stored.{slot_at, record_at}
+use Rattle.tree_store.specs.Cells.{slot_at, record_at}
 use Rattle.tree_store.proofs.slots.make_room.Given as goal
 
 abbrev pub invariant-loop-change : goal.invariant-loop-change

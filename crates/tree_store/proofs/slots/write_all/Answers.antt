@@ -6,7 +6,7 @@ use Rattle.model.specs.FullIds.{full_cmp}
 use Rattle.tree_changes.specs.declared.decision.NodeChange.{NodeChange}
 use Rattle.tree_changes.specs.declared.decision.NodeChange.TheVariants.{Put}
 use Rattle.tree_changes.specs.Changes.{NodeChanges, change_at}
-use Rattle.tree_store.specs.Stored.{record_at}
+use Rattle.tree_store.specs.Cells.{record_at}
 use Rattle.tree_store.specs.Commits.{changed_record, HasRoomFor, AreEntriesApart}
 use Rattle.tree_store.proofs.WrittenSlots.{HasEntriesOf, step_at, slot_here, next_records, next_room, next_sorted, next_entries, next_apart}
 use Rattle.tree_store.proofs.slots.write_all.Goals as goal

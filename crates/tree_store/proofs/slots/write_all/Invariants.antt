@@ -3,7 +3,7 @@ use Rattle.std.specs.List.Sorted.{IsStrictlySortedBy}
 use Rattle.model.specs.declared.FullNodeId.{FullNodeId}
 use Rattle.model.specs.FullIds.{full_cmp}
 use Rattle.tree_changes.specs.Changes.{change_at}
-use Rattle.tree_store.specs.Stored.{record_at}
+use Rattle.tree_store.specs.Cells.{record_at}
 use Rattle.tree_store.specs.Commits.{changed_record, AreEntriesApart, HasRoomFor}
 use Rattle.tree_store.proofs.WrittenSlots.{HasEntriesOf}
 use Rattle.tree_store.proofs.slots.write_all.Given as goal

@@ -46,7 +46,7 @@ invariant_of-self c =
     let b : Inside = record { tables = c.write_decision.new.self; host_focused = a.host_focused; focus = c.args.decision.focus } in
     let leaves = update_leaves_state c.args.self.now.world (update_data c.args.update) _ (subst IsState shows c.self.invariant.state) c.requires.decided.accepted in
     stored_after a c.args.self.now.world shows c.self.invariant.names (update_data c.args.update) c.args.decision c.requires.decided c.is_none-is_new.result is_new
-    b c.self.invariant.places leaves c.is_root_index-is_root.result c.is_root_index-is_root.ensures w.records w.names w.trees w.kept w.texts refl refl
+    b c.self.invariant.seated.place leaves c.is_root_index-is_root.result c.is_root_index-is_root.ensures w.records w.names w.trees w.kept w.texts refl refl c.know.ensures
 
 pub returns-clause-world : goal.returns-clause-world
 returns-clause-world c =
@@ -57,7 +57,7 @@ returns-clause-world c =
     let b : Inside = record { tables = c.write_decision.new.self; host_focused = a.host_focused; focus = c.args.decision.focus } in
     let leaves = update_leaves_state c.args.self.now.world (update_data c.args.update) _ (subst IsState shows c.self.invariant.state) c.requires.decided.accepted in
     world_after a c.args.self.now.world shows c.self.invariant.names (update_data c.args.update) c.args.decision c.requires.decided c.is_none-is_new.result is_new
-    b c.self.invariant.places leaves c.is_root_index-is_root.result c.is_root_index-is_root.ensures w.records w.names w.trees w.kept w.texts refl refl
+    b c.self.invariant.seated.place leaves c.is_root_index-is_root.result c.is_root_index-is_root.ensures w.records w.names w.trees w.kept w.texts refl refl c.know.ensures
 
 pub returns-clause-tight : goal.returns-clause-tight
 returns-clause-tight c = tight c.write_decision.new.self.nodes c.write_decision.ensures.tight

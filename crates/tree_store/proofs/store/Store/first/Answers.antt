@@ -5,7 +5,8 @@ use Rattle.model.specs.declared.FullNodeId.{FullNodeId}
 use Rattle.model.specs.State.{empty_world}
 use Rattle.model.proofs.Update.UpdateLeavesState.{first_leaves_state}
 use Rattle.tree_store.specs.declared.store.Store.TheInside.{Inside}
-use Rattle.tree_store.specs.Stored.{record_at, texts_shown}
+use Rattle.tree_store.specs.Cells.{record_at}
+use Rattle.tree_store.specs.Stored.{texts_shown}
 use Rattle.tree_store.specs.KeptNames.{name_at, kept_in}
 use Rattle.std.specs.Map.{lookup}
 use Rattle.std.specs.BTreeMap.{is_at}
@@ -42,7 +43,7 @@ invariant_of-result c =
     let w = c.write_trees.ensures in
     let records : (id : FullNodeId) → record_at b.tables.nodes id ≡ changed_record (update_data c.args.update).nodes (change_at c.args.decision.nodes.items id) (record_at a.tables.nodes id) = λ id. ap (λ es. record_at es id) w.nodes ∙ c.in_ok-tables.ensures.records id ∙ ap (λ cs. changed_record (update_data c.args.update).nodes (change_at cs id) None) c.as_slice.ensures.value ∙ ap (changed_record (update_data c.args.update).nodes (change_at c.args.decision.nodes.items id)) (sym (nodes id)) in
     stored_after a (empty_world host) (blank_world a host known nodes names (ap texts_shown made.ensures.texts) refl) (blank_names a host known nodes names (ap texts_shown made.ensures.texts) refl) (update_data c.args.update) c.args.decision c.requires true refl
-    b (blank_places a host known nodes names (ap texts_shown made.ensures.texts) refl) (first_leaves_state host (update_data c.args.update) _ c.requires.accepted) true refl records w.names w.trees w.kept w.texts refl refl
+    b (blank_places a host known nodes names (ap texts_shown made.ensures.texts) refl) (first_leaves_state host (update_data c.args.update) _ c.requires.accepted) true refl records w.names w.trees w.kept w.texts refl refl c.know.ensures
 
 pub returns-clause-world : goal.returns-clause-world
 returns-clause-world c =
@@ -56,7 +57,7 @@ returns-clause-world c =
     let w = c.write_trees.ensures in
     let records : (id : FullNodeId) → record_at b.tables.nodes id ≡ changed_record (update_data c.args.update).nodes (change_at c.args.decision.nodes.items id) (record_at a.tables.nodes id) = λ id. ap (λ es. record_at es id) w.nodes ∙ c.in_ok-tables.ensures.records id ∙ ap (λ cs. changed_record (update_data c.args.update).nodes (change_at cs id) None) c.as_slice.ensures.value ∙ ap (changed_record (update_data c.args.update).nodes (change_at c.args.decision.nodes.items id)) (sym (nodes id)) in
     world_after a (empty_world host) (blank_world a host known nodes names (ap texts_shown made.ensures.texts) refl) (blank_names a host known nodes names (ap texts_shown made.ensures.texts) refl) (update_data c.args.update) c.args.decision c.requires true refl
-    b (blank_places a host known nodes names (ap texts_shown made.ensures.texts) refl) (first_leaves_state host (update_data c.args.update) _ c.requires.accepted) true refl records w.names w.trees w.kept w.texts refl refl
+    b (blank_places a host known nodes names (ap texts_shown made.ensures.texts) refl) (first_leaves_state host (update_data c.args.update) _ c.requires.accepted) true refl records w.names w.trees w.kept w.texts refl refl c.know.ensures
 
 pub returns-clause-tight : goal.returns-clause-tight
 returns-clause-tight c = tight c.write_trees.new.self.nodes (subst HasNoSpare (sym c.write_trees.ensures.nodes) c.in_ok-tables.ensures.tight)

@@ -10,4 +10,4 @@ pub unreachable-requires : goal.unreachable-requires
 unreachable-requires c = none_there _ c.requires (ap node_in c.in-None.ensures ∙ sym (get-nodes_shown c.self.inside.tables.nodes c.args.id) ∙ ap (λ (k : StoreView). data_of k.world c.args.id) c.self.view_is)
 
 pub returns : goal.returns
-returns c = subst (λ (k : StoreView). IsPlaceOf k.world c.args.id c.in-Some.record.now.place) c.self.view_is (c.self.invariant.places c.args.id c.in-Some.record.now (sym c.in-Some.ensures))
+returns c = subst (λ (k : StoreView). IsPlaceOf k.world c.args.id c.in-Some.record.now.place) c.self.view_is (c.self.invariant.seated.place c.args.id c.in-Some.record.now (sym c.in-Some.ensures))
