@@ -1,6 +1,6 @@
 //! Global indexes of positions, in scalars or in UTF-16 code units, and back.
-ghost use Rattle.std.specs.Prelude.{◌≡◌, ◌<◌, ◌≤◌, ◌+◌, true, take, IfSome, option_map};
-ghost use Rattle.std.specs.List.{concat};
+ghost use Rattle.std.specs.Prelude.{◌≡◌, ◌<◌, ◌≤◌, ◌+◌, true, nat_lt, take, IfSome, option_map};
+ghost use Rattle.std.specs.List.{concat, list_all};
 ghost use Rattle.model.specs.TextRuns.{said_count, sent_characters, supports_text_ranges};
 ghost use Rattle.model.specs.Moves.{utf16_len, global_index, position_of, to_global_usv_index, to_global_utf16_index};
 ghost use Rattle.views.specs.Nodes.{world_at, id_at};
@@ -22,10 +22,24 @@ pub(crate) enum Units {
     Utf16,
 }
 
+/// Whether all bytes are ASCII. All of them are looked at, so that the loop can be vectorised.
+fn is_ascii(bytes: &[u8]) -> bool
+    ensures { result ≡ list_all (λ b. nat_lt b 128) bytes.now }
+{
+    let mut most = 0u8;
+    for index in 0..bytes.len() {
+        most = most.max(bytes[index]);
+    }
+    most < 128
+}
+
 /// The number of UTF-16 code units of the text.
 fn utf16_count(text: &str) -> usize
     ensures { result ≡ utf16_len text.now }
 {
+    if is_ascii(text.as_bytes()) {
+        return text.len();
+    }
     let mut count = 0usize;
     for scalar in text.chars() {
         count += scalar.len_utf16();
@@ -94,10 +108,14 @@ impl Units {
         if masked {
             return index;
         }
-        let mut rest = run.value();
+        let value = run.value();
+        let lengths = run.node().character_lengths();
+        if value.len() == lengths.len() && is_ascii(value.as_bytes()) {
+            return index;
+        }
+        let mut rest = value;
         let mut left = index;
         let mut number = 0usize;
-        let lengths = run.node().character_lengths();
         for length in lengths {
             let (character, after) = rest.split_at(usize::from(*length));
             let count = self.count(character);

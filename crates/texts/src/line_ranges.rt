@@ -83,9 +83,10 @@ pub(crate) fn line_range_of<'a>(root: NodeRef<'a>, index: usize) -> Option<TextR
         if line >= index {
             return Some(range_to(first, last));
         }
-        let Some(next) = last.next() else {
+        let mut next = last;
+        if !next.step() {
             return range_past(first, line, index);
-        };
+        }
         line += 1;
         first = next;
     }

@@ -7,6 +7,7 @@ use Rattle.views.specs.Nodes.{world_at, id_at}
 use Rattle.views.specs.Runs.{IsFirstOf}
 use Rattle.texts.specs.RunNumbers.{number_in}
 use Rattle.texts.specs.Positions.{node_text}
+use Rattle.texts.proofs.RunSteps.{stepped, stayed}
 use Rattle.texts.proofs.TextEnds.{some_run}
 use Rattle.texts.proofs.LineRanges.{line_is_there}
 use Rattle.texts.proofs.LineSteps.{at_first_line, line_rises, line_there, no_more_lines, last_line, next_at_line, fewer_left}
@@ -42,20 +43,20 @@ returns-then-line-index c =
 
 pub range_past-requires-clause-size : goal.range_past-requires-clause-size
 range_past-requires-clause-size c =
-    no_more_lines c.args.root c.requires c.loop-line.line c.loop-line.first c.last_of-last.result c.loop-line.invariant.at c.last_of-last.ensures.same c.last_of-last.ensures.found c.in_default.ensures
+    no_more_lines c.args.root c.requires c.loop-line.line c.loop-line.first c.last_of-last.result c.loop-line.invariant.at c.last_of-last.ensures.same c.last_of-last.ensures.found (stayed c.step.result c.last_of-last.result c.step.new.self c.step.ensures c.if-not-step.true).last
 
 pub range_past-requires-clause-last : goal.range_past-requires-clause-last
 range_past-requires-clause-last c =
-    last_line c.args.root c.requires c.loop-line.line c.loop-line.first c.last_of-last.result c.loop-line.invariant.at c.last_of-last.ensures.same c.last_of-last.ensures.found c.in_default.ensures
+    last_line c.args.root c.requires c.loop-line.line c.loop-line.first c.last_of-last.result c.loop-line.invariant.at c.last_of-last.ensures.same c.last_of-last.ensures.found (stayed c.step.result c.last_of-last.result c.step.new.self c.step.ensures c.if-not-step.true).last
 
 pub loop-line-smaller : goal.loop-line-smaller
 loop-line-smaller c =
-    fewer_left c.args.root c.requires c.loop-line.line c.loop-line.first c.last_of-last.result c.loop-line.invariant.at c.last_of-last.ensures.same c.last_of-last.ensures.found c.in-Some.next c.in-Some.ensures
+    fewer_left c.args.root c.requires c.loop-line.line c.loop-line.first c.last_of-last.result c.loop-line.invariant.at c.last_of-last.ensures.same c.last_of-last.ensures.found c.step.new.self (stepped c.step.result c.last_of-last.result c.step.new.self c.step.ensures c.if-not-step.false)
 
 pub loop-line-preserved : goal.loop-line-preserved
 loop-line-preserved c =
     let below = c.if-line-index.false in
     record {
-      at = next_at_line c.args.root c.requires c.loop-line.line c.loop-line.first c.last_of-last.result c.loop-line.invariant.at c.last_of-last.ensures.same c.last_of-last.ensures.found c.in-Some.next c.in-Some.ensures;
+      at = next_at_line c.args.root c.requires c.loop-line.line c.loop-line.first c.last_of-last.result c.loop-line.invariant.at c.last_of-last.ensures.same c.last_of-last.ensures.found c.step.new.self (stepped c.step.result c.last_of-last.result c.step.new.self c.step.ensures c.if-not-step.false);
       upto = omega (arith, below);
     }

@@ -1,9 +1,9 @@
-use Rattle.std.proofs.Common.{◌+◌, ap, ◌∙◌, arith}
+use Rattle.std.proofs.Common.{◌+◌, sym, ap, ◌∙◌, arith}
 use Rattle.std.proofs.lemmas.Str.{IsUtf8-drop}
 use Rattle.model.specs.TextRuns.{run_value, said_count}
 use Rattle.views.specs.Runs.{sent_of}
 use Rattle.texts.specs.GlobalIndexes.{unit_len, length_to}
-use Rattle.texts.proofs.UnitCounts.{masked_is, one_more, cut_on, cut_at, left_on}
+use Rattle.texts.proofs.UnitCounts.{are_ascii, masked_is, single_is, one_more, cut_on, cut_at, left_on}
 use Rattle.texts.proofs.indexes.Units.holder.Goals as goal
 
 pub returns-then-masked-clause-within : goal.returns-then-masked-clause-within
@@ -22,6 +22,30 @@ returns-then-masked-clause-below c =
     let r = sent_of c.args.run in
     let all = masked_is c.args.self r c.args.masked c.if-masked.true (said_count r) (omega arith) in
     omega (arith, masked_is c.args.self r c.args.masked c.if-masked.true (c.args.index + 1) (omega (arith, c.requires.within, all)))
+
+pub returns-then-is_ascii-clause-within : goal.returns-then-is_ascii-clause-within
+returns-then-is_ascii-clause-within c =
+    let r = sent_of c.args.run in
+    let lengths = c.character_lengths-lengths.ensures ∙ ap (λ d. d.character_lengths) c.node.ensures in
+    let ascii = sym (ap are_ascii c.as_bytes.ensures.value) ∙ sym c.is_ascii.ensures ∙ c.if-is_ascii.true in
+    let single = single_is c.args.self r c.args.masked c.if-masked.false c.requires.cut c.value-value.result.now c.character_lengths-lengths.result.now c.value-value.ensures lengths c.if-value-lengths.true ascii in
+    omega (arith, c.requires.within, single (said_count r) (omega arith))
+
+pub returns-then-is_ascii-clause-above : goal.returns-then-is_ascii-clause-above
+returns-then-is_ascii-clause-above c =
+    let r = sent_of c.args.run in
+    let lengths = c.character_lengths-lengths.ensures ∙ ap (λ d. d.character_lengths) c.node.ensures in
+    let ascii = sym (ap are_ascii c.as_bytes.ensures.value) ∙ sym c.is_ascii.ensures ∙ c.if-is_ascii.true in
+    let single = single_is c.args.self r c.args.masked c.if-masked.false c.requires.cut c.value-value.result.now c.character_lengths-lengths.result.now c.value-value.ensures lengths c.if-value-lengths.true ascii in
+    omega (arith, single c.args.index (omega (arith, c.requires.within, single (said_count r) (omega arith))))
+
+pub returns-then-is_ascii-clause-below : goal.returns-then-is_ascii-clause-below
+returns-then-is_ascii-clause-below c =
+    let r = sent_of c.args.run in
+    let lengths = c.character_lengths-lengths.ensures ∙ ap (λ d. d.character_lengths) c.node.ensures in
+    let ascii = sym (ap are_ascii c.as_bytes.ensures.value) ∙ sym c.is_ascii.ensures ∙ c.if-is_ascii.true in
+    let single = single_is c.args.self r c.args.masked c.if-masked.false c.requires.cut c.value-value.result.now c.character_lengths-lengths.result.now c.value-value.ensures lengths c.if-value-lengths.true ascii in
+    omega (arith, single (c.args.index + 1) (omega (arith, c.requires.within, single (said_count r) (omega arith))))
 
 pub split_at-requires : goal.split_at-requires
 split_at-requires c =
