@@ -1,12 +1,12 @@
 //! Global indexes of positions, in scalars or in UTF-16 code units, and back.
-ghost use Rattle.std.specs.Prelude.{◌≡◌, ◌<◌, ◌≤◌, ◌+◌, true, nat_lt, take, IfSome, option_map};
-ghost use Rattle.std.specs.List.{concat, list_all};
+ghost use Rattle.std.specs.Prelude.{◌≡◌, ◌<◌, ◌≤◌, ◌+◌, true, take, IfSome, option_map};
+ghost use Rattle.std.specs.List.{concat};
 ghost use Rattle.model.specs.TextRuns.{said_count, sent_characters, supports_text_ranges};
 ghost use Rattle.model.specs.Moves.{utf16_len, global_index, position_of, to_global_usv_index, to_global_utf16_index};
 ghost use Rattle.views.specs.Nodes.{world_at, id_at};
 ghost use Rattle.views.specs.Runs.{sent_of};
 ghost use Rattle.texts.specs.Positions.{root_at, node_text, position_text, flat_position};
-ghost use Rattle.texts.specs.GlobalIndexes.{IsCut, unit_len, length_to, length_of};
+ghost use Rattle.texts.specs.GlobalIndexes.{IsCut, unit_len, are_units, length_to, length_of};
 ghost use Rattle.texts.specs.Secrets.{InEachText};
 
 use crate::position::TextPosition;
@@ -22,24 +22,10 @@ pub(crate) enum Units {
     Utf16,
 }
 
-/// Whether all bytes are ASCII. All of them are looked at, so that the loop can be vectorised.
-fn is_ascii(bytes: &[u8]) -> bool
-    ensures { result ≡ list_all (λ b. nat_lt b 128) bytes.now }
-{
-    let mut most = 0u8;
-    for index in 0..bytes.len() {
-        most = most.max(bytes[index]);
-    }
-    most < 128
-}
-
 /// The number of UTF-16 code units of the text.
 fn utf16_count(text: &str) -> usize
     ensures { result ≡ utf16_len text.now }
 {
-    if is_ascii(text.as_bytes()) {
-        return text.len();
-    }
     let mut count = 0usize;
     for scalar in text.chars() {
         count += scalar.len_utf16();
@@ -63,6 +49,13 @@ fn front<'a>(run: Run<'a>, index: usize) -> &'a str
     text
 }
 
+/// Whether each character of the run, as shown, is one unit of either kind: it is a bullet, or a single byte.
+fn are_units(run: Run<'_>, masked: bool) -> bool
+    ensures { result ≡ are_units masked (sent_of run.entry) }
+{
+    masked || run.value().len() == run.character_count()
+}
+
 impl Units {
     /// The number of units of the text.
     fn count(self, text: &str) -> usize
@@ -80,7 +73,7 @@ impl Units {
         requires within { index ≤ said_count (sent_of run) }
         ensures { result ≡ length_to self masked (sent_of run.entry) index }
     {
-        if masked {
+        if are_units(run, masked) {
             return index;
         }
         self.count(front(run, index))
@@ -91,7 +84,7 @@ impl Units {
         requires { IsCut (sent_of run) }
         ensures { result ≡ length_of self masked (sent_of run.entry) }
     {
-        if masked {
+        if are_units(run, masked) {
             return run.character_count();
         }
         self.count(run.value())
@@ -105,17 +98,13 @@ impl Units {
         ensures above { length_to self masked (sent_of run.entry) result ≤ index }
         ensures below { index < length_to self masked (sent_of run.entry) (result + 1) }
     {
-        if masked {
+        if are_units(run, masked) {
             return index;
         }
-        let value = run.value();
-        let lengths = run.node().character_lengths();
-        if value.len() == lengths.len() && is_ascii(value.as_bytes()) {
-            return index;
-        }
-        let mut rest = value;
+        let mut rest = run.value();
         let mut left = index;
         let mut number = 0usize;
+        let lengths = run.node().character_lengths();
         for length in lengths {
             let (character, after) = rest.split_at(usize::from(*length));
             let count = self.count(character);

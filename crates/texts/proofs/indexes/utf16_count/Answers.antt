@@ -1,11 +1,7 @@
-use Rattle.std.proofs.Common.{sym, ap, ◌∙◌, arith}
+use Rattle.std.proofs.Common.{arith}
 use Rattle.std.proofs.lemmas.Str.{IsUtf8-past_char}
-use Rattle.texts.proofs.UnitCounts.{units_step, units_are, utf16_le, are_ascii, ascii_units}
+use Rattle.texts.proofs.UnitCounts.{units_step, units_are, utf16_le}
 use Rattle.texts.proofs.indexes.utf16_count.Goals as goal
-
-pub returns-then-is_ascii : goal.returns-then-is_ascii
-returns-then-is_ascii c =
-    c.len.ensures ∙ sym (ascii_units c.args.text.now (sym (ap are_ascii c.as_bytes.ensures.value) ∙ sym c.is_ascii.ensures ∙ c.if-is_ascii.true))
 
 pub overflow_add-count : goal.overflow_add-count
 overflow_add-count c =
