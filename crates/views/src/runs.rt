@@ -156,7 +156,7 @@ impl<'a> Run<'a> {
         }
     }
 
-    /// Goes on to the next run, and returns whether there was one; if not, the run stays as it is. Only the place is
+    /// Goes on to the next run, and returns whether there was one; if not, the run is unchanged. Only the place is
     /// written, so this costs less than [`Run::next`] in a loop.
     #[inline(always)]
     pub fn step(&mut self) -> bool
