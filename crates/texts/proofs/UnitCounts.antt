@@ -291,7 +291,7 @@ module _ (units : Units) where
       let low : 0 < n = ltb-true 0 n (both (nat_lt 0 n) _ cut).0 in
       let high : n ≤ length bs = first.fits in
       let left : length ns ≤ length (drop n bs) = count_fits (drop n bs) ns first.others in
-      let sized : length bs ≡ length ns + 1 = size in
+      let sized : length bs ≡ length ns + 1 = (let e : length bs ≡ length (n ∷ ns) = size in omega (arith, e)) in
       let one : n ≡ 1 = omega (arith, low, high, left, sized, length-drop n bs) in
       let taken : length (take n bs) ≡ n = length-take-le n bs high in
       let most = unit_le units (take n bs) first.text in
