@@ -2,6 +2,7 @@ pub mod Along
 pub mod PointPlaces
 pub mod PieceBoxes
 pub mod FlatRuns
+pub mod RunSteps
 pub mod CharacterMoves
 pub mod PositionSteps
 pub mod BoundarySearches

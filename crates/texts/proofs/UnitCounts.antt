@@ -1,6 +1,6 @@
 -- How many scalars or units of UTF-16 a text has, and the characters that lengths cut off it.
 use Rattle.std.proofs.Common.{◌≡◌, ℕ, zero, suc, ◌+◌, ◌<◌, ◌≤◌, Bool, true, false, List, [], ◌∷◌, ◌++◌, length, take, drop, map, get_or, refl, sym, ap, subst, ◌∙◌, arith, add-one, drop-cons, length-append, length-drop}
-use Rattle.std.specs.Prelude.{nat_lt, nat_le, if◌then◌else◌, sum_by}
+use Rattle.std.specs.Prelude.{◌==◌, ◌||◌, nat_lt, nat_le, if◌then◌else◌, sum_by}
 use Rattle.std.specs.List.{concat}
 use Rattle.std.specs.Char.{len_utf8}
 use Rattle.std.specs.Str.{chars, is_utf8, IsUtf8, IsCharBoundary}
@@ -16,7 +16,7 @@ use Rattle.model.specs.Moves.{utf16_len}
 use Rattle.model.proofs.Text.TextFacts.{both}
 use Rattle.texts.specs.declared.indexes.Units.{Units}
 use Rattle.texts.specs.declared.indexes.Units.TheVariants.{Scalars, Utf16}
-use Rattle.texts.specs.GlobalIndexes.{unit_len, IsCut, length_to}
+use Rattle.texts.specs.GlobalIndexes.{unit_len, IsCut, are_units, length_to}
 
 -- ---- units of UTF-16
 
@@ -51,6 +51,13 @@ units_le c = go (nat_lt c 0x1_0000) refl
     go true e = omega (arith, length-encode c, (len_utf8_bounds c).0)
     go false e = let big = ltb-false c 0x1_0000 e in omega (arith, length-encode c, wide c big)
 
+units_some : (c : ℕ) → 0 < units_of c
+units_some c = go (nat_lt c 0x1_0000)
+  where
+    go : (b : Bool) → 0 < (if b then 1 else 2)
+    go true = omega arith
+    go false = omega arith
+
 sum_le : (cs : List ℕ) → sum_by units_of cs ≤ length (encodes cs)
 sum_le [] = omega arith
 sum_le (c ∷ cs) = omega (arith, sum_le cs, units_le c, sum_by-cons units_of c cs, length-append (encode c) (encodes cs))
@@ -71,6 +78,25 @@ module _ (units : Units) where
       go : (k : Units) → unit_len k bs ≤ length bs
       go Scalars = omega (arith, scalars_le (chars bs), ap length (encodes-chars bs u))
       go Utf16 = utf16_le bs u
+
+  -- a text that isn't empty has one at least
+  unit_some : (bs : List ℕ) → IsUtf8 bs → 0 < length bs → 0 < unit_len units bs
+  unit_some bs u some = by units
+    where
+      whole : length (encodes (chars bs)) ≡ length bs
+      whole = ap length (encodes-chars bs u)
+
+      of_scalars : (cs : List ℕ) → 0 < length (encodes cs) → 0 < length cs
+      of_scalars [] h = absurd (omega (arith, h))
+      of_scalars (c ∷ cs) h = omega arith
+
+      of_units : (cs : List ℕ) → 0 < length (encodes cs) → 0 < sum_by units_of cs
+      of_units [] h = absurd (omega (arith, h))
+      of_units (c ∷ cs) h = omega (arith, sum_by-cons units_of c cs, units_some c)
+
+      by : (k : Units) → 0 < unit_len k bs
+      by Scalars = of_scalars (chars bs) (omega (arith, whole, some))
+      by Utf16 = of_units (chars bs) (omega (arith, whole, some))
 
   unit_nil : unit_len units [] ≡ 0
   unit_nil = go units
@@ -246,6 +272,41 @@ module _ (units : Units) where
   pub run_le_bytes : (r : SentRun) (masked : Bool) → IsCut r → units_in (map (shown_character masked) (cut_by (run_value r) r.node.character_lengths)) ≤ length (run_value r)
   run_le_bytes r masked cut = units_le_bytes (run_value r) r.node.character_lengths masked cut
 
+-- ---- a run of as many bytes as characters
+
+count_fits : (bs ns : List ℕ) → is_cut_by bs ns ≡ true → length ns ≤ length bs
+count_fits bs [] e = omega arith
+count_fits bs (n ∷ ns) e =
+    let first = first_cut bs ns n e in
+    let low : 0 < n = ltb-true 0 n (both (nat_lt 0 n) _ e).0 in
+    let high = first.fits in
+    omega (arith, low, high, count_fits (drop n bs) ns first.others, length-drop n bs)
+
+module _ (units : Units) where
+  singles : (bs ns : List ℕ) (i : ℕ) → is_cut_by bs ns ≡ true → length bs ≡ length ns → i ≤ length ns → units_in units (take i (cut_by bs ns)) ≡ i
+  singles bs ns zero cut size h = refl
+  singles bs [] (suc i) cut size h = absurd (omega (arith, h))
+  singles bs (n ∷ ns) (suc i) cut size h =
+      let first = first_cut bs ns n cut in
+      let low : 0 < n = ltb-true 0 n (both (nat_lt 0 n) _ cut).0 in
+      let high : n ≤ length bs = first.fits in
+      let left : length ns ≤ length (drop n bs) = count_fits (drop n bs) ns first.others in
+      let sized : length bs ≡ length ns + 1 = (let e : length bs ≡ length (n ∷ ns) = size in omega (arith, e)) in
+      let one : n ≡ 1 = omega (arith, low, high, left, sized, length-drop n bs) in
+      let taken : length (take n bs) ≡ n = length-take-le n bs high in
+      let most = unit_le units (take n bs) first.text in
+      let least = unit_some units (take n bs) first.text (omega (arith, taken, low)) in
+      let rest = singles (drop n bs) ns i first.others (omega (arith, sized, one, length-drop n bs)) (omega (arith, h)) in
+      omega (arith, one, taken, most, least, rest, sum_by-cons (unit_len units) (take n bs) (take i (cut_by (drop n bs) ns)))
+
+  pub each_is_unit : (r : SentRun) (masked : Bool) → are_units masked r ≡ true → IsCut r → (i : ℕ) → i ≤ said_count r → length_to units masked r i ≡ i
+  each_is_unit r true e cut i h = masked_front units r i h
+  each_is_unit r false e cut i h = plain units r i ∙ singles (run_value r) r.node.character_lengths i cut (eqb-true (length (run_value r)) (said_count r) e) h
+
+pub not_masked : (masked : Bool) (r : SentRun) → are_units masked r ≡ false → masked ≡ false
+not_masked true r e = e
+not_masked false r e = refl
+
 -- ---- the sum of the first lengths of a run
 
 module _ (r : SentRun) (index : ℕ) (cut : IsCut r) (first : List ℕ) (is : first ≡ take index r.node.character_lengths) where
@@ -273,9 +334,6 @@ module _ (r : SentRun) (index : ℕ) (cut : IsCut r) (first : List ℕ) (is : fi
 -- ---- a step over a character of a run
 
 module _ (units : Units) (r : SentRun) where
-  pub masked_is : (masked : Bool) → masked ≡ true → (i : ℕ) → i ≤ said_count r → length_to units masked r i ≡ i
-  masked_is masked e i h = ap (λ m. length_to units m r i) e ∙ masked_front units r i h
-
   pub one_more : (masked : Bool) → masked ≡ false → (lengths : List ℕ) → lengths ≡ r.node.character_lengths → (rest : List ℕ) (i n : ℕ) → i < length lengths → n ≡ get_or lengths i 0 →
       drop i (cut_by (run_value r) lengths) ≡ cut_by rest (drop i lengths) → length_to units masked r (i + 1) ≡ length_to units masked r i + unit_len units (take n rest)
   one_more masked e lengths of rest i n h is left =

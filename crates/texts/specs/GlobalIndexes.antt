@@ -1,5 +1,5 @@
 -- Indexes in the whole text, by what they count.
-use Rattle.std.specs.Prelude.{◌≡◌, ℕ, Bool, true, List, map, take, sum_by}
+use Rattle.std.specs.Prelude.{◌≡◌, ◌==◌, ◌||◌, ℕ, Bool, true, List, length, map, take, sum_by}
 use Rattle.model.specs.TextRuns.{SentRun, run_value, said_count, is_cut_by, sent_characters}
 use Rattle.model.specs.FlatText.{shown_character}
 use Rattle.model.specs.Moves.{scalar_len, utf16_len}
@@ -14,6 +14,10 @@ unit_len Utf16 = utf16_len
 -- the lengths of the run's characters cut its value
 abbrev pub IsCut : SentRun → Type 0
 IsCut r = is_cut_by (run_value r) r.node.character_lengths ≡ true
+
+-- each character of the run, as it is shown, is a bullet or a single byte, and so one unit of either kind
+abbrev pub are_units : Bool → SentRun → Bool
+are_units masked r = masked || (length (run_value r) == said_count r)
 
 -- the number of units of a run's first characters, as they are shown
 abbrev pub length_to : Units → Bool → SentRun → ℕ → ℕ

@@ -107,10 +107,9 @@ pub(crate) fn last_of<'a>(start: Run<'a>, mark: Mark) -> Run<'a>
         if closes(run, mark) {
             return run;
         }
-        let Some(next) = run.next() else {
+        if !run.step() {
             return run;
-        };
-        run = next;
+        }
     }
 }
 

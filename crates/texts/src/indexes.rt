@@ -6,7 +6,7 @@ ghost use Rattle.model.specs.Moves.{utf16_len, global_index, position_of, to_glo
 ghost use Rattle.views.specs.Nodes.{world_at, id_at};
 ghost use Rattle.views.specs.Runs.{sent_of};
 ghost use Rattle.texts.specs.Positions.{root_at, node_text, position_text, flat_position};
-ghost use Rattle.texts.specs.GlobalIndexes.{IsCut, unit_len, length_to, length_of};
+ghost use Rattle.texts.specs.GlobalIndexes.{IsCut, unit_len, are_units, length_to, length_of};
 ghost use Rattle.texts.specs.Secrets.{InEachText};
 
 use crate::position::TextPosition;
@@ -49,6 +49,13 @@ fn front<'a>(run: Run<'a>, index: usize) -> &'a str
     text
 }
 
+/// Whether each character of the run, as shown, is one unit of either kind: it is a bullet, or a single byte.
+fn are_units(run: Run<'_>, masked: bool) -> bool
+    ensures { result ≡ are_units masked (sent_of run.entry) }
+{
+    masked || run.value().len() == run.character_count()
+}
+
 impl Units {
     /// The number of units of the text.
     fn count(self, text: &str) -> usize
@@ -66,7 +73,7 @@ impl Units {
         requires within { index ≤ said_count (sent_of run) }
         ensures { result ≡ length_to self masked (sent_of run.entry) index }
     {
-        if masked {
+        if are_units(run, masked) {
             return index;
         }
         self.count(front(run, index))
@@ -77,7 +84,7 @@ impl Units {
         requires { IsCut (sent_of run) }
         ensures { result ≡ length_of self masked (sent_of run.entry) }
     {
-        if masked {
+        if are_units(run, masked) {
             return run.character_count();
         }
         self.count(run.value())
@@ -91,7 +98,7 @@ impl Units {
         ensures above { length_to self masked (sent_of run.entry) result ≤ index }
         ensures below { index < length_to self masked (sent_of run.entry) (result + 1) }
     {
-        if masked {
+        if are_units(run, masked) {
             return index;
         }
         let mut rest = run.value();

@@ -6,10 +6,11 @@ ghost use Rattle.views.specs.Nodes.{world_at, id_at};
 ghost use Rattle.texts.specs.Positions.{node_text};
 ghost use Rattle.views.specs.Runs.{text_root_of, run_world, root_id};
 ghost use Rattle.texts.specs.RunNumbers.{number_in, text_around};
+ghost use Rattle.texts.specs.LineWalks.{IsLineStep};
 ghost use Rattle.texts.specs.TextRanges.{IsRangeOf};
 ghost use Rattle.texts.specs.FoundRanges.{IsRangeFound, range_of_line};
 
-use crate::boundaries::{Mark, last_of};
+use crate::boundaries::{Mark, ends_line, last_of};
 use crate::ends::document_end;
 use crate::position::TextPosition;
 use crate::range::TextRange;
@@ -70,6 +71,22 @@ pub(crate) fn range_past<'a>(run: Run<'a>, line: usize, index: usize) -> Option<
     caret_past(run)
 }
 
+/// Goes on to the first run of the next line, and returns whether there is one; if not, it has gone to the last run.
+fn step_line(run: &mut Run<'_>) -> bool
+    requires { supports_text_ranges (run_world run.old) (root_id run.old) ≡ true }
+    ensures { IsLineStep result run.old run.new }
+{
+    loop {
+        let ends = ends_line(*run);
+        if !run.step() {
+            return false;
+        }
+        if ends {
+            return true;
+        }
+    }
+}
+
 /// The range of a line of a node's text, by its number from 0. Requires that the node supports text ranges.
 pub(crate) fn line_range_of<'a>(root: NodeRef<'a>, index: usize) -> Option<TextRange<'a>>
     requires { supports_text_ranges (world_at root) (id_at root) ≡ true }
@@ -79,13 +96,13 @@ pub(crate) fn line_range_of<'a>(root: NodeRef<'a>, index: usize) -> Option<TextR
     let mut first = Run::first(root).unwrap();
     let mut line = 0usize;
     loop {
-        let last = last_of(first, Mark::Line);
         if line >= index {
-            return Some(range_to(first, last));
+            return Some(range_to(first, last_of(first, Mark::Line)));
         }
-        let Some(next) = last.next() else {
+        let mut next = first;
+        if !step_line(&mut next) {
             return range_past(first, line, index);
-        };
+        }
         line += 1;
         first = next;
     }

@@ -27,11 +27,7 @@ pub(crate) enum Look {
 fn same_text(a: Option<&str>, b: Option<&str>) -> bool
     ensures { IsTrue result ↔ (option_copied a.entry ≡ option_copied b.entry) }
 {
-    match (a, b) {
-        (Some(a), Some(b)) => a == b,
-        (None, None) => true,
-        _ => false,
-    }
+    a == b
 }
 
 /// Whether two nodes of a state have the same value of the property.

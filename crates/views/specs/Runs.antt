@@ -6,12 +6,16 @@ use Rattle.model.specs.Beside.{is_below}
 use Rattle.model.specs.TextRuns.{SentRun, sent_run}
 use Rattle.views.specs.declared.node.node_ref.NodeRef.{NodeRef}
 use Rattle.views.specs.declared.runs.Run.{Run}
+use Rattle.views.specs.declared.walks.spot.Member.{Member}
 use Rattle.views.specs.declared.walks.spot.Spot.{Spot}
 use Rattle.views.specs.Nodes.{world_at, id_at, data_at}
 use Rattle.views.specs.RunPlaces.{runs_after, runs_before}
 use Rattle.views.specs.Spots.{IsSpot}
 
 -- a node as the run that it was sent as
+abbrev pub sent_as : Member → SentRun
+sent_as m = record { id = m.id; node = m.node.now }
+
 abbrev pub run_of : NodeRef → SentRun
 run_of n = record { id = id_at n; node = data_at n }
 
@@ -55,6 +59,11 @@ pub record IsAfter (r s : Run) : Type 0 where
   pub root : s.root ≡ r.root
   pub after : ids_after r ≡ run_id s ∷ ids_after s
   pub before : ids_before s ≡ ids_before r ++ run_id r ∷ []
+
+-- there is no run after the first of these, and the second is the same
+pub record StaysLast (r s : Run) : Type 0 where
+  pub same : s ≡ r
+  pub last : ids_after r ≡ []
 
 pub record IsPreviousRun (r s : Run) : Type 0 where
   pub root : s.root ≡ r.root

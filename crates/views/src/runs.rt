@@ -39,6 +39,25 @@ impl Filter for RunFilter {
     }
 }
 
+impl<'a> Member<'a> {
+    ghost use Rattle.model.specs.TextRuns.{run_value, said_count};
+    ghost use Rattle.views.specs.Runs.{sent_as};
+
+    /// The text of a run; empty if it has no value.
+    pub(crate) fn value(self) -> &'a str
+        ensures { result.now ≡ run_value (sent_as self.entry) }
+    {
+        self.node.value().unwrap_or("")
+    }
+
+    /// The number of characters of a run, by its list of lengths.
+    pub(crate) fn character_count(self) -> usize
+        ensures { result ≡ said_count (sent_as self.entry) }
+    {
+        self.node.character_lengths().len()
+    }
+}
+
 /// A run of a root, with its place.
 #[derive(Clone, Copy)]
 pub struct Run<'a> {
@@ -48,11 +67,11 @@ pub struct Run<'a> {
 }
 
 impl<'a> Run<'a> {
-    ghost use Rattle.std.specs.Prelude.{[], IfSome, MatchOption};
+    ghost use Rattle.std.specs.Prelude.{[], IfSome, MatchOption, MatchBool};
     ghost use Rattle.model.specs.TextRuns.{run_ids, run_value, said_count, ends_with_newline};
     ghost use Rattle.model.specs.Geometry.{transform, transform_within};
     ghost use Rattle.views.specs.Reach.{IsInReach};
-    ghost use Rattle.views.specs.Runs.{text_root_of, root_id, run_world, run_id, run_of, sent_of, IsFirstOf, IsLastOf, IsAfter, IsPreviousRun, IsSpotAfter, ids_after, ids_before};
+    ghost use Rattle.views.specs.Runs.{text_root_of, root_id, run_world, run_id, run_of, sent_of, IsFirstOf, IsLastOf, IsAfter, IsPreviousRun, IsSpotAfter, StaysLast, ids_after, ids_before};
 
     /// The first run of a root, if there is one.
     pub fn first(root: NodeRef<'a>) -> Option<Run<'a>>
@@ -137,6 +156,22 @@ impl<'a> Run<'a> {
         }
     }
 
+    /// Goes on to the next run, and returns whether there was one; if not, the run is unchanged. Only the place is
+    /// written, so this costs less than [`Run::next`] in a loop.
+    #[inline(always)]
+    pub fn step(&mut self) -> bool
+        ensures { MatchBool result (IsAfter self.old self.new) (StaysLast self.old self.new) }
+    {
+        self.root.state.know();
+        match self.spot_after() {
+            Some(spot) => {
+                self.spot = spot;
+                true
+            }
+            None => false,
+        }
+    }
+
     /// The previous run, if there is one.
     pub fn previous(self) -> Option<Run<'a>>
         ensures { MatchOption result (ids_before self.entry ≡ []) (IsPreviousRun self.entry) }
@@ -174,14 +209,14 @@ impl<'a> Run<'a> {
     pub fn value(self) -> &'a str
         ensures { result.now ≡ run_value (sent_of self.entry) }
     {
-        self.node().value().unwrap_or("")
+        self.spot.member.value()
     }
 
     /// The number of characters of the run, by its list of lengths.
     pub fn character_count(self) -> usize
         ensures { result ≡ said_count (sent_of self.entry) }
     {
-        self.node().character_lengths().len()
+        self.spot.member.character_count()
     }
 
     /// Whether the run's text ends with a newline.
