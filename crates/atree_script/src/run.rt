@@ -1,5 +1,6 @@
 //! Running a script.
-ghost use Rattle.std.specs.Prelude.{◌≤◌, ◌≢◌};
+ghost use Rattle.std.specs.Prelude.{◌≡◌, ◌≤◌, ◌≢◌};
+ghost use Rattle.atree_script.specs.Scripts.{Prints, PrintsStep, RunsScript};
 
 use crate::outline::print_outline;
 use crate::playing::{Player, play};
@@ -24,23 +25,26 @@ pub fn run_script<R: BufRead, O: Write, E: Write>(
 ) -> u8
     ensures bound { result ≤ 4 }
     ensures not_one { result ≢ 1 }
+    ensures runs { RunsScript (R.remaining input.old) (O.contents output.old) (O.contents output.new) (E.contents errors.old) (E.contents errors.new) result }
 {
     let mut writing = Writing {
-        alloc,
         output: &mut *output,
     };
     let played = play(alloc, input, &mut writing);
+    // This does nothing. The proof reads from it what the output has.
+    let _ = &*writing.output;
     end_run(played.ended, played.number, output, errors)
 }
 
 /// Prints the effects of each command.
 #[derive(Drop)]
 struct Writing<'a, O> {
-    alloc: Global,
     output: &'a mut O,
 }
 
 impl<'a, O: Write> Player for Writing<'a, O> {
+    ghost turns = { λ s turn result t. (t.output.ghost_name ≡ s.output.ghost_name) × Prints (O.contents s.output.now) turn result (O.contents t.output.now) };
+
     fn begin(&mut self, _session: &Session) -> Result<(), Stop> {
         self.output.write_all(b"ok\n")?;
         Ok(())
@@ -70,12 +74,10 @@ impl<'a, O: Write> Player for Writing<'a, O> {
     /// Prints the tree, or that there isn't one.
     fn print(&mut self, session: &Option<Session>) -> Result<(), Stop> {
         match session {
-            Some(session) => print_outline(self.alloc, session.tree().state().view(), self.output),
-            None => {
-                self.output.write_all(b"no tree\n")?;
-                Ok(())
-            }
+            Some(session) => print_outline(session.tree().state().view(), self.output)?,
+            None => self.output.write_all(b"no tree\n")?,
         }
+        Ok(())
     }
 }
 
@@ -84,10 +86,20 @@ fn run_command<O: Write>(
     session: &mut Session,
     command: Command,
     output: &mut O,
-) -> Result<(), Stop> {
-    let mut printer = Printer::new(&mut *output);
+) -> Result<(), Stop>
+    ensures { PrintsStep session.old command session.new result (O.contents output.old) (O.contents output.new) }
+{
+    let mut printer = Printer {
+        out: &mut *output,
+        fault: None,
+    };
     let reply = session.step(command, &mut printer);
-    printer.finish()?;
+    let Printer { out, fault } = printer;
+    // This does nothing. The proof reads from it what the output has.
+    let _ = &*out;
+    if let Some(fault) = fault {
+        return Err(Stop::from(fault));
+    }
     write_reply(&reply?, output)?;
     Ok(())
 }

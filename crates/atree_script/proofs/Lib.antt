@@ -1,0 +1,4 @@
+pub mod Inputs
+pub mod Printing
+pub mod Stepping
+pub mod Plays
