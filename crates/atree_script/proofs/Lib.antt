@@ -2,3 +2,4 @@ pub mod Inputs
 pub mod Printing
 pub mod Stepping
 pub mod Plays
+pub mod TreeLines

@@ -1,28 +1,22 @@
 -- What is printed of a script.
 use Rattle.std.specs.Prelude.{◌≡◌, ◌⊎◌, ℕ, List, [], ◌++◌, codes, flat_map, Option, Some, None, Result, Ok, Err}
 use Rattle.std.specs.Option.{option_map_or}
-use Rattle.std.specs.Io.KnownBytes.{Appends, Keeps}
+use Rattle.std.specs.Io.KnownBytes.{Appends}
 use Rattle.std.specs.declared.alloc.AllocError.{AllocError}
 use Rattle.model.specs.Events.{Event}
 use Rattle.model.specs.World.{World}
-use Rattle.script_lines.specs.Ends.{Tells, told_at_end, status_at_end}
-use Rattle.script_lines.specs.declared.reader.ScriptCommand.{ScriptCommand}
 use Rattle.script_lines.specs.declared.stops.Stop.{Stop}
 use Rattle.script_lines.specs.declared.stops.Stop.TheVariants.{WriteFault, Memory}
 use Rattle.session.specs.Replied.{IsStep}
 use Rattle.session.specs.declared.commands.Command.{Command}
 use Rattle.session.specs.declared.commands.Command.TheVariants as command
 use Rattle.session.specs.declared.commands.Reply.{Reply}
-use Rattle.atree_script.specs.Input.{start_of}
 use Rattle.atree_script.specs.Outline.{tree_text}
-use Rattle.atree_script.specs.Playing.{Turn, Begun, FirstRefused, Ran, Asked, Printed, Stage, no_tree, Plays}
+use Rattle.atree_script.specs.Played.{Bytes, RunsBy}
+use Rattle.atree_script.specs.Playing.{Turn, Begun, FirstRefused, Ran, Asked, Printed}
 use Rattle.atree_script.specs.Printed.{event_line}
 use Rattle.atree_script.specs.Refused.{refusal_line}
 use Rattle.atree_script.specs.Replies.{reply_line}
-
--- the bytes of a stream, where they are known
-abbrev pub Bytes : Type 0
-Bytes = Option (List ℕ)
 
 -- the text is written, with this result; or the output had an error
 abbrev pub Writes : List ℕ → Result Unit Stop → Result Unit Stop → Bytes → Bytes → Type 0
@@ -58,13 +52,6 @@ Prints before (Ran old c new) result after = PrintsStep old c new result before 
 Prints before (Asked old q new) result after = PrintsAnswer old (command.Query q) new result before after
 Prints before (Printed w) result after = Writes (option_map_or tree_text w (codes "no tree\n")) (Ok tt) result before after
 
--- A script is run: each command of the input in turn, from no tree on, with what is printed of it, and why it ended is reported.
-pub record RunsScript (input before after told_before told_after : Bytes) (status : ℕ) : Type 0 where
-  pub commands : List ScriptCommand
-  pub ended : Result Unit Stop
-  pub number : ℕ
-  pub end : Stage
-  pub printed : Bytes
-  pub plays : Plays Prints (start_of input) (no_tree, before) commands ended number (end, printed)
-  pub kept : Keeps printed after
-  pub tells : Tells told_before told_after (told_at_end number ended) (status_at_end ended) status
+-- a script is run, and printed
+abbrev pub RunsScript : Bytes → Bytes → Bytes → Bytes → Bytes → ℕ → Type 0
+RunsScript input before after told_before told_after status = RunsBy Prints (λ printed. printed) before input after told_before told_after status

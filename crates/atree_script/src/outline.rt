@@ -1,11 +1,13 @@
 //! Printing a tree as an outline.
 ghost use Rattle.std.specs.Prelude.{◌≡◌, OnOk, flat_map};
 ghost use Rattle.std.specs.Io.KnownBytes.{Appends};
+ghost use Rattle.model.specs.FocusFound.{is_focused};
 ghost use Rattle.model.specs.Lists.{ancestors};
-ghost use Rattle.views.specs.Nodes.{world_at, id_at};
+ghost use Rattle.schema.specs.RoleNames.{role_text};
+ghost use Rattle.views.specs.Nodes.{world_at, id_at, data_at};
 ghost use Rattle.views.specs.Descendants.{descendants};
 ghost use Rattle.views.specs.ShownWorlds.{world_of};
-ghost use Rattle.atree_script.specs.Outline.{spaces_for, focus_mark, node_line, tree_text};
+ghost use Rattle.atree_script.specs.Outline.{spaces_for, focus_mark, named_line, node_line, tree_text};
 
 use crate::printer::ShownId;
 use accesskit_consumer::node::NodeRef;
@@ -32,11 +34,19 @@ fn print_below<O: Write>(top: NodeRef, out: &mut O) -> io::Result<()>
     Ok(())
 }
 
-/// Prints the node's id and role, and a star if it is focused.
+/// Prints a node's line.
 fn print_node<O: Write>(node: NodeRef, out: &mut O) -> io::Result<()>
     ensures { OnOk result (Appends (O.contents out.old) (O.contents out.new) (node_line (world_at node.entry) (id_at node.entry))) }
 {
     print_indent(node, out)?;
+    print_name(node, out)
+}
+
+/// Prints the node's id and role, and a star if it is focused.
+fn print_name<O: Write>(node: NodeRef, out: &mut O) -> io::Result<()>
+    ensures { let w = world_at node.entry in let id = id_at node.entry in
+        OnOk result (Appends (O.contents out.old) (O.contents out.new) (named_line id (role_text (data_at node.entry).role) (focus_mark w id))) }
+{
     let id = ShownId(node.id());
     let role = node.role();
     let mark = focus_mark(node);
@@ -60,6 +70,13 @@ fn print_indent<O: Write>(node: NodeRef, out: &mut O) -> io::Result<()>
 fn focus_mark(node: NodeRef) -> &'static str
     ensures { result.now ≡ focus_mark (world_at node.entry) (id_at node.entry) }
 {
+    if is_focused(node) { " *" } else { "" }
+}
+
+/// Whether the node is focused.
+fn is_focused(node: NodeRef) -> bool
+    ensures { result ≡ is_focused (world_at node.entry) (id_at node.entry) }
+{
     node.tree_state().know();
-    if node.is_focused() { " *" } else { "" }
+    node.is_focused()
 }
