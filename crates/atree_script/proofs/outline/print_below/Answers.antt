@@ -23,5 +23,5 @@ returns g c =
     let below = descendants w (id_at c.args.top) in
     let begins = ap descendants_left c.into_iter-node-iterator.ensures.into_iter_gives ∙ c.descendants-node-items.ensures in
     let all = YieldsList-from_first node_of descendants_left (map (node_in w) below) begins in
-    let end = YieldsList-end all c.loop-node.yielded _ c.loop-node.yielded_by _ _ c.in-None.is c.next.ensures.steps in
+    let end = YieldsList-end all c.loop-node.yielded c.loop-node.node-iterator c.loop-node.yielded_by c.next.result c.next.new.self c.in-None.is c.next.ensures.steps in
     subst (Appends (g.O.Write.contents c.args.out.now) (g.O.Write.contents c.loop-node.out)) (lines_of_views w c.loop-node.yielded below end.0) c.loop-node.invariant
