@@ -1,16 +1,21 @@
 //! Running a script.
-ghost use Rattle.std.specs.Prelude.{◌≡◌, ◌≤◌, ◌≢◌};
+ghost use Rattle.std.specs.Prelude.{◌≡◌, ◌≤◌, ◌≢◌, List, None, IfNone, flat_map};
+ghost use Rattle.std.specs.Io.KnownBytes.{Appends};
+ghost use Rattle.model.specs.Events.{Event};
+ghost use Rattle.session.specs.Replied.{IsStep};
+ghost use Rattle.atree_script.specs.Played.{PlaysOut};
+ghost use Rattle.atree_script.specs.Printed.{event_line};
 ghost use Rattle.atree_script.specs.Scripts.{Prints, PrintsStep, RunsScript};
 
 use crate::outline::print_outline;
-use crate::playing::{Player, play};
+use crate::playing::{Played, Player, play};
 use crate::printer::Printer;
 use crate::refusals::write_refusal;
 use crate::replies::write_reply;
 use accesskit_consumer::tree::UpdateError;
 use script_lines::{Stop, end_run};
-use session::{Command, Query, Session};
-use std::alloc::Global;
+use session::{Command, Query, Reply, Session};
+use std::alloc::{AllocError, Global};
 use std::io::{BufRead, Write};
 
 /// Runs a script to its end, or until something stops it, and returns the exit status: 0 at the end of the input; 2 for
@@ -30,10 +35,22 @@ pub fn run_script<R: BufRead, O: Write, E: Write>(
     let mut writing = Writing {
         output: &mut *output,
     };
-    let played = play(alloc, input, &mut writing);
+    let played = play_printed(alloc, input, &mut writing);
     // This does nothing. The proof reads from it what the output has.
     let _ = &*writing.output;
     end_run(played.ended, played.number, output, errors)
+}
+
+/// Plays a script, and prints the effects of each command.
+fn play_printed<R: BufRead, O: Write>(
+    alloc: Global,
+    input: &mut R,
+    writing: &mut Writing<'_, O>,
+) -> Played
+    ensures output { writing.new.output.ghost_name ≡ writing.old.output.ghost_name }
+    ensures plays { PlaysOut Prints (R.remaining input.old) (O.contents writing.old.output.now) result (O.contents writing.new.output.now) }
+{
+    play(alloc, input, writing)
 }
 
 /// Prints the effects of each command.
@@ -93,7 +110,7 @@ fn run_command<O: Write>(
         out: &mut *output,
         fault: None,
     };
-    let reply = session.step(command, &mut printer);
+    let reply = step_printed(session, command, &mut printer);
     let Printer { out, fault } = printer;
     // This does nothing. The proof reads from it what the output has.
     let _ = &*out;
@@ -102,4 +119,18 @@ fn run_command<O: Write>(
     }
     write_reply(&reply?, output)?;
     Ok(())
+}
+
+/// Runs a command, whose events are printed until the output's first error.
+fn step_printed<O: Write>(
+    session: &mut Session,
+    command: Command,
+    printer: &mut Printer<'_, O>,
+) -> Result<Reply, AllocError>
+    ensures output { printer.new.out.ghost_name ≡ printer.old.out.ghost_name }
+    ensures step { (events : List Event) × IsStep session.old command session.new events result
+        × IfNone printer.new.fault ((printer.old.fault ≡ None)
+            × Appends (O.contents printer.old.out.now) (O.contents printer.new.out.now) (flat_map event_line events)) }
+{
+    session.step(command, printer)
 }
