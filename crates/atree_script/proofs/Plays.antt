@@ -43,10 +43,19 @@ module _ {P Q : Type 0} (turns : P → Turn → Result Unit Stop → P → Type 
   pub plays_seen : (input : Option Place) (a b : Stage × P) (cs : List ScriptCommand) (ended : Result Unit Stop) (number : ℕ) → Plays turns input a cs ended number b → Plays seen input (look_at a) cs ended number (look_at b)
   plays_seen input a b cs ended number (inl h) = inl (all_seen a b cs h.0, h.1)
   plays_seen input a b cs ended number (inr (h, reads)) =
-      inr (record {
-        earlier = h.earlier; last = h.last; whole = h.whole; between = look_at h.between; before = all_seen a h.between h.earlier h.before;
-        stop = h.stop; stopped = h.stopped; carried = carried_seen h.between.0 h.between.1 h.last ended b.0 b.1 h.carried;
-      }, reads)
+      inr (
+        record {
+          earlier = h.earlier;
+          last = h.last;
+          whole = h.whole;
+          between = look_at h.between;
+          before = all_seen a h.between h.earlier h.before;
+          stop = h.stop;
+          stopped = h.stopped;
+          carried = carried_seen h.between.0 h.between.1 h.last ended b.0 b.1 h.carried;
+        },
+        reads,
+      )
 
 -- ---- what each turn keeps all keep
 

@@ -130,7 +130,7 @@ fn step_printed<O: Write>(
     ensures output { printer.new.out.ghost_name ≡ printer.old.out.ghost_name }
     ensures step { (events : List Event) × IsStep session.old command session.new events result
         × IfNone printer.new.fault ((printer.old.fault ≡ None)
-            × Appends (O.contents printer.old.out.now) (O.contents printer.new.out.now) (flat_map event_line events)) }
+        × Appends (O.contents printer.old.out.now) (O.contents printer.new.out.now) (flat_map event_line events)) }
 {
     session.step(command, printer)
 }

@@ -27,10 +27,12 @@ loop-parent-preserved g c =
     let before = g.O.Write.contents c.args.out.now in
     record {
       world = c.in-Some.ensures.world ∙ c.loop-parent.invariant.world;
-      written = (so_far.0 ++ codes "  ",
-          Appends-trans before (g.O.Write.contents c.loop-parent.out) (g.O.Write.contents c.write_all.new.self) so_far.0 (codes "  ") so_far.1 c.in_ok-write_all.ensures.bytes,
-          spaces_more w (subst IsFormed c.tree_state.ensures c.know.ensures.formed) (id_at n) so_far.0 (spaces_for (ancestors w (id_at c.args.node))) so_far.2 (id_at c.in-Some.parent)
-              (c.in-Some.ensures.node ∙ ap (λ v. parent_of v (id_at n)) c.loop-parent.invariant.world));
+      written = (
+        so_far.0 ++ codes "  ",
+        Appends-trans before (g.O.Write.contents c.loop-parent.out) (g.O.Write.contents c.write_all.new.self) so_far.0 (codes "  ") so_far.1 c.in_ok-write_all.ensures.bytes,
+        spaces_more w (subst IsFormed c.tree_state.ensures c.know.ensures.formed) (id_at n) so_far.0 (spaces_for (ancestors w (id_at c.args.node))) so_far.2 (id_at c.in-Some.parent)
+            (c.in-Some.ensures.node ∙ ap (λ v. parent_of v (id_at n)) c.loop-parent.invariant.world),
+      );
     }
 
 pub returns : goal.returns

@@ -20,6 +20,6 @@ returns g c =
     let role = role_text (data_at n).role in
     on_ok_weaker c.print_name.result
     (λ named.
-        subst (λ r. Appends before after (indent ++ named_line id r (focus_mark w id))) (role_shown n)
-        (Appends-trans before (g.O.Write.contents c.print_indent.new.out) after indent (named_line id role (focus_mark w id)) c.in_ok-print_indent.ensures named))
+    subst (λ r. Appends before after (indent ++ named_line id r (focus_mark w id))) (role_shown n)
+    (Appends-trans before (g.O.Write.contents c.print_indent.new.out) after indent (named_line id role (focus_mark w id)) c.in_ok-print_indent.ensures named))
     c.print_name.ensures

@@ -19,6 +19,6 @@ returns g c =
     let after = g.O.Write.contents c.print_below.new.out in
     on_ok_weaker c.print_below.result
     (λ below.
-        subst (Appends before after) (lines_of_tree w (world_of c.args.state) same (id_at root) c.root-root.ensures.node)
-        (Appends-trans before (g.O.Write.contents c.print_node.new.out) after (node_line w (id_at root)) (flat_map (node_line w) (descendants w (id_at root))) c.in_ok-print_node.ensures below))
+    subst (Appends before after) (lines_of_tree w (world_of c.args.state) same (id_at root) c.root-root.ensures.node)
+    (Appends-trans before (g.O.Write.contents c.print_node.new.out) after (node_line w (id_at root)) (flat_map (node_line w) (descendants w (id_at root))) c.in_ok-print_node.ensures below))
     c.print_below.ensures
