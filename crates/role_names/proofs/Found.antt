@@ -1,6 +1,7 @@
 -- What is known of an element that a search finds.
 use Rattle.std.proofs.Common.{◌≡◌, List, [], ◌∷◌, map, Option, Some, None, refl, sym, subst}
-use Rattle.std.specs.Prelude.{Bool, true, false, cond, option_map, find, All}
+use Rattle.std.specs.Prelude.{Bool, true, false, ◌&&◌, cond, option_map, find}
+use Rattle.std.specs.List.{list_all}
 use Rattle.std.proofs.lemmas.Option.{same_Some}
 
 -- a search among what a function makes of elements
@@ -12,11 +13,19 @@ found_of f p (x ∷ xs) =
     | false ↦ found_of f p xs
     ]
 
--- it passes, and what holds of each element holds of it
-pub found_has : {A : Type 0} (P : A → Type 0) (p : A → Bool) (xs : List A) (e : A) → All P xs → find p xs ≡ Some e → P e × (p e ≡ true)
-found_has P p [] e all found = absurd (cc)
-found_has {A} P p (x ∷ xs) e all found = cases (p x) refl found
-  where
-    cases : (b : Bool) → p x ≡ b → cond b (Some x) (find p xs) ≡ Some e → P e × (p e ≡ true)
-    cases true is here = subst (λ (y : A). P y × (p y ≡ true)) (same_Some x e here) (all.0, is)
-    cases false is later = found_has P p xs e all.1 later
+and_parts : (a b : Bool) → a && b ≡ true → (a ≡ true) × (b ≡ true)
+and_parts true b both = (refl, both)
+and_parts false b both = absurd (cc)
+
+-- an element that is found is the first one, or is found after that
+here_or_later : {A : Type 0} (q p : A → Bool) (x : A) (xs : List A) (e : A) (b : Bool) → p x ≡ b → q x ≡ true → (find p xs ≡ Some e → (q e ≡ true) × (p e ≡ true)) →
+    cond b (Some x) (find p xs) ≡ Some e → (q e ≡ true) × (p e ≡ true)
+here_or_later {A} q p x xs e true is here later found = subst (λ (y : A). (q y ≡ true) × (p y ≡ true)) (same_Some x e found) (here, is)
+here_or_later q p x xs e false is here later found = later found
+
+-- it passes, and so does it a test that each element passes
+pub found_has : {A : Type 0} (q p : A → Bool) (xs : List A) (e : A) → list_all q xs ≡ true → find p xs ≡ Some e → (q e ≡ true) × (p e ≡ true)
+found_has q p [] e all found = absurd (cc)
+found_has q p (x ∷ xs) e all found =
+    let both = and_parts (q x) (list_all q xs) all in
+    here_or_later q p x xs e (p x) refl both.0 (found_has q p xs e both.1) found

@@ -1,18 +1,18 @@
 -- The table of roles that are sent by a number, looked up both ways.
 use Rattle.std.proofs.Common.{◌≡◌, ◌<◌, ℕ, List, length, Option, Some, None, refl, sym, ap, subst, ◌∙◌, arith}
 use Rattle.std.specs.Prelude.{Bool, true, false, ◌==◌, nat_lt, option_map, find, IfSome}
+use Rattle.std.specs.Borrow.{Bor}
 use Rattle.std.specs.Option.{option_map_or}
 use Rattle.std.specs.List.{list_all}
 use Rattle.std.specs.Str.{bytes_eq}
 use Rattle.std.proofs.lemmas.Bool.Decides.{Decides-eqb, nat_tests}
-use Rattle.std.proofs.lemmas.List.Sums.{AllPass-from_list_all}
 use Rattle.std.proofs.lemmas.Slice.Eq.{bytes_eq-Decides}
 use Rattle.std.proofs.lemmas.Option.{same_Some}
 use Rattle.schema.specs.declared.Role.{Role}
 use Rattle.schema.specs.declared.Role.TheVariants.{Unknown, Window, ScrollView, Paragraph, GenericContainer, TextRun, Label, Image, Document, Terminal, TextInput, MultilineTextInput, SearchInput, DateInput, DateTimeInput, WeekInput, MonthInput, TimeInput, EmailInput, NumberInput, PasswordInput, PhoneNumberInput, UrlInput, EditableComboBox, SpinButton, ListBox, TabList, AlertDialog, Dialog, ComboBox, DisclosureTriangle, TreeItem, Button, CheckBox, DefaultButton, Link, MenuItem, MenuItemCheckBox, MenuItemRadio, RadioButton, DocBackLink, DocBiblioRef, DocGlossRef, DocNoteRef, ColorWell, Grid, MenuListPopup, RadioGroup, Slider, Switch, TreeGrid, Article, Definition, DescriptionList, GraphicsDocument, List as AList, ListItem, PdfRoot, ProgressIndicator, RootWebArea, Term, Timer, Toolbar, Tooltip, Comment, Tab, ListBoxOption, MenuListOption, ListGrid, Menu, MenuBar, Tree, Other}
 use Rattle.schema.specs.RoleNames.{role_name}
 use Rattle.role_names.specs.OtherRoles.{other_roles}
-use Rattle.role_names.specs.Names.{numbered, named, name_of, word_of, number_named}
+use Rattle.role_names.specs.Names.{entry_of, numbered, named, name_of, word_of, number_named}
 use Rattle.role_names.proofs.Found.{found_has}
 
 -- an entry's name has the entry's number
@@ -46,11 +46,11 @@ unfolding other_roles
 all_have_words = refl
 
 number_is : (o : Option (ℕ × List ℕ × List ℕ)) (n : ℕ) → option_map_or (λ e. e.0 == n) o false ≡ true → option_map (λ e. e.0) o ≡ Some n
-number_is None n no = cc
+number_is None n none = cc
 number_is (Some e) n same = ap Some ((Decides-eqb e.0 n).0 same)
 
 name_is : (o : Option (ℕ × List ℕ × List ℕ)) (name : List ℕ) → option_map_or (λ e. bytes_eq e.1 name) o false ≡ true → option_map (λ e. e.1) o ≡ Some name
-name_is None name no = cc
+name_is None name none = cc
 name_is (Some e) name same = ap Some ((bytes_eq-Decides e.1 name).0 same)
 
 -- the number of a name that a number has
@@ -58,9 +58,9 @@ pub number_back : (number : ℕ) (name : List ℕ) → name_of number ≡ Some n
 number_back number name is = cases (numbered number) refl is
   where
     cases : (o : Option (ℕ × List ℕ × List ℕ)) → numbered number ≡ o → option_map (λ e. e.1) o ≡ Some name → number_named name ≡ Some number
-    cases None found no = cc
+    cases None found none = cc
     cases (Some e) found same =
-        let has = found_has (λ e. is_back_by_name e ≡ true) (λ e. e.0 == number) other_roles e (AllPass-from_list_all is_back_by_name other_roles all_back_by_name) found in
+        let has = found_has is_back_by_name (λ e. e.0 == number) other_roles e all_back_by_name found in
         let here : number_named e.1 ≡ Some e.0 = number_is (named e.1) e.0 has.0 in
         let is_number : e.0 ≡ number = (Decides-eqb e.0 number).0 has.1 in
         ap number_named (sym (same_Some e.1 name same)) ∙ here ∙ ap Some is_number
@@ -70,12 +70,15 @@ pub name_back : (number : ℕ) (name : List ℕ) → number_named name ≡ Some 
 name_back number name is = cases (named name) refl is
   where
     cases : (o : Option (ℕ × List ℕ × List ℕ)) → named name ≡ o → option_map (λ e. e.0) o ≡ Some number → name_of number ≡ Some name
-    cases None found no = cc
+    cases None found none = cc
     cases (Some e) found same =
-        let has = found_has (λ e. is_back_by_number e ≡ true) (λ e. bytes_eq e.1 name) other_roles e (AllPass-from_list_all is_back_by_number other_roles all_back_by_number) found in
+        let has = found_has is_back_by_number (λ e. bytes_eq e.1 name) other_roles e all_back_by_number found in
         let here : name_of e.0 ≡ Some e.1 = name_is (numbered e.0) e.1 has.0 in
         let is_name : e.1 ≡ name = (bytes_eq-Decides e.1 name).0 has.1 in
         ap name_of (sym (same_Some e.0 number same)) ∙ here ∙ ap Some is_name
+
+too_low : (n number : ℕ) → number < 256 → nat_lt 255 n ≡ true → n ≡ number → ⊥
+too_low n number below above same = grind (arith, nat_tests)
 
 pub no_name_below : (number : ℕ) → number < 256 → name_of number ≡ None
 no_name_below number below = cases (numbered number) refl
@@ -83,11 +86,18 @@ no_name_below number below = cases (numbered number) refl
     cases : (o : Option (ℕ × List ℕ × List ℕ)) → numbered number ≡ o → option_map (λ e. e.1) o ≡ None
     cases None found = refl
     cases (Some e) found =
-        let has = found_has (λ e. is_from_256 e ≡ true) (λ e. e.0 == number) other_roles e (AllPass-from_list_all is_from_256 other_roles all_from_256) found in
+        let has = found_has is_from_256 (λ e. e.0 == number) other_roles e all_from_256 found in
         absurd (too_low e.0 number below has.0 ((Decides-eqb e.0 number).0 has.1))
 
-    too_low : (n number : ℕ) → number < 256 → nat_lt 255 n ≡ true → n ≡ number → ⊥
-    too_low n number below above same = grind (arith, nat_tests)
+positive : (n : ℕ) → nat_lt 0 n ≡ true → 0 < n
+positive n is = grind (arith, nat_tests)
+
+-- an entry that a number has has a word
+pub entry_has_word : (o : Option (ℕ × Bor (List ℕ) × Bor (List ℕ))) (number : ℕ) → option_map entry_of o ≡ numbered number → IfSome o (λ entry. 0 < length entry.2.now)
+entry_has_word None number is = tt
+entry_has_word (Some entry) number is =
+    let has = found_has has_word (λ e. e.0 == number) other_roles (entry_of entry) all_have_words (sym is) in
+    positive (length entry.2.now) has.0
 
 pub words_there : (number : ℕ) → IfSome (word_of number) (λ word. 0 < length word)
 words_there number = cases (numbered number) refl
@@ -95,11 +105,8 @@ words_there number = cases (numbered number) refl
     cases : (o : Option (ℕ × List ℕ × List ℕ)) → numbered number ≡ o → IfSome (option_map (λ e. e.2) o) (λ word. 0 < length word)
     cases None found = tt
     cases (Some e) found =
-        let has = found_has (λ e. has_word e ≡ true) (λ e. e.0 == number) other_roles e (AllPass-from_list_all has_word other_roles all_have_words) found in
+        let has = found_has has_word (λ e. e.0 == number) other_roles e all_have_words found in
         positive (length e.2) has.0
-
-    positive : (n : ℕ) → nat_lt 0 n ≡ true → 0 < n
-    positive n is = grind (arith, nat_tests)
 
 pub new_names : (role : Role) → number_named (role_name role) ≡ None
 unfolding other_roles

@@ -1,6 +1,6 @@
 //! The name, the word and the number of a role that is sent by a number.
 
-ghost use Rattle.std.specs.Prelude.{◌≡◌, ◌==◌, Some, option_map, option_copied, find};
+ghost use Rattle.std.specs.Prelude.{◌≡◌, ◌<◌, ◌==◌, Some, IfSome, length, option_map, option_copied, find};
 ghost use Rattle.std.specs.Str.{bytes_eq};
 ghost use Rattle.schema.specs.declared.Role.TheVariants.{Other};
 ghost use Rattle.role_names.specs.Names.{entry_of, numbered, named, name_of, word_of, number_named, shown_name};
@@ -25,7 +25,8 @@ fn named_in<'a>(table: &'a [OtherRole], name: &str) -> Option<&'a OtherRole>
 
 /// The entry of the table with this number.
 fn numbered(number: u16) -> Option<&'static OtherRole>
-    ensures { option_map entry_of (option_copied result) ≡ numbered number }
+    ensures entry { option_map entry_of (option_copied result) ≡ numbered number }
+    ensures some { IfSome (option_copied result) (λ entry. 0 < length entry.2.now) }
 {
     numbered_in(other_roles(), number)
 }
@@ -41,16 +42,21 @@ fn named(name: &str) -> Option<&'static OtherRole>
 pub fn name_of(number: u16) -> Option<&'static str>
     ensures { option_copied result ≡ name_of number }
 {
-    let (_, name, _) = numbered(number)?;
-    Some(*name)
+    match numbered(number) {
+        Some(entry) => Some(entry.1),
+        None => None,
+    }
 }
 
 /// The word by which a screen reader says the role that is sent as `Other` with this number, if the table has one.
 pub fn word_of(number: u16) -> Option<&'static str>
-    ensures { option_copied result ≡ word_of number }
+    ensures word { option_copied result ≡ word_of number }
+    ensures some { IfSome result (λ word. 0 < length word.now) }
 {
-    let (_, _, word) = numbered(number)?;
-    Some(*word)
+    match numbered(number) {
+        Some(entry) => Some(entry.2),
+        None => None,
+    }
 }
 
 /// The role with this name, if the table has one: `Other(328)` of `Heading`. The names of the roles that have a variant of
