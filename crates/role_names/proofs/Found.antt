@@ -1,5 +1,5 @@
 -- What is known of an element that a search finds.
-use Rattle.std.proofs.Common.{◌≡◌, List, [], ◌∷◌, map, Option, Some, None, refl, sym, subst}
+use Rattle.std.proofs.Common.{◌≡◌, List, [], ◌∷◌, map, Some, refl, subst}
 use Rattle.std.specs.Prelude.{Bool, true, false, ◌&&◌, cond, option_map, find}
 use Rattle.std.specs.List.{list_all}
 use Rattle.std.proofs.lemmas.Option.{same_Some}
@@ -9,8 +9,8 @@ pub found_of : {A B : Type 0} (f : A → B) (p : B → Bool) (xs : List A) → o
 found_of f p [] = refl
 found_of f p (x ∷ xs) =
     elim (p (f x)) as (λ b. option_map f (cond b (Some x) (find (λ x. p (f x)) xs)) ≡ cond b (Some (f x)) (find p (map f xs))) [
-      true ↦ refl
-    | false ↦ found_of f p xs
+      | true ↦ refl
+      | false ↦ found_of f p xs
     ]
 
 and_parts : (a b : Bool) → a && b ≡ true → (a ≡ true) × (b ≡ true)
