@@ -20,9 +20,12 @@ role_and_text n = role_bold (data_at n).role ++ word_text (codes "q") (codes "l"
 abbrev pub name_text : NodeRef → List ℕ
 name_text n = role_and_text n ++ codes " " ++ small_id (id_at n)
 
--- its id as a link to the place at which a state shows the node
+-- the beginning of a link to the place at which a state shows a node, and its id as such a link
+abbrev pub link_begun : ℕ → FullNodeId → List ℕ
+link_begun state id = codes "<a href=\"#" ++ anchor_text state id ++ codes "\">"
+
 abbrev pub linked_id : ℕ → FullNodeId → List ℕ
-linked_id state id = codes "<a href=\"#" ++ anchor_text state id ++ codes "\">" ++ small_id id ++ codes "</a>"
+linked_id state id = link_begun state id ++ small_id id ++ codes "</a>"
 
 -- a node's role and text, and its id as such a link
 abbrev pub linked_text : ℕ → NodeRef → List ℕ

@@ -2,7 +2,7 @@
 ghost use Rattle.std.specs.Prelude.{OnOk, option_copied};
 ghost use Rattle.std.specs.Io.KnownBytes.{Appends};
 ghost use Rattle.views.specs.Nodes.{data_at};
-ghost use Rattle.page.specs.Named.{role_bold, name_text, linked_id, linked_text, role_and_text};
+ghost use Rattle.page.specs.Named.{role_bold, name_text, link_begun, linked_id, linked_text, role_and_text};
 ghost use Rattle.page.specs.Written.{anchor_text, small_id, word_text};
 
 use crate::words::{caption, is_in_password};
@@ -42,11 +42,18 @@ pub(crate) fn write_linked_name<O: Write>(
 fn write_linked_id<O: Write>(state: u64, id: FullNodeId, out: &mut O) -> io::Result<()>
     ensures { OnOk result (Appends (O.contents out.old) (O.contents out.new) (linked_id state id)) }
 {
-    out.write_all(b"<a href=\"#")?;
-    write_anchor(state, id, out)?;
-    out.write_all(b"\">")?;
+    begin_link(state, id, out)?;
     write_id(id, out)?;
     out.write_all(b"</a>")
+}
+
+/// Begins a link to where a state shows the node.
+fn begin_link<O: Write>(state: u64, id: FullNodeId, out: &mut O) -> io::Result<()>
+    ensures { OnOk result (Appends (O.contents out.old) (O.contents out.new) (link_begun state id)) }
+{
+    out.write_all(b"<a href=\"#")?;
+    write_anchor(state, id, out)?;
+    out.write_all(b"\">")
 }
 
 /// Writes the node's role, and its label or else its value, if it has one.

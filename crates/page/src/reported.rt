@@ -1,5 +1,5 @@
 //! Writing each event of an update as it is reported.
-ghost use Rattle.std.specs.Prelude.{OnOk, option_copied, ⊤};
+ghost use Rattle.std.specs.Prelude.{◌≡◌, ◌↔◌, IsTrue, OnOk, option_copied, ⊤};
 ghost use Rattle.std.specs.Io.KnownBytes.{Appends};
 ghost use Rattle.page.specs.Differences.{TellsDifferences, TellsBox};
 ghost use Rattle.page.specs.Said.{TellsChange, change_text, text_or_none};
@@ -10,6 +10,7 @@ use crate::words::{is_in_password, shown_label, shown_value};
 use accesskit_consumer::{NodeRef, TreeChangeHandler};
 use atree_script::Stop;
 use html::write_element;
+use schema::WideRect;
 use std::alloc::Global;
 use std::io::{self, Write};
 
@@ -182,10 +183,17 @@ fn write_differences<O: Write>(
 fn write_box_difference<O: Write>(old: &NodeRef, new: &NodeRef, out: &mut O) -> io::Result<()>
     ensures { OnOk result (TellsBox old.now new.now (O.contents out.old) (O.contents out.new)) }
 {
-    if old.bounding_box() == new.bounding_box() {
+    if is_same_box(old.bounding_box(), new.bounding_box()) {
         return Ok(());
     }
     out.write_all(b"; its box has changed")
+}
+
+/// Whether two boxes are equal, or there is neither.
+fn is_same_box(a: Option<WideRect>, b: Option<WideRect>) -> bool
+    ensures { IsTrue result ↔ (a ≡ b) }
+{
+    a == b
 }
 
 /// Writes two texts, if they differ.
