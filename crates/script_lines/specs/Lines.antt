@@ -5,13 +5,13 @@ use Rattle.std.specs.Io.KnownBytes.{Appends}
 use Rattle.schema.specs.NodeData.{NodeData}
 use Rattle.schema.specs.UpdateData.{UpdateData, InfoData, update_data}
 use Rattle.schema.specs.declared.NodeId.{NodeId}
-use Rattle.script_lines.specs.declared.stops.Stop.{Stop}
-use Rattle.script_lines.specs.declared.stops.Stop.TheVariants.{Memory, WriteFault}
+use Rattle.script_words.specs.declared.stops.Stop.{Stop}
+use Rattle.script_words.specs.declared.stops.Stop.TheVariants.{Memory, WriteFault}
 use Rattle.script_lines.specs.declared.reader.ScriptCommand.{ScriptCommand}
 use Rattle.script_lines.specs.Commands.{Said, Sends, Turns, Prints, Asks, said}
-use Rattle.script_lines.specs.NodeText.{node_line}
-use Rattle.script_lines.specs.Parts.{word_field, tree_text}
-use Rattle.script_lines.specs.Quoted.{quoted}
+use Rattle.script_nodes.specs.NodeText.{node_line}
+use Rattle.script_words.specs.Parts.{word_field, tree_text}
+use Rattle.script_words.specs.Quoted.{quoted}
 use Rattle.script_lines.specs.Questions.{question_line}
 
 -- of the tree info

@@ -6,12 +6,12 @@ use Rattle.schema.specs.declared.NodeId.{NodeId}
 use Rattle.script_lines.specs.Commands.{Said, Sends, Turns, Prints, Asks, said}
 use Rattle.script_lines.specs.LineReading.{IsHead}
 use Rattle.script_lines.specs.Lines.{said_lines}
-use Rattle.script_lines.specs.NodeReading.{IsNode}
+use Rattle.script_nodes.specs.NodeReading.{IsNode}
 use Rattle.script_lines.specs.Questions.{IsQuery}
-use Rattle.script_lines.specs.Reading.{IsId}
+use Rattle.script_words.specs.Reading.{IsId}
 use Rattle.script_lines.specs.declared.reader.ScriptCommand.{ScriptCommand}
-use Rattle.script_lines.specs.declared.stops.Stop.{Stop}
-use Rattle.script_lines.specs.declared.stops.Stop.TheVariants.{BadLine}
+use Rattle.script_words.specs.declared.stops.Stop.{Stop}
+use Rattle.script_words.specs.declared.stops.Stop.TheVariants.{BadLine}
 
 -- a command whose numbers, names and texts are such as their types have them, and its sets of actions too
 abbrev pub IsEntry : NodeId × NodeData → Type 0
