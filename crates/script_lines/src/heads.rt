@@ -12,9 +12,9 @@ ghost use Rattle.script_words.specs.Quoted.{quoted};
 ghost use Rattle.script_words.specs.Reading.{Begins, IsId, Reads};
 ghost use Rattle.script_words.specs.Words.{left};
 
+use schema::{NodeId, TreeId, TreeInfo, TreeUpdate};
 use script_words::stops::Stop;
 use script_words::words::Words;
-use schema::{NodeId, TreeId, TreeInfo, TreeUpdate};
 use std::alloc::Global;
 
 /// The fields of the line read so far.

@@ -7,12 +7,14 @@ mod line_reader;
 mod lines;
 mod program;
 mod questions;
+mod read_back;
 mod reader;
 mod write_questions;
 mod writer;
 
 pub use ends::{end_run, tell_no_memory, tell_stop};
 pub use program::{Arguments, Program, read_arguments, run_program};
+pub use read_back::lines_are_read_back;
 pub use reader::{ScriptCommand, ScriptReader};
 pub use script_words::names::role_named;
 pub use script_words::quoted::write_quoted;

@@ -15,12 +15,12 @@ ghost use Rattle.script_words.specs.Reading.{IsId, Reads, after};
 ghost use Rattle.script_lines.specs.declared.lines.Line.TheVariants as says;
 
 use crate::heads::update_line;
-use script_nodes::node_line;
 use crate::questions::question;
-use script_words::stops::Stop;
-use script_words::words::Words;
 use model::Query;
 use schema::{Node, NodeId, TreeUpdate};
+use script_nodes::node_line;
+use script_words::stops::Stop;
+use script_words::words::Words;
 use std::alloc::Global;
 
 /// The meaning of a line.

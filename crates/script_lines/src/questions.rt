@@ -14,10 +14,10 @@ ghost use Rattle.script_lines.specs.Questions.{question_word, name_and_filter, q
 ghost use Rattle.script_words.specs.Parts.{name_text, point_text, at_text};
 ghost use Rattle.script_words.specs.Reading.{IsCount, IsName, IsNumber};
 
-use script_words::stops::Stop;
-use script_words::words::Words;
 use model::{At, Move, NamedFilter, NodeName, Query};
 use schema::Point;
+use script_words::stops::Stop;
+use script_words::words::Words;
 
 /// Reads the last words, which name a node.
 #[tactic(auto, using(script_words::proofs::Cuts::begins_last))]

@@ -11,9 +11,9 @@ ghost use Rattle.script_words.specs.declared.stops.Stop.TheVariants as stop_;
 
 use crate::line_reader::LineReader;
 use crate::lines::Line;
-use script_words::stops::Stop;
 use model::Query;
 use schema::{Node, NodeId, TreeUpdate};
+use script_words::stops::Stop;
 use std::alloc::Global;
 use std::io::BufRead;
 

@@ -4,10 +4,10 @@ ghost use Rattle.std.specs.Io.KnownBytes.{Appends};
 ghost use Rattle.script_lines.specs.Questions.{question_line, asked_line, asked_by_filter_line, hit_line, move_line, indexes_line, between_line};
 ghost use Rattle.script_words.specs.Parts.{name_text, at_text, point_text};
 
-use script_words::called::{filter_name, move_name, side_name};
-use script_words::write_parts::ShownTree;
 use model::{At, Move, NamedFilter, NodeName, Query};
 use schema::Point;
+use script_words::called::{filter_name, move_name, side_name};
+use script_words::write_parts::ShownTree;
 use std::fmt;
 use std::io::{self, Write};
 

@@ -8,12 +8,12 @@ ghost use Rattle.script_lines.specs.Questions.{question_line};
 ghost use Rattle.script_words.specs.declared.stops.Stop.TheVariants as stop_;
 
 use crate::reader::ScriptCommand;
-use script_words::stops::Stop;
-use script_nodes::write_node;
-use script_words::write_parts::{ShownTree, write_quoted_field};
 use crate::write_questions::write_question;
 use model::Query;
 use schema::{Node, NodeId, TreeInfo, TreeUpdate};
+use script_nodes::write_node;
+use script_words::stops::Stop;
+use script_words::write_parts::{ShownTree, write_quoted_field};
 use std::alloc::Global;
 use std::io::{self, ErrorKind, Write};
 

@@ -8,3 +8,4 @@ pub mod NodeLoop
 pub mod GivenValues
 pub mod FieldNames
 pub mod NodeLines
+pub mod NodeFits

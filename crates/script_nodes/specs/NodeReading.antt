@@ -109,6 +109,14 @@ without_all (which ∷ others) n = without which (without_all others n)
 
 -- ---- nodes whose numbers and texts are within the bounds of their types
 
+-- a set has no bit beyond those of the 260 actions
+abbrev pub IsActionSet : ℕ → Type 0
+IsActionSet set = set < 2 ^ 260
+
+-- this of a node isn't said by any type
+abbrev pub HasActionSets : NodeData → Type 0
+HasActionSets n = IsActionSet n.actions × IsActionSet n.child_actions
+
 abbrev pub IsValue : Field → NodeData → Type 0
 IsValue (field.Ids which) n = All IsId (ids_at which n)
 IsValue (field.Id which) n = MatchOption (id_at which n) ⊤ IsId
@@ -121,7 +129,7 @@ IsValue (field.Color which) n = MatchOption (color_at which n) ⊤ IsColor
 IsValue (field.Decoration which) n = MatchOption (decoration_at which n) ⊤ IsDecoration
 IsValue (field.Number which) n = MatchOption (number_at which n) ⊤ IsNumber
 IsValue (field.Count which) n = MatchOption (count_at which n) ⊤ IsCount
-IsValue (field.Actions which) n = actions_at which n < 2 ^ 260
+IsValue (field.Actions which) n = IsActionSet (actions_at which n)
 IsValue field.Tree n = MatchOption n.tree_id ⊤ IsTreeName
 IsValue field.Bounds n = MatchOption n.bounds ⊤ IsRect
 IsValue field.Transform n = MatchOption n.transform ⊤ IsTranslation

@@ -23,9 +23,9 @@ use crate::single_values::{
     live_value, orientation_value, selection_value, sort_direction_value, text_align_value,
     text_direction_value, toggled_value, transform_value, tree_value, vertical_offset_value,
 };
+use schema::Node;
 use script_words::stops::Stop;
 use script_words::words::Words;
-use schema::Node;
 use std::alloc::Global;
 
 /// Reads the next field, which the node doesn't have yet.

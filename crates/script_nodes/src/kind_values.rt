@@ -15,16 +15,16 @@ ghost use Rattle.script_words.specs.Quoted.{quoted};
 ghost use Rattle.script_words.specs.Reading.{Begins, Reads, IsAction, IsId, IsCount, IsNumber, IsShort, IsUnits, IsColor, IsDecoration};
 ghost use Rattle.script_words.specs.Words.{left};
 
-use script_words::actions::action_list;
 use crate::field_kinds::{
     ActionsField, BoolField, ColorField, CountField, DecorationField, IdField, IdsField,
     NumberField, NumbersField, TextField, UnitsField,
 };
+use schema::Node;
+use script_words::actions::action_list;
 use script_words::names::truth_named;
 use script_words::stops::Stop;
 use script_words::word_lists::{color, decoration, ids, numbers, unit_list};
 use script_words::words::Words;
-use schema::Node;
 use std::alloc::Global;
 
 /// A text, which the node doesn't have yet.
@@ -162,7 +162,11 @@ pub(crate) fn decoration_value(
 }
 
 /// A number, which the node doesn't have yet.
-pub(crate) fn number_value(words: &mut Words, field: NumberField, node: &mut Node) -> Result<(), Stop>
+pub(crate) fn number_value(
+    words: &mut Words,
+    field: NumberField,
+    node: &mut Node,
+) -> Result<(), Stop>
     ensures reads { (value : ℤ) (rest : Option (List ℕ)) → IsNumber value → Begins (option_copied words.old.rest) (signed_decimal value) rest → number_at field node.old ≡ None → Reads result (λ _. (node.new ≡ with_number field (Some value) node.old) × (option_copied words.new.rest ≡ rest)) }
     ensures shorter { OnOk result (left (option_copied words.new.rest) < left (option_copied words.old.rest)) }
 {

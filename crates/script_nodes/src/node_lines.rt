@@ -8,10 +8,10 @@ ghost use Rattle.script_nodes.specs.NodeText.{all_fields, piece};
 ghost use Rattle.script_words.specs.Reading.{IsId, Reads, after};
 
 use crate::fields::node_field;
+use schema::{Node, NodeId, Role};
 use script_words::names::role_named;
 use script_words::stops::Stop;
 use script_words::words::Words;
-use schema::{Node, NodeId, Role};
 use std::alloc::Global;
 
 /// Reads `node ID ROLE` and fields, from `ID` on.

@@ -5,29 +5,24 @@ ghost use Rattle.script_nodes.specs.FieldKinds.{field_name};
 ghost use Rattle.script_lines.specs.Lines.{StopsWriting};
 ghost use Rattle.script_nodes.specs.NodeText.{fields_text, node_head, node_line, piece};
 
+use crate::field_kinds::{Field, named_fields};
+use schema::{Node, NodeId, Role};
 use script_words::called::{
     aria_current_name, has_popup_name, live_name, orientation_name, sort_direction_name,
     text_align_name, text_direction_name, toggled_name, truth_name, vertical_offset_name,
 };
-use crate::field_kinds::{Field, named_fields};
 use script_words::stops::Stop;
 use script_words::write_parts::{
     write_actions, write_color, write_count, write_decoration, write_flag, write_id, write_ids,
     write_narrow, write_number, write_numbers, write_quoted_field, write_rect, write_selection,
     write_short, write_translation, write_tree, write_unit_list, write_word,
 };
-use schema::{Node, NodeId, Role};
 use std::alloc::{AllocError, Global};
 use std::io::{self, Write};
 
 /// Writes `node ID ROLE` and the fields of a node on a line.
 #[tactic(auto, unfolding(crate::specs::NodeText::node_text, crate::specs::NodeText::node_line))]
-pub fn write_node<O: Write>(
-    alloc: Global,
-    id: NodeId,
-    node: &Node,
-    out: &mut O,
-) -> Result<(), Stop>
+pub fn write_node<O: Write>(alloc: Global, id: NodeId, node: &Node, out: &mut O) -> Result<(), Stop>
     ensures written { OnOk result (Appends (O.contents out.old) (O.contents out.new) (node_line id node.now)) }
     ensures stops { IfErr result StopsWriting }
 {

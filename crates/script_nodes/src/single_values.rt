@@ -20,13 +20,13 @@ ghost use Rattle.script_words.specs.Parts.{tree_text, rect_text, translation_tex
 ghost use Rattle.script_words.specs.Reading.{Begins, Reads, IsTreeName, IsShort, IsRect, IsTranslation, IsSelection};
 ghost use Rattle.script_words.specs.Words.{left};
 
+use schema::Node;
 use script_words::names::{
     aria_current_named, has_popup_named, live_named, orientation_named, sort_direction_named,
     text_align_named, text_direction_named, toggled_named, vertical_offset_named,
 };
 use script_words::stops::Stop;
 use script_words::words::{Words, rect, selection, short, translation};
-use schema::Node;
 
 /// The tree that is grafted at the node, which wasn't set yet.
 pub(crate) fn tree_value(words: &mut Words, node: &mut Node) -> Result<(), Stop>
