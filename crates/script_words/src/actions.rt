@@ -47,7 +47,7 @@ impl Item for Action {
 
     ghost says = { SaysListed };
 
-    #[tactic(auto, using(script_words::proofs::ActionNames::action_lacks_comma))]
+    #[tactic(auto, using(crate::proofs::ActionNames::action_lacks_comma))]
     fn item(word: &str) -> Option<Action> {
         action_named(word)
     }

@@ -5,6 +5,7 @@
 pub mod actions;
 pub mod called;
 mod cutting;
+pub mod fits;
 mod items;
 pub mod names;
 pub mod quoted;
