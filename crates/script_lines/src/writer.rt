@@ -2,8 +2,8 @@
 ghost use Rattle.std.specs.Prelude.{◌≡◌, IfErr, IfOk, OnErr, OnOk, flat_map};
 ghost use Rattle.std.specs.Io.KnownBytes.{Appends};
 ghost use Rattle.schema.specs.UpdateData.{info_data, update_data};
-ghost use Rattle.script_lines.specs.Lines.{AppendsBeginning, StopsWriting, command_lines, entry_line, host_line, info_text, update_head, update_lines};
-ghost use Rattle.script_nodes.specs.NodeText.{node_line};
+ghost use Rattle.script_lines.specs.Lines.{AppendsBeginning, command_lines, entry_line, host_line, info_text, update_head, update_lines};
+ghost use Rattle.script_nodes.specs.NodeText.{StopsWriting, node_line};
 ghost use Rattle.script_lines.specs.Questions.{question_line};
 ghost use Rattle.script_words.specs.declared.stops.Stop.TheVariants as stop_;
 

@@ -1,5 +1,5 @@
 -- The written form of a node: its fields in a fixed order, each if it is set.
-use Rattle.std.specs.Prelude.{ℕ, List, [], ◌∷◌, ◌++◌, codes, flat_map, Option, None, option_map}
+use Rattle.std.specs.Prelude.{ℕ, ◌≡◌, ◌⊎◌, List, [], ◌∷◌, ◌++◌, codes, flat_map, Option, None, option_map}
 use Rattle.std.specs.Fmt.{decimal, signed_decimal}
 use Rattle.schema.specs.NodeData.{NodeData}
 use Rattle.schema.specs.RoleNames.{role_text}
@@ -24,6 +24,8 @@ use Rattle.script_nodes.specs.declared.field_kinds.Field.TheVariants as field
 use Rattle.script_words.specs.Names.{toggled_name, truth_name, live_name, orientation_name, sort_direction_name, aria_current_name, has_popup_name, text_direction_name, text_align_name, vertical_offset_name}
 use Rattle.script_words.specs.Parts.{flag_text, word_field, id_text, ids_value, numbers_value, units_text, tree_text, rect_text, translation_text, selection_text, color_text, decoration_text, actions_value}
 use Rattle.script_words.specs.Quoted.{quoted}
+use Rattle.script_words.specs.declared.stops.Stop.{Stop}
+use Rattle.script_words.specs.declared.stops.Stop.TheVariants.{Memory, WriteFault}
 
 -- the written value of a field, if it is set
 abbrev pub value_of : NodeData → Field → Option (List ℕ)
@@ -100,3 +102,7 @@ node_text id n = node_head id n.role ++ fields_text n
 -- a node's line
 unfoldable pub node_line : NodeId → NodeData → List ℕ
 node_line id n = node_text id n ++ codes "\n"
+
+-- what stops the writing: an error of the output, or lack of memory
+abbrev pub StopsWriting : Stop → Type 0
+StopsWriting stop = (stop ≡ WriteFault) ⊎ (stop ≡ Memory)

@@ -4,13 +4,13 @@
 mod action_sets;
 mod field_kinds;
 mod fields;
+mod fits;
 mod kind_values;
 mod node_fields;
-mod node_fits;
 mod node_lines;
 mod node_writer;
 mod single_values;
 
-pub use node_fits::{action_set_gains, new_node_has_action_sets, node_fits};
+pub use fits::{action_set_gains, new_node_has_action_sets, node_fits};
 pub use node_lines::node_line;
 pub use node_writer::write_node;

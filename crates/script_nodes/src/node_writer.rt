@@ -2,8 +2,7 @@
 ghost use Rattle.std.specs.Prelude.{◌≡◌, IfErr, IfOk, OnOk};
 ghost use Rattle.std.specs.Io.KnownBytes.{Appends};
 ghost use Rattle.script_nodes.specs.FieldKinds.{field_name};
-ghost use Rattle.script_lines.specs.Lines.{StopsWriting};
-ghost use Rattle.script_nodes.specs.NodeText.{fields_text, node_head, node_line, piece};
+ghost use Rattle.script_nodes.specs.NodeText.{StopsWriting, fields_text, node_head, node_line, piece};
 
 use crate::field_kinds::{Field, named_fields};
 use schema::{Node, NodeId, Role};

@@ -2,7 +2,7 @@ use Rattle.std.proofs.Common.{All, subst}
 use Rattle.std.proofs.lemmas.List.{take_all}
 use Rattle.script_nodes.specs.NodeReading.{IsValue}
 use Rattle.script_nodes.proofs.NodeFits.{each_value}
-use Rattle.script_nodes.proofs.node_fits.node_fits.Goals as goal
+use Rattle.script_nodes.proofs.fits.node_fits.Goals as goal
 
 pub returns : goal.returns
 returns c = λ sets.

@@ -1,6 +1,6 @@
 use Rattle.std.proofs.Common.{All, take}
 use Rattle.script_nodes.specs.NodeReading.{HasActionSets, IsValue}
-use Rattle.script_nodes.proofs.node_fits.node_fits.Given as goal
+use Rattle.script_nodes.proofs.fits.node_fits.Given as goal
 
 -- the fields so far are within their bounds
 abbrev pub invariant-loop-field : goal.invariant-loop-field
