@@ -8,8 +8,8 @@ use Rattle.script_lines.specs.ScriptReading.{IsPlace, Place, ReadsTo, place}
 use Rattle.script_lines.specs.Taking.{begun_of, number_of}
 use Rattle.script_lines.specs.declared.reader.ScriptCommand.{ScriptCommand}
 use Rattle.script_lines.specs.declared.reader.ScriptReader.{ScriptReader}
-use Rattle.script_lines.specs.declared.stops.Stop.{Stop}
-use Rattle.script_lines.specs.declared.stops.Stop.TheVariants.{ReadFault}
+use Rattle.script_words.specs.declared.stops.Stop.{Stop}
+use Rattle.script_words.specs.declared.stops.Stop.TheVariants.{ReadFault}
 use Rattle.atree_script.specs.Input.{start_of, ReadsNext, no_command, ReadsThese, ReadsAll}
 
 pub err_is : {T : Type 0} (result : Result T Stop) (stop : Stop) → IsErrAnd result (λ s. s ≡ stop) → result ≡ Err stop

@@ -7,7 +7,7 @@ use Rattle.schema.specs.declared.update.TreeUpdate.{TreeUpdate}
 use Rattle.script_lines.specs.ScriptReading.{Place}
 use Rattle.script_lines.specs.declared.reader.ScriptCommand.{ScriptCommand}
 use Rattle.script_lines.specs.declared.reader.ScriptCommand.TheVariants as script
-use Rattle.script_lines.specs.declared.stops.Stop.{Stop}
+use Rattle.script_words.specs.declared.stops.Stop.{Stop}
 use Rattle.session.specs.declared.commands.Command.{Command}
 use Rattle.session.specs.declared.commands.Command.TheVariants as command
 use Rattle.atree_script.specs.Playing.{Turn, Begun, FirstRefused, Ran, Asked, Printed, Stage, SendsFirst, RunsOn, CarriesOut, GoesOn, StopsAtLast, Plays}

@@ -3,7 +3,7 @@ use Rattle.std.specs.Prelude.{◌≡◌, ℕ, List, Option, Some, None, option_m
 use Rattle.std.specs.List.{FoldsTo}
 use Rattle.script_lines.specs.ScriptReading.{Place, ReadsTo}
 use Rattle.script_lines.specs.declared.reader.ScriptCommand.{ScriptCommand}
-use Rattle.script_lines.specs.declared.stops.Stop.{Stop}
+use Rattle.script_words.specs.declared.stops.Stop.{Stop}
 
 -- before the first line of an input whose bytes are known
 abbrev pub start_of : Option (List ℕ) → Option Place

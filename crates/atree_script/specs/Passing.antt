@@ -2,7 +2,7 @@
 use Rattle.std.specs.Prelude.{◌≡◌, List, Result, Ok}
 use Rattle.std.specs.declared.alloc.AllocError.{AllocError}
 use Rattle.model.specs.Events.{Event}
-use Rattle.script_lines.specs.declared.stops.Stop.{Stop}
+use Rattle.script_words.specs.declared.stops.Stop.{Stop}
 use Rattle.session.specs.Replied.{IsStep}
 use Rattle.session.specs.declared.commands.Reply.{Reply}
 use Rattle.atree_script.specs.Playing.{Turn, Begun, FirstRefused, Ran, Asked, Printed, end_of, end_of_refusal}

@@ -5,7 +5,7 @@ use Rattle.model.specs.World.{World}
 use Rattle.script_lines.specs.Ends.{Tells, told_at_end, status_at_end}
 use Rattle.script_lines.specs.ScriptReading.{Place}
 use Rattle.script_lines.specs.declared.reader.ScriptCommand.{ScriptCommand}
-use Rattle.script_lines.specs.declared.stops.Stop.{Stop}
+use Rattle.script_words.specs.declared.stops.Stop.{Stop}
 use Rattle.atree_script.specs.Input.{start_of}
 use Rattle.atree_script.specs.Playing.{Turn, Stage, no_tree, Plays}
 use Rattle.atree_script.specs.declared.playing.Played.{Played}

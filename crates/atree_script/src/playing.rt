@@ -3,7 +3,7 @@ ghost use Rattle.std.specs.Prelude.{◌≡◌, None, Result, option_map};
 ghost use Rattle.script_lines.specs.ScriptReading.{place};
 ghost use Rattle.script_lines.specs.Taking.{number_of};
 ghost use Rattle.script_lines.specs.declared.reader.ScriptCommand.TheVariants as script_;
-ghost use Rattle.script_lines.specs.declared.stops.Stop.{Stop};
+ghost use Rattle.script_words.specs.declared.stops.Stop.{Stop};
 ghost use Rattle.atree_script.specs.Playing.{Turn, Begun, FirstRefused, Ran, Asked, Printed, RunsTold, CarriesOut, SendsFirst, end_of_refusal};
 ghost use Rattle.atree_script.specs.Played.{stage_of, PlaysFrom, PlaysOut};
 

@@ -4,8 +4,8 @@ use Rattle.std.specs.Prelude.{◌↔◌, option_map}
 use Rattle.std.proofs.lemmas.Option.{same_Some}
 use Rattle.schema.specs.declared.Role.{Role}
 use Rattle.schema.specs.declared.Role.TheVariants.{Other}
-use Rattle.script_lines.specs.Reading.{IsRole}
-use Rattle.script_lines.specs.Says.{SaysRole}
+use Rattle.script_words.specs.Reading.{IsRole}
+use Rattle.script_words.specs.Says.{SaysRole}
 use Rattle.find.specs.Sought.{IsSought}
 
 pub sought_by_name : (o : Option ℕ) (word : List ℕ) (found role : Role) → Some found ≡ option_map (λ n. Other n) o → (Some found ≡ Some role) ↔ IsSought o word role

@@ -7,7 +7,7 @@ use Rattle.model.specs.Mirror.{Records, AreRecordsOf, MirrorsWhileKept}
 use Rattle.model.specs.World.{World}
 use Rattle.model.proofs.Mirror.KeptRecords.{kept_records_follow_run}
 use Rattle.model.proofs.Run.Runs.{runs_one}
-use Rattle.script_lines.specs.declared.stops.Stop.{Stop}
+use Rattle.script_words.specs.declared.stops.Stop.{Stop}
 use Rattle.session.specs.declared.commands.Command.{Command}
 use Rattle.session.specs.declared.commands.Reply.{Reply}
 use Rattle.session.specs.Replied.{command_said, reply_said, IsStep}

@@ -6,7 +6,7 @@ use Rattle.model.specs.declared.FullNodeId.{FullNodeId}
 use Rattle.model.specs.Events.{Event}
 use Rattle.model.specs.Mirror.{Records, MirrorsWhileKept}
 use Rattle.model.specs.World.{World}
-use Rattle.script_lines.specs.declared.stops.Stop.{Stop}
+use Rattle.script_words.specs.declared.stops.Stop.{Stop}
 use Rattle.session.specs.declared.commands.Command.{Command}
 use Rattle.speaking.specs.declared.speaker.Speaker.{Speaker}
 use Rattle.speaking.specs.Edits.{Settles}

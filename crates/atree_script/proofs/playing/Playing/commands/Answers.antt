@@ -1,7 +1,7 @@
 use Rattle.std.proofs.Common.{◌≡◌, [], ◌∷◌, ◌++◌, Option, Result, Ok, inl, inr, refl, sym, subst}
 use Rattle.std.proofs.lemmas.Fn.{FoldsTo-push}
 use Rattle.script_lines.specs.declared.reader.ScriptCommand.{ScriptCommand}
-use Rattle.script_lines.specs.declared.stops.Stop.{Stop}
+use Rattle.script_words.specs.declared.stops.Stop.{Stop}
 use Rattle.atree_script.specs.Played.{stage_of}
 use Rattle.atree_script.specs.Playing.{CarriesOut, GoesOn}
 use Rattle.atree_script.proofs.Inputs.{Answers, err_is, given_up, one_more, read_these}
