@@ -5,7 +5,7 @@ import re
 from html.parser import HTMLParser
 
 from model import ROOT, accepted, children, differences, effective_focus, faults, focus, is_focused, root_named, told_of_update
-from model_scripts import BadLine, Play, told_by
+from model_scripts import BadLine, Play, role_shown, told_by
 from model_speech import EXPANDED, SELECTED, SWITCHED
 from model_texts import is_read_only, is_text, label_of, labelled_by, value_of
 from model_views import CUT_OFF, INCLUDED, ancestors, bounding_box, common_filter, preorder, upward
@@ -89,7 +89,7 @@ def row(world, id, number, marks):
     return {
         "anchor": f"s{number}-{id[0]}-{id[1]}",
         "depth": len(ancestors(world, id)),
-        "role": world.nodes[id].role,
+        "role": role_shown(world.nodes[id].role),
         "label": shown_label(world, id),
         "value": shown_value(world, id),
         "words": state_words(world.nodes[id]),
@@ -112,7 +112,7 @@ def drawn(world, id, number, marks):
 
 def named(world, id):
     """What names a node: its role, its label or else its value, and its id."""
-    return [world.nodes[id].role, caption(world, id), id_text(id)] if id else ["none"]
+    return [role_shown(world.nodes[id].role), caption(world, id), id_text(id)] if id else ["none"]
 
 
 def event_told(old, new, event):

@@ -3,6 +3,7 @@
 If an update breaks several rules, the line has all of them: `refused NotReached 5 or NotReached 6`.
 """
 
+import os
 import re
 from copy import copy
 
@@ -44,6 +45,23 @@ ROLES = (
     " DescriptionList GraphicsDocument List ListItem PdfRoot ProgressIndicator RootWebArea Term Timer Toolbar Tooltip Comment"
     " Tab ListBoxOption MenuListOption ListGrid Menu MenuBar Tree"
 ).split()
+
+SCRIPT_PAGE = os.path.join(os.path.dirname(os.path.abspath(__file__)), "..", "docs", "SCRIPT.md")
+
+
+def numbered_roles():
+    """The roles that are sent by a number, as the page on scripts lists them, each with its name."""
+    with open(SCRIPT_PAGE, encoding="utf-8") as page:
+        listed = re.search(r"^## Roles$.*?^```text$.*?^```$.*?^```text$(.*?)^```$", page.read(), re.S | re.M).group(1)
+    return {f"Other({number})": name for number, name in re.findall(r"(\d+) (\w+)", listed)}
+
+
+NAME_OF_ROLE = numbered_roles()
+
+
+def role_shown(role):
+    """A role's name as programs show it: of one that is sent by a number that of the table, if it has one."""
+    return NAME_OF_ROLE.get(role, role)
 
 
 class BadLine(Exception):

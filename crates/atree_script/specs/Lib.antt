@@ -1,3 +1,9 @@
-pub mod Replies
+pub mod Input
+pub mod Outline
+pub mod Passing
+pub mod Played
+pub mod Playing
 pub mod Printed
 pub mod Refused
+pub mod Replies
+pub mod Scripts

@@ -6,7 +6,7 @@ use Rattle.model.specs.declared.FullNodeId.{FullNodeId}
 use Rattle.schema.specs.declared.values.TextPosition.{TextPosition}
 use Rattle.session.specs.declared.commands.Reply.{Reply}
 use Rattle.session.specs.declared.commands.Reply.TheVariants.{Accepted, Refused, Ids, Text, Set, Node, Position, Indexes, NoNode, NotText}
-use Rattle.script_lines.specs.Quoted.{quoted_byte}
+use Rattle.script_words.specs.Quoted.{quoted_byte}
 use Rattle.atree_script.specs.Printed.{id_text}
 use Rattle.atree_script.specs.Refused.{refusal_line}
 

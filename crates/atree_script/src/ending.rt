@@ -1,11 +1,12 @@
 //! Reading a script for the tree that it leaves.
 ghost use Rattle.std.specs.Prelude.{◌≡◌, ◌≢◌, ◌≤◌, IfErr};
+ghost use Rattle.atree_script.specs.Passing.{Passes};
 
-use crate::playing::{Player, play, run_told};
+use crate::playing::{Player, play, run_told, stopped_by};
 use accesskit_consumer::node::NodeRef;
-use accesskit_consumer::tree::TreeChangeHandler;
+use accesskit_consumer::tree::{TreeChangeHandler, UpdateError};
 use script_lines::{Arguments, Program, Stop, end_run, read_arguments, run_program, tell_stop};
-use session::{Command, Session};
+use session::{Command, Query, Session};
 use std::alloc::Global;
 use std::io::{BufRead, Write};
 use std::process::ExitCode;
@@ -27,12 +28,26 @@ impl TreeChangeHandler for Silent {
 }
 
 impl Player for Silent {
+    ghost turns = { λ _ turn result _. Passes turn result };
+
     fn begin(&mut self, _session: &Session) -> Result<(), Stop> {
         Ok(())
     }
 
+    fn refuse(&mut self, refusal: UpdateError) -> Result<(), Stop> {
+        stopped_by(refusal)
+    }
+
     fn run(&mut self, session: &mut Session, command: Command) -> Result<(), Stop> {
         run_told(session, command, self)
+    }
+
+    fn ask(&mut self, _session: &mut Option<Session>, _query: Query) -> Result<(), Stop> {
+        Ok(())
+    }
+
+    fn print(&mut self, _session: &Option<Session>) -> Result<(), Stop> {
+        Ok(())
     }
 }
 

@@ -10,7 +10,7 @@ mod replies;
 mod run;
 
 pub use ending::{Teller, tell_as_asked};
-pub use playing::{Played, Player, play, run_told};
+pub use playing::{Played, Player, play, run_told, stopped_by};
 pub use printer::ShownId;
 pub use replies::write_text;
 pub use run::run_script;

@@ -1,4 +1,11 @@
 //! Playing a script: reading its commands and having them carried out.
+ghost use Rattle.std.specs.Prelude.{◌≡◌, None, Result, option_map};
+ghost use Rattle.script_lines.specs.ScriptReading.{place};
+ghost use Rattle.script_lines.specs.Taking.{number_of};
+ghost use Rattle.script_lines.specs.declared.reader.ScriptCommand.TheVariants as script_;
+ghost use Rattle.script_words.specs.declared.stops.Stop.{Stop};
+ghost use Rattle.atree_script.specs.Playing.{Turn, Begun, FirstRefused, Ran, Asked, Printed, RunsTold, CarriesOut, SendsFirst, end_of_refusal};
+ghost use Rattle.atree_script.specs.Played.{stage_of, PlaysFrom, PlaysOut};
 
 use accesskit_consumer::tree::{TreeChangeHandler, UpdateError};
 use schema::TreeUpdate;
@@ -9,50 +16,48 @@ use std::io::BufRead;
 
 /// Carries out a script's commands.
 pub trait Player {
+    /// How one call changes the player: the player before it, what it is asked to do, the result, and the player after it.
+    ghost turns: { Self → Turn → Result Unit Stop → Self → Type 0 };
+
     /// Called when the first accepted update has made the tree.
     ///
     /// # Errors
     ///
     /// Returns why the script stops there.
-    fn begin(&mut self, session: &Session) -> Result<(), Stop>;
+    fn begin(&mut self, session: &Session) -> Result<(), Stop>
+        ensures { turns self.old (Begun session.now) result self.new };
 
-    /// Called when an update that would have made the tree was refused. By default the script goes on, unless memory
-    /// ran out.
+    /// Called when an update that would have made the tree was refused. The script goes on unless this stops it.
     ///
     /// # Errors
     ///
     /// Returns why the script stops there.
-    fn refuse(&mut self, refusal: UpdateError) -> Result<(), Stop> {
-        match refusal {
-            UpdateError::Memory => Err(Stop::Memory),
-            _ => Ok(()),
-        }
-    }
+    fn refuse(&mut self, refusal: UpdateError) -> Result<(), Stop>
+        ensures { turns self.old (FirstRefused refusal) result self.new };
 
     /// Runs an update or a change of the host's focus.
     ///
     /// # Errors
     ///
     /// Returns why the script stops there.
-    fn run(&mut self, session: &mut Session, command: Command) -> Result<(), Stop>;
+    fn run(&mut self, session: &mut Session, command: Command) -> Result<(), Stop>
+        ensures { turns self.old (Ran session.old command session.new) result self.new };
 
-    /// Answers a query, possibly before there is a tree. By default it is skipped.
+    /// Answers a query, possibly before there is a tree.
     ///
     /// # Errors
     ///
     /// Returns why the script stops there.
-    fn ask(&mut self, _session: &mut Option<Session>, _query: Query) -> Result<(), Stop> {
-        Ok(())
-    }
+    fn ask(&mut self, session: &mut Option<Session>, query: Query) -> Result<(), Stop>
+        ensures { turns self.old (Asked session.old query session.new) result self.new };
 
-    /// Prints the tree, if there is one. By default this is skipped.
+    /// Prints the tree, if there is one.
     ///
     /// # Errors
     ///
     /// Returns why the script stops there.
-    fn print(&mut self, _session: &Option<Session>) -> Result<(), Stop> {
-        Ok(())
-    }
+    fn print(&mut self, session: &Option<Session>) -> Result<(), Stop>
+        ensures { turns self.old (Printed session.now) result self.new };
 }
 
 /// The result of playing a script.
@@ -67,7 +72,9 @@ pub struct Played {
 }
 
 /// Plays a script to its end, or until something stops it. A refused update changes nothing.
-pub fn play<R: BufRead, P: Player>(alloc: Global, input: &mut R, player: &mut P) -> Played {
+pub fn play<R: BufRead, P: Player>(alloc: Global, input: &mut R, player: &mut P) -> Played
+    ensures { PlaysOut P.turns (R.remaining input.old) player.old result player.new }
+{
     let mut play = Playing {
         alloc,
         session: None,
@@ -91,9 +98,26 @@ pub fn run_told<H: TreeChangeHandler>(
     session: &mut Session,
     command: Command,
     handler: &mut H,
-) -> Result<(), Stop> {
-    match session.step(command, handler)? {
-        Reply::Refused(UpdateError::Memory) => Err(Stop::Memory),
+) -> Result<(), Stop>
+    ensures { RunsTold H.steps session.old command session.new handler.old handler.new result }
+{
+    let reply = session.step(command, handler)?;
+    match &reply {
+        Reply::Refused(refusal) => stopped_by(*refusal),
+        _ => Ok(()),
+    }
+}
+
+/// Whether a refused update stops the script: only one that ran out of memory does.
+///
+/// # Errors
+///
+/// Returns `Stop::Memory` if memory ran out in the update.
+pub fn stopped_by(refusal: UpdateError) -> Result<(), Stop>
+    ensures { result ≡ end_of_refusal refusal }
+{
+    match refusal {
+        UpdateError::Memory => Err(Stop::Memory),
         _ => Ok(()),
     }
 }
@@ -114,18 +138,22 @@ impl Playing {
         script: &mut ScriptReader,
         input: &mut R,
         player: &mut P,
-    ) -> Result<(), Stop> {
+    ) -> Result<(), Stop>
+        ensures { PlaysFrom P.turns (option_map (place script.old) (R.remaining input.old)) self.old player.old result (number_of script.new) self.new player.new }
+    {
         for _ in 0..u64::MAX {
             let Some(command) = script.next_command(input)? else {
-                break;
+                return Ok(());
             };
             self.carry_out(command, player)?;
         }
-        Ok(())
+        Err(Stop::ReadFault)
     }
 
     /// Carries out a command.
-    fn carry_out<P: Player>(&mut self, command: ScriptCommand, player: &mut P) -> Result<(), Stop> {
+    fn carry_out<P: Player>(&mut self, command: ScriptCommand, player: &mut P) -> Result<(), Stop>
+        ensures { CarriesOut P.turns (stage_of self.old) player.old command result (stage_of self.new) player.new }
+    {
         match command {
             ScriptCommand::Update(update) => self.send(update, player),
             ScriptCommand::HostFocus(is_host_focused) => {
@@ -137,10 +165,20 @@ impl Playing {
     }
 
     /// Sends an update: the first one makes the tree.
-    fn send<P: Player>(&mut self, update: TreeUpdate, player: &mut P) -> Result<(), Stop> {
-        if let Some(session) = &mut self.session {
-            return player.run(session, Command::Update(update));
+    fn send<P: Player>(&mut self, update: TreeUpdate, player: &mut P) -> Result<(), Stop>
+        ensures { CarriesOut P.turns (stage_of self.old) player.old (script_.Update update) result (stage_of self.new) player.new }
+    {
+        match &mut self.session {
+            Some(session) => player.run(session, Command::Update(update)),
+            None => self.send_first(update, player),
         }
+    }
+
+    /// Sends the update that makes the tree.
+    fn send_first<P: Player>(&mut self, update: TreeUpdate, player: &mut P) -> Result<(), Stop>
+        requires { self.old.session ≡ None }
+        ensures { SendsFirst P.turns self.old.is_host_focused player.old update result (stage_of self.new) player.new }
+    {
         match Session::new(self.alloc, update, self.is_host_focused) {
             Ok(session) => {
                 let begun = player.begin(&session);
@@ -156,7 +194,9 @@ impl Playing {
         &mut self,
         is_host_focused: bool,
         player: &mut P,
-    ) -> Result<(), Stop> {
+    ) -> Result<(), Stop>
+        ensures { CarriesOut P.turns (stage_of self.old) player.old (script_.HostFocus is_host_focused) result (stage_of self.new) player.new }
+    {
         self.is_host_focused = is_host_focused;
         match &mut self.session {
             Some(session) => player.run(session, Command::HostFocus(is_host_focused)),

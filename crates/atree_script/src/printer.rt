@@ -1,5 +1,5 @@
 //! The handler that prints events.
-ghost use Rattle.std.specs.Prelude.{◌≡◌, Some, None, IfNone, OnOk};
+ghost use Rattle.std.specs.Prelude.{◌≡◌, Some, None, IfNone};
 ghost use Rattle.std.specs.Io.KnownBytes.{Appends};
 ghost use Rattle.atree_script.specs.Printed.{id_text, shown_or_dash, seen_id, focus_line, event_line};
 ghost use Rattle.views.specs.Nodes.{seen_through};
@@ -43,23 +43,18 @@ impl fmt::Display for ShownFocus {
 
 /// Prints each event on a line, until the writer's first error.
 #[derive(Drop)]
-pub(crate) struct Printer<W> {
-    out: W,
-    fault: Option<io::Error>,
+pub(crate) struct Printer<'a, O> {
+    pub out: &'a mut O,
+    /// The first error, if there was one.
+    pub fault: Option<io::Error>,
 }
 
-impl<W: Write + Drop> Printer<W> {
-    pub(crate) fn new(out: W) -> Printer<W>
-        ensures out { result.out ≡ out }
-        ensures fault { result.fault ≡ None }
-    {
-        Printer { out, fault: None }
-    }
-
+impl<'a, O: Write> Printer<'a, O> {
     /// Prints the old and the new focus.
     fn print_focus(&mut self, old: Option<FullNodeId>, new: Option<FullNodeId>)
-        ensures { IfNone self.new.fault ((self.old.fault ≡ None)
-            × Appends (W.contents self.old.out) (W.contents self.new.out) (focus_line old new)) }
+        ensures out { self.new.out.ghost_name ≡ self.old.out.ghost_name }
+        ensures printed { IfNone self.new.fault ((self.old.fault ≡ None)
+            × Appends (O.contents self.old.out.now) (O.contents self.new.out.now) (focus_line old new)) }
     {
         if self.fault.is_none() {
             let old = ShownFocus(old);
@@ -69,20 +64,11 @@ impl<W: Write + Drop> Printer<W> {
             }
         }
     }
-
-    /// The first error, if there was one.
-    pub(crate) fn finish(self) -> io::Result<()>
-        ensures { OnOk result (self.fault ≡ None) }
-    {
-        match self.fault {
-            Some(fault) => Err(fault),
-            None => Ok(()),
-        }
-    }
 }
 
-impl<W: Write + Drop> TreeChangeHandler for Printer<W> {
-    ghost steps = { λ s e t. IfNone t.fault ((s.fault ≡ None) × Appends (W.contents s.out) (W.contents t.out) (event_line e)) };
+impl<'a, O: Write> TreeChangeHandler for Printer<'a, O> {
+    ghost steps = { λ s e t. (t.out.ghost_name ≡ s.out.ghost_name)
+        × IfNone t.fault ((s.fault ≡ None) × Appends (O.contents s.out.now) (O.contents t.out.now) (event_line e)) };
 
     fn node_added(&mut self, node: &NodeRef) {
         if self.fault.is_none() {

@@ -1,7 +1,7 @@
 //! Printing replies.
 ghost use Rattle.std.specs.Prelude.{◌≡◌, OnOk, Some, flat_map, option_copied};
 ghost use Rattle.std.specs.Io.KnownBytes.{Appends};
-ghost use Rattle.script_lines.specs.Quoted.{quoted_byte};
+ghost use Rattle.script_words.specs.Quoted.{quoted_byte};
 ghost use Rattle.atree_script.specs.Replies.{spaced_id, ids_line, found_line, count_text, set_line, text_line, position_line, reply_line};
 
 use crate::printer::ShownId;

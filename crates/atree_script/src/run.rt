@@ -1,15 +1,21 @@
 //! Running a script.
-ghost use Rattle.std.specs.Prelude.{◌≤◌, ◌≢◌};
+ghost use Rattle.std.specs.Prelude.{◌≡◌, ◌≤◌, ◌≢◌, List, None, IfNone, flat_map};
+ghost use Rattle.std.specs.Io.KnownBytes.{Appends};
+ghost use Rattle.model.specs.Events.{Event};
+ghost use Rattle.session.specs.Replied.{IsStep};
+ghost use Rattle.atree_script.specs.Played.{PlaysOut};
+ghost use Rattle.atree_script.specs.Printed.{event_line};
+ghost use Rattle.atree_script.specs.Scripts.{Prints, PrintsStep, RunsScript};
 
 use crate::outline::print_outline;
-use crate::playing::{Player, play};
+use crate::playing::{Played, Player, play};
 use crate::printer::Printer;
 use crate::refusals::write_refusal;
 use crate::replies::write_reply;
 use accesskit_consumer::tree::UpdateError;
 use script_lines::{Stop, end_run};
-use session::{Command, Query, Session};
-use std::alloc::Global;
+use session::{Command, Query, Reply, Session};
+use std::alloc::{AllocError, Global};
 use std::io::{BufRead, Write};
 
 /// Runs a script to its end, or until something stops it, and returns the exit status: 0 at the end of the input; 2 for
@@ -24,23 +30,38 @@ pub fn run_script<R: BufRead, O: Write, E: Write>(
 ) -> u8
     ensures bound { result ≤ 4 }
     ensures not_one { result ≢ 1 }
+    ensures runs { RunsScript (R.remaining input.old) (O.contents output.old) (O.contents output.new) (E.contents errors.old) (E.contents errors.new) result }
 {
     let mut writing = Writing {
-        alloc,
         output: &mut *output,
     };
-    let played = play(alloc, input, &mut writing);
+    let played = play_printed(alloc, input, &mut writing);
+    // This does nothing. The proof reads from it what the output has.
+    let _ = &*writing.output;
     end_run(played.ended, played.number, output, errors)
+}
+
+/// Plays a script, and prints the effects of each command.
+fn play_printed<R: BufRead, O: Write>(
+    alloc: Global,
+    input: &mut R,
+    writing: &mut Writing<'_, O>,
+) -> Played
+    ensures output { writing.new.output.ghost_name ≡ writing.old.output.ghost_name }
+    ensures plays { PlaysOut Prints (R.remaining input.old) (O.contents writing.old.output.now) result (O.contents writing.new.output.now) }
+{
+    play(alloc, input, writing)
 }
 
 /// Prints the effects of each command.
 #[derive(Drop)]
 struct Writing<'a, O> {
-    alloc: Global,
     output: &'a mut O,
 }
 
 impl<'a, O: Write> Player for Writing<'a, O> {
+    ghost turns = { λ s turn result t. (t.output.ghost_name ≡ s.output.ghost_name) × Prints (O.contents s.output.now) turn result (O.contents t.output.now) };
+
     fn begin(&mut self, _session: &Session) -> Result<(), Stop> {
         self.output.write_all(b"ok\n")?;
         Ok(())
@@ -70,12 +91,10 @@ impl<'a, O: Write> Player for Writing<'a, O> {
     /// Prints the tree, or that there isn't one.
     fn print(&mut self, session: &Option<Session>) -> Result<(), Stop> {
         match session {
-            Some(session) => print_outline(self.alloc, session.tree().state().view(), self.output),
-            None => {
-                self.output.write_all(b"no tree\n")?;
-                Ok(())
-            }
+            Some(session) => print_outline(session.tree().state().view(), self.output)?,
+            None => self.output.write_all(b"no tree\n")?,
         }
+        Ok(())
     }
 }
 
@@ -84,10 +103,34 @@ fn run_command<O: Write>(
     session: &mut Session,
     command: Command,
     output: &mut O,
-) -> Result<(), Stop> {
-    let mut printer = Printer::new(&mut *output);
-    let reply = session.step(command, &mut printer);
-    printer.finish()?;
+) -> Result<(), Stop>
+    ensures { PrintsStep session.old command session.new result (O.contents output.old) (O.contents output.new) }
+{
+    let mut printer = Printer {
+        out: &mut *output,
+        fault: None,
+    };
+    let reply = step_printed(session, command, &mut printer);
+    let Printer { out, fault } = printer;
+    // This does nothing. The proof reads from it what the output has.
+    let _ = &*out;
+    if let Some(fault) = fault {
+        return Err(Stop::from(fault));
+    }
     write_reply(&reply?, output)?;
     Ok(())
+}
+
+/// Runs a command, whose events are printed until the output's first error.
+fn step_printed<O: Write>(
+    session: &mut Session,
+    command: Command,
+    printer: &mut Printer<'_, O>,
+) -> Result<Reply, AllocError>
+    ensures output { printer.new.out.ghost_name ≡ printer.old.out.ghost_name }
+    ensures step { (events : List Event) × IsStep session.old command session.new events result
+        × IfNone printer.new.fault ((printer.old.fault ≡ None)
+        × Appends (O.contents printer.old.out.now) (O.contents printer.new.out.now) (flat_map event_line events)) }
+{
+    session.step(command, printer)
 }

@@ -1,1 +1,2 @@
 pub mod SoughtLabels
+pub mod SoughtRoles

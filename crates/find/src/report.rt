@@ -3,6 +3,7 @@
 use accesskit_consumer::filters::common_filter;
 use accesskit_consumer::node::NodeRef;
 use atree_script::{ShownId, Stop, write_quoted, write_text};
+use role_names::RoleName;
 use schema::{Point, WideRect};
 use std::alloc::Global;
 use std::io::{self, Write};
@@ -47,7 +48,7 @@ fn write_path<O: Write>(alloc: Global, node: NodeRef, out: &mut O) -> Result<(),
 
 /// Writes a space, the node's role, and its label in quotes if it has one.
 fn write_name<O: Write>(alloc: Global, node: NodeRef, out: &mut O) -> Result<(), Stop> {
-    let role = node.role();
+    let role = RoleName(node.role());
     write!(out, " {role}")?;
     if let Some(label) = node.label(alloc)? {
         write_in_quotes(&label, out)?;

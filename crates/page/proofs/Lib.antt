@@ -1,5 +1,6 @@
+pub mod Anys
 pub mod Carrying
 pub mod Focused
 pub mod Secrets
+pub mod Told
 pub mod Viewed
-pub mod Anys

@@ -1,3 +1,4 @@
+pub mod Differences
 pub mod Known
 pub mod Named
 pub mod Places

@@ -1,15 +1,16 @@
 -- What names a node on a page.
 use Rattle.std.specs.Prelude.{ℕ, List, ◌++◌, codes, Bool}
 use Rattle.schema.specs.declared.Role.{Role}
-use Rattle.schema.specs.RoleNames.{role_text}
+use Rattle.role_names.specs.Names.{shown_name}
+use Rattle.model.specs.declared.FullNodeId.{FullNodeId}
 use Rattle.views.specs.declared.node.node_ref.NodeRef.{NodeRef}
 use Rattle.views.specs.Nodes.{world_at, id_at, data_at}
 use Rattle.page.specs.Known.{is_in_secret}
 use Rattle.page.specs.Said.{caption_shown, label_shown, value_shown}
-use Rattle.page.specs.Written.{small_id, word_text}
+use Rattle.page.specs.Written.{anchor_text, small_id, word_text}
 
 abbrev pub role_bold : Role → List ℕ
-role_bold role = codes "<b>" ++ role_text role ++ codes "</b>"
+role_bold role = codes "<b>" ++ shown_name role ++ codes "</b>"
 
 -- a node's role, and its label or else its value, where it has one that is shown
 abbrev pub role_and_text : NodeRef → List ℕ
@@ -18,6 +19,17 @@ role_and_text n = role_bold (data_at n).role ++ word_text (codes "q") (codes "l"
 -- and its id
 abbrev pub name_text : NodeRef → List ℕ
 name_text n = role_and_text n ++ codes " " ++ small_id (id_at n)
+
+-- the beginning of a link to the place at which a state shows a node, and its id as such a link
+abbrev pub link_begun : ℕ → FullNodeId → List ℕ
+link_begun state id = codes "<a href=\"#" ++ anchor_text state id ++ codes "\">"
+
+abbrev pub linked_id : ℕ → FullNodeId → List ℕ
+linked_id state id = link_begun state id ++ small_id id ++ codes "</a>"
+
+-- a node's role and text, and its id as such a link
+abbrev pub linked_text : ℕ → NodeRef → List ℕ
+linked_text state n = role_and_text n ++ codes " " ++ linked_id state (id_at n)
 
 -- a node's label and value as an outline shows them, of a node that stands in a password, or doesn't
 abbrev pub outline_texts : Bool → NodeRef → List ℕ

@@ -2,13 +2,14 @@
 ghost use Rattle.std.specs.Prelude.{OnOk, option_copied};
 ghost use Rattle.std.specs.Io.KnownBytes.{Appends};
 ghost use Rattle.views.specs.Nodes.{data_at};
-ghost use Rattle.page.specs.Named.{role_bold, name_text, role_and_text};
+ghost use Rattle.page.specs.Named.{role_bold, name_text, link_begun, linked_id, linked_text, role_and_text};
 ghost use Rattle.page.specs.Written.{anchor_text, small_id, word_text};
 
 use crate::words::{caption, is_in_password};
 use accesskit_consumer::{FullNodeId, NodeRef};
 use atree_script::Stop;
 use html::write_element;
+use role_names::RoleName;
 use std::alloc::Global;
 use std::io::{self, Write};
 
@@ -28,14 +29,31 @@ pub(crate) fn write_linked_name<O: Write>(
     state: u64,
     node: &NodeRef,
     out: &mut O,
-) -> Result<(), Stop> {
+) -> Result<(), Stop>
+    ensures { OnOk result (Appends (O.contents out.old) (O.contents out.new) (linked_text state node.now)) }
+{
     write_role_and_text(alloc, node, out)?;
-    out.write_all(b" <a href=\"#")?;
-    write_anchor(state, node.id(), out)?;
-    out.write_all(b"\">")?;
-    write_id(node.id(), out)?;
-    out.write_all(b"</a>")?;
+    out.write_all(b" ")?;
+    write_linked_id(state, node.id(), out)?;
     Ok(())
+}
+
+/// Writes a node's id, as a link to where a state shows the node.
+fn write_linked_id<O: Write>(state: u64, id: FullNodeId, out: &mut O) -> io::Result<()>
+    ensures { OnOk result (Appends (O.contents out.old) (O.contents out.new) (linked_id state id)) }
+{
+    begin_link(state, id, out)?;
+    write_id(id, out)?;
+    out.write_all(b"</a>")
+}
+
+/// Begins a link to where a state shows the node.
+fn begin_link<O: Write>(state: u64, id: FullNodeId, out: &mut O) -> io::Result<()>
+    ensures { OnOk result (Appends (O.contents out.old) (O.contents out.new) (link_begun state id)) }
+{
+    out.write_all(b"<a href=\"#")?;
+    write_anchor(state, id, out)?;
+    out.write_all(b"\">")
 }
 
 /// Writes the node's role, and its label or else its value, if it has one.
@@ -52,7 +70,7 @@ fn write_role_and_text<O: Write>(alloc: Global, node: &NodeRef, out: &mut O) -> 
 pub(crate) fn write_role<O: Write>(node: &NodeRef, out: &mut O) -> io::Result<()>
     ensures { OnOk result (Appends (O.contents out.old) (O.contents out.new) (role_bold (data_at node.now).role)) }
 {
-    let role = node.role();
+    let role = RoleName(node.role());
     write!(out, "<b>{role}</b>")
 }
 

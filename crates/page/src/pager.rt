@@ -1,5 +1,5 @@
 //! Running a script and writing a page of it.
-ghost use Rattle.std.specs.Prelude.{◌≤◌, ◌≢◌};
+ghost use Rattle.std.specs.Prelude.{◌≤◌, ◌≢◌, ⊤};
 
 use crate::marks::{Marks, Tally};
 use crate::outline::write_outline;
@@ -9,7 +9,7 @@ use crate::reported::Reporter;
 use crate::sections::{Cause, Outcome, Summary, begin_state, write_end, write_head, write_outcome};
 use accesskit_consumer::{StateRef, UpdateError};
 use atree_script::{Player, Program, Stop, end_run, play};
-use session::{Command, Reply, Session};
+use session::{Command, Query, Reply, Session};
 use std::alloc::Global;
 use std::io::{BufRead, Write};
 
@@ -71,6 +71,8 @@ struct Pager<'a, O> {
 }
 
 impl<'a, O: Write> Player for Pager<'a, O> {
+    ghost turns = { λ _ _ _ _. ⊤ };
+
     /// Shows the first state, which has no events.
     fn begin(&mut self, session: &Session) -> Result<(), Stop> {
         let cause = self.begin_update()?;
@@ -103,6 +105,16 @@ impl<'a, O: Write> Player for Pager<'a, O> {
             Command::HostFocus(_) | Command::Query(_) => return Ok(()),
         };
         self.run_command(session, command, cause)
+    }
+
+    /// A page shows no answers.
+    fn ask(&mut self, _session: &mut Option<Session>, _query: Query) -> Result<(), Stop> {
+        Ok(())
+    }
+
+    /// A page shows each state anyway.
+    fn print(&mut self, _session: &Option<Session>) -> Result<(), Stop> {
+        Ok(())
     }
 }
 

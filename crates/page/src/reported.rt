@@ -1,6 +1,7 @@
 //! Writing each event of an update as it is reported.
-ghost use Rattle.std.specs.Prelude.{OnOk, option_copied, ⊤};
+ghost use Rattle.std.specs.Prelude.{◌≡◌, ◌↔◌, IsTrue, OnOk, option_copied, ⊤};
 ghost use Rattle.std.specs.Io.KnownBytes.{Appends};
+ghost use Rattle.page.specs.Differences.{TellsDifferences, TellsBox};
 ghost use Rattle.page.specs.Said.{TellsChange, change_text, text_or_none};
 
 use crate::marks::{Mark, Marks, Tally};
@@ -9,6 +10,7 @@ use crate::words::{is_in_password, shown_label, shown_value};
 use accesskit_consumer::{NodeRef, TreeChangeHandler};
 use atree_script::Stop;
 use html::write_element;
+use schema::WideRect;
 use std::alloc::Global;
 use std::io::{self, Write};
 
@@ -162,7 +164,9 @@ fn write_differences<O: Write>(
     old: &NodeRef,
     new: &NodeRef,
     out: &mut O,
-) -> Result<(), Stop> {
+) -> Result<(), Stop>
+    ensures { OnOk result (TellsDifferences old.now new.now (O.contents out.old) (O.contents out.new)) }
+{
     let was_in_password = is_in_password(old);
     let is_in_password = is_in_password(new);
     let label = shown_label(alloc, old, was_in_password)?;
@@ -171,10 +175,25 @@ fn write_differences<O: Write>(
     let value = shown_value(alloc, old, was_in_password)?;
     let new_value = shown_value(alloc, new, is_in_password)?;
     write_difference("value", value.as_deref(), new_value.as_deref(), out)?;
-    if old.bounding_box() != new.bounding_box() {
-        out.write_all(b"; its box has changed")?;
-    }
+    write_box_difference(old, new, out)?;
     Ok(())
+}
+
+/// Writes that the boxes of two states of a node differ, if they do.
+fn write_box_difference<O: Write>(old: &NodeRef, new: &NodeRef, out: &mut O) -> io::Result<()>
+    ensures { OnOk result (TellsBox old.now new.now (O.contents out.old) (O.contents out.new)) }
+{
+    if is_same_box(old.bounding_box(), new.bounding_box()) {
+        return Ok(());
+    }
+    out.write_all(b"; its box has changed")
+}
+
+/// Whether two boxes are equal, or there is neither.
+fn is_same_box(a: Option<WideRect>, b: Option<WideRect>) -> bool
+    ensures { IsTrue result ↔ (a ≡ b) }
+{
+    a == b
 }
 
 /// Writes two texts, if they differ.

@@ -1,9 +1,14 @@
 -- Words for roles.
-use Rattle.std.specs.Prelude.{ℕ, List as Sequence, codes}
+use Rattle.std.specs.Prelude.{ℕ, List as Sequence, unwrap_or, codes}
 use Rattle.schema.specs.declared.Role.{Role}
 use Rattle.schema.specs.declared.Role.TheVariants.{Unknown, Window, ScrollView, Paragraph, GenericContainer, TextRun, Label, Image, Document, Terminal, TextInput, MultilineTextInput, SearchInput, DateInput, DateTimeInput, WeekInput, MonthInput, TimeInput, EmailInput, NumberInput, PasswordInput, PhoneNumberInput, UrlInput, EditableComboBox, SpinButton, ListBox, TabList, AlertDialog, Dialog, ComboBox, DisclosureTriangle, TreeItem, Button, CheckBox, DefaultButton, Link, MenuItem, MenuItemCheckBox, MenuItemRadio, RadioButton, DocBackLink, DocBiblioRef, DocGlossRef, DocNoteRef, ColorWell, Grid, MenuListPopup, RadioGroup, Slider, Switch, TreeGrid, Article, Definition, DescriptionList, GraphicsDocument, List, ListItem, PdfRoot, ProgressIndicator, RootWebArea, Term, Timer, Toolbar, Tooltip, Comment, Tab, ListBoxOption, MenuListOption, ListGrid, Menu, MenuBar, Tree, Other}
+use Rattle.role_names.specs.Names.{word_of}
 use Rattle.phrases.specs.declared.states.Toggling.{Toggling}
 use Rattle.phrases.specs.declared.states.Toggling.TheVariants.{Checks, Presses, Switches}
+
+-- a role that is sent by a number has the word of its name, if it has one
+abbrev pub other_word : ℕ → Sequence ℕ
+other_word number = unwrap_or (word_of number) (codes "element")
 
 -- each role has a word
 abbrev pub role_word : Role → Sequence ℕ
@@ -79,7 +84,7 @@ role_word ListGrid = codes "list grid"
 role_word Menu = codes "menu"
 role_word MenuBar = codes "menu bar"
 role_word Tree = codes "tree"
-role_word (Other number) = codes "element"
+role_word (Other number) = other_word number
 
 -- how a toggle state is said: as checked, as pressed, or as on
 abbrev pub toggling_of : Role → Toggling

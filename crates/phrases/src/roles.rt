@@ -1,11 +1,13 @@
 //! Words for roles, and how toggle states of roles are said.
 ghost use Rattle.std.specs.Prelude.{◌≡◌, ◌<◌, length};
-ghost use Rattle.phrases.specs.Roles.{role_word, toggling_of};
+ghost use Rattle.phrases.specs.Roles.{role_word, other_word, toggling_of};
 
 use crate::states::Toggling;
+use role_names::word_of;
 use schema::Role;
 
-/// The word for a role. Each role has a word, and none is empty.
+/// The word for a role: of one that is sent by a number that of its name, or `element` if the number has no name. Each role has
+/// a word, and none is empty.
 pub fn role_word(role: Role) -> &'static str
     ensures word { result.now ≡ role_word role }
     ensures some { 0 < length result.now }
@@ -83,7 +85,18 @@ pub fn role_word(role: Role) -> &'static str
         Role::Menu => "menu",
         Role::MenuBar => "menu bar",
         Role::Tree => "tree",
-        Role::Other(_) => "element",
+        Role::Other(number) => other_word(number),
+    }
+}
+
+/// The word for a role that is sent by this number.
+fn other_word(number: u16) -> &'static str
+    ensures word { result.now ≡ other_word number }
+    ensures some { 0 < length result.now }
+{
+    match word_of(number) {
+        Some(word) => word,
+        None => "element",
     }
 }
 

@@ -6,12 +6,12 @@ use Rattle.std.specs.Fmt.{decimal}
 use Rattle.schema.specs.UpdateData.{InfoData, UpdateData}
 use Rattle.schema.specs.declared.NodeId.{NodeId}
 use Rattle.script_lines.specs.LineReading.{IsInfo, IsHead, HeadField, Focus, Root, Toolkit, Version, head_name, rest_text, toolkit_fields, version_fields, info_fields, head_fields, HeadData, no_head, with_head_fields, AreFree, info_head, head_of}
-use Rattle.script_lines.specs.declared.stops.Stop.{Stop}
+use Rattle.script_words.specs.declared.stops.Stop.{Stop}
 use Rattle.script_lines.specs.Lines.{head_args, info_or_nothing}
-use Rattle.script_lines.specs.Parts.{word_field, tree_text}
-use Rattle.script_lines.specs.Quoted.{quoted}
-use Rattle.script_lines.specs.Reading.{Begins, IsFieldName, IsId, Reads, after}
-use Rattle.script_lines.proofs.Lacking.{lacks_by}
+use Rattle.script_words.specs.Parts.{word_field, tree_text}
+use Rattle.script_words.specs.Quoted.{quoted}
+use Rattle.script_words.specs.Reading.{Begins, IsFieldName, IsId, Reads, after}
+use Rattle.script_words.proofs.Lacking.{lacks_by}
 
 pub head_name_is_field_name : (field : HeadField) → IsFieldName (head_name field)
 head_name_is_field_name (Focus id) = ((lacks_by 32 (codes "focus") refl, omega arith), lacks_by 61 (codes "focus") refl)

@@ -6,11 +6,11 @@ use Rattle.schema.specs.NodeData.{NodeData}
 use Rattle.schema.specs.declared.NodeId.{NodeId}
 use Rattle.script_lines.specs.LineReading.{IsLineWord, host_word}
 use Rattle.script_lines.specs.Lines.{host_text}
-use Rattle.script_lines.specs.NodeReading.{node_args}
-use Rattle.script_lines.specs.NodeText.{node_text, node_head}
+use Rattle.script_nodes.specs.NodeReading.{node_args}
+use Rattle.script_nodes.specs.NodeText.{node_text, node_head}
 use Rattle.script_lines.specs.Questions.{question_word}
-use Rattle.script_lines.specs.Reading.{IsWord, after}
-use Rattle.script_lines.proofs.Lacking.{lacks_by}
+use Rattle.script_words.specs.Reading.{IsWord, after}
+use Rattle.script_words.proofs.Lacking.{lacks_by}
 
 pub update_is_line_word : IsLineWord (codes "update")
 update_is_line_word = ((lacks_by 32 (codes "update") refl, omega arith), λ e. omega (arith, e))

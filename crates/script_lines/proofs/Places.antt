@@ -6,14 +6,14 @@ use Rattle.std.specs.Result.{IsErrAnd}
 use Rattle.schema.specs.UpdateData.{UpdateData}
 use Rattle.script_lines.specs.Commands.{Said, said}
 use Rattle.script_lines.specs.InputLines.{ReadsNext, next_number}
-use Rattle.script_lines.specs.Reading.{Reads}
+use Rattle.script_words.specs.Reading.{Reads}
 use Rattle.script_lines.specs.ScriptReading.{IsPlace, Passes, PassesLines, Place, ReadsTo, Steps, place}
 use Rattle.script_lines.specs.Taking.{Taken, TakesAs, begun_of, number_of, taken}
 use Rattle.script_lines.specs.declared.lines.Line.{Line}
 use Rattle.script_lines.specs.declared.reader.ScriptCommand.{ScriptCommand}
 use Rattle.script_lines.specs.declared.reader.ScriptReader.{ScriptReader}
-use Rattle.script_lines.specs.declared.stops.Stop.{Stop}
-use Rattle.script_lines.specs.declared.stops.Stop.TheVariants.{BadLine, Memory, ReadFault, WriteFault}
+use Rattle.script_words.specs.declared.stops.Stop.{Stop}
+use Rattle.script_words.specs.declared.stops.Stop.TheVariants.{BadLine, Memory, ReadFault, WriteFault}
 
 pub passes_none : (at : Place) → PassesLines at at
 unfolding Passes

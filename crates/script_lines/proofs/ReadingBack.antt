@@ -14,10 +14,10 @@ use Rattle.script_lines.specs.Commands.{Said, Sends, Turns, Prints, Asks, said}
 use Rattle.script_lines.specs.InputLines.{ReadsAs, ReadsLine, without_end}
 use Rattle.script_lines.specs.LineReading.{BeginsUpdate, IsHead}
 use Rattle.script_lines.specs.Lines.{entry_line, head_args, host_text, said_lines, update_lines}
-use Rattle.script_lines.specs.NodeReading.{IsNode}
-use Rattle.script_lines.specs.NodeText.{node_line, node_text}
+use Rattle.script_nodes.specs.NodeReading.{IsNode}
+use Rattle.script_nodes.specs.NodeText.{node_line, node_text}
 use Rattle.script_lines.specs.Questions.{IsQuery, question_text}
-use Rattle.script_lines.specs.Reading.{IsId, Lacks, Reads}
+use Rattle.script_words.specs.Reading.{IsId, Lacks, Reads}
 use Rattle.script_lines.specs.ReadingBack.{IsEntry, IsSaid, ReadsBack, script_text}
 use Rattle.script_lines.specs.ScriptReading.{IsBadNext, IsPlace, Passes, Place, ReadsTo, Steps, place}
 use Rattle.script_lines.specs.Taking.{Taken, begun_of, goes_on, taken, with_entry}
@@ -25,12 +25,13 @@ use Rattle.script_lines.specs.declared.lines.Line.{Line}
 use Rattle.script_lines.specs.declared.lines.Line.TheVariants as says
 use Rattle.script_lines.specs.declared.reader.ScriptCommand.{ScriptCommand}
 use Rattle.script_lines.specs.declared.reader.ScriptReader.{ScriptReader}
-use Rattle.script_lines.specs.declared.stops.Stop.{Stop}
-use Rattle.script_lines.specs.declared.stops.Stop.TheVariants.{BadLine, Memory, ReadFault, WriteFault}
+use Rattle.script_words.specs.declared.stops.Stop.{Stop}
+use Rattle.script_words.specs.declared.stops.Stop.TheVariants.{BadLine, Memory, ReadFault, WriteFault}
 use Rattle.script_lines.proofs.Places.{Answers}
 use Rattle.script_lines.proofs.LineEnds.{strip_kept, strip_pushed}
-use Rattle.script_lines.proofs.LineTexts.{IsLineText, line_by, newline_utf8}
-use Rattle.script_lines.proofs.NodeLines.{head_line, host_text_line, node_text_line, question_text_line}
+use Rattle.script_words.proofs.LineTexts.{IsLineText, line_by, newline_utf8}
+use Rattle.script_nodes.proofs.NodeLines.{node_text_line}
+use Rattle.script_lines.proofs.CommandLines.{head_line, host_text_line, question_text_line}
 
 -- ---- the line before a reader
 

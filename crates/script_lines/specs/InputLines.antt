@@ -8,14 +8,14 @@ use Rattle.schema.specs.UpdateData.{UpdateData}
 use Rattle.schema.specs.declared.NodeId.{NodeId}
 use Rattle.script_lines.specs.LineReading.{BeginsUpdate, IsHead}
 use Rattle.script_lines.specs.Lines.{head_args, host_text}
-use Rattle.script_lines.specs.NodeReading.{IsNode}
-use Rattle.script_lines.specs.NodeText.{node_text}
+use Rattle.script_nodes.specs.NodeReading.{IsNode}
+use Rattle.script_nodes.specs.NodeText.{node_text}
 use Rattle.script_lines.specs.Questions.{IsQuery, question_text}
-use Rattle.script_lines.specs.Reading.{IsId, Reads}
+use Rattle.script_words.specs.Reading.{IsId, Reads}
 use Rattle.script_lines.specs.declared.lines.Line.{Line}
 use Rattle.script_lines.specs.declared.lines.Line.TheVariants as says
-use Rattle.script_lines.specs.declared.stops.Stop.{Stop}
-use Rattle.script_lines.specs.declared.stops.Stop.TheVariants.{BadLine, Memory, ReadFault}
+use Rattle.script_words.specs.declared.stops.Stop.{Stop}
+use Rattle.script_words.specs.declared.stops.Stop.TheVariants.{BadLine, Memory, ReadFault}
 
 -- ---- lines are cut at newlines; what comes after the last newline is a line too, if there is something
 

@@ -10,8 +10,8 @@ use Rattle.schema.specs.declared.update.TreeUpdate.{TreeUpdate}
 use Rattle.script_lines.specs.declared.heads.Head.{Head}
 use Rattle.script_lines.specs.declared.lines.Line.{Line}
 use Rattle.script_lines.specs.declared.lines.Line.TheVariants as says
-use Rattle.script_lines.specs.Quoted.{quoted}
-use Rattle.script_lines.specs.Reading.{IsId, IsTreeName, IsWord, after}
+use Rattle.script_words.specs.Quoted.{quoted}
+use Rattle.script_words.specs.Reading.{IsId, IsTreeName, IsWord, after}
 
 -- ---- whole lines
 

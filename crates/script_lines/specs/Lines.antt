@@ -1,17 +1,15 @@
 -- The written form of a command: the text of its lines.
-use Rattle.std.specs.Prelude.{ℕ, List, [], ◌++◌, codes, flat_map, Bool, true, false, Option, Some, None, option_map, ◌≡◌, ◌⊎◌}
+use Rattle.std.specs.Prelude.{ℕ, List, [], ◌++◌, codes, flat_map, Bool, true, false, Option, Some, None, option_map, ◌≡◌}
 use Rattle.std.specs.Fmt.{decimal}
 use Rattle.std.specs.Io.KnownBytes.{Appends}
 use Rattle.schema.specs.NodeData.{NodeData}
 use Rattle.schema.specs.UpdateData.{UpdateData, InfoData, update_data}
 use Rattle.schema.specs.declared.NodeId.{NodeId}
-use Rattle.script_lines.specs.declared.stops.Stop.{Stop}
-use Rattle.script_lines.specs.declared.stops.Stop.TheVariants.{Memory, WriteFault}
 use Rattle.script_lines.specs.declared.reader.ScriptCommand.{ScriptCommand}
 use Rattle.script_lines.specs.Commands.{Said, Sends, Turns, Prints, Asks, said}
-use Rattle.script_lines.specs.NodeText.{node_line}
-use Rattle.script_lines.specs.Parts.{word_field, tree_text}
-use Rattle.script_lines.specs.Quoted.{quoted}
+use Rattle.script_nodes.specs.NodeText.{node_line}
+use Rattle.script_words.specs.Parts.{word_field, tree_text}
+use Rattle.script_words.specs.Quoted.{quoted}
 use Rattle.script_lines.specs.Questions.{question_line}
 
 -- of the tree info
@@ -52,10 +50,6 @@ said_lines (Asks q) = question_line q
 
 abbrev pub command_lines : ScriptCommand → List ℕ
 command_lines command = said_lines (said command)
-
--- what stops the writing: an error of the output, or lack of memory
-abbrev pub StopsWriting : Stop → Type 0
-StopsWriting stop = (stop ≡ WriteFault) ⊎ (stop ≡ Memory)
 
 -- known bytes grow by a beginning of this text
 abbrev pub AppendsBeginning : Option (List ℕ) → Option (List ℕ) → List ℕ → Type 0

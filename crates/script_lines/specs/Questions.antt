@@ -9,27 +9,15 @@ use Rattle.model.specs.declared.queries.Move.{Move}
 use Rattle.model.specs.declared.queries.NamedFilter.{NamedFilter}
 use Rattle.model.specs.declared.queries.Query.{Query}
 use Rattle.model.specs.declared.queries.Query.TheVariants as query
-use Rattle.script_lines.specs.Names.{filter_name, move_name, side_name}
-use Rattle.script_lines.specs.Parts.{tree_text}
-use Rattle.script_lines.specs.Reading.{IsCount, IsName, IsNumber, after}
-
--- a node's id and the name of its tree
-abbrev pub name_text : NodeId × TreeId → List ℕ
-name_text name = decimal name.0.0 ++ codes " " ++ tree_text name.1
-
--- a position in a text
-abbrev pub at_text : At → List ℕ
-at_text at = decimal at.index ++ codes " " ++ side_name at.side
+use Rattle.script_words.specs.Names.{filter_name, move_name}
+use Rattle.script_words.specs.Parts.{at_text, name_text, point_text}
+use Rattle.script_words.specs.Reading.{IsCount, IsName, IsNumber, after}
 
 abbrev pub asked_line : List ℕ → NodeId × TreeId → List ℕ
 asked_line word name = word ++ codes " " ++ name_text name ++ codes "\n"
 
 abbrev pub asked_by_filter_line : List ℕ → NodeId × TreeId → NamedFilter → List ℕ
 asked_by_filter_line word name filter = word ++ codes " " ++ name_text name ++ codes " " ++ filter_name filter ++ codes "\n"
-
--- a point in the node's coordinates
-unfoldable pub point_text : Point → List ℕ
-point_text point = signed_decimal point.x ++ codes " " ++ signed_decimal point.y
 
 abbrev pub hit_line : NodeId × TreeId → Point → NamedFilter → List ℕ
 hit_line name point filter =

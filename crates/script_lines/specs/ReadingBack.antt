@@ -6,12 +6,12 @@ use Rattle.schema.specs.declared.NodeId.{NodeId}
 use Rattle.script_lines.specs.Commands.{Said, Sends, Turns, Prints, Asks, said}
 use Rattle.script_lines.specs.LineReading.{IsHead}
 use Rattle.script_lines.specs.Lines.{said_lines}
-use Rattle.script_lines.specs.NodeReading.{IsNode}
+use Rattle.script_nodes.specs.NodeReading.{HasActionSets, IsNode}
 use Rattle.script_lines.specs.Questions.{IsQuery}
-use Rattle.script_lines.specs.Reading.{IsId}
+use Rattle.script_words.specs.Reading.{IsId}
 use Rattle.script_lines.specs.declared.reader.ScriptCommand.{ScriptCommand}
-use Rattle.script_lines.specs.declared.stops.Stop.{Stop}
-use Rattle.script_lines.specs.declared.stops.Stop.TheVariants.{BadLine}
+use Rattle.script_words.specs.declared.stops.Stop.{Stop}
+use Rattle.script_words.specs.declared.stops.Stop.TheVariants.{BadLine}
 
 -- a command whose numbers, names and texts are such as their types have them, and its sets of actions too
 abbrev pub IsEntry : NodeId × NodeData → Type 0
@@ -22,6 +22,16 @@ IsSaid (Sends u) = IsHead u × All IsEntry u.nodes
 IsSaid (Turns is_focused) = ⊤
 IsSaid Prints = ⊤
 IsSaid (Asks q) = IsQuery q
+
+-- of its sets of actions this isn't said by any type
+abbrev pub HasSets : NodeId × NodeData → Type 0
+HasSets entry = HasActionSets entry.1
+
+abbrev pub HaveActionSets : Said → Type 0
+HaveActionSets (Sends u) = All HasSets u.nodes
+HaveActionSets (Turns is_focused) = ⊤
+HaveActionSets Prints = ⊤
+HaveActionSets (Asks q) = ⊤
 
 -- the script of these commands
 abbrev pub script_text : List Said → List ℕ

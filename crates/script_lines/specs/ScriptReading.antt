@@ -8,8 +8,8 @@ use Rattle.script_lines.specs.Taking.{begun_of, number_of, taken}
 use Rattle.script_lines.specs.declared.lines.Line.{Line}
 use Rattle.script_lines.specs.declared.reader.ScriptCommand.{ScriptCommand}
 use Rattle.script_lines.specs.declared.reader.ScriptReader.{ScriptReader}
-use Rattle.script_lines.specs.declared.stops.Stop.{Stop}
-use Rattle.script_lines.specs.declared.stops.Stop.TheVariants.{BadLine, Memory, ReadFault, WriteFault}
+use Rattle.script_words.specs.declared.stops.Stop.{Stop}
+use Rattle.script_words.specs.declared.stops.Stop.TheVariants.{BadLine, Memory, ReadFault, WriteFault}
 
 -- where a reader is: the bytes before it, the update that it has begun, and the number of the last line
 pub record Place : Type 0 where

@@ -4,13 +4,13 @@ use Rattle.schema.specs.NodeData.{NodeData}
 use Rattle.schema.specs.UpdateData.{UpdateData, update_data}
 use Rattle.schema.specs.declared.NodeId.{NodeId}
 use Rattle.script_lines.specs.Commands.{Said, Sends, Turns, Prints, Asks, said}
-use Rattle.script_lines.specs.Reading.{Reads}
+use Rattle.script_words.specs.Reading.{Reads}
 use Rattle.script_lines.specs.declared.lines.Line.{Line}
 use Rattle.script_lines.specs.declared.lines.Line.TheVariants as says
 use Rattle.script_lines.specs.declared.reader.ScriptCommand.{ScriptCommand}
 use Rattle.script_lines.specs.declared.reader.ScriptReader.{ScriptReader}
-use Rattle.script_lines.specs.declared.stops.Stop.{Stop}
-use Rattle.script_lines.specs.declared.stops.Stop.TheVariants.{BadLine}
+use Rattle.script_words.specs.declared.stops.Stop.{Stop}
+use Rattle.script_words.specs.declared.stops.Stop.TheVariants.{BadLine}
 
 -- the update that a reader has begun to read
 abbrev pub begun_of : ScriptReader → Option UpdateData

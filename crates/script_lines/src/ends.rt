@@ -2,9 +2,9 @@
 ghost use Rattle.std.specs.Prelude.{◌≤◌, ◌≢◌};
 ghost use Rattle.std.specs.Io.KnownBytes.{Keeps};
 ghost use Rattle.script_lines.specs.Ends.{Tells, status_at_end, status_of, told_at_end, told_of};
-ghost use Rattle.script_lines.specs.declared.stops.Stop.TheVariants as stop_;
+ghost use Rattle.script_words.specs.declared.stops.Stop.TheVariants as stop_;
 
-use crate::stops::Stop;
+use script_words::stops::Stop;
 use std::io::Write;
 
 /// The exit status at the end of the input.

@@ -8,13 +8,13 @@ ghost use Rattle.schema.specs.UpdateData.{InfoData, UpdateData, info_data, updat
 ghost use Rattle.schema.specs.declared.NodeId.{NodeId};
 ghost use Rattle.script_lines.specs.LineReading.{AreFree, HeadField, IsFree, IsHead, IsHeadField, head_data, head_name, head_of, head_value, info_head, no_head, rest_text, with_head_field, with_head_fields};
 ghost use Rattle.script_lines.specs.Lines.{head_args};
-ghost use Rattle.script_lines.specs.Quoted.{quoted};
-ghost use Rattle.script_lines.specs.Reading.{Begins, IsId, Reads};
-ghost use Rattle.script_lines.specs.Words.{left};
+ghost use Rattle.script_words.specs.Quoted.{quoted};
+ghost use Rattle.script_words.specs.Reading.{Begins, IsId, Reads};
+ghost use Rattle.script_words.specs.Words.{left};
 
-use crate::stops::Stop;
-use crate::words::Words;
 use schema::{NodeId, TreeId, TreeInfo, TreeUpdate};
+use script_words::stops::Stop;
+use script_words::words::Words;
 use std::alloc::Global;
 
 /// The fields of the line read so far.
@@ -78,10 +78,10 @@ impl Head {
         ensures shorter { OnOk result (left (option_copied words.new.rest) < left (option_copied words.old.rest)) }
     {
         match name {
-            "focus" => words.new_id(&mut self.focus),
-            "root" => words.new_id(&mut self.root),
-            "toolkit" => words.new_text(alloc, &mut self.toolkit_name),
-            "version" => words.new_text(alloc, &mut self.toolkit_version),
+            "focus" => new_id(words, &mut self.focus),
+            "root" => new_id(words, &mut self.root),
+            "toolkit" => new_text(alloc, words, &mut self.toolkit_name),
+            "version" => new_text(alloc, words, &mut self.toolkit_version),
             _ => Err(Stop::BadLine),
         }
     }
@@ -120,28 +120,26 @@ fn tree_info(
     }
 }
 
-impl Words<'_> {
-    /// Reads the next word as a node's id, if none was read yet.
-    fn new_id(&mut self, place: &mut Option<NodeId>) -> Result<(), Stop>
-        ensures reads { (id : NodeId) (rest : Option (List ℕ)) → IsId id → Begins (option_copied self.old.rest) (decimal id.0) rest → place.old ≡ None → (result ≡ Ok tt) × (place.new ≡ Some id) × (option_copied self.new.rest ≡ rest) }
-        ensures shorter { OnOk result (left (option_copied self.new.rest) < left (option_copied self.old.rest)) }
-    {
-        if place.is_some() {
-            return Err(Stop::BadLine);
-        }
-        *place = Some(self.id()?);
-        Ok(())
+/// Reads the next word as a node's id, if none was read yet.
+fn new_id(words: &mut Words, place: &mut Option<NodeId>) -> Result<(), Stop>
+    ensures reads { (id : NodeId) (rest : Option (List ℕ)) → IsId id → Begins (option_copied words.old.rest) (decimal id.0) rest → place.old ≡ None → (result ≡ Ok tt) × (place.new ≡ Some id) × (option_copied words.new.rest ≡ rest) }
+    ensures shorter { OnOk result (left (option_copied words.new.rest) < left (option_copied words.old.rest)) }
+{
+    if place.is_some() {
+        return Err(Stop::BadLine);
     }
+    *place = Some(words.id()?);
+    Ok(())
+}
 
-    /// Reads the next text, if none was read yet.
-    fn new_text(&mut self, alloc: Global, place: &mut Option<String>) -> Result<(), Stop>
-        ensures reads { (text : List ℕ) (rest : Option (List ℕ)) → IsUtf8 text → Begins (option_copied self.old.rest) (quoted text) rest → place.old ≡ None → Reads result (λ _. (option_map string_bytes place.new ≡ Some text) × (option_copied self.new.rest ≡ rest)) }
-        ensures shorter { OnOk result (left (option_copied self.new.rest) < left (option_copied self.old.rest)) }
-    {
-        if place.is_some() {
-            return Err(Stop::BadLine);
-        }
-        *place = Some(self.text(alloc)?);
-        Ok(())
+/// Reads the next text, if none was read yet.
+fn new_text(alloc: Global, words: &mut Words, place: &mut Option<String>) -> Result<(), Stop>
+    ensures reads { (text : List ℕ) (rest : Option (List ℕ)) → IsUtf8 text → Begins (option_copied words.old.rest) (quoted text) rest → place.old ≡ None → Reads result (λ _. (option_map string_bytes place.new ≡ Some text) × (option_copied words.new.rest ≡ rest)) }
+    ensures shorter { OnOk result (left (option_copied words.new.rest) < left (option_copied words.old.rest)) }
+{
+    if place.is_some() {
+        return Err(Stop::BadLine);
     }
+    *place = Some(words.text(alloc)?);
+    Ok(())
 }

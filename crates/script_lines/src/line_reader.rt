@@ -7,7 +7,7 @@ ghost use Rattle.std.specs.Io.KnownBytes.{Consumes, IsAtEnd};
 ghost use Rattle.script_lines.specs.InputLines.{CountsLine, ReadsLine, ReadsNext, StopsReading, without_end};
 
 use crate::lines::{Line, read_line};
-use crate::stops::Stop;
+use script_words::stops::Stop;
 use std::alloc::Global;
 use std::io::{BufRead, ErrorKind};
 use std::str;

@@ -8,19 +8,19 @@ ghost use Rattle.schema.specs.declared.NodeId.{NodeId};
 ghost use Rattle.script_lines.specs.InputLines.{IsBlank};
 ghost use Rattle.script_lines.specs.LineReading.{BeginsUpdate, IsHead, IsLineWord, host_word};
 ghost use Rattle.script_lines.specs.Lines.{head_args, host_text};
-ghost use Rattle.script_lines.specs.NodeReading.{IsNode, node_args};
-ghost use Rattle.script_lines.specs.NodeText.{node_text};
+ghost use Rattle.script_nodes.specs.NodeReading.{IsNode, node_args};
+ghost use Rattle.script_nodes.specs.NodeText.{node_text};
 ghost use Rattle.script_lines.specs.Questions.{IsQuery, question_args, question_text, question_word};
-ghost use Rattle.script_lines.specs.Reading.{IsId, Reads, after};
+ghost use Rattle.script_words.specs.Reading.{IsId, Reads, after};
 ghost use Rattle.script_lines.specs.declared.lines.Line.TheVariants as says;
 
 use crate::heads::update_line;
-use crate::node_lines::node_line;
 use crate::questions::question;
-use crate::stops::Stop;
-use crate::words::Words;
 use model::Query;
 use schema::{Node, NodeId, TreeUpdate};
+use script_nodes::node_line;
+use script_words::stops::Stop;
+use script_words::words::Words;
 use std::alloc::Global;
 
 /// The meaning of a line.

@@ -3,17 +3,17 @@
 ghost use Rattle.std.specs.Prelude.{◌≡◌, ◌++◌, ◌∷◌, [], All, Err, IfSome, List, MatchOption, None, Ok, OnOk, Some};
 ghost use Rattle.schema.specs.UpdateData.{update_data};
 ghost use Rattle.script_lines.specs.Commands.{Said};
-ghost use Rattle.script_lines.specs.Reading.{Reads};
+ghost use Rattle.script_words.specs.Reading.{Reads};
 ghost use Rattle.script_lines.specs.ReadingBack.{IsSaid, ReadsBack, script_text};
 ghost use Rattle.script_lines.specs.ScriptReading.{IsPlace, Place, ReadsTo, place};
 ghost use Rattle.script_lines.specs.Taking.{IsNodeLine, TakesAs, begun_of, number_of, taken};
-ghost use Rattle.script_lines.specs.declared.stops.Stop.TheVariants as stop_;
+ghost use Rattle.script_words.specs.declared.stops.Stop.TheVariants as stop_;
 
 use crate::line_reader::LineReader;
 use crate::lines::Line;
-use crate::stops::Stop;
 use model::Query;
 use schema::{Node, NodeId, TreeUpdate};
+use script_words::stops::Stop;
 use std::alloc::Global;
 use std::io::BufRead;
 

@@ -1,12 +1,13 @@
 //! Writing queries.
 ghost use Rattle.std.specs.Prelude.{OnOk, Some};
 ghost use Rattle.std.specs.Io.KnownBytes.{Appends};
-ghost use Rattle.script_lines.specs.Questions.{name_text, at_text, point_text, question_line, asked_line, asked_by_filter_line, hit_line, move_line, indexes_line, between_line};
+ghost use Rattle.script_lines.specs.Questions.{question_line, asked_line, asked_by_filter_line, hit_line, move_line, indexes_line, between_line};
+ghost use Rattle.script_words.specs.Parts.{name_text, at_text, point_text};
 
-use crate::called::{filter_name, move_name, side_name};
-use crate::write_parts::ShownTree;
 use model::{At, Move, NamedFilter, NodeName, Query};
 use schema::Point;
+use script_words::called::{filter_name, move_name, side_name};
+use script_words::write_parts::ShownTree;
 use std::fmt;
 use std::io::{self, Write};
 
@@ -45,7 +46,7 @@ struct ShownPoint(Point);
 impl fmt::Display for ShownPoint {
     ghost output = { λ p. Some (point_text p.0) };
 
-    #[tactic(auto, unfolding(crate::specs::Questions::point_text))]
+    #[tactic(auto, unfolding(script_words::specs::Parts::point_text))]
     fn fmt<W: fmt::Write>(&self, f: &mut fmt::Formatter<W>) -> fmt::Result {
         let x = self.0.x;
         let y = self.0.y;

@@ -2,18 +2,18 @@
 ghost use Rattle.std.specs.Prelude.{◌≡◌, IfErr, IfOk, OnErr, OnOk, flat_map};
 ghost use Rattle.std.specs.Io.KnownBytes.{Appends};
 ghost use Rattle.schema.specs.UpdateData.{info_data, update_data};
-ghost use Rattle.script_lines.specs.Lines.{AppendsBeginning, StopsWriting, command_lines, entry_line, host_line, info_text, update_head, update_lines};
-ghost use Rattle.script_lines.specs.NodeText.{node_line};
+ghost use Rattle.script_lines.specs.Lines.{AppendsBeginning, command_lines, entry_line, host_line, info_text, update_head, update_lines};
+ghost use Rattle.script_nodes.specs.NodeText.{StopsWriting, node_line};
 ghost use Rattle.script_lines.specs.Questions.{question_line};
-ghost use Rattle.script_lines.specs.declared.stops.Stop.TheVariants as stop_;
+ghost use Rattle.script_words.specs.declared.stops.Stop.TheVariants as stop_;
 
 use crate::reader::ScriptCommand;
-use crate::stops::Stop;
-use crate::write_node::write_node;
-use crate::write_parts::{ShownTree, write_quoted_field};
 use crate::write_questions::write_question;
 use model::Query;
 use schema::{Node, NodeId, TreeInfo, TreeUpdate};
+use script_nodes::write_node;
+use script_words::stops::Stop;
+use script_words::write_parts::{ShownTree, write_quoted_field};
 use std::alloc::Global;
 use std::io::{self, ErrorKind, Write};
 

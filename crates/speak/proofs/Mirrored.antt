@@ -7,6 +7,7 @@ use Rattle.model.specs.Mirror.{Records, AreRecordsOf, MirrorsWhileKept}
 use Rattle.model.specs.World.{World}
 use Rattle.model.proofs.Mirror.KeptRecords.{kept_records_follow_run}
 use Rattle.model.proofs.Run.Runs.{runs_one}
+use Rattle.script_words.specs.declared.stops.Stop.{Stop}
 use Rattle.session.specs.declared.commands.Command.{Command}
 use Rattle.session.specs.declared.commands.Reply.{Reply}
 use Rattle.session.specs.Replied.{command_said, reply_said, IsStep}
@@ -29,5 +30,5 @@ follows w v c told (Ok reply) (Some r) n step heard held = kept_records_follow_r
 follows w v c told (Err wanting) (Some r) n step heard held = kept_as_it_was w v r n told step.0 step.1 held heard
 
 -- a mirror that had the records of the session's tree has them after a step, while it keeps anything
-pub mirror_follows : (w v : World) (c : Command) (s t : Speaker × Option Records) → StepsHeard w c v s t → IsSomeAnd s.1 (AreRecordsOf w) → IfSome t.1 (AreRecordsOf v)
-mirror_follows w v c s t h held = follows w v c h.events h.reply s.1 t.1 h.step (second_told s t h.events h.heard) held
+pub mirror_follows : (w v : World) (c : Command) (s t : Speaker × Option Records) (result : Result Unit Stop) → StepsHeard w c v s t result → IsSomeAnd s.1 (AreRecordsOf w) → IfSome t.1 (AreRecordsOf v)
+mirror_follows w v c s t result h held = follows w v c h.events h.reply s.1 t.1 h.step (second_told s t h.events h.told) held

@@ -1,14 +1,13 @@
 -- The events of a step that a speaker and its mirror receive, and what is written of the step.
-use Rattle.std.specs.Prelude.{◌≡◌, ℕ, List, [], false, Option, Some, option_map, Result}
+use Rattle.std.specs.Prelude.{◌≡◌, ℕ, List, [], false, Option, Some, option_map, Result, Ok}
 use Rattle.std.specs.Io.KnownBytes.{Appends}
-use Rattle.std.specs.declared.alloc.AllocError.{AllocError}
+use Rattle.atree_script.specs.Playing.{RunsTold}
 use Rattle.model.specs.declared.FullNodeId.{FullNodeId}
-use Rattle.model.specs.Events.{Event, Told}
+use Rattle.model.specs.Events.{Event}
 use Rattle.model.specs.Mirror.{Records, MirrorsWhileKept}
 use Rattle.model.specs.World.{World}
+use Rattle.script_words.specs.declared.stops.Stop.{Stop}
 use Rattle.session.specs.declared.commands.Command.{Command}
-use Rattle.session.specs.declared.commands.Reply.{Reply}
-use Rattle.session.specs.Replied.{IsStep}
 use Rattle.speaking.specs.declared.speaker.Speaker.{Speaker}
 use Rattle.speaking.specs.Edits.{Settles}
 use Rattle.speaking.specs.Events.{Begins, Speaks}
@@ -26,12 +25,9 @@ pub record IsBegun (w : World) (t : Speaker) : Type 0 where
 abbrev pub Hears : Speaker × Option Records → Event → Speaker × Option Records → Type 0
 Hears s e t = Speaks s.0 e t.0 × MirrorsWhileKept s.1 e t.1
 
--- the command takes a step of the session, and both receive its events in order, and no others
-pub record StepsHeard (old : World) (c : Command) (new : World) (s t : Speaker × Option Records) : Type 0 where
-  pub events : List Event
-  pub reply : Result Reply AllocError
-  pub step : IsStep old c new events reply
-  pub heard : Told Hears s events t
+-- the command takes a step of the session, both receive its events in order, and no others, and this is the result
+abbrev pub StepsHeard : World → Command → World → Speaker × Option Records → Speaker × Option Records → Result Unit Stop → Type 0
+StepsHeard old c new s t result = RunsTold Hears old c new s t result
 
 -- A step ends in this world, with the focus that the mirror has: exactly what the speaker has said since the last one, to the step's
 -- end, is written. The speaker keeps the focused text.
@@ -50,6 +46,6 @@ pub record SaysAtEnd (w : World) (m : Option Records) (s t : Speaker) (before af
 -- both receive the events of a step, and what is said of it is written
 pub record SpokenStep (old : World) (c : Command) (new : World) (s t : Speaker × Option Records) (before after : Option (List ℕ)) : Type 0 where
   pub between : Speaker × Option Records
-  pub heard : StepsHeard old c new s between
+  pub heard : StepsHeard old c new s between (Ok tt)
   pub says : SaysAtEnd new between.1 between.0 t.0 before after
   pub mirror : t.1 ≡ between.1

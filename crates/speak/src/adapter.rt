@@ -1,13 +1,13 @@
 //! Running a script with a speaker, and with a mirror that knows the focus.
-ghost use Rattle.std.specs.Prelude.{◌≡◌, ◌≤◌, ◌≢◌, IfSome, IsSomeAnd, IfOk, OnOk};
+ghost use Rattle.std.specs.Prelude.{◌≡◌, ◌≤◌, ◌≢◌, IfSome, IsSomeAnd, IfOk, OnOk, ⊤};
 ghost use Rattle.model.specs.Mirror.{AreRecordsOf};
 ghost use Rattle.views.specs.ShownWorlds.{world_of};
 ghost use Rattle.speak.specs.Steps.{IsBegun, StepsHeard, SaysAtEnd, SpokenStep};
 
 use accesskit_consumer::StateRef;
 use accesskit_consumer::tree::{Mirror, UpdateError};
-use atree_script::{Player, Program, Stop, end_run, play};
-use session::{Command, Reply, Session};
+use atree_script::{Player, Program, Stop, end_run, play, run_told, stopped_by};
+use session::{Command, Query, Session};
 use speaking::Speaker;
 use std::alloc::Global;
 use std::io::{BufRead, Write};
@@ -60,6 +60,8 @@ struct Adapter<'a, O> {
 }
 
 impl<'a, O: Write> Player for Adapter<'a, O> {
+    ghost turns = { λ _ _ _ _. ⊤ };
+
     fn begin(&mut self, session: &Session) -> Result<(), Stop> {
         let mut told = begun(self.alloc, session)?;
         let written = write_said(&mut told, session.tree().state().view(), self.output);
@@ -67,11 +69,24 @@ impl<'a, O: Write> Player for Adapter<'a, O> {
         written
     }
 
+    /// An update that runs out of memory ends the run, since what it would have said is lost.
+    fn refuse(&mut self, refusal: UpdateError) -> Result<(), Stop> {
+        stopped_by(refusal)
+    }
+
     fn run(&mut self, session: &mut Session, command: Command) -> Result<(), Stop> {
         match &mut self.told {
             Some(told) => speak_step(session, command, told, self.output),
             None => Ok(()),
         }
+    }
+
+    fn ask(&mut self, _session: &mut Option<Session>, _query: Query) -> Result<(), Stop> {
+        Ok(())
+    }
+
+    fn print(&mut self, _session: &Option<Session>) -> Result<(), Stop> {
+        Ok(())
     }
 }
 
@@ -105,13 +120,10 @@ fn speak_step<O: Write>(
 /// Runs a command, whose events the speaker and the mirror receive. A mirror that matches the session's tree before
 /// matches it afterwards, unless one of its allocations fails.
 fn step(session: &mut Session, command: Command, told: &mut (Speaker, Mirror)) -> Result<(), Stop>
-    ensures heard { StepsHeard session.old command session.new told.old told.new }
+    ensures heard { StepsHeard session.old command session.new told.old told.new result }
     ensures mirrored { IsSomeAnd told.old.1 (AreRecordsOf session.old) → IfSome told.new.1 (AreRecordsOf session.new) }
 {
-    match session.step(command, told)? {
-        Reply::Refused(UpdateError::Memory) => Err(Stop::Memory),
-        _ => Ok(()),
-    }
+    run_told(session, command, told)
 }
 
 /// Ends a step of the speaker and writes what was said. If an allocation failed, what was said before that is written,

@@ -1,9 +1,9 @@
 use Rattle.std.proofs.Common.{◌≡◌, List, ℕ, ◌++◌, codes, Option, Some, None, true≢false, ap, ◌∙◌}
 use Rattle.script_lines.specs.LineReading.{IsLineWord, host_word}
 use Rattle.script_lines.specs.Lines.{head_args}
-use Rattle.script_lines.specs.NodeReading.{node_args}
+use Rattle.script_nodes.specs.NodeReading.{node_args}
 use Rattle.script_lines.specs.Questions.{question_args, question_word}
-use Rattle.script_lines.specs.Reading.{after}
+use Rattle.script_words.specs.Reading.{after}
 use Rattle.script_lines.proofs.LineWords.{update_is_line_word, node_is_line_word, end_is_line_word, host_is_line_word, print_is_line_word, question_is_line_word, host_line_parts, node_line_parts}
 use Rattle.script_lines.proofs.lines.read_line.Goals as goal
 

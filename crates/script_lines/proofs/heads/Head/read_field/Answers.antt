@@ -1,6 +1,6 @@
 use Rattle.std.proofs.Common.{rules, ◌++◌}
 use Rattle.script_lines.specs.LineReading.{head_name, head_value}
-use Rattle.script_lines.specs.Reading.{after}
+use Rattle.script_words.specs.Reading.{after}
 use Rattle.script_lines.proofs.HeadFields.{head_name_is_field_name, begins_value}
 use Rattle.script_lines.proofs.heads.Head.read_field.Goals as goal
 

@@ -1,6 +1,6 @@
 use Rattle.std.proofs.Common.{rules, ◌≡◌, List, [], ◌∷◌, option_copied, subst, ap, sym, ◌∙◌}
 use Rattle.script_lines.specs.LineReading.{HeadField, AreFree, head_data, rest_text, with_head_fields}
-use Rattle.script_lines.specs.Reading.{Reads}
+use Rattle.script_words.specs.Reading.{Reads}
 use Rattle.script_lines.proofs.HeadFields.{some_left, none_left}
 use Rattle.script_lines.proofs.heads.Head.read_fields.Goals as goal
 

@@ -1,6 +1,6 @@
 use Rattle.std.proofs.Common.{◌≡◌, List, option_copied}
 use Rattle.script_lines.specs.LineReading.{HeadField, AreFree, head_data, rest_text, with_head_fields}
-use Rattle.script_lines.specs.Words.{left}
+use Rattle.script_words.specs.Words.{left}
 use Rattle.script_lines.proofs.heads.Head.read_fields.Given as goal
 
 -- of fields that stand in the line some are left, and with these the head is what it is with all

@@ -5,8 +5,8 @@ use Rattle.script_lines.specs.declared.line_reader.LineReader.{LineReader}
 use Rattle.script_lines.specs.declared.lines.Line.{Line}
 use Rattle.script_lines.specs.declared.reader.ScriptCommand.{ScriptCommand}
 use Rattle.script_lines.specs.declared.reader.ScriptReader.{ScriptReader}
-use Rattle.script_lines.specs.declared.stops.Stop.{Stop}
-use Rattle.script_lines.specs.declared.stops.Stop.TheVariants.{ReadFault}
+use Rattle.script_words.specs.declared.stops.Stop.{Stop}
+use Rattle.script_words.specs.declared.stops.Stop.TheVariants.{ReadFault}
 use Rattle.script_lines.proofs.Places.{Answers, at_first, ended, err_is, gave, given_up, refused, stopped_at, took, went_on}
 use Rattle.script_lines.proofs.ReadingBack.{reads_back}
 use Rattle.script_lines.proofs.reader.ScriptReader.next_command.Goals as goal

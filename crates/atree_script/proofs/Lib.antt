@@ -1,0 +1,5 @@
+pub mod Inputs
+pub mod Printing
+pub mod Stepping
+pub mod Plays
+pub mod TreeLines

@@ -1,7 +1,0 @@
-use Rattle.script_lines.specs.Reading.{IsShort}
-use Rattle.script_lines.specs.Says.{SaysNumber}
-use Rattle.script_lines.proofs.Numerals.{said_of_read}
-use Rattle.script_lines.proofs.items.U16Item.item.Goals as goal
-
-pub returns-clause-only : goal.returns-clause-only
-returns-clause-only c = said_of_read (λ n. IsShort n × SaysNumber c.args.word.now n) c.short.result c.short.ensures.exact

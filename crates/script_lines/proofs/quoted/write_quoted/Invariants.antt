@@ -1,9 +1,0 @@
-use Rattle.std.proofs.Common.{take, flat_map}
-use Rattle.std.specs.Io.KnownBytes.{Appends}
-use Rattle.script_lines.specs.Quoted.{quoted_byte}
-use Rattle.script_lines.proofs.quoted.write_quoted.Given as goal
-
--- the bytes so far are written
-abbrev pub invariant-loop-byte : goal.invariant-loop-byte
-invariant-loop-byte g l =
-    Appends (g.O.Write.contents l.fn.out) (g.O.Write.contents l.out) (flat_map quoted_byte (take l.byte-index l.fn.text))

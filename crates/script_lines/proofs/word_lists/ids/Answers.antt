@@ -1,4 +1,0 @@
-use Rattle.script_lines.proofs.word_lists.ids.Goals as goal
-
-pub returns : goal.returns
-returns c = record { reads = c.items.ensures.reads; only = c.items.ensures.only }

@@ -1,0 +1,11 @@
+pub mod ActionSets
+pub mod ActionSteps
+pub mod Pieces
+pub mod FieldTails
+pub mod FieldSteps
+pub mod FieldsLeftOut
+pub mod NodeLoop
+pub mod GivenValues
+pub mod FieldNames
+pub mod NodeLines
+pub mod NodeFits

@@ -1,0 +1,4 @@
+pub mod FieldKinds
+pub mod NodeText
+pub mod NodeReading
+pub mod ActionLists

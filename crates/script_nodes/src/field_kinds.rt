@@ -1,0 +1,282 @@
+//! The fields of a node by the kinds of their values, and their names in a line.
+
+ghost use Rattle.std.specs.Prelude.{MatchOption, map, ◌≡◌, ◌≢◌};
+ghost use Rattle.script_nodes.specs.declared.field_kinds.Field.{Field};
+ghost use Rattle.script_nodes.specs.FieldKinds.{field_name};
+ghost use Rattle.script_nodes.specs.NodeText.{all_fields};
+
+use script_words::names::named;
+
+/// A list of nodes.
+#[derive(Clone, Copy)]
+pub(crate) enum IdsField {
+    Children,
+    LabelledBy,
+    Controls,
+}
+
+/// A node.
+#[derive(Clone, Copy)]
+pub(crate) enum IdField {
+    ActiveDescendant,
+    PreviousOnLine,
+    NextOnLine,
+}
+
+/// A text in quotes.
+#[derive(Clone, Copy)]
+pub(crate) enum TextField {
+    Label,
+    Value,
+    Description,
+    Placeholder,
+    RoleDescription,
+    Url,
+    AuthorId,
+    HtmlId,
+    ClassName,
+    BrailleLabel,
+    BrailleRoleDescription,
+    ColumnIndexText,
+    RowIndexText,
+    FontFamily,
+    Language,
+}
+
+/// A flag, which has no value.
+#[derive(Clone, Copy)]
+pub(crate) enum FlagField {
+    Hidden,
+    ClipsChildren,
+    Disabled,
+    ReadOnly,
+    Required,
+    Modal,
+    Busy,
+    Multiselectable,
+    Italic,
+    LiveAtomic,
+    TouchTransparent,
+}
+
+/// A list of numbers of a text run.
+#[derive(Clone, Copy)]
+pub(crate) enum NumbersField {
+    CharacterLengths,
+    WordStarts,
+}
+
+/// An optional list of numbers of a text run, in units of 1/64 pixel.
+#[derive(Clone, Copy)]
+pub(crate) enum UnitsField {
+    CharacterPositions,
+    CharacterWidths,
+}
+
+/// A flag that may be unset.
+#[derive(Clone, Copy)]
+pub(crate) enum BoolField {
+    Expanded,
+    Selected,
+}
+
+/// A colour.
+#[derive(Clone, Copy)]
+pub(crate) enum ColorField {
+    Background,
+    Foreground,
+}
+
+/// A line above, through or below text.
+#[derive(Clone, Copy)]
+pub(crate) enum DecorationField {
+    Overline,
+    Strikethrough,
+    Underline,
+}
+
+/// A number, with a minus sign if it is negative.
+#[derive(Clone, Copy)]
+pub(crate) enum NumberField {
+    NumericValue,
+    MinNumericValue,
+    MaxNumericValue,
+    NumericValueStep,
+    NumericValueJump,
+    ScrollX,
+    ScrollXMin,
+    ScrollXMax,
+    ScrollY,
+    ScrollYMin,
+    ScrollYMax,
+}
+
+/// A count.
+#[derive(Clone, Copy)]
+pub(crate) enum CountField {
+    Level,
+    SizeOfSet,
+    PositionInSet,
+}
+
+/// A set of actions.
+#[derive(Clone, Copy)]
+pub(crate) enum ActionsField {
+    Own,
+    Children,
+}
+
+/// A field of a node.
+#[derive(Clone, Copy)]
+pub(crate) enum Field {
+    Ids(IdsField),
+    Id(IdField),
+    Text(TextField),
+    Flag(FlagField),
+    Numbers(NumbersField),
+    Units(UnitsField),
+    Bool(BoolField),
+    Color(ColorField),
+    Decoration(DecorationField),
+    Number(NumberField),
+    Count(CountField),
+    Actions(ActionsField),
+    /// The tree that is grafted here.
+    Tree,
+    /// The node's rectangle.
+    Bounds,
+    /// By how much the node and its subtree are shifted.
+    Transform,
+    /// The selection in its text.
+    Selection,
+    /// The toggle state of a control.
+    Toggled,
+    /// How changes are announced.
+    Live,
+    /// Its axis.
+    Orientation,
+    /// The sort order.
+    SortDirection,
+    /// Which kind of current item the node is.
+    AriaCurrent,
+    /// The kind of popup that it opens.
+    HasPopup,
+    /// The size of a text.
+    FontSize,
+    /// The weight of a text.
+    FontWeight,
+    /// The direction of a text.
+    TextDirection,
+    /// How a text is aligned.
+    TextAlign,
+    /// Whether text is superscript or subscript.
+    VerticalOffset,
+}
+
+/// The table that [`named_fields`] returns.
+static FIELD_NAMES: [(&str, Field); 74] = [
+    ("children", Field::Ids(IdsField::Children)),
+    ("labelled", Field::Ids(IdsField::LabelledBy)),
+    ("controls", Field::Ids(IdsField::Controls)),
+    ("tree", Field::Tree),
+    ("active", Field::Id(IdField::ActiveDescendant)),
+    ("label", Field::Text(TextField::Label)),
+    ("value", Field::Text(TextField::Value)),
+    ("description", Field::Text(TextField::Description)),
+    ("placeholder", Field::Text(TextField::Placeholder)),
+    ("role_description", Field::Text(TextField::RoleDescription)),
+    ("url", Field::Text(TextField::Url)),
+    ("author_id", Field::Text(TextField::AuthorId)),
+    ("html_id", Field::Text(TextField::HtmlId)),
+    ("class_name", Field::Text(TextField::ClassName)),
+    ("braille_label", Field::Text(TextField::BrailleLabel)),
+    (
+        "braille_role_description",
+        Field::Text(TextField::BrailleRoleDescription),
+    ),
+    ("column_index_text", Field::Text(TextField::ColumnIndexText)),
+    ("row_index_text", Field::Text(TextField::RowIndexText)),
+    ("font_family", Field::Text(TextField::FontFamily)),
+    ("language", Field::Text(TextField::Language)),
+    ("hidden", Field::Flag(FlagField::Hidden)),
+    ("clips", Field::Flag(FlagField::ClipsChildren)),
+    ("disabled", Field::Flag(FlagField::Disabled)),
+    ("read_only", Field::Flag(FlagField::ReadOnly)),
+    ("required", Field::Flag(FlagField::Required)),
+    ("modal", Field::Flag(FlagField::Modal)),
+    ("busy", Field::Flag(FlagField::Busy)),
+    ("multiselectable", Field::Flag(FlagField::Multiselectable)),
+    ("italic", Field::Flag(FlagField::Italic)),
+    ("live_atomic", Field::Flag(FlagField::LiveAtomic)),
+    (
+        "touch_transparent",
+        Field::Flag(FlagField::TouchTransparent),
+    ),
+    ("bounds", Field::Bounds),
+    ("move", Field::Transform),
+    ("selection", Field::Selection),
+    ("chars", Field::Numbers(NumbersField::CharacterLengths)),
+    ("words", Field::Numbers(NumbersField::WordStarts)),
+    (
+        "character_positions",
+        Field::Units(UnitsField::CharacterPositions),
+    ),
+    (
+        "character_widths",
+        Field::Units(UnitsField::CharacterWidths),
+    ),
+    ("prev", Field::Id(IdField::PreviousOnLine)),
+    ("next", Field::Id(IdField::NextOnLine)),
+    ("toggled", Field::Toggled),
+    ("expanded", Field::Bool(BoolField::Expanded)),
+    ("selected", Field::Bool(BoolField::Selected)),
+    ("live", Field::Live),
+    ("orientation", Field::Orientation),
+    ("sort_direction", Field::SortDirection),
+    ("aria_current", Field::AriaCurrent),
+    ("has_popup", Field::HasPopup),
+    ("font_size", Field::FontSize),
+    ("font_weight", Field::FontWeight),
+    ("background_color", Field::Color(ColorField::Background)),
+    ("foreground_color", Field::Color(ColorField::Foreground)),
+    ("overline", Field::Decoration(DecorationField::Overline)),
+    (
+        "strikethrough",
+        Field::Decoration(DecorationField::Strikethrough),
+    ),
+    ("underline", Field::Decoration(DecorationField::Underline)),
+    ("text_direction", Field::TextDirection),
+    ("text_align", Field::TextAlign),
+    ("vertical_offset", Field::VerticalOffset),
+    ("number", Field::Number(NumberField::NumericValue)),
+    ("min", Field::Number(NumberField::MinNumericValue)),
+    ("max", Field::Number(NumberField::MaxNumericValue)),
+    ("step", Field::Number(NumberField::NumericValueStep)),
+    ("jump", Field::Number(NumberField::NumericValueJump)),
+    ("level", Field::Count(CountField::Level)),
+    ("set_size", Field::Count(CountField::SizeOfSet)),
+    ("position", Field::Count(CountField::PositionInSet)),
+    ("scroll_x", Field::Number(NumberField::ScrollX)),
+    ("scroll_x_min", Field::Number(NumberField::ScrollXMin)),
+    ("scroll_x_max", Field::Number(NumberField::ScrollXMax)),
+    ("scroll_y", Field::Number(NumberField::ScrollY)),
+    ("scroll_y_min", Field::Number(NumberField::ScrollYMin)),
+    ("scroll_y_max", Field::Number(NumberField::ScrollYMax)),
+    ("actions", Field::Actions(ActionsField::Own)),
+    ("child_actions", Field::Actions(ActionsField::Children)),
+];
+
+/// Each field with its name, in the order in which fields are written.
+pub(crate) fn named_fields() -> &'static [(&'static str, Field)]
+    ensures names { map (λ entry. entry.0.now) result.now ≡ map (λ entry. field_name entry.1) result.now }
+    ensures fields { map (λ entry. entry.1) result.now ≡ all_fields }
+{
+    &FIELD_NAMES
+}
+
+/// The field with this name.
+pub(crate) fn field_named(name: &str) -> Option<Field>
+    ensures { MatchOption result ((field : Field) → name.now ≢ field_name field) (λ field. name.now ≡ field_name field) }
+{
+    named(named_fields(), name)
+}

@@ -1,0 +1,16 @@
+//! The line of a node in a script: reads its fields by the kinds of their values, and writes them in one order.
+#![tactic(auto)]
+
+mod action_sets;
+mod field_kinds;
+mod fields;
+mod fits;
+mod kind_values;
+mod node_fields;
+mod node_lines;
+mod node_writer;
+mod single_values;
+
+pub use fits::{action_set_gains, new_node_has_action_sets, node_fits};
+pub use node_lines::node_line;
+pub use node_writer::write_node;

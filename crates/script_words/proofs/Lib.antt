@@ -1,0 +1,16 @@
+pub mod ActionNames
+pub mod Enclosed
+pub mod Decimals
+pub mod Numerals
+pub mod Cuts
+pub mod TreeNames
+pub mod Lacking
+pub mod NamedWords
+pub mod CommaWords
+pub mod RoleWords
+pub mod CommaLists
+pub mod QuotedTexts
+pub mod Stopped
+pub mod LineTexts
+pub mod NameLines
+pub mod ValueLines

@@ -1,0 +1,302 @@
+-- The names of roles are words, and a role's name in the table stands beside that role alone.
+use Rattle.std.proofs.Common.{◌≡◌, ℕ, ◌<◌, ◌≤◌, ◌+◌, List, [], ◌∷◌, ◌++◌, length, drop, map, codes, slice_index_or, Bool, true, false, true≢false, is_none, MatchOption, subst, if◌then◌else◌, Option, Some, None, Bor, ◌⊎◌, inl, inr, ⊎_elim, refl, ap, ap₂, eq-eqb, sym, ◌∙◌, arith}
+use Rattle.std.specs.Fmt.{decimal}
+use Rattle.std.specs.List.{range_with_len, list_all}
+use Rattle.std.specs.Str.{bytes_eq}
+use Rattle.std.proofs.lemmas.Bool.{and_parts, cases_Bool, cond-true, cond-false}
+use Rattle.std.proofs.lemmas.List.{drop_more}
+use Rattle.std.proofs.lemmas.Option.{none-some, same_Some}
+use Rattle.std.proofs.lemmas.Slice.Eq.{bytes_eq-Decides}
+use Rattle.std.proofs.Math.ListN.{drop_of_length-le}
+use Rattle.std.proofs.lemmas.Simd.{map-map}
+use Rattle.schema.specs.declared.Role.{Role}
+use Rattle.schema.specs.declared.Role.TheVariants as role
+use Rattle.schema.specs.RoleNames.{role_name, role_text, other_number, with_number}
+use Rattle.schema.specs.Roles.{role_number, same_role-decides}
+use Rattle.script_words.specs.NamedIn.{named_in}
+use Rattle.script_words.specs.Reading.{IsRole, IsShort, IsWord}
+use Rattle.script_words.specs.Says.{SaysOther, SaysRole}
+use Rattle.script_words.proofs.Decimals.{decimal_lacks}
+use Rattle.script_words.proofs.Lacking.{lacks_append, lacks_by}
+
+-- ---- what stands beside a word in a table, from an index on
+
+pub named_at : {T : Type 0} (word : List ℕ) (table : List (Bor (List ℕ) × T)) (i : ℕ) (entry : Bor (List ℕ) × T) → i < length table → entry ≡ slice_index_or table i entry → named_in word (drop i table) ≡ named_in word (entry ∷ drop (i + 1) table)
+named_at word table i entry low is = ap (named_in word) (drop_more table i entry low ∙ ap (λ e. e ∷ drop (i + 1) table) (sym is))
+
+pub named_here : {T : Type 0} (word : List ℕ) (table : List (Bor (List ℕ) × T)) (i : ℕ) (entry : Bor (List ℕ) × T) → i < length table → entry ≡ slice_index_or table i entry → bytes_eq entry.0.now word ≡ true → named_in word (drop i table) ≡ Some entry.1
+unfolding named_in
+named_here word table i entry low is e = named_at word table i entry low is ∙ cond-true _ _ _ e
+
+pub named_later : {T : Type 0} (word : List ℕ) (table : List (Bor (List ℕ) × T)) (i : ℕ) (entry : Bor (List ℕ) × T) → i < length table → entry ≡ slice_index_or table i entry → bytes_eq entry.0.now word ≡ false → named_in word (drop i table) ≡ named_in word (drop (i + 1) table)
+unfolding named_in
+named_later word table i entry low is e = named_at word table i entry low is ∙ cond-false _ _ _ e
+
+pub named_nowhere : {T : Type 0} (word : List ℕ) (table : List (Bor (List ℕ) × T)) (i : ℕ) → length table ≤ i → named_in word (drop i table) ≡ None
+unfolding named_in
+named_nowhere word table i high = ap (named_in word) (drop_of_length-le table high)
+
+-- ---- the roles by their names
+
+-- each role that has a name
+unfoldable pub all_roles : List Role
+all_roles =
+    role.Unknown ∷ role.Window ∷ role.ScrollView ∷ role.Paragraph ∷ role.GenericContainer ∷ role.TextRun ∷ role.Label ∷
+    role.Image ∷ role.Document ∷ role.Terminal ∷ role.TextInput ∷ role.MultilineTextInput ∷ role.SearchInput ∷
+    role.DateInput ∷ role.DateTimeInput ∷ role.WeekInput ∷ role.MonthInput ∷ role.TimeInput ∷ role.EmailInput ∷
+    role.NumberInput ∷ role.PasswordInput ∷ role.PhoneNumberInput ∷ role.UrlInput ∷ role.EditableComboBox ∷
+    role.SpinButton ∷ role.ListBox ∷ role.TabList ∷ role.AlertDialog ∷ role.Dialog ∷ role.ComboBox ∷
+    role.DisclosureTriangle ∷ role.TreeItem ∷ role.Button ∷ role.CheckBox ∷ role.DefaultButton ∷ role.Link ∷
+    role.MenuItem ∷ role.MenuItemCheckBox ∷ role.MenuItemRadio ∷ role.RadioButton ∷ role.DocBackLink ∷
+    role.DocBiblioRef ∷ role.DocGlossRef ∷ role.DocNoteRef ∷ role.ColorWell ∷ role.Grid ∷ role.MenuListPopup ∷
+    role.RadioGroup ∷ role.Slider ∷ role.Switch ∷ role.TreeGrid ∷ role.Article ∷ role.Definition ∷
+    role.DescriptionList ∷ role.GraphicsDocument ∷ role.List ∷ role.ListItem ∷ role.PdfRoot ∷ role.ProgressIndicator ∷
+    role.RootWebArea ∷ role.Term ∷ role.Timer ∷ role.Toolbar ∷ role.Tooltip ∷ role.Comment ∷ role.Tab ∷
+    role.ListBoxOption ∷ role.MenuListOption ∷ role.ListGrid ∷ role.Menu ∷ role.MenuBar ∷ role.Tree ∷ []
+
+-- the first of them that is called so
+unfoldable pub role_by : List ℕ → List Role → Option Role
+role_by word [] = None
+role_by word (r ∷ others) = if bytes_eq (role_name r) word then Some r else role_by word others
+
+names_by_role : (word : List ℕ) (table : List (Bor (List ℕ) × Role)) → map (λ e. e.0.now) table ≡ map (λ e. role_name e.1) table → named_in word table ≡ role_by word (map (λ e. e.1) table)
+unfolding named_in role_by
+names_by_role word [] names = refl
+names_by_role word (entry ∷ others) names = let first : entry.0.now ≡ role_name entry.1 = cc in let rest : map (λ e. e.0.now) others ≡ map (λ e. role_name e.1) others = cc in
+    rw first (ap (λ t. if bytes_eq (role_name entry.1) word then Some entry.1 else t) (names_by_role word others rest))
+
+same_numbers : (xs ys : List Role) → map role_number xs ≡ map role_number ys → xs ≡ ys
+same_numbers [] [] e = refl
+same_numbers [] (y ∷ ys) e = cc
+same_numbers (x ∷ xs) [] e = cc
+same_numbers (x ∷ xs) (y ∷ ys) e =
+    let first : role_number x ≡ role_number y = cc in let rest : map role_number xs ≡ map role_number ys = cc in
+    ap₂ (λ r rs. r ∷ rs) ((same_role-decides x y).0 (eq-eqb (role_number x) (role_number y) first)) (same_numbers xs ys rest)
+
+-- a role is found by its name; an other one by none
+pub role_found : (r : Role) → (role_by (role_text r) all_roles ≡ Some r) ⊎ ((n : ℕ) × (r ≡ role.Other n) × (role_by (role_text r) all_roles ≡ None))
+unfolding role_by all_roles
+role_found role.Unknown = inl refl
+role_found role.Window = inl refl
+role_found role.ScrollView = inl refl
+role_found role.Paragraph = inl refl
+role_found role.GenericContainer = inl refl
+role_found role.TextRun = inl refl
+role_found role.Label = inl refl
+role_found role.Image = inl refl
+role_found role.Document = inl refl
+role_found role.Terminal = inl refl
+role_found role.TextInput = inl refl
+role_found role.MultilineTextInput = inl refl
+role_found role.SearchInput = inl refl
+role_found role.DateInput = inl refl
+role_found role.DateTimeInput = inl refl
+role_found role.WeekInput = inl refl
+role_found role.MonthInput = inl refl
+role_found role.TimeInput = inl refl
+role_found role.EmailInput = inl refl
+role_found role.NumberInput = inl refl
+role_found role.PasswordInput = inl refl
+role_found role.PhoneNumberInput = inl refl
+role_found role.UrlInput = inl refl
+role_found role.EditableComboBox = inl refl
+role_found role.SpinButton = inl refl
+role_found role.ListBox = inl refl
+role_found role.TabList = inl refl
+role_found role.AlertDialog = inl refl
+role_found role.Dialog = inl refl
+role_found role.ComboBox = inl refl
+role_found role.DisclosureTriangle = inl refl
+role_found role.TreeItem = inl refl
+role_found role.Button = inl refl
+role_found role.CheckBox = inl refl
+role_found role.DefaultButton = inl refl
+role_found role.Link = inl refl
+role_found role.MenuItem = inl refl
+role_found role.MenuItemCheckBox = inl refl
+role_found role.MenuItemRadio = inl refl
+role_found role.RadioButton = inl refl
+role_found role.DocBackLink = inl refl
+role_found role.DocBiblioRef = inl refl
+role_found role.DocGlossRef = inl refl
+role_found role.DocNoteRef = inl refl
+role_found role.ColorWell = inl refl
+role_found role.Grid = inl refl
+role_found role.MenuListPopup = inl refl
+role_found role.RadioGroup = inl refl
+role_found role.Slider = inl refl
+role_found role.Switch = inl refl
+role_found role.TreeGrid = inl refl
+role_found role.Article = inl refl
+role_found role.Definition = inl refl
+role_found role.DescriptionList = inl refl
+role_found role.GraphicsDocument = inl refl
+role_found role.List = inl refl
+role_found role.ListItem = inl refl
+role_found role.PdfRoot = inl refl
+role_found role.ProgressIndicator = inl refl
+role_found role.RootWebArea = inl refl
+role_found role.Term = inl refl
+role_found role.Timer = inl refl
+role_found role.Toolbar = inl refl
+role_found role.Tooltip = inl refl
+role_found role.Comment = inl refl
+role_found role.Tab = inl refl
+role_found role.ListBoxOption = inl refl
+role_found role.MenuListOption = inl refl
+role_found role.ListGrid = inl refl
+role_found role.Menu = inl refl
+role_found role.MenuBar = inl refl
+role_found role.Tree = inl refl
+role_found (role.Other n) = inr (n, refl, refl)
+
+pub role_in_table : (table : List (Bor (List ℕ) × Role)) → map (λ e. e.0.now) table ≡ map (λ e. role_name e.1) table → map (λ e. role_number e.1) table ≡ range_with_len 0 72 → (r : Role) → (named_in (role_text r) table ≡ Some r) ⊎ ((n : ℕ) × (r ≡ role.Other n) × (named_in (role_text r) table ≡ None))
+unfolding all_roles
+role_in_table table names roles r =
+    let all : map (λ e. e.1) table ≡ all_roles = same_numbers (map (λ e. e.1) table) all_roles (map-map role_number (λ e. e.1) table ∙ roles) in
+    let by : named_in (role_text r) table ≡ role_by (role_text r) all_roles = names_by_role (role_text r) table names ∙ ap (role_by (role_text r)) all in
+    ⊎_elim (λ e. inl (by ∙ e)) (λ k. inr (k.0, k.1, by ∙ k.2)) (role_found r)
+
+-- ---- which role a word says
+
+-- whether a role has no number
+plain : Role → Bool
+plain r = is_none (other_number r)
+
+no_number : (o : Option ℕ) → is_none o ≡ true → o ≡ None
+no_number None t = refl
+no_number (Some n) t = absurd (true≢false (sym t))
+
+-- a role that is found is called so
+role_by_called : (word : List ℕ) (rs : List Role) (r : Role) → list_all plain rs ≡ true → role_by word rs ≡ Some r → (word ≡ role_name r) × (plain r ≡ true)
+unfolding role_by
+role_by_called word [] r all e = absurd (none-some r e)
+role_by_called word (x ∷ rs) r all e =
+    let k = and_parts (plain x) (list_all plain rs) all in
+    ⊎_elim
+    (λ t. let same : x ≡ r = same_Some x r (sym (cond-true _ _ _ t) ∙ e) in (sym ((bytes_eq-Decides (role_name x) word).0 t) ∙ ap role_name same, ap plain (sym same) ∙ k.0))
+    (λ f. role_by_called word rs r k.1 (sym (cond-false _ _ _ f) ∙ e))
+    (cases_Bool (bytes_eq (role_name x) word))
+
+all_plain : list_all plain all_roles ≡ true
+unfolding plain all_roles
+all_plain = refl
+
+plain_is_role : (r : Role) → plain r ≡ true → IsRole r
+unfolding plain
+plain_is_role r t code e = absurd (true≢false (sym t ∙ ap (λ r. is_none (other_number r)) e))
+
+plain_says : (word : List ℕ) (r : Role) → plain r ≡ true → word ≡ role_name r → SaysRole word r
+unfolding plain
+plain_says word r t e = subst (λ o. MatchOption o (word ≡ role_name r) (SaysOther word)) (sym (no_number (other_number r) t)) e
+
+pub other_is_role : (n : ℕ) → IsShort n → IsRole (role.Other n)
+other_is_role n h code e = let same : n ≡ code = cc in subst IsShort same h
+
+-- no name in the table has a number in brackets
+other_not_by_name : (digits : List ℕ) → role_by (codes "Other(" ++ digits ++ codes ")") all_roles ≡ None
+unfolding role_by all_roles
+other_not_by_name digits = refl
+
+-- the name of a role, as it is said
+said_text : (word name : List ℕ) (o : Option ℕ) → MatchOption o (word ≡ name) (SaysOther word) → (word ≡ with_number name o) ⊎ ((n : ℕ) × (o ≡ Some n) × SaysOther word n)
+said_text word name None s = inl s
+said_text word name (Some n) s = inr (n, refl, s)
+
+module _ (table : List (Bor (List ℕ) × Role)) (names : map (λ e. e.0.now) table ≡ map (λ e. role_name e.1) table) (roles : map (λ e. role_number e.1) table ≡ range_with_len 0 72) where
+  by_name : (word : List ℕ) → named_in word table ≡ role_by word all_roles
+  unfolding all_roles
+  by_name word = names_by_role word table names ∙ ap (role_by word) (same_numbers (map (λ e. e.1) table) all_roles (map-map role_number (λ e. e.1) table ∙ roles))
+
+  -- what the table has beside a word is what the word says
+  pub table_says : (word : List ℕ) (r : Role) → named_in word table ≡ Some r → IsRole r × SaysRole word r
+  table_says word r e = let k = role_by_called word all_roles r all_plain (sym (by_name word) ∙ e) in (plain_is_role r k.1, plain_says word r k.1 k.0)
+
+  not_in_table : (word : List ℕ) (n : ℕ) → SaysOther word n → named_in word table ≡ None
+  not_in_table word n s = ap (λ w. named_in w table) s.1 ∙ by_name (codes "Other(" ++ s.0 ++ codes ")") ∙ other_not_by_name s.0
+
+  -- what a word says, the table has beside it, or it is an other role, and the table has none
+  pub said_in_table : (word : List ℕ) (r : Role) → IsRole r → SaysRole word r → (named_in word table ≡ Some r) ⊎ ((n : ℕ) × (r ≡ role.Other n) × (IsShort n × SaysOther word n) × (named_in word table ≡ None))
+  unfolding plain
+  said_in_table word r h s = ⊎_elim
+      (λ there. ⊎_elim (λ w. inl (ap (λ w. named_in w table) w ∙ there))
+      (λ k. let none = (role_by_called (role_text r) all_roles r all_plain (sym (by_name (role_text r)) ∙ there)).1 in absurd (true≢false (sym none ∙ ap is_none k.1)))
+      (said_text word (role_name r) (other_number r) s))
+      (λ k. let o : SaysOther word k.0 = subst (SaysRole word) k.1 s in inr (k.0, k.1, (h k.0 k.1, o), not_in_table word k.0 o))
+      (role_in_table table names roles r)
+
+pub role_is_word : (r : Role) → IsRole r → IsWord (role_text r)
+role_is_word role.Unknown h = (lacks_by 32 (codes "Unknown") refl, omega arith)
+role_is_word role.Window h = (lacks_by 32 (codes "Window") refl, omega arith)
+role_is_word role.ScrollView h = (lacks_by 32 (codes "ScrollView") refl, omega arith)
+role_is_word role.Paragraph h = (lacks_by 32 (codes "Paragraph") refl, omega arith)
+role_is_word role.GenericContainer h = (lacks_by 32 (codes "GenericContainer") refl, omega arith)
+role_is_word role.TextRun h = (lacks_by 32 (codes "TextRun") refl, omega arith)
+role_is_word role.Label h = (lacks_by 32 (codes "Label") refl, omega arith)
+role_is_word role.Image h = (lacks_by 32 (codes "Image") refl, omega arith)
+role_is_word role.Document h = (lacks_by 32 (codes "Document") refl, omega arith)
+role_is_word role.Terminal h = (lacks_by 32 (codes "Terminal") refl, omega arith)
+role_is_word role.TextInput h = (lacks_by 32 (codes "TextInput") refl, omega arith)
+role_is_word role.MultilineTextInput h = (lacks_by 32 (codes "MultilineTextInput") refl, omega arith)
+role_is_word role.SearchInput h = (lacks_by 32 (codes "SearchInput") refl, omega arith)
+role_is_word role.DateInput h = (lacks_by 32 (codes "DateInput") refl, omega arith)
+role_is_word role.DateTimeInput h = (lacks_by 32 (codes "DateTimeInput") refl, omega arith)
+role_is_word role.WeekInput h = (lacks_by 32 (codes "WeekInput") refl, omega arith)
+role_is_word role.MonthInput h = (lacks_by 32 (codes "MonthInput") refl, omega arith)
+role_is_word role.TimeInput h = (lacks_by 32 (codes "TimeInput") refl, omega arith)
+role_is_word role.EmailInput h = (lacks_by 32 (codes "EmailInput") refl, omega arith)
+role_is_word role.NumberInput h = (lacks_by 32 (codes "NumberInput") refl, omega arith)
+role_is_word role.PasswordInput h = (lacks_by 32 (codes "PasswordInput") refl, omega arith)
+role_is_word role.PhoneNumberInput h = (lacks_by 32 (codes "PhoneNumberInput") refl, omega arith)
+role_is_word role.UrlInput h = (lacks_by 32 (codes "UrlInput") refl, omega arith)
+role_is_word role.EditableComboBox h = (lacks_by 32 (codes "EditableComboBox") refl, omega arith)
+role_is_word role.SpinButton h = (lacks_by 32 (codes "SpinButton") refl, omega arith)
+role_is_word role.ListBox h = (lacks_by 32 (codes "ListBox") refl, omega arith)
+role_is_word role.TabList h = (lacks_by 32 (codes "TabList") refl, omega arith)
+role_is_word role.AlertDialog h = (lacks_by 32 (codes "AlertDialog") refl, omega arith)
+role_is_word role.Dialog h = (lacks_by 32 (codes "Dialog") refl, omega arith)
+role_is_word role.ComboBox h = (lacks_by 32 (codes "ComboBox") refl, omega arith)
+role_is_word role.DisclosureTriangle h = (lacks_by 32 (codes "DisclosureTriangle") refl, omega arith)
+role_is_word role.TreeItem h = (lacks_by 32 (codes "TreeItem") refl, omega arith)
+role_is_word role.Button h = (lacks_by 32 (codes "Button") refl, omega arith)
+role_is_word role.CheckBox h = (lacks_by 32 (codes "CheckBox") refl, omega arith)
+role_is_word role.DefaultButton h = (lacks_by 32 (codes "DefaultButton") refl, omega arith)
+role_is_word role.Link h = (lacks_by 32 (codes "Link") refl, omega arith)
+role_is_word role.MenuItem h = (lacks_by 32 (codes "MenuItem") refl, omega arith)
+role_is_word role.MenuItemCheckBox h = (lacks_by 32 (codes "MenuItemCheckBox") refl, omega arith)
+role_is_word role.MenuItemRadio h = (lacks_by 32 (codes "MenuItemRadio") refl, omega arith)
+role_is_word role.RadioButton h = (lacks_by 32 (codes "RadioButton") refl, omega arith)
+role_is_word role.DocBackLink h = (lacks_by 32 (codes "DocBackLink") refl, omega arith)
+role_is_word role.DocBiblioRef h = (lacks_by 32 (codes "DocBiblioRef") refl, omega arith)
+role_is_word role.DocGlossRef h = (lacks_by 32 (codes "DocGlossRef") refl, omega arith)
+role_is_word role.DocNoteRef h = (lacks_by 32 (codes "DocNoteRef") refl, omega arith)
+role_is_word role.ColorWell h = (lacks_by 32 (codes "ColorWell") refl, omega arith)
+role_is_word role.Grid h = (lacks_by 32 (codes "Grid") refl, omega arith)
+role_is_word role.MenuListPopup h = (lacks_by 32 (codes "MenuListPopup") refl, omega arith)
+role_is_word role.RadioGroup h = (lacks_by 32 (codes "RadioGroup") refl, omega arith)
+role_is_word role.Slider h = (lacks_by 32 (codes "Slider") refl, omega arith)
+role_is_word role.Switch h = (lacks_by 32 (codes "Switch") refl, omega arith)
+role_is_word role.TreeGrid h = (lacks_by 32 (codes "TreeGrid") refl, omega arith)
+role_is_word role.Article h = (lacks_by 32 (codes "Article") refl, omega arith)
+role_is_word role.Definition h = (lacks_by 32 (codes "Definition") refl, omega arith)
+role_is_word role.DescriptionList h = (lacks_by 32 (codes "DescriptionList") refl, omega arith)
+role_is_word role.GraphicsDocument h = (lacks_by 32 (codes "GraphicsDocument") refl, omega arith)
+role_is_word role.List h = (lacks_by 32 (codes "List") refl, omega arith)
+role_is_word role.ListItem h = (lacks_by 32 (codes "ListItem") refl, omega arith)
+role_is_word role.PdfRoot h = (lacks_by 32 (codes "PdfRoot") refl, omega arith)
+role_is_word role.ProgressIndicator h = (lacks_by 32 (codes "ProgressIndicator") refl, omega arith)
+role_is_word role.RootWebArea h = (lacks_by 32 (codes "RootWebArea") refl, omega arith)
+role_is_word role.Term h = (lacks_by 32 (codes "Term") refl, omega arith)
+role_is_word role.Timer h = (lacks_by 32 (codes "Timer") refl, omega arith)
+role_is_word role.Toolbar h = (lacks_by 32 (codes "Toolbar") refl, omega arith)
+role_is_word role.Tooltip h = (lacks_by 32 (codes "Tooltip") refl, omega arith)
+role_is_word role.Comment h = (lacks_by 32 (codes "Comment") refl, omega arith)
+role_is_word role.Tab h = (lacks_by 32 (codes "Tab") refl, omega arith)
+role_is_word role.ListBoxOption h = (lacks_by 32 (codes "ListBoxOption") refl, omega arith)
+role_is_word role.MenuListOption h = (lacks_by 32 (codes "MenuListOption") refl, omega arith)
+role_is_word role.ListGrid h = (lacks_by 32 (codes "ListGrid") refl, omega arith)
+role_is_word role.Menu h = (lacks_by 32 (codes "Menu") refl, omega arith)
+role_is_word role.MenuBar h = (lacks_by 32 (codes "MenuBar") refl, omega arith)
+role_is_word role.Tree h = (lacks_by 32 (codes "Tree") refl, omega arith)
+role_is_word (role.Other n) h =
+    (lacks_append 32 (codes "Other(") (decimal n ++ codes ")") (lacks_by 32 (codes "Other(") refl) (lacks_append 32 (decimal n) (codes ")") (decimal_lacks 32 (omega arith) n (omega (arith, h n refl))) (lacks_by 32 (codes ")") refl)), omega arith)

@@ -1,0 +1,9 @@
+pub mod Names
+pub mod Parts
+pub mod Quoted
+pub mod Words
+pub mod Reading
+pub mod Items
+pub mod Says
+pub mod SaysParts
+pub mod NamedIn
