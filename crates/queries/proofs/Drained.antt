@@ -2,6 +2,7 @@
 use Rattle.std.proofs.Common.{◌≡◌, List, [], ◌∷◌, map, sym, ap, subst, ◌∙◌}
 use Rattle.std.specs.Prelude.{All, Option, None}
 use Rattle.std.specs.Iterator.{Yields, Drains}
+use Rattle.std.proofs.lemmas.List.Elements.{All-nil, All-cons}
 use Rattle.model.specs.declared.FullNodeId.{FullNodeId}
 use Rattle.model.specs.declared.filters.FilterResult.{FilterResult}
 use Rattle.model.specs.World.{World}
@@ -20,8 +21,8 @@ module _ {S K : Type 0} (says : K → NodeRef → FilterResult → Type 0) (walk
 
   -- each node that it gives is one of that world
   in_world : (s : S) (nodes : List NodeRef) (t : S) → walked_world (walk.course s) ≡ w → Yields Gives s nodes t → All (λ n. world_at n ≡ w) nodes
-  in_world s [] t here is = tt
-  in_world s (n ∷ nodes) t here (j, step, others) = (step.goes.item ∙ here, in_world j nodes t (step.goes.world ∙ here) others)
+  in_world s [] t here is = All-nil (λ n. world_at n ≡ w)
+  in_world s (n ∷ nodes) t here (j, step, others) = All-cons (λ n. world_at n ≡ w) n nodes (step.goes.item ∙ here) (in_world j nodes t (step.goes.world ∙ here) others)
 
   module _ (f : FullNodeId → FilterResult) (follows : Follows (says k) w f) where
     follows_at : (s : S) → (walk.filter s).f ≡ k → walked_world (walk.course s) ≡ w → Follows (says (walk.filter s).f) (walked_world (walk.course s)) f
@@ -42,3 +43,10 @@ module _ {S K : Type 0} (says : K → NodeRef → FilterResult → Type 0) (walk
     world = in_world s nodes t begins.world yielded;
     list = λ f follows. let start = begins.list f follows in gives_left f follows s nodes t u same begins.world start.0 yielded last ∙ start.1;
   }
+
+-- what is shown by answers is shown by those that they imply
+pub shown_by : {told meant : NodeRef → FilterResult → Type 0} (w : World) (ids : (FullNodeId → FilterResult) → List FullNodeId) (nodes : List NodeRef) → ((n : NodeRef) (r : FilterResult) → told n r → meant n r) → AreShown told w ids nodes → AreShown meant w ids nodes
+shown_by w ids nodes implied shown = record {
+  world = shown.world;
+  list = λ f follows. shown.list f (record { at = λ n r here said. follows.at n r here (implied n r said) });
+}

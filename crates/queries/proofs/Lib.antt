@@ -1,1 +1,4 @@
 pub mod Drained
+pub mod Parts
+pub mod Fitting
+pub mod Outcomes

@@ -8,7 +8,7 @@ use Rattle.schema.specs.declared.Role.TheVariants.{Label}
 use Rattle.schema.specs.Roles.{same_role}
 use Rattle.model.specs.declared.FullNodeId.{FullNodeId}
 use Rattle.model.specs.declared.filters.FilterResult.{FilterResult}
-use Rattle.model.specs.World.{World, data_of}
+use Rattle.model.specs.World.{World, data_of, root_of}
 use Rattle.model.specs.Covers.{is_included}
 use Rattle.model.specs.Labels.{label_of}
 use Rattle.model.specs.Values.{value_of}
@@ -67,12 +67,15 @@ pub record Meets (answers : NodeRef → Bool → Type 0) (w : World) (p : FullNo
 abbrev pub is_sought : Wanted → (FullNodeId → Bool) → World → FullNodeId → Bool
 is_sought wanted p w id = fits wanted w id && p id
 
--- what is searched below a node and in a whole state: what the filter shows there, in pre-order
+-- what is searched below a node, from a node on, and in a whole state: what the filter shows there, in pre-order
 abbrev pub searched_below : (FullNodeId → FilterResult) → World → FullNodeId → List FullNodeId
 searched_below f w id = filtered_descendants f w id
 
 abbrev pub searched_from : (FullNodeId → FilterResult) → World → FullNodeId → List FullNodeId
-searched_from f w root = (if is_included (f root) then root ∷ [] else []) ++ filtered_descendants f w root
+searched_from f w top = (if is_included (f top) then top ∷ [] else []) ++ filtered_descendants f w top
+
+abbrev pub searched_in : (FullNodeId → FilterResult) → World → List FullNodeId
+searched_in f w = option_map_or (searched_from f w) (root_of w 0) []
 
 -- the nodes are read in this world, and by each f that the filter follows they are these
 pub record AreShown (answers : NodeRef → FilterResult → Type 0) (w : World) (ids : (FullNodeId → FilterResult) → List FullNodeId) (nodes : List NodeRef) : Type 0 where

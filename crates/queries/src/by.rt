@@ -1,9 +1,10 @@
 //! What is searched for.
+ghost use Rattle.std.specs.Prelude.{◌≡◌, Some, None};
 
 use crate::condition::{AnyNode, CommonFilter, Meeting};
-use views::filters::FilterResult;
-use views::node::NodeRef;
-use views::walks::ByFn;
+use accesskit_consumer::filters::FilterResult;
+use accesskit_consumer::node::NodeRef;
+use accesskit_consumer::walks::ByFn;
 use schema::Role;
 
 /// The role and texts that a node has to have. What isn't asked for is `None`.
@@ -29,6 +30,7 @@ pub struct By<'t, F, C> {
 impl<'t> By<'t, CommonFilter, AnyNode> {
     /// The query that each node fits, of those that the common filter shows.
     pub fn new() -> By<'t, CommonFilter, AnyNode>
+        ensures { result.wanted ≡ record { role = None; label = None; label_part = None; text = None; value = None; description = None } }
     {
         By {
             wanted: Wanted {
@@ -48,6 +50,9 @@ impl<'t> By<'t, CommonFilter, AnyNode> {
 impl<'t, F: Drop, C: Drop> By<'t, F, C> {
     /// A node has this role.
     pub fn role(self, role: Role) -> By<'t, F, C>
+        ensures wanted { result.wanted ≡ record self.entry.wanted { role = Some role } }
+        ensures filter { result.filter ≡ self.entry.filter }
+        ensures condition { result.condition ≡ self.entry.condition }
     {
         let By { mut wanted, filter, condition } = self;
         wanted.role = Some(role);
@@ -56,6 +61,9 @@ impl<'t, F: Drop, C: Drop> By<'t, F, C> {
 
     /// A node has this label. A Label's text is its value: [`By::text`] finds that.
     pub fn label(self, label: &'t str) -> By<'t, F, C>
+        ensures wanted { result.wanted ≡ record self.entry.wanted { label = Some label.entry } }
+        ensures filter { result.filter ≡ self.entry.filter }
+        ensures condition { result.condition ≡ self.entry.condition }
     {
         let By { mut wanted, filter, condition } = self;
         wanted.label = Some(label);
@@ -64,6 +72,9 @@ impl<'t, F: Drop, C: Drop> By<'t, F, C> {
 
     /// This part stands in a node's label.
     pub fn label_contains(self, part: &'t str) -> By<'t, F, C>
+        ensures wanted { result.wanted ≡ record self.entry.wanted { label_part = Some part.entry } }
+        ensures filter { result.filter ≡ self.entry.filter }
+        ensures condition { result.condition ≡ self.entry.condition }
     {
         let By { mut wanted, filter, condition } = self;
         wanted.label_part = Some(part);
@@ -72,6 +83,9 @@ impl<'t, F: Drop, C: Drop> By<'t, F, C> {
 
     /// A node shows this text: a Label by its value, any other node by its label.
     pub fn text(self, text: &'t str) -> By<'t, F, C>
+        ensures wanted { result.wanted ≡ record self.entry.wanted { text = Some text.entry } }
+        ensures filter { result.filter ≡ self.entry.filter }
+        ensures condition { result.condition ≡ self.entry.condition }
     {
         let By { mut wanted, filter, condition } = self;
         wanted.text = Some(text);
@@ -80,6 +94,9 @@ impl<'t, F: Drop, C: Drop> By<'t, F, C> {
 
     /// A node has this value. Of a password the value is as it is shown, where its characters differ a bullet for each.
     pub fn value(self, value: &'t str) -> By<'t, F, C>
+        ensures wanted { result.wanted ≡ record self.entry.wanted { value = Some value.entry } }
+        ensures filter { result.filter ≡ self.entry.filter }
+        ensures condition { result.condition ≡ self.entry.condition }
     {
         let By { mut wanted, filter, condition } = self;
         wanted.value = Some(value);
@@ -88,6 +105,9 @@ impl<'t, F: Drop, C: Drop> By<'t, F, C> {
 
     /// A node has this description.
     pub fn description(self, description: &'t str) -> By<'t, F, C>
+        ensures wanted { result.wanted ≡ record self.entry.wanted { description = Some description.entry } }
+        ensures filter { result.filter ≡ self.entry.filter }
+        ensures condition { result.condition ≡ self.entry.condition }
     {
         let By { mut wanted, filter, condition } = self;
         wanted.description = Some(description);
@@ -96,6 +116,9 @@ impl<'t, F: Drop, C: Drop> By<'t, F, C> {
 
     /// Searches what this filter shows.
     pub fn filter<G: Fn(&NodeRef<'_>) -> FilterResult + Drop>(self, filter: G) -> By<'t, ByFn<G>, C>
+        ensures wanted { result.wanted ≡ self.entry.wanted }
+        ensures filter { result.filter.f ≡ filter }
+        ensures condition { result.condition ≡ self.entry.condition }
     {
         let By { wanted, filter: _, condition } = self;
         By { wanted, filter: ByFn::new(filter), condition }
@@ -103,6 +126,9 @@ impl<'t, F: Drop, C: Drop> By<'t, F, C> {
 
     /// A node meets this condition.
     pub fn meets<D: Fn(&NodeRef<'_>) -> bool + Drop>(self, condition: D) -> By<'t, F, Meeting<D>>
+        ensures wanted { result.wanted ≡ self.entry.wanted }
+        ensures filter { result.filter ≡ self.entry.filter }
+        ensures condition { result.condition.f ≡ condition }
     {
         let By { wanted, filter, condition: _ } = self;
         By { wanted, filter, condition: Meeting::new(condition) }

@@ -4,9 +4,9 @@ ghost use Rattle.std.specs.Fn.{FnReturnsAt};
 ghost use Rattle.model.specs.Filters.{common_filter as common};
 ghost use Rattle.views.specs.Nodes.{world_at, id_at};
 
-use views::filters::{FilterResult, common_filter};
-use views::node::NodeRef;
-use views::walks::Filter;
+use accesskit_consumer::filters::{FilterResult, common_filter};
+use accesskit_consumer::node::NodeRef;
+use accesskit_consumer::walks::Filter;
 
 /// The filter of platform adapters, `common_filter`, as a value.
 #[derive(Clone, Copy)]

@@ -1,8 +1,10 @@
 //! Why a query didn't find its node, with what helps to find it.
-ghost use Rattle.std.specs.Prelude.{◌≡◌, IfOk, option_map, string_bytes};
+ghost use Rattle.std.specs.Prelude.{◌≡◌, IfOk};
+ghost use Rattle.queries.specs.declared.error.QueryError.TheVariants.{Memory};
+ghost use Rattle.queries.specs.Outcomes.{IsCopy, Tells};
 
 use crate::by::Wanted;
-use views::node::FullNodeId;
+use accesskit_consumer::node::FullNodeId;
 use schema::Role;
 use std::alloc::{AllocError, Global};
 use std::error::Error;
@@ -40,6 +42,8 @@ pub enum QueryError {
 }
 
 impl From<AllocError> for QueryError {
+    ghost from_gives = { λ _ e. e ≡ Memory };
+
     fn from(_error: AllocError) -> QueryError {
         QueryError::Memory
     }
@@ -47,7 +51,7 @@ impl From<AllocError> for QueryError {
 
 /// A copy of a text, if there is one.
 fn copied(alloc: Global, text: Option<&str>) -> Result<Option<String>, AllocError>
-    ensures { IfOk result (λ copy. option_map string_bytes copy ≡ option_map (λ t. t.now) text.entry) }
+    ensures { IfOk result (λ copy. IsCopy text.entry copy) }
 {
     match text {
         Some(text) => Ok(Some(String::from_str(alloc, text)?)),
@@ -58,6 +62,7 @@ fn copied(alloc: Global, text: Option<&str>) -> Result<Option<String>, AllocErro
 impl Sought {
     /// A copy of what is wanted.
     pub(crate) fn of(alloc: Global, wanted: &Wanted<'_>) -> Result<Sought, AllocError>
+        ensures { IfOk result (λ sought. Tells wanted.now sought) }
     {
         Ok(Sought {
             role: wanted.role,

@@ -5,7 +5,7 @@ ghost use Rattle.views.specs.Nodes.{world_at, id_at, data_at};
 ghost use Rattle.queries.specs.Found.{text_of, stands_in, holds_of, has_role, has_texts, fits};
 
 use crate::by::Wanted;
-use views::node::NodeRef;
+use accesskit_consumer::node::NodeRef;
 use schema::Role;
 use std::alloc::{AllocError, Global};
 
@@ -32,6 +32,7 @@ fn is_text(sought: Option<&str>, own: Option<String>) -> bool
 }
 
 /// Whether the sought part, if one is sought, stands in the text that is there.
+#[tactic(auto, using(crate::proofs::Parts::contains_is_stands_in))]
 fn is_part(sought: Option<&str>, own: Option<String>) -> bool
     ensures { result ≡ holds_of stands_in sought.entry (option_map string_bytes own) }
 {

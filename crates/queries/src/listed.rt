@@ -1,7 +1,7 @@
 //! What helps to find a node: the labels of a role, and the roles that there are.
 
 use crate::error::Near;
-use views::node::NodeRef;
+use accesskit_consumer::node::NodeRef;
 use schema::Role;
 use std::alloc::{AllocError, Global};
 

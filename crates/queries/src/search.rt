@@ -1,21 +1,22 @@
 //! The nodes that a query finds.
-ghost use Rattle.std.specs.Prelude.{◌≡◌, All, IfOk, map};
+ghost use Rattle.std.specs.Prelude.{◌≡◌, ◌∷◌, ◌++◌, [], All, IfOk, map, if◌then◌else◌};
 ghost use Rattle.std.specs.Iterator.{IsFinite, Drains};
-ghost use Rattle.model.specs.World.{World, root_of};
+ghost use Rattle.model.specs.World.{World};
+ghost use Rattle.model.specs.Covers.{is_included};
 ghost use Rattle.views.specs.Nodes.{world_at, id_at};
 ghost use Rattle.views.specs.ShownWorlds.{world_of};
-ghost use Rattle.queries.specs.Found.{AreShown, AreSought, IsSought, searched_below, searched_from, AreFound};
-
+ghost use Rattle.queries.specs.Found.{AreShown, AreSought, IsSought, searched_below, searched_from, searched_in, AreFound};
+ghost use Rattle.queries.specs.Outcomes.{IsOptional, IsOne};
 
 use crate::by::By;
 use crate::condition::Condition;
 use crate::error::{QueryError, Sought};
 use crate::fits::fits;
 use crate::listed::near;
-use views::filters::FilterResult;
-use views::node::{FullNodeId, NodeRef};
-use views::StateRef;
-use views::walks::Filter;
+use accesskit_consumer::filters::FilterResult;
+use accesskit_consumer::node::{FullNodeId, NodeRef};
+use accesskit_consumer::tree::StateRef;
+use accesskit_consumer::walks::Filter;
 use std::alloc::{AllocError, Global};
 
 /// A place in which queries find nodes: a whole state, or what is below a node. Implemented by `StateRef` and `NodeRef`.
@@ -24,6 +25,17 @@ use std::alloc::{AllocError, Global};
 /// the node itself isn't searched. The common filter leaves out what is hidden, and what is scrolled out of the ancestor that clips
 /// it, but for the nearest nodes on either side.
 pub trait Queries<'a> {
+    ghost use Rattle.std.specs.Prelude.{List};
+    ghost use Rattle.model.specs.World.{World};
+    ghost use Rattle.model.specs.declared.FullNodeId.{FullNodeId};
+    ghost use Rattle.model.specs.declared.filters.FilterResult.{FilterResult};
+
+    /// The world that is read.
+    ghost world: { Self → World };
+
+    /// What is searched with a filter that answers so, in order.
+    ghost searched: { Self → (FullNodeId → FilterResult) → List FullNodeId };
+
     /// Each node that fits, in order.
     ///
     /// # Errors
@@ -35,7 +47,8 @@ pub trait Queries<'a> {
         by: &By<'_, F, C>,
     ) -> Result<Vec<NodeRef<'a>>, AllocError>
         requires filter { F.can_answer by.now.filter }
-        requires condition { C.can_ask by.now.condition };
+        requires condition { C.can_ask by.now.condition }
+        ensures { IfOk result (λ found. AreFound by.now.wanted (F.answers by.now.filter) (C.answers by.now.condition) (world self.now) (searched self.now) found.items) };
 
     /// The only node that fits, or `None` if there is none.
     ///
@@ -48,7 +61,8 @@ pub trait Queries<'a> {
         by: &By<'_, F, C>,
     ) -> Result<Option<NodeRef<'a>>, QueryError>
         requires filter { F.can_answer by.now.filter }
-        requires condition { C.can_ask by.now.condition };
+        requires condition { C.can_ask by.now.condition }
+        ensures { IsOptional by.now.wanted (AreFound by.now.wanted (F.answers by.now.filter) (C.answers by.now.condition) (world self.now) (searched self.now)) result };
 
     /// The only node that fits.
     ///
@@ -62,7 +76,8 @@ pub trait Queries<'a> {
         by: &By<'_, F, C>,
     ) -> Result<NodeRef<'a>, QueryError>
         requires filter { F.can_answer by.now.filter }
-        requires condition { C.can_ask by.now.condition };
+        requires condition { C.can_ask by.now.condition }
+        ensures { IsOne by.now.wanted (AreFound by.now.wanted (F.answers by.now.filter) (C.answers by.now.condition) (world self.now) (searched self.now)) result };
 }
 
 /// The nodes of a walk, in order.
@@ -95,6 +110,20 @@ fn shown_below<'a, F: Filter>(
     nodes_of(alloc, top.filtered_descendants(shown))
 }
 
+/// These nodes, after the top if the filter's answer for it includes it.
+fn with_top<'a>(
+    mut nodes: Vec<NodeRef<'a>>,
+    top: NodeRef<'a>,
+    answer: FilterResult,
+) -> Result<Vec<NodeRef<'a>>, AllocError>
+    ensures { IfOk result (λ all. all.items ≡ (if is_included answer then top.entry ∷ nodes.entry.items else nodes.entry.items)) }
+{
+    if answer == FilterResult::Include {
+        nodes.insert(0, top)?;
+    }
+    Ok(nodes)
+}
+
 /// The nodes that the filter shows from a node on, in pre-order.
 fn shown_from<'a, F: Filter>(
     alloc: Global,
@@ -105,11 +134,21 @@ fn shown_from<'a, F: Filter>(
     ensures { let w = world_at top.entry in
         IfOk result (λ nodes. AreShown (F.answers filter.now) w (λ f. searched_from f w (id_at top.entry)) nodes.items) }
 {
-    let mut nodes = shown_below(alloc, top, filter)?;
-    if filter.answer(&top) == FilterResult::Include {
-        nodes.insert(0, top)?;
-    }
-    Ok(nodes)
+    let nodes = shown_below(alloc, top, filter)?;
+    with_top(nodes, top, filter.answer(&top))
+}
+
+/// The nodes that the filter shows in a whole state, in pre-order.
+fn shown_in<'a, F: Filter>(
+    alloc: Global,
+    state: StateRef<'a>,
+    filter: &F,
+) -> Result<Vec<NodeRef<'a>>, AllocError>
+    requires { F.can_answer filter.now }
+    ensures { let w = world_of state.entry in
+        IfOk result (λ nodes. AreShown (F.answers filter.now) w (λ f. searched_in f w) nodes.items) }
+{
+    shown_from(alloc, state.root(), filter)
 }
 
 /// Whether a node has what is wanted, and meets the condition.
@@ -124,6 +163,16 @@ fn is_found<F, C: Condition>(
     Ok(fits(alloc, node, &by.wanted)? && by.condition.is_met(&node))
 }
 
+/// Adds the node if it fits.
+fn keep_if<'a>(found: &mut Vec<NodeRef<'a>>, node: NodeRef<'a>, fits: bool) -> Result<(), AllocError>
+    ensures { IfOk result (λ _. found.new.items ≡ (if fits then found.old.items ++ node.entry ∷ [] else found.old.items)) }
+{
+    if fits {
+        found.push(node)?;
+    }
+    Ok(())
+}
+
 /// Those of these nodes that fit.
 fn fitting<'a, F, C: Condition>(
     alloc: Global,
@@ -136,9 +185,8 @@ fn fitting<'a, F, C: Condition>(
 {
     let mut found = Vec::new(alloc);
     for node in nodes {
-        if is_found(alloc, *node, by)? {
-            found.push(*node)?;
-        }
+        let fits = is_found(alloc, *node, by)?;
+        keep_if(&mut found, *node, fits)?;
     }
     Ok(found)
 }
@@ -160,6 +208,7 @@ fn at_most_one<'a, F, C>(
     found: &[NodeRef<'a>],
     by: &By<'_, F, C>,
 ) -> Result<Option<NodeRef<'a>>, QueryError>
+    ensures { IsOptional by.now.wanted (λ those. those ≡ found.now) result }
 {
     if found.len() > 1 {
         return Err(QueryError::Several {
@@ -177,6 +226,8 @@ fn only_one<'a, F, C: Condition>(
     by: &By<'_, F, C>,
 ) -> Result<NodeRef<'a>, QueryError>
     requires { C.can_ask by.now.condition }
+    ensures { (w : World) → All (λ n. world_at n ≡ w) searched.now →
+        IsOne by.now.wanted (AreSought by.now.wanted (C.answers by.now.condition) w searched.now) result }
 {
     let found = fitting(alloc, searched, by)?;
     match at_most_one(alloc, &found, by)? {
@@ -189,6 +240,10 @@ fn only_one<'a, F, C: Condition>(
 }
 
 impl<'a> Queries<'a> for NodeRef<'a> {
+    ghost world = { λ n. world_at n };
+
+    ghost searched = { λ n f. searched_below f (world_at n) (id_at n) };
+
     fn find_all<F: Filter, C: Condition>(
         &self,
         alloc: Global,
@@ -218,12 +273,16 @@ impl<'a> Queries<'a> for NodeRef<'a> {
 }
 
 impl<'a> Queries<'a> for StateRef<'a> {
+    ghost world = { λ s. world_of s };
+
+    ghost searched = { λ s f. searched_in f (world_of s) };
+
     fn find_all<F: Filter, C: Condition>(
         &self,
         alloc: Global,
         by: &By<'_, F, C>,
     ) -> Result<Vec<NodeRef<'a>>, AllocError> {
-        let searched = shown_from(alloc, self.root(), &by.filter)?;
+        let searched = shown_in(alloc, *self, &by.filter)?;
         fitting(alloc, &searched, by)
     }
 
@@ -241,7 +300,7 @@ impl<'a> Queries<'a> for StateRef<'a> {
         alloc: Global,
         by: &By<'_, F, C>,
     ) -> Result<NodeRef<'a>, QueryError> {
-        let searched = shown_from(alloc, self.root(), &by.filter)?;
+        let searched = shown_in(alloc, *self, &by.filter)?;
         only_one(alloc, &searched, by)
     }
 }

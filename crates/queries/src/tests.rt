@@ -3,8 +3,8 @@
 use crate::by::By;
 use crate::error::QueryError;
 use crate::search::Queries;
-use trees::Tree;
-use views::filters::FilterResult;
+use accesskit_consumer::tree::Tree;
+use accesskit_consumer::filters::FilterResult;
 use schema::{Node, NodeBuilder, NodeId, Role, TreeId, TreeInfo, TreeUpdate};
 use std::alloc::{AllocError, Global};
 use std::fmt::Write;
