@@ -52,19 +52,19 @@ sought_is_found {wanted = wanted} w ids nodes searched found same shown are = re
   list = λ f follows p meets. are.list p meets ∙ ap (λ xs. filter (is_sought wanted p w) (map id_at xs)) same ∙ ap (filter (is_sought wanted p w)) (shown.list f follows);
 }
 
-pub found_among : {E : Type 0} {wanted : Wanted} {shows : NodeRef → FilterResult → Type 0} {answers : NodeRef → Bool → Type 0} (w : World) (ids : (FullNodeId → FilterResult) → List FullNodeId)
+pub found_among : {E : Type 0} (wanted : Wanted) (shows : NodeRef → FilterResult → Type 0) (answers : NodeRef → Bool → Type 0) (w : World) (ids : (FullNodeId → FilterResult) → List FullNodeId)
     (nodes searched : List NodeRef) (r : Result (Vec NodeRef) E) → nodes ≡ searched → AreShown shows w ids searched → ((v : World) → All (λ m. world_at m ≡ v) nodes → IfOk r (λ found. AreSought wanted answers v nodes found.items)) →
     IfOk r (λ found. AreFound wanted shows answers w ids found.items)
-found_among {wanted = wanted} {shows = shows} {answers = answers} w ids nodes searched r same shown sought =
+found_among wanted shows answers w ids nodes searched r same shown sought =
     IfOk-weaker r (λ found. AreSought wanted answers w nodes found.items) (λ found. AreFound wanted shows answers w ids found.items)
     (λ found are. sought_is_found w ids nodes searched found.items same shown are)
     (sought w (All-same (λ m. world_at m ≡ w) nodes searched same shown.world))
 
-pub found_one : {wanted : Wanted} {shows : NodeRef → FilterResult → Type 0} {answers : NodeRef → Bool → Type 0} (w : World) (ids : (FullNodeId → FilterResult) → List FullNodeId)
+pub found_one : (wanted : Wanted) (shows : NodeRef → FilterResult → Type 0) (answers : NodeRef → Bool → Type 0) (w : World) (ids : (FullNodeId → FilterResult) → List FullNodeId)
     (nodes searched : List NodeRef) (r : Result NodeRef QueryError) → nodes ≡ searched → AreShown shows w ids searched → ((v : World) → All (λ m. world_at m ≡ v) nodes → IsOne wanted (AreSought wanted answers v nodes) r) →
     IsOne wanted (AreFound wanted shows answers w ids) r
-found_one {wanted = wanted} {shows = shows} {answers = answers} w ids nodes searched r same shown sought =
-    one_by wanted {P = AreSought wanted answers w nodes} {Q = AreFound wanted shows answers w ids} (λ found are. sought_is_found w ids nodes searched found same shown are) r
+found_one wanted shows answers w ids nodes searched r same shown sought =
+    one_by wanted (AreSought wanted answers w nodes) (AreFound wanted shows answers w ids) (λ found are. sought_is_found w ids nodes searched found same shown are) r
     (sought w (All-same (λ m. world_at m ≡ w) nodes searched same shown.world))
 
 -- the ids of a node that is shown or not, and those below it

@@ -18,28 +18,28 @@ pub first_is_only : (wanted : Wanted) (found : List NodeRef) (r : Option NodeRef
 first_is_only wanted found r short is = subst (λ o. IsOptional wanted (λ those. those ≡ found) (Ok o)) (sym is) (only wanted found short)
 
 -- by another thing that holds of what is found
-pub optional_by : (wanted : Wanted) {P Q : List NodeRef → Type 0} → ((found : List NodeRef) → P found → Q found) → (r : Result (Option NodeRef) QueryError) → IsOptional wanted P r → IsOptional wanted Q r
-optional_by wanted by (Ok None) is = by [] is
-optional_by wanted by (Ok (Some n)) is = by (n ∷ []) is
-optional_by wanted by (Err (NotFound sought near)) is = is
-optional_by wanted by (Err (Several sought ids)) is = (is.0, (is.1.0, by is.1.0 is.1.1, is.1.2, is.1.3))
-optional_by wanted by (Err Memory) is = tt
+pub optional_by : (wanted : Wanted) (P Q : List NodeRef → Type 0) → ((found : List NodeRef) → P found → Q found) → (r : Result (Option NodeRef) QueryError) → IsOptional wanted P r → IsOptional wanted Q r
+optional_by wanted P Q by (Ok None) is = by [] is
+optional_by wanted P Q by (Ok (Some n)) is = by (n ∷ []) is
+optional_by wanted P Q by (Err (NotFound sought near)) is = is
+optional_by wanted P Q by (Err (Several sought ids)) is = (is.0, (is.1.0, by is.1.0 is.1.1, is.1.2, is.1.3))
+optional_by wanted P Q by (Err Memory) is = tt
 
-pub one_by : (wanted : Wanted) {P Q : List NodeRef → Type 0} → ((found : List NodeRef) → P found → Q found) → (r : Result NodeRef QueryError) → IsOne wanted P r → IsOne wanted Q r
-one_by wanted by (Ok n) is = by (n ∷ []) is
-one_by wanted by (Err (NotFound sought near)) is = (is.0, by [] is.1)
-one_by wanted by (Err (Several sought ids)) is = (is.0, (is.1.0, by is.1.0 is.1.1, is.1.2, is.1.3))
-one_by wanted by (Err Memory) is = tt
+pub one_by : (wanted : Wanted) (P Q : List NodeRef → Type 0) → ((found : List NodeRef) → P found → Q found) → (r : Result NodeRef QueryError) → IsOne wanted P r → IsOne wanted Q r
+one_by wanted P Q by (Ok n) is = by (n ∷ []) is
+one_by wanted P Q by (Err (NotFound sought near)) is = (is.0, by [] is.1)
+one_by wanted P Q by (Err (Several sought ids)) is = (is.0, (is.1.0, by is.1.0 is.1.1, is.1.2, is.1.3))
+one_by wanted P Q by (Err Memory) is = tt
 
 -- an error of the one is an error of the other
-pub error_as_one : (wanted : Wanted) {P : List NodeRef → Type 0} (e : QueryError) → IsOptional wanted P (Err e) → IsOne wanted P (Err e)
-error_as_one wanted (NotFound sought near) is = absurd is
-error_as_one wanted (Several sought ids) is = is
-error_as_one wanted Memory is = tt
+pub error_as_one : (wanted : Wanted) (P : List NodeRef → Type 0) (e : QueryError) → IsOptional wanted P (Err e) → IsOne wanted P (Err e)
+error_as_one wanted P (NotFound sought near) is = absurd is
+error_as_one wanted P (Several sought ids) is = is
+error_as_one wanted P Memory is = tt
 
 -- where those that were found are known
-pub optional_of : (wanted : Wanted) {P : List NodeRef → Type 0} (nodes found : List NodeRef) (r : Result (Option NodeRef) QueryError) → nodes ≡ found → P found → IsOptional wanted (λ those. those ≡ nodes) r → IsOptional wanted P r
-optional_of wanted {P} nodes found r same are is = optional_by wanted {P = λ those. those ≡ nodes} {Q = P} (λ those e. subst P (sym (e ∙ same)) are) r is
+pub optional_of : (wanted : Wanted) (P : List NodeRef → Type 0) (nodes found : List NodeRef) (r : Result (Option NodeRef) QueryError) → nodes ≡ found → P found → IsOptional wanted (λ those. those ≡ nodes) r → IsOptional wanted P r
+optional_of wanted P nodes found r same are is = optional_by wanted (λ those. those ≡ nodes) P (λ those e. subst P (sym (e ∙ same)) are) r is
 
-pub error_of : (wanted : Wanted) {P : List NodeRef → Type 0} (nodes found : List NodeRef) (e : QueryError) → nodes ≡ found → P found → IsOptional wanted (λ those. those ≡ nodes) (Err e) → IsOne wanted P (Err e)
-error_of wanted {P} nodes found e same are is = error_as_one wanted {P = P} e (optional_of wanted {P = P} nodes found (Err e) same are is)
+pub error_of : (wanted : Wanted) (P : List NodeRef → Type 0) (nodes found : List NodeRef) (e : QueryError) → nodes ≡ found → P found → IsOptional wanted (λ those. those ≡ nodes) (Err e) → IsOne wanted P (Err e)
+error_of wanted P nodes found e same are is = error_as_one wanted P e (optional_of wanted P nodes found (Err e) same are is)

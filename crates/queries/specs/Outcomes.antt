@@ -9,7 +9,7 @@ use Rattle.queries.specs.declared.error.QueryError.{QueryError}
 use Rattle.queries.specs.declared.error.QueryError.TheVariants.{NotFound, Several, Memory}
 
 -- a copy of a text that is asked for
-abbrev pub IsCopy : Option (Bor (List ℕ)) → Option String → Type 0
+abbrev pub IsCopy : {Z : Type 0} → Option (Bor (List ℕ)) → Option (String Z) → Type 0
 IsCopy text copy = option_map string_bytes copy ≡ option_map (λ t. t.now) text
 
 -- it tells what is wanted

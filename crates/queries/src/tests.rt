@@ -3,7 +3,8 @@
 use crate::by::By;
 use crate::error::QueryError;
 use crate::search::Queries;
-use accesskit_consumer::tree::Tree;
+use accesskit_consumer::node::NodeRef;
+use accesskit_consumer::tree::{StateRef, Tree};
 use accesskit_consumer::filters::FilterResult;
 use schema::{Node, NodeBuilder, NodeId, Role, TreeId, TreeInfo, TreeUpdate};
 use std::alloc::{AllocError, Global};
@@ -35,6 +36,14 @@ fn message(alloc: Global, error: &QueryError) -> Result<String, AllocError> {
     }
 }
 
+/// How a query ends that finds no node: its message, or nothing if it finds one.
+fn told(alloc: Global, state: StateRef<'_>, role: Role, label: &str) -> Result<String, AllocError> {
+    match state.find_one(alloc, &By::new().role(role).label(label)) {
+        Ok(_) => Ok(String::new(alloc)),
+        Err(error) => message(alloc, &error),
+    }
+}
+
 #[test]
 fn nodes_are_found(rt: HostRuntime) -> anyhow::Result<()> {
     let alloc = rt.alloc();
@@ -49,5 +58,40 @@ fn nodes_are_found(rt: HostRuntime) -> anyhow::Result<()> {
     assert_eq!(rt; later.id().node, NodeId(3));
     let buttons = state.find_all(alloc, &By::new().role(Role::Button))?;
     assert_eq!(rt; buttons.len(), 2);
+    Ok(())
+}
+
+#[test]
+fn other_places_and_filters_are_searched(rt: HostRuntime) -> anyhow::Result<()> {
+    let alloc = rt.alloc();
+    let tree = Tree::new(alloc, window(alloc)?, false)?;
+    let state = tree.state().view();
+
+    assert_eq!(rt; state.find_all(alloc, &By::new())?.len(), 4);
+    assert_eq!(rt; state.root().find_all(alloc, &By::new())?.len(), 3);
+    let slider = By::new().role(Role::Slider);
+    assert_eq!(rt; state.find_all(alloc, &slider)?.len(), 0);
+    let slider = slider.filter(|_node: &NodeRef<'_>| FilterResult::Include);
+    assert_eq!(rt; state.find_all(alloc, &slider)?.len(), 1);
+    let second = By::new().meets(|node: &NodeRef<'_>| node.id().node == NodeId(3));
+    assert_eq!(rt; state.find_one(alloc, &second)?.role(), Role::Button);
+    Ok(())
+}
+
+#[test]
+fn messages_help(rt: HostRuntime) -> anyhow::Result<()> {
+    let alloc = rt.alloc();
+    let tree = Tree::new(alloc, window(alloc)?, false)?;
+    let state = tree.state().view();
+
+    assert_eq!(rt; told(alloc, state, Role::Button, "Send now")?.as_str(), "");
+    assert_eq!(rt; told(alloc, state, Role::Button, "Send")?.as_str(),
+        "no Button, label \"Send\"; the labels of this role are \"Send now\" \"Send later\"");
+    assert_eq!(rt; told(alloc, state, Role::Slider, "Size")?.as_str(),
+        "no Slider, label \"Size\"; the roles are Window Label Button");
+    let Err(several) = state.find_one(alloc, &By::new().role(Role::Button)) else {
+        return Err(AllocError.into());
+    };
+    assert_eq!(rt; message(alloc, &several)?.as_str(), "2 nodes fit Button: 2 3");
     Ok(())
 }
