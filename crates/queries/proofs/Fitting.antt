@@ -32,7 +32,7 @@ sought_more {wanted = wanted} {answers = answers} w nodes found next i n is with
     let here : world_at n ≡ w = ap world_at read ∙ All-get_or (λ m. world_at m ≡ w) nodes i n within all in
     record {
       world = All-same (λ m. world_at m ≡ w) next (cond is (found ++ n ∷ []) found) added
-      (cond_both is (found ++ n ∷ []) found (All (λ m. world_at m ≡ w)) (λ _. All-push (λ m. world_at m ≡ w) found n before.world here) (λ _. before.world));
+          (cond_both is (found ++ n ∷ []) found (All (λ m. world_at m ≡ w)) (λ _. All-push (λ m. world_at m ≡ w) found n before.world here) (λ _. before.world));
       list = λ p meets.
           let test = is_sought wanted p w in
           let answer : is ≡ test (id_at n) = sought p (subst (λ v. Meets answers v p) (sym here) meets) ∙ ap (λ v. is_sought wanted p v (id_at n)) here in
@@ -61,10 +61,12 @@ found_among wanted shows answers w ids nodes searched r same shown sought =
     (sought w (All-same (λ m. world_at m ≡ w) nodes searched same shown.world))
 
 pub found_one : (wanted : Wanted) (shows : NodeRef → FilterResult → Type 0) (answers : NodeRef → Bool → Type 0) (w : World) (ids : (FullNodeId → FilterResult) → List FullNodeId)
-    (nodes searched : List NodeRef) (r : Result NodeRef QueryError) → nodes ≡ searched → AreShown shows w ids searched → ((v : World) → All (λ m. world_at m ≡ v) nodes → IsOne wanted (AreSought wanted answers v nodes) r) →
-    IsOne wanted (AreFound wanted shows answers w ids) r
+    (nodes searched : List NodeRef) (r : Result NodeRef QueryError) → nodes ≡ searched → AreShown shows w ids searched → ((v : World) → All (λ m. world_at m ≡ v) nodes → IsOne wanted (λ those. those ≡ nodes) (AreSought wanted answers v nodes) r) →
+    IsOne wanted (AreShown shows w ids) (AreFound wanted shows answers w ids) r
 found_one wanted shows answers w ids nodes searched r same shown sought =
-    one_by wanted (AreSought wanted answers w nodes) (AreFound wanted shows answers w ids) (λ found are. sought_is_found w ids nodes searched found same shown are) r
+    one_by wanted (λ those. those ≡ nodes) (AreShown shows w ids) (AreSought wanted answers w nodes) (AreFound wanted shows answers w ids)
+    (λ those are. subst (AreShown shows w ids) (sym (are ∙ same)) shown)
+    (λ found are. sought_is_found w ids nodes searched found same shown are) r
     (sought w (All-same (λ m. world_at m ≡ w) nodes searched same shown.world))
 
 -- the ids of a node that is shown or not, and those below it
@@ -80,7 +82,7 @@ shown_with_top {shows = shows} top nodes all answer says shown made =
     let w = world_at top in
     record {
       world = All-same (λ m. world_at m ≡ w) all (cond (is_included answer) (top ∷ nodes) nodes) made
-      (cond_both (is_included answer) (top ∷ nodes) nodes (All (λ m. world_at m ≡ w)) (λ _. All-cons (λ m. world_at m ≡ w) top nodes refl shown.world) (λ _. shown.world));
+          (cond_both (is_included answer) (top ∷ nodes) nodes (All (λ m. world_at m ≡ w)) (λ _. All-cons (λ m. world_at m ≡ w) top nodes refl shown.world) (λ _. shown.world));
       list = λ f follows.
           ap (map id_at) made ∙ topped_ids top nodes (searched_below f w (id_at top)) (is_included answer) (shown.list f follows)
           ∙ ap (λ r. cond (is_included r) (id_at top ∷ []) [] ++ searched_below f w (id_at top)) (follows.at top answer refl says);

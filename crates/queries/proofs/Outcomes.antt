@@ -25,21 +25,18 @@ optional_by wanted P Q by (Err (NotFound sought near)) is = is
 optional_by wanted P Q by (Err (Several sought ids)) is = (is.0, (is.1.0, by is.1.0 is.1.1, is.1.2, is.1.3))
 optional_by wanted P Q by (Err Memory) is = tt
 
-pub one_by : (wanted : Wanted) (P Q : List NodeRef → Type 0) → ((found : List NodeRef) → P found → Q found) → (r : Result NodeRef QueryError) → IsOne wanted P r → IsOne wanted Q r
-one_by wanted P Q by (Ok n) is = by (n ∷ []) is
-one_by wanted P Q by (Err (NotFound sought near)) is = (is.0, by [] is.1)
-one_by wanted P Q by (Err (Several sought ids)) is = (is.0, (is.1.0, by is.1.0 is.1.1, is.1.2, is.1.3))
-one_by wanted P Q by (Err Memory) is = tt
+pub one_by : (wanted : Wanted) (R S P Q : List NodeRef → Type 0) → ((nodes : List NodeRef) → R nodes → S nodes) → ((found : List NodeRef) → P found → Q found) → (r : Result NodeRef QueryError) → IsOne wanted R P r → IsOne wanted S Q r
+one_by wanted R S P Q among by (Ok n) is = by (n ∷ []) is
+one_by wanted R S P Q among by (Err (NotFound sought near)) is = (is.0, by [] is.1, (is.2.0, among is.2.0 is.2.1, is.2.2))
+one_by wanted R S P Q among by (Err (Several sought ids)) is = (is.0, (is.1.0, by is.1.0 is.1.1, is.1.2, is.1.3))
+one_by wanted R S P Q among by (Err Memory) is = tt
 
 -- an error of the one is an error of the other
-pub error_as_one : (wanted : Wanted) (P : List NodeRef → Type 0) (e : QueryError) → IsOptional wanted P (Err e) → IsOne wanted P (Err e)
-error_as_one wanted P (NotFound sought near) is = absurd is
-error_as_one wanted P (Several sought ids) is = is
-error_as_one wanted P Memory is = tt
+pub error_as_one : (wanted : Wanted) (S P : List NodeRef → Type 0) (e : QueryError) → IsOptional wanted P (Err e) → IsOne wanted S P (Err e)
+error_as_one wanted S P (NotFound sought near) is = absurd is
+error_as_one wanted S P (Several sought ids) is = is
+error_as_one wanted S P Memory is = tt
 
 -- where those that were found are known
 pub optional_of : (wanted : Wanted) (P : List NodeRef → Type 0) (nodes found : List NodeRef) (r : Result (Option NodeRef) QueryError) → nodes ≡ found → P found → IsOptional wanted (λ those. those ≡ nodes) r → IsOptional wanted P r
 optional_of wanted P nodes found r same are is = optional_by wanted (λ those. those ≡ nodes) P (λ those e. subst P (sym (e ∙ same)) are) r is
-
-pub error_of : (wanted : Wanted) (P : List NodeRef → Type 0) (nodes found : List NodeRef) (e : QueryError) → nodes ≡ found → P found → IsOptional wanted (λ those. those ≡ nodes) (Err e) → IsOne wanted P (Err e)
-error_of wanted P nodes found e same are is = error_as_one wanted P e (optional_of wanted P nodes found (Err e) same are is)

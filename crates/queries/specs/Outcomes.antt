@@ -4,6 +4,7 @@ use Rattle.std.specs.Borrow.{Bor}
 use Rattle.views.specs.declared.node.node_ref.NodeRef.{NodeRef}
 use Rattle.views.specs.Nodes.{id_at}
 use Rattle.queries.specs.declared.by.Wanted.{Wanted}
+use Rattle.queries.specs.Near.{IsNear}
 use Rattle.queries.specs.declared.error.Sought.{Sought}
 use Rattle.queries.specs.declared.error.QueryError.{QueryError}
 use Rattle.queries.specs.declared.error.QueryError.TheVariants.{NotFound, Several, Memory}
@@ -29,9 +30,9 @@ IsOptional wanted Found (Err (NotFound sought near)) = ⊥
 IsOptional wanted Found (Err (Several sought ids)) = Tells wanted sought × ((found : List NodeRef) × Found found × (1 < length found) × (ids.items ≡ map id_at found))
 IsOptional wanted Found (Err Memory) = ⊤
 
--- the same where one has to be found
-abbrev pub IsOne : Wanted → (List NodeRef → Type 0) → Result NodeRef QueryError → Type 0
-IsOne wanted Found (Ok n) = Found (n ∷ [])
-IsOne wanted Found (Err (NotFound sought near)) = Tells wanted sought × Found []
-IsOne wanted Found (Err (Several sought ids)) = Tells wanted sought × ((found : List NodeRef) × Found found × (1 < length found) × (ids.items ≡ map id_at found))
-IsOne wanted Found (Err Memory) = ⊤
+-- the same where one has to be found; of nodes of which Searched says that they are all that was searched
+abbrev pub IsOne : Wanted → (List NodeRef → Type 0) → (List NodeRef → Type 0) → Result NodeRef QueryError → Type 0
+IsOne wanted Searched Found (Ok n) = Found (n ∷ [])
+IsOne wanted Searched Found (Err (NotFound sought near)) = Tells wanted sought × Found [] × ((nodes : List NodeRef) × Searched nodes × IsNear wanted.role nodes near)
+IsOne wanted Searched Found (Err (Several sought ids)) = Tells wanted sought × ((found : List NodeRef) × Found found × (1 < length found) × (ids.items ≡ map id_at found))
+IsOne wanted Searched Found (Err Memory) = ⊤

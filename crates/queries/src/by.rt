@@ -54,9 +54,17 @@ impl<'t, F: Drop, C: Drop> By<'t, F, C> {
         ensures filter { result.filter ≡ self.entry.filter }
         ensures condition { result.condition ≡ self.entry.condition }
     {
-        let By { mut wanted, filter, condition } = self;
+        let By {
+            mut wanted,
+            filter,
+            condition,
+        } = self;
         wanted.role = Some(role);
-        By { wanted, filter, condition }
+        By {
+            wanted,
+            filter,
+            condition,
+        }
     }
 
     /// A node has this label. A Label's text is its value: [`By::text`] finds that.
@@ -65,20 +73,36 @@ impl<'t, F: Drop, C: Drop> By<'t, F, C> {
         ensures filter { result.filter ≡ self.entry.filter }
         ensures condition { result.condition ≡ self.entry.condition }
     {
-        let By { mut wanted, filter, condition } = self;
+        let By {
+            mut wanted,
+            filter,
+            condition,
+        } = self;
         wanted.label = Some(label);
-        By { wanted, filter, condition }
+        By {
+            wanted,
+            filter,
+            condition,
+        }
     }
 
-    /// This part stands in a node's label.
+    /// This part is in a node's label.
     pub fn label_contains(self, part: &'t str) -> By<'t, F, C>
         ensures wanted { result.wanted ≡ record self.entry.wanted { label_part = Some part.entry } }
         ensures filter { result.filter ≡ self.entry.filter }
         ensures condition { result.condition ≡ self.entry.condition }
     {
-        let By { mut wanted, filter, condition } = self;
+        let By {
+            mut wanted,
+            filter,
+            condition,
+        } = self;
         wanted.label_part = Some(part);
-        By { wanted, filter, condition }
+        By {
+            wanted,
+            filter,
+            condition,
+        }
     }
 
     /// A node shows this text: a Label by its value, any other node by its label.
@@ -87,9 +111,17 @@ impl<'t, F: Drop, C: Drop> By<'t, F, C> {
         ensures filter { result.filter ≡ self.entry.filter }
         ensures condition { result.condition ≡ self.entry.condition }
     {
-        let By { mut wanted, filter, condition } = self;
+        let By {
+            mut wanted,
+            filter,
+            condition,
+        } = self;
         wanted.text = Some(text);
-        By { wanted, filter, condition }
+        By {
+            wanted,
+            filter,
+            condition,
+        }
     }
 
     /// A node has this value. Of a password the value is as it is shown, where its characters differ a bullet for each.
@@ -98,9 +130,17 @@ impl<'t, F: Drop, C: Drop> By<'t, F, C> {
         ensures filter { result.filter ≡ self.entry.filter }
         ensures condition { result.condition ≡ self.entry.condition }
     {
-        let By { mut wanted, filter, condition } = self;
+        let By {
+            mut wanted,
+            filter,
+            condition,
+        } = self;
         wanted.value = Some(value);
-        By { wanted, filter, condition }
+        By {
+            wanted,
+            filter,
+            condition,
+        }
     }
 
     /// A node has this description.
@@ -109,9 +149,17 @@ impl<'t, F: Drop, C: Drop> By<'t, F, C> {
         ensures filter { result.filter ≡ self.entry.filter }
         ensures condition { result.condition ≡ self.entry.condition }
     {
-        let By { mut wanted, filter, condition } = self;
+        let By {
+            mut wanted,
+            filter,
+            condition,
+        } = self;
         wanted.description = Some(description);
-        By { wanted, filter, condition }
+        By {
+            wanted,
+            filter,
+            condition,
+        }
     }
 
     /// Searches what this filter shows.
@@ -120,8 +168,16 @@ impl<'t, F: Drop, C: Drop> By<'t, F, C> {
         ensures filter { result.filter.f ≡ filter }
         ensures condition { result.condition ≡ self.entry.condition }
     {
-        let By { wanted, filter: _, condition } = self;
-        By { wanted, filter: ByFn::new(filter), condition }
+        let By {
+            wanted,
+            filter: _,
+            condition,
+        } = self;
+        By {
+            wanted,
+            filter: ByFn::new(filter),
+            condition,
+        }
     }
 
     /// A node meets this condition.
@@ -130,7 +186,15 @@ impl<'t, F: Drop, C: Drop> By<'t, F, C> {
         ensures filter { result.filter ≡ self.entry.filter }
         ensures condition { result.condition.f ≡ condition }
     {
-        let By { wanted, filter, condition: _ } = self;
-        By { wanted, filter, condition: Meeting::new(condition) }
+        let By {
+            wanted,
+            filter,
+            condition: _,
+        } = self;
+        By {
+            wanted,
+            filter,
+            condition: Meeting::new(condition),
+        }
     }
 }

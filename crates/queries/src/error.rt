@@ -34,9 +34,15 @@ pub enum Near {
 #[derive(Debug, Drop)]
 pub enum QueryError {
     /// No searched node fits.
-    NotFound { sought: Sought, near: Near },
+    NotFound {
+        sought: Sought,
+        near: Near,
+    },
     /// More than one node fits: these.
-    Several { sought: Sought, found: Vec<FullNodeId> },
+    Several {
+        sought: Sought,
+        found: Vec<FullNodeId>,
+    },
     /// Memory ran out.
     Memory,
 }

@@ -44,7 +44,7 @@ fn is_part(sought: Option<&str>, own: Option<String>) -> bool
 }
 
 /// Whether the node has the role, if one is asked for.
-fn has_role(node: NodeRef<'_>, role: Option<Role>) -> bool
+pub(crate) fn has_role(node: NodeRef<'_>, role: Option<Role>) -> bool
     ensures { result ≡ has_role role (world_at node.entry) (id_at node.entry) }
 {
     match role {
@@ -54,18 +54,16 @@ fn has_role(node: NodeRef<'_>, role: Option<Role>) -> bool
 }
 
 /// Whether the node has the texts that are asked for.
-fn has_texts(
-    alloc: Global,
-    node: NodeRef<'_>,
-    wanted: &Wanted<'_>,
-) -> Result<bool, AllocError>
+fn has_texts(alloc: Global, node: NodeRef<'_>, wanted: &Wanted<'_>) -> Result<bool, AllocError>
     ensures { IfOk result (λ has. has ≡ has_texts wanted.now (world_at node.entry) (id_at node.entry)) }
 {
-    Ok(is_text(wanted.label, node.label(alloc)?)
-        && is_part(wanted.label_part, node.label(alloc)?)
-        && is_text(wanted.text, text_of(alloc, node)?)
-        && is_text(wanted.value, node.value(alloc)?)
-        && is_text(wanted.description, node.description(alloc)?))
+    Ok(
+        is_text(wanted.label, node.label(alloc)?)
+            && is_part(wanted.label_part, node.label(alloc)?)
+            && is_text(wanted.text, text_of(alloc, node)?)
+            && is_text(wanted.value, node.value(alloc)?)
+            && is_text(wanted.description, node.description(alloc)?),
+    )
 }
 
 /// Whether the node has the role and the texts that are asked for.

@@ -48,9 +48,10 @@ pub trait Queries<'a> {
     ) -> Result<Vec<NodeRef<'a>>, AllocError>
         requires filter { F.can_answer by.now.filter }
         requires condition { C.can_ask by.now.condition }
-        ensures { IfOk result (λ found. AreFound by.now.wanted (F.answers by.now.filter) (C.answers by.now.condition) (world self.now) (searched self.now) found.items) };
+        ensures { let shows = F.answers by.now.filter in let answers = C.answers by.now.condition in
+            IfOk result (λ found. AreFound by.now.wanted shows answers (world self.now) (searched self.now) found.items) };
 
-    /// The only node that fits, or `None` if there is none.
+    /// The only node that fits, or `None` if no node fits.
     ///
     /// # Errors
     ///
@@ -62,7 +63,8 @@ pub trait Queries<'a> {
     ) -> Result<Option<NodeRef<'a>>, QueryError>
         requires filter { F.can_answer by.now.filter }
         requires condition { C.can_ask by.now.condition }
-        ensures { IsOptional by.now.wanted (AreFound by.now.wanted (F.answers by.now.filter) (C.answers by.now.condition) (world self.now) (searched self.now)) result };
+        ensures { let shows = F.answers by.now.filter in let answers = C.answers by.now.condition in
+            IsOptional by.now.wanted (AreFound by.now.wanted shows answers (world self.now) (searched self.now)) result };
 
     /// The only node that fits.
     ///
@@ -77,7 +79,9 @@ pub trait Queries<'a> {
     ) -> Result<NodeRef<'a>, QueryError>
         requires filter { F.can_answer by.now.filter }
         requires condition { C.can_ask by.now.condition }
-        ensures { IsOne by.now.wanted (AreFound by.now.wanted (F.answers by.now.filter) (C.answers by.now.condition) (world self.now) (searched self.now)) result };
+        ensures { let shows = F.answers by.now.filter in let answers = C.answers by.now.condition in
+            IsOne by.now.wanted (AreShown shows (world self.now) (searched self.now))
+            (AreFound by.now.wanted shows answers (world self.now) (searched self.now)) result };
 }
 
 /// The nodes of a walk, in order.
@@ -164,7 +168,11 @@ fn is_found<F, C: Condition>(
 }
 
 /// Adds the node if it fits.
-fn keep_if<'a>(found: &mut Vec<NodeRef<'a>>, node: NodeRef<'a>, fits: bool) -> Result<(), AllocError>
+fn keep_if<'a>(
+    found: &mut Vec<NodeRef<'a>>,
+    node: NodeRef<'a>,
+    fits: bool,
+) -> Result<(), AllocError>
     ensures { IfOk result (λ _. found.new.items ≡ (if fits then found.old.items ++ node.entry ∷ [] else found.old.items)) }
 {
     if fits {
@@ -227,7 +235,7 @@ fn only_one<'a, F, C: Condition>(
 ) -> Result<NodeRef<'a>, QueryError>
     requires { C.can_ask by.now.condition }
     ensures { (w : World) → All (λ n. world_at n ≡ w) searched.now →
-        IsOne by.now.wanted (AreSought by.now.wanted (C.answers by.now.condition) w searched.now) result }
+        IsOne by.now.wanted (λ those. those ≡ searched.now) (AreSought by.now.wanted (C.answers by.now.condition) w searched.now) result }
 {
     let found = fitting(alloc, searched, by)?;
     match at_most_one(alloc, &found, by)? {

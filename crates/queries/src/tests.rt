@@ -3,9 +3,9 @@
 use crate::by::By;
 use crate::error::QueryError;
 use crate::search::Queries;
+use accesskit_consumer::filters::FilterResult;
 use accesskit_consumer::node::NodeRef;
 use accesskit_consumer::tree::{StateRef, Tree};
-use accesskit_consumer::filters::FilterResult;
 use schema::{Node, NodeBuilder, NodeId, Role, TreeId, TreeInfo, TreeUpdate};
 use std::alloc::{AllocError, Global};
 use std::fmt::Write;
@@ -14,11 +14,34 @@ use std::fmt::Write;
 fn window(alloc: Global) -> Result<TreeUpdate, AllocError> {
     let children = [NodeId(1), NodeId(2), NodeId(3), NodeId(4)];
     let mut nodes: Vec<(NodeId, Node)> = Vec::new(alloc);
-    nodes.push((NodeId(0), NodeBuilder::new(alloc, Role::Window).children(&children).build()?))?;
-    nodes.push((NodeId(1), NodeBuilder::new(alloc, Role::Label).value("Two letters").build()?))?;
-    nodes.push((NodeId(2), NodeBuilder::new(alloc, Role::Button).label("Send now").build()?))?;
-    nodes.push((NodeId(3), NodeBuilder::new(alloc, Role::Button).label("Send later").build()?))?;
-    nodes.push((NodeId(4), NodeBuilder::new(alloc, Role::Slider).hidden().build()?))?;
+    nodes.push((
+        NodeId(0),
+        NodeBuilder::new(alloc, Role::Window)
+            .children(&children)
+            .build()?,
+    ))?;
+    nodes.push((
+        NodeId(1),
+        NodeBuilder::new(alloc, Role::Label)
+            .value("Two letters")
+            .build()?,
+    ))?;
+    nodes.push((
+        NodeId(2),
+        NodeBuilder::new(alloc, Role::Button)
+            .label("Send now")
+            .build()?,
+    ))?;
+    nodes.push((
+        NodeId(3),
+        NodeBuilder::new(alloc, Role::Button)
+            .label("Send later")
+            .build()?,
+    ))?;
+    nodes.push((
+        NodeId(4),
+        NodeBuilder::new(alloc, Role::Slider).hidden().build()?,
+    ))?;
     Ok(TreeUpdate {
         nodes,
         tree: Some(TreeInfo::new(NodeId(0))),
@@ -85,13 +108,20 @@ fn messages_help(rt: HostRuntime) -> anyhow::Result<()> {
     let state = tree.state().view();
 
     assert_eq!(rt; told(alloc, state, Role::Button, "Send now")?.as_str(), "");
-    assert_eq!(rt; told(alloc, state, Role::Button, "Send")?.as_str(),
-        "no Button, label \"Send\"; the labels of this role are \"Send now\" \"Send later\"");
-    assert_eq!(rt; told(alloc, state, Role::Slider, "Size")?.as_str(),
-        "no Slider, label \"Size\"; the roles are Window Label Button");
+    assert_eq!(rt;
+        told(alloc, state, Role::Button, "Send")?.as_str(),
+        "no Button, label \"Send\"; the labels of this role are \"Send now\" \"Send later\""
+    );
+    assert_eq!(rt;
+        told(alloc, state, Role::Slider, "Size")?.as_str(),
+        "no Slider, label \"Size\"; the roles are Window Label Button"
+    );
     let Err(several) = state.find_one(alloc, &By::new().role(Role::Button)) else {
         return Err(AllocError.into());
     };
-    assert_eq!(rt; message(alloc, &several)?.as_str(), "2 nodes fit Button: 2 3");
+    assert_eq!(rt;
+        message(alloc, &several)?.as_str(),
+        "2 nodes fit Button: 2 3"
+    );
     Ok(())
 }

@@ -13,7 +13,7 @@ returns g c =
     let w = world_at c.args.top in
     let ids : (FullNodeId → FilterResult) → List FullNodeId = λ f. searched_below f w (id_at c.args.top) in
     IfOk-weaker c.nodes_of.result _ _ (λ nodes drained.
-        shown_by w ids nodes.items
-        (λ n r said. subst (λ m. g.F.Filter.answers c.args.filter.now m r) said.shows (search rules))
-        (gives_shown _ descendants_walk _ w ids c.filtered_descendants.result nodes.items c.filtered_descendants.ensures.filter c.filtered_descendants.ensures.begins drained))
+    shown_by w ids nodes.items
+    (λ n r said. subst (λ m. g.F.Filter.answers c.args.filter.now m r) said.shows (search rules))
+    (gives_shown _ descendants_walk _ w ids c.filtered_descendants.result nodes.items c.filtered_descendants.ensures.filter c.filtered_descendants.ensures.begins drained))
     c.nodes_of.ensures
