@@ -1,0 +1,5 @@
+pub mod Drained
+pub mod Fitting
+pub mod Listing
+pub mod Outcomes
+pub mod Parts

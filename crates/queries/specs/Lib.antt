@@ -1,0 +1,3 @@
+pub mod Found
+pub mod Near
+pub mod Outcomes

@@ -1,0 +1,200 @@
+//! What is searched for.
+ghost use Rattle.std.specs.Prelude.{◌≡◌, Some, None};
+
+use crate::condition::{AnyNode, CommonFilter, Meeting};
+use accesskit_consumer::filters::FilterResult;
+use accesskit_consumer::node::NodeRef;
+use accesskit_consumer::walks::ByFn;
+use schema::Role;
+
+/// The role and texts that a node has to have. What isn't asked for is `None`.
+#[derive(Clone, Copy)]
+pub(crate) struct Wanted<'t> {
+    pub(crate) role: Option<Role>,
+    pub(crate) label: Option<&'t str>,
+    pub(crate) label_part: Option<&'t str>,
+    pub(crate) text: Option<&'t str>,
+    pub(crate) value: Option<&'t str>,
+    pub(crate) description: Option<&'t str>,
+}
+
+/// A query: which nodes are searched, and what a node has to have. A node fits if it has all of what was asked for. Of two calls of
+/// the same method the later one counts.
+#[derive(Drop)]
+pub struct By<'t, F, C> {
+    pub(crate) wanted: Wanted<'t>,
+    pub(crate) filter: F,
+    pub(crate) condition: C,
+}
+
+impl<'t> By<'t, CommonFilter, AnyNode> {
+    /// The query that each node fits, of those that the common filter shows.
+    pub fn new() -> By<'t, CommonFilter, AnyNode>
+        ensures { result.wanted ≡ record { role = None; label = None; label_part = None; text = None; value = None; description = None } }
+    {
+        By {
+            wanted: Wanted {
+                role: None,
+                label: None,
+                label_part: None,
+                text: None,
+                value: None,
+                description: None,
+            },
+            filter: CommonFilter,
+            condition: AnyNode,
+        }
+    }
+}
+
+impl<'t, F: Drop, C: Drop> By<'t, F, C> {
+    /// A node has this role.
+    pub fn role(self, role: Role) -> By<'t, F, C>
+        ensures wanted { result.wanted ≡ record self.entry.wanted { role = Some role } }
+        ensures filter { result.filter ≡ self.entry.filter }
+        ensures condition { result.condition ≡ self.entry.condition }
+    {
+        let By {
+            mut wanted,
+            filter,
+            condition,
+        } = self;
+        wanted.role = Some(role);
+        By {
+            wanted,
+            filter,
+            condition,
+        }
+    }
+
+    /// A node has this label. A Label's text is its value: [`By::text`] finds that.
+    pub fn label(self, label: &'t str) -> By<'t, F, C>
+        ensures wanted { result.wanted ≡ record self.entry.wanted { label = Some label.entry } }
+        ensures filter { result.filter ≡ self.entry.filter }
+        ensures condition { result.condition ≡ self.entry.condition }
+    {
+        let By {
+            mut wanted,
+            filter,
+            condition,
+        } = self;
+        wanted.label = Some(label);
+        By {
+            wanted,
+            filter,
+            condition,
+        }
+    }
+
+    /// This part is in a node's label.
+    pub fn label_contains(self, part: &'t str) -> By<'t, F, C>
+        ensures wanted { result.wanted ≡ record self.entry.wanted { label_part = Some part.entry } }
+        ensures filter { result.filter ≡ self.entry.filter }
+        ensures condition { result.condition ≡ self.entry.condition }
+    {
+        let By {
+            mut wanted,
+            filter,
+            condition,
+        } = self;
+        wanted.label_part = Some(part);
+        By {
+            wanted,
+            filter,
+            condition,
+        }
+    }
+
+    /// A node shows this text: a Label by its value, any other node by its label.
+    pub fn text(self, text: &'t str) -> By<'t, F, C>
+        ensures wanted { result.wanted ≡ record self.entry.wanted { text = Some text.entry } }
+        ensures filter { result.filter ≡ self.entry.filter }
+        ensures condition { result.condition ≡ self.entry.condition }
+    {
+        let By {
+            mut wanted,
+            filter,
+            condition,
+        } = self;
+        wanted.text = Some(text);
+        By {
+            wanted,
+            filter,
+            condition,
+        }
+    }
+
+    /// A node has this value. Of a password the value is as it is shown, where its characters differ a bullet for each.
+    pub fn value(self, value: &'t str) -> By<'t, F, C>
+        ensures wanted { result.wanted ≡ record self.entry.wanted { value = Some value.entry } }
+        ensures filter { result.filter ≡ self.entry.filter }
+        ensures condition { result.condition ≡ self.entry.condition }
+    {
+        let By {
+            mut wanted,
+            filter,
+            condition,
+        } = self;
+        wanted.value = Some(value);
+        By {
+            wanted,
+            filter,
+            condition,
+        }
+    }
+
+    /// A node has this description.
+    pub fn description(self, description: &'t str) -> By<'t, F, C>
+        ensures wanted { result.wanted ≡ record self.entry.wanted { description = Some description.entry } }
+        ensures filter { result.filter ≡ self.entry.filter }
+        ensures condition { result.condition ≡ self.entry.condition }
+    {
+        let By {
+            mut wanted,
+            filter,
+            condition,
+        } = self;
+        wanted.description = Some(description);
+        By {
+            wanted,
+            filter,
+            condition,
+        }
+    }
+
+    /// Searches what this filter shows.
+    pub fn filter<G: Fn(&NodeRef<'_>) -> FilterResult + Drop>(self, filter: G) -> By<'t, ByFn<G>, C>
+        ensures wanted { result.wanted ≡ self.entry.wanted }
+        ensures filter { result.filter.f ≡ filter }
+        ensures condition { result.condition ≡ self.entry.condition }
+    {
+        let By {
+            wanted,
+            filter: _,
+            condition,
+        } = self;
+        By {
+            wanted,
+            filter: ByFn::new(filter),
+            condition,
+        }
+    }
+
+    /// A node meets this condition.
+    pub fn meets<D: Fn(&NodeRef<'_>) -> bool + Drop>(self, condition: D) -> By<'t, F, Meeting<D>>
+        ensures wanted { result.wanted ≡ self.entry.wanted }
+        ensures filter { result.filter ≡ self.entry.filter }
+        ensures condition { result.condition.f ≡ condition }
+    {
+        let By {
+            wanted,
+            filter,
+            condition: _,
+        } = self;
+        By {
+            wanted,
+            filter,
+            condition: Meeting::new(condition),
+        }
+    }
+}
