@@ -10,7 +10,7 @@
 //! runs have rectangles, places and widths of characters, and a size.
 
 use accesskit_consumer::{
-    NodeRef, TextIndexes, TextLines, TextPlaces, TextRangePropertyValue, TextRoot, Tree,
+    NodeRef, NodeText, TextIndexes, TextPlaces, TextRangePropertyValue, TextRoot, Tree,
 };
 use schema::{Node, NodeId, Rect, Role, TextDirection, TreeId, TreeInfo, TreeUpdate};
 use std::alloc::{AllocError, Global};
@@ -263,10 +263,10 @@ fn lines_by_index(root: &NodeRef) -> u64 {
 
 /// The same, where each search goes on from the line that was found last.
 fn lines_onwards(root: &NodeRef) -> u64 {
-    if !root.supports_text_ranges() {
+    let Some(text) = root.text() else {
         return 0;
-    }
-    let mut lines = TextLines::new(*root);
+    };
+    let mut lines = text.lines();
     let mut count = 0u64;
     for index in 0..usize::MAX {
         match lines.line(index) {
