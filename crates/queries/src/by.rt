@@ -124,7 +124,7 @@ impl<'t, F: Drop, C: Drop> By<'t, F, C> {
         }
     }
 
-    /// A node has this value. Of a password the value is as it is shown, where its characters differ a bullet for each.
+    /// A node has this value. A password's value is a bullet for each character, if two of them differ.
     pub fn value(self, value: &'t str) -> By<'t, F, C>
         ensures wanted { result.wanted ≡ record self.entry.wanted { value = Some value.entry } }
         ensures filter { result.filter ≡ self.entry.filter }

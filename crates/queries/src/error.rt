@@ -26,7 +26,7 @@ pub struct Sought {
 pub enum Near {
     /// The labels of the searched nodes that have the role that was asked for, in order. There is at least one such node.
     Labels(Vec<String>),
-    /// The roles of the searched nodes, each once, in the order in which they first stand.
+    /// The roles of the searched nodes, each once, in the order in which they first come.
     Roles(Vec<Role>),
 }
 

@@ -31,7 +31,7 @@ fn is_text(sought: Option<&str>, own: Option<String>) -> bool
     }
 }
 
-/// Whether the sought part, if one is sought, stands in the text that is there.
+/// Whether the text contains the sought part, if one is sought.
 #[tactic(auto, using(crate::proofs::Parts::contains_is_stands_in))]
 fn is_part(sought: Option<&str>, own: Option<String>) -> bool
     ensures { result ≡ holds_of stands_in sought.entry (option_map string_bytes own) }

@@ -52,7 +52,7 @@ fn add_role(roles: &mut Vec<Role>, role: Role) -> Result<(), AllocError>
     Ok(())
 }
 
-/// The roles of these nodes, each once, in the order in which they first stand.
+/// The roles of these nodes, each once, in the order in which they first come.
 fn roles_of(alloc: Global, nodes: &[NodeRef<'_>]) -> Result<Vec<Role>, AllocError>
     ensures { IfOk result (λ roles. roles.items ≡ roles_of nodes.now) }
 {

@@ -155,7 +155,7 @@ fn shown_in<'a, F: Filter>(
     shown_from(alloc, state.root(), filter)
 }
 
-/// Whether a node has what is wanted, and meets the condition.
+/// Whether a node has what was asked for, and meets the condition.
 fn is_found<F, C: Condition>(
     alloc: Global,
     node: NodeRef<'_>,
