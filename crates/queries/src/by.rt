@@ -48,23 +48,31 @@ impl<'t> By<'t, CommonFilter, AnyNode> {
 }
 
 impl<'t, F: Drop, C: Drop> By<'t, F, C> {
+    /// The same query, which asks for this role and these texts.
+    fn with(self, wanted: Wanted<'t>) -> By<'t, F, C>
+        ensures { result ≡ record self.entry { wanted = wanted.entry } }
+    {
+        let By {
+            wanted: _,
+            filter,
+            condition,
+        } = self;
+        By {
+            wanted,
+            filter,
+            condition,
+        }
+    }
+
     /// A node has this role.
     pub fn role(self, role: Role) -> By<'t, F, C>
         ensures wanted { result.wanted ≡ record self.entry.wanted { role = Some role } }
         ensures filter { result.filter ≡ self.entry.filter }
         ensures condition { result.condition ≡ self.entry.condition }
     {
-        let By {
-            mut wanted,
-            filter,
-            condition,
-        } = self;
+        let mut wanted = self.wanted;
         wanted.role = Some(role);
-        By {
-            wanted,
-            filter,
-            condition,
-        }
+        self.with(wanted)
     }
 
     /// A node has this label. A Label's text is its value: [`By::text`] finds that.
@@ -73,17 +81,9 @@ impl<'t, F: Drop, C: Drop> By<'t, F, C> {
         ensures filter { result.filter ≡ self.entry.filter }
         ensures condition { result.condition ≡ self.entry.condition }
     {
-        let By {
-            mut wanted,
-            filter,
-            condition,
-        } = self;
+        let mut wanted = self.wanted;
         wanted.label = Some(label);
-        By {
-            wanted,
-            filter,
-            condition,
-        }
+        self.with(wanted)
     }
 
     /// This part is in a node's label.
@@ -92,17 +92,9 @@ impl<'t, F: Drop, C: Drop> By<'t, F, C> {
         ensures filter { result.filter ≡ self.entry.filter }
         ensures condition { result.condition ≡ self.entry.condition }
     {
-        let By {
-            mut wanted,
-            filter,
-            condition,
-        } = self;
+        let mut wanted = self.wanted;
         wanted.label_part = Some(part);
-        By {
-            wanted,
-            filter,
-            condition,
-        }
+        self.with(wanted)
     }
 
     /// A node shows this text: a Label by its value, any other node by its label.
@@ -111,17 +103,9 @@ impl<'t, F: Drop, C: Drop> By<'t, F, C> {
         ensures filter { result.filter ≡ self.entry.filter }
         ensures condition { result.condition ≡ self.entry.condition }
     {
-        let By {
-            mut wanted,
-            filter,
-            condition,
-        } = self;
+        let mut wanted = self.wanted;
         wanted.text = Some(text);
-        By {
-            wanted,
-            filter,
-            condition,
-        }
+        self.with(wanted)
     }
 
     /// A node has this value. A password's value is a bullet for each character, if two of them differ.
@@ -130,17 +114,9 @@ impl<'t, F: Drop, C: Drop> By<'t, F, C> {
         ensures filter { result.filter ≡ self.entry.filter }
         ensures condition { result.condition ≡ self.entry.condition }
     {
-        let By {
-            mut wanted,
-            filter,
-            condition,
-        } = self;
+        let mut wanted = self.wanted;
         wanted.value = Some(value);
-        By {
-            wanted,
-            filter,
-            condition,
-        }
+        self.with(wanted)
     }
 
     /// A node has this description.
@@ -149,17 +125,9 @@ impl<'t, F: Drop, C: Drop> By<'t, F, C> {
         ensures filter { result.filter ≡ self.entry.filter }
         ensures condition { result.condition ≡ self.entry.condition }
     {
-        let By {
-            mut wanted,
-            filter,
-            condition,
-        } = self;
+        let mut wanted = self.wanted;
         wanted.description = Some(description);
-        By {
-            wanted,
-            filter,
-            condition,
-        }
+        self.with(wanted)
     }
 
     /// Searches what this filter shows.
