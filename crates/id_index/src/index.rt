@@ -94,7 +94,8 @@ impl<V: Drop> IdIndex<V> {
     /// Returns `AllocError` if memory runs out; the index is then unchanged.
     pub fn insert(&mut self, id: FullNodeId, value: V) -> Result<Option<V>, AllocError>
         ensures old { IfOk result (λ old. old ≡ value_at self.old id) }
-        ensures updates { OnOk result ((q : FullNodeId) → value_at self.new q ≡ cond (is_at (full_cmp id) q) (Some value) (value_at self.old q)) }
+        ensures updates { OnOk result ((q : FullNodeId)
+            → value_at self.new q ≡ cond (is_at (full_cmp id) q) (Some value) (value_at self.old q)) }
         ensures err { OnErr result (self.new ≡ self.old) }
     {
         if self.len >= MOST {

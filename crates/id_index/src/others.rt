@@ -114,7 +114,8 @@ impl<V: Drop> Others<V> {
     /// Returns `AllocError` if memory runs out; the entries are then unchanged.
     pub(crate) fn add(&mut self, alloc: Global, id: FullNodeId, value: V) -> Result<(), AllocError>
         requires { value_at self.old id ≡ None }
-        ensures updates { OnOk result ((q : FullNodeId) → value_at self.new q ≡ cond (is_at (full_cmp id) q) (Some value) (value_at self.old q)) }
+        ensures updates { OnOk result ((q : FullNodeId)
+            → value_at self.new q ≡ cond (is_at (full_cmp id) q) (Some value) (value_at self.old q)) }
         ensures count { OnOk result (length self.new ≡ length self.old + 1) }
         ensures err { OnErr result (self.new ≡ self.old) }
     {

@@ -129,7 +129,8 @@ impl Trie {
         requires within { place < length self.old }
         requires last { is_last (cell_at self.old place) ≡ true }
         ensures ends { (id : FullNodeId) → IsEnd self.old id place → found self.new id ≡ number }
-        ensures others { (id : FullNodeId) (k : ℕ) → found self.old id ≡ Some k → number_of (cell_at self.old place) ≢ Some k → found self.new id ≡ Some k }
+        ensures others { (id : FullNodeId) (k : ℕ) → found self.old id ≡ Some k → number_of (cell_at self.old place) ≢ Some k
+            → found self.new id ≡ Some k }
     {
         let cell = match number {
             Some(number) => Cell::Entry(number),
@@ -161,7 +162,8 @@ impl Trie {
         requires end { IsEnd self.old id place }
         requires apart { id ≢ other }
         ensures own { OnOk result (found self.new id ≡ Some number) }
-        ensures others { OnOk result ((q : FullNodeId) (k : ℕ) → found self.old q ≡ Some k → (number_of (cell_at self.old place) ≡ Some k → q ≡ other) → found self.new q ≡ Some k) }
+        ensures others { OnOk result ((q : FullNodeId) (k : ℕ) → found self.old q ≡ Some k
+            → (number_of (cell_at self.old place) ≡ Some k → q ≡ other) → found self.new q ≡ Some k) }
         ensures err { OnErr result (self.new ≡ self.old) }
     {
         let first = self.cells.len();

@@ -45,11 +45,13 @@ send_run value = record { nodes = (node 2, run_node value (1 ∷ 1 ∷ 1 ∷ [])
 -- the value, a move by a word, that update, and the indexes of the end
 abbrev pub session_of : List ℕ → List CommandData
 session_of value =
-    ToQuery (query.Value (in_root 0)) ∷ ToQuery (query.Move (in_root 0) (place 0) move.ForwardToWordStart) ∷ ToUpdate (send_run value) ∷ ToQuery (query.Indexes (in_root 0) (place 5)) ∷ []
+    ToQuery (query.Value (in_root 0)) ∷ ToQuery (query.Move (in_root 0) (place 0) move.ForwardToWordStart) ∷ ToUpdate (send_run value)
+    ∷ ToQuery (query.Indexes (in_root 0) (place 5)) ∷ []
 
 abbrev pub its_replies : List ReplyData
 its_replies =
-    Answered (answer.Text (Some (bullets 4))) ∷ Answered (answer.Position (Some (record { node = node 2; character_index = 2 }))) ∷ Accepted ∷ Answered (answer.Indexes 5 5 1) ∷ []
+    Answered (answer.Text (Some (bullets 4))) ∷ Answered (answer.Position (Some (record { node = node 2; character_index = 2 })))
+    ∷ Accepted ∷ Answered (answer.Indexes 5 5 1) ∷ []
 
 -- the two secrets, after it
 abbrev pub one_longer : World

@@ -23,10 +23,12 @@ use Rattle.model.specs.Shape.{AreAlikeWorlds}
 
 -- ---- alike runs
 
--- the entry of an update of the tree with this index: of a run in the password's tree without its text, of the password without its own value
+-- the entry of an update of the tree with this index: of a run in the password's tree without its text, of the password without its own
+-- value
 abbrev pub unveiled_entry : FullNodeId → ℕ → NodeId × NodeData → NodeId × NodeData
 unveiled_entry p index e =
-    if index == p.tree && same_role e.1.role TextRun then (e.0, without_text e.1) else if is_same (in_tree index e.0) p then (e.0, without_value e.1) else e
+    if index == p.tree && same_role e.1.role TextRun then (e.0, without_text e.1)
+    else if is_same (in_tree index e.0) p then (e.0, without_value e.1) else e
 
 -- two updates that differ at most in these; the names have the same indexes in both worlds
 pub record AreAlikeUpdates (p : FullNodeId) (w : World) (u v : UpdateData) : Type 0 where
@@ -46,7 +48,8 @@ AreAlikeCommands p w (ToHostFocus a) (ToQuery r) = ⊥
 AreAlikeCommands p w (ToQuery q) (ToUpdate v) = ⊥
 AreAlikeCommands p w (ToQuery q) (ToHostFocus b) = ⊥
 
--- Two lists of commands with their replies: alike commands, memory running out at the same ones, and alike worlds at the start and after each.
+-- Two lists of commands with their replies: alike commands, memory running out at the same ones, and alike worlds at the start and
+-- after each.
 abbrev pub AreAlikeRuns : FullNodeId → World → List CommandData → List ReplyData → World → List CommandData → List ReplyData → Type 0
 AreAlikeRuns p w [] rs v ds ss = AreAlikeWorlds p w v × (rs ≡ []) × (ds ≡ []) × (ss ≡ [])
 AreAlikeRuns p w (c ∷ cs) [] v ds ss = ⊥
@@ -54,7 +57,8 @@ AreAlikeRuns p w (c ∷ cs) (r ∷ rs) v [] ss = ⊥
 AreAlikeRuns p w (c ∷ cs) (r ∷ rs) v (d ∷ ds) [] = ⊥
 AreAlikeRuns p w (c ∷ cs) (r ∷ rs) v (d ∷ ds) (s ∷ ss) =
     AreAlikeWorlds p w v × AreAlikeCommands p w c d × WantAlike r s
-    × ((next other : World) (told heard : List Event) → Does w c next told r → Does v d other heard s → AreAlikeRuns p next cs rs other ds ss)
+    × ((next other : World) (told heard : List Event) → Does w c next told r → Does v d other heard s
+    → AreAlikeRuns p next cs rs other ds ss)
 
 -- ---- replies
 
@@ -62,7 +66,8 @@ AreAlikeRuns p w (c ∷ cs) (r ∷ rs) v (d ∷ ds) (s ∷ ss) =
 abbrev pub IsAtMost : FullNodeId → World → NodeId × TreeId → Type 0
 IsAtMost p w name = (id : FullNodeId) → node_named w name ≡ Some id → id ≡ p
 
--- The answer reveals nothing of the secret. A label may reveal it, and so may the value or the text of another node that contains the password.
+-- The answer reveals nothing of the secret. A label may reveal it, and so may the value or the text of another node that contains the
+-- password.
 abbrev pub KeepsSecret : FullNodeId → World → Query → Type 0
 KeepsSecret p w (query.Label name) = ⊥
 KeepsSecret p w (query.Value name) = IsAtMost p w name
@@ -83,7 +88,8 @@ abbrev pub AreAlikeReplies : FullNodeId → World → List CommandData → List 
 AreAlikeReplies p w [] rs ss = (rs ≡ []) × (ss ≡ [])
 AreAlikeReplies p w (c ∷ cs) [] ss = ⊥
 AreAlikeReplies p w (c ∷ cs) (r ∷ rs) [] = ⊥
-AreAlikeReplies p w (c ∷ cs) (r ∷ rs) (s ∷ ss) = ReplyAlike p w c r s × ((next : World) (told : List Event) → Does w c next told r → AreAlikeReplies p next cs rs ss)
+AreAlikeReplies p w (c ∷ cs) (r ∷ rs) (s ∷ ss) =
+    ReplyAlike p w c r s × ((next : World) (told : List Event) → Does w c next told r → AreAlikeReplies p next cs rs ss)
 
 -- ---- events
 
@@ -114,5 +120,6 @@ told_openly p told = map difference_of (filter (λ e. not (tells_of_secret p e))
 -- Each run that is alike has alike replies and reports the same openly, so replies and open events don't distinguish them.
 abbrev pub RunsAlike : World → List CommandData → List Event → List ReplyData → Type 0
 RunsAlike w cs told rs =
-    (p : FullNodeId) (v other : World) (ds : List CommandData) (heard : List Event) (ss : List ReplyData) → AreAlikeRuns p w cs rs v ds ss → Runs v ds other heard ss →
+    (p : FullNodeId) (v other : World) (ds : List CommandData) (heard : List Event) (ss : List ReplyData)
+    → AreAlikeRuns p w cs rs v ds ss → Runs v ds other heard ss →
     AreAlikeReplies p w cs rs ss × (told_openly p told ≡ told_openly p heard)

@@ -52,12 +52,14 @@ abbrev pub IsToldForFocus : World → World → List FullNodeId → Option FullN
 IsToldForFocus old new told None ids = ids ≡ []
 IsToldForFocus old new told (Some id) ids = IsAloneIf (IsInBoth old new id × ¬ (Contains told id)) id ids
 
--- What is reported of the focus, after these ids were reported as updated: nothing if it is the same; otherwise its old node, its new node, and the move.
+-- What is reported of the focus, after these ids were reported as updated: nothing if it is the same; otherwise its old node, its new
+-- node, and the move.
 abbrev pub AreOfFocus : World → World → List FullNodeId → List PlanEvent → Type 0
 AreOfFocus old new told differences =
     (before after : Option FullNodeId) × IsFocus old before × IsFocus new after
     × (((before ≡ after) × (differences ≡ []))
-    ⊎ ((before ≢ after) × (left entered : List FullNodeId) × IsToldForFocus old new told before left × IsToldForFocus old new told after entered
+    ⊎ ((before ≢ after) × (left entered : List FullNodeId) × IsToldForFocus old new told before left
+    × IsToldForFocus old new told after entered
     × (differences ≡ map Updated left ++ map Updated entered ++ FocusMoved before after ∷ [])))
 
 -- All that is reported of a change of worlds, in order. The root is the one that is reported as updated even if it is unchanged.

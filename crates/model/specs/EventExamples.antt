@@ -41,18 +41,23 @@ ButtonGoes = AreDifferences (window_with_button 0) window_alone None (Updated (a
 -- the focus moves from the window to the button
 abbrev pub FocusGoesToButton : Type 0
 FocusGoesToButton =
-    AreDifferences (window_with_button 0) (window_with_button 1) None (Updated (at 0 0) ∷ Updated (at 0 1) ∷ FocusMoved (Some (at 0 0)) (Some (at 0 1)) ∷ [])
+    AreDifferences (window_with_button 0) (window_with_button 1) None
+    (Updated (at 0 0) ∷ Updated (at 0 1) ∷ FocusMoved (Some (at 0 0)) (Some (at 0 1)) ∷ [])
 
 -- the button is removed, and the focus was on it: the removal is reported last
 abbrev pub FocusedButtonGoes : Type 0
 FocusedButtonGoes =
-    AreDifferences (window_with_button 1) window_alone None (Updated (at 0 0) ∷ FocusMoved (Some (at 0 1)) (Some (at 0 0)) ∷ Removed (at 0 1) ∷ [])
+    AreDifferences (window_with_button 1) window_alone None
+    (Updated (at 0 0) ∷ FocusMoved (Some (at 0 1)) (Some (at 0 0)) ∷ Removed (at 0 1) ∷ [])
 
 -- two buttons change places: their own data is the same
 abbrev pub ButtonsChangePlaces : Type 0
-ButtonsChangePlaces = AreDifferences (window_with_buttons 1 2) (window_with_buttons 2 1) None (Updated (at 0 0) ∷ Updated (at 0 1) ∷ Updated (at 0 2) ∷ [])
+ButtonsChangePlaces =
+    AreDifferences (window_with_buttons 1 2) (window_with_buttons 2 1) None
+    (Updated (at 0 0) ∷ Updated (at 0 1) ∷ Updated (at 0 2) ∷ [])
 
--- Before: a window with the buttons 1 and 2, and the focus on 1. After: button 1 is gone, button 3 is after button 2, and the focus is on 2.
+-- Before: a window with the buttons 1 and 2, and the focus on 1. After: button 1 is gone, button 3 is after button 2, and the focus is
+-- on 2.
 abbrev pub pictured_before : World
 pictured_before = root_tree 1 ((at 0 0, window (1 ∷ 2 ∷ [])) ∷ (at 0 1, button) ∷ (at 0 2, button) ∷ [])
 
@@ -64,11 +69,13 @@ PicturedChange =
     AreDifferences pictured_before pictured_after None
     (Added (at 0 3) ∷ Updated (at 0 0) ∷ Updated (at 0 2) ∷ FocusMoved (Some (at 0 1)) (Some (at 0 2)) ∷ Removed (at 0 1) ∷ [])
 
--- The host loses its focus twice: the window that had the focus is updated, and then there is no focus; the second time nothing is reported.
+-- The host loses its focus twice: the window that had the focus is updated, and then there is no focus; the second time nothing is
+-- reported.
 abbrev pub HostLosesFocus : Type 0
 HostLosesFocus =
     Runs (window_with_button 0) (ToHostFocus false ∷ ToHostFocus false ∷ []) (with_host (window_with_button 0) false)
-    (NodeUpdated (seen_in (window_with_button 0) (at 0 0)) (seen_in (with_host (window_with_button 0) false) (at 0 0)) ∷ handler.Event.FocusMoved (Some (seen_in (window_with_button 0) (at 0 0))) None ∷ [])
+    (NodeUpdated (seen_in (window_with_button 0) (at 0 0)) (seen_in (with_host (window_with_button 0) false) (at 0 0))
+    ∷ handler.Event.FocusMoved (Some (seen_in (window_with_button 0) (at 0 0))) None ∷ [])
     (Accepted ∷ Accepted ∷ [])
 
 abbrev pub label_button : UpdateData
@@ -80,4 +87,6 @@ window_with_label = root_tree 0 ((at 0 0, window (1 ∷ [])) ∷ (at 0 1, labell
 -- the button gets a label: one node in the update, which lists nothing and has depth 1; nothing is removed; one tree is known
 abbrev pub LabelIsLittleWork : Type 0
 LabelIsLittleWork =
-    IsWorkOf (window_with_button 0) label_button window_with_label (record { named = 1; children = 0; removed = 0; depths = 1; known = 1 }) × (allowance (record { named = 1; children = 0; removed = 0; depths = 1; known = 1 }) ≡ 80)
+    IsWorkOf (window_with_button 0) label_button window_with_label
+    (record { named = 1; children = 0; removed = 0; depths = 1; known = 1 })
+    × (allowance (record { named = 1; children = 0; removed = 0; depths = 1; known = 1 }) ≡ 80)

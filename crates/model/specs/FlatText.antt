@@ -62,7 +62,9 @@ pub record ShownRun : Type 0 where
 
 -- both lists, if both were sent
 abbrev pub metrics_of : Bool → NodeData → Option Metrics
-metrics_of password d = option_and_then (λ ps. option_map (λ ws. record { positions = ps; widths = ws; are_alike = password }) d.character_widths) d.character_positions
+metrics_of password d =
+    option_and_then
+    (λ ps. option_map (λ ws. record { positions = ps; widths = ws; are_alike = password }) d.character_widths) d.character_positions
 
 abbrev pub shown_run : World → FullNodeId → Bool → Bool → SentRun → ShownRun
 shown_run w root password masked r = record {
@@ -176,11 +178,15 @@ biased_to_end t p = if p.index == 0 && nat_lt 0 p.run then end_at t (p.run - 1) 
 
 -- the offset in the last run that begins at it or before it
 abbrev pub start_side : FlatText → ℕ → Position
-start_side t o = option_map_or (λ r. record { run = r; index = o - start_of t r }) (last_run t (length t) (λ r. nat_le (start_of t r) o)) (document_end t)
+start_side t o =
+    option_map_or (λ r. record { run = r; index = o - start_of t r }) (last_run t (length t) (λ r. nat_le (start_of t r) o))
+    (document_end t)
 
 -- the offset in the first run that ends at it or after it
 abbrev pub end_side : FlatText → ℕ → Position
-end_side t o = option_map_or (λ r. record { run = r; index = o - start_of t r }) (first_run t 0 (λ r. nat_le o (start_of t r + count_in t r))) (document_end t)
+end_side t o =
+    option_map_or (λ r. record { run = r; index = o - start_of t r }) (first_run t 0 (λ r. nat_le o (start_of t r + count_in t r)))
+    (document_end t)
 
 -- ---- lines, paragraphs, formats and words
 
@@ -247,7 +253,8 @@ is_paragraph_end t p = p.index == count_in t p.run && ends_paragraph t p.run
 -- the next character ends a paragraph that isn't the last
 abbrev pub is_paragraph_separator : FlatText → Position → Bool
 is_paragraph_separator t p =
-    nat_lt (offset t p) (total t) && (is_paragraph_end t (end_side t (offset t p + 1)) && not (is_document_end t (end_side t (offset t p + 1))))
+    nat_lt (offset t p) (total t)
+    && (is_paragraph_end t (end_side t (offset t p + 1)) && not (is_document_end t (end_side t (offset t p + 1))))
 
 abbrev pub is_format_start : FlatText → Position → Bool
 is_format_start t p = p.index == 0 && begins_format t p.run

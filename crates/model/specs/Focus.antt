@@ -31,18 +31,21 @@ IsFocusId w (Some id) = (w.host_focused ≡ true) × IsEffectiveFocus w id
 
 -- the node's active descendant is an existing node of its tree
 abbrev pub Resolves : World → FullNodeId → FullNodeId → Type 0
-Resolves w id active = (d : NodeData) × HasData w id d × (d.active_descendant ≡ Some active.node) × (active.tree ≡ id.tree) × IsNode w active
+Resolves w id active =
+    (d : NodeData) × HasData w id d × (d.active_descendant ≡ Some active.node) × (active.tree ≡ id.tree) × IsNode w active
 
 -- the result of `focus`: None unless the host is focused
 abbrev pub IsFocus : World → Option FullNodeId → Type 0
 IsFocus w None = w.host_focused ≡ false
 IsFocus w (Some id) =
-    (w.host_focused ≡ true) × (e : FullNodeId) × IsEffectiveFocus w e × (Resolves w e id ⊎ ((id ≡ e) × ((a : FullNodeId) → ¬ (Resolves w e a))))
+    (w.host_focused ≡ true) × (e : FullNodeId) × IsEffectiveFocus w e
+    × (Resolves w e id ⊎ ((id ≡ e) × ((a : FullNodeId) → ¬ (Resolves w e a))))
 
 -- `is_focused` holds of the node; it doesn't hold of one that names itself as its active descendant
 abbrev pub IsFocusedNode : World → FullNodeId → Type 0
 IsFocusedNode w id =
-    (w.host_focused ≡ true) × (e : FullNodeId) × IsEffectiveFocus w e × (((id ≡ e) × ((a : FullNodeId) → ¬ (Resolves w e a))) ⊎ ((id ≢ e) × Resolves w e id))
+    (w.host_focused ≡ true) × (e : FullNodeId) × IsEffectiveFocus w e
+    × (((id ≡ e) × ((a : FullNodeId) → ¬ (Resolves w e a))) ⊎ ((id ≢ e) × Resolves w e id))
 
 abbrev pub IsDialog : World → FullNodeId → Type 0
 IsDialog w id = (d : NodeData) × HasData w id d × ((d.role ≡ AlertDialog) ⊎ (d.role ≡ Dialog))
@@ -50,7 +53,8 @@ IsDialog w id = (d : NodeData) × HasData w id d × ((d.role ≡ AlertDialog) �
 -- a dialog is the nearest one to itself; to another node, the nearest one to its parent is
 pub data IsNearestDialog (w : World) (dialog : FullNodeId) : FullNodeId → Type 0 where
   itself : IsDialog w dialog → IsNearestDialog w dialog dialog
-  above : (id parent : FullNodeId) (index : ℕ) → ¬ (IsDialog w id) → StandsAt w (parent, index) id → IsNearestDialog w dialog parent → IsNearestDialog w dialog id
+  above : (id parent : FullNodeId) (index : ℕ) → ¬ (IsDialog w id) → StandsAt w (parent, index) id → IsNearestDialog w dialog parent
+      → IsNearestDialog w dialog id
 
 -- the result of `active_dialog`: the nearest dialog to the focus
 abbrev pub IsActiveDialog : World → Option FullNodeId → Type 0

@@ -14,7 +14,8 @@ is_same a b = eq_by_cmp full_cmp a b
 -- the first place of a child among the children of these nodes
 abbrev pub place_among : World → FullNodeId → List FullNodeId → Option Place
 place_among w child [] = None
-place_among w child (parent ∷ others) = option_or (option_map (λ i. (parent, i)) (position (is_same child) (children w parent))) (place_among w child others)
+place_among w child (parent ∷ others) =
+    option_or (option_map (λ i. (parent, i)) (position (is_same child) (children w parent))) (place_among w child others)
 
 -- the place of a node: the parent that has it as a child, and the index among the parent's children
 unfoldable pub place_of : World → FullNodeId → Option Place

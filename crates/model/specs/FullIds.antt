@@ -26,7 +26,9 @@ full_number id = id.node.0 * 2 ^ 64 + id.tree
 
 -- as a pair of numbers
 abbrev pub coded_full : Coded FullNodeId
-coded_full = code_by (ℕ × ℕ) (coded× coded_ℕ coded_ℕ) (λ a. (a.tree, a.node.0)) (λ p. record { tree = p.0; node = record { 0 = p.1 } }) (λ _. refl)
+coded_full =
+    code_by (ℕ × ℕ) (coded× coded_ℕ coded_ℕ) (λ a. (a.tree, a.node.0)) (λ p. record { tree = p.0; node = record { 0 = p.1 } })
+    (λ _. refl)
 
 -- ids that compare as equal are equal
 pub exact_full : CmpEqualImpliesEq full_cmp

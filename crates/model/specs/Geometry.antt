@@ -25,7 +25,8 @@ no_move = record { x = pos 0; y = pos 0 }
 -- the sum of these nodes' translations
 abbrev pub sum_of_moves : World → List FullNodeId → WideTranslation
 sum_of_moves w [] = no_move
-sum_of_moves w (id ∷ ids) = record { x = (direct_transform w id).x +ℤ (sum_of_moves w ids).x; y = (direct_transform w id).y +ℤ (sum_of_moves w ids).y }
+sum_of_moves w (id ∷ ids) =
+    record { x = (direct_transform w id).x +ℤ (sum_of_moves w ids).x; y = (direct_transform w id).y +ℤ (sum_of_moves w ids).y }
 
 -- the sum of the translations of the node and its ancestors
 abbrev pub transform : World → FullNodeId → WideTranslation
@@ -86,7 +87,8 @@ uncut_preorder f w top = cond (is_cut_off (f top)) [] (top ∷ uncut f (below w 
 
 -- the node's own rectangle contains the point, which is given in the coordinates of top
 abbrev pub is_at_point : World → FullNodeId → Point → FullNodeId → Bool
-is_at_point w top p id = option_map_or (λ r. contains_point r (seen_from (transform_within w top id) p)) (field_at (λ d. d.bounds) w id) false
+is_at_point w top p id =
+    option_map_or (λ r. contains_point r (seen_from (transform_within w top id) p)) (field_at (λ d. d.bounds) w id) false
 
 -- the last node of top's pre-order that isn't cut off, is included, and lies at the point
 abbrev pub hit : (FullNodeId → FilterResult) → World → FullNodeId → Point → Option FullNodeId

@@ -30,7 +30,9 @@ abbrev pub looks_within : NodeData → Bool
 looks_within d = (length d.labelled_by == 0) && is_labelled_from_within d.role
 
 unfoldable pub labelled_by : World → FullNodeId → List FullNodeId
-labelled_by w id = option_map_or (λ d. cond (looks_within d) (filtered_children (label_filter w) w id) (ids_in_field (λ e. e.labelled_by) w id)) (data_of w id) []
+labelled_by w id =
+    option_map_or (λ d. cond (looks_within d) (filtered_children (label_filter w) w id) (ids_in_field (λ e. e.labelled_by) w id))
+    (data_of w id) []
 
 abbrev pub own_label : World → FullNodeId → Option (List ℕ)
 own_label w id = field_at (λ d. d.label) w id

@@ -21,12 +21,15 @@ parent role ids = record (empty_node role) { children = map (λ n. let id : Node
 
 abbrev pub pictured_nodes : List (FullNodeId × NodeData)
 pictured_nodes =
-    (at 0 0, parent Window (1 ∷ 2 ∷ 3 ∷ [])) ∷ (at 0 1, parent Button []) ∷ (at 0 2, graft (name 1)) ∷ (at 0 3, parent GenericContainer (4 ∷ [])) ∷ (at 0 4, parent Label [])
+    (at 0 0, parent Window (1 ∷ 2 ∷ 3 ∷ [])) ∷ (at 0 1, parent Button []) ∷ (at 0 2, graft (name 1))
+    ∷ (at 0 3, parent GenericContainer (4 ∷ [])) ∷ (at 0 4, parent Label [])
     ∷ (at 1 0, parent Document (1 ∷ 2 ∷ [])) ∷ (at 1 1, parent Paragraph []) ∷ (at 1 2, parent Paragraph []) ∷ []
 
 -- each tree has at 0 as its root and as its declared focus
 abbrev pub pictured_trees : List (ℕ × Tree)
-pictured_trees = (0, record { root = record { 0 = 0 }; focus = record { 0 = 0 } }) ∷ (1, record { root = record { 0 = 0 }; focus = record { 0 = 0 } }) ∷ []
+pictured_trees =
+    (0, record { root = record { 0 = 0 }; focus = record { 0 = 0 } })
+    ∷ (1, record { root = record { 0 = 0 }; focus = record { 0 = 0 } }) ∷ []
 
 abbrev pub pictured : World
 pictured = record {
@@ -39,7 +42,8 @@ pictured = record {
 
 -- excludes the (graft (name 1)) and the document alone, and the last paragraph with its subtree
 abbrev pub some_nodes : FullNodeId → FilterResult
-some_nodes id = cond (is_same id (at 0 2)) ExcludeNode (cond (is_same id (at 1 0)) ExcludeNode (cond (is_same id (at 1 2)) ExcludeSubtree Include))
+some_nodes id =
+    cond (is_same id (at 0 2)) ExcludeNode (cond (is_same id (at 1 0)) ExcludeNode (cond (is_same id (at 1 2)) ExcludeSubtree Include))
 
 -- excludes the (graft (name 1)) alone, and the document with its subtree
 abbrev pub no_document : FullNodeId → FilterResult
@@ -50,7 +54,8 @@ pub record PicturedLists : Type 0 where
   pub paths : map (index_path pictured) (preorder pictured (at 0 0))
       ≡ [] ∷ (0 ∷ []) ∷ (1 ∷ []) ∷ (1 ∷ 0 ∷ []) ∷ (1 ∷ 0 ∷ 0 ∷ []) ∷ (1 ∷ 0 ∷ 1 ∷ []) ∷ (2 ∷ []) ∷ (2 ∷ 0 ∷ []) ∷ []
   pub places : map (place_of pictured) (preorder pictured (at 0 0))
-      ≡ None ∷ Some (at 0 0, 0) ∷ Some (at 0 0, 1) ∷ Some (at 0 2, 0) ∷ Some (at 1 0, 0) ∷ Some (at 1 0, 1) ∷ Some (at 0 0, 2) ∷ Some (at 0 3, 0) ∷ []
+      ≡ None ∷ Some (at 0 0, 0) ∷ Some (at 0 0, 1) ∷ Some (at 0 2, 0) ∷ Some (at 1 0, 0) ∷ Some (at 1 0, 1) ∷ Some (at 0 0, 2)
+      ∷ Some (at 0 3, 0) ∷ []
   pub depths : map (depth pictured) (preorder pictured (at 0 0)) ≡ 0 ∷ 1 ∷ 1 ∷ 2 ∷ 3 ∷ 3 ∷ 1 ∷ 2 ∷ []
   pub graft_order : preorder pictured (at 0 2) ≡ at 0 2 ∷ at 1 0 ∷ at 1 1 ∷ at 1 2 ∷ []
   pub last_above : above pictured (at 1 2) ≡ (at 1 0, 1) ∷ (at 0 2, 0) ∷ (at 0 0, 1) ∷ []

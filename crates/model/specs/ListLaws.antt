@@ -40,7 +40,9 @@ PreorderHasNoneTwice = (w : World) → IsFormed w → (top : FullNodeId) → All
 
 -- the pre-order of a state's root has the nodes of the state, and nothing else
 abbrev pub RootPreorderIsAllNodes : Type 0
-RootPreorderIsAllNodes = (w : World) → IsState w → (top : FullNodeId) → root_of w 0 ≡ Some top → (id : FullNodeId) → Contains (preorder w top) id ↔ IsNode w id
+RootPreorderIsAllNodes =
+    (w : World) → IsState w → (top : FullNodeId) → root_of w 0 ≡ Some top → (id : FullNodeId)
+    → Contains (preorder w top) id ↔ IsNode w id
 
 -- and is as long as the state has nodes
 abbrev pub RootPreorderCountsNodes : Type 0
@@ -48,7 +50,8 @@ RootPreorderCountsNodes = (w : World) → IsState w → (top : FullNodeId) → r
 
 -- pre-order is the lexicographic order of index paths
 abbrev pub PreorderIsPathOrder : Type 0
-PreorderIsPathOrder = (w : World) → IsFormed w → (top : FullNodeId) → AllPairs (λ a b. IsBefore (index_path w a) (index_path w b)) (preorder w top)
+PreorderIsPathOrder =
+    (w : World) → IsFormed w → (top : FullNodeId) → AllPairs (λ a b. IsBefore (index_path w a) (index_path w b)) (preorder w top)
 
 -- two nodes of a state with the same index path are the same
 abbrev pub PathTellsNodes : Type 0
@@ -64,31 +67,44 @@ PathOfChild = (w : World) → IsFormed w → (p : Place) (id : FullNodeId) → S
 
 -- the path of a node is that of a node that it lies within, and the relative path
 abbrev pub PathWithin : Type 0
-PathWithin = (w : World) → IsFormed w → (top id : FullNodeId) → IsWithin w top id → index_path w id ≡ index_path w top ++ relative_index_path w top id
+PathWithin =
+    (w : World) → IsFormed w → (top id : FullNodeId) → IsWithin w top id
+    → index_path w id ≡ index_path w top ++ relative_index_path w top id
 
 -- the parent's children are the preceding siblings from the farthest on, the node, and the following ones
 abbrev pub SiblingsAreAround : Type 0
-SiblingsAreAround = (w : World) → IsFormed w → (p : Place) (id : FullNodeId) → StandsAt w p id → children w p.0 ≡ reverse (preceding_siblings w id) ++ id ∷ following_siblings w id
+SiblingsAreAround =
+    (w : World) → IsFormed w → (p : Place) (id : FullNodeId) → StandsAt w p id
+    → children w p.0 ≡ reverse (preceding_siblings w id) ++ id ∷ following_siblings w id
 
 -- the root of a tree has no siblings
 abbrev pub RootsHaveNoSiblings : Type 0
-RootsHaveNoSiblings = (w : World) → IsState w → (index : ℕ) (id : FullNodeId) → root_of w index ≡ Some id → (preceding_siblings w id ≡ []) × (following_siblings w id ≡ [])
+RootsHaveNoSiblings =
+    (w : World) → IsState w → (index : ℕ) (id : FullNodeId) → root_of w index ≡ Some id
+    → (preceding_siblings w id ≡ []) × (following_siblings w id ≡ [])
 
 -- the deepest first child is that of the first child, or the first child itself if it has none; likewise for the last
 abbrev pub DeepestIsOfChild : Type 0
 DeepestIsOfChild =
-    (w : World) → IsFormed w → (id : FullNodeId) → (deepest_first_child w id ≡ option_map (λ c. unwrap_or (deepest_first_child w c) c) (first_child w id))
+    (w : World) → IsFormed w → (id : FullNodeId)
+    → (deepest_first_child w id ≡ option_map (λ c. unwrap_or (deepest_first_child w c) c) (first_child w id))
     × (deepest_last_child w id ≡ option_map (λ c. unwrap_or (deepest_last_child w c) c) (last_child w id))
 
--- over a node's children in order: an included one is itself, one that is excluded alone is replaced by what is shown of its own children, one that is excluded with its subtree by nothing
+-- over a node's children in order: an included one is itself, one that is excluded alone is replaced by what is shown of its own
+-- children, one that is excluded with its subtree by nothing
 abbrev pub FrontierIsOfChildren : Type 0
 FrontierIsOfChildren =
-    (f : FullNodeId → FilterResult) (w : World) → IsFormed w → (id : FullNodeId) → filtered_children f w id ≡ flat_map (λ c. shown_part (f c) c (filtered_children f w c)) (children w id)
+    (f : FullNodeId → FilterResult) (w : World) → IsFormed w → (id : FullNodeId)
+    → filtered_children f w id ≡ flat_map (λ c. shown_part (f c) c (filtered_children f w c)) (children w id)
 
 -- the filtered children are the nodes that are included with only nodes between that are excluded alone
 abbrev pub FrontierIsAllShown : Type 0
-FrontierIsAllShown = (f : FullNodeId → FilterResult) (w : World) → IsFormed w → (top id : FullNodeId) → Contains (filtered_children f w top) id ↔ IsShown f w top id
+FrontierIsAllShown =
+    (f : FullNodeId → FilterResult) (w : World) → IsFormed w → (top id : FullNodeId)
+    → Contains (filtered_children f w top) id ↔ IsShown f w top id
 
 -- they are in the order of their index paths
 abbrev pub FrontierIsPathOrder : Type 0
-FrontierIsPathOrder = (f : FullNodeId → FilterResult) (w : World) → IsFormed w → (top : FullNodeId) → AllPairs (λ a b. IsBefore (index_path w a) (index_path w b)) (filtered_children f w top)
+FrontierIsPathOrder =
+    (f : FullNodeId → FilterResult) (w : World) → IsFormed w → (top : FullNodeId)
+    → AllPairs (λ a b. IsBefore (index_path w a) (index_path w b)) (filtered_children f w top)

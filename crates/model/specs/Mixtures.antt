@@ -50,7 +50,8 @@ module _ {S A : Type 0} (next next_back : S → Option A → S → Type 0) where
 
   -- the same of a list that has what `view` reads of each item
   abbrev pub MixturesTakeBy : {B : Type 0} → (A → B) → (S → List B) → Type 0
-  MixturesTakeBy view left = (s t : S) (calls : List (Call A)) → AreCalls s calls t → AreTaken (left s) (map (call_seen view) calls) (left t)
+  MixturesTakeBy view left =
+      (s t : S) (calls : List (Call A)) → AreCalls s calls t → AreTaken (left s) (map (call_seen view) calls) (left t)
 
 -- It is enough that each call takes the first or the last of what is left.
 pub record MixturesAreTaken (S A B : Type 0) : Type 0 where

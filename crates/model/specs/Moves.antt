@@ -117,7 +117,9 @@ holder_of len t g = find (λ o. nat_lt g (length_before len t (o + 1))) (range_w
 
 -- before the character that contains the index; at the document's end if that has it
 abbrev pub position_of : (List ℕ → ℕ) → FlatText → ℕ → Option Position
-position_of len t g = option_or (option_map (start_side t) (holder_of len t g)) (if g == length_before len t (total t) then Some (document_end t) else None)
+position_of len t g =
+    option_or (option_map (start_side t) (holder_of len t g))
+    (if g == length_before len t (total t) then Some (document_end t) else None)
 
 abbrev pub position_from_usv : FlatText → ℕ → Option Position
 position_from_usv t g = position_of scalar_len t g

@@ -25,7 +25,8 @@ pub record OutlineRules : Type 0 where
   pub chain : HoldsByOutline OnChain
   pub faults : (u : UpdateData) → HoldsByOutline (λ w. Stands w u)
 
--- what is below and above a node, beside it, and so the runs of a root; the focus and the active dialog; the node that a name names; boxes; and so what each named filter answers and shows, and what is hit by it
+-- what is below and above a node, beside it, and so the runs of a root; the focus and the active dialog; the node that a name names;
+-- boxes; and so what each named filter answers and shows, and what is hit by it
 pub record OutlineShows : Type 0 where
   pub children : (id : FullNodeId) → ReadsOutline (λ w. children w id)
   pub places : (id : FullNodeId) → ReadsOutline (λ w. place_of w id)

@@ -24,13 +24,19 @@ distance BottomToTop b p = b.y1 -ℤ p.y
 
 -- the last character that lies there, of those whose position and width are known
 abbrev pub character_at : Metrics → ℤ → Option ℕ
-character_at m d = find (λ k. is_between (place m k) (place m k +ℤ width m k) d) (reverse (range_with_len 0 (min (length m.positions) (length m.widths))))
+character_at m d =
+    find (λ k. is_between (place m k) (place m k +ℤ width m k) d)
+    (reverse (range_with_len 0 (min (length m.positions) (length m.widths))))
 
 -- the index at a point in a run: 0 if it has no metrics, and the end if no character lies there
 abbrev pub index_at : Point → ShownRun → ℕ
 index_at point s =
     unwrap_or
-    (option_and_then (λ b. option_and_then (λ m. option_map (λ d. unwrap_or (character_at m (distance d b (seen_from s.move_in_root point))) (count s)) s.direction) s.metrics) s.bounds)
+    (option_and_then
+    (λ b. option_and_then
+    (λ m. option_map (λ d. unwrap_or (character_at m (distance d b (seen_from s.move_in_root point))) (count s)) s.direction)
+    s.metrics)
+    s.bounds)
     0
 
 -- the run's rectangle in the root's coordinates
@@ -51,11 +57,15 @@ is_past_box point BottomToTop b = is_between b.x0 b.x1 point.x && int_lt point.y
 abbrev pub is_past : Point → ShownRun → Bool
 is_past point s = option_map_or (λ b. option_map_or (λ d. is_past_box point d b) s.direction false) (box_in_root s) false
 
--- in the last run that contains the point; left of or above the first run the document's start; past a run the end of the last such one; otherwise the document's end
+-- in the last run that contains the point; left of or above the first run the document's start; past a run the end of the last such
+-- one; otherwise the document's end
 unfoldable pub position_at_point : FlatText → Point → Position
 position_at_point t point =
     unwrap_or
-    (option_or (option_and_then (λ r. option_map (λ s. record { run = r; index = index_at point s }) (slice_get t r)) (last_run t (length t) (run_has (is_in_run point) t)))
+    (option_or
+    (option_and_then
+    (λ r. option_map (λ s. record { run = r; index = index_at point s }) (slice_get t r))
+    (last_run t (length t) (run_has (is_in_run point) t)))
     (option_or (if run_has (is_ahead_of point) t 0 then Some document_start else None)
     (option_map (end_at t) (last_run t (length t) (run_has (is_past point) t)))))
     (document_end t)

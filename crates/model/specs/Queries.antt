@@ -32,7 +32,8 @@ use Rattle.model.specs.Answers as answer
 
 -- the node with this id in the tree with this name, if it exists
 abbrev pub node_named : World → NodeId × TreeId → Option FullNodeId
-node_named w name = option_and_then (λ index. then_some (is_some (data_of w (in_tree index name.0))) (in_tree index name.0)) (index_of w name.1)
+node_named w name =
+    option_and_then (λ index. then_some (is_some (data_of w (in_tree index name.0))) (in_tree index name.0)) (index_of w name.1)
 
 -- the answer about the node with this name
 abbrev pub of_node : World → NodeId × TreeId → (FullNodeId → Answer) → Answer
@@ -99,18 +100,24 @@ answer_of w (query.Children name) = of_node w name (λ id. answer.Ids (children 
 answer_of w (query.FollowingSiblings name) = of_node w name (λ id. answer.Ids (following_siblings w id))
 answer_of w (query.PrecedingSiblings name) = of_node w name (λ id. answer.Ids (preceding_siblings w id))
 answer_of w (query.FilteredChildren name filter) = of_node w name (λ id. answer.Ids (filtered_children (filter_named filter w) w id))
-answer_of w (query.FollowingFiltered name filter) = of_node w name (λ id. answer.Ids (following_filtered_siblings (filter_named filter w) w id))
-answer_of w (query.PrecedingFiltered name filter) = of_node w name (λ id. answer.Ids (preceding_filtered_siblings (filter_named filter w) w id))
+answer_of w (query.FollowingFiltered name filter) =
+    of_node w name (λ id. answer.Ids (following_filtered_siblings (filter_named filter w) w id))
+answer_of w (query.PrecedingFiltered name filter) =
+    of_node w name (λ id. answer.Ids (preceding_filtered_siblings (filter_named filter w) w id))
 answer_of w (query.Label name) = of_node w name (λ id. answer.Text (label_of w id))
 answer_of w (query.Value name) = of_node w name (λ id. answer.Text (value_of w id))
 answer_of w (query.Set name filter) =
-    of_node w name (λ id. answer.Set (computed_size_of_set (filter_named filter w) w id) (computed_position_in_set (filter_named filter w) w id))
+    of_node w name
+    (λ id. answer.Set (computed_size_of_set (filter_named filter w) w id) (computed_position_in_set (filter_named filter w) w id))
 answer_of w (query.Text name) = of_node w name (λ id. answer.Text (text_in_runs w id))
 answer_of w (query.Hit name point filter) = of_node w name (λ id. answer.Node (hit (filter_named filter w) w id point))
 answer_of w query.Focus = answer.Node (shown_focus w)
-answer_of w (query.Move name at move) = of_text w name (λ t. of_position t at (λ p. answer.Position (option_and_then (raw_of t) (moved t p move))))
+answer_of w (query.Move name at move) =
+    of_text w name (λ t. of_position t at (λ p. answer.Position (option_and_then (raw_of t) (moved t p move))))
 answer_of w (query.Indexes name at) =
-    of_text w name (λ t. of_position t at (λ p. answer.Indexes (moves.to_global_usv_index t p) (moves.to_global_utf16_index t p) (moves.to_line_index t p)))
+    of_text w name
+    (λ t. of_position t at
+    (λ p. answer.Indexes (moves.to_global_usv_index t p) (moves.to_global_utf16_index t p) (moves.to_line_index t p)))
 answer_of w (query.RangeText name from to) =
     of_text w name (λ t. of_position t from (λ p. of_position t to (λ q. answer.Text (Some (text_between t p q)))))
 

@@ -43,7 +43,8 @@ pub record OfSecret : Type 0 where
   pub indexes : answer_of one_secret (query.Indexes (in_root 0) (start_at 3)) ≡ answer.Indexes 3 3 1
   pub end_side : answer_of one_secret (query.Indexes (in_root 0) (end_at 2)) ≡ answer.Indexes 2 2 0
   pub no_index : answer_of one_secret (query.Indexes (in_root 0) (start_at 5)) ≡ answer.NotText
-  pub moved : answer_of one_secret (query.Move (in_root 0) (start_at 0) move.ForwardToWordStart) ≡ answer.Position (Some (record { node = node 2; character_index = 2 }))
+  pub moved : answer_of one_secret (query.Move (in_root 0) (start_at 0) move.ForwardToWordStart)
+      ≡ answer.Position (Some (record { node = node 2; character_index = 2 }))
   pub last : answer_of one_secret (query.Move (in_root 0) (start_at 4) move.ForwardToCharacterStart) ≡ answer.Position None
   pub range : answer_of one_secret (query.RangeText (in_root 0) (start_at 1) (start_at 3)) ≡ answer.Text (Some (bullets 2))
   pub before : answer_of one_secret (query.RangeText (in_root 0) (start_at 3) (start_at 1)) ≡ answer.Text (Some [])

@@ -14,7 +14,8 @@ use Rattle.model.specs.Queries.{node_named, raw_of}
 
 -- the node with a name is the one with this id in its tree and this tree
 abbrev pub NamedNodeIsLocated : Type 0
-NamedNodeIsLocated = (w : World) (name : NodeId × TreeId) (id : FullNodeId) → IsState w → (node_named w name ≡ Some id) ↔ (local_id_of w id ≡ Some name)
+NamedNodeIsLocated =
+    (w : World) (name : NodeId × TreeId) (id : FullNodeId) → IsState w → (node_named w name ≡ Some id) ↔ (local_id_of w id ≡ Some name)
 
 -- `shown_focus` is the focus, and nothing else is
 abbrev pub ShownFocusIsFocus : Type 0

@@ -54,7 +54,8 @@ visited_runs t r = range_with_len (biased_to_start t r.start).run ((biased_to_en
 
 -- of a run: from the start, if that is in it, up to the end, if that is in it
 abbrev pub piece_in : FlatText → Range → ℕ → Piece
-piece_in t r k = record { run = k; from = if r.start.run == k then r.start.index else 0; to = if r.end.run == k then r.end.index else count_in t k }
+piece_in t r k =
+    record { run = k; from = if r.start.run == k then r.start.index else 0; to = if r.end.run == k then r.end.index else count_in t k }
 
 -- of a degenerate range: nothing, in the run of its start
 abbrev pub caret_piece : Range → Piece
@@ -88,7 +89,8 @@ pub data Property (A : Type 0) : Type 0 where
 -- the value of a property of a range's runs
 abbrev pub IsPropertyOf : {A : Type 0} → (FullNodeId → A) → FlatText → Range → Property A → Type 0
 IsPropertyOf of t r (Single v) = All (λ run. of run ≡ v) (passed_runs t r)
-IsPropertyOf of t r Mixed = (run other : FullNodeId) × Contains (passed_runs t r) run × Contains (passed_runs t r) other × (of run ≢ of other)
+IsPropertyOf of t r Mixed =
+    (run other : FullNodeId) × Contains (passed_runs t r) run × Contains (passed_runs t r) other × (of run ≢ of other)
 
 -- ---- boxes
 
@@ -130,7 +132,15 @@ piece_rect b m direction count p =
 -- the box of a piece, if its run has bounds, metrics and a direction
 abbrev pub piece_box : FlatText → Piece → Option WideRect
 piece_box t p =
-    option_and_then (λ s. option_and_then (λ b. option_and_then (λ m. option_map (λ d. ordered_rect (moved_rect (piece_rect b m d (length s.characters) p) s.move)) s.direction) s.metrics) s.bounds) (slice_get t p.run)
+    option_and_then
+    (λ s. option_and_then
+    (λ b. option_and_then
+    (λ m. option_map
+    (λ d. ordered_rect (moved_rect (piece_rect b m d (length s.characters) p) s.move))
+    s.direction)
+    s.metrics)
+    s.bounds)
+    (slice_get t p.run)
 
 -- all of them, if all are known
 abbrev pub all_given : {A : Type 0} → List (Option A) → Option (List A)
@@ -150,7 +160,9 @@ run_named t raw = position (λ s. s.id.node.0 == raw.node.0) t
 -- the position that is named, if it exists
 abbrev pub position_named : FlatText → TextPosition → Option Position
 position_named t raw =
-    option_and_then (λ r. if nat_le raw.character_index (count_in t r) then Some (record { run = r; index = raw.character_index }) else None) (run_named t raw)
+    option_and_then
+    (λ r. if nat_le raw.character_index (count_in t r) then Some (record { run = r; index = raw.character_index }) else None)
+    (run_named t raw)
 
 -- the same, with an index past the run's end clamped to it
 abbrev pub nearest_named : FlatText → TextPosition → Option Position
@@ -201,4 +213,5 @@ pub record IsWeak (w : World) (root : FullNodeId) (r : Range) (weak : WeakRange)
 abbrev pub upgraded_range : World → WeakRange → Option Range
 upgraded_range w weak =
     let t = flat_text w weak.root in
-    if supports_text_ranges w weak.root then option_and_then (λ p. option_map (range_between t p) (position_named t weak.end)) (position_named t weak.start) else None
+    if supports_text_ranges w weak.root
+    then option_and_then (λ p. option_map (range_between t p) (position_named t weak.end)) (position_named t weak.start) else None

@@ -17,7 +17,8 @@ FocusGoesAt old new id = (before after : Option FullNodeId) × FocusGoes old new
 abbrev pub Reason : World → World → Option FullNodeId → PlanEvent → Type 0
 Reason old new root (Added id) = IsNode new id × ¬ (IsNode old id)
 Reason old new root (Updated id) =
-    (IsNode old id × IsNode new id) × (data_of old id ≢ data_of new id ⊎ place_of old id ≢ place_of new id ⊎ root ≡ Some id ⊎ FocusGoesAt old new id)
+    (IsNode old id × IsNode new id)
+    × (data_of old id ≢ data_of new id ⊎ place_of old id ≢ place_of new id ⊎ root ≡ Some id ⊎ FocusGoesAt old new id)
 Reason old new root (FocusMoved before after) = FocusGoes old new before after
 Reason old new root (Removed id) = IsNode old id × ¬ (IsNode new id)
 

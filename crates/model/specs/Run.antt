@@ -35,7 +35,9 @@ Does old (ToUpdate u) new told Accepted =
 Does old (ToUpdate u) new told (Refused fault) = Stands old u fault × (new ≡ old) × (told ≡ [])
 Does old (ToUpdate u) new told OutOfMemory = (new ≡ old) × (told ≡ [])
 Does old (ToUpdate u) new told (Answered answer) = ⊥
-Does old (ToHostFocus focused) new told Accepted = (new ≡ with_host old focused) × (differences : List PlanEvent) × AreOfFocus old new [] differences × (told ≡ events old new differences)
+Does old (ToHostFocus focused) new told Accepted =
+    (new ≡ with_host old focused) × (differences : List PlanEvent) × AreOfFocus old new [] differences
+    × (told ≡ events old new differences)
 Does old (ToHostFocus focused) new told (Refused fault) = ⊥
 Does old (ToHostFocus focused) new told OutOfMemory = ⊥
 Does old (ToHostFocus focused) new told (Answered answer) = ⊥

@@ -23,12 +23,15 @@ ShapeKeepsAnswers = (p : FullNodeId) (w v : World) → EqualShape p w v → (q :
 
 -- alike updates of alike worlds break the same rules
 abbrev pub AlikeUpdatesFailAlike : Type 0
-AlikeUpdatesFailAlike = (p : FullNodeId) (w v : World) (u x : UpdateData) → AreAlikeWorlds p w v → AreAlikeUpdates p w u x → (f : Fault) → Stands w u f ↔ Stands v x f
+AlikeUpdatesFailAlike =
+    (p : FullNodeId) (w v : World) (u x : UpdateData) → AreAlikeWorlds p w v → AreAlikeUpdates p w u x → (f : Fault)
+    → Stands w u f ↔ Stands v x f
 
 -- if they are accepted they leave worlds with the same outline: these differ in values and lengths of characters alone
 abbrev pub AlikeUpdatesLeaveOneOutline : Type 0
 AlikeUpdatesLeaveOneOutline =
-    (p : FullNodeId) (w v next other : World) (u x : UpdateData) → AreAlikeWorlds p w v → AreAlikeUpdates p w u x → IsAccepted w u next → IsAccepted v x other → outline next ≡ outline other
+    (p : FullNodeId) (w v next other : World) (u x : UpdateData) → AreAlikeWorlds p w v → AreAlikeUpdates p w u x → IsAccepted w u next
+    → IsAccepted v x other → outline next ≡ outline other
 
 -- no word start is kept in the text of a password, whatever word starts were sent
 abbrev pub PasswordsHideWords : Type 0
@@ -37,9 +40,12 @@ PasswordsHideWords = (w : World) (root : FullNodeId) → is_password w root ≡ 
 -- alike commands of alike worlds that leave alike worlds have alike replies and report the same openly
 abbrev pub CommandsKeepSecret : Type 0
 CommandsKeepSecret =
-    (p : FullNodeId) (w next v other : World) (c d : CommandData) (told heard : List Event) (r s : ReplyData) → AreAlikeWorlds p w v → AreAlikeCommands p w c d → WantAlike r s →
-    Does w c next told r → Does v d other heard s → AreAlikeWorlds p next other → ReplyAlike p w c r s × (told_openly p told ≡ told_openly p heard)
+    (p : FullNodeId) (w next v other : World) (c d : CommandData) (told heard : List Event) (r s : ReplyData) → AreAlikeWorlds p w v
+    → AreAlikeCommands p w c d → WantAlike r s →
+    Does w c next told r → Does v d other heard s → AreAlikeWorlds p next other
+    → ReplyAlike p w c r s × (told_openly p told ≡ told_openly p heard)
 
 -- and so are alike runs
 abbrev pub RunsKeepSecret : Type 0
-RunsKeepSecret = (w v : World) (cs : List CommandData) (told : List Event) (rs : List ReplyData) → Runs w cs v told rs → RunsAlike w cs told rs
+RunsKeepSecret =
+    (w v : World) (cs : List CommandData) (told : List Event) (rs : List ReplyData) → Runs w cs v told rs → RunsAlike w cs told rs

@@ -45,10 +45,52 @@ style_of w id = record {
 
 abbrev pub coded_style : Coded Style
 coded_style =
-    code_by (Option (List ℕ) × (Option (List ℕ) × (Option ℕ × (Option ℕ × (Option Color × (Option Color × (Option TextDecoration × (Option TextDecoration × (Option TextDecoration × (Option TextAlign × Option VerticalOffset))))))))))
-    (coded× (coded_option (coded_list coded_ℕ)) (coded× (coded_option (coded_list coded_ℕ)) (coded× (coded_option coded_ℕ) (coded× (coded_option coded_ℕ) (coded× (coded_option color_row.coded) (coded× (coded_option color_row.coded) (coded× (coded_option decoration_row.coded) (coded× (coded_option decoration_row.coded) (coded× (coded_option decoration_row.coded) (coded× (coded_option align_row.coded) (coded_option offset_row.coded)))))))))))
-    (λ s. (s.font_family, (s.language, (s.font_size, (s.font_weight, (s.background_color, (s.foreground_color, (s.overline, (s.strikethrough, (s.underline, (s.text_align, s.vertical_offset)))))))))))
-    (λ p. record { font_family = p.0; language = p.1.0; font_size = p.1.1.0; font_weight = p.1.1.1.0; background_color = p.1.1.1.1.0; foreground_color = p.1.1.1.1.1.0; overline = p.1.1.1.1.1.1.0; strikethrough = p.1.1.1.1.1.1.1.0; underline = p.1.1.1.1.1.1.1.1.0; text_align = p.1.1.1.1.1.1.1.1.1.0; vertical_offset = p.1.1.1.1.1.1.1.1.1.1 })
+    code_by
+    (Option (List ℕ)
+    × (Option (List ℕ)
+    × (Option ℕ
+    × (Option ℕ
+    × (Option Color
+    × (Option Color
+    × (Option TextDecoration × (Option TextDecoration × (Option TextDecoration × (Option TextAlign × Option VerticalOffset))))))))))
+    (coded× (coded_option (coded_list coded_ℕ))
+    (coded× (coded_option (coded_list coded_ℕ))
+    (coded× (coded_option coded_ℕ)
+    (coded× (coded_option coded_ℕ)
+    (coded× (coded_option color_row.coded)
+    (coded× (coded_option color_row.coded)
+    (coded× (coded_option decoration_row.coded)
+    (coded× (coded_option decoration_row.coded)
+    (coded× (coded_option decoration_row.coded) (coded× (coded_option align_row.coded) (coded_option offset_row.coded)))))))))))
+    (λ s. (
+      s.font_family,
+      (
+        s.language,
+        (
+          s.font_size,
+          (
+            s.font_weight,
+            (
+              s.background_color,
+              (s.foreground_color, (s.overline, (s.strikethrough, (s.underline, (s.text_align, s.vertical_offset))))),
+            ),
+          ),
+        ),
+      ),
+    ))
+    (λ p. record {
+      font_family = p.0;
+      language = p.1.0;
+      font_size = p.1.1.0;
+      font_weight = p.1.1.1.0;
+      background_color = p.1.1.1.1.0;
+      foreground_color = p.1.1.1.1.1.0;
+      overline = p.1.1.1.1.1.1.0;
+      strikethrough = p.1.1.1.1.1.1.1.0;
+      underline = p.1.1.1.1.1.1.1.1.0;
+      text_align = p.1.1.1.1.1.1.1.1.1.0;
+      vertical_offset = p.1.1.1.1.1.1.1.1.1.1;
+    })
     (λ _. refl)
 
 -- whether two formats are equal

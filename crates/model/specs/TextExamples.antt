@@ -57,7 +57,9 @@ letters bs = map (λ b. b ∷ []) bs
 
 -- The lines "ab" and "cd", one word each.
 abbrev pub two_lines : FlatText
-two_lines = record (run_of (letters (97 ∷ 98 ∷ 10 ∷ []))) { has_newline = true; word_starts = 0 ∷ [] } ∷ record (run_of (letters (99 ∷ 100 ∷ []))) { word_starts = 0 ∷ [] } ∷ []
+two_lines =
+    record (run_of (letters (97 ∷ 98 ∷ 10 ∷ []))) { has_newline = true; word_starts = 0 ∷ [] }
+    ∷ record (run_of (letters (99 ∷ 100 ∷ []))) { word_starts = 0 ∷ [] } ∷ []
 
 pub record TwoLines : Type 0 where
   pub word_start : forward_to_word_start two_lines (at 0 0) ≡ at 1 0
@@ -118,7 +120,8 @@ pub record WideCharacter : Type 0 where
 -- Two runs on one line, and one on a line of its own.
 abbrev pub linked_runs : FlatText
 linked_runs =
-    record (run_of (letters (97 ∷ 98 ∷ []))) { goes_on = true } ∷ record (run_of (letters (99 ∷ 10 ∷ []))) { goes_back = true; has_newline = true }
+    record (run_of (letters (97 ∷ 98 ∷ []))) { goes_on = true }
+    ∷ record (run_of (letters (99 ∷ 10 ∷ []))) { goes_back = true; has_newline = true }
     ∷ run_of (letters (100 ∷ [])) ∷ []
 
 pub record LinkedRuns : Type 0 where
@@ -211,7 +214,8 @@ numbered n = record { 0 = n }
 
 -- node n of tree 0 as a run with this value, cut by these lengths
 abbrev pub sent : ℕ → List ℕ → List ℕ → SentRun
-sent n value lengths = record { id = in_tree 0 (numbered n); node = record (empty_node TextRun) { value = Some value; character_lengths = lengths } }
+sent n value lengths =
+    record { id = in_tree 0 (numbered n); node = record (empty_node TextRun) { value = Some value; character_lengths = lengths } }
 
 abbrev pub linked : SentRun → Option NodeId → Option NodeId → SentRun
 linked r previous next = record r { node = record r.node { previous_on_line = previous; next_on_line = next } }
@@ -256,14 +260,17 @@ pub record SomeMakeTexts : Type 0 where
   pub past_the_last : are_linked_in_order (linked one None (Some (numbered 2)) ∷ []) ≡ false
   pub own_tree : lie_in_tree 0 (one ∷ []) ≡ true
   pub other_tree : lie_in_tree 1 (one ∷ []) ≡ false
-  pub too_few_positions : are_measured false (with_positions (sent 1 (97 ∷ 98 ∷ 99 ∷ []) (1 ∷ 1 ∷ 1 ∷ [])) (pos 0 ∷ pos 1 ∷ []) ∷ []) ≡ false
-  pub enough_for_a_password : are_measured true (with_positions (sent 1 (97 ∷ 98 ∷ 99 ∷ []) (1 ∷ 1 ∷ 1 ∷ [])) (pos 0 ∷ pos 1 ∷ []) ∷ []) ≡ true
+  pub too_few_positions : are_measured false (with_positions (sent 1 (97 ∷ 98 ∷ 99 ∷ []) (1 ∷ 1 ∷ 1 ∷ [])) (pos 0 ∷ pos 1 ∷ []) ∷ [])
+      ≡ false
+  pub enough_for_a_password : are_measured true (with_positions (sent 1 (97 ∷ 98 ∷ 99 ∷ []) (1 ∷ 1 ∷ 1 ∷ [])) (pos 0 ∷ pos 1 ∷ []) ∷ [])
+      ≡ true
   pub none_for_a_password : are_measured true (with_positions (sent 1 (97 ∷ 98 ∷ 99 ∷ []) (1 ∷ 1 ∷ 1 ∷ [])) [] ∷ []) ≡ false
 
 -- Two runs of one size, and one of another.
 abbrev pub styled : FlatText
 styled =
-    record (run_of (letters (97 ∷ 98 ∷ []))) { style = record no_style { font_size = Some 10 } } ∷ record (run_of (letters (99 ∷ []))) { style = record no_style { font_size = Some 10 } }
+    record (run_of (letters (97 ∷ 98 ∷ []))) { style = record no_style { font_size = Some 10 } }
+    ∷ record (run_of (letters (99 ∷ []))) { style = record no_style { font_size = Some 10 } }
     ∷ record (run_of (letters (100 ∷ []))) { style = record no_style { font_size = Some 12 } } ∷ []
 
 pub record Styled : Type 0 where
@@ -291,7 +298,13 @@ pub record MeasuredAlike : Type 0 where
 
 -- A letter above a letter, each with a box and no metrics.
 abbrev pub boxed_letter : ℕ → ShownRun
-boxed_letter y = record (run_of (letters (97 ∷ []))) { bounds = Some (record { x0 = pos 0; y0 = pos y; x1 = pos 10; y1 = pos (y + 10) }); direction = Some LeftToRight }
+boxed_letter y =
+    record
+    (run_of (letters (97 ∷ []))) {
+      bounds = Some
+          (record { x0 = pos 0; y0 = pos y; x1 = pos 10; y1 = pos (y + 10) });
+      direction = Some LeftToRight;
+    }
 
 abbrev pub stacked : FlatText
 stacked = boxed_letter 0 ∷ boxed_letter 20 ∷ []

@@ -34,11 +34,14 @@ AnswersWhetherText = (w : World) (root : FullNodeId) → IsTrue (supports_text_r
 -- the position of an index of a position is its start side
 abbrev pub IndexesComeBack : Type 0
 IndexesComeBack =
-    (t : FlatText) (len : List ℕ → ℕ) → IsWhole t → All (λ c. 0 < len c) (characters t) → (p : Position) → IsPosition t p → position_of len t (global_index len t p) ≡ Some (biased_to_start t p)
+    (t : FlatText) (len : List ℕ → ℕ) → IsWhole t → All (λ c. 0 < len c) (characters t) → (p : Position) → IsPosition t p
+    → position_of len t (global_index len t p) ≡ Some (biased_to_start t p)
 
 -- a bias keeps the offset
 abbrev pub BiasKeepsOffset : Type 0
-BiasKeepsOffset = (t : FlatText) (p : Position) → IsPosition t p → (offset t (biased_to_start t p) ≡ offset t p) × (offset t (biased_to_end t p) ≡ offset t p)
+BiasKeepsOffset =
+    (t : FlatText) (p : Position) → IsPosition t p
+    → (offset t (biased_to_start t p) ≡ offset t p) × (offset t (biased_to_end t p) ≡ offset t p)
 
 -- two positions compare as equal exactly if their offsets are equal
 abbrev pub EqualAtOneOffset : Type 0
@@ -46,13 +49,17 @@ EqualAtOneOffset = (t u : FlatText) (p q : Position) → (position_cmp t p u q �
 
 -- the sides of a position's offset are the position's biases
 abbrev pub SidesAreBiases : Type 0
-SidesAreBiases = (t : FlatText) (p : Position) → IsWhole t → IsPosition t p → (start_side t (offset t p) ≡ biased_to_start t p) × (end_side t (offset t p) ≡ biased_to_end t p)
+SidesAreBiases =
+    (t : FlatText) (p : Position) → IsWhole t → IsPosition t p
+    → (start_side t (offset t p) ≡ biased_to_start t p) × (end_side t (offset t p) ≡ biased_to_end t p)
 
 -- a search goes run by run: it ends at the first run that passes, and else goes on with the runs left
 pub record SearchesGoRunByRun : Type 0 where
-  pub on : (t : FlatText) (r : ℕ) (test : ℕ → Bool) → r < length t → first_run t r test ≡ (if test r then Some r else first_run t (r + 1) test)
+  pub on : (t : FlatText) (r : ℕ) (test : ℕ → Bool) → r < length t
+      → first_run t r test ≡ (if test r then Some r else first_run t (r + 1) test)
   pub at_end : (t : FlatText) (r : ℕ) (test : ℕ → Bool) → length t ≤ r → first_run t r test ≡ None
-  pub back : (t : FlatText) (r : ℕ) (test : ℕ → Bool) → r < length t → last_run t (r + 1) test ≡ (if test r then Some r else last_run t r test)
+  pub back : (t : FlatText) (r : ℕ) (test : ℕ → Bool) → r < length t
+      → last_run t (r + 1) test ≡ (if test r then Some r else last_run t r test)
   pub at_start : (t : FlatText) (test : ℕ → Bool) → last_run t 0 test ≡ None
 
 -- the text of a range is its characters
@@ -74,7 +81,8 @@ ShapeKeepsSecret = (p : FullNodeId) (w v : World) → EqualShape p w v → (flat
 
 -- each character of a well-formed text has a scalar, and so a UTF-16 code unit
 abbrev pub CharactersHaveLength : Type 0
-CharactersHaveLength = (w : World) (root : FullNodeId) → IsText w root → All (λ c. (0 < scalar_len c) × (0 < utf16_len c)) (characters (flat_text w root))
+CharactersHaveLength =
+    (w : World) (root : FullNodeId) → IsText w root → All (λ c. (0 < scalar_len c) × (0 < utf16_len c)) (characters (flat_text w root))
 
 -- the marks are the positions where words begin
 abbrev pub MarksAreWordStarts : Type 0
@@ -89,8 +97,10 @@ pub record IsNearestAbove (t : FlatText) (Mark : Position → Type 0) (p q : Pos
 -- a movement to the next word ends at the nearest word start above, or else at the end, past which there is none
 abbrev pub WordStartIsNearest : Type 0
 WordStartIsNearest =
-    (t : FlatText) → IsWhole t → (p : Position) → IsPosition t p → IsNearestAbove t (λ q. IsPosition t q × IsTrue (is_word_start t q)) p (forward_to_word_start t p)
-    ⊎ ((forward_to_word_start t p ≡ document_end t) × ((m : Position) → IsPosition t m → IsTrue (is_word_start t m) → offset t m ≤ offset t p))
+    (t : FlatText) → IsWhole t → (p : Position) → IsPosition t p
+    → IsNearestAbove t (λ q. IsPosition t q × IsTrue (is_word_start t q)) p (forward_to_word_start t p)
+    ⊎ ((forward_to_word_start t p ≡ document_end t)
+    × ((m : Position) → IsPosition t m → IsTrue (is_word_start t m) → offset t m ≤ offset t p))
 
 -- the nearest mark below
 pub record IsNearestBelow (t : FlatText) (Mark : Position → Type 0) (p q : Position) : Type 0 where
@@ -101,8 +111,10 @@ pub record IsNearestBelow (t : FlatText) (Mark : Position → Type 0) (p q : Pos
 -- likewise back to a word
 abbrev pub WordStartBeforeIsNearest : Type 0
 WordStartBeforeIsNearest =
-    (t : FlatText) → IsWhole t → (p : Position) → IsPosition t p → IsNearestBelow t (λ q. IsPosition t q × IsTrue (is_word_start t q)) p (backward_to_word_start t p)
-    ⊎ ((backward_to_word_start t p ≡ document_start) × ((m : Position) → IsPosition t m → IsTrue (is_word_start t m) → offset t p ≤ offset t m))
+    (t : FlatText) → IsWhole t → (p : Position) → IsPosition t p
+    → IsNearestBelow t (λ q. IsPosition t q × IsTrue (is_word_start t q)) p (backward_to_word_start t p)
+    ⊎ ((backward_to_word_start t p ≡ document_start)
+    × ((m : Position) → IsPosition t m → IsTrue (is_word_start t m) → offset t p ≤ offset t m))
 
 -- a run from the one up to the other goes on to the next
 abbrev pub AreJoined : FlatText → ℕ → ℕ → Type 0

@@ -86,7 +86,8 @@ are_cut runs = list_all (λ r. is_cut_by (run_value r) r.node.character_lengths)
 
 -- word starts rise and are numbers of characters
 abbrev pub has_rising_words : SentRun → Bool
-has_rising_words r = list_all (λ p. nat_lt p.0 p.1) (neighbours r.node.word_starts) && list_all (λ k. nat_lt k (said_count r)) r.node.word_starts
+has_rising_words r =
+    list_all (λ p. nat_lt p.0 p.1) (neighbours r.node.word_starts) && list_all (λ k. nat_lt k (said_count r)) r.node.word_starts
 
 abbrev pub have_rising_words : List SentRun → Bool
 have_rising_words runs = list_all has_rising_words runs
@@ -101,13 +102,16 @@ leads_to link r = option_map_or (λ n. n.0 == r.id.node.0) link false
 
 -- two neighbours are linked both ways or not at all
 abbrev pub links_agree : SentRun → SentRun → Bool
-links_agree a b = (is_none a.node.next_on_line && is_none b.node.previous_on_line) || (leads_to a.node.next_on_line b && leads_to b.node.previous_on_line a)
+links_agree a b =
+    (is_none a.node.next_on_line && is_none b.node.previous_on_line)
+    || (leads_to a.node.next_on_line b && leads_to b.node.previous_on_line a)
 
 -- neighbours agree, the first run has no link back, and the last one none onwards
 abbrev pub are_linked_in_order : List SentRun → Bool
 are_linked_in_order runs =
     list_all (λ p. links_agree p.0 p.1) (neighbours runs)
-    && (option_map_or (λ r. is_none r.node.previous_on_line) (slice_get runs 0) true && option_map_or (λ r. is_none r.node.next_on_line) (slice_get runs (length runs - 1)) true)
+    && (option_map_or (λ r. is_none r.node.previous_on_line) (slice_get runs 0) true
+    && option_map_or (λ r. is_none r.node.next_on_line) (slice_get runs (length runs - 1)) true)
 
 -- the values together have fewer than 2^64 bytes
 abbrev pub have_size : List SentRun → Bool
@@ -140,7 +144,11 @@ pub record IsText (w : World) (root : FullNodeId) : Type 0 where
 -- the same of these runs, as a boolean
 abbrev pub make_text : World → FullNodeId → List SentRun → Bool
 make_text w root runs =
-    has_runs w root runs && (lie_in_tree root.tree runs && (are_cut runs && (have_rising_words runs && (are_empty_last runs && (are_linked_in_order runs && (have_size runs && are_measured (is_password w root) runs))))))
+    has_runs w root runs
+    && (lie_in_tree root.tree runs
+    && (are_cut runs
+    && (have_rising_words runs
+    && (are_empty_last runs && (are_linked_in_order runs && (have_size runs && are_measured (is_password w root) runs))))))
 
 unfoldable pub supports_text_ranges : World → FullNodeId → Bool
 supports_text_ranges w root = make_text w root (sent_runs w root)

@@ -31,11 +31,13 @@ root_after w u = option_map_or (λ info. Some info.root) u.info (option_map (λ 
 
 -- the update's tree has that root and the update's focus
 abbrev pub trees_after : World → UpdateData → FinMap nat_cmp Tree
-trees_after w u = option_map_or (λ root. insert w.trees (index_for w u.name) (record { root = root; focus = u.focus })) (root_after w u) w.trees
+trees_after w u =
+    option_map_or (λ root. insert w.trees (index_for w u.name) (record { root = root; focus = u.focus })) (root_after w u) w.trees
 
 -- tree info for the root tree replaces the toolkit texts; that of another tree leaves them
 abbrev pub toolkit_after : World → UpdateData → Option (List ℕ) × Option (List ℕ)
-toolkit_after w u = option_map_or (λ info. if index_for w u.name == 0 then (info.toolkit_name, info.toolkit_version) else w.toolkit) u.info w.toolkit
+toolkit_after w u =
+    option_map_or (λ info. if index_for w u.name == 0 then (info.toolkit_name, info.toolkit_version) else w.toolkit) u.info w.toolkit
 
 -- The world with the update's nodes, root, focus and texts instead of its tree's old ones, before anything is dropped.
 abbrev pub merged_world : World → UpdateData → World
@@ -102,21 +104,27 @@ StandsApart old u MissingTreeInfo = IsFirst old × (u.info ≡ None)
 -- a first update is for another tree than the root tree
 StandsApart old u NotRootTree = IsFirst old × (u.name ≢ ROOT_NAME)
 -- the root of the update's tree, or a child that a node that counts lists, has no data
-StandsApart old u (MissingData n) = (id : FullNodeId) × (id.node ≡ n) × ¬ (IsNode (merged_world old u) id) × ((root_of (merged_world old u) (index_for old u.name) ≡ Some id) ⊎ ((p : Place) × IsListedAt old u p id))
+StandsApart old u (MissingData n) =
+    (id : FullNodeId) × (id.node ≡ n) × ¬ (IsNode (merged_world old u) id)
+    × ((root_of (merged_world old u) (index_for old u.name) ≡ Some id) ⊎ ((p : Place) × IsListedAt old u p id))
 -- a node of the update isn't reached
 StandsApart old u (NotReached n) = (id : FullNodeId) × (id.node ≡ n) × IsNamed old u id × ¬ (Reached (merged_world old u) id)
 -- two entries have this id
 StandsApart old u (NamedTwice n) = (i j : ℕ) × (i ≢ j) × (named_at u i ≡ Some n) × (named_at u j ≡ Some n)
 -- a node is listed at two places, or a root at one
-StandsApart old u (ListedTwice n) = (id : FullNodeId) × (id.node ≡ n) × (p : Place) × IsListedAt old u p id × (((q : Place) × (p ≢ q) × IsListedAt old u q id) ⊎ (root_of (merged_world old u) id.tree ≡ Some id))
+StandsApart old u (ListedTwice n) =
+    (id : FullNodeId) × (id.node ≡ n) × (p : Place) × IsListedAt old u p id
+    × (((q : Place) × (p ≢ q) × IsListedAt old u q id) ⊎ (root_of (merged_world old u) id.tree ≡ Some id))
 -- a node grafts the root tree
 StandsApart old u (RootTreeGrafted n) = (id : FullNodeId) × (id.node ≡ n) × IsGraftOf old u id ROOT_NAME
 -- a graft lists children
-StandsApart old u (GraftWithChildren n) = (id : FullNodeId) × (id.node ≡ n) × (name : TreeId) × IsGraftOf old u id name × (listed_ids (merged_world old u) id ≢ [])
+StandsApart old u (GraftWithChildren n) =
+    (id : FullNodeId) × (id.node ≡ n) × (name : TreeId) × IsGraftOf old u id name × (listed_ids (merged_world old u) id ≢ [])
 -- two nodes graft this tree, present or not
 StandsApart old u (GraftedTwice name) = (id other : FullNodeId) × (id ≢ other) × IsGraftOf old u id name × IsGraftOf old u other name
 -- a later update is for another tree than the root tree, and no node grafts it before the update
-StandsApart old u (NoGraft name) = ¬ (IsFirst old) × (u.name ≡ name) × (name ≢ ROOT_NAME) × ((id : FullNodeId) → ¬ (graft_name old id ≡ Some name))
+StandsApart old u (NoGraft name) =
+    ¬ (IsFirst old) × (u.name ≡ name) × (name ≢ ROOT_NAME) × ((id : FullNodeId) → ¬ (graft_name old id ≡ Some name))
 -- a later update is for a tree that isn't present, and has no tree info
 StandsApart old u (NoFirstTreeInfo name) = ¬ (IsFirst old) × (u.name ≡ name) × (get old.trees (index_for old name) ≡ None) × (u.info ≡ None)
 -- a later update has a new name, and no index is left
@@ -126,13 +134,15 @@ StandsApart old u (FocusOnEmptyGraft name) = ⊥
 
 -- the chain of the focus comes to a reached graft of a kept tree, and the tree with this name isn't present
 abbrev pub IsOnEmptyGraft : World → TreeId → Type 0
-IsOnEmptyGraft m name = (id : FullNodeId) × OnChain m id × Kept m id.tree × Reached m id × (graft_name m id ≡ Some name) × (root_named m name ≡ None)
+IsOnEmptyGraft m name =
+    (id : FullNodeId) × OnChain m id × Kept m id.tree × Reached m id × (graft_name m id ≡ Some name) × (root_named m name ≡ None)
 
 -- The update of the world old breaks the rule. The rules of the focus count only if no other is broken.
 abbrev pub Stands : World → UpdateData → Fault → Type 0
 -- the chain of the focus comes to no empty graft, and ends at a node that isn't reached
 Stands old u (FocusMissing n) =
-    ((f : Fault) → ¬ (StandsApart old u f)) × ((name : TreeId) → ¬ (IsOnEmptyGraft (merged_world old u) name)) × (id : FullNodeId) × (id.node ≡ n) × OnChain (merged_world old u) id × ¬ (Reached (merged_world old u) id)
+    ((f : Fault) → ¬ (StandsApart old u f)) × ((name : TreeId) → ¬ (IsOnEmptyGraft (merged_world old u) name)) × (id : FullNodeId)
+    × (id.node ≡ n) × OnChain (merged_world old u) id × ¬ (Reached (merged_world old u) id)
 -- it comes to an empty graft
 Stands old u (FocusOnEmptyGraft name) = ((f : Fault) → ¬ (StandsApart old u f)) × IsOnEmptyGraft (merged_world old u) name
 Stands old u f = StandsApart old u f
@@ -165,4 +175,5 @@ pub record KeepsRules (old : World) (u : UpdateData) : Type 0 where
   pub later_has_index : ¬ (IsFirst old) → index_of old u.name ≡ None → length old.known < 2 ^ 32 - 1
   -- the chain of the focus meets reached nodes alone, and no graft of a tree that isn't present
   pub focus_reached : (id : FullNodeId) → OnChain (merged_world old u) id → Reached (merged_world old u) id
-  pub focus_goes_on : (id : FullNodeId) (name : TreeId) → OnChain (merged_world old u) id → graft_name (merged_world old u) id ≡ Some name → IsSome (root_named (merged_world old u) name)
+  pub focus_goes_on : (id : FullNodeId) (name : TreeId) → OnChain (merged_world old u) id
+      → graft_name (merged_world old u) id ≡ Some name → IsSome (root_named (merged_world old u) name)

@@ -69,8 +69,12 @@ pub record Values : Type 0 where
 -- an input with a placeholder and runs of these values
 abbrev pub held : List (Option (List ℕ)) → List (FullNodeId × NodeData)
 held [] = (at 0 0, record (parent TextInput []) { placeholder = Some (codes "name") }) ∷ []
-held (a ∷ []) = (at 0 0, record (parent TextInput (1 ∷ [])) { placeholder = Some (codes "name") }) ∷ (at 0 1, record (parent TextRun []) { value = a }) ∷ []
-held (a ∷ b ∷ cs) = (at 0 0, record (parent TextInput (1 ∷ 2 ∷ [])) { placeholder = Some (codes "name") }) ∷ (at 0 1, record (parent TextRun []) { value = a }) ∷ (at 0 2, record (parent TextRun []) { value = b }) ∷ []
+held (a ∷ []) =
+    (at 0 0, record (parent TextInput (1 ∷ [])) { placeholder = Some (codes "name") })
+    ∷ (at 0 1, record (parent TextRun []) { value = a }) ∷ []
+held (a ∷ b ∷ cs) =
+    (at 0 0, record (parent TextInput (1 ∷ 2 ∷ [])) { placeholder = Some (codes "name") })
+    ∷ (at 0 1, record (parent TextRun []) { value = a }) ∷ (at 0 2, record (parent TextRun []) { value = b }) ∷ []
 
 abbrev pub held_place : List (Option (List ℕ)) → Option (List ℕ)
 held_place values = placeholder (one_tree None (held values)) (at 0 0)
@@ -92,7 +96,11 @@ abbrev pub moved_text : List (FullNodeId × NodeData)
 moved_text = (at 0 0, moved_by 1000 2000 (parent Window (1 ∷ [])))
     ∷ (at 0 1, moved_by 100 200 (record (parent Label (2 ∷ [])) { font_size = Some 12; text_direction = Some RightToLeft }))
     ∷ (at 0 2, moved_by 10 20 (parent GenericContainer (3 ∷ [])))
-    ∷ (at 0 3, moved_by 1 2 (record (parent TextRun []) { value = Some (codes "a\n"); character_lengths = 1 ∷ 1 ∷ []; word_starts = 0 ∷ [] })) ∷ []
+    ∷ (
+      at 0 3,
+      moved_by 1 2
+          (record (parent TextRun []) { value = Some (codes "a\n"); character_lengths = 1 ∷ 1 ∷ []; word_starts = 0 ∷ [] }),
+    ) ∷ []
 
 abbrev pub label_text : FlatText
 label_text = flat_text (one_tree None moved_text) (at 0 1)

@@ -27,14 +27,16 @@ shown_alone v = if are_alike (λ a b. a == b) (chars v) then v else bullets (len
 -- an own value as it is shown: for a password with runs that need masking, the text of the runs as it is shown
 abbrev pub shown_value : World → FullNodeId → List ℕ → List ℕ
 shown_value w id v =
-    if is_password w id then (if supports_text_ranges w id then (if needs_masking w id then document_text w id else v) else shown_alone v) else v
+    if is_password w id
+    then (if supports_text_ranges w id then (if needs_masking w id then document_text w id else v) else shown_alone v) else v
 
 -- the text of the runs is the value of a text of one line
 abbrev pub has_value_in_runs : World → FullNodeId → Bool
 has_value_in_runs w id = supports_text_ranges w id && not (says (λ d. is_multiline d.role) w id)
 
 unfoldable pub value_of : World → FullNodeId → Option (List ℕ)
-value_of w id = option_or (option_map (shown_value w id) (own_value w id)) (if has_value_in_runs w id then Some (document_text w id) else None)
+value_of w id =
+    option_or (option_map (shown_value w id) (own_value w id)) (if has_value_in_runs w id then Some (document_text w id) else None)
 
 abbrev pub has_value : World → FullNodeId → Bool
 has_value w id = is_some (own_value w id) || has_value_in_runs w id

@@ -24,7 +24,8 @@ use Rattle.model.specs.Views.{orientation, is_read_only, is_read_only_or_disable
 
 -- the world of these names, trees and nodes
 abbrev pub written : List TreeId → List (ℕ × Tree) → List (FullNodeId × NodeData) → Bool → World
-written known ts es host = record { known = known; trees = from_sorted ts; nodes = from_sorted es; toolkit = (None, None); host_focused = host }
+written known ts es host =
+    record { known = known; trees = from_sorted ts; nodes = from_sorted es; toolkit = (None, None); host_focused = host }
 
 -- at 0 is the root
 abbrev pub root_tree : ℕ → List (ℕ × Tree)
@@ -71,11 +72,15 @@ hidden_window = (at 0 0, hidden (parent Window (1 ∷ []))) ∷ (at 0 1, parent 
 
 -- a window with two grafts of trees that aren't present, one of them no container
 abbrev pub empty_grafts : List (FullNodeId × NodeData)
-empty_grafts = (at 0 0, parent Window (1 ∷ 2 ∷ [])) ∷ (at 0 1, graft (name 1)) ∷ (at 0 2, record (parent Unknown []) { tree_id = Some (record { 0 = replicate 16 1 }) }) ∷ []
+empty_grafts =
+    (at 0 0, parent Window (1 ∷ 2 ∷ [])) ∷ (at 0 1, graft (name 1))
+    ∷ (at 0 2, record (parent Unknown []) { tree_id = Some (record { 0 = replicate 16 1 }) }) ∷ []
 
 -- a list box that names its option, or itself, as its active descendant
 abbrev pub choice : ℕ → List (FullNodeId × NodeData)
-choice active = (at 0 0, parent Window (1 ∷ [])) ∷ (at 0 1, record (parent ListBox (2 ∷ [])) { active_descendant = Some (record { 0 = active }) }) ∷ (at 0 2, parent Unknown []) ∷ []
+choice active =
+    (at 0 0, parent Window (1 ∷ [])) ∷ (at 0 1, record (parent ListBox (2 ∷ [])) { active_descendant = Some (record { 0 = active }) })
+    ∷ (at 0 2, parent Unknown []) ∷ []
 
 pub record CommonAnswers : Type 0 where
   pub hidden : common_filter (one_tree None hidden_button) (at 0 1) ≡ ExcludeSubtree
@@ -100,10 +105,13 @@ pub record CommonAnswers : Type 0 where
 
 -- a window with a (graft (name 1)), whose tree is a document with a button; both trees declare their at 1 focused
 abbrev pub pushed_nodes : List (FullNodeId × NodeData)
-pushed_nodes = (at 0 0, parent Window (1 ∷ [])) ∷ (at 0 1, graft (name 1)) ∷ (at 1 0, parent Document (1 ∷ [])) ∷ (at 1 1, parent Button []) ∷ []
+pushed_nodes =
+    (at 0 0, parent Window (1 ∷ [])) ∷ (at 0 1, graft (name 1)) ∷ (at 1 0, parent Document (1 ∷ [])) ∷ (at 1 1, parent Button []) ∷ []
 
 abbrev pub pushed_trees : List (ℕ × Tree)
-pushed_trees = (0, record { root = record { 0 = 0 }; focus = record { 0 = 1 } }) ∷ (1, record { root = record { 0 = 0 }; focus = record { 0 = 1 } }) ∷ []
+pushed_trees =
+    (0, record { root = record { 0 = 0 }; focus = record { 0 = 1 } })
+    ∷ (1, record { root = record { 0 = 0 }; focus = record { 0 = 1 } }) ∷ []
 
 abbrev pub pushed : World
 pushed = written (ROOT_NAME ∷ name 1 ∷ []) pushed_trees pushed_nodes true
@@ -118,37 +126,55 @@ pub record PushedLists : Type 0 where
 abbrev pub strip : ℤ → ℤ → NodeData
 strip top bottom = record (parent Unknown []) { bounds = Some (rect (pos 0) top (pos 30) bottom) }
 
--- a clipping view of height 30; 1 to 3 end above it or at its top, 5 to 7 lie in it, 9 to 11 begin at its bottom or below it; 4 and 8 are hidden
+-- a clipping view of height 30; 1 to 3 end above it or at its top, 5 to 7 lie in it, 9 to 11 begin at its bottom or below it; 4 and 8
+-- are hidden
 abbrev pub scrolled : List (FullNodeId × NodeData)
-scrolled = (at 0 0, record (parent ScrollView (1 ∷ 2 ∷ 3 ∷ 4 ∷ 5 ∷ 6 ∷ 7 ∷ 8 ∷ 9 ∷ 10 ∷ 11 ∷ [])) { clips_children = true; bounds = Some (rect (pos 0) (pos 0) (pos 30) (pos 30)) })
-    ∷ (at 0 1, strip (negsuc 29) (negsuc 19)) ∷ (at 0 2, strip (negsuc 19) (negsuc 9)) ∷ (at 0 3, strip (negsuc 9) (pos 0)) ∷ (at 0 4, hidden (parent Unknown []))
-    ∷ (at 0 5, strip (pos 0) (pos 10)) ∷ (at 0 6, strip (pos 10) (pos 20)) ∷ (at 0 7, strip (pos 20) (pos 30)) ∷ (at 0 8, hidden (parent Unknown []))
+scrolled = (
+  at 0 0,
+  record
+      (parent ScrollView (1 ∷ 2 ∷ 3 ∷ 4 ∷ 5 ∷ 6 ∷ 7 ∷ 8 ∷ 9 ∷ 10 ∷ 11 ∷ [])) {
+        clips_children = true;
+        bounds = Some
+            (rect (pos 0) (pos 0) (pos 30) (pos 30));
+      },
+)
+    ∷ (at 0 1, strip (negsuc 29) (negsuc 19)) ∷ (at 0 2, strip (negsuc 19) (negsuc 9)) ∷ (at 0 3, strip (negsuc 9) (pos 0))
+    ∷ (at 0 4, hidden (parent Unknown []))
+    ∷ (at 0 5, strip (pos 0) (pos 10)) ∷ (at 0 6, strip (pos 10) (pos 20)) ∷ (at 0 7, strip (pos 20) (pos 30))
+    ∷ (at 0 8, hidden (parent Unknown []))
     ∷ (at 0 9, strip (pos 30) (pos 40)) ∷ (at 0 10, strip (pos 40) (pos 50)) ∷ (at 0 11, strip (pos 50) (pos 60)) ∷ []
 
 pub record ClippedAnswers : Type 0 where
   pub each : map (λ n. common_filter (one_tree None scrolled) (at 0 n)) (1 ∷ 2 ∷ 3 ∷ 4 ∷ 5 ∷ 6 ∷ 7 ∷ 8 ∷ 9 ∷ 10 ∷ 11 ∷ [])
-      ≡ ExcludeSubtree ∷ ExcludeSubtree ∷ Include ∷ ExcludeSubtree ∷ Include ∷ Include ∷ Include ∷ ExcludeSubtree ∷ Include ∷ ExcludeSubtree ∷ ExcludeSubtree ∷ []
+      ≡ ExcludeSubtree ∷ ExcludeSubtree ∷ Include ∷ ExcludeSubtree ∷ Include ∷ Include ∷ Include ∷ ExcludeSubtree ∷ Include
+      ∷ ExcludeSubtree ∷ ExcludeSubtree ∷ []
 
 -- a clipping view, in it a container, in it a strip far below the view, in it a strip that lies in the view
 abbrev pub nested : List (FullNodeId × NodeData)
 nested = (at 0 0, record (parent ScrollView (1 ∷ [])) { clips_children = true; bounds = Some (rect (pos 0) (pos 0) (pos 30) (pos 30)) })
-    ∷ (at 0 1, parent GenericContainer (2 ∷ [])) ∷ (at 0 2, record (parent Unknown (3 ∷ 4 ∷ [])) { bounds = Some (rect (pos 0) (pos 50) (pos 30) (pos 60)) })
+    ∷ (at 0 1, parent GenericContainer (2 ∷ []))
+    ∷ (at 0 2, record (parent Unknown (3 ∷ 4 ∷ [])) { bounds = Some (rect (pos 0) (pos 50) (pos 30) (pos 60)) })
     ∷ (at 0 3, strip (pos 10) (pos 20)) ∷ (at 0 4, parent GenericContainer (5 ∷ [])) ∷ (at 0 5, strip (pos 10) (pos 20)) ∷ []
 
 -- a clipping view, in it a node without a rectangle
 abbrev pub unboxed : List (FullNodeId × NodeData)
-unboxed = (at 0 0, record (parent ScrollView (1 ∷ [])) { clips_children = true; bounds = Some (rect (pos 0) (pos 0) (pos 30) (pos 30)) }) ∷ (at 0 1, parent Unknown []) ∷ []
+unboxed =
+    (at 0 0, record (parent ScrollView (1 ∷ [])) { clips_children = true; bounds = Some (rect (pos 0) (pos 0) (pos 30) (pos 30)) })
+    ∷ (at 0 1, parent Unknown []) ∷ []
 
 -- what is in a clipped node is cut off with it, but a container in it is excluded alone, and its contents are judged again
 pub record NestedAnswers : Type 0 where
-  pub each : map (λ n. common_filter (one_tree None nested) (at 0 n)) (0 ∷ 1 ∷ 2 ∷ 3 ∷ 4 ∷ 5 ∷ []) ≡ Include ∷ ExcludeNode ∷ ExcludeSubtree ∷ ExcludeSubtree ∷ ExcludeNode ∷ Include ∷ []
+  pub each : map (λ n. common_filter (one_tree None nested) (at 0 n)) (0 ∷ 1 ∷ 2 ∷ 3 ∷ 4 ∷ 5 ∷ [])
+      ≡ Include ∷ ExcludeNode ∷ ExcludeSubtree ∷ ExcludeSubtree ∷ ExcludeNode ∷ Include ∷ []
   pub without_box : common_filter (one_tree None unboxed) (at 0 1) ≡ Include
 
 -- ---- filtered lists
 
 -- a root with children 1 to 4, and 5 below 3
 abbrev pub four : List (FullNodeId × NodeData)
-four = (at 0 0, parent Window (1 ∷ 2 ∷ 3 ∷ 4 ∷ [])) ∷ (at 0 1, parent Unknown []) ∷ (at 0 2, parent Unknown []) ∷ (at 0 3, parent Unknown (5 ∷ [])) ∷ (at 0 4, parent Unknown []) ∷ (at 0 5, parent Unknown []) ∷ []
+four =
+    (at 0 0, parent Window (1 ∷ 2 ∷ 3 ∷ 4 ∷ [])) ∷ (at 0 1, parent Unknown []) ∷ (at 0 2, parent Unknown [])
+    ∷ (at 0 3, parent Unknown (5 ∷ [])) ∷ (at 0 4, parent Unknown []) ∷ (at 0 5, parent Unknown []) ∷ []
 
 -- excludes 2 alone, and 3 with its subtree
 abbrev pub without_two_and_three : FullNodeId → FilterResult
@@ -156,7 +182,9 @@ without_two_and_three id = cond (id.node.0 == 2) ExcludeNode (cond (id.node.0 ==
 
 -- a root with children 1 to 4; 5 and 6 below 2, 7 and 8 below 4
 abbrev pub pairs : List (FullNodeId × NodeData)
-pairs = (at 0 0, parent Window (1 ∷ 2 ∷ 3 ∷ 4 ∷ [])) ∷ (at 0 1, parent Unknown []) ∷ (at 0 2, parent Unknown (5 ∷ 6 ∷ [])) ∷ (at 0 3, parent Unknown []) ∷ (at 0 4, parent Unknown (7 ∷ 8 ∷ []))
+pairs =
+    (at 0 0, parent Window (1 ∷ 2 ∷ 3 ∷ 4 ∷ [])) ∷ (at 0 1, parent Unknown []) ∷ (at 0 2, parent Unknown (5 ∷ 6 ∷ []))
+    ∷ (at 0 3, parent Unknown []) ∷ (at 0 4, parent Unknown (7 ∷ 8 ∷ []))
     ∷ (at 0 5, parent Unknown []) ∷ (at 0 6, parent Unknown []) ∷ (at 0 7, parent Unknown []) ∷ (at 0 8, parent Unknown []) ∷ []
 
 -- excludes 2 alone, and 4 with its subtree
@@ -204,12 +232,23 @@ reversed = (at 0 0, record (parent Window []) { bounds = Some (rect (pos 30) (po
 
 -- a window that is shifted itself
 abbrev pub shifted : List (FullNodeId × NodeData)
-shifted = (at 0 0, record (parent Window []) { bounds = Some (rect (pos 0) (pos 0) (pos 10) (pos 10)); transform = Some (record { x = pos 5; y = negsuc 4 }) }) ∷ []
+shifted = (
+  at 0 0,
+  record
+      (parent Window []) {
+        bounds = Some (rect (pos 0) (pos 0) (pos 10) (pos 10));
+        transform = Some
+            (record { x = pos 5; y = negsuc 4 });
+      },
+) ∷ []
 
 -- a window, in it a container with a rectangle, and a hidden button with one, in that a label
 abbrev pub covered : List (FullNodeId × NodeData)
-covered = (at 0 0, record (parent Window (1 ∷ 2 ∷ [])) { bounds = Some (rect (pos 0) (pos 0) (pos 30) (pos 30)) }) ∷ (at 0 1, record (parent GenericContainer []) { bounds = Some (rect (pos 0) (pos 0) (pos 30) (pos 30)) })
-    ∷ (at 0 2, record (hidden (parent Button (3 ∷ []))) { bounds = Some (rect (pos 0) (pos 0) (pos 30) (pos 30)) }) ∷ (at 0 3, record (parent Label []) { bounds = Some (rect (pos 0) (pos 0) (pos 30) (pos 30)) }) ∷ []
+covered =
+    (at 0 0, record (parent Window (1 ∷ 2 ∷ [])) { bounds = Some (rect (pos 0) (pos 0) (pos 30) (pos 30)) })
+    ∷ (at 0 1, record (parent GenericContainer []) { bounds = Some (rect (pos 0) (pos 0) (pos 30) (pos 30)) })
+    ∷ (at 0 2, record (hidden (parent Button (3 ∷ []))) { bounds = Some (rect (pos 0) (pos 0) (pos 30) (pos 30)) })
+    ∷ (at 0 3, record (parent Label []) { bounds = Some (rect (pos 0) (pos 0) (pos 30) (pos 30)) }) ∷ []
 
 -- includes all but the button
 abbrev pub without_button : FullNodeId → FilterResult
@@ -218,20 +257,27 @@ without_button id = cond (id.node.0 == 2) ExcludeSubtree Include
 pub record CoveredViews : Type 0 where
   pub box_of_reversed : bounding_box (one_tree None reversed) (at 0 0) ≡ Some (record { x0 = pos 0; y0 = pos 0; x1 = pos 30; y1 = pos 10 })
   pub box_of_shifted : bounding_box (one_tree None shifted) (at 0 0) ≡ Some (record { x0 = pos 5; y0 = negsuc 4; x1 = pos 15; y1 = pos 5 })
-  pub reversed_has_no_point : hit (all_filter (one_tree None reversed)) (one_tree None reversed) (at 0 0) (record { x = pos 10; y = pos 5 }) ≡ None
-  pub container_is_not_hit : hit (common_filter (one_tree None covered)) (one_tree None covered) (at 0 0) (record { x = pos 10; y = pos 5 }) ≡ Some (at 0 0)
+  pub reversed_has_no_point : hit (all_filter (one_tree None reversed)) (one_tree None reversed) (at 0 0)
+      (record { x = pos 10; y = pos 5 }) ≡ None
+  pub container_is_not_hit : hit (common_filter (one_tree None covered)) (one_tree None covered) (at 0 0)
+      (record { x = pos 10; y = pos 5 }) ≡ Some (at 0 0)
   pub cut_off_is_not_hit : hit without_button (one_tree None covered) (at 0 0) (record { x = pos 10; y = pos 5 }) ≡ Some (at 0 1)
-  pub hit_from_below : hit (all_filter (one_tree None placed)) (one_tree None placed) (at 0 1) (record { x = pos 10; y = pos 10 }) ≡ Some (at 0 2)
+  pub hit_from_below : hit (all_filter (one_tree None placed)) (one_tree None placed) (at 0 1) (record { x = pos 10; y = pos 10 })
+      ≡ Some (at 0 2)
 
 -- ---- views
 
 -- a window, in it a container that is a live region, in it a label
 abbrev pub polite : List (FullNodeId × NodeData)
-polite = (at 0 0, parent Window (1 ∷ [])) ∷ (at 0 1, record (parent GenericContainer (2 ∷ [])) { live = Some Polite }) ∷ (at 0 2, parent Label []) ∷ []
+polite =
+    (at 0 0, parent Window (1 ∷ [])) ∷ (at 0 1, record (parent GenericContainer (2 ∷ [])) { live = Some Polite })
+    ∷ (at 0 2, parent Label []) ∷ []
 
 -- a window whose children can be clicked, in it a container, in it a button without actions
 abbrev pub click_below : List (FullNodeId × NodeData)
-click_below = (at 0 0, record (parent Window (1 ∷ [])) { child_actions = with_action 0 Click }) ∷ (at 0 1, parent GenericContainer (2 ∷ [])) ∷ (at 0 2, parent Button []) ∷ []
+click_below =
+    (at 0 0, record (parent Window (1 ∷ [])) { child_actions = with_action 0 Click }) ∷ (at 0 1, parent GenericContainer (2 ∷ []))
+    ∷ (at 0 2, parent Button []) ∷ []
 
 pub record UpwardViews : Type 0 where
   pub live : map (λ n. live (one_tree None polite) (at 0 n)) (0 ∷ 1 ∷ 2 ∷ []) ≡ Off ∷ Polite ∷ Polite ∷ []
@@ -244,7 +290,9 @@ pub record UpwardViews : Type 0 where
 
 -- a list box with option 2, a container with option 4, label 5 and option 6
 abbrev pub options : NodeData → NodeData → List (FullNodeId × NodeData)
-options second sixth = (at 0 0, parent Window (1 ∷ [])) ∷ (at 0 1, parent ListBox (2 ∷ 3 ∷ 5 ∷ 6 ∷ [])) ∷ (at 0 2, second) ∷ (at 0 3, parent GenericContainer (4 ∷ [])) ∷ (at 0 4, parent ListBoxOption [])
+options second sixth =
+    (at 0 0, parent Window (1 ∷ [])) ∷ (at 0 1, parent ListBox (2 ∷ 3 ∷ 5 ∷ 6 ∷ [])) ∷ (at 0 2, second)
+    ∷ (at 0 3, parent GenericContainer (4 ∷ [])) ∷ (at 0 4, parent ListBoxOption [])
     ∷ (at 0 5, parent Label []) ∷ (at 0 6, sixth) ∷ []
 
 abbrev pub shown_options : World
@@ -292,8 +340,15 @@ pub record OwnViews : Type 0 where
 
 -- a list box of three, in it an option, and a container with an option of a size; the box has them for control
 abbrev pub boxed : List (FullNodeId × NodeData)
-boxed = (at 0 0, parent Window (1 ∷ [])) ∷ (at 0 1, record (parent ListBox (2 ∷ 3 ∷ [])) { size_of_set = Some 3; controls = record { 0 = 4 } ∷ record { 0 = 9 } ∷ record { 0 = 2 } ∷ [] })
-    ∷ (at 0 2, parent ListBoxOption []) ∷ (at 0 3, record (parent GenericContainer (4 ∷ 5 ∷ [])) { size_of_set = Some 7 }) ∷ (at 0 4, parent ListBoxOption []) ∷ (at 0 5, parent Paragraph (6 ∷ []))
+boxed =
+    (at 0 0, parent Window (1 ∷ []))
+    ∷ (
+      at 0 1,
+      record
+          (parent ListBox (2 ∷ 3 ∷ [])) { size_of_set = Some 3; controls = record { 0 = 4 } ∷ record { 0 = 9 } ∷ record { 0 = 2 } ∷ [] },
+    )
+    ∷ (at 0 2, parent ListBoxOption []) ∷ (at 0 3, record (parent GenericContainer (4 ∷ 5 ∷ [])) { size_of_set = Some 7 })
+    ∷ (at 0 4, parent ListBoxOption []) ∷ (at 0 5, parent Paragraph (6 ∷ []))
     ∷ (at 0 6, parent ListBoxOption []) ∷ []
 
 abbrev pub boxes : World

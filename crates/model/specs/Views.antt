@@ -47,7 +47,8 @@ supports_url d = is_some d.url && is_link d.role
 
 -- it has no text to fill in or to read, and can't be toggled, expanded or selected
 abbrev pub is_only_clicked : NodeData → Bool
-is_only_clicked d = not (is_text_input d.role || (is_document d.role || (supports_toggle d || (supports_expand_collapse d || is_some d.selected))))
+is_only_clicked d =
+    not (is_text_input d.role || (is_document d.role || (supports_toggle d || (supports_expand_collapse d || is_some d.selected))))
 
 -- ---- of the nodes above it
 
@@ -60,7 +61,8 @@ is_italic w id = says_upward (λ d. d.italic) w id
 
 -- the node has the action, or its filtered parent has it for its children
 abbrev pub supports_action : Action → (FullNodeId → FilterResult) → World → FullNodeId → Bool
-supports_action a f w id = says (λ d. has_action d.actions a) w id || option_map_or (says (λ d. has_action d.child_actions a) w) (filtered_parent f w id) false
+supports_action a f w id =
+    says (λ d. has_action d.actions a) w id || option_map_or (says (λ d. has_action d.child_actions a) w) (filtered_parent f w id) false
 
 abbrev pub is_clickable : (FullNodeId → FilterResult) → World → FullNodeId → Bool
 is_clickable f w id = supports_action Click f w id
@@ -121,4 +123,5 @@ computed_size_of_set f w id = option_or (field_at (λ d. d.size_of_set) w id) (o
 
 -- the position as sent, or else the number of nodes of its set before it
 abbrev pub computed_position_in_set : (FullNodeId → FilterResult) → World → FullNodeId → Option ℕ
-computed_position_in_set f w id = option_or (field_at (λ d. d.position_in_set) w id) (option_map (λ set. count_by (λ m. is_before w m id) set) (set_of f w id))
+computed_position_in_set f w id =
+    option_or (field_at (λ d. d.position_in_set) w id) (option_map (λ set. count_by (λ m. is_before w m id) set) (set_of f w id))

@@ -102,7 +102,8 @@ pub data Reached (w : World) : FullNodeId → Type 0 where
 -- The smallest set that contains the root tree and each present tree that a reached node of a kept tree grafts.
 pub data Kept (w : World) : ℕ → Type 0 where
   root : Kept w 0
-  grafted : (graft inner : FullNodeId) (name : TreeId) → Kept w graft.tree → Reached w graft → graft_name w graft ≡ Some name → root_named w name ≡ Some inner → Kept w inner.tree
+  grafted : (graft inner : FullNodeId) (name : TreeId) → Kept w graft.tree → Reached w graft → graft_name w graft ≡ Some name
+      → root_named w name ≡ Some inner → Kept w inner.tree
 
 -- the node's id in its tree, and the name of the tree, if the node exists
 abbrev pub local_id_of : World → FullNodeId → Option (NodeId × TreeId)

@@ -27,7 +27,9 @@ RulesOrFault = (old : World) (u : UpdateData) → KeepsRules old u ↔ ((f : Fau
 
 -- a state breaks no rule and is its own rebuild
 abbrev pub StateIsItsOwnRebuild : Type 0
-StateIsItsOwnRebuild = (w : World) (t : Tree) → IsState w → get w.trees 0 ≡ Some t → (merged_world w (idle_update t.focus) ≡ w) × IsAccepted w (idle_update t.focus) w
+StateIsItsOwnRebuild =
+    (w : World) (t : Tree) → IsState w → get w.trees 0 ≡ Some t
+    → (merged_world w (idle_update t.focus) ≡ w) × IsAccepted w (idle_update t.focus) w
 
 -- an accepted update of a state leaves a state
 abbrev pub UpdateLeavesState : Type 0
@@ -43,21 +45,27 @@ HostFocusLeavesState = (w : World) (host_focused : Bool) → IsState w → IsSta
 
 -- so, from nothing on, each world is still empty or a state
 abbrev pub LaterWorldsAreStates : Type 0
-LaterWorldsAreStates = (host_focused : Bool) (w : World) → IsLater (empty_world host_focused) w → (w ≡ empty_world w.host_focused) ⊎ IsState w
+LaterWorldsAreStates =
+    (host_focused : Bool) (w : World) → IsLater (empty_world host_focused) w → (w ≡ empty_world w.host_focused) ⊎ IsState w
 
 -- a name keeps its index: an update for it gets that index, whether or not the tree was dropped in between
 abbrev pub NamesKeepTheirIndex : Type 0
-NamesKeepTheirIndex = (w later : World) (name : TreeId) (index : ℕ) → IsLater w later → index_of w name ≡ Some index → (index_of later name ≡ Some index) × (index_for later name ≡ index)
+NamesKeepTheirIndex =
+    (w later : World) (name : TreeId) (index : ℕ) → IsLater w later → index_of w name ≡ Some index
+    → (index_of later name ≡ Some index) × (index_for later name ≡ index)
 
 -- each node of a state but the root tree's root has one place, and its parent is a node
 abbrev pub PlaceIsOne : Type 0
 PlaceIsOne =
-    (w : World) → IsState w → (id : FullNodeId) → IsNode w id → root_of w 0 ≢ Some id → (p : Place) × StandsAt w p id × IsNode w p.0 × ((q : Place) → StandsAt w q id → q ≡ p)
+    (w : World) → IsState w → (id : FullNodeId) → IsNode w id → root_of w 0 ≢ Some id
+    → (p : Place) × StandsAt w p id × IsNode w p.0 × ((q : Place) → StandsAt w q id → q ≡ p)
 
 -- the root of another tree has the place (graft of its tree, 0)
 abbrev pub RootStandsAtGraft : Type 0
 RootStandsAtGraft =
-    (w : World) → IsState w → (index : ℕ) (id : FullNodeId) → index ≢ 0 → root_of w index ≡ Some id → (graft : FullNodeId) × (name : TreeId) × (graft_name w graft ≡ Some name) × (index_of w name ≡ Some index) × StandsAt w (graft, 0) id
+    (w : World) → IsState w → (index : ℕ) (id : FullNodeId) → index ≢ 0 → root_of w index ≡ Some id
+    → (graft : FullNodeId) × (name : TreeId) × (graft_name w graft ≡ Some name) × (index_of w name ≡ Some index)
+    × StandsAt w (graft, 0) id
 
 -- the root tree's root has no place
 abbrev pub RootHasNoPlace : Type 0
@@ -109,4 +117,6 @@ NodesAreLocated =
 -- tree info for the root tree replaces both toolkit texts, that of another tree replaces neither
 abbrev pub ToolkitIsTheRootTrees : Type 0
 ToolkitIsTheRootTrees =
-    (old : World) (u : UpdateData) (info : InfoData) → u.info ≡ Some info → ((index_for old u.name ≡ 0) → (merged_world old u).toolkit ≡ (info.toolkit_name, info.toolkit_version)) × ((index_for old u.name ≢ 0) → (merged_world old u).toolkit ≡ old.toolkit)
+    (old : World) (u : UpdateData) (info : InfoData) → u.info ≡ Some info
+    → ((index_for old u.name ≡ 0) → (merged_world old u).toolkit ≡ (info.toolkit_name, info.toolkit_version))
+    × ((index_for old u.name ≢ 0) → (merged_world old u).toolkit ≡ old.toolkit)

@@ -13,11 +13,11 @@ use std::marker::Model;
 
 /// Values by id, in ascending order of ids; each id occurs once.
 #[derive(Drop)]
-pub struct Rows<V: Copy + Drop> {
+pub struct SortedRows<V: Copy + Drop> {
     pub(crate) items: Vec<(FullNodeId, V)>,
 }
 
-impl<V: Copy + Drop> Model for Rows<V> {
+impl<V: Copy + Drop> Model for SortedRows<V> {
     ghost use Rattle.std.specs.Prelude.{List};
     ghost use Rattle.model.specs.declared.FullNodeId.{FullNodeId};
     ghost use Rattle.rows.specs.Rows.{Ascends};
@@ -29,12 +29,12 @@ impl<V: Copy + Drop> Model for Rows<V> {
     ghost invariant = { λ a. Ascends a.items.items };
 }
 
-impl<V: Copy + Drop> Rows<V> {
+impl<V: Copy + Drop> SortedRows<V> {
     #[tactic(auto, using(crate::proofs::Places::ascends_empty))]
-    pub fn new(alloc: Global) -> Rows<V>
+    pub fn new(alloc: Global) -> SortedRows<V>
         ensures { result ≡ [] }
     {
-        Rows {
+        SortedRows {
             items: Vec::new(alloc),
         }
     }

@@ -54,8 +54,10 @@ pub record IsDecision (w : World) (u : UpdateData) (d : Decision) : Type 0 where
   pub nodes_listed : (id : FullNodeId) → Contains (listed_nodes d) id ↔ Differs w (overlaid_world w u d) id
   pub changes : (id : FullNodeId) (c : NodeChange) → change_at d.nodes.items id ≡ Some c → IsChangeOf w u (overlaid_world w u d) id c
   pub others : (id : FullNodeId) (p : Place) → change_at d.nodes.items id ≡ None → StandsAt w p id → StandsAt (overlaid_world w u d) p id
-  pub others_back : (id : FullNodeId) (p : Place) → change_at d.nodes.items id ≡ None → StandsAt (overlaid_world w u d) p id → StandsAt w p id
-  pub trees : (name : TreeId) (r : Option TreeRecord) → IsTreeRecord w name r → IsTreeRecord (overlaid_world w u d) name (tree_after d.trees.items name r)
+  pub others_back : (id : FullNodeId) (p : Place) → change_at d.nodes.items id ≡ None → StandsAt (overlaid_world w u d) p id
+      → StandsAt w p id
+  pub trees : (name : TreeId) (r : Option TreeRecord) → IsTreeRecord w name r
+      → IsTreeRecord (overlaid_world w u d) name (tree_after d.trees.items name r)
   pub trees_once : AllPairs (λ a b. a.id ≢ b.id) d.trees.items
   pub trees_listed : (name : TreeId) → Contains (names_of d.trees.items) name ↔ TreeDiffers w (overlaid_world w u d) name
   pub focus : IsEffectiveFocus (overlaid_world w u d) d.focus

@@ -38,7 +38,8 @@ pub trait LookUps {
 
     /// The record of a node, if the node exists.
     fn node(&mut self, id: FullNodeId) -> Option<NodeRecord<'_>>
-        ensures* counts { sem 𝓛 (follows_so Self.row Self.row self.entry.ghost_name none (λ _ _. ⊤) (λ v. (world v ≡ world self.entry.now) × (asked v ≡ raised_count (asked self.entry.now)))) }
+        ensures* counts { sem 𝓛 (follows_so Self.row Self.row self.entry.ghost_name none (λ _ _. ⊤)
+            (λ v. (world v ≡ world self.entry.now) × (asked v ≡ raised_count (asked self.entry.now)))) }
         ensures found { is_some result ≡ is_some (data_of (world self.old) id) }
         ensures given { IfSome result (λ r. IsNodeRecord (world self.old) id r) };
 

@@ -16,11 +16,12 @@ use Rattle.std.specs.BTreeMap.{is_at, keys}
 use Rattle.std.specs.BTreeSet.{contains}
 use Rattle.model.specs.declared.FullNodeId.{FullNodeId}
 use Rattle.model.specs.FullIds.{full_cmp}
-use Rattle.model.specs.World.{Place, at_most_one}
+use Rattle.model.specs.World.{at_most_one}
 use Rattle.model.proofs.Members.{contains_none, contains_head, contains_later, contains_cases}
 use Rattle.model.proofs.Update.AcceptedOrFault.{decide_id}
 use Rattle.model.proofs.Closure.{IsDecided}
 use Rattle.model.proofs.State.StatePlaces.{value_of}
+use Rattle.tree_plan.specs.declared.passes.Arrival.{Arrival}
 use Rattle.tree_plan.specs.declared.passes.Named.{Named}
 use Rattle.tree_plan.specs.declared.verdicts.Verdict.{Verdict}
 use Rattle.tree_plan.specs.declared.verdicts.Found.{Found}
@@ -208,7 +209,7 @@ module _ (s : Transition) where
         by_moved a b None e = by_gone a b e (contains full_cmp f.removed.gone id) refl
         by_moved a b (Some g) e = moved id (is_among f.regrafted.moved_in.entries id g e)
 
-        by_entered : at f.compared.named id ≡ None → (o : Option (Option Place)) → at f.compared.entered id ≡ o → Becomes s id (at vs id)
+        by_entered : at f.compared.named id ≡ None → (o : Option Arrival) → at f.compared.entered id ≡ o → Becomes s id (at vs id)
         by_entered a None e = by_moved a e (at f.regrafted.moved_in.entries id) refl
         by_entered a (Some x) e = entered id (is_among f.compared.entered id x e)
 

@@ -14,7 +14,7 @@ use Rattle.std.proofs.lemmas.Map.Keys.{IsDistinct-from_sorted}
 use Rattle.std.proofs.lemmas.Map.Made.{length-le_from_is_member, is_some-lookup}
 use Rattle.model.specs.declared.FullNodeId.{FullNodeId}
 use Rattle.model.specs.FullIds.{full_cmp, full_total}
-use Rattle.model.specs.World.{World, IsNode, data_of, in_tree, listed_ids, graft_name, root_of, root_named, Place, StandsAt, Reached}
+use Rattle.model.specs.World.{World, IsNode, data_of, in_tree, graft_name, root_of, Place, StandsAt, Reached}
 use Rattle.model.specs.World as world
 use Rattle.schema.specs.NodeData.{NodeData}
 use Rattle.schema.specs.declared.NodeId.{NodeId}
@@ -31,12 +31,14 @@ use Rattle.model.proofs.Surgery.LiveAndGone.{reached_node}
 use Rattle.model.proofs.Surgery.RulesKept.{listed_is_node}
 use Rattle.model.proofs.Surgery.ClimbsUp.{named_spotted, entered_up, old_up, climb_begins, climb_goes_up, climb_loops, climb_ends, unmoved_reached}
 use Rattle.tree_changes.specs.LookUps.{IsPlaceOf}
+use Rattle.tree_plan.specs.declared.passes.Arrival.{Arrival}
 use Rattle.tree_plan.specs.declared.passes.Named.{Named}
 use Rattle.tree_plan.specs.declared.passes.Compared.{Compared}
 use Rattle.tree_plan.specs.declared.passes.Settled.{Settled}
 use Rattle.tree_plan.specs.declared.passes.Opened.{Opened}
-use Rattle.tree_plan.specs.Passes.{at, HoldsOpened, HoldsCompared, HoldsSettled}
+use Rattle.tree_plan.specs.Passes.{at, entered_at, HoldsOpened, HoldsCompared, HoldsSettled}
 use Rattle.tree_plan.specs.Climbs.{IsNext, IsOldPlace, AreClimbed, IsClimbedFrom}
+use Rattle.tree_plan.proofs.Arrived.{not_arrived}
 use Rattle.tree_plan.proofs.IdMaps.{Put, put_here, put_apart}
 
 abbrev pub Marks : Type 0
@@ -149,7 +151,7 @@ module _ {w : World} {u : UpdateData} {op : Opened} {c : Compared} {s : Settled}
   old_spot id (world.Reached.child parent id' k reached at) = (Some (parent, k), at)
 
   not_entered : (id : FullNodeId) → at c.entered id ≡ None → ¬ (HasEntered w u id)
-  not_entered id none e = let is : at c.entered id ≡ Some e.0 = (known.comparison.entered id e.0).1 e.1 in let no : None ≡ Some e.0 = sym none ∙ is in cc
+  not_entered = not_arrived w u c known.comparison
 
   lists_stands : (p : Place) (id : FullNodeId) → Lists w p id → StandsAt w p id
   lists_stands p id at = stands_listed w p id (ungrafted (graft_name w p.0) refl) at
@@ -167,9 +169,12 @@ module _ {w : World} {u : UpdateData} {op : Opened} {c : Compared} {s : Settled}
           let f = old_up w u known.old s.0 id s.1 (not_entered id e) stays below in
           (f.0.0, (f.0.1, inr (e, lists_stands f.0 id (subst (λ t. IsAt w t id) f.1 s.1))))
 
-      go : (x : Option (Option Place)) → at c.entered id ≡ x → (p : FullNodeId) × IsNext w c id p
-      go (Some (Some p)) e = (p.0, (p.1, inl e))
-      go (Some None) e = absurd (below ((known.comparison.entered id None).0 e).0)
+      from_spot : (s : Option Place) → entered_at c id ≡ Some s → (p : FullNodeId) × IsNext w c id p
+      from_spot (Some p) e = (p.0, (p.1, inl e))
+      from_spot None e = absurd (below ((known.comparison.entered id None).0 e).0)
+
+      go : (x : Option Arrival) → at c.entered id ≡ x → (p : FullNodeId) × IsNext w c id p
+      go (Some x) e = from_spot x.spot (ap (option_map (λ (y : Arrival). y.spot)) e)
       go None e = ⊎_elim (from_old e) (λ entered. absurd (not_entered id e entered)) spotted
 
   pub goes_up : (id parent : FullNodeId) → root_of m id.tree ≢ Some id → ¬ (Gone w u id) → IsNext w c id parent → (k : ℕ) × Lists m (parent, k) id × ¬ (Gone w u parent) × IsFound w u parent
@@ -178,7 +183,7 @@ module _ {w : World} {u : UpdateData} {op : Opened} {c : Compared} {s : Settled}
       k : ℕ
       k = next.0
 
-      entered : at c.entered id ≡ Some (Some (parent, k)) → (k : ℕ) × Lists m (parent, k) id × ¬ (Gone w u parent) × IsFound w u parent
+      entered : entered_at c id ≡ Some (Some (parent, k)) → (k : ℕ) × Lists m (parent, k) id × ¬ (Gone w u parent) × IsFound w u parent
       entered e =
           let f = entered_up w u known.old known.refined.removed (parent, k) id ((known.comparison.entered id (Some (parent, k))).0 e) in
           (k, f.1, f.2, named_spotted w u known.old known.refined parent f.0 (cases_some (data_of w parent)))

@@ -1,13 +1,12 @@
 -- What becomes of a node, by what the passes found.
-use Rattle.std.proofs.Common.{◌≡◌, ◌≢◌, ℕ, Bool, true, false, Option, Some, None, IsSome, option_map, unwrap_or, ◌⊎◌, inl, inr, ⊎_elim, refl, sym, ap, ◌∙◌, subst}
-use Rattle.std.specs.BTreeSet.{contains}
+use Rattle.std.proofs.Common.{◌≡◌, ◌≢◌, ℕ, Bool, true, false, Option, Some, None, IsSome, ◌↔◌, option_map, unwrap_or, ◌⊎◌, inl, inr, ⊎_elim, refl, sym, ap, ◌∙◌, subst}
+use Rattle.std.specs.Prelude.{IsTrue}
 use Rattle.std.proofs.lemmas.Option.{same_Some}
 use Rattle.schema.specs.NodeData.{NodeData}
 use Rattle.schema.specs.Same.{same_node, same_node-decides}
 use Rattle.schema.specs.declared.TreeId.{TreeId}
 use Rattle.model.specs.declared.FullNodeId.{FullNodeId}
-use Rattle.model.specs.FullIds.{full_cmp}
-use Rattle.model.specs.World.{ROOT_NAME, World, IsNode, data_of, in_tree, graft_name, root_of, root_named, Place, StandsAt, Kept}
+use Rattle.model.specs.World.{ROOT_NAME, World, IsNode, data_of, in_tree, root_of, root_named, Place, StandsAt, Kept}
 use Rattle.model.specs.World as world
 use Rattle.model.specs.Forest.{place_of}
 use Rattle.model.specs.Update.{UpdateData, IsNamed, IsRebuild, KeepsRules, index_for, merged_world}
@@ -31,10 +30,11 @@ use Rattle.tree_changes.specs.declared.look_ups.TreeRecord.{TreeRecord}
 use Rattle.tree_changes.specs.declared.decision.NodeChange.TheVariants.{Put}
 use Rattle.tree_changes.specs.LookUps.{IsPlaceOf}
 use Rattle.tree_plan.specs.declared.passes.Named.{Named}
-use Rattle.tree_plan.specs.Passes.{at, has, IsOfName, IsNamedAs, GainsGraft}
+use Rattle.tree_plan.specs.Passes.{at, entered_at, has, IsOfName, IsNamedAs, GainsGraft}
 use Rattle.tree_plan.specs.declared.verdicts.Found.{Found}
 use Rattle.tree_plan.specs.declared.verdicts.Verdict.TheVariants.{Added, Renewed, Moved, Told, Removed}
 use Rattle.tree_plan.specs.Verdicts.{Transition, IsFound, Makes, Moves, Becomes}
+use Rattle.tree_plan.proofs.Arrived.{not_arrived}
 use Rattle.tree_plan.proofs.Entries.{entry_named}
 
 -- ---- places
@@ -218,10 +218,10 @@ module _ (s : Transition) (f : Found) (h : IsFound s f) where
   abbrev u : UpdateData
   u = s.update
 
-  pub by_spot : (id : FullNodeId) (p : Place) → at f.compared.entered id ≡ Some (Some p) → Moves s id (Some (Some p))
+  pub by_spot : (id : FullNodeId) (p : Place) → entered_at f.compared id ≡ Some (Some p) → Moves s id (Some (Some p))
   by_spot id p at_id = entered_place w u h.old h.kept s.new h.rebuilt id p ((h.comparison.entered id (Some p)).0 at_id)
 
-  pub by_root : (id : FullNodeId) (place : Option Place) → place ≡ option_map (λ g. (g, 0)) f.opened.record.graft → at f.compared.entered id ≡ Some None → Moves s id (Some place)
+  pub by_root : (id : FullNodeId) (place : Option Place) → place ≡ option_map (λ g. (g, 0)) f.opened.record.graft → entered_at f.compared id ≡ Some None → Moves s id (Some place)
   by_root id place same at_id =
       subst (λ x. Moves s id (Some x)) (sym same) (entered_root w u h.old h.kept s.new h.rebuilt id f.opened.record h.opening.record_of ((h.comparison.entered id None).0 at_id))
 
@@ -229,7 +229,7 @@ module _ (s : Transition) (f : Found) (h : IsFound s f) where
   by_graft id g at_id = let m = (h.regrafting.moved_in id g).0 at_id in moved_in_place w u h.old h.kept s.new h.rebuilt id g m.0 m.1 m.2
 
   unentered : (id : FullNodeId) → at f.compared.entered id ≡ None → ¬ (HasEntered w u id)
-  unentered id none e = nothing_at (at f.compared.entered id) e.0 none ((h.comparison.entered id e.0).1 e.1)
+  unentered = not_arrived w u f.compared h.comparison
 
   unmoved : (id : FullNodeId) → at f.regrafted.moved_in.entries id ≡ None → ¬ (IsMovedIn w u id)
   unmoved id none m = nothing_at (at f.regrafted.moved_in.entries id) m.0 none ((h.regrafting.moved_in id m.0).1 (m.1, (m.2, m.3, m.4), m.5))
@@ -267,11 +267,24 @@ module _ (s : Transition) (f : Found) (h : IsFound s f) where
   pub unnamed_same_by : (id : FullNodeId) → ¬ (Gone w u id) → at f.compared.named id ≡ None → data_of w id ≡ data_of s.new id
   unnamed_same_by id stays none = unnamed_same w u h.old h.kept s.new h.rebuilt id (unnamed_by id none) stays
 
-  pub gone_by : (id : FullNodeId) → has f.removed.gone id → Becomes s id (Some Removed)
-  gone_by id gone = gone_becomes w u h.old h.kept s.new h.rebuilt id ((h.removal.gone id).0 gone)
+  pub gone_by : (id : FullNodeId) → Gone w u id → Becomes s id (Some Removed)
+  gone_by id gone = gone_becomes w u h.old h.kept s.new h.rebuilt id gone
 
-  pub stays_by : (id : FullNodeId) → contains full_cmp f.removed.gone id ≡ false → ¬ (Gone w u id)
-  stays_by id out gone = let there : contains full_cmp f.removed.gone id ≡ true = (h.removal.gone id).1 gone in let clash : false ≡ true = sym out ∙ there in cc
+  pub stays_if : (b : Bool) {id : FullNodeId} → IsTrue b ↔ Gone w u id → b ≡ false → ¬ (Gone w u id)
+  stays_if b is out gone = let yes : b ≡ true = is.1 gone in cc
+
+  -- what moves, and what is named, doesn't go
+  pub moving_stays : (id : FullNodeId) (moved : Option (Option Place)) → (IsSome moved → Moves s id moved) → IsSome moved → ¬ (Gone w u id)
+  moving_stays id (Some place) moves some gone = (gone_by id gone).1 (moves refl).0
+  moving_stays id None moves some gone = cc
+
+  pub named_stays_by : (id : FullNodeId) (named : Option Named) → named ≡ at f.compared.named id → IsSome named → ¬ (Gone w u id)
+  named_stays_by id named is some gone =
+      let n = value_of (at f.compared.named id) (subst IsSome is some) in
+      h.removal.removed.named_stays id (h.comparison.is_named id n.0 n.1).named gone
+
+  pub goes_by : (id : FullNodeId) → has f.removed.gone id ↔ Gone w u id
+  goes_by id = h.removal.gone id
 
   pub moved_by : (id : FullNodeId) (place : Option Place) (moved : Option (Option Place)) → data_of w id ≡ data_of s.new id → Moves s id moved → moved ≡ Some place → Becomes s id (Some (Moved place))
   moved_by id place moved same moves e = moved_becomes w u h.old h.kept s.new h.rebuilt id place same (subst (Moves s id) e moves)

@@ -31,6 +31,7 @@ use Rattle.tree_plan.specs.Passes.{at}
 use Rattle.tree_plan.specs.Verdicts.{Transition, IsFound, Becomes, Verdicts}
 use Rattle.tree_plan.specs.Writing.{told_of, untold_updates, IsMove, AreEvents}
 use Rattle.tree_plan.proofs.Adding.{has_entry, has_member}
+use Rattle.tree_plan.proofs.Arrived.{arrived}
 use Rattle.tree_plan.proofs.Listed.{ids_where, is_in, event_of, sorted_where, where_passes, told-where, three_groups, length-both, changes_in, length-changes}
 use Rattle.tree_plan.proofs.Assembled.{is_updated, removed_listed}
 
@@ -41,7 +42,7 @@ module _ (s : Transition) (f : Found) (h : IsFound s f) (work : Work) (is : IsWo
   -- what entered: children of named nodes, and the root
   pub entered_small : Ascends f.compared.entered → length f.compared.entered ≤ work.children + 1
   entered_small sorted =
-      let some : length (keys_of f.compared.entered) ≤ length (is.children ++ root.0 ∷ []) = no_more (keys_of f.compared.entered) (is.children ++ root.0 ∷ []) sorted (λ id has. let e = has_entry f.compared.entered id has in among id e.0 ((h.comparison.entered id e.0).0 e.1)) in
+      let some : length (keys_of f.compared.entered) ≤ length (is.children ++ root.0 ∷ []) = no_more (keys_of f.compared.entered) (is.children ++ root.0 ∷ []) sorted (λ id has. let e = has_entry f.compared.entered id has in among id e.0.spot (arrived s.old s.update f.compared h.comparison id e.0 e.1)) in
       let a : length (is.children ++ root.0 ∷ []) ≡ length is.children + 1 = length-append is.children (root.0 ∷ []) in
       let b : work.children ≡ length is.children = is.count_children in
       let c : length (keys_of f.compared.entered) ≡ length f.compared.entered = length-map f.compared.entered (λ e. e.0) in

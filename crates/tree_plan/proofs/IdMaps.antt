@@ -1,20 +1,19 @@
 -- Maps and sets by ids as functions.
-use Rattle.std.proofs.Common.{get_or, ◌+◌, ◌<◌, ◌≤◌, length, arith, ◌≡◌, ◌≢◌, ◌⊎◌, Bool, true, false, cond, Contains, ℕ, suc, All, List, [], ◌∷◌, Option, Some, None, ⊎_elim, inl, inr, refl, sym, ap, subst, ◌∙◌}
+use Rattle.std.proofs.Common.{get_or, ◌+◌, ◌<◌, ◌≤◌, length, arith, ◌≡◌, ◌≢◌, ◌⊎◌, Bool, true, false, cond, Contains, ℕ, suc, List, [], ◌∷◌, Option, Some, None, ⊎_elim, inl, inr, refl, sym, ap, subst, ◌∙◌}
 use Rattle.std.specs.Prelude.{IsSome, is_some, slice_get}
 use Rattle.std.specs.Cmp.{Equal-is, eq_by_cmp_equiv}
-use Rattle.std.specs.BTreeMap.{BTreeMap, is_at}
+use Rattle.std.specs.BTreeMap.{is_at}
 use Rattle.std.specs.BTreeSet.{BTreeSet}
 use Rattle.std.specs.List.{list_any}
-use Rattle.std.specs.Map.{lookup, keys_of, set_value}
+use Rattle.std.specs.Map.{keys_of, set_value}
 use Rattle.std.proofs.lemmas.Bool.{cases_lt}
 use Rattle.std.proofs.lemmas.Map.{lookup-set_value}
 use Rattle.std.proofs.lemmas.Map.Keys.{IsDistinct-from_sorted}
-use Rattle.std.proofs.lemmas.Map.Entries.{place_from_lookup, lookup_from_place}
+use Rattle.std.proofs.lemmas.Map.Entries.{lookup_from_place}
 use Rattle.std.proofs.lemmas.Option.{same_Some, slice_get-get_or, slice_get_within, get_or_from_slice_get}
-use Rattle.std.proofs.lemmas.List.Elements.{All-contains}
 use Rattle.model.specs.declared.FullNodeId.{FullNodeId}
 use Rattle.model.specs.FullIds.{full_cmp, exact_full, full_total}
-use Rattle.model.proofs.Members.{contains_none, contains_first, contains_later, contains_cases}
+use Rattle.model.proofs.Members.{contains_none, contains_cases}
 use Rattle.rows.specs.Rows.{Ascends}
 use Rattle.rows.proofs.Settled.{contains_from_row_at}
 use Rattle.tree_plan.specs.Passes.{at, has}
@@ -69,35 +68,6 @@ at_contains {X} (y ∷ ys) x h = go (contains_cases y x ys h) (at_contains ys x)
 pub put_changed : {X : Type 0} (es : List (FullNodeId × X)) (id : FullNodeId) (v : X) → IsSome (at es id) → Put id (Some v) (at es) (at (set_value (is_at (full_cmp id)) es v))
 put_changed es id v there q = lookup-set_value (eq_by_cmp_equiv full_total) (is_at (full_cmp id)) (λ x y same. ap (λ k. is_at (full_cmp k) y) (same_key id x same)) q v es there
 
--- ---- a loop over the entries of a map: each is left, or done
-
-module _ {X : Type 0} (m : List (FullNodeId × X)) (D : FullNodeId → X → Type 0) where
-  abbrev pub IsLeftOrDone : List (FullNodeId × X) → Type 0
-  IsLeftOrDone rest = (c : FullNodeId) (x : X) → at m c ≡ Some x → Contains rest (c, x) ⊎ D c x
-
-  pub entry_at : (c : FullNodeId) (x : X) → at m c ≡ Some x → Contains m (c, x)
-  entry_at c x is =
-      let f = place_from_lookup (is_at (full_cmp c)) m x is in
-      let same : c ≡ f.1 = same_key c f.1 f.3 in
-      contains_at m f.0 (c, x) (f.2 ∙ ap (λ k. Some (k, x)) (sym same))
-
-  pub loop_begins : IsLeftOrDone m
-  loop_begins c x is = inl (entry_at c x is)
-
-  pub loop_goes : (rest later : List (FullNodeId × X)) (e : FullNodeId × X) → rest ≡ e ∷ later → IsLeftOrDone rest → (E : FullNodeId → X → Type 0) → ((c : FullNodeId) (x : X) → D c x → E c x) → E e.0 e.1 → (c : FullNodeId) (x : X) → at m c ≡ Some x → Contains later (c, x) ⊎ E c x
-  loop_goes rest later e split left E more here c x is = go (left c x is)
-    where
-      head : (e ≡ (c, x)) ⊎ Contains later (c, x) → Contains later (c, x) ⊎ E c x
-      head (inl same) = let key : e.0 ≡ c = ap (λ z. z.0) same in let value : e.1 ≡ x = ap (λ z. z.1) same in inr (subst (λ k. E k x) key (subst (E e.0) value here))
-      head (inr h) = inl h
-
-      go : Contains rest (c, x) ⊎ D c x → Contains later (c, x) ⊎ E c x
-      go (inr done) = inr (more c x done)
-      go (inl h) = head (contains_cases e (c, x) later (subst (λ xs. Contains xs (c, x)) split h))
-
-  pub loop_ends : (rest : List (FullNodeId × X)) → rest ≡ [] → IsLeftOrDone rest → (c : FullNodeId) (x : X) → at m c ≡ Some x → D c x
-  loop_ends rest none left c x is = ⊎_elim (λ h. absurd (contains_none (c, x) (subst (λ xs. Contains xs (c, x)) none h))) (λ done. done) (left c x is)
-
 -- ---- a loop over rows: the first so many are done
 
 -- what ascends is read where it stands
@@ -131,28 +101,15 @@ module _ {X : Type 0} (es : List (FullNodeId × X)) (D : FullNodeId → X → Ty
   pub done_weaker : (n : ℕ) → AreDone n → (E : FullNodeId → X → Type 0) → ((c : FullNodeId) (x : X) → D c x → E c x) → (k : ℕ) (e : FullNodeId × X) → k < n → slice_get es k ≡ Some e → E e.0 e.1
   done_weaker n done E more k e lt is = more e.0 e.1 (done k e lt is)
 
-  pub done_all : (n : ℕ) → length es ≤ n → AreDone n → (id : FullNodeId) (x : X) → at es id ≡ Some x → D id x
-  done_all n fits done id x is =
-      let f = at_contains es (id, x) (contains_from_row_at es id x is) in
+  pub done_each : (n : ℕ) → length es ≤ n → AreDone n → (id : FullNodeId) (x : X) → Contains es (id, x) → D id x
+  done_each n fits done id x there =
+      let f = at_contains es (id, x) there in
       done f.0 (id, x) (let lt = slice_get_within es f.0 (id, x) f.1 in omega arith) f.1
 
--- what is left are entries of the map
-abbrev pub AreEntries : {X : Type 0} → List (FullNodeId × X) → List (FullNodeId × X) → Type 0
-AreEntries {X} m rest = (e : FullNodeId × X) → Contains rest e → at m e.0 ≡ Some e.1
+  pub done_all : (n : ℕ) → length es ≤ n → AreDone n → (id : FullNodeId) (x : X) → at es id ≡ Some x → D id x
+  done_all n fits done id x is = done_each n fits done id x (contains_from_row_at es id x is)
 
-pub entries_begin : {X : Type 0} (m : List (FullNodeId × X)) → All (λ e. at m e.0 ≡ Some e.1) m → AreEntries m m
-entries_begin m all e h = All-contains (λ e. at m e.0 ≡ Some e.1) m e all h
-
-pub entries_first : {X : Type 0} (m : List (FullNodeId × X)) (rest later : List (FullNodeId × X)) (e : FullNodeId × X) → rest ≡ e ∷ later → AreEntries m rest → at m e.0 ≡ Some e.1
-entries_first m rest later e split are = are e (subst (λ xs. Contains xs e) (sym split) (contains_first e later))
-
-pub entries_go : {X : Type 0} (m : List (FullNodeId × X)) (rest later : List (FullNodeId × X)) (e : FullNodeId × X) → rest ≡ e ∷ later → AreEntries m rest → AreEntries m later
-entries_go m rest later e split are f h = are f (subst (λ xs. Contains xs f) (sym split) (contains_later e f later h))
-
--- ---- an empty map, and an empty set
-
-pub empty_at : {X : Type 0} (m : BTreeMap FullNodeId X) → m.entries ≡ [] → (id : FullNodeId) → at m.entries id ≡ None
-empty_at m none id = ap (λ es. lookup (is_at (full_cmp id)) es) none
+-- ---- an empty set
 
 pub empty_has : (s : BTreeSet FullNodeId) → s.keys ≡ [] → (id : FullNodeId) → ¬ (has s id)
 empty_has s none id h = let f : list_any (is_at (full_cmp id)) s.keys ≡ false = ap (λ ks. list_any (is_at (full_cmp id)) ks) none in cc

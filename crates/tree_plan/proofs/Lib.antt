@@ -1,6 +1,8 @@
 pub mod Entries
+pub mod Arrived
 pub mod Becoming
 pub mod Adding
+pub mod Leaving
 pub mod Listed
 pub mod Trees
 pub mod Assembled

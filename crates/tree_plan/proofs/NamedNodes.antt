@@ -8,7 +8,7 @@ use Rattle.std.specs.Map.{lookup}
 use Rattle.std.proofs.Math.Seq.{get_or-append_seam}
 use Rattle.std.proofs.lemmas.List.{append-nil, length-map, get_or_append_left}
 use Rattle.std.proofs.lemmas.List.Elements.{Contains-append_left, Contains-append_right, Contains-append_cases}
-use Rattle.std.proofs.lemmas.Option.{same_Some, slice_get_within, slice_get-get_or, get_or_from_slice_get}
+use Rattle.std.proofs.lemmas.Option.{same_Some, slice_get_within, slice_get-get_or, slice_get-map, get_or_from_slice_get}
 use Rattle.schema.specs.NodeData.{NodeData}
 use Rattle.schema.specs.declared.NodeId.{NodeId}
 use Rattle.schema.specs.declared.TreeId.{TreeId}
@@ -17,19 +17,22 @@ use Rattle.model.specs.World.{ROOT_NAME, World, Tree, Place, data_of, in_tree, l
 use Rattle.model.specs.Update.{UpdateData, index_for, merged_world, IsNamed, named_at}
 use Rattle.model.specs.Surgery.{IsOld, IsOpened, Seat, IsAt, Left, Entered}
 use Rattle.model.proofs.Worlds.Names.{cases_id, cases_name, same_id}
-use Rattle.model.proofs.State.StatePlaces.{value_of, root_of-tree}
+use Rattle.model.proofs.Members.{contains_none}
+use Rattle.model.proofs.State.StatePlaces.{value_of, map_some, root_of-tree}
 use Rattle.model.proofs.Surgery.Spots.{spot_once, left_tree, entered_tree, lister_named, leaver_named}
 use Rattle.model.proofs.Surgery.FaultsStand.{named_root_graft_stands, named_children_stand, named_grafts_stand, entered_twice_stands}
 use Rattle.tree_changes.specs.declared.error.UpdateError.{UpdateError}
 use Rattle.tree_changes.specs.declared.error.UpdateError.TheVariants as error
 use Rattle.tree_changes.specs.Refusals.{IsRefusal}
 use Rattle.tree_plan.specs.declared.passes.Opened.{Opened}
+use Rattle.tree_plan.specs.declared.passes.Arrival.{Arrival}
 use Rattle.tree_plan.specs.declared.passes.Named.{Named}
 use Rattle.tree_plan.specs.declared.passes.Comparing.{Comparing}
 use Rattle.tree_plan.specs.declared.passes.Compared.{Compared}
-use Rattle.tree_plan.specs.Passes.{at, at_name, IsNamedAs, LosesGraft, GainsGraft, HoldsOpened, HoldsCompared}
-use Rattle.tree_plan.specs.Comparisons.{IsNamedBefore, AreEntriesTaken, Spots, AreApart, Gathers, OnlyAt, OnlyIn, child_ids, IsGraftFault, ChangesGraft, ComparesNode, BeginsComparing, IsDone, AreCompared, SettlesLists, IsEnteredTwice}
+use Rattle.tree_plan.specs.Passes.{at, at_name, entered_at, IsShifted, IsShift, IsNamedAs, LosesGraft, GainsGraft, HoldsOpened, HoldsCompared}
+use Rattle.tree_plan.specs.Comparisons.{IsNamedBefore, AreEntriesTaken, Spots, Arrivals, spot_entry, spots_of, IsShiftedIn, AreApart, Gathers, OnlyAt, OnlyIn, child_ids, IsGraftFault, ChangesGraft, ComparesNode, BeginsComparing, IsDone, AreCompared, SettlesLists, IsEnteredTwice}
 use Rattle.tree_plan.proofs.Gathering.{apart_both}
+use Rattle.tree_plan.proofs.Leaving.{in_spots, of_spot}
 use Rattle.tree_plan.proofs.Entries.{AreNamedOnce, entry_named}
 use Rattle.model.proofs.Update.RulesOrFault.{no_some}
 use Rattle.model.specs.FullIds.{name_cmp}
@@ -49,6 +52,10 @@ in_option (Some y) x c = let f = at_contains (y ∷ []) x c in go f.0 f.1
 
 option_has : {X : Type 0} (o : Option X) (x : X) → o ≡ Some x → Contains (option_to_list o) x
 option_has o x e = subst (λ p. Contains (option_to_list p) x) (sym e) (0, omega arith, refl)
+
+-- the spot of an arrival
+spot_at : (es : Arrivals) (k : ℕ) (id : FullNodeId) (x : Arrival) → slice_get es k ≡ Some (id, x) → slice_get (spots_of es) k ≡ Some (id, x.spot)
+spot_at es k id x is = slice_get-map spot_entry es k ∙ ap (option_map spot_entry) is
 
 -- one more element, which isn't there
 pushed_once : {X : Type 0} (xs : List X) (o : Option X) → ((x : X) → o ≡ Some x → Contains xs x → ⊥) → AllPairs (λ a b. a ≢ b) xs → AllPairs (λ a b. a ≢ b) (xs ++ option_to_list o)
@@ -204,46 +211,55 @@ module _ (w : World) (u : UpdateData) (o : IsOld w) where
           (λ ne. subst (λ x. IsSome x ↔ IsNamed w u q) (sym (put_apart id (Some s.n) (at a.named) (at b.named) s.compares.named q ne)) (h.has_named q))
           (cases_id id q)
 
-      left_to : (c : FullNodeId) (t : Seat) → Contains b.left (c, t) → Left w u t c × IsDone w u (k + 1) t
-      left_to c t is = ⊎_elim
-          (λ earlier. let f = (h.left c t).0 earlier in (f.0, later_done k t f.1))
-          (λ now. let f = (s.compares.left.found c t).0 now in (was_left c t f, here_done t f.0 f.1.0))
-          (Contains-append_cases a.left s.compares.left.added (c, t) (subst (λ (xs : Spots). Contains xs (c, t)) s.compares.left.is is))
+      left_to : (c : FullNodeId) (t : Seat) → Contains b.left (c, t) → Left w u t c
+      left_to c t is = ⊎_elim (h.left c t) (was_left c t) (s.compares.left.only c t is)
 
-      left_from : (c : FullNodeId) (t : Seat) → Left w u t c → IsDone w u (k + 1) t → Contains b.left (c, t)
-      left_from c t l done = subst (λ (xs : Spots). Contains xs (c, t)) (sym s.compares.left.is) (go t l done)
+      left_from : (c : FullNodeId) (t : Seat) → Left w u t c → IsDone w u (k + 1) t → Contains b.left (c, t) ⊎ IsShiftedIn b.entered c
+      left_from c t l done = go t l done
         where
-          before : (t : Seat) → Left w u t c → IsDone w u k t → Contains (a.left ++ s.compares.left.added) (c, t)
-          before t l done = Contains-append_left a.left s.compares.left.added (c, t) ((h.left c t).1 (l, done))
+          earlier : (t : Seat) → Contains a.left (c, t) ⊎ IsShiftedIn a.entered c → Contains b.left (c, t) ⊎ IsShiftedIn b.entered c
+          earlier t (inl is) = inl (s.compares.left.kept c t is)
+          earlier t (inr x) = inr (x.0, s.compares.left.stays c x.0 x.1, x.2)
 
-          go : (t : Seat) → Left w u t c → IsDone w u (k + 1) t → Contains (a.left ++ s.compares.left.added) (c, t)
-          go None l done = before None l done
-          go (Some p) l done = ⊎_elim (λ earlier. before (Some p) l earlier) (λ same. Contains-append_right a.left s.compares.left.added (c, Some p) ((s.compares.left.found c (Some p)).1 (left_was c p same l))) (last_named p.0 done)
+          now : (p : Place) → WasHere c (Some p) → Contains b.left (c, Some p) ⊎ IsShiftedIn b.entered c
+          now p x =
+              let lt : x.0 < length (listed_ids w id) = slice_get_within (listed_ids w id) x.0 c x.1.1.0 in
+              subst (λ (t : Seat). Contains b.left (c, t) ⊎ IsShiftedIn b.entered c) (sym x.1.0) (s.compares.left.each x.0 c (omega arith) lt x.1.1.0 x.1.1.1)
 
-      entered_to : (c : FullNodeId) (t : Seat) → Contains b.entered (c, t) → Entered w u t c × IsDone w u (k + 1) t
+          go : (t : Seat) → Left w u t c → IsDone w u (k + 1) t → Contains b.left (c, t) ⊎ IsShiftedIn b.entered c
+          go None l done = earlier None (h.left_each c None l done)
+          go (Some p) l done = ⊎_elim (λ done. earlier (Some p) (h.left_each c (Some p) l done)) (λ same. now p (left_was c p same l)) (last_named p.0 done)
+
+      shifted_to : (c : FullNodeId) (x : Arrival) → Contains b.entered (c, x) → IsTrue x.is_shifted → IsShift w u c x.spot
+      shifted_to c x is t = ⊎_elim
+          (λ earlier. h.shifted c x earlier t)
+          (λ f. (id, f.0, f.1, was_left c (Some (id, f.0)) (f.0, (refl, (f.2, f.3))), f.4))
+          (s.compares.left.shifted c x is t)
+
+      entered_to : (c : FullNodeId) (t : Seat) → Contains (spots_of b.entered) (c, t) → Entered w u t c × IsDone w u (k + 1) t
       entered_to c t is = ⊎_elim
           (λ earlier. let f = (h.entered c t).0 earlier in (f.0, later_done k t f.1))
           (λ now. let f = (s.compares.entered.found c t).0 now in (is_entered c t f, here_done t f.0 f.1.0))
-          (Contains-append_cases a.entered s.compares.entered.added (c, t) (subst (λ (xs : Spots). Contains xs (c, t)) s.compares.entered.is is))
+          (Contains-append_cases (spots_of a.entered) s.compares.entered.added (c, t) (subst (λ (xs : Spots). Contains xs (c, t)) s.compares.entered.is is))
 
-      entered_from : (c : FullNodeId) (t : Seat) → Entered w u t c → IsDone w u (k + 1) t → Contains b.entered (c, t)
+      entered_from : (c : FullNodeId) (t : Seat) → Entered w u t c → IsDone w u (k + 1) t → Contains (spots_of b.entered) (c, t)
       entered_from c t l done = subst (λ (xs : Spots). Contains xs (c, t)) (sym s.compares.entered.is) (go t l done)
         where
-          before : (t : Seat) → Entered w u t c → IsDone w u k t → Contains (a.entered ++ s.compares.entered.added) (c, t)
-          before t l done = Contains-append_left a.entered s.compares.entered.added (c, t) ((h.entered c t).1 (l, done))
+          before : (t : Seat) → Entered w u t c → IsDone w u k t → Contains (spots_of a.entered ++ s.compares.entered.added) (c, t)
+          before t l done = Contains-append_left (spots_of a.entered) s.compares.entered.added (c, t) ((h.entered c t).1 (l, done))
 
-          go : (t : Seat) → Entered w u t c → IsDone w u (k + 1) t → Contains (a.entered ++ s.compares.entered.added) (c, t)
+          go : (t : Seat) → Entered w u t c → IsDone w u (k + 1) t → Contains (spots_of a.entered ++ s.compares.entered.added) (c, t)
           go None l done = before None l done
-          go (Some p) l done = ⊎_elim (λ earlier. before (Some p) l earlier) (λ same. Contains-append_right a.entered s.compares.entered.added (c, Some p) ((s.compares.entered.found c (Some p)).1 (entered_is c p same l))) (last_named p.0 done)
+          go (Some p) l done = ⊎_elim (λ earlier. before (Some p) l earlier) (λ same. Contains-append_right (spots_of a.entered) s.compares.entered.added (c, Some p) ((s.compares.entered.found c (Some p)).1 (entered_is c p same l))) (last_named p.0 done)
 
       -- the node's spots are others than those of the nodes before it
-      entered_across : (x y : FullNodeId × Seat) → Contains a.entered x → Contains s.compares.entered.added y → x.1 ≢ y.1
+      entered_across : (x y : FullNodeId × Seat) → Contains (spots_of a.entered) x → Contains s.compares.entered.added y → x.1 ≢ y.1
       entered_across x y before now same =
           let f = (s.compares.entered.found y.0 y.1).0 now in
           first_named (subst (IsDone w u k) (same ∙ f.1.0) ((h.entered x.0 x.1).0 before).1)
 
-      entered_apart : AreApart b.entered
-      entered_apart = subst AreApart (sym s.compares.entered.is) (apart_both a.entered s.compares.entered.added h.entered_apart s.compares.entered.once entered_across)
+      entered_apart : AreApart (spots_of b.entered)
+      entered_apart = subst AreApart (sym s.compares.entered.is) (apart_both (spots_of a.entered) s.compares.entered.added h.entered_apart s.compares.entered.once entered_across)
 
       grafted_to : (name : TreeId) (n : FullNodeId) → at_name b.grafted name ≡ Some n → IsNamedBefore w u (k + 1) n × (graft_name m n ≡ Some name)
       grafted_to name n is = ⊎_elim
@@ -357,7 +373,9 @@ module _ (w : World) (u : UpdateData) (o : IsOld w) where
             (last_named n before);
         is_named = next_is_named;
         has_named = next_has_named;
-        left = λ c t. (left_to c t, λ f. left_from c t f.0 f.1);
+        left = left_to;
+        left_each = left_from;
+        shifted = shifted_to;
         entered = λ c t. (entered_to c t, λ f. entered_from c t f.0 f.1);
         entered_apart = entered_apart;
         grafted = λ name n. (grafted_to name n, λ f. grafted_from name n f.0 f.1);
@@ -407,8 +425,8 @@ module _ (w : World) (u : UpdateData) (o : IsOld w) where
       left_roots : Gathers (OnlyAt None (root_of w i) (root_of m i)) [] c.left
       left_roots = subst (λ x. Gathers (OnlyAt None (root_of w i) x) [] c.left) new_root (subst (λ x. Gathers (OnlyAt None x (Some (in_tree opened.index opened.root))) [] c.left) old_root b.left)
 
-      entered_roots : Gathers (OnlyAt None (root_of m i) (root_of w i)) [] c.entered
-      entered_roots = subst (λ x. Gathers (OnlyAt None x (root_of w i)) [] c.entered) new_root (subst (λ x. Gathers (OnlyAt None (Some (in_tree opened.index opened.root)) x) [] c.entered) old_root b.entered)
+      entered_roots : Gathers (OnlyAt None (root_of m i) (root_of w i)) [] (spots_of c.entered)
+      entered_roots = subst (λ x. Gathers (OnlyAt None x (root_of w i)) [] (spots_of c.entered)) new_root (subst (λ x. Gathers (OnlyAt None (Some (in_tree opened.index opened.root)) x) [] (spots_of c.entered)) old_root b.entered)
 
       -- what is the root of the one and not of the other
       root_only : (v v' : World) (x : FullNodeId) → root_of v i ≡ Some x → root_of v' i ≢ Some x → IsAt v None x × ¬ (IsAt v' None x)
@@ -425,12 +443,12 @@ module _ (w : World) (u : UpdateData) (o : IsOld w) where
           let tree : x.tree ≡ i = left_tree w u None x l in
           subst (λ (xs : Spots). Contains xs (x, None)) (sym left_roots.is) ((left_roots.found x None).1 (refl, (subst (λ j. root_of w j ≡ Some x) tree l.0, subst (λ j. root_of m j ≢ Some x) tree l.1)))
 
-      root_first_entered : (x : FullNodeId) (s : Seat) → Contains c.entered (x, s) → Entered w u s x × IsDone w u 0 s
+      root_first_entered : (x : FullNodeId) (s : Seat) → Contains (spots_of c.entered) (x, s) → Entered w u s x × IsDone w u 0 s
       root_first_entered x s is =
           let g = (entered_roots.found x s).0 (subst (λ (xs : Spots). Contains xs (x, s)) entered_roots.is is) in
           subst (λ y. Entered w u y x × IsDone w u 0 y) (sym g.0) (root_only m w x g.1.0 g.1.1, tt)
 
-      root_last_entered : (x : FullNodeId) (s : Seat) → Entered w u s x → IsDone w u 0 s → Contains c.entered (x, s)
+      root_last_entered : (x : FullNodeId) (s : Seat) → Entered w u s x → IsDone w u 0 s → Contains (spots_of c.entered) (x, s)
       root_last_entered x (Some p) l done = absurd (none_named p.0 done)
       root_last_entered x None l done =
           let tree : x.tree ≡ i = entered_tree w u None x l in
@@ -454,7 +472,9 @@ module _ (w : World) (u : UpdateData) (o : IsOld w) where
           (λ there. (all_named id).0 (subst (λ j. (id.tree ≡ j) × (k : ℕ) × (k < length u.nodes) × (named_at u k ≡ Some id.node)) op.index ((t.has id).0 (subst (λ x. IsSome (at x id)) b.named_is there)))),
           (λ n. let f = (all_named id).1 n in subst (λ x. IsSome (at x id)) (sym b.named_is) ((t.has id).1 (f.0 ∙ sym op.index, f.1, f.2, f.3))),
         );
-        left = λ x s. (root_first x s, λ f. root_last x s f.0 f.1);
+        left = λ x s is. (root_first x s is).0;
+        left_each = λ x s l done. inl (root_last x s l done);
+        shifted = λ x y is t. absurd (contains_none (x, y) (b.plain x y is t));
         entered = λ x s. (root_first_entered x s, λ f. root_last_entered x s f.0 f.1);
         entered_apart = subst AreApart (sym entered_roots.is) entered_roots.once;
         grafted = λ name n. ((λ is. absurd (none_grafted name n is)), λ f. absurd (none_named n f.0));
@@ -483,26 +503,38 @@ module _ (w : World) (u : UpdateData) (o : IsOld w) where
         let t = x.2 in
         let f = value_at a.entered t.0 x.0 t.3 in
         let g = value_at a.entered t.1 x.0 t.4 in
-        let d : FullNodeId × Seat = (x.0, f.0) in
-        let e : FullNodeId × Seat = (x.0, g.0) in
-        let first : get_or a.entered t.0 d ≡ d = get_or_from_slice_get a.entered t.0 d d f.1 in
-        let second : get_or a.entered t.1 d ≡ e = get_or_from_slice_get a.entered t.1 e d g.1 in
-        let ne : f.0 ≢ g.0 = λ same. h.entered_apart t.0 t.1 d t.2 (slice_get_within a.entered t.1 e g.1) (ap (λ (y : FullNodeId × Seat). y.1) first ∙ same ∙ sym (ap (λ (y : FullNodeId × Seat). y.1) second)) in
+        let d : FullNodeId × Seat = (x.0, f.0.spot) in
+        let e : FullNodeId × Seat = (x.0, g.0.spot) in
+        let at_f = spot_at a.entered t.0 x.0 f.0 f.1 in
+        let at_g = spot_at a.entered t.1 x.0 g.0 g.1 in
+        let first : get_or (spots_of a.entered) t.0 d ≡ d = get_or_from_slice_get (spots_of a.entered) t.0 d d at_f in
+        let second : get_or (spots_of a.entered) t.1 d ≡ e = get_or_from_slice_get (spots_of a.entered) t.1 e d at_g in
+        let ne : f.0.spot ≢ g.0.spot = λ same. h.entered_apart t.0 t.1 d t.2 (slice_get_within (spots_of a.entered) t.1 e at_g) (ap (λ (y : FullNodeId × Seat). y.1) first ∙ same ∙ sym (ap (λ (y : FullNodeId × Seat). y.1) second)) in
         subst (λ y. IsRefusal w u (error.ListedTwice y)) x.1
-        (entered_twice_stands w u o f.0 g.0 x.0 ne ((h.entered x.0 f.0).0 (contains_at a.entered t.0 d f.1)).0 ((h.entered x.0 g.0).0 (contains_at a.entered t.1 e g.1)).0)
+        (entered_twice_stands w u o f.0.spot g.0.spot x.0 ne ((h.entered x.0 f.0.spot).0 (contains_at (spots_of a.entered) t.0 d at_f)).0 ((h.entered x.0 g.0.spot).0 (contains_at (spots_of a.entered) t.1 e at_g)).0)
     twice_refused e x = absurd x
 
     module _ (opened : IsOpened w u) (once : AreNamedOnce u.nodes) (c : Compared) (l : SettlesLists a c) where
-      left_here : (id : FullNodeId) (s : Seat) → (at c.left id ≡ Some s) ↔ Left w u s id
-      left_here id s = (
-        (λ is. ((h.left id s).0 (l.left_found id s is)).0),
-        (λ was.
-            let f = value_of (at c.left id) (l.left_each id s ((h.left id s).1 (was, done_left s id was))) in
-            f.1 ∙ ap Some (spot_once w u o f.0 s id ((h.left id f.0).0 (l.left_found id f.0 f.1)).0.0 was.0)),
-      )
+      left_here : (id : FullNodeId) (s : Seat) → at c.left id ≡ Some s → Left w u s id
+      left_here id s is = h.left id s (l.left_found id s is)
 
-      entered_here : (id : FullNodeId) (s : Seat) → (at c.entered id ≡ Some s) ↔ Entered w u s id
-      entered_here id s = ((λ is. ((h.entered id s).0 ((l.entered id s).0 is)).0), λ is. (l.entered id s).1 ((h.entered id s).1 (is, done_entered s id is)))
+      left_all : (id : FullNodeId) (s : Seat) → Left w u s id → (at c.left id ≡ Some s) ⊎ IsShifted c id
+      left_all id s was = ⊎_elim
+          (λ there.
+          let f = value_of (at c.left id) (l.left_each id s there) in
+          inl (f.1 ∙ ap Some (spot_once w u o f.0 s id (left_here id f.0 f.1).0 was.0)))
+          (λ x. inr (x.0, (l.entered id x.0).1 x.1, x.2))
+          (h.left_each id s was (done_left s id was))
+
+      entered_here : (id : FullNodeId) (s : Seat) → (entered_at c id ≡ Some s) ↔ Entered w u s id
+      entered_here id s = (
+        (λ is.
+            let x = map_some (λ (y : Arrival). y.spot) (at c.entered id) s is in
+            subst (λ t. Entered w u t id) x.2 ((h.entered id x.0.spot).0 (in_spots a.entered id x.0 ((l.entered id x.0).0 x.1))).0),
+        (λ is.
+            let x = of_spot a.entered id s ((h.entered id s).1 (is, done_entered s id is)) in
+            ap (option_map (λ (y : Arrival). y.spot)) ((l.entered id x.0).1 x.1) ∙ ap Some x.2),
+      )
 
       named_here' : (id : FullNodeId) (n : Named) → at c.named id ≡ Some n → at a.named id ≡ Some n
       named_here' id n = subst (λ xs. at xs id ≡ Some n) l.named
@@ -520,7 +552,9 @@ module _ (w : World) (u : UpdateData) (o : IsOld w) where
         is_named = λ id n is. let there = named_here' id n is in h.is_named id n ((all_named id).1 ((h.has_named id).0 (some_is (at a.named id) n there))) there;
         has_named = λ id named. subst (λ xs. IsSome (at xs id)) (sym l.named) ((h.has_named id).1 named);
         left = left_here;
+        left_each = left_all;
         entered = entered_here;
+        shifted = λ id x is. h.shifted id x ((l.entered id x).0 is);
         grafted = λ name n. subst (λ x. (at_name x name ≡ Some n) ↔ (IsNamed w u n × (graft_name m n ≡ Some name))) (sym l.grafted)
             ((λ is. let f = (h.grafted name n).0 is in ((all_named n).0 f.0, f.1)), λ f. (h.grafted name n).1 ((all_named n).1 f.0, f.1));
         lost = λ name. subst (λ x. Contains x.items name ↔ LosesGraft w u name) (sym l.lost)

@@ -11,22 +11,23 @@ use Rattle.tree_changes.specs.LookUps.{IsPlaceOf}
 use Rattle.tree_plan.specs.declared.passes.Named.{Named}
 use Rattle.tree_plan.specs.declared.passes.Comparing.{Comparing}
 use Rattle.tree_plan.specs.Passes.{at, at_name}
-use Rattle.tree_plan.specs.Comparisons.{Gathers, OnlyIn, child_ids, TakesGraft, ChangesGraft, IsEntryOf, ComparesData, ComparesNode}
+use Rattle.tree_plan.specs.Comparisons.{Spots, Arrivals, spots_of, Gathers, Leaves, OnlyIn, child_ids, TakesGraft, ChangesGraft, IsEntryOf, ComparesData, ComparesNode}
 use Rattle.model.proofs.Update.RulesOrFault.{no_some}
 use Rattle.tree_plan.proofs.IdMaps.{Put, some_is}
 
 -- what compared data are, in three steps: the entry, the lists, the grafts
 pub data_compared : (id : FullNodeId) (n : Named) (xs : List FullNodeId) (graft now : Option TreeId) (d : NodeData) (a b c : Comparing) (entries : List (FullNodeId × Named))
     → now ≡ d.tree_id → Put id (Some n) (at a.named) (at entries) → (IsSome (at a.named id) → length entries ≡ length a.named)
-    → Gathers (OnlyIn id xs (child_ids id d)) a.left b.left → Gathers (OnlyIn id (child_ids id d) xs) a.entered b.entered
+    → Leaves id xs (child_ids id d) 0 (length xs) a.left b.left a.entered b.entered → Gathers (OnlyIn id (child_ids id d) xs) (spots_of a.entered) (spots_of b.entered)
     → b ≡ record { named = entries; left = b.left; entered = b.entered; grafted = a.grafted; lost = a.lost; gained = a.gained }
     → c ≡ record { named = b.named; left = b.left; entered = b.entered; grafted = b.grafted; lost = c.lost; gained = c.gained }
     → ChangesGraft graft now b c → ComparesData id n xs graft d a c
 data_compared id n xs graft now d a b c entries is put count left entered first second grafts = record {
   named = subst (λ m. Put id (Some n) (at a.named) (at m)) (sym map_is) put;
   count_of = λ there. ap (λ (m : List (FullNodeId × Named)). length m) map_is ∙ count there;
-  left = subst (λ m. Gathers (OnlyIn id xs (child_ids id d)) a.left m) (ap (λ (x : Comparing). x.left) (sym second)) left;
-  entered = subst (λ m. Gathers (OnlyIn id (child_ids id d) xs) a.entered m) (ap (λ (x : Comparing). x.entered) (sym second)) entered;
+  left = subst (λ (m : Spots). Leaves id xs (child_ids id d) 0 (length xs) a.left m a.entered c.entered) (ap (λ (x : Comparing). x.left) (sym second))
+      (subst (λ (es : Arrivals). Leaves id xs (child_ids id d) 0 (length xs) a.left b.left a.entered es) (ap (λ (x : Comparing). x.entered) (sym second)) left);
+  entered = subst (λ (es : Arrivals). Gathers (OnlyIn id (child_ids id d) xs) (spots_of a.entered) (spots_of es)) (ap (λ (x : Comparing). x.entered) (sym second)) entered;
   regrafted = go grafts;
 }
   where
@@ -57,8 +58,9 @@ node_compared w id entry d a b c n xs graft takes first stays is lists grafts h 
   compares = subst (λ x. ComparesData id n (listed_ids w id) x d a c) grafts (subst (λ x. ComparesData id n x graft d a c) lists (record {
     named = subst (λ m. Put id (Some n) (at m) (at c.named)) (ap (λ (x : Comparing). x.named) first) h.named;
     count_of = subst (λ (m : List (FullNodeId × Named)). IsSome (at m id) → length c.named ≡ length m) (ap (λ (x : Comparing). x.named) first) h.count_of;
-    left = subst (λ m. Gathers (OnlyIn id xs (child_ids id d)) m c.left) (ap (λ (x : Comparing). x.left) first) h.left;
-    entered = subst (λ m. Gathers (OnlyIn id (child_ids id d) xs) m c.entered) (ap (λ (x : Comparing). x.entered) first) h.entered;
+    left = subst (λ (m : Spots). Leaves id xs (child_ids id d) 0 (length xs) m c.left a.entered c.entered) (ap (λ (x : Comparing). x.left) first)
+        (subst (λ (es : Arrivals). Leaves id xs (child_ids id d) 0 (length xs) b.left c.left es c.entered) (ap (λ (x : Comparing). x.entered) first) h.left);
+    entered = subst (λ (es : Arrivals). Gathers (OnlyIn id (child_ids id d) xs) (spots_of es) (spots_of c.entered)) (ap (λ (x : Comparing). x.entered) first) h.entered;
     regrafted = go h.regrafted;
   }));
 }

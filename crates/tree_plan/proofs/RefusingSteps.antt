@@ -13,13 +13,12 @@ use Rattle.model.specs.declared.FullNodeId.{FullNodeId}
 use Rattle.model.specs.FullIds.{full_cmp}
 use Rattle.model.specs.World.{World, Place, IsNode, HasData, data_of, in_tree, listed_ids, root_of, Reached}
 use Rattle.model.specs.World as world
-use Rattle.model.specs.State.{Lists}
 use Rattle.model.specs.Update.{UpdateData, IsNamed, index_for, merged_world}
-use Rattle.model.specs.Surgery.{IsOld, IsAt, HasEntered, Gone, IsRefined}
+use Rattle.model.specs.Surgery.{IsOld, HasEntered, Gone, IsRefined}
 use Rattle.model.proofs.Worlds.Names.{cases_id, certain}
 use Rattle.model.proofs.State.StatePlaces.{value_of, listed_tree}
 use Rattle.model.proofs.Members.{contains_none, contains_first}
-use Rattle.model.proofs.Surgery.Spots.{at_or_left, spot_once, unnamed_data, root_reached}
+use Rattle.model.proofs.Surgery.Spots.{unnamed_data, root_reached}
 use Rattle.model.proofs.Surgery.WhatIsDecided.{decide_entered}
 use Rattle.model.proofs.Surgery.FaultsStand.{unentered_stands, doubled_stands}
 use Rattle.model.proofs.Surgery.ClimbsUp.{search_all}
@@ -32,10 +31,11 @@ use Rattle.tree_plan.specs.declared.passes.Settled.{Settled}
 use Rattle.tree_plan.specs.declared.passes.Removed.{Removed}
 use Rattle.tree_plan.specs.declared.refusing.Search.{Search}
 use Rattle.tree_plan.specs.Passes.{at, has, HoldsOpened, HoldsCompared, HoldsSettled, HoldsRemoved}
-use Rattle.tree_plan.specs.Refusing.{AreListed, IsOfUnlisted, IsDoubled, IsListedStill, IsSearch, Enqueues, SearchesAll, HasReached, Explains}
+use Rattle.tree_plan.specs.Refusing.{AreListed, IsOfUnlisted, IsKept, IsListedStill, IsSearch, Enqueues, SearchesAll, HasReached, Explains}
 use Rattle.model.proofs.Update.RulesOrFault.{no_some}
-use Rattle.tree_plan.proofs.IdMaps.{Put, put_here, put_apart, some_is, none_or_some, contains_at, at_contains}
+use Rattle.tree_plan.proofs.IdMaps.{Put, put_here, put_apart, contains_at, at_contains}
 use Rattle.tree_plan.proofs.Entries.{entry_named}
+use Rattle.tree_plan.proofs.Arrived.{not_arrived, no_arrival}
 use Rattle.tree_plan.proofs.RemovingSteps.{push_keeps, contains_one, contains_push, contains_last}
 
 -- ---- the search
@@ -173,7 +173,7 @@ module _ (w : World) (u : UpdateData) where
     pub unlisted_refused : (e : UpdateError) → IsOfUnlisted d e → IsRefusal w u e
     unlisted_refused e f =
         let n = k.is_named f.0 f.1.0 f.1.1 in
-        let none : ¬ (HasEntered w u f.0) = λ h. no_some (at d.entered f.0) f.1.2.1 (some_is (at d.entered f.0) h.0 ((k.entered f.0 h.0).1 h.1)) in
+        let none : ¬ (HasEntered w u f.0) = not_arrived w u d k f.0 f.1.2.1 in
         subst (IsRefusal w u) (sym f.2) (unentered_stands w u o f.0 n.named (n.new f.1.2.0) none)
 
     pub explained : (r : Removed) → HoldsRemoved w u r → (reached : BTreeSet FullNodeId) → HasReached w u reached → (c : FullNodeId) → IsListedStill w u c → (e : UpdateError) → Explains d reached c e → IsRefusal w u e
@@ -186,17 +186,16 @@ module _ (w : World) (u : UpdateData) where
         subst (IsRefusal w u) (sym f.1) (doubled_stands w u o removal.removed named s q c entered was still stays)
 
     module _ (a : Settled) (settlement : HoldsSettled w u a) (r : Removed) (removal : HoldsRemoved w u r) where
-      pub doubled_still : (c : FullNodeId) (place : Option Place) → at a.old_places.entries c ≡ Some place → IsDoubled d r c place → IsListedStill w u c
-      doubled_still c place is (none, p, same, stays) =
-          let f = settlement.found c p (is ∙ ap Some same) in
-          let here : Lists m p c = ⊎_elim (λ h. h) (λ l. let g : None ≡ Some (Some p) = sym none ∙ (k.left c (Some p)).1 l in absurd cc) (at_or_left w u (Some p) c f.1) in
-          (f.0.0, p, f.0.1, f.1, here, λ gone. stays ((removal.gone p.0).1 gone))
+      pub doubled_still : (c : FullNodeId) (q : Place) → Contains a.doubles.items (c, q) → IsKept r q → IsListedStill w u c
+      doubled_still c q is stays =
+          let f = (settlement.doubled c q).0 is in
+          (f.0.0, q, f.0.1, f.1, f.2, λ gone. stays ((removal.gone q.0).1 gone))
 
-      pub refined : AreListed d → ((c : FullNodeId) (place : Option Place) → at a.old_places.entries c ≡ Some place → ¬ (IsDoubled d r c place)) → IsRefined w u
+      pub refined : AreListed d → ((c : FullNodeId) (q : Place) → Contains a.doubles.items (c, q) → ¬ (IsKept r q)) → IsRefined w u
       refined listed_ids apart = record {
         removed = removal.removed;
-        new_entered = λ n named absent. certain (decide_entered w u n) (λ none. let x = value_of (at d.named n) (k.has_named n named) in listed_ids n (x.0, x.1, (new n x.0 x.1 absent, no_entry n none)));
-        doubled_gone = λ s q c e was still. certain_gone q (λ stays. apart c (Some q) (settlement.listed c q (s, e) was) (not_left q c was still, q, refl, stays));
+        new_entered = λ n named absent. certain (decide_entered w u n) (λ none. let x = value_of (at d.named n) (k.has_named n named) in listed_ids n (x.0, x.1, (new n x.0 x.1 absent, no_arrival w u d k n none)));
+        doubled_gone = λ s q c e was still. certain_gone q (apart c q ((settlement.doubled c q).1 ((s, e), was, still)));
       }
         where
           new : (n : FullNodeId) (x : Named) → at d.named n ≡ Some x → ¬ (IsNode w n) → x.was ≡ None
@@ -205,12 +204,6 @@ module _ (w : World) (u : UpdateData) where
               go : (o : Option (Option Place)) → x.was ≡ o → o ≡ None
               go None e = refl
               go (Some p) e = absurd (absent ((k.is_named n x is).old p e).0)
-
-          no_entry : (n : FullNodeId) → ¬ (HasEntered w u n) → at d.entered n ≡ None
-          no_entry n none = ⊎_elim (λ h. h) (λ s. absurd (none (s.0, (k.entered n s.0).0 s.1))) (none_or_some (at d.entered n))
-
-          not_left : (q : Place) (c : FullNodeId) → Lists w q c → Lists m q c → at d.left c ≡ None
-          not_left q c was still = ⊎_elim (λ h. h) (λ s. let l = (k.left c s.0).0 s.1 in absurd (l.1 (subst (λ t. IsAt m t c) (spot_once w u o (Some q) s.0 c was l.0) still))) (none_or_some (at d.left c))
 
           certain_gone : (q : Place) → (¬ (has r.gone q.0) → ⊥) → Gone w u q.0
           certain_gone q h = go (contains full_cmp r.gone q.0) refl

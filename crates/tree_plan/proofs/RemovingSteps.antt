@@ -16,7 +16,7 @@ use Rattle.model.specs.FullIds.{full_cmp}
 use Rattle.model.specs.World.{World, Tree, HasData, data_of, index_of, root_named, graft_name, in_tree}
 use Rattle.model.specs.State.{Lists}
 use Rattle.model.specs.Update.{UpdateData, IsNamed}
-use Rattle.model.specs.Surgery.{IsOld, Seat, Left, HasEntered, IsGraftedByNamed, Gone, IsSettled}
+use Rattle.model.specs.Surgery.{IsOld, Seat, HasEntered, IsGraftedByNamed, Gone, IsSettled}
 use Rattle.model.specs.Surgery as surgery
 use Rattle.model.proofs.Worlds.Names.{cases_id}
 use Rattle.model.proofs.Members.{contains_none, contains_first, contains_cases}
@@ -28,6 +28,7 @@ use Rattle.tree_plan.specs.declared.passes.Removed.{Removed}
 use Rattle.tree_plan.specs.declared.removing.Removing.{Removing}
 use Rattle.tree_plan.specs.Passes.{at, has, at_name, IsOfName, HoldsCompared, IsUngrafted, HoldsRemoved, LosesGraft, cut_record}
 use Rattle.tree_plan.specs.Removing.{FindsGone, Extends, IsPlacedOrFound, LosesAll, IsDropDone, Drops, IsExpanded, Expands, LosesLeft, DropsLost, FollowsUp, IsWorkedOff}
+use Rattle.tree_plan.proofs.Arrived.{arrived, not_arrived}
 use Rattle.tree_plan.proofs.Taking.{last_or_before}
 use Rattle.model.proofs.State.StatePlaces.{value_of}
 use Rattle.model.proofs.Update.RulesOrFault.{no_some}
@@ -74,10 +75,10 @@ pairs_none R i j d lt within = absurd (omega arith)
 
 module _ (w : World) (u : UpdateData) (d : Compared) (k : HoldsCompared w u d) where
   pub entered_has : (id : FullNodeId) → true ≡ is_some (at d.entered id) → HasEntered w u id
-  entered_has id is = let f = value_of (at d.entered id) (sym is) in (f.0, (k.entered id f.0).0 f.1)
+  entered_has id is = let f = value_of (at d.entered id) (sym is) in (f.0.spot, arrived w u d k id f.0 f.1)
 
   pub entered_not : (id : FullNodeId) → false ≡ is_some (at d.entered id) → ¬ (HasEntered w u id)
-  entered_not id is h = no_some (at d.entered id) (none_if_not (at d.entered id) is) (some_is (at d.entered id) h.0 ((k.entered id h.0).1 h.1))
+  entered_not id is = not_arrived w u d k id (none_if_not (at d.entered id) is)
 
   pub named_has : (id : FullNodeId) → true ≡ is_some (at d.named id) → IsNamed w u id
   named_has id is = let f = value_of (at d.named id) (sym is) in (k.is_named id f.0 f.1).named
@@ -492,11 +493,11 @@ module _ (w : World) (u : UpdateData) where
 
 module _ (w : World) (u : UpdateData) (d : Compared) (k : HoldsCompared w u d) where
   pub left_goes : (s : Seat) (id : FullNodeId) → at d.left id ≡ Some s → ¬ (HasEntered w u id) → Gone w u id
-  left_goes s id is none = surgery.Gone.left s id ((k.left id s).0 is) none
+  left_goes s id is none = surgery.Gone.left s id (k.left id s is) none
 
   pub left_end : (a b : Removing) → FindsGone w u b → b.trees ≡ a.trees → ((id : FullNodeId) (s : Seat) → at d.left id ≡ Some s → IsPlacedOrFound w u b id) → LosesLeft w u a b
   left_end a b found trees all = record {
     found = found;
     trees = trees;
-    left = λ s id l. all id s ((k.left id s).1 l);
+    left = λ s id l. ⊎_elim (all id s) (λ x. inl (x.0.spot, arrived w u d k id x.0 x.1)) (k.left_each id s l);
   }

@@ -1,7 +1,8 @@
 -- What a node's settling says, and keeps.
-use Rattle.std.proofs.Common.{◌≡◌, ◌≢◌, ◌⊎◌, ℕ, Bool, true, false, ◌||◌, Option, Some, None, ⊎_elim, inl, inr, refl, sym, ap, subst, ◌∙◌}
-use Rattle.std.specs.Prelude.{is_some, slice_get}
-use Rattle.std.specs.BTreeMap.{BTreeMap}
+use Rattle.std.proofs.Common.{◌≡◌, ◌≢◌, ◌⊎◌, List, ◌++◌, ◌∷◌, [], ℕ, Bool, true, false, ◌||◌, Option, Some, None, ⊎_elim, inl, inr, refl, sym, ap, subst, ◌∙◌}
+use Rattle.std.specs.Prelude.{Contains, is_some, slice_get, option_map, option_and_then, option_to_list, if◌then◌else◌}
+use Rattle.std.proofs.lemmas.List.{append-nil}
+use Rattle.std.proofs.lemmas.List.Elements.{Contains-append_left, Contains-append_right, Contains-append_cases}
 use Rattle.std.specs.BTreeSet.{BTreeSet, contains}
 use Rattle.std.proofs.lemmas.Option.{same_Some}
 use Rattle.model.specs.declared.FullNodeId.{FullNodeId}
@@ -12,36 +13,45 @@ use Rattle.model.specs.Update.{UpdateData, MissingData, ListedTwice, Stands, ind
 use Rattle.model.specs.Surgery.{IsOld, Seat, IsAt, Left, Entered, HasEntered, Adopts}
 use Rattle.model.proofs.Worlds.Names.{cases_id}
 use Rattle.model.proofs.State.StatePlaces.{by_place, stands_listed, root_named_parts}
-use Rattle.model.proofs.Surgery.Spots.{at_or_left, spot_once, at_is_node, entered_tree, named_is_node}
+use Rattle.model.proofs.Surgery.Spots.{at_or_left, spot_once, at_is_node, node_stays, entered_tree, named_is_node}
 use Rattle.model.proofs.Surgery.FaultsStand.{entered_missing_stands, root_entered_stands}
 use Rattle.tree_changes.specs.LookUps.{IsPlaceOf}
 use Rattle.tree_plan.specs.declared.passes.Opened.{Opened}
+use Rattle.tree_plan.specs.declared.passes.Arrival.{Arrival}
 use Rattle.tree_plan.specs.declared.passes.Named.{Named}
 use Rattle.tree_plan.specs.declared.passes.Compared.{Compared}
 use Rattle.tree_plan.specs.declared.passes.Settled.{Settled}
-use Rattle.tree_plan.specs.Passes.{at, has, HoldsOpened, IsNamedAs, HoldsCompared, HoldsSettled}
-use Rattle.tree_plan.specs.Settling.{Comes, StoodAt, WasBelow, KeepsPlace, KeepsAdopter, IsSettledSoFar, IsSettledAt, Settles, SettlesOne}
+use Rattle.tree_plan.specs.declared.settling.Before.{Before}
+use Rattle.tree_plan.specs.Passes.{at, has, HoldsOpened, IsShift, IsNamedAs, HoldsCompared, HoldsSettled}
+use Rattle.tree_plan.specs.Settling.{Comes, StoodAt, StoodBefore, place_kept, WasBelow, KeepsDouble, KeepsAdopter, IsSettledSoFar, IsSettledAt, Settles, SettlesOne}
 use Rattle.model.proofs.Update.RulesOrFault.{no_some}
+use Rattle.model.proofs.Members.{contains_none, contains_first, contains_cases}
+use Rattle.tree_plan.proofs.Arrived.{arrived, arrival_of}
 use Rattle.tree_plan.proofs.IdMaps.{Put, put_here, put_apart, none_or_some}
 
 -- ---- what is kept
 
-pub kept_none : (id : FullNodeId) (was : Option (Option Place)) (a : Settled) → was ≡ None → KeepsPlace id was a a
-kept_none id was a none = record {
-  here = λ s e. cc;
-  none = λ e. refl;
-  others = λ q other. refl;
+abbrev Double : Type 0
+Double = FullNodeId × Place
+
+abbrev Doubles : Type 0
+Doubles = List Double
+
+abbrev entry_of : FullNodeId → Place → Double
+entry_of id place = (id, place)
+
+pub kept_none : (id : FullNodeId) (place : Option Place) (a : Settled) → place ≡ None → KeepsDouble id place a a
+kept_none id place a none = record {
+  doubles = sym (ap (λ o. a.doubles.items ++ option_to_list (option_map (λ (p : Place). entry_of id p) o)) none ∙ append-nil a.doubles.items);
   adopters = refl;
   moved = refl;
 }
 
-pub kept_some : (id : FullNodeId) (was : Option (Option Place)) (s : Option Place) (a : Settled) (m : BTreeMap FullNodeId (Option Place)) → was ≡ Some s → Put id (Some s) (at a.old_places.entries) (at m.entries) → KeepsPlace id was a (record a { old_places = m })
-kept_some id was s a m is put = record {
-  here = λ t e. put_here id (Some s) (at a.old_places.entries) (at m.entries) put ∙ sym is ∙ e;
-  none = λ e. cc;
-  others = put_apart id (Some s) (at a.old_places.entries) (at m.entries) put;
-  adopters = refl;
-  moved = refl;
+pub kept_some : (id : FullNodeId) (place : Option Place) (p : Place) (a b : Settled) → place ≡ Some p → b ≡ record a { doubles = b.doubles } → b.doubles.items ≡ a.doubles.items ++ entry_of id p ∷ [] → KeepsDouble id place a b
+kept_some id place p a b is same pushed = record {
+  doubles = pushed ∙ ap (λ o. a.doubles.items ++ option_to_list (option_map (λ (p : Place). entry_of id p) o)) (sym is);
+  adopters = ap (λ (x : Settled). x.adopters) same;
+  moved = ap (λ (x : Settled). x.has_moved) same;
 }
 
 pub adopted_below : (parent : FullNodeId) (was : Option (Option Place)) (a : Settled) → WasBelow was parent → KeepsAdopter parent was a a
@@ -49,7 +59,7 @@ adopted_below parent was a below = record {
   below = λ _. refl;
   here = λ other. absurd (other below);
   others = λ n other. (λ h. h, λ h. h);
-  places = refl;
+  doubles = refl;
 }
 
 pub adopted_here : (parent : FullNodeId) (was : Option (Option Place)) (a : Settled) (s : BTreeSet FullNodeId) (moved : Bool) → ¬ (WasBelow was parent) → Put parent true (λ n. contains full_cmp a.adopters n) (λ n. contains full_cmp s n) → moved ≡ (a.has_moved || is_some was) → KeepsAdopter parent was a (record a { adopters = s; has_moved = moved })
@@ -57,8 +67,11 @@ adopted_here parent was a s moved other put is = record {
   below = λ h. absurd (other h);
   here = λ _. (put_here parent true (λ n. contains full_cmp a.adopters n) (λ n. contains full_cmp s n) put, is);
   others = λ n apart. let same : contains full_cmp s n ≡ contains full_cmp a.adopters n = put_apart parent true (λ n. contains full_cmp a.adopters n) (λ n. contains full_cmp s n) put n apart in (λ h. sym same ∙ h, λ h. same ∙ h);
-  places = refl;
+  doubles = refl;
 }
+
+no_place : (s : Seat) (p : Place) → None ≡ s → s ≡ Some p → ⊥
+no_place s p e f = let no : None ≡ Some p = e ∙ f in cc
 
 -- ---- where a node stood
 
@@ -99,12 +112,49 @@ module _ (w : World) (u : UpdateData) (o : IsOld w) where
       ungrafting : (p : Place) → Lists w p c → graft_name w p.0 ≡ None
       ungrafting p lists = ⊎_elim (λ none. none) (λ f. let none : None ≡ Some c = ap (λ xs. slice_get xs p.1) (sym (o.graft_childless p.0 f.0 f.1)) ∙ lists in absurd cc) (none_or_some (graft_name w p.0))
 
-  module _ (d : Compared) (k : HoldsCompared w u d) where
-    pub where_left : (c : FullNodeId) → at d.left c ≡ None → (s : Seat) → ¬ (Left w u s c)
-    where_left c none s l = let f : None ≡ Some s = sym none ∙ (k.left c s).1 l in cc
+  -- the place that a node hasn't left is one where it is listed before and after
+  module _ (c : FullNodeId) (b : Before) (h : StoodBefore w u c b) where
+    pub kept_is : (q : Place) → place_kept b ≡ Some q → Lists w q c × Lists m q c
+    kept_is q is = go b.has_left refl is
+      where
+        there : (o : Option (Option Place)) → b.was ≡ o → b.has_left ≡ false → option_and_then (λ s. s) o ≡ Some q → Lists w q c × Lists m q c
+        there None e f g = let no : None ≡ Some q = g in absurd cc
+        there (Some s) e f g =
+            let was : Lists w q c = (h.stood.place s q e).0 g in
+            (was, ⊎_elim (λ still. still) (λ l. absurd (h.stays f (Some q) l)) (at_or_left w u (Some q) c was))
 
-    pub stood_named : (c : FullNodeId) (n : Named) → Comes w u c → at d.left c ≡ None → at d.named c ≡ Some n → StoodAt w c n.was
-    stood_named c n comes none is = go n.was refl
+        go : (l : Bool) → b.has_left ≡ l → (if l then None else option_and_then (λ s. s) b.was) ≡ Some q → Lists w q c × Lists m q c
+        go true e f = let no : None ≡ Some q = f in absurd cc
+        go false e f = there b.was refl e f
+
+    pub is_kept : (q : Place) → Lists w q c → Lists m q c → place_kept b ≡ Some q
+    is_kept q was still = there b.was refl
+      where
+        here : (s : Option Place) → b.was ≡ Some s → s ≡ Some q → (l : Bool) → b.has_left ≡ l → (if l then None else option_and_then (λ s. s) b.was) ≡ Some q
+        here s e f true g = absurd ((h.left g s e).1 (subst (λ t. IsAt m t c) (sym f) still))
+        here s e f false g = ap (option_and_then (λ s. s)) e ∙ f
+
+        there : (o : Option (Option Place)) → b.was ≡ o → place_kept b ≡ Some q
+        there None e = absurd (h.stood.new e (o.listed_is_node q c was))
+        there (Some s) e = here s e ((h.stood.place s q e).1 was) b.has_left refl
+
+  pub stood_and_left : (s : Seat) (c : FullNodeId) → Left w u s c → StoodBefore w u c (record { was = Some s; has_left = true })
+  stood_and_left s c l = record {
+    stood = stood_left s c l;
+    left = λ yes t e. subst (λ x. Left w u x c) (same_Some s t e) l;
+    stays = λ no. cc;
+  }
+
+  pub stood_and_stays : (c : FullNodeId) (was : Option (Option Place)) → StoodAt w c was → ((s : Seat) → ¬ (Left w u s c)) → StoodBefore w u c (record { was = was; has_left = false })
+  stood_and_stays c was stood stays = record {
+    stood = stood;
+    left = λ no. cc;
+    stays = λ _. stays;
+  }
+
+  module _ (d : Compared) (k : HoldsCompared w u d) where
+    pub stood_named : (c : FullNodeId) (n : Named) → Comes w u c → ((s : Seat) → ¬ (Left w u s c)) → at d.named c ≡ Some n → StoodAt w c n.was
+    stood_named c n comes stays is = go n.was refl
       where
         entry : IsNamedAs w u c n
         entry = k.is_named c n is
@@ -115,7 +165,7 @@ module _ (w : World) (u : UpdateData) (o : IsOld w) where
           old = λ t e. cc;
           place = λ t p e. cc;
         }
-        go (Some place) e = let f = entry.old place e in stood_stays c place comes (where_left c none) f.0 f.1
+        go (Some place) e = let f = entry.old place e in stood_stays c place comes stays f.0 f.1
 
     pub named_there : (c : FullNodeId) (n : Named) → at d.named c ≡ Some n → IsNode m c
     named_there c n is = named_is_node w u c (k.is_named c n is).named
@@ -139,9 +189,47 @@ module _ (w : World) (u : UpdateData) (o : IsOld w) where
       pub free_below : (c : FullNodeId) → c ≢ in_tree p.index p.root → root_of m (index_for w u.name) ≢ Some c
       free_below c other is = other (root_is c is)
 
+    -- ---- a node that has only shifted
+
+    -- it was listed by the same parent, in a place that it left, and it isn't the root
+    pub shifted_settled : (c : FullNodeId) (x : Arrival) → at d.entered c ≡ Some x → x.is_shifted ≡ true → (a : Settled) → IsSettledSoFar w u a → SettlesOne w u c x.spot a a
+    shifted_settled c x is shifted a so_far = record {
+      so_far = so_far;
+      keeps = record { doubles = λ x q h. h; adopters = λ n h. h; moved = λ h. h };
+      here = record {
+        is_node = node_stays w u c (o.listed_is_node (f.0, f.1) c f.3.0);
+        unlisted = λ p at_p root. absurd (not_root root);
+        doubled = λ q was still. absurd (f.3.1 (subst (λ y. Lists m y c) (o.listed_once q (f.0, f.1) c was f.3.0) still));
+        adopter = λ p at_p none. absurd (none f.1 (subst (λ y. Lists w (y, f.1) c) (parent_of p at_p) f.3.0));
+        unmoved = λ still p at_p old. (f.1, subst (λ y. Lists w (y, f.1) c) (parent_of p at_p) f.3.0);
+      };
+    }
+      where
+        f : IsShift w u c x.spot
+        f = k.shifted c x is shifted
+
+        entered : Entered w u x.spot c
+        entered = arrived w u d k c x is
+
+        not_root : root_of m (index_for w u.name) ≡ Some c → ⊥
+        not_root root =
+            let tree : c.tree ≡ index_for w u.name = entered_tree w u x.spot c entered in
+            let here : IsAt m None c = subst (λ j. root_of m j ≡ Some c) (sym tree) root in
+            let as_root : Entered w u None c = (here, λ before. o.root_unlisted (f.0, f.1) c.tree c before f.3.0) in
+            no_place x.spot (f.0, f.2) (k.compared.entered_once None x.spot c as_root entered) f.4
+
+        parent_of : (p : Place) → x.spot ≡ Some p → f.0 ≡ p.0
+        parent_of p at_p = ap (λ (y : Place). y.0) (same_Some (f.0, f.2) p (sym f.4 ∙ at_p))
+
   -- ---- one node
 
-  module _ (c : FullNodeId) (s : Seat) (was : Option (Option Place)) (e : Entered w u s c) (stood : StoodAt w c was) (there : IsNode m c) where
+  module _ (c : FullNodeId) (s : Seat) (stood_at : Before) (e : Entered w u s c) (stood_before : StoodBefore w u c stood_at) (there : IsNode m c) where
+    abbrev was : Option (Option Place)
+    was = stood_at.was
+
+    abbrev stood : StoodAt w c was
+    stood = stood_before.stood
+
     abbrev IsFree : Type 0
     IsFree = (p : Place) → s ≡ Some p → root_of m (index_for w u.name) ≢ Some c
 
@@ -149,47 +237,54 @@ module _ (w : World) (u : UpdateData) (o : IsOld w) where
     was_some : IsNode w c → (t : Option Place) × (was ≡ Some t)
     was_some is = ⊎_elim (λ none. absurd (stood.new none is)) (λ h. h) (none_or_some was)
 
-    module _ (a k : Settled) (so_far : IsSettledSoFar w u a) (kept : KeepsPlace c was a k) where
-      places_kept : (x : FullNodeId) (q : Place) → Lists w q x → at a.old_places.entries x ≡ Some (Some q) → at k.old_places.entries x ≡ Some (Some q)
-      places_kept x q lists is = go (cases_id c x)
+    module _ (a k : Settled) (so_far : IsSettledSoFar w u a) (kept : KeepsDouble c (place_kept stood_at) a k) where
+      abbrev own : Doubles
+      own = option_to_list (option_map (λ (p : Place). entry_of c p) (place_kept stood_at))
+
+      in_all : (e : Double) → Contains (a.doubles.items ++ own) e → Contains k.doubles.items e
+      in_all e h = subst (λ (xs : Doubles). Contains xs e) (sym kept.doubles) h
+
+      places_kept : (x : FullNodeId) (q : Place) → Contains a.doubles.items (entry_of x q) → Contains k.doubles.items (entry_of x q)
+      places_kept x q h = in_all (entry_of x q) (Contains-append_left a.doubles.items own (entry_of x q) h)
+
+      listed_kept : (q : Place) → Lists w q c → Lists m q c → Contains k.doubles.items (entry_of c q)
+      listed_kept q lists still =
+          let is : place_kept stood_at ≡ Some q = is_kept c stood_at stood_before q lists still in
+          let here : own ≡ entry_of c q ∷ [] = ap (λ (z : Option Place). option_to_list (option_map (λ (p : Place). entry_of c p) z)) is in
+          in_all (entry_of c q) (Contains-append_right a.doubles.items own (entry_of c q) (subst (λ (xs : Doubles). Contains xs (entry_of c q)) (sym here) (contains_first (entry_of c q) [])))
+
+      found_kept : (x : FullNodeId) (q : Place) → Contains k.doubles.items (entry_of x q) → HasEntered w u x × Lists w q x × Lists m q x
+      found_kept x q h = ⊎_elim (so_far.found x q) (here (place_kept stood_at) refl) (Contains-append_cases a.doubles.items own (entry_of x q) (subst (λ (xs : Doubles). Contains xs (entry_of x q)) kept.doubles h))
         where
-          go : (c ≡ x) ⊎ (c ≢ x) → at k.old_places.entries x ≡ Some (Some q)
-          go (inr other) = kept.others x other ∙ is
-          go (inl same) =
-              let lists' : Lists w q c = subst (Lists w q) (sym same) lists in
-              let t = was_some (o.listed_is_node q c lists') in
-              ap (at k.old_places.entries) (sym same) ∙ kept.here t.0 t.1 ∙ ap Some ((stood.place t.0 q t.1).1 lists')
+          here : (t : Option Place) → place_kept stood_at ≡ t → Contains (option_to_list (option_map (λ (p : Place). entry_of c p) t)) (entry_of x q) → HasEntered w u x × Lists w q x × Lists m q x
+          here None none h = absurd (contains_none (entry_of x q) h)
+          here (Some t) some h =
+              let same : entry_of c t ≡ entry_of x q = ⊎_elim (λ e. e) (λ h. absurd (contains_none (entry_of x q) h)) (contains_cases (entry_of c t) (entry_of x q) [] h) in
+              let key : c ≡ x = ap (λ (z : Double). z.0) same in
+              let place : t ≡ q = ap (λ (z : Double). z.1) same in
+              let f = kept_is c stood_at stood_before q (some ∙ ap Some place) in
+              (subst (HasEntered w u) key (s, e), subst (Lists w q) key f.0, subst (Lists m q) key f.1)
 
-      listed_kept : (q : Place) → Lists w q c → at k.old_places.entries c ≡ Some (Some q)
-      listed_kept q lists = let t = was_some (o.listed_is_node q c lists) in kept.here t.0 t.1 ∙ ap Some ((stood.place t.0 q t.1).1 lists)
+      module _ (b : Settled) (doubles : b.doubles ≡ k.doubles) where
+        lists_are : b.doubles.items ≡ k.doubles.items
+        lists_are = ap (λ f. f.items) doubles
 
-      found_kept : (x : FullNodeId) (q : Place) → at k.old_places.entries x ≡ Some (Some q) → HasEntered w u x × Lists w q x
-      found_kept x q is = go (cases_id c x)
-        where
-          here : (t : Option (Option Place)) → was ≡ t → c ≡ x → HasEntered w u x × Lists w q x
-          here None none same = so_far.found x q (ap (λ f. at f.entries x) (sym (kept.none none)) ∙ is)
-          here (Some t) some same =
-              let place : t ≡ Some q = same_Some t (Some q) (sym (kept.here t some) ∙ ap (at k.old_places.entries) same ∙ is) in
-              (subst (HasEntered w u) same (s, e), subst (Lists w q) same ((stood.place t q some).0 place))
+        in_b : (e : Double) → Contains k.doubles.items e → Contains b.doubles.items e
+        in_b e h = subst (λ (xs : Doubles). Contains xs e) (sym lists_are) h
 
-          go : (c ≡ x) ⊎ (c ≢ x) → HasEntered w u x × Lists w q x
-          go (inl same) = here was refl same
-          go (inr other) = so_far.found x q (sym (kept.others x other) ∙ is)
-
-      module _ (b : Settled) (places : b.old_places ≡ k.old_places) where
-        in_b : (x : FullNodeId) → at k.old_places.entries x ≡ at b.old_places.entries x
-        in_b x = ap (λ f. at f.entries x) (sym places)
+        in_k : (e : Double) → Contains b.doubles.items e → Contains k.doubles.items e
+        in_k e h = subst (λ (xs : Doubles). Contains xs e) lists_are h
 
         -- as a root
         pub rooted_so_far : b.adopters ≡ a.adopters → IsSettledSoFar w u b
         rooted_so_far same = record {
-          found = λ x q is. found_kept x q (in_b x ∙ is);
+          found = λ x q h. found_kept x q (in_k (entry_of x q) h);
           adopters = λ n h. so_far.adopters n (subst (λ f. has f n) same h);
         }
 
-        pub rooted_settles : b.adopters ≡ a.adopters → b.has_moved ≡ a.has_moved → Settles w a b
+        pub rooted_settles : b.adopters ≡ a.adopters → b.has_moved ≡ a.has_moved → Settles a b
         rooted_settles same moved = record {
-          listed = λ x q lists is. sym (in_b x) ∙ places_kept x q lists is;
+          doubles = λ x q h. in_b (entry_of x q) (places_kept x q h);
           adopters = λ n h. subst (λ f. has f n) (sym same) h;
           moved = λ h. sym moved ∙ h;
         }
@@ -198,15 +293,15 @@ module _ (w : World) (u : UpdateData) (o : IsOld w) where
         rooted_here none = record {
           is_node = there;
           unlisted = λ p is. cc;
-          listed = λ q lists. sym (in_b c) ∙ listed_kept q lists;
+          doubled = λ q lists still. in_b (entry_of c q) (listed_kept q lists still);
           adopter = λ p is. cc;
           unmoved = λ h p is. cc;
         }
 
       -- at a place of a parent
       module _ (b : Settled) (parent : FullNodeId) (k' : ℕ) (at_place : s ≡ Some (parent, k')) (adopted : KeepsAdopter parent was k b) where
-        places' : b.old_places ≡ k.old_places
-        places' = adopted.places
+        doubles' : b.doubles ≡ k.doubles
+        doubles' = adopted.doubles
 
         below_listed : WasBelow was parent → (j : ℕ) × Lists w (parent, j) c
         below_listed h = (h.0, (stood.place (Some (parent, h.0)) (parent, h.0) h.1).0 refl)
@@ -258,13 +353,13 @@ module _ (w : World) (u : UpdateData) (o : IsOld w) where
 
         pub placed_so_far : IsSettledSoFar w u b
         placed_so_far = record {
-          found = λ x q is. found_kept x q (ap (λ f. at f.entries x) (sym places') ∙ is);
+          found = λ x q h. found_kept x q (in_k b doubles' (entry_of x q) h);
           adopters = sound;
         }
 
-        pub placed_settles : Settles w a b
+        pub placed_settles : Settles a b
         placed_settles = record {
-          listed = λ x q lists is. ap (λ f. at f.entries x) places' ∙ places_kept x q lists is;
+          doubles = λ x q h. in_b b doubles' (entry_of x q) (places_kept x q h);
           adopters = λ n h. kept_adopter n (subst (λ f. has f n) (sym kept.adopters) h);
           moved = λ h. sym kept.moved ∙ (unmoved_before h).0;
         }
@@ -273,7 +368,7 @@ module _ (w : World) (u : UpdateData) (o : IsOld w) where
         placed_here free = record {
           is_node = there;
           unlisted = λ p is. free;
-          listed = λ q lists. ap (λ f. at f.entries c) places' ∙ listed_kept q lists;
+          doubled = λ q lists still. in_b b doubles' (entry_of c q) (listed_kept q lists still);
           adopter = λ p is none.
               let same : parent ≡ p.0 = ap (λ z. z.0) (same_Some (parent, k') p (sym at_place ∙ is)) in
               let other : ¬ (WasBelow was parent) = λ h. let f = below_listed h in none f.0 (subst (λ x. Lists w (x, f.0) c) same f.1) in
@@ -286,14 +381,14 @@ module _ (w : World) (u : UpdateData) (o : IsOld w) where
               (f.0, subst (λ x. Lists w (x, f.0) c) same f.1);
         }
 
-    pub rooted : (a b : Settled) → IsSettledSoFar w u a → KeepsPlace c was a b → s ≡ None → SettlesOne w u c s a b
+    pub rooted : (a b : Settled) → IsSettledSoFar w u a → KeepsDouble c (place_kept stood_at) a b → s ≡ None → SettlesOne w u c s a b
     rooted a b so_far kept none = record {
       so_far = rooted_so_far a b so_far kept b refl kept.adopters;
       keeps = rooted_settles a b so_far kept b refl kept.adopters kept.moved;
       here = rooted_here a b so_far kept b refl none;
     }
 
-    pub placed : (a k b : Settled) → IsSettledSoFar w u a → KeepsPlace c was a k → (p : Place) → s ≡ Some p → KeepsAdopter p.0 was k b → root_of m (index_for w u.name) ≢ Some c → SettlesOne w u c s a b
+    pub placed : (a k b : Settled) → IsSettledSoFar w u a → KeepsDouble c (place_kept stood_at) a k → (p : Place) → s ≡ Some p → KeepsAdopter p.0 was k b → root_of m (index_for w u.name) ≢ Some c → SettlesOne w u c s a b
     placed a k b so_far kept p is adopted free = record {
       so_far = placed_so_far a k so_far kept b p.0 p.1 is adopted;
       keeps = placed_settles a k so_far kept b p.0 p.1 is adopted;
@@ -302,33 +397,32 @@ module _ (w : World) (u : UpdateData) (o : IsOld w) where
 
 -- ---- all of them
 
-pub settles_start : (w : World) (u : UpdateData) (a : Settled) → ((c : FullNodeId) → at a.old_places.entries c ≡ None) → ((n : FullNodeId) → ¬ (has a.adopters n)) → IsSettledSoFar w u a
+pub settles_start : (w : World) (u : UpdateData) (a : Settled) → a.doubles.items ≡ [] → ((n : FullNodeId) → ¬ (has a.adopters n)) → IsSettledSoFar w u a
 settles_start w u a none empty = record {
-  found = λ c q is. let f : None ≡ Some (Some q) = sym (none c) ∙ is in cc;
+  found = λ c q h. absurd (contains_none (entry_of c q) (subst (λ (xs : Doubles). Contains xs (entry_of c q)) none h));
   adopters = λ n h. absurd (empty n h);
 }
 
-pub settled_stays : (w : World) (u : UpdateData) (a b : Settled) → Settles w a b → (c : FullNodeId) (s : Seat) → IsSettledAt w u c s a → IsSettledAt w u c s b
+pub settled_stays : (w : World) (u : UpdateData) (a b : Settled) → Settles a b → (c : FullNodeId) (s : Seat) → IsSettledAt w u c s a → IsSettledAt w u c s b
 settled_stays w u a b keeps c s h = record {
   is_node = h.is_node;
   unlisted = h.unlisted;
-  listed = λ q lists. keeps.listed c q lists (h.listed q lists);
+  doubled = λ q lists still. keeps.doubles c q (h.doubled q lists still);
   adopter = λ p is none. keeps.adopters p.0 (h.adopter p is none);
   unmoved = λ still. h.unmoved (keeps.moved still);
 }
 
-pub settlement : (w : World) (u : UpdateData) (d : Compared) (a : Settled) → HoldsCompared w u d → IsSettledSoFar w u a → ((c : FullNodeId) (s : Seat) → at d.entered c ≡ Some s → IsSettledAt w u c s a) → HoldsSettled w u a
+pub settlement : (w : World) (u : UpdateData) (d : Compared) (a : Settled) → HoldsCompared w u d → IsSettledSoFar w u a → ((c : FullNodeId) (x : Arrival) → at d.entered c ≡ Some x → IsSettledAt w u c x.spot a) → HoldsSettled w u a
 settlement w u d a k so_far all = record {
   settled = record {
     compared = k.compared;
     root_unlisted = λ p c root e. (here (Some p) c e).unlisted p refl root;
     entered_is_node = λ s c e. (here s c e).is_node;
   };
-  listed = λ c q e lists. (here e.0 c e.1).listed q lists;
-  found = so_far.found;
+  doubled = λ c q. (so_far.found c q, λ f. (here f.0.0 c f.0.1).doubled q f.1 f.2);
   adopters = λ n. (so_far.adopters n, λ h. (here (Some (n, h.0)) h.1 h.2).adopter (n, h.0) refl h.3);
   unmoved = λ still p c e there. (here (Some p) c e).unmoved still p refl there;
 }
   where
     here : (s : Seat) (c : FullNodeId) → Entered w u s c → IsSettledAt w u c s a
-    here s c e = all c s ((k.entered c s).1 e)
+    here s c e = let x = arrival_of w u d k c s e in subst (λ t. IsSettledAt w u c t a) x.2 (all c x.0 x.1)

@@ -22,7 +22,9 @@ IsAimIn w id a = (d : NodeData) × HasData w id d × IsAimOf d a
 
 -- the effective focus, with its active descendant
 abbrev pub IsEnd : World → End → Type 0
-IsEnd w e = OnChain w e.id × (d : NodeData) × HasData w e.id d × (d.tree_id ≡ None) × (e.active ≡ option_map (in_tree e.id.tree) d.active_descendant)
+IsEnd w e =
+    OnChain w e.id × (d : NodeData) × HasData w e.id d × (d.tree_id ≡ None)
+    × (e.active ≡ option_map (in_tree e.id.tree) d.active_descendant)
 
 -- the active descendant if it exists, and otherwise the effective focus itself
 abbrev pub Answers : (FullNodeId → Type 0) → End → FullNodeId → Type 0

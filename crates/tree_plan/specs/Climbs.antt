@@ -11,11 +11,11 @@ use Rattle.tree_plan.specs.declared.passes.Opened.{Opened}
 use Rattle.tree_plan.specs.declared.passes.Named.{Named}
 use Rattle.tree_plan.specs.declared.passes.Settled.{Settled}
 use Rattle.tree_plan.specs.declared.passes.Compared.{Compared}
-use Rattle.tree_plan.specs.Passes.{at}
+use Rattle.tree_plan.specs.Passes.{at, entered_at}
 
 -- the parent of the spot that the node entered, or, where it entered none, of its old place
 abbrev pub IsNext : World → Compared → FullNodeId → FullNodeId → Type 0
-IsNext w c id parent = (k : ℕ) × ((at c.entered id ≡ Some (Some (parent, k))) ⊎ ((at c.entered id ≡ None) × StandsAt w (parent, k) id))
+IsNext w c id parent = (k : ℕ) × ((entered_at c id ≡ Some (Some (parent, k))) ⊎ ((at c.entered id ≡ None) × StandsAt w (parent, k) id))
 
 -- the old place of a named node, if it is an old node
 abbrev pub IsOldPlace : World → FullNodeId → Named → Type 0

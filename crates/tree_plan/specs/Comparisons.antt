@@ -1,5 +1,5 @@
 -- The comparison of the update's nodes with their old records, up to some entry.
-use Rattle.std.specs.Prelude.{◌≡◌, ◌≢◌, ℕ, ◌<◌, ◌≤◌, List, [], ◌++◌, length, map, slice_get, AllPairs, Contains, Option, Some, None, IsSome, IsTrue, ⊤, ◌⊎◌, ◌↔◌, if◌then◌else◌}
+use Rattle.std.specs.Prelude.{◌≡◌, ◌≢◌, ℕ, ◌<◌, ◌≤◌, List, [], ◌++◌, length, map, slice_get, AllPairs, Contains, Option, Some, None, IsSome, Bool, IsTrue, ⊤, ◌⊎◌, ◌↔◌, if◌then◌else◌}
 use Rattle.std.specs.Option.{option_map, option_to_list}
 use Rattle.std.specs.BTreeMap.{is_at}
 use Rattle.rows.specs.Rows.{IsTwice}
@@ -15,10 +15,12 @@ use Rattle.tree_changes.specs.LookUps.{IsPlaceOf}
 use Rattle.tree_changes.specs.declared.error.UpdateError.{UpdateError}
 use Rattle.tree_changes.specs.declared.error.UpdateError.TheVariants as error
 use Rattle.tree_plan.specs.declared.passes.Opened.{Opened}
+use Rattle.tree_plan.specs.declared.passes.Arrival.{Arrival}
 use Rattle.tree_plan.specs.declared.passes.Named.{Named}
 use Rattle.tree_plan.specs.declared.passes.Comparing.{Comparing}
+use Rattle.tree_plan.specs.declared.comparing.Lists.{Lists}
 use Rattle.tree_plan.specs.declared.passes.Compared.{Compared}
-use Rattle.tree_plan.specs.Passes.{at, at_name, IsNamedAs}
+use Rattle.tree_plan.specs.Passes.{at, at_name, IsNamedAs, IsShift}
 
 -- one of the first so many entries names the node
 abbrev pub IsNamedBefore : World → UpdateData → ℕ → FullNodeId → Type 0
@@ -40,6 +42,27 @@ IsNamedTwice u e = ⊥
 -- nodes at spots
 abbrev pub Spots : Type 0
 Spots = List (FullNodeId × Seat)
+
+-- nodes that entered spots
+abbrev pub Arrivals : Type 0
+Arrivals = List (FullNodeId × Arrival)
+
+abbrev pub arrival_at : Seat → Bool → Arrival
+arrival_at spot is_shifted = record { spot = spot; is_shifted = is_shifted }
+
+abbrev pub spot_entry : FullNodeId × Arrival → FullNodeId × Seat
+spot_entry e = (e.0, e.1.spot)
+
+abbrev pub spots_of : Arrivals → Spots
+spots_of es = map spot_entry es
+
+-- the list says of the node that it has only shifted
+abbrev pub IsShiftedIn : Arrivals → FullNodeId → Type 0
+IsShiftedIn es c = (x : Arrival) × Contains es (c, x) × IsTrue x.is_shifted
+
+-- nothing that is said to have only shifted has come to the list
+abbrev pub OnlyPlain : Arrivals → Arrivals → Type 0
+OnlyPlain before after = (c : FullNodeId) (x : Arrival) → Contains after (c, x) → IsTrue x.is_shifted → Contains before (c, x)
 
 -- no two are of one spot
 abbrev pub AreApart : Spots → Type 0
@@ -67,6 +90,35 @@ OnlyIn parent this other c s = (k : ℕ) × OnlyAt (Some (parent, k)) (slice_get
 -- the same, at the first so many indexes
 abbrev pub OnlyInBefore : ℕ → FullNodeId → List FullNodeId → List FullNodeId → FullNodeId → Seat → Type 0
 OnlyInBefore count parent this other c s = (k : ℕ) × (k < count) × OnlyAt (Some (parent, k)) (slice_get this k) (slice_get other k) c s
+
+-- it was at some index of the old list and no longer is, and has come to this spot, in the new list
+abbrev pub MovesWithin : FullNodeId → List FullNodeId → List FullNodeId → FullNodeId → Seat → Type 0
+MovesWithin parent old new c s = (k j : ℕ) × (slice_get old k ≡ Some c) × (slice_get new k ≢ Some c) × (s ≡ Some (parent, j))
+
+-- what the lists name, in the tree of their parent: before, and after
+abbrev pub ids_before : Lists → List FullNodeId
+ids_before lists = map (in_tree lists.parent.tree) lists.before.now
+
+abbrev pub ids_after : Lists → List FullNodeId
+ids_after lists = map (in_tree lists.parent.tree) lists.after.now
+
+-- Of the old list, what is at these indexes and isn't at the same index of the new one has come to those that left, or has only
+-- shifted. Nothing else has come to those that left, and what has come as shifted has shifted.
+pub record Leaves (parent : FullNodeId) (old new : List FullNodeId) (from to : ℕ) (left left' : Spots)
+    (entered entered' : Arrivals) : Type 0 where
+  pub each : (k : ℕ) (c : FullNodeId) → from ≤ k → k < to → slice_get old k ≡ Some c → slice_get new k ≢ Some c
+      → Contains left' (c, Some (parent, k)) ⊎ IsShiftedIn entered' c
+  pub only : (c : FullNodeId) (s : Seat) → Contains left' (c, s) → Contains left (c, s) ⊎ OnlyIn parent old new c s
+  pub kept : (c : FullNodeId) (s : Seat) → Contains left (c, s) → Contains left' (c, s)
+  pub shifted : (c : FullNodeId) (x : Arrival) → Contains entered' (c, x) → IsTrue x.is_shifted
+      → Contains entered (c, x) ⊎ MovesWithin parent old new c x.spot
+  pub stays : (c : FullNodeId) (x : Arrival) → Contains entered (c, x) → Contains entered' (c, x)
+
+-- the child at an index of the new list is compared, and the old list is gone through from one index to another
+pub record ComparesChild (parent : FullNodeId) (old new : List FullNodeId) (index from to : ℕ) (a b : Comparing) : Type 0 where
+  pub left : Leaves parent old new from to a.left b.left a.entered b.entered
+  pub entered : Gathers (OnlyAt (Some (parent, index)) (slice_get new index) (slice_get old index)) (spots_of a.entered)
+      (spots_of b.entered)
 
 -- what a node with these data lists, in the tree of the id
 abbrev pub child_ids : FullNodeId → NodeData → List FullNodeId
@@ -101,11 +153,12 @@ pub record IsEntryOf (w : World) (id : FullNodeId) (entry : ℕ) (d : NodeData) 
   pub news : IsTrue n.is_news ↔ (data_of w id ≢ Some d)
 
 -- A node's data are compared with what it listed and grafted before.
-pub record ComparesData (id : FullNodeId) (n : Named) (children : List FullNodeId) (graft : Option TreeId) (d : NodeData) (a b : Comparing) : Type 0 where
+pub record ComparesData (id : FullNodeId) (n : Named) (children : List FullNodeId) (graft : Option TreeId) (d : NodeData)
+    (a b : Comparing) : Type 0 where
   pub named : (q : FullNodeId) → at b.named q ≡ (if is_at (full_cmp id) q then Some n else at a.named q)
   pub count_of : IsSome (at a.named id) → length b.named ≡ length a.named
-  pub left : Gathers (OnlyIn id children (child_ids id d)) a.left b.left
-  pub entered : Gathers (OnlyIn id (child_ids id d) children) a.entered b.entered
+  pub left : Leaves id children (child_ids id d) 0 (length children) a.left b.left a.entered b.entered
+  pub entered : Gathers (OnlyIn id (child_ids id d) children) (spots_of a.entered) (spots_of b.entered)
   pub regrafted : ChangesGraft graft d.tree_id a b
 
 -- a named node is compared with its old record
@@ -119,7 +172,8 @@ pub record ComparesNode (w : World) (id : FullNodeId) (entry : ℕ) (d : NodeDat
 pub record BeginsComparing (o : Opened) (named : List (FullNodeId × Named)) (c : Comparing) : Type 0 where
   pub named_is : c.named ≡ named
   pub left : Gathers (OnlyAt None (option_map (in_tree o.index) o.record.root) (Some (in_tree o.index o.root))) [] c.left
-  pub entered : Gathers (OnlyAt None (Some (in_tree o.index o.root)) (option_map (in_tree o.index) o.record.root)) [] c.entered
+  pub entered : Gathers (OnlyAt None (Some (in_tree o.index o.root)) (option_map (in_tree o.index) o.record.root)) [] (spots_of c.entered)
+  pub plain : OnlyPlain [] c.entered
   pub grafted : c.grafted.entries ≡ []
   pub lost : c.lost.items ≡ []
   pub gained : c.gained.items ≡ []
@@ -132,27 +186,35 @@ IsDone w u count (Some p) = IsNamedBefore w u count p.0
 -- the root and the nodes that the first so many entries name have been compared
 pub record AreCompared (w : World) (u : UpdateData) (count : ℕ) (c : Comparing) : Type 0 where
   pub ungrafting : (n : FullNodeId) → IsNamedBefore w u count n → graft_name (merged_world w u) n ≢ Some ROOT_NAME
-  pub childless : (n : FullNodeId) (name : TreeId) → IsNamedBefore w u count n → graft_name (merged_world w u) n ≡ Some name → listed_ids (merged_world w u) n ≡ []
+  pub childless : (n : FullNodeId) (name : TreeId) → IsNamedBefore w u count n → graft_name (merged_world w u) n ≡ Some name
+      → listed_ids (merged_world w u) n ≡ []
   pub is_named : (id : FullNodeId) (n : Named) → IsNamedBefore w u count id → at c.named id ≡ Some n → IsNamedAs w u id n
   pub has_named : (id : FullNodeId) → IsSome (at c.named id) ↔ IsNamed w u id
-  pub left : (id : FullNodeId) (s : Seat) → Contains c.left (id, s) ↔ (Left w u s id × IsDone w u count s)
-  pub entered : (id : FullNodeId) (s : Seat) → Contains c.entered (id, s) ↔ (Entered w u s id × IsDone w u count s)
-  pub entered_apart : AreApart c.entered
-  pub grafted : (name : TreeId) (n : FullNodeId) → (at_name c.grafted name ≡ Some n) ↔ (IsNamedBefore w u count n × (graft_name (merged_world w u) n ≡ Some name))
-  pub lost : (name : TreeId) → Contains c.lost.items name ↔ ((n : FullNodeId) × IsNamedBefore w u count n × (graft_name w n ≡ Some name) × (graft_name (merged_world w u) n ≢ Some name))
-  pub gained : (name : TreeId) → Contains c.gained.items name ↔ ((n : FullNodeId) × IsNamedBefore w u count n × (graft_name (merged_world w u) n ≡ Some name) × (graft_name w n ≢ Some name))
+  pub left : (id : FullNodeId) (s : Seat) → Contains c.left (id, s) → Left w u s id
+  pub left_each : (id : FullNodeId) (s : Seat) → Left w u s id → IsDone w u count s → Contains c.left (id, s) ⊎ IsShiftedIn c.entered id
+  pub entered : (id : FullNodeId) (s : Seat) → Contains (spots_of c.entered) (id, s) ↔ (Entered w u s id × IsDone w u count s)
+  pub entered_apart : AreApart (spots_of c.entered)
+  pub shifted : (id : FullNodeId) (x : Arrival) → Contains c.entered (id, x) → IsTrue x.is_shifted → IsShift w u id x.spot
+  pub grafted : (name : TreeId) (n : FullNodeId)
+      → (at_name c.grafted name ≡ Some n) ↔ (IsNamedBefore w u count n × (graft_name (merged_world w u) n ≡ Some name))
+  pub lost : (name : TreeId)
+      → Contains c.lost.items name
+      ↔ ((n : FullNodeId) × IsNamedBefore w u count n × (graft_name w n ≡ Some name) × (graft_name (merged_world w u) n ≢ Some name))
+  pub gained : (name : TreeId)
+      → Contains c.gained.items name
+      ↔ ((n : FullNodeId) × IsNamedBefore w u count n × (graft_name (merged_world w u) n ≡ Some name) × (graft_name w n ≢ Some name))
   pub lost_once : AllPairs (λ a b. a ≢ b) c.lost.items
   pub gained_once : AllPairs (λ a b. a ≢ b) c.gained.items
   pub named_count : length c.named ≡ length u.nodes
   pub lost_count : length c.lost.items ≤ count
   pub gained_count : length c.gained.items ≤ count
 
--- the lists are sorted: what left has one of its spots, and what entered its only one
+-- the lists are sorted: what left has one of its spots, and what entered its only arrival
 pub record SettlesLists (a : Comparing) (c : Compared) : Type 0 where
   pub named : c.named ≡ a.named
   pub left_found : (id : FullNodeId) (s : Seat) → at c.left id ≡ Some s → Contains a.left (id, s)
   pub left_each : (id : FullNodeId) (s : Seat) → Contains a.left (id, s) → IsSome (at c.left id)
-  pub entered : (id : FullNodeId) (s : Seat) → (at c.entered id ≡ Some s) ↔ Contains a.entered (id, s)
+  pub entered : (id : FullNodeId) (x : Arrival) → (at c.entered id ≡ Some x) ↔ Contains a.entered (id, x)
   pub grafted : c.grafted ≡ a.grafted
   pub lost : c.lost ≡ a.lost
   pub gained : c.gained ≡ a.gained

@@ -8,6 +8,8 @@ pub mod Removing
 pub mod Refusing
 pub mod Regrafts
 pub mod Aims
+pub mod Cases
+pub mod Looks
 pub mod News
 pub mod Climbs
 pub mod Plans

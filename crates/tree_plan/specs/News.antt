@@ -49,13 +49,15 @@ pub record AddsNews (w : World) (id : FullNodeId) (entry : ℕ) (d : NodeData) (
   pub old : NodeData
   pub was : HasData w id old
   pub keeps : KeepsForest old d
-  pub added : ((old ≡ d) × (after ≡ before)) ⊎ ((old ≢ d) × (place : Option Place) × IsPlaceOf w id place × (after ≡ before ++ (id, Put place (Some entry)) ∷ []))
+  pub added : ((old ≡ d) × (after ≡ before))
+      ⊎ ((old ≢ d) × (place : Option Place) × IsPlaceOf w id place × (after ≡ before ++ (id, Put place (Some entry)) ∷ []))
 
 -- The first so many entries name old nodes, which keep the forest, and the list has the changes of those with other data.
 pub record AreNews (w : World) (u : UpdateData) (count : ℕ) (list : NodeChanges) : Type 0 where
   pub keep : (k : ℕ) (e : NodeId × NodeData) → k < count → slice_get u.nodes k ≡ Some e → KeepsOld w (in_tree (index_for w u.name) e.0) e.1
   pub found : (id : FullNodeId) (c : NodeChange) → Contains list (id, c) → IsNewsOf w u id c
-  pub each : (k : ℕ) (e : NodeId × NodeData) → k < count → slice_get u.nodes k ≡ Some e → HasData w (in_tree (index_for w u.name) e.0) e.1 ⊎ ((c : NodeChange) × Contains list (in_tree (index_for w u.name) e.0, c))
+  pub each : (k : ℕ) (e : NodeId × NodeData) → k < count → slice_get u.nodes k ≡ Some e
+      → HasData w (in_tree (index_for w u.name) e.0) e.1 ⊎ ((c : NodeChange) × Contains list (in_tree (index_for w u.name) e.0, c))
   pub few : length list ≤ count
   pub early : (id : FullNodeId) → Contains (keys_of list) id → (k : ℕ) × (k < count) × (named_at u k ≡ Some id.node)
   pub once : IsNamedOnce u → (id : FullNodeId) → ¬ (IsTwice list id)

@@ -15,6 +15,7 @@ use Rattle.model.specs.Surgery.{Left, Entered, HasEntered, IsGraftedByNamed, Gon
 use Rattle.tree_changes.specs.declared.look_ups.TreeRecord.{TreeRecord}
 use Rattle.tree_changes.specs.LookUps.{IsPlaceOf, tree_named}
 use Rattle.tree_plan.specs.declared.passes.Opened.{Opened}
+use Rattle.tree_plan.specs.declared.passes.Arrival.{Arrival}
 use Rattle.tree_plan.specs.declared.passes.Named.{Named}
 use Rattle.tree_plan.specs.declared.passes.Compared.{Compared}
 use Rattle.tree_plan.specs.declared.passes.Settled.{Settled}
@@ -62,14 +63,29 @@ LosesGraft w u name = (n : FullNodeId) × IsNamed w u n × (graft_name w n ≡ S
 abbrev pub GainsGraft : World → UpdateData → FullNodeId → TreeId → Type 0
 GainsGraft w u n name = IsNamed w u n × (graft_name (merged_world w u) n ≡ Some name) × (graft_name w n ≢ Some name)
 
+-- the spot that a node entered
+abbrev pub entered_at : Compared → FullNodeId → Option (Option Place)
+entered_at c id = option_map (λ x. x.spot) (at c.entered id)
+
+-- the node is said to have only shifted
+abbrev pub IsShifted : Compared → FullNodeId → Type 0
+IsShifted c id = (x : Arrival) × (at c.entered id ≡ Some x) × IsTrue x.is_shifted
+
+-- the node left a place in a list, and this spot is in the list of the same parent
+abbrev pub IsShift : World → UpdateData → FullNodeId → Option Place → Type 0
+IsShift w u id s = (p : FullNodeId) × (k j : ℕ) × Left w u (Some (p, k)) id × (s ≡ Some (p, j))
+
 -- pass 1: the named nodes against their old records
 pub record HoldsCompared (w : World) (u : UpdateData) (c : Compared) : Type 0 where
   pub compared : IsCompared w u
   pub is_named : (id : FullNodeId) (n : Named) → at c.named id ≡ Some n → IsNamedAs w u id n
   pub has_named : (id : FullNodeId) → IsNamed w u id → IsSome (at c.named id)
-  pub left : (id : FullNodeId) (s : Option Place) → (at c.left id ≡ Some s) ↔ Left w u s id
-  pub entered : (id : FullNodeId) (s : Option Place) → (at c.entered id ≡ Some s) ↔ Entered w u s id
-  pub grafted : (name : TreeId) (n : FullNodeId) → (at_name c.grafted name ≡ Some n) ↔ (IsNamed w u n × (graft_name (merged_world w u) n ≡ Some name))
+  pub left : (id : FullNodeId) (s : Option Place) → at c.left id ≡ Some s → Left w u s id
+  pub left_each : (id : FullNodeId) (s : Option Place) → Left w u s id → (at c.left id ≡ Some s) ⊎ IsShifted c id
+  pub entered : (id : FullNodeId) (s : Option Place) → (entered_at c id ≡ Some s) ↔ Entered w u s id
+  pub shifted : (id : FullNodeId) (x : Arrival) → at c.entered id ≡ Some x → IsTrue x.is_shifted → IsShift w u id x.spot
+  pub grafted : (name : TreeId) (n : FullNodeId)
+      → (at_name c.grafted name ≡ Some n) ↔ (IsNamed w u n × (graft_name (merged_world w u) n ≡ Some name))
   pub lost : (name : TreeId) → Contains c.lost.items name ↔ LosesGraft w u name
   pub gained : (name : TreeId) → Contains c.gained.items name ↔ ((n : FullNodeId) × GainsGraft w u n name)
   pub lost_once : AllPairs (λ a b. a ≢ b) c.lost.items
@@ -81,9 +97,9 @@ pub record HoldsCompared (w : World) (u : UpdateData) (c : Compared) : Type 0 wh
 -- pass 2: what entered
 pub record HoldsSettled (w : World) (u : UpdateData) (s : Settled) : Type 0 where
   pub settled : IsSettled w u
-  -- the old places of what entered and is still listed where it was
-  pub listed : (c : FullNodeId) (q : Place) → HasEntered w u c → Lists w q c → at s.old_places.entries c ≡ Some (Some q)
-  pub found : (c : FullNodeId) (q : Place) → at s.old_places.entries c ≡ Some (Some q) → HasEntered w u c × Lists w q c
+  -- what entered and is still listed where it was
+  pub doubled : (c : FullNodeId) (q : Place)
+      → Contains s.doubles.items (c, q) ↔ (HasEntered w u c × Lists w q c × Lists (merged_world w u) q c)
   pub adopters : (n : FullNodeId) → has s.adopters n ↔ Adopts w u n
   pub unmoved : s.has_moved ≡ false → (p : Place) (c : FullNodeId) → Entered w u (Some p) c → IsNode w c → (k : ℕ) × Lists w (p.0, k) c
 
@@ -116,7 +132,8 @@ pub record HoldsRegrafted (w : World) (u : UpdateData) (trees : List TreeRecord)
   pub passed : IsPassed w u
   pub gained : (t : TreeRecord) → Contains trees t ↔ IsGained w u t
   pub gained_once : AllPairs (λ a b. a.id ≢ b.id) trees
-  pub moved_in : (id g : FullNodeId) → (at roots.entries id ≡ Some g) ↔ ((name : TreeId) × GainsGraft w u g name × (root_named w name ≡ Some id))
+  pub moved_in : (id g : FullNodeId)
+      → (at roots.entries id ≡ Some g) ↔ ((name : TreeId) × GainsGraft w u g name × (root_named w name ≡ Some id))
 
 -- pass 7: the focus before, and in the rebuilt world
 pub record IsFocusing (w : World) (u : UpdateData) (f : Focused) : Type 0 where

@@ -36,12 +36,16 @@ pub record IsPlan (w : World) (u : UpdateData) (p : Plan) : Type 0 where
   pub accepted : IsAccepted w u (planned_world w p)
   pub once : IsStrictlySortedBy full_cmp (changed_nodes p.changes.items)
   pub changes : (id : FullNodeId) → Contains (changed_nodes p.changes.items) id ↔ Differs w (planned_world w p) id
-  pub places : (id : FullNodeId) (place : Option Place) (given : Option NodeData) → Contains p.changes.items (Put id place given) → IsPlaceOf (planned_world w p) id place
-  pub given : (id : FullNodeId) (place : Option Place) (d : NodeData) → Contains p.changes.items (Put id place (Some d)) → data_of w id ≢ Some d
-  pub others : (id : FullNodeId) → ¬ (Contains (changed_nodes p.changes.items) id) → (data_of w id ≡ data_of (planned_world w p) id) × ((at : Place) → StandsAt w at id ↔ StandsAt (planned_world w p) at id)
+  pub places : (id : FullNodeId) (place : Option Place) (given : Option NodeData) → Contains p.changes.items (Put id place given)
+      → IsPlaceOf (planned_world w p) id place
+  pub given : (id : FullNodeId) (place : Option Place) (d : NodeData) → Contains p.changes.items (Put id place (Some d))
+      → data_of w id ≢ Some d
+  pub others : (id : FullNodeId) → ¬ (Contains (changed_nodes p.changes.items) id)
+      → (data_of w id ≡ data_of (planned_world w p) id) × ((at : Place) → StandsAt w at id ↔ StandsAt (planned_world w p) at id)
   pub trees_once : AllPairs (λ a b. a.id ≢ b.id) (tree_changes p.changes.items)
   pub trees_listed : (name : TreeId) → Contains (names_of (tree_changes p.changes.items)) name ↔ TreeDiffers w (planned_world w p) name
-  pub trees : (name : TreeId) (r : Option TreeRecord) → IsTreeRecord w name r → IsTreeRecord (planned_world w p) name (tree_after (tree_changes p.changes.items) name r)
+  pub trees : (name : TreeId) (r : Option TreeRecord) → IsTreeRecord w name r
+      → IsTreeRecord (planned_world w p) name (tree_after (tree_changes p.changes.items) name r)
   pub focus : IsEffectiveFocus (planned_world w p) p.focus
   pub told : ¬ (IsFirst w) → AreToldBy w u (planned_world w p) p.events.items
   pub quiet : IsFirst w → p.events.items ≡ []
@@ -49,7 +53,8 @@ pub record IsPlan (w : World) (u : UpdateData) (p : Plan) : Type 0 where
 -- The look-ups, from `before` to `after`, with two for each event and each change, are within the bound.
 abbrev pub IsPlannedWithin : World → UpdateData → Plan → ℕ → ℕ → Type 0
 IsPlannedWithin w u p before after =
-    (work : Work) → IsWorkOf w u (planned_world w p) work → after + 2 * (length p.events.items + length p.changes.items) ≤ before + allowance work
+    (work : Work) → IsWorkOf w u (planned_world w p) work
+    → after + 2 * (length p.events.items + length p.changes.items) ≤ before + allowance work
 
 -- what a slot has, if it is there and isn't taken
 abbrev pub slot_data : List (Option NodeData) → ℕ → Option NodeData

@@ -38,7 +38,8 @@ abbrev pub name_trees : List TreeId → List TreeRecord → List TreeId
 name_trees known [] = known
 name_trees known (r ∷ rs) = name_trees (name_tree known r) rs
 
-abbrev pub replaced_texts : Option (Option (String Global) × Option (String Global)) → Option (List ℕ) × Option (List ℕ) → Option (List ℕ) × Option (List ℕ)
+abbrev pub replaced_texts : Option (Option (String Global) × Option (String Global)) → Option (List ℕ) × Option (List ℕ)
+    → Option (List ℕ) × Option (List ℕ)
 replaced_texts None before = before
 replaced_texts (Some texts) before = (option_map string_bytes texts.0, option_map string_bytes texts.1)
 

@@ -1,5 +1,5 @@
 -- What is listed nowhere or twice, and a search for what is reached.
-use Rattle.std.specs.Prelude.{◌≡◌, ℕ, List, Contains, Option, Some, None, IsSome, slice_get, ◌⊎◌, ◌↔◌}
+use Rattle.std.specs.Prelude.{◌≡◌, ℕ, List, Contains, Some, None, IsSome, slice_get, ◌⊎◌, ◌↔◌}
 use Rattle.std.specs.BTreeSet.{BTreeSet}
 use Rattle.model.specs.declared.FullNodeId.{FullNodeId}
 use Rattle.model.specs.World.{World, Place, Reached}
@@ -29,9 +29,9 @@ AreListed c = (id : FullNodeId) → ¬ (IsUnlisted c id)
 abbrev pub IsOfUnlisted : Compared → UpdateError → Type 0
 IsOfUnlisted c e = (id : FullNodeId) × IsUnlisted c id × (e ≡ error.NotReached id.node)
 
--- a node that entered, and stood at this place, hasn't left it, and its parent there doesn't go
-abbrev pub IsDoubled : Compared → Removed → FullNodeId → Option Place → Type 0
-IsDoubled c r id place = (at c.left id ≡ None) × (p : Place) × (place ≡ Some p) × ¬ (has r.gone p.0)
+-- the parent of this place doesn't go
+abbrev pub IsKept : Removed → Place → Type 0
+IsKept r place = ¬ (has r.gone place.0)
 
 -- a node that entered is still listed where it was, by a node that doesn't go
 abbrev pub IsListedStill : World → UpdateData → FullNodeId → Type 0

@@ -37,14 +37,19 @@ grafted_record w c name = record {
 abbrev pub MovesIn : World → Compared → TreeId → BTreeMap FullNodeId FullNodeId → BTreeMap FullNodeId FullNodeId → Type 0
 MovesIn w c name before after =
     (id g : FullNodeId) → (at after.entries id ≡ Some g)
-    ↔ (((root_named w name ≡ Some id) × (at_name c.grafted name ≡ Some g)) ⊎ ((root_named w name ≢ Some id) × (at before.entries id ≡ Some g)))
+    ↔ (((root_named w name ≡ Some id) × (at_name c.grafted name ≡ Some g))
+    ⊎ ((root_named w name ≢ Some id) × (at before.entries id ≡ Some g)))
 
 -- the record's root, if there is one, gets the record's graft
 abbrev pub PutsRoot : TreeRecord → BTreeMap FullNodeId FullNodeId → BTreeMap FullNodeId FullNodeId → Type 0
-PutsRoot t before after = (index : ℕ) (node : NodeId) (g : FullNodeId) → t.index ≡ Some index → t.root ≡ Some node → t.graft ≡ Some g → Updates full_cmp before after (in_tree index node) (Some g)
+PutsRoot t before after =
+    (index : ℕ) (node : NodeId) (g : FullNodeId) → t.index ≡ Some index → t.root ≡ Some node → t.graft ≡ Some g
+    → Updates full_cmp before after (in_tree index node) (Some g)
 
 -- what is found for these names, each of which a named node gains
 pub record AreRegrafted (w : World) (u : UpdateData) (c : Compared) (r : Removed) (names : List TreeId) (found : Regrafted) : Type 0 where
   pub free : (name : TreeId) → Contains names name → HasNoRival w c r name
   pub trees : found.trees.items ≡ map (grafted_record w c) names
-  pub moved_in : (id g : FullNodeId) → (at found.moved_in.entries id ≡ Some g) ↔ ((name : TreeId) × Contains names name × GainsGraft w u g name × (root_named w name ≡ Some id))
+  pub moved_in : (id g : FullNodeId)
+      → (at found.moved_in.entries id ≡ Some g)
+      ↔ ((name : TreeId) × Contains names name × GainsGraft w u g name × (root_named w name ≡ Some id))

@@ -6,13 +6,16 @@ use Rattle.model.specs.declared.FullNodeId.{FullNodeId}
 use Rattle.model.specs.World.{World, graft_name, root_named}
 use Rattle.model.specs.State.{Lists}
 use Rattle.model.specs.Update.{UpdateData, IsNamed}
-use Rattle.model.specs.Surgery.{IsOld, Seat, Left, HasEntered, IsGraftedByNamed, Gone}
+use Rattle.model.specs.Surgery.{Seat, Left, HasEntered, IsGraftedByNamed, Gone}
 use Rattle.tree_changes.specs.declared.look_ups.TreeRecord.{TreeRecord}
+use Rattle.tree_plan.specs.declared.passes.Case.{Case}
 use Rattle.tree_plan.specs.declared.passes.Compared.{Compared}
 use Rattle.tree_plan.specs.declared.removing.Removing.{Removing}
-use Rattle.tree_plan.specs.Passes.{HoldsCompared, has, IsUngrafted, LosesGraft, cut_record}
+use Rattle.tree_plan.specs.Passes.{has, IsUngrafted, LosesGraft, cut_record}
+use Rattle.tree_plan.specs.Cases.{IsCase, sent}
 
--- What is found is removed and isn't in the update, and is in the queue once. Each record is that of a tree that loses its graft, each of another one.
+-- What is found is removed and isn't in the update, and is in the queue once. Each record is that of a tree that loses its graft, each
+-- of another one.
 pub record FindsGone (w : World) (u : UpdateData) (r : Removing) : Type 0 where
   pub gone : (id : FullNodeId) → has r.gone id ↔ Contains r.queue.items id
   pub once : (i j : ℕ) (id : FullNodeId) → slice_get r.queue.items i ≡ Some id → slice_get r.queue.items j ≡ Some id → i ≡ j
@@ -21,11 +24,10 @@ pub record FindsGone (w : World) (u : UpdateData) (r : Removing) : Type 0 where
   pub trees : (t : TreeRecord) → Contains r.trees.items t → IsUngrafted w u t.id × (t ≡ cut_record w t.id)
   pub trees_once : AllPairs (λ a b. a.id ≢ b.id) r.trees.items
 
--- the update of an old world is compared, and this is found
-pub record IsRemoving (w : World) (u : UpdateData) (c : Compared) (r : Removing) : Type 0 where
-  pub old : IsOld w
-  pub compared : HoldsCompared w u c
-  pub found : FindsGone w u r
+-- what is found so far, of this update to this world
+pub record IsRemoving (w : World) (c : Case) (r : Removing) : Type 0 where
+  pub case : IsCase w c
+  pub found : FindsGone w (sent c) r
 
 -- b has all that a has, and its queue begins with that of a
 pub record Extends (a b : Removing) : Type 0 where

@@ -79,7 +79,8 @@ own_record name focus o = record { id = name; index = Some o.index; graft = o.re
 pub record AreEvents (vs : Verdicts) (f : Focused) (events : List PlanEvent) : Type 0 where
   pub moved : List PlanEvent
   pub is_move : IsMove (at vs) f.before f.after moved
-  pub all : events ≡ flat_map (told_of group.Added) vs ++ flat_map (told_of group.Updated) vs ++ moved ++ flat_map (told_of group.Removed) vs
+  pub all : events
+      ≡ flat_map (told_of group.Added) vs ++ flat_map (told_of group.Updated) vs ++ moved ++ flat_map (told_of group.Removed) vs
 
 -- the record of the update's tree, if it differs from before
 abbrev pub IsOwnPart : TreeRecord → TreeRecord → List TreeRecord → Type 0

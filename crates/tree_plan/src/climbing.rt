@@ -1,17 +1,18 @@
 //! Climbs from the parents of moved nodes: if a climb ends, its nodes are reached.
 ghost use Rattle.std.specs.Prelude.{◌≡◌, ◌≢◌, ◌<◌, ◌+◌, ℕ, IfErr, OnOk, IsTrue, Some, true, false, length, map, slice_get, ◌↔◌};
-ghost use Rattle.schema.specs.UpdateData.{update_data};
 ghost use Rattle.model.specs.declared.FullNodeId.{FullNodeId};
 ghost use Rattle.model.specs.World.{IsNode, in_tree};
 ghost use Rattle.model.specs.Work.{named_ids};
 ghost use Rattle.model.specs.Surgery.{IsOld, IsRefined, IsClimbed, AreSteps};
 ghost use Rattle.tree_changes.specs.LookUps.{IsPlaceOf, IsRaisedUpTo};
 ghost use Rattle.tree_changes.specs.Refusals.{IsRefusal};
+ghost use Rattle.tree_plan.specs.Looks.{LooksUpTo};
 ghost use Rattle.tree_plan.specs.declared.passes.Named.{Named};
-ghost use Rattle.tree_plan.specs.Passes.{at, HoldsOpened, HoldsCompared, HoldsSettled};
+ghost use Rattle.tree_plan.specs.Passes.{at, HoldsSettled};
+ghost use Rattle.tree_plan.specs.Cases.{IsCase, sent};
 ghost use Rattle.tree_plan.specs.Climbs.{IsNext, IsOldPlace, IsKnown, first_ids, AreClimbed, IsClimbedFrom};
 
-use crate::passes::{Compared, Opened, Settled};
+use crate::passes::{Case, Compared, Opened, Settled};
 use model::{FullNodeId, Place};
 use schema::TreeUpdate;
 use std::alloc::Global;
@@ -22,38 +23,26 @@ use tree_changes::{LookUps, UpdateError};
 pub(crate) fn climb_all<L: LookUps>(
     alloc: Global,
     look_ups: &mut L,
-    update: &TreeUpdate,
-    opened: &Opened,
-    compared: &Compared,
+    case: &Case<'_>,
     settled: &Settled,
 ) -> Result<(), UpdateError>
-    requires old { IsOld (L.world look_ups.old) }
-    requires opening { HoldsOpened (L.world look_ups.old) (update_data update.now) opened.now }
-    requires comparison { HoldsCompared (L.world look_ups.old) (update_data update.now) compared.now }
-    requires settlement { HoldsSettled (L.world look_ups.old) (update_data update.now) settled.now }
-    requires refined { IsRefined (L.world look_ups.old) (update_data update.now) }
+    requires case { IsCase (L.world look_ups.old) case.now }
+    requires settlement { HoldsSettled (L.world look_ups.old) (sent case.now) settled.now }
+    requires refined { IsRefined (L.world look_ups.old) (sent case.now) }
     ensures world { L.world look_ups.new ≡ L.world look_ups.old }
-    ensures err { IfErr result (λ e. IsRefusal (L.world look_ups.old) (update_data update.now) e) }
-    ensures ok { OnOk result (IsClimbed (L.world look_ups.old) (update_data update.now)) }
-    ensures counts { OnOk result (let w = L.world look_ups.old in let u = update_data update.now in
+    ensures err { IfErr result (λ e. IsRefusal (L.world look_ups.old) (sent case.now) e) }
+    ensures ok { OnOk result (IsClimbed (L.world look_ups.old) (sent case.now)) }
+    ensures counts { OnOk result (let w = L.world look_ups.old in let u = sent case.now in
         (steps : ℕ) × AreSteps w u (named_ids w u) steps × IsRaisedUpTo (L.asked look_ups.old) steps (L.asked look_ups.new)) }
 {
     let mut climbed = BTreeMap::new(alloc);
-    for entry in 0..update.nodes.len() {
-        climb(
-            look_ups,
-            update,
-            opened,
-            compared,
-            settled,
-            &mut climbed,
-            entry,
-        )?;
+    for entry in 0..case.update.nodes.len() {
+        climb(look_ups, case, settled, &mut climbed, entry)?;
     }
     Ok(())
 }
 
-fn is_same(id: &FullNodeId, other: &FullNodeId) -> bool
+fn is_same_node(id: &FullNodeId, other: &FullNodeId) -> bool
     ensures { IsTrue result ↔ (id.now ≡ other.now) }
 {
     *id == *other
@@ -74,59 +63,56 @@ fn named_id(update: &TreeUpdate, opened: &Opened, entry: usize) -> FullNodeId
 /// Climbs from the node of this entry, if it got a child, up to a node that is reached.
 fn climb<L: LookUps>(
     look_ups: &mut L,
-    update: &TreeUpdate,
-    opened: &Opened,
-    compared: &Compared,
+    case: &Case<'_>,
     settled: &Settled,
     climbed: &mut BTreeMap<FullNodeId, FullNodeId>,
     entry: usize,
 ) -> Result<(), UpdateError>
-    requires old { IsOld (L.world look_ups.old) }
-    requires opening { HoldsOpened (L.world look_ups.old) (update_data update.now) opened.now }
-    requires comparison { HoldsCompared (L.world look_ups.old) (update_data update.now) compared.now }
-    requires settlement { HoldsSettled (L.world look_ups.old) (update_data update.now) settled.now }
-    requires refined { IsRefined (L.world look_ups.old) (update_data update.now) }
-    requires entry { entry < length update.now.nodes.items }
-    requires before { let w = L.world look_ups.old in let u = update_data update.now in
+    requires case { IsCase (L.world look_ups.old) case.now }
+    requires settlement { HoldsSettled (L.world look_ups.old) (sent case.now) settled.now }
+    requires refined { IsRefined (L.world look_ups.old) (sent case.now) }
+    requires entry { entry < length case.now.update.now.nodes.items }
+    requires before { let w = L.world look_ups.old in let u = sent case.now in
         AreClimbed w u (first_ids w u entry) climbed.old }
     ensures world { L.world look_ups.new ≡ L.world look_ups.old }
-    ensures err { IfErr result (λ e. IsRefusal (L.world look_ups.old) (update_data update.now) e) }
-    ensures climbed { OnOk result (let w = L.world look_ups.old in let u = update_data update.now in
+    ensures err { IfErr result (λ e. IsRefusal (L.world look_ups.old) (sent case.now) e) }
+    ensures climbed { OnOk result (let w = L.world look_ups.old in let u = sent case.now in
         AreClimbed w u (first_ids w u (entry + 1)) climbed.new) }
-    ensures way { OnOk result (let w = L.world look_ups.old in let u = update_data update.now in
+    ensures way { OnOk result (let w = L.world look_ups.old in let u = sent case.now in
         (steps : ℕ) × IsClimbedFrom w u entry steps × IsRaisedUpTo (L.asked look_ups.old) steps (L.asked look_ups.new)) }
 {
-    let start = named_id(update, opened, entry);
+    let start = named_id(case.update, case.opened, entry);
     if !settled.adopters.contains(&start) {
         return Ok(());
     }
     let mut id = start;
-    'up: while !is_known(opened, compared, settled, id) {
+    'up: while !is_known(case, settled, id) {
         if let Some(other) = climbed.get(&id) {
-            if is_same(other, &start) {
+            if is_same_node(other, &start) {
                 return Err(UpdateError::NotReached(start.node));
             }
             return Ok(());
         }
         climbed.insert(id, start)?;
-        id = parent_after(look_ups, compared, id);
+        id = parent_after(look_ups, case.compared, id);
     }
     Ok(())
 }
 
 /// Whether the node is known to be reached: the root is, and if no old node has moved, so is each old node that the
 /// update names.
-fn is_known(opened: &Opened, compared: &Compared, settled: &Settled, id: FullNodeId) -> bool
-    ensures known { result ≡ true → IsKnown opened.now compared.now settled.now id }
-    ensures unknown { result ≡ false → id ≢ in_tree opened.now.index opened.now.root }
+fn is_known(case: &Case<'_>, settled: &Settled, id: FullNodeId) -> bool
+    ensures known { result ≡ true → IsKnown case.now.opened.now case.now.compared.now settled.now id }
+    ensures unknown { result ≡ false → id ≢ in_tree case.now.opened.now.index case.now.opened.now.root }
 {
     let root = FullNodeId {
-        tree: opened.index,
-        node: opened.root,
+        tree: case.opened.index,
+        node: case.opened.root,
     };
-    is_same(&id, &root)
+    is_same_node(&id, &root)
         || (!settled.has_moved
-            && compared
+            && case
+                .compared
                 .named
                 .get(&id)
                 .is_some_and(|named| named.was.is_some()))
@@ -138,12 +124,11 @@ fn parent_after<L: LookUps>(look_ups: &mut L, compared: &Compared, id: FullNodeI
     requires next { (p : FullNodeId) × IsNext (L.world look_ups.old) compared.now id p }
     requires named { (n : Named) → at compared.now.named id ≡ Some n
         → IsOldPlace (L.world look_ups.old) id n }
-    ensures world { L.world look_ups.new ≡ L.world look_ups.old }
-    ensures counts { IsRaisedUpTo (L.asked look_ups.old) 1 (L.asked look_ups.new) }
+    ensures looks { LooksUpTo L.world L.asked look_ups.old 1 look_ups.new }
     ensures next { IsNext (L.world look_ups.old) compared.now id result }
 {
-    if let Some(spot) = compared.entered.get(&id) {
-        let (parent, _) = spot.unwrap();
+    if let Some(arrival) = compared.entered.get(&id) {
+        let (parent, _) = arrival.spot.unwrap();
         return parent;
     }
     let (parent, _) = old_place(look_ups, compared, id).unwrap();
@@ -155,8 +140,7 @@ fn old_place<L: LookUps>(look_ups: &mut L, compared: &Compared, id: FullNodeId) 
     requires there { IsNode (L.world look_ups.old) id }
     requires named { (n : Named) → at compared.now.named id ≡ Some n
         → IsOldPlace (L.world look_ups.old) id n }
-    ensures world { L.world look_ups.new ≡ L.world look_ups.old }
-    ensures counts { IsRaisedUpTo (L.asked look_ups.old) 1 (L.asked look_ups.new) }
+    ensures looks { LooksUpTo L.world L.asked look_ups.old 1 look_ups.new }
     ensures place { IsPlaceOf (L.world look_ups.old) id result }
 {
     if let Some(named) = compared.named.get(&id) {

@@ -1,5 +1,5 @@
 //! The update's nodes compared with their old records.
-ghost use Rattle.std.specs.Prelude.{◌≡◌, ◌≢◌, ◌<◌, ◌↔◌, IsTrue, IfOk, IfErr, OnOk, Some, None, IsSome, ◌++◌, length, map, option_map, option_to_list, slice_get};
+ghost use Rattle.std.specs.Prelude.{◌≡◌, ◌≢◌, ◌<◌, ◌+◌, ◌↔◌, IsTrue, IfOk, IfErr, OnOk, Some, None, IsSome, ◌++◌, ◌∷◌, [], IfSome, length, map, option_map, option_to_list, slice_get};
 ghost use Rattle.schema.specs.UpdateData.{update_data};
 ghost use Rattle.model.specs.World.{in_tree};
 ghost use Rattle.model.specs.Surgery.{IsOld};
@@ -7,12 +7,12 @@ ghost use Rattle.tree_changes.specs.LookUps.{IsRaisedBy};
 ghost use Rattle.tree_changes.specs.declared.error.UpdateError.TheVariants.{Memory};
 ghost use Rattle.tree_changes.specs.Refusals.{IsRefusal};
 ghost use Rattle.tree_plan.specs.Passes.{at, at_name, HoldsOpened, HoldsCompared};
-ghost use Rattle.tree_plan.specs.Comparisons.{AreEntriesTaken, IsNamedTwice, Gathers, OnlyAt, OnlyIn, TakesGraft, IsGraftFault, ChangesGraft, ComparesData, ComparesNode, BeginsComparing, SettlesLists, IsEnteredTwice};
+ghost use Rattle.tree_plan.specs.Comparisons.{AreEntriesTaken, IsNamedTwice, Gathers, Leaves, OnlyPlain, OnlyAt, OnlyIn, spots_of, ids_before, ids_after, arrival_at, ComparesChild, TakesGraft, IsGraftFault, ChangesGraft, ComparesData, ComparesNode, BeginsComparing, SettlesLists, IsEnteredTwice};
 
 use crate::opening::is_root_tree;
-use crate::passes::{Compared, Comparing, Named, Opened};
+use crate::passes::{Arrival, Compared, Comparing, Named, Opened};
 use model::{FullNodeId, Place};
-use rows::{RowList, Rows};
+use rows::{RowList, SortedRows};
 use schema::{Node, NodeId, TreeId, TreeUpdate};
 use std::alloc::Global;
 use std::collections::BTreeMap;
@@ -30,7 +30,7 @@ pub(crate) fn take(
     alloc: Global,
     index: u32,
     update: &TreeUpdate,
-) -> Result<Rows<Named>, UpdateError>
+) -> Result<SortedRows<Named>, UpdateError>
     ensures ok { IfOk result (λ named.
         AreEntriesTaken index (update_data update.now) (length update.now.nodes.items) named) }
     ensures err { IfErr result (λ e. IsNamedTwice (update_data update.now) e) }
@@ -82,55 +82,165 @@ fn push_spot(
     Ok(())
 }
 
+/// Whether this child is at an index of a list.
+fn is_at(children: &[NodeId], index: usize, child: NodeId) -> bool
+    ensures { IsTrue result ↔ (slice_get children.now index ≡ Some child) }
+{
+    match children.get(index) {
+        Some(other) => *other == child,
+        None => false,
+    }
+}
+
+/// How many old children a search for a new one looks at.
+const NEARBY: usize = 64;
+
+/// The old index of a child that is no longer there, if it is among the next few indexes from `from` on.
+fn find_shifted(old: &[NodeId], new: &[NodeId], from: usize, child: NodeId) -> Option<usize>
+    ensures found { IfSome result (λ index. (slice_get old.now index ≡ Some child) × (slice_get new.now index ≢ Some child)) }
+    ensures bound { IfSome result (λ index. index < length old.now) }
+{
+    for index in from..old.len().min(from.saturating_add(NEARBY)) {
+        if old[index] == child && !is_at(new, index, child) {
+            return Some(index);
+        }
+    }
+    None
+}
+
+/// The lists of a node's children, before the update and after it.
+#[derive(Clone, Copy)]
+struct Lists<'a> {
+    parent: FullNodeId,
+    before: &'a [NodeId],
+    after: &'a [NodeId],
+}
+
+/// What a node listed and grafted before the update.
+#[derive(Clone, Copy)]
+struct Held<'a> {
+    children: &'a [NodeId],
+    graft: Option<TreeId>,
+}
+
 impl Comparing {
-    /// Compares the old node at a spot with the new one.
-    fn compare_spot(
+    /// Adds a node that entered a spot.
+    fn arrive(
         &mut self,
+        id: FullNodeId,
         spot: Option<Place>,
-        old: Option<FullNodeId>,
-        new: Option<FullNodeId>,
+        is_shifted: bool,
     ) -> Result<(), UpdateError>
-        ensures left { OnOk result (Gathers (OnlyAt spot old new) self.old.left self.new.left) }
-        ensures entered { OnOk result (Gathers (OnlyAt spot new old) self.old.entered self.new.entered) }
-        ensures rest { self.new ≡ record self.old {
-          left = self.new.left;
-          entered = self.new.entered;
-        } }
+        ensures ok { OnOk result (self.new.entered ≡ self.old.entered ++ (id, arrival_at spot is_shifted) ∷ []) }
+        ensures rest { self.new ≡ record self.old { entered = self.new.entered } }
         ensures err { IfErr result (λ e. e ≡ Memory) }
     {
-        if old == new {
-            return Ok(());
-        }
-        push_spot(&mut self.left, old, spot)?;
-        push_spot(&mut self.entered, new, spot)?;
+        let arrival = Arrival { spot, is_shifted };
+        self.entered.push(id, arrival)?;
         Ok(())
     }
 
-    /// Compares a node's child lists, old and new.
-    fn compare_lists(
-        &mut self,
-        parent: FullNodeId,
-        old: &[NodeId],
-        new: &[NodeId],
-    ) -> Result<(), UpdateError>
-        ensures left { OnOk result (Gathers
-            (OnlyIn parent (map (in_tree parent.tree) old.now) (map (in_tree parent.tree) new.now))
-            self.old.left self.new.left) }
-        ensures entered { OnOk result (Gathers
-            (OnlyIn parent (map (in_tree parent.tree) new.now) (map (in_tree parent.tree) old.now))
-            self.old.entered self.new.entered) }
+    /// Compares the old root with the new one.
+    fn compare_roots(&mut self, old: Option<FullNodeId>, new: FullNodeId) -> Result<(), UpdateError>
+        ensures left { OnOk result (Gathers (OnlyAt None old (Some new)) self.old.left self.new.left) }
+        ensures entered { OnOk result
+            (Gathers (OnlyAt None (Some new) old) (spots_of self.old.entered) (spots_of self.new.entered)) }
+        ensures unshifted { OnOk result (OnlyPlain self.old.entered self.new.entered) }
         ensures rest { self.new ≡ record self.old {
           left = self.new.left;
           entered = self.new.entered;
         } }
         ensures err { IfErr result (λ e. e ≡ Memory) }
     {
-        for index in 0..old.len().max(new.len()) {
-            let was = child_at(parent, old, index);
-            let is = child_at(parent, new, index);
-            self.compare_spot(Some((parent, index)), was, is)?;
+        if old == Some(new) {
+            return Ok(());
+        }
+        push_spot(&mut self.left, old, None)?;
+        self.arrive(new, None, false)
+    }
+
+    /// Adds the old child at an index to those that left, unless it is still there.
+    fn leave_one(&mut self, lists: &Lists<'_>, index: usize) -> Result<(), UpdateError>
+        ensures left { OnOk result (Leaves lists.now.parent
+            (ids_before lists.now) (ids_after lists.now) index (index + 1)
+            self.old.left self.new.left self.old.entered self.new.entered) }
+        ensures rest { self.new ≡ record self.old { left = self.new.left } }
+        ensures err { IfErr result (λ e. e ≡ Memory) }
+    {
+        let was = child_at(lists.parent, lists.before, index);
+        let is = child_at(lists.parent, lists.after, index);
+        if was == is {
+            return Ok(());
+        }
+        push_spot(&mut self.left, was, Some((lists.parent, index)))
+    }
+
+    /// Adds the old children in a range of indexes to those that left, but for those that are still there.
+    fn leave(&mut self, lists: &Lists<'_>, from: usize, to: usize) -> Result<(), UpdateError>
+        ensures left { OnOk result (Leaves lists.now.parent
+            (ids_before lists.now) (ids_after lists.now) from to
+            self.old.left self.new.left self.old.entered self.new.entered) }
+        ensures rest { self.new ≡ record self.old { left = self.new.left } }
+        ensures err { IfErr result (λ e. e ≡ Memory) }
+    {
+        for index in from..to {
+            self.leave_one(lists, index)?;
         }
         Ok(())
+    }
+
+    /// Compares the new child at an index. The old children before `next` have been handled; the result is up to which
+    /// index they are handled then.
+    fn compare_child(
+        &mut self,
+        lists: &Lists<'_>,
+        index: usize,
+        next: usize,
+    ) -> Result<usize, UpdateError>
+        requires { index < length lists.now.after.now }
+        ensures ok { IfOk result (λ end. ComparesChild lists.now.parent
+            (ids_before lists.now) (ids_after lists.now) index next end self.old self.new) }
+        ensures rest { self.new ≡ record self.old {
+          left = self.new.left;
+          entered = self.new.entered;
+        } }
+        ensures err { IfErr result (λ e. e ≡ Memory) }
+    {
+        let child = lists.after[index];
+        if is_at(lists.before, index, child) {
+            self.leave(lists, next, index)?;
+            return Ok(next.max(index + 1));
+        }
+        let id = full_id(lists.parent.tree, child);
+        let Some(place) = find_shifted(lists.before, lists.after, next, child) else {
+            self.arrive(id, Some((lists.parent, index)), false)?;
+            return Ok(next);
+        };
+        self.leave(lists, next, place)?;
+        self.arrive(id, Some((lists.parent, index)), true)?;
+        Ok(place + 1)
+    }
+
+    /// Compares a node's child lists, old and new. A pointer into the old list goes along, so that children that have
+    /// only shifted are found near it.
+    fn compare_lists(&mut self, lists: &Lists<'_>) -> Result<(), UpdateError>
+        ensures left { OnOk result (Leaves lists.now.parent
+            (ids_before lists.now) (ids_after lists.now) 0 (length lists.now.before.now)
+            self.old.left self.new.left self.old.entered self.new.entered) }
+        ensures entered { OnOk result (Gathers
+            (OnlyIn lists.now.parent (ids_after lists.now) (ids_before lists.now))
+            (spots_of self.old.entered) (spots_of self.new.entered)) }
+        ensures rest { self.new ≡ record self.old {
+          left = self.new.left;
+          entered = self.new.entered;
+        } }
+        ensures err { IfErr result (λ e. e ≡ Memory) }
+    {
+        let mut next = 0;
+        for index in 0..lists.after.len() {
+            next = self.compare_child(lists, index, next)?;
+        }
+        self.leave(lists, next, lists.before.len())
     }
 
     /// Refuses a graft with children or of the root tree.
@@ -186,20 +296,24 @@ impl Comparing {
         &mut self,
         id: FullNodeId,
         named: Named,
-        children: &[NodeId],
-        graft: Option<TreeId>,
+        held: &Held<'_>,
         node: &Node,
     ) -> Result<(), UpdateError>
         requires there { IsSome (at self.old.named id) }
         ensures ok { OnOk result (ComparesData id named
-            (map (in_tree id.tree) children.now) graft node.now self.old self.new) }
+            (map (in_tree id.tree) held.now.children.now) held.now.graft node.now self.old self.new) }
         ensures rest { self.new.grafted ≡ self.old.grafted }
         ensures err { IfErr result (λ e. e ≡ Memory) }
     {
         let mut near = named.entry;
         self.named.change_near(id, named, &mut near);
-        self.compare_lists(id, children, node.children())?;
-        self.compare_grafts(graft, node.tree_id())
+        let lists = Lists {
+            parent: id,
+            before: held.children,
+            after: node.children(),
+        };
+        self.compare_lists(&lists)?;
+        self.compare_grafts(held.graft, node.tree_id())
     }
 
     /// Compares a node of the update with its old record.
@@ -224,18 +338,30 @@ impl Comparing {
                 was: None,
                 is_news: true,
             };
-            return self.compare_data(id, named, &[], None, node);
+            let held = Held {
+                children: &[],
+                graft: None,
+            };
+            return self.compare_data(id, named, &held, node);
         };
         let named = Named {
             entry,
             was: Some(old.place),
             is_news: is_news(old.node, node),
         };
-        self.compare_data(id, named, old.node.children(), old.node.tree_id(), node)
+        let held = Held {
+            children: old.node.children(),
+            graft: old.node.tree_id(),
+        };
+        self.compare_data(id, named, &held, node)
     }
 
     /// Compares the root with the old one.
-    fn begin(alloc: Global, named: Rows<Named>, opened: &Opened) -> Result<Comparing, UpdateError>
+    fn begin(
+        alloc: Global,
+        named: SortedRows<Named>,
+        opened: &Opened,
+    ) -> Result<Comparing, UpdateError>
         ensures ok { IfOk result (λ c. BeginsComparing opened.now named c) }
         ensures err { IfErr result (λ e. e ≡ Memory) }
     {
@@ -249,7 +375,7 @@ impl Comparing {
         };
         let root = full_id(opened.index, opened.root);
         let old_root = opened.record.root.map(|root| full_id(opened.index, root));
-        comparing.compare_spot(None, old_root, Some(root))?;
+        comparing.compare_roots(old_root, root)?;
         Ok(comparing)
     }
 

@@ -8,7 +8,8 @@ ghost use Rattle.tree_changes.specs.LookUps.{IsRaisedAtLeast, IsRaisedUpTo};
 ghost use Rattle.tree_changes.specs.Changes.{overlaid_world};
 ghost use Rattle.tree_changes.specs.Decisions.{IsDecision, IsWithinWork};
 ghost use Rattle.tree_changes.specs.Refusals.{IsRefusal};
-ghost use Rattle.tree_plan.specs.Passes.{HoldsOpened, HoldsCompared, HoldsRemoved};
+ghost use Rattle.tree_plan.specs.Passes.{HoldsOpened, HoldsRemoved};
+ghost use Rattle.tree_plan.specs.Cases.{IsCase, sent};
 ghost use Rattle.tree_plan.specs.Deciding.{AreFindings, HasBegun, IsCount, IsRemovedCount};
 ghost use Rattle.tree_plan.specs.Verdicts.{Transition};
 ghost use Rattle.tree_plan.specs.Writing.{IsSmall};
@@ -18,7 +19,7 @@ use crate::comparing::compare;
 use crate::focusing::find_focus;
 use crate::news::decide_news;
 use crate::opening::open_tree;
-use crate::passes::{Compared, Opened, Removed};
+use crate::passes::{Case, Opened, Removed};
 use crate::refusing::refuse_misplaced;
 use crate::regrafting::regraft;
 use crate::removing::remove;
@@ -33,26 +34,20 @@ use tree_changes::{Decision, LookUps, UpdateError};
 fn find_removed<L: LookUps>(
     alloc: Global,
     look_ups: &mut L,
-    update: &TreeUpdate,
-    opened: &Opened,
-    compared: &Compared,
+    case: &Case<'_>,
 ) -> Result<Removed, UpdateError>
-    requires old { IsOld (L.world look_ups.old) }
-    requires opening { HoldsOpened (L.world look_ups.old) (update_data update.now) opened.now }
-    requires comparison { HoldsCompared (L.world look_ups.old) (update_data update.now) compared.now }
+    requires case { IsCase (L.world look_ups.old) case.now }
     ensures world { L.world look_ups.new ≡ L.world look_ups.old }
-    ensures err { IfErr result (λ e. IsRefusal (L.world look_ups.old) (update_data update.now) e) }
-    ensures ok { IfOk result (HoldsRemoved (L.world look_ups.old) (update_data update.now)) }
-    ensures climbed { OnOk result (IsClimbed (L.world look_ups.old) (update_data update.now)) }
+    ensures err { IfErr result (λ e. IsRefusal (L.world look_ups.old) (sent case.now) e) }
+    ensures ok { IfOk result (HoldsRemoved (L.world look_ups.old) (sent case.now)) }
+    ensures climbed { OnOk result (IsClimbed (L.world look_ups.old) (sent case.now)) }
     ensures count { IfOk result (λ r.
-        IsRemovedCount (L.world look_ups.old) (update_data update.now) compared.now r (L.asked look_ups.old) (L.asked look_ups.new)) }
+        IsRemovedCount (L.world look_ups.old) (sent case.now) case.now.compared.now r (L.asked look_ups.old) (L.asked look_ups.new)) }
 {
-    let settled = settle(alloc, look_ups, update, opened, compared)?;
-    let removed = remove(alloc, look_ups, update, compared)?;
-    refuse_misplaced(
-        alloc, look_ups, update, opened, compared, &settled, &removed,
-    )?;
-    climb_all(alloc, look_ups, update, opened, compared, &settled)?;
+    let settled = settle(alloc, look_ups, case)?;
+    let removed = remove(alloc, look_ups, case)?;
+    refuse_misplaced(alloc, look_ups, case, &settled, &removed)?;
+    climb_all(alloc, look_ups, case, &settled)?;
     Ok(removed)
 }
 
@@ -73,8 +68,13 @@ fn find<L: LookUps>(
 {
     let told = told_root(&opened, update);
     let compared = compare(alloc, look_ups, update, &opened)?;
-    let removed = find_removed(alloc, look_ups, update, &opened, &compared)?;
-    let regrafted = regraft(alloc, look_ups, update, &compared, &removed)?;
+    let case = Case {
+        update,
+        opened: &opened,
+        compared: &compared,
+    };
+    let removed = find_removed(alloc, look_ups, &case)?;
+    let regrafted = regraft(alloc, look_ups, &case, &removed)?;
     Ok(Found {
         opened,
         compared,
@@ -108,13 +108,12 @@ fn conclude<L: LookUps>(
     ensures count { OnOk result (let most = 4 * length (merged_world step.old step.update).known + 2 in
         IsRaisedUpTo (L.asked look_ups.old) most (L.asked look_ups.new)) }
 {
-    let focused = find_focus(
-        look_ups,
+    let case = Case {
         update,
-        &findings.opened,
-        &findings.compared,
-        &findings.removed,
-    )?;
+        opened: &findings.opened,
+        compared: &findings.compared,
+    };
+    let focused = find_focus(look_ups, &case, &findings.removed)?;
     let looked = look_ups.count().saturating_sub(before);
     write(alloc, update, findings, &focused, looked)
 }

@@ -2,7 +2,6 @@
 ghost use Rattle.std.specs.Prelude.{◌≡◌, ◌<◌, ◌+◌, ◌-◌, ◌*◌, ◌↔◌, IfOk, IfErr, IsTrue, IsSome, MatchOption, None, Some, length, true, false};
 ghost use Rattle.std.specs.FinMap.{get};
 ghost use Rattle.std.specs.Option.{option_map, option_and_then};
-ghost use Rattle.schema.specs.UpdateData.{update_data};
 ghost use Rattle.model.specs.World.{ROOT_NAME, IsNode, focus_named, in_tree, Reached};
 ghost use Rattle.model.specs.Focus.{IsFocus};
 ghost use Rattle.model.specs.Update.{IsFirst, KeepsRules, merged_world};
@@ -11,11 +10,13 @@ ghost use Rattle.schema.specs.NodeData.{NodeData};
 ghost use Rattle.tree_changes.specs.LookUps.{IsRaisedUpTo};
 ghost use Rattle.tree_changes.specs.Changes.{entry_data};
 ghost use Rattle.tree_changes.specs.Refusals.{IsRefusal};
-ghost use Rattle.tree_plan.specs.Passes.{HoldsOpened, HoldsCompared, HoldsRemoved, IsFocusing, IsOfName};
+ghost use Rattle.tree_plan.specs.Looks.{LooksUpTo};
+ghost use Rattle.tree_plan.specs.Passes.{HoldsRemoved, IsFocusing, IsOfName};
+ghost use Rattle.tree_plan.specs.Cases.{IsCase, sent};
 ghost use Rattle.tree_plan.specs.Aims.{IsAimOf, IsAimIn, IsEnd, Answers, AnswersHost, FindsAim, EndsWell, IsStaying};
 
 use crate::opening::is_root_tree;
-use crate::passes::{Compared, Focused, Opened, Removed};
+use crate::passes::{Case, Compared, Focused, Opened, Removed};
 use crate::records::tree_record;
 use model::FullNodeId;
 use schema::{Node, NodeId, TreeId, TreeUpdate};
@@ -38,28 +39,24 @@ pub(crate) struct End {
 /// Follows the focus before and after the update, and refuses the update if it ends at no node.
 pub(crate) fn find_focus<L: LookUps>(
     look_ups: &mut L,
-    update: &TreeUpdate,
-    opened: &Opened,
-    compared: &Compared,
+    case: &Case<'_>,
     removed: &Removed,
 ) -> Result<Focused, UpdateError>
-    requires old { IsOld (L.world look_ups.old) }
+    requires case { IsCase (L.world look_ups.old) case.now }
     requires present { ¬ (IsFirst (L.world look_ups.old)) → IsSome (get (L.world look_ups.old).trees 0) }
-    requires opening { HoldsOpened (L.world look_ups.old) (update_data update.now) opened.now }
-    requires comparison { HoldsCompared (L.world look_ups.old) (update_data update.now) compared.now }
-    requires removal { HoldsRemoved (L.world look_ups.old) (update_data update.now) removed.now }
-    requires passed { IsPassed (L.world look_ups.old) (update_data update.now) }
+    requires removal { HoldsRemoved (L.world look_ups.old) (sent case.now) removed.now }
+    requires passed { IsPassed (L.world look_ups.old) (sent case.now) }
     ensures world { L.world look_ups.new ≡ L.world look_ups.old }
-    ensures err { IfErr result (λ e. IsRefusal (L.world look_ups.old) (update_data update.now) e) }
-    ensures ok { IfOk result (λ f. IsFocusing (L.world look_ups.old) (update_data update.now) f) }
-    ensures keeps { IfOk result (λ f. KeepsRules (L.world look_ups.old) (update_data update.now)) }
-    ensures ends { IfOk result (λ f. EndsWell (merged_world (L.world look_ups.old) (update_data update.now)) f.effective) }
-    ensures counts { IfOk result (λ f. let m = merged_world (L.world look_ups.old) (update_data update.now) in
+    ensures err { IfErr result (λ e. IsRefusal (L.world look_ups.old) (sent case.now) e) }
+    ensures ok { IfOk result (λ f. IsFocusing (L.world look_ups.old) (sent case.now) f) }
+    ensures keeps { IfOk result (λ f. KeepsRules (L.world look_ups.old) (sent case.now)) }
+    ensures ends { IfOk result (λ f. EndsWell (merged_world (L.world look_ups.old) (sent case.now)) f.effective) }
+    ensures counts { IfOk result (λ f. let m = merged_world (L.world look_ups.old) (sent case.now) in
         IsRaisedUpTo (L.asked look_ups.old) (4 * length m.known + 2) (L.asked look_ups.new)) }
 {
-    let before = focus_before(look_ups, opened);
-    let end = end_after(look_ups, update, opened, compared, removed)?;
-    let after = focus_after(look_ups, compared, removed, &end);
+    let before = focus_before(look_ups, case.opened);
+    let end = end_after(look_ups, case, removed)?;
+    let after = focus_after(look_ups, case.compared, removed, &end);
     Ok(Focused {
         before,
         effective: end.id,
@@ -72,8 +69,7 @@ fn focus_before<L: LookUps>(look_ups: &mut L, opened: &Opened) -> Option<FullNod
     requires old { IsOld (L.world look_ups.old) }
     requires first { IsTrue opened.now.is_first ↔ IsFirst (L.world look_ups.old) }
     requires present { ¬ (IsFirst (L.world look_ups.old)) → IsSome (get (L.world look_ups.old).trees 0) }
-    ensures world { L.world look_ups.new ≡ L.world look_ups.old }
-    ensures counts { IsRaisedUpTo (L.asked look_ups.old) (2 * length (L.world look_ups.old).known + 1) (L.asked look_ups.new) }
+    ensures looks { LooksUpTo L.world L.asked look_ups.old (2 * length (L.world look_ups.old).known + 1) look_ups.new }
     ensures focus { ¬ (IsFirst (L.world look_ups.old)) → IsFocus (L.world look_ups.old) result }
 {
     if opened.is_first {
@@ -90,8 +86,7 @@ fn focus_before<L: LookUps>(look_ups: &mut L, opened: &Opened) -> Option<FullNod
 fn end_before<L: LookUps>(look_ups: &mut L) -> End
     requires old { IsOld (L.world look_ups.old) }
     requires present { IsSome (get (L.world look_ups.old).trees 0) }
-    ensures world { L.world look_ups.new ≡ L.world look_ups.old }
-    ensures counts { IsRaisedUpTo (L.asked look_ups.old) (2 * length (L.world look_ups.old).known) (L.asked look_ups.new) }
+    ensures looks { LooksUpTo L.world L.asked look_ups.old (2 * length (L.world look_ups.old).known) look_ups.new }
     ensures end { IsEnd (L.world look_ups.old) result }
 {
     let first = declared(look_ups, &TreeId::root()).unwrap();
@@ -103,8 +98,7 @@ pub(crate) fn end_opened<L: LookUps>(look_ups: &mut L, opened: &Opened) -> End
     requires old { IsOld (L.world look_ups.old) }
     requires present { IsSome (get (L.world look_ups.old).trees 0) }
     requires record { IsOfName (L.world look_ups.old) opened.now.record.id opened.now.record }
-    ensures world { L.world look_ups.new ≡ L.world look_ups.old }
-    ensures counts { IsRaisedUpTo (L.asked look_ups.old) (2 * length (L.world look_ups.old).known) (L.asked look_ups.new) }
+    ensures looks { LooksUpTo L.world L.asked look_ups.old (2 * length (L.world look_ups.old).known) look_ups.new }
     ensures end { IsEnd (L.world look_ups.old) result }
 {
     if !is_root_tree(&opened.record.id) {
@@ -121,8 +115,7 @@ fn end_from<L: LookUps>(look_ups: &mut L, first: FullNodeId) -> End
     requires old { IsOld (L.world look_ups.old) }
     requires present { IsSome (get (L.world look_ups.old).trees 0) }
     requires first { focus_named (L.world look_ups.old) ROOT_NAME ≡ Some first }
-    ensures world { L.world look_ups.new ≡ L.world look_ups.old }
-    ensures counts { IsRaisedUpTo (L.asked look_ups.old) (2 * length (L.world look_ups.old).known - 1) (L.asked look_ups.new) }
+    ensures looks { LooksUpTo L.world L.asked look_ups.old (2 * length (L.world look_ups.old).known - 1) look_ups.new }
     ensures known { 0 < length (L.world look_ups.old).known }
     ensures end { IsEnd (L.world look_ups.old) result }
 {
@@ -139,8 +132,7 @@ fn end_from<L: LookUps>(look_ups: &mut L, first: FullNodeId) -> End
 
 /// The active descendant if it was in the state, and otherwise the node itself.
 fn active_before<L: LookUps>(look_ups: &mut L, end: &End) -> FullNodeId
-    ensures world { L.world look_ups.new ≡ L.world look_ups.old }
-    ensures counts { IsRaisedUpTo (L.asked look_ups.old) 1 (L.asked look_ups.new) }
+    ensures looks { LooksUpTo L.world L.asked look_ups.old 1 look_ups.new }
     ensures answer { Answers (λ a. IsNode (L.world look_ups.old) a) end.now result }
 {
     let Some(active) = end.active else {
@@ -159,8 +151,7 @@ fn focus_after<L: LookUps>(
     removed: &Removed,
     end: &End,
 ) -> Option<FullNodeId>
-    ensures world { L.world look_ups.new ≡ L.world look_ups.old }
-    ensures counts { IsRaisedUpTo (L.asked look_ups.old) 1 (L.asked look_ups.new) }
+    ensures looks { LooksUpTo L.world L.asked look_ups.old 1 look_ups.new }
     ensures focus { let w = L.world look_ups.old in
         AnswersHost w (IsStaying w compared.now removed.now) end.now result }
 {
@@ -177,8 +168,7 @@ fn active_after<L: LookUps>(
     removed: &Removed,
     end: &End,
 ) -> FullNodeId
-    ensures world { L.world look_ups.new ≡ L.world look_ups.old }
-    ensures counts { IsRaisedUpTo (L.asked look_ups.old) 1 (L.asked look_ups.new) }
+    ensures looks { LooksUpTo L.world L.asked look_ups.old 1 look_ups.new }
     ensures answer { Answers (IsStaying (L.world look_ups.old) compared.now removed.now) end.now result }
 {
     let Some(active) = end.active else {
@@ -197,8 +187,7 @@ fn stays<L: LookUps>(
     removed: &Removed,
     id: FullNodeId,
 ) -> bool
-    ensures world { L.world look_ups.new ≡ L.world look_ups.old }
-    ensures counts { IsRaisedUpTo (L.asked look_ups.old) 1 (L.asked look_ups.new) }
+    ensures looks { LooksUpTo L.world L.asked look_ups.old 1 look_ups.new }
     ensures stays { IsTrue result ↔ IsStaying (L.world look_ups.old) compared.now removed.now id }
 {
     compared.named.contains_key(&id) || (!removed.gone.contains(&id) && look_ups.node(id).is_some())
@@ -207,33 +196,29 @@ fn stays<L: LookUps>(
 /// The effective focus after the update.
 fn end_after<L: LookUps>(
     look_ups: &mut L,
-    update: &TreeUpdate,
-    opened: &Opened,
-    compared: &Compared,
+    case: &Case<'_>,
     removed: &Removed,
 ) -> Result<End, UpdateError>
-    requires old { IsOld (L.world look_ups.old) }
-    requires opening { HoldsOpened (L.world look_ups.old) (update_data update.now) opened.now }
-    requires comparison { HoldsCompared (L.world look_ups.old) (update_data update.now) compared.now }
-    requires removal { HoldsRemoved (L.world look_ups.old) (update_data update.now) removed.now }
-    requires passed { IsPassed (L.world look_ups.old) (update_data update.now) }
+    requires case { IsCase (L.world look_ups.old) case.now }
+    requires removal { HoldsRemoved (L.world look_ups.old) (sent case.now) removed.now }
+    requires passed { IsPassed (L.world look_ups.old) (sent case.now) }
     ensures world { L.world look_ups.new ≡ L.world look_ups.old }
-    ensures err { IfErr result (λ e. IsRefusal (L.world look_ups.old) (update_data update.now) e) }
-    ensures end { IfOk result (λ e. IsEnd (merged_world (L.world look_ups.old) (update_data update.now)) e) }
-    ensures reached { IfOk result (λ e. Reached (merged_world (L.world look_ups.old) (update_data update.now)) e.id) }
-    ensures counts { IfOk result (λ e. let m = merged_world (L.world look_ups.old) (update_data update.now) in
+    ensures err { IfErr result (λ e. IsRefusal (L.world look_ups.old) (sent case.now) e) }
+    ensures end { IfOk result (λ e. IsEnd (merged_world (L.world look_ups.old) (sent case.now)) e) }
+    ensures reached { IfOk result (λ e. Reached (merged_world (L.world look_ups.old) (sent case.now)) e.id) }
+    ensures counts { IfOk result (λ e. let m = merged_world (L.world look_ups.old) (sent case.now) in
         IsRaisedUpTo (L.asked look_ups.old) (2 * length m.known) (L.asked look_ups.new)) }
 {
     let limit = u64::from(look_ups.known_trees()) + 1;
-    let mut id = declared_after(look_ups, update, opened, &TreeId::root()).unwrap();
+    let mut id = declared_after(look_ups, case, &TreeId::root()).unwrap();
     for _depth in 0..limit {
-        let Some(aim) = aim_after(look_ups, update, compared, removed, id) else {
+        let Some(aim) = aim_after(look_ups, case, removed, id) else {
             return Err(UpdateError::FocusMissing(id.node));
         };
         let Some(inner) = aim.graft else {
             return Ok(end_at(id, &aim));
         };
-        let Some(declared) = declared_after(look_ups, update, opened, &inner) else {
+        let Some(declared) = declared_after(look_ups, case, &inner) else {
             return Err(UpdateError::FocusOnEmptyGraft(inner));
         };
         id = declared;
@@ -244,20 +229,17 @@ fn end_after<L: LookUps>(
 /// What is read of a node after the update.
 fn aim_after<L: LookUps>(
     look_ups: &mut L,
-    update: &TreeUpdate,
-    compared: &Compared,
+    case: &Case<'_>,
     removed: &Removed,
     id: FullNodeId,
 ) -> Option<Aim>
-    requires old { IsOld (L.world look_ups.old) }
-    requires comparison { HoldsCompared (L.world look_ups.old) (update_data update.now) compared.now }
-    requires removal { HoldsRemoved (L.world look_ups.old) (update_data update.now) removed.now }
-    ensures world { L.world look_ups.new ≡ L.world look_ups.old }
-    ensures counts { IsRaisedUpTo (L.asked look_ups.old) 1 (L.asked look_ups.new) }
-    ensures aim { FindsAim (L.world look_ups.old) (update_data update.now) compared.now removed.now id result }
+    requires case { IsCase (L.world look_ups.old) case.now }
+    requires removal { HoldsRemoved (L.world look_ups.old) (sent case.now) removed.now }
+    ensures looks { LooksUpTo L.world L.asked look_ups.old 1 look_ups.new }
+    ensures aim { FindsAim (L.world look_ups.old) (sent case.now) case.now.compared.now removed.now id result }
 {
-    if let Some(named) = compared.named.get(&id) {
-        return Some(entry_aim(update, named.entry));
+    if let Some(named) = case.compared.named.get(&id) {
+        return Some(entry_aim(case.update, named.entry));
     }
     if removed.gone.contains(&id) {
         return None;
@@ -275,8 +257,7 @@ fn entry_aim(update: &TreeUpdate, entry: usize) -> Aim
 
 /// What is read of an old node.
 fn old_aim<L: LookUps>(look_ups: &mut L, id: FullNodeId) -> Option<Aim>
-    ensures world { L.world look_ups.new ≡ L.world look_ups.old }
-    ensures counts { IsRaisedUpTo (L.asked look_ups.old) 1 (L.asked look_ups.new) }
+    ensures looks { LooksUpTo L.world L.asked look_ups.old 1 look_ups.new }
     ensures aim { let w = L.world look_ups.old in MatchOption result (¬ (IsNode w id)) (λ aim. IsAimIn w id aim) }
 {
     let record = look_ups.node(id)?;
@@ -306,20 +287,17 @@ fn end_at(id: FullNodeId, aim: &Aim) -> End
 /// The declared focus of a tree after the update.
 fn declared_after<L: LookUps>(
     look_ups: &mut L,
-    update: &TreeUpdate,
-    opened: &Opened,
+    case: &Case<'_>,
     name: &TreeId,
 ) -> Option<FullNodeId>
-    requires old { IsOld (L.world look_ups.old) }
-    requires opening { HoldsOpened (L.world look_ups.old) (update_data update.now) opened.now }
-    ensures world { L.world look_ups.new ≡ L.world look_ups.old }
-    ensures counts { IsRaisedUpTo (L.asked look_ups.old) 1 (L.asked look_ups.new) }
-    ensures focus { result ≡ focus_named (merged_world (L.world look_ups.old) (update_data update.now)) name.now }
+    requires case { IsCase (L.world look_ups.old) case.now }
+    ensures looks { LooksUpTo L.world L.asked look_ups.old 1 look_ups.new }
+    ensures focus { result ≡ focus_named (merged_world (L.world look_ups.old) (sent case.now)) name.now }
 {
-    if is_same(name, &update.tree_id) {
+    if is_same_tree(name, &case.update.tree_id) {
         return Some(FullNodeId {
-            tree: opened.index,
-            node: update.focus,
+            tree: case.opened.index,
+            node: case.update.focus,
         });
     }
     declared(look_ups, name)
@@ -336,8 +314,7 @@ fn declared_in(found: &TreeRecord) -> Option<FullNodeId>
 
 /// The declared focus of a tree, if it is present.
 fn declared<L: LookUps>(look_ups: &mut L, name: &TreeId) -> Option<FullNodeId>
-    ensures world { L.world look_ups.new ≡ L.world look_ups.old }
-    ensures counts { IsRaisedUpTo (L.asked look_ups.old) 1 (L.asked look_ups.new) }
+    ensures looks { LooksUpTo L.world L.asked look_ups.old 1 look_ups.new }
     ensures focus { result ≡ focus_named (L.world look_ups.old) name.now }
 {
     let found = tree_record(look_ups, name);
@@ -346,7 +323,7 @@ fn declared<L: LookUps>(look_ups: &mut L, name: &TreeId) -> Option<FullNodeId>
     Some(FullNodeId { tree, node })
 }
 
-fn is_same(name: &TreeId, other: &TreeId) -> bool
+fn is_same_tree(name: &TreeId, other: &TreeId) -> bool
     ensures { IsTrue result ↔ (name.now ≡ other.now) }
 {
     *name == *other

@@ -5,9 +5,9 @@ ghost use Rattle.schema.specs.UpdateData.{info_data, update_data};
 ghost use Rattle.model.specs.World.{ROOT_NAME};
 ghost use Rattle.model.specs.Surgery.{IsOld};
 ghost use Rattle.model.specs.Update.{IsFirst};
-ghost use Rattle.tree_changes.specs.LookUps.{IsRaisedUpTo};
 ghost use Rattle.tree_changes.specs.declared.error.UpdateError.TheVariants.{MissingTreeInfo, NotRootTree, NoFirstTreeInfo, IndexesUsedUp};
 ghost use Rattle.tree_changes.specs.Refusals.{IsRefusal};
+ghost use Rattle.tree_plan.specs.Looks.{LooksUpTo};
 ghost use Rattle.tree_plan.specs.Passes.{HoldsOpened};
 
 use crate::passes::Opened;
@@ -74,8 +74,7 @@ fn first_root(update: &TreeUpdate) -> Result<NodeId, UpdateError>
 /// Checks that a later update is for the root tree or for one that a node grafts.
 fn open_later<L: LookUps>(look_ups: &mut L, update: &TreeUpdate) -> Result<Opened, UpdateError>
     requires { ¬ (IsFirst (L.world look_ups.old)) }
-    ensures world { L.world look_ups.new ≡ L.world look_ups.old }
-    ensures count { IsRaisedUpTo (L.asked look_ups.old) 1 (L.asked look_ups.new) }
+    ensures looks { LooksUpTo L.world L.asked look_ups.old 1 look_ups.new }
     ensures ok { IfOk result (λ o. HoldsOpened (L.world look_ups.old) (update_data update.now) o) }
     ensures err { IfErr result (λ e. IsRefusal (L.world look_ups.old) (update_data update.now) e) }
 {
@@ -101,8 +100,7 @@ pub(crate) fn open_tree<L: LookUps>(
     look_ups: &mut L,
     update: &TreeUpdate,
 ) -> Result<Opened, UpdateError>
-    ensures world { L.world look_ups.new ≡ L.world look_ups.old }
-    ensures count { IsRaisedUpTo (L.asked look_ups.old) 1 (L.asked look_ups.new) }
+    ensures looks { LooksUpTo L.world L.asked look_ups.old 1 look_ups.new }
     ensures old { IsOld (L.world look_ups.old) }
     ensures ok { IfOk result (λ o. HoldsOpened (L.world look_ups.old) (update_data update.now) o) }
     ensures err { IfErr result (λ e. IsRefusal (L.world look_ups.old) (update_data update.now) e) }

@@ -1,7 +1,7 @@
 //! The results of the passes.
 use model::{FullNodeId, Place};
-use rows::{RowList, Rows};
-use schema::{NodeId, TreeId};
+use rows::{RowList, SortedRows};
+use schema::{NodeId, TreeId, TreeUpdate};
 use std::collections::{BTreeMap, BTreeSet};
 use tree_changes::TreeRecord;
 
@@ -23,15 +23,22 @@ pub(crate) struct Named {
     pub(crate) is_news: bool,
 }
 
-/// The update's nodes compared with their old records, as far as the comparison has got. A spot is a place in a list of
-/// children, or `None` for the root of a tree.
+/// A spot that a node entered: a place in a list of children, or `None` for the root of a tree. The node has only shifted
+/// if it was in the same list, at an index where it no longer is.
+#[derive(Clone, Copy)]
+pub(crate) struct Arrival {
+    pub(crate) spot: Option<Place>,
+    pub(crate) is_shifted: bool,
+}
+
+/// The update's nodes compared with their old records, as far as the comparison has got.
 #[derive(Drop)]
 pub(crate) struct Comparing {
-    pub(crate) named: Rows<Named>,
-    /// The nodes that left a spot, with the spot.
+    pub(crate) named: SortedRows<Named>,
+    /// The nodes that left a spot, with the spot, without those that have only shifted.
     pub(crate) left: RowList<Option<Place>>,
-    /// The nodes that entered a spot, with the spot.
-    pub(crate) entered: RowList<Option<Place>>,
+    /// The nodes that entered a spot.
+    pub(crate) entered: RowList<Arrival>,
     /// Each tree that a node of the update grafts, with this node.
     pub(crate) grafted: BTreeMap<TreeId, FullNodeId>,
     /// The trees that a node of the update grafted before and doesn't graft now.
@@ -43,11 +50,11 @@ pub(crate) struct Comparing {
 /// The update's nodes compared with their old records.
 #[derive(Drop)]
 pub(crate) struct Compared {
-    pub(crate) named: Rows<Named>,
-    /// The nodes that left a spot, with the spot.
-    pub(crate) left: Rows<Option<Place>>,
-    /// The nodes that entered a spot, with the spot.
-    pub(crate) entered: Rows<Option<Place>>,
+    pub(crate) named: SortedRows<Named>,
+    /// The nodes that left a spot, with the spot, without those that have only shifted.
+    pub(crate) left: SortedRows<Option<Place>>,
+    /// The nodes that entered a spot.
+    pub(crate) entered: SortedRows<Arrival>,
     /// Each tree that a node of the update grafts, with this node.
     pub(crate) grafted: BTreeMap<TreeId, FullNodeId>,
     /// The trees that a node of the update grafted before and doesn't graft now.
@@ -56,11 +63,19 @@ pub(crate) struct Compared {
     pub(crate) gained: Vec<TreeId>,
 }
 
-/// The old places of the nodes that entered a spot.
+/// An update with its tree and its nodes, compared: what each later pass reads.
+#[derive(Clone, Copy)]
+pub(crate) struct Case<'a> {
+    pub(crate) update: &'a TreeUpdate,
+    pub(crate) opened: &'a Opened,
+    pub(crate) compared: &'a Compared,
+}
+
+/// What is known of the nodes that entered a spot by their old places.
 #[derive(Drop)]
 pub(crate) struct Settled {
-    /// Old nodes that entered a spot, with their old places.
-    pub(crate) old_places: BTreeMap<FullNodeId, Option<Place>>,
+    /// The nodes that entered a spot and haven't left their old place in a list, with that place.
+    pub(crate) doubles: Vec<(FullNodeId, Place)>,
     /// The nodes of the update that got a child that they didn't list before.
     pub(crate) adopters: BTreeSet<FullNodeId>,
     /// Whether an old node entered below another parent.

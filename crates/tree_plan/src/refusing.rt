@@ -1,20 +1,20 @@
 //! Nodes that are listed nowhere, or twice.
-ghost use Rattle.std.specs.Prelude.{◌≡◌, ◌↔◌, ◌∷◌, [], map, IsTrue, Option, Some, OnOk, IfOk, IfErr};
-ghost use Rattle.schema.specs.UpdateData.{update_data};
+ghost use Rattle.std.specs.Prelude.{◌≡◌, ◌↔◌, ◌∷◌, [], map, IsTrue, Some, OnOk, IfOk, IfErr};
 ghost use Rattle.model.specs.declared.FullNodeId.{FullNodeId};
 ghost use Rattle.model.specs.World.{Place, in_tree, listed_ids};
 ghost use Rattle.model.specs.Update.{merged_world};
-ghost use Rattle.model.specs.Surgery.{IsOld, IsRefined};
+ghost use Rattle.model.specs.Surgery.{IsRefined};
 ghost use Rattle.tree_changes.specs.Refusals.{IsRefusal};
 ghost use Rattle.tree_changes.specs.declared.error.UpdateError.TheVariants.{Memory};
-ghost use Rattle.tree_plan.specs.Passes.{at, HoldsOpened, HoldsCompared, HoldsSettled, HoldsRemoved};
-ghost use Rattle.tree_plan.specs.Refusing.{IsNowhere, AreListed, IsOfUnlisted, IsDoubled, IsListedStill, IsSearch, Enqueues, HasReached, SearchesAll, Explains};
+ghost use Rattle.tree_plan.specs.Passes.{at, HoldsSettled, HoldsRemoved};
+ghost use Rattle.tree_plan.specs.Cases.{IsCase, sent};
+ghost use Rattle.tree_plan.specs.Refusing.{IsNowhere, AreListed, IsOfUnlisted, IsKept, IsListedStill, IsSearch, Enqueues, HasReached, SearchesAll, Explains};
 
-use crate::passes::{Compared, Named, Opened, Removed, Settled};
+use crate::passes::{Case, Compared, Named, Removed, Settled};
 use model::{FullNodeId, Place};
-use schema::{NodeId, TreeUpdate};
+use schema::NodeId;
 use std::alloc::Global;
-use std::collections::{BTreeMap, BTreeSet};
+use std::collections::BTreeSet;
 use tree_changes::{LookUps, UpdateError};
 
 /// Whether a node of the update is new and entered no spot. The search among the nodes that entered starts at `near`.
@@ -38,12 +38,12 @@ fn refuse_unlisted(compared: &Compared) -> Result<(), UpdateError>
     Ok(())
 }
 
-/// Whether a node that entered a spot is still listed at its old place, by a node that isn't removed.
-fn is_doubled(compared: &Compared, removed: &Removed, id: FullNodeId, place: Option<Place>) -> bool
-    ensures { IsTrue result ↔ IsDoubled compared.now removed.now id place }
+/// Whether a place is in the list of a node that isn't removed.
+fn is_kept(removed: &Removed, place: Place) -> bool
+    ensures { IsTrue result ↔ IsKept removed.now place }
 {
-    !compared.left.contains_key(&id)
-        && place.is_some_and(|(parent, _)| !removed.gone.contains(&parent))
+    let (parent, _) = place;
+    !removed.gone.contains(&parent)
 }
 
 /// The nodes that a search has found, also in the order in which it found them.
@@ -91,19 +91,18 @@ fn add_children(
 fn visit<L: LookUps>(
     search: &mut Search,
     look_ups: &mut L,
-    update: &TreeUpdate,
-    compared: &Compared,
+    case: &Case<'_>,
     id: FullNodeId,
 ) -> Result<(), UpdateError>
-    requires compared { HoldsCompared (L.world look_ups.old) (update_data update.now) compared.now }
+    requires case { IsCase (L.world look_ups.old) case.now }
     requires search { IsSearch search.old }
     ensures world { L.world look_ups.new ≡ L.world look_ups.old }
     ensures ok { OnOk result (Enqueues
-        (listed_ids (merged_world (L.world look_ups.old) (update_data update.now)) id) search.old search.new) }
+        (listed_ids (merged_world (L.world look_ups.old) (sent case.now)) id) search.old search.new) }
     ensures err { IfErr result (λ e. e ≡ Memory) }
 {
-    if let Some(named) = compared.named.get(&id) {
-        return add_children(search, id, update.nodes[named.entry].1.children());
+    if let Some(named) = case.compared.named.get(&id) {
+        return add_children(search, id, case.update.nodes[named.entry].1.children());
     }
     let Some(record) = look_ups.node(id) else {
         return Ok(());
@@ -115,14 +114,13 @@ fn visit<L: LookUps>(
 fn work_off<L: LookUps>(
     search: &mut Search,
     look_ups: &mut L,
-    update: &TreeUpdate,
-    compared: &Compared,
+    case: &Case<'_>,
 ) -> Result<(), UpdateError>
-    requires compared { HoldsCompared (L.world look_ups.old) (update_data update.now) compared.now }
+    requires case { IsCase (L.world look_ups.old) case.now }
     requires search { IsSearch search.old }
     ensures world { L.world look_ups.new ≡ L.world look_ups.old }
     ensures ok { OnOk result
-        (SearchesAll (L.world look_ups.old) (update_data update.now) search.old search.new) }
+        (SearchesAll (L.world look_ups.old) (sent case.now) search.old search.new) }
     ensures err { IfErr result (λ e. e ≡ Memory) }
 {
     for position in 0..usize::MAX {
@@ -130,7 +128,7 @@ fn work_off<L: LookUps>(
             return Ok(());
         }
         let id = search.queue[position];
-        visit(search, look_ups, update, compared, id)?;
+        visit(search, look_ups, case, id)?;
     }
     Ok(())
 }
@@ -139,15 +137,11 @@ fn work_off<L: LookUps>(
 fn find_reached<L: LookUps>(
     alloc: Global,
     look_ups: &mut L,
-    update: &TreeUpdate,
-    opened: &Opened,
-    compared: &Compared,
+    case: &Case<'_>,
 ) -> Result<BTreeSet<FullNodeId>, UpdateError>
-    requires old { IsOld (L.world look_ups.old) }
-    requires opening { HoldsOpened (L.world look_ups.old) (update_data update.now) opened.now }
-    requires compared { HoldsCompared (L.world look_ups.old) (update_data update.now) compared.now }
+    requires case { IsCase (L.world look_ups.old) case.now }
     ensures world { L.world look_ups.new ≡ L.world look_ups.old }
-    ensures ok { IfOk result (HasReached (L.world look_ups.old) (update_data update.now)) }
+    ensures ok { IfOk result (HasReached (L.world look_ups.old) (sent case.now)) }
     ensures err { IfErr result (λ e. e ≡ Memory) }
 {
     let mut search = Search {
@@ -155,11 +149,11 @@ fn find_reached<L: LookUps>(
         queue: Vec::new(alloc),
     };
     let root = FullNodeId {
-        tree: opened.index,
-        node: opened.root,
+        tree: case.opened.index,
+        node: case.opened.root,
     };
     add(&mut search, root)?;
-    work_off(&mut search, look_ups, update, compared)?;
+    work_off(&mut search, look_ups, case)?;
     Ok(search.seen)
 }
 
@@ -183,22 +177,18 @@ fn fault_of_double(
 fn explain<L: LookUps>(
     alloc: Global,
     look_ups: &mut L,
-    update: &TreeUpdate,
-    opened: &Opened,
-    compared: &Compared,
+    case: &Case<'_>,
     removed: &Removed,
     double: FullNodeId,
 ) -> UpdateError
-    requires old { IsOld (L.world look_ups.old) }
-    requires opening { HoldsOpened (L.world look_ups.old) (update_data update.now) opened.now }
-    requires compared { HoldsCompared (L.world look_ups.old) (update_data update.now) compared.now }
-    requires removal { HoldsRemoved (L.world look_ups.old) (update_data update.now) removed.now }
-    requires double { IsListedStill (L.world look_ups.old) (update_data update.now) double }
+    requires case { IsCase (L.world look_ups.old) case.now }
+    requires removal { HoldsRemoved (L.world look_ups.old) (sent case.now) removed.now }
+    requires double { IsListedStill (L.world look_ups.old) (sent case.now) double }
     ensures world { L.world look_ups.new ≡ L.world look_ups.old }
-    ensures stands { IsRefusal (L.world look_ups.old) (update_data update.now) result }
+    ensures stands { IsRefusal (L.world look_ups.old) (sent case.now) result }
 {
-    match find_reached(alloc, look_ups, update, opened, compared) {
-        Ok(reached) => fault_of_double(compared, &reached, double),
+    match find_reached(alloc, look_ups, case) {
+        Ok(reached) => fault_of_double(case.compared, &reached, double),
         Err(refusal) => refusal,
     }
 }
@@ -207,26 +197,22 @@ fn explain<L: LookUps>(
 pub(crate) fn refuse_misplaced<L: LookUps>(
     alloc: Global,
     look_ups: &mut L,
-    update: &TreeUpdate,
-    opened: &Opened,
-    compared: &Compared,
+    case: &Case<'_>,
     settled: &Settled,
     removed: &Removed,
 ) -> Result<(), UpdateError>
-    requires old { IsOld (L.world look_ups.old) }
-    requires opening { HoldsOpened (L.world look_ups.old) (update_data update.now) opened.now }
-    requires compared { HoldsCompared (L.world look_ups.old) (update_data update.now) compared.now }
-    requires settlement { HoldsSettled (L.world look_ups.old) (update_data update.now) settled.now }
-    requires removal { HoldsRemoved (L.world look_ups.old) (update_data update.now) removed.now }
+    requires case { IsCase (L.world look_ups.old) case.now }
+    requires settlement { HoldsSettled (L.world look_ups.old) (sent case.now) settled.now }
+    requires removal { HoldsRemoved (L.world look_ups.old) (sent case.now) removed.now }
     ensures world { L.world look_ups.new ≡ L.world look_ups.old }
     ensures count { OnOk result (L.asked look_ups.new ≡ L.asked look_ups.old) }
-    ensures ok { OnOk result (IsRefined (L.world look_ups.old) (update_data update.now)) }
-    ensures err { IfErr result (λ e. IsRefusal (L.world look_ups.old) (update_data update.now) e) }
+    ensures ok { OnOk result (IsRefined (L.world look_ups.old) (sent case.now)) }
+    ensures err { IfErr result (λ e. IsRefusal (L.world look_ups.old) (sent case.now) e) }
 {
-    refuse_unlisted(compared)?;
-    for (id, place) in &settled.old_places {
-        if is_doubled(compared, removed, *id, *place) {
-            return Err(explain(alloc, look_ups, update, opened, compared, removed, *id));
+    refuse_unlisted(case.compared)?;
+    for item in settled.doubles.iter() {
+        if is_kept(removed, item.1) {
+            return Err(explain(alloc, look_ups, case, removed, item.0));
         }
     }
     Ok(())

@@ -1,17 +1,17 @@
 //! Trees that get another graft.
 ghost use Rattle.std.specs.Prelude.{◌≡◌, ◌≤◌, ◌+◌, ◌++◌, ◌∷◌, [], IfOk, IfErr, OnOk, None, ◌↔◌, ◌⊎◌, IsTrue, IsSome, length, MatchOption};
-ghost use Rattle.schema.specs.UpdateData.{update_data};
 ghost use Rattle.tree_changes.specs.declared.error.UpdateError.TheVariants.{Memory, GraftedTwice};
-ghost use Rattle.model.specs.Surgery.{IsOld, IsClimbed};
+ghost use Rattle.model.specs.Surgery.{IsClimbed};
 ghost use Rattle.tree_changes.specs.Refusals.{IsRefusal};
 ghost use Rattle.tree_changes.specs.LookUps.{raised_count, IsRaisedUpTo};
-ghost use Rattle.tree_plan.specs.Passes.{at, at_name, has, HoldsCompared, HoldsRemoved, HoldsRegrafted};
+ghost use Rattle.tree_plan.specs.Passes.{at, at_name, has, HoldsRemoved, HoldsRegrafted};
+ghost use Rattle.tree_plan.specs.Cases.{IsCase, sent};
 ghost use Rattle.tree_plan.specs.Regrafts.{HasRival, HasNoRival, MovesIn, PutsRoot, grafted_record};
 
-use crate::passes::{Compared, Removed};
+use crate::passes::{Case, Compared, Removed};
 use crate::records::tree_record;
 use model::FullNodeId;
-use schema::{TreeId, TreeUpdate};
+use schema::TreeId;
 use std::alloc::Global;
 use std::collections::BTreeMap;
 use tree_changes::{LookUps, TreeRecord, UpdateError};
@@ -30,27 +30,25 @@ pub(crate) struct Regrafted {
 pub(crate) fn regraft<L: LookUps>(
     alloc: Global,
     look_ups: &mut L,
-    _update: &TreeUpdate,
-    compared: &Compared,
+    case: &Case<'_>,
     removed: &Removed,
 ) -> Result<Regrafted, UpdateError>
-    requires old { IsOld (L.world look_ups.old) }
-    requires comparison { HoldsCompared (L.world look_ups.old) (update_data _update.now) compared.now }
-    requires removal { HoldsRemoved (L.world look_ups.old) (update_data _update.now) removed.now }
-    requires climbed { IsClimbed (L.world look_ups.old) (update_data _update.now) }
+    requires case { IsCase (L.world look_ups.old) case.now }
+    requires removal { HoldsRemoved (L.world look_ups.old) (sent case.now) removed.now }
+    requires climbed { IsClimbed (L.world look_ups.old) (sent case.now) }
     ensures world { L.world look_ups.new ≡ L.world look_ups.old }
-    ensures err { IfErr result (λ e. IsRefusal (L.world look_ups.old) (update_data _update.now) e) }
-    ensures ok { IfOk result (λ r. HoldsRegrafted (L.world look_ups.old) (update_data _update.now) r.trees.items r.moved_in) }
-    ensures trees { IfOk result (λ r. length r.trees.items ≤ length compared.now.gained.items) }
+    ensures err { IfErr result (λ e. IsRefusal (L.world look_ups.old) (sent case.now) e) }
+    ensures ok { IfOk result (λ r. HoldsRegrafted (L.world look_ups.old) (sent case.now) r.trees.items r.moved_in) }
+    ensures trees { IfOk result (λ r. length r.trees.items ≤ length case.now.compared.now.gained.items) }
     ensures counts { OnOk result
-        (IsRaisedUpTo (L.asked look_ups.old) (length compared.now.gained.items) (L.asked look_ups.new)) }
+        (IsRaisedUpTo (L.asked look_ups.old) (length case.now.compared.now.gained.items) (L.asked look_ups.new)) }
 {
     let mut regrafted = Regrafted {
         trees: Vec::new(alloc),
         moved_in: BTreeMap::new(alloc),
     };
-    for name in compared.gained.iter() {
-        regrafted.add(look_ups, compared, removed, name)?;
+    for name in case.compared.gained.iter() {
+        regrafted.add(look_ups, case.compared, removed, name)?;
     }
     Ok(regrafted)
 }

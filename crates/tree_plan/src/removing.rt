@@ -2,20 +2,21 @@
 ghost use Rattle.std.specs.Prelude.{◌≡◌, ◌≢◌, ◌⊎◌, ◌+◌, ◌*◌, ◌≤◌, ◌∷◌, [], length, map, Contains, None, Some, OnOk, IfOk, IfErr};
 ghost use Rattle.std.specs.BTreeSet.{btree_set_len};
 ghost use Rattle.std.specs.Option.{option_map, option_and_then};
-ghost use Rattle.schema.specs.UpdateData.{UpdateData, update_data};
 ghost use Rattle.model.specs.World.{World, in_tree, graft_name};
 ghost use Rattle.model.specs.Update.{IsNamed};
-ghost use Rattle.model.specs.Surgery.{IsOld, HasEntered, Gone, IsSettled};
+ghost use Rattle.model.specs.Surgery.{HasEntered, Gone, IsSettled};
 ghost use Rattle.tree_changes.specs.LookUps.{IsRaisedUpTo};
 ghost use Rattle.tree_changes.specs.Refusals.{IsRefusal};
 ghost use Rattle.tree_changes.specs.declared.look_ups.TreeRecord.{TreeRecord};
-ghost use Rattle.tree_plan.specs.Passes.{HoldsCompared, HoldsRemoved, LosesGraft};
+ghost use Rattle.tree_plan.specs.Looks.{LooksUpTo};
+ghost use Rattle.tree_plan.specs.Passes.{HoldsRemoved, LosesGraft};
+ghost use Rattle.tree_plan.specs.Cases.{IsCase, sent};
 ghost use Rattle.tree_plan.specs.Removing.{IsRemoving, LosesAll, Drops, Expands, LosesLeft, DropsLost, FollowsUp, IsWorkedOff};
 
-use crate::passes::{Compared, Removed};
+use crate::passes::{Case, Removed};
 use crate::records::tree_record;
 use model::FullNodeId;
-use schema::{NodeId, TreeId, TreeUpdate};
+use schema::{NodeId, TreeId};
 use std::alloc::Global;
 use std::collections::BTreeSet;
 use tree_changes::{LookUps, TreeRecord, UpdateError};
@@ -28,18 +29,23 @@ struct Removing {
     trees: Vec<TreeRecord>,
 }
 
-/// Removes a node that lost its spot, unless it entered another.
-fn lose(removing: &mut Removing, compared: &Compared, id: FullNodeId) -> Result<(), UpdateError>
-    ghost setting: { World × UpdateData }
-    requires so_far { IsRemoving setting.0 setting.1 compared.now removing.old }
-    requires goes { ¬ (HasEntered setting.0 setting.1 id) → Gone setting.0 setting.1 id }
-    ensures ok { OnOk result (LosesAll setting.0 setting.1 (id ∷ []) removing.old removing.new) }
-    ensures err { IfErr result (λ e. IsRefusal setting.0 setting.1 e) }
+/// Removes a node that lost its spot, unless it entered another. The search among the nodes that entered starts at `near`.
+fn lose(
+    removing: &mut Removing,
+    case: &Case<'_>,
+    id: FullNodeId,
+    near: &mut usize,
+) -> Result<(), UpdateError>
+    ghost before: { World }
+    requires so_far { IsRemoving before case.now removing.old }
+    requires goes { ¬ (HasEntered before (sent case.now) id) → Gone before (sent case.now) id }
+    ensures ok { OnOk result (LosesAll before (sent case.now) (id ∷ []) removing.old removing.new) }
+    ensures err { IfErr result (λ e. IsRefusal before (sent case.now) e) }
 {
-    if compared.entered.contains_key(&id) {
+    if case.compared.entered.get_near(id, near).is_some() {
         return Ok(());
     }
-    if compared.named.contains_key(&id) {
+    if case.compared.named.contains_key(&id) {
         return Err(UpdateError::NotReached(id.node));
     }
     if removing.gone.contains(&id) {
@@ -53,24 +59,25 @@ fn lose(removing: &mut Removing, compared: &Compared, id: FullNodeId) -> Result<
 /// Takes the spots of a removed node's children away.
 fn lose_children(
     removing: &mut Removing,
-    compared: &Compared,
+    case: &Case<'_>,
     parent: FullNodeId,
     children: &[NodeId],
 ) -> Result<(), UpdateError>
-    ghost setting: { World × UpdateData }
-    requires so_far { IsRemoving setting.0 setting.1 compared.now removing.old }
+    ghost before: { World }
+    requires so_far { IsRemoving before case.now removing.old }
     requires goes { (c : FullNodeId) → Contains (map (in_tree parent.tree) children.now) c
-        → ¬ (HasEntered setting.0 setting.1 c) → Gone setting.0 setting.1 c }
-    ensures ok { OnOk result (LosesAll setting.0 setting.1
+        → ¬ (HasEntered before (sent case.now) c) → Gone before (sent case.now) c }
+    ensures ok { OnOk result (LosesAll before (sent case.now)
         (map (in_tree parent.tree) children.now) removing.old removing.new) }
-    ensures err { IfErr result (λ e. IsRefusal setting.0 setting.1 e) }
+    ensures err { IfErr result (λ e. IsRefusal before (sent case.now) e) }
 {
+    let mut near = 0;
     for child in children {
         let id = FullNodeId {
             tree: parent.tree,
             node: *child,
         };
-        lose(removing, compared, id)?;
+        lose(removing, case, id, &mut near)?;
     }
     Ok(())
 }
@@ -101,21 +108,20 @@ fn root_of(tree: &TreeRecord) -> Option<FullNodeId>
 fn drop_tree<L: LookUps>(
     removing: &mut Removing,
     look_ups: &mut L,
-    compared: &Compared,
+    case: &Case<'_>,
     name: &TreeId,
 ) -> Result<(), UpdateError>
-    ghost setting: { World × UpdateData }
-    requires world { L.world look_ups.old ≡ setting.0 }
-    requires so_far { IsRemoving setting.0 setting.1 compared.now removing.old }
-    requires lost { (g : FullNodeId) × (graft_name setting.0 g ≡ Some name.now)
-        × (Gone setting.0 setting.1 g ⊎ IsNamed setting.0 setting.1 g) }
+    ghost before: { World }
+    requires world { L.world look_ups.old ≡ before }
+    requires so_far { IsRemoving before case.now removing.old }
+    requires lost { (g : FullNodeId) × (graft_name before g ≡ Some name.now)
+        × (Gone before (sent case.now) g ⊎ IsNamed before (sent case.now) g) }
     requires fresh { (t : TreeRecord) → Contains removing.old.trees.items t → t.id ≢ name.now }
-    ensures world { L.world look_ups.new ≡ L.world look_ups.old }
-    ensures count { IsRaisedUpTo (L.asked look_ups.old) 1 (L.asked look_ups.new) }
-    ensures ok { OnOk result (Drops setting.0 setting.1 name.now removing.old removing.new) }
-    ensures err { IfErr result (λ e. IsRefusal setting.0 setting.1 e) }
+    ensures looks { LooksUpTo L.world L.asked look_ups.old 1 look_ups.new }
+    ensures ok { OnOk result (Drops before (sent case.now) name.now removing.old removing.new) }
+    ensures err { IfErr result (λ e. IsRefusal before (sent case.now) e) }
 {
-    if compared.grafted.contains_key(name) {
+    if case.compared.grafted.contains_key(name) {
         return Ok(());
     }
     let tree = tree_record(look_ups, name);
@@ -123,47 +129,47 @@ fn drop_tree<L: LookUps>(
     let Some(root) = root_of(&tree) else {
         return Ok(());
     };
-    lose(removing, compared, root)
+    lose(removing, case, root, &mut 0)
 }
 
 /// Handles the children of a removed node and the tree that it grafts.
 fn expand<L: LookUps>(
     removing: &mut Removing,
     look_ups: &mut L,
-    compared: &Compared,
+    case: &Case<'_>,
     id: FullNodeId,
 ) -> Result<(), UpdateError>
-    ghost setting: { World × UpdateData }
-    requires world { L.world look_ups.old ≡ setting.0 }
-    requires so_far { IsRemoving setting.0 setting.1 compared.now removing.old }
+    ghost before: { World }
+    requires world { L.world look_ups.old ≡ before }
+    requires so_far { IsRemoving before case.now removing.old }
     requires queued { Contains removing.old.queue.items id }
     requires fresh { (t : TreeRecord) → Contains removing.old.trees.items t
-        → graft_name setting.0 id ≢ Some t.id }
-    ensures world { L.world look_ups.new ≡ L.world look_ups.old }
-    ensures count { IsRaisedUpTo (L.asked look_ups.old) 2 (L.asked look_ups.new) }
-    ensures ok { OnOk result (Expands setting.0 setting.1 id removing.old removing.new) }
-    ensures err { IfErr result (λ e. IsRefusal setting.0 setting.1 e) }
+        → graft_name before id ≢ Some t.id }
+    ensures looks { LooksUpTo L.world L.asked look_ups.old 2 look_ups.new }
+    ensures ok { OnOk result (Expands before (sent case.now) id removing.old removing.new) }
+    ensures err { IfErr result (λ e. IsRefusal before (sent case.now) e) }
 {
     let Some(record) = look_ups.node(id) else {
         return Ok(());
     };
     let name = record.node.tree_id();
-    lose_children(removing, compared, id, record.node.children())?;
+    lose_children(removing, case, id, record.node.children())?;
     match name {
-        Some(name) => drop_tree(removing, look_ups, compared, &name),
+        Some(name) => drop_tree(removing, look_ups, case, &name),
         None => Ok(()),
     }
 }
 
 /// Handles the nodes that left a spot.
-fn lose_left(removing: &mut Removing, compared: &Compared) -> Result<(), UpdateError>
-    ghost setting: { World × UpdateData }
-    requires so_far { IsRemoving setting.0 setting.1 compared.now removing.old }
-    ensures ok { OnOk result (LosesLeft setting.0 setting.1 removing.old removing.new) }
-    ensures err { IfErr result (λ e. IsRefusal setting.0 setting.1 e) }
+fn lose_left(removing: &mut Removing, case: &Case<'_>) -> Result<(), UpdateError>
+    ghost before: { World }
+    requires so_far { IsRemoving before case.now removing.old }
+    ensures ok { OnOk result (LosesLeft before (sent case.now) removing.old removing.new) }
+    ensures err { IfErr result (λ e. IsRefusal before (sent case.now) e) }
 {
-    for item in compared.left.entries() {
-        lose(removing, compared, item.0)?;
+    let mut near = 0;
+    for item in case.compared.left.entries() {
+        lose(removing, case, item.0, &mut near)?;
     }
     Ok(())
 }
@@ -172,20 +178,19 @@ fn lose_left(removing: &mut Removing, compared: &Compared) -> Result<(), UpdateE
 fn drop_lost<L: LookUps>(
     removing: &mut Removing,
     look_ups: &mut L,
-    compared: &Compared,
+    case: &Case<'_>,
 ) -> Result<(), UpdateError>
-    ghost setting: { World × UpdateData }
-    requires world { L.world look_ups.old ≡ setting.0 }
-    requires so_far { IsRemoving setting.0 setting.1 compared.now removing.old }
+    ghost before: { World }
+    requires world { L.world look_ups.old ≡ before }
+    requires so_far { IsRemoving before case.now removing.old }
     requires none { removing.old.trees.items ≡ [] }
-    ensures world { L.world look_ups.new ≡ L.world look_ups.old }
-    ensures count { IsRaisedUpTo (L.asked look_ups.old) (length compared.now.lost.items) (L.asked look_ups.new) }
+    ensures looks { LooksUpTo L.world L.asked look_ups.old (length case.now.compared.now.lost.items) look_ups.new }
     ensures ok { OnOk result
-        (DropsLost setting.0 setting.1 compared.now removing.old removing.new) }
-    ensures err { IfErr result (λ e. IsRefusal setting.0 setting.1 e) }
+        (DropsLost before (sent case.now) case.now.compared.now removing.old removing.new) }
+    ensures err { IfErr result (λ e. IsRefusal before (sent case.now) e) }
 {
-    for name in &compared.lost {
-        drop_tree(removing, look_ups, compared, name)?;
+    for name in &case.compared.lost {
+        drop_tree(removing, look_ups, case, name)?;
     }
     Ok(())
 }
@@ -194,77 +199,74 @@ fn drop_lost<L: LookUps>(
 fn follow<L: LookUps>(
     removing: &mut Removing,
     look_ups: &mut L,
-    compared: &Compared,
+    case: &Case<'_>,
 ) -> Result<(), UpdateError>
-    ghost setting: { World × UpdateData }
-    requires world { L.world look_ups.old ≡ setting.0 }
-    requires so_far { IsRemoving setting.0 setting.1 compared.now removing.old }
+    ghost before: { World }
+    requires world { L.world look_ups.old ≡ before }
+    requires so_far { IsRemoving before case.now removing.old }
     requires lost { (t : TreeRecord) → Contains removing.old.trees.items t
-        → LosesGraft setting.0 setting.1 t.id }
+        → LosesGraft before (sent case.now) t.id }
     ensures world { L.world look_ups.new ≡ L.world look_ups.old }
     ensures count { OnOk result
         (IsRaisedUpTo (L.asked look_ups.old) (2 * length removing.new.queue.items) (L.asked look_ups.new)) }
-    ensures ok { OnOk result (FollowsUp setting.0 setting.1 removing.old removing.new) }
-    ensures err { IfErr result (λ e. IsRefusal setting.0 setting.1 e) }
+    ensures ok { OnOk result (FollowsUp before (sent case.now) removing.old removing.new) }
+    ensures err { IfErr result (λ e. IsRefusal before (sent case.now) e) }
 {
     for position in 0..usize::MAX {
         if position >= removing.queue.len() {
             return Ok(());
         }
         let id = removing.queue[position];
-        expand(removing, look_ups, compared, id)?;
+        expand(removing, look_ups, case, id)?;
     }
     Ok(())
 }
 
-/// Finds all nodes and trees to remove. `_update` is for the contract alone, whose `setting` callers make from it.
+/// Finds all nodes and trees to remove.
 fn find_all<L: LookUps>(
     removing: &mut Removing,
     look_ups: &mut L,
-    _update: &TreeUpdate,
-    compared: &Compared,
+    case: &Case<'_>,
 ) -> Result<(), UpdateError>
-    ghost setting: { World × UpdateData }
-    requires world { L.world look_ups.old ≡ setting.0 }
-    requires so_far { IsRemoving setting.0 setting.1 compared.now removing.old }
+    ghost before: { World }
+    requires world { L.world look_ups.old ≡ before }
+    requires so_far { IsRemoving before case.now removing.old }
     requires none { removing.old.trees.items ≡ [] }
     ensures world { L.world look_ups.new ≡ L.world look_ups.old }
     ensures count { OnOk result
-        (let most = 2 * length removing.new.queue.items + length compared.now.lost.items in
+        (let most = 2 * length removing.new.queue.items + length case.now.compared.now.lost.items in
         IsRaisedUpTo (L.asked look_ups.old) most (L.asked look_ups.new)) }
-    ensures ok { OnOk result (IsWorkedOff setting.0 setting.1 compared.now removing.new) }
-    ensures err { IfErr result (λ e. IsRefusal setting.0 setting.1 e) }
+    ensures ok { OnOk result (IsWorkedOff before (sent case.now) case.now.compared.now removing.new) }
+    ensures err { IfErr result (λ e. IsRefusal before (sent case.now) e) }
 {
-    lose_left(removing, compared)?;
-    drop_lost(removing, look_ups, compared)?;
-    follow(removing, look_ups, compared)
+    lose_left(removing, case)?;
+    drop_lost(removing, look_ups, case)?;
+    follow(removing, look_ups, case)
 }
 
 /// The nodes that are removed, and the trees that lose their grafts and get no others.
 pub(crate) fn remove<L: LookUps>(
     alloc: Global,
     look_ups: &mut L,
-    update: &TreeUpdate,
-    compared: &Compared,
+    case: &Case<'_>,
 ) -> Result<Removed, UpdateError>
-    requires old { IsOld (L.world look_ups.old) }
-    requires compared { HoldsCompared (L.world look_ups.old) (update_data update.now) compared.now }
-    requires settled { IsSettled (L.world look_ups.old) (update_data update.now) }
+    requires case { IsCase (L.world look_ups.old) case.now }
+    requires settled { IsSettled (L.world look_ups.old) (sent case.now) }
     ensures world { L.world look_ups.new ≡ L.world look_ups.old }
-    ensures ok { IfOk result (HoldsRemoved (L.world look_ups.old) (update_data update.now)) }
+    ensures ok { IfOk result (HoldsRemoved (L.world look_ups.old) (sent case.now)) }
     ensures count { IfOk result
-        (λ r. let most = 2 * btree_set_len r.gone + length compared.now.lost.items in
+        (λ r. let most = 2 * btree_set_len r.gone + length case.now.compared.now.lost.items in
         IsRaisedUpTo (L.asked look_ups.old) most (L.asked look_ups.new)) }
     ensures trees { IfOk result
-        (λ r. length r.trees.items ≤ btree_set_len r.gone + length compared.now.lost.items) }
-    ensures err { IfErr result (λ e. IsRefusal (L.world look_ups.old) (update_data update.now) e) }
+        (λ r. length r.trees.items ≤ btree_set_len r.gone + length case.now.compared.now.lost.items) }
+    ensures err { IfErr result (λ e. IsRefusal (L.world look_ups.old) (sent case.now) e) }
 {
     let mut removing = Removing {
         gone: BTreeSet::new(alloc),
         queue: Vec::new(alloc),
         trees: Vec::new(alloc),
     };
-    find_all(&mut removing, look_ups, update, compared)?;
+    find_all(&mut removing, look_ups, case)?;
     Ok(Removed {
         gone: removing.gone,
         trees: removing.trees,

@@ -1,5 +1,5 @@
 //! The verdicts on the nodes that an update touches.
-ghost use Rattle.std.specs.Prelude.{◌≡◌, ◌↔◌, ◌∷◌, [], option_map, IfOk, IfErr, OnOk, IsTrue, IsSome, Some, None, false};
+ghost use Rattle.std.specs.Prelude.{◌≡◌, ◌↔◌, ◌⊎◌, ◌∷◌, [], option_map, IfOk, IfErr, OnOk, IsTrue, IsSome, Some, None, false};
 ghost use Rattle.std.specs.BTreeMap.{keys};
 ghost use Rattle.rows.specs.Rows.{Ascends};
 ghost use Rattle.std.specs.Map.{keys_of};
@@ -13,7 +13,7 @@ ghost use Rattle.tree_changes.specs.declared.error.UpdateError.TheVariants.{Memo
 use crate::passes::{Compared, Named, Opened, Removed};
 use crate::regrafting::Regrafted;
 use model::{FullNodeId, Place};
-use rows::{RowList, Rows};
+use rows::{RowList, SortedRows};
 use std::alloc::Global;
 use tree_changes::UpdateError;
 
@@ -57,18 +57,34 @@ impl Found {
     /// The place of a node that moves. The search starts at `near`, where the last one ended.
     fn other_place(&self, id: FullNodeId, near: &mut usize) -> Option<Option<Place>>
         ghost step: { Transition }
-        requires found { IsFound step self.now }
-        requires stays { ¬ (Gone step.old step.update id) }
-        ensures { Moves step id result }
+        requires { IsFound step self.now }
+        ensures { ¬ (Gone step.old step.update id) ⊎ IsSome result → Moves step id result }
     {
-        if let Some(spot) = self.compared.entered.get_near(id, near) {
-            let Some(place) = spot else {
+        if let Some(arrival) = self.compared.entered.get_near(id, near) {
+            let Some(place) = arrival.spot else {
                 return Some(self.root_place());
             };
             return Some(Some(place));
         }
         let graft = self.regrafted.moved_in.get(&id)?;
         Some(Some((*graft, 0)))
+    }
+
+    /// Whether the node is removed. A node of the update stays, and so does one that moves.
+    fn is_removed(&self, id: FullNodeId, entry: Option<Named>, moved: Option<Option<Place>>) -> bool
+        ghost step: { Transition }
+        requires found { IsFound step self.now }
+        requires named { entry ≡ at self.now.compared.named id }
+        requires moves { IsSome moved → Moves step id moved }
+        ensures { IsTrue result ↔ Gone step.old step.update id }
+    {
+        if moved.is_some() {
+            return false;
+        }
+        if entry.is_some() {
+            return false;
+        }
+        self.removed.gone.contains(&id)
     }
 
     /// The verdict on a node whose data is unchanged.
@@ -103,10 +119,10 @@ impl Found {
         requires named { named ≡ at self.now.compared.named id }
         ensures { Becomes step id result }
     {
-        if self.removed.gone.contains(&id) {
+        let moved = self.other_place(id, near);
+        if self.is_removed(id, named, moved) {
             return Some(Verdict::Removed);
         }
-        let moved = self.other_place(id, near);
         let Some(named) = named else {
             return self.moved_or_told(id, moved);
         };
@@ -256,7 +272,7 @@ impl Found {
     }
 
     /// The verdicts on all nodes that change or are reported without a change.
-    pub(crate) fn verdicts(&self, alloc: Global) -> Result<Rows<Verdict>, UpdateError>
+    pub(crate) fn verdicts(&self, alloc: Global) -> Result<SortedRows<Verdict>, UpdateError>
         ghost step: { Transition }
         requires { IsFound step self.now }
         ensures ok { IfOk result (λ vs. (id : FullNodeId) → Becomes step id (at vs id)) }

@@ -18,7 +18,7 @@ ghost use Rattle.tree_plan.specs.Verdicts.{Transition, IsFound};
 use crate::passes::{Focused, Opened};
 use crate::verdicts::{Found, Verdict};
 use model::{FullNodeId, PlanEvent};
-use rows::Rows;
+use rows::SortedRows;
 use schema::TreeUpdate;
 use std::alloc::Global;
 use tree_changes::{Decision, NodeChange, TreeRecord, UpdateError};
@@ -87,7 +87,7 @@ fn entry_change(id: FullNodeId, verdict: Verdict) -> Option<(FullNodeId, NodeCha
 /// The changes of nodes, ids ascending.
 fn node_changes(
     alloc: Global,
-    verdicts: &Rows<Verdict>,
+    verdicts: &SortedRows<Verdict>,
 ) -> Result<Vec<(FullNodeId, NodeChange)>, UpdateError>
     ensures ok { IfOk result (λ changes. changes.items ≡ flat_map change_entry verdicts.now) }
     ensures ordered { OnOk result (Ascends verdicts.now) }
@@ -104,7 +104,7 @@ fn node_changes(
 
 /// Adds the events of a group, ids ascending.
 fn push_group(
-    verdicts: &Rows<Verdict>,
+    verdicts: &SortedRows<Verdict>,
     told: Group,
     events: &mut Vec<PlanEvent>,
 ) -> Result<(), UpdateError>
@@ -121,7 +121,7 @@ fn push_group(
 
 /// Adds that a focused node is updated, unless it is reported anyway.
 fn push_untold(
-    verdicts: &Rows<Verdict>,
+    verdicts: &SortedRows<Verdict>,
     focus: Option<FullNodeId>,
     events: &mut Vec<PlanEvent>,
 ) -> Result<(), UpdateError>
@@ -138,12 +138,13 @@ fn push_untold(
 
 /// Adds the events of a moved focus.
 fn push_move(
-    verdicts: &Rows<Verdict>,
+    verdicts: &SortedRows<Verdict>,
     before: Option<FullNodeId>,
     after: Option<FullNodeId>,
     events: &mut Vec<PlanEvent>,
 ) -> Result<(), UpdateError>
-    ensures ok { OnOk result ((more : List PlanEvent) × (events.new.items ≡ events.old.items ++ more) × IsMove (at verdicts.now) before after more) }
+    ensures ok { OnOk result ((more : List PlanEvent) × (events.new.items ≡ events.old.items ++ more)
+        × IsMove (at verdicts.now) before after more) }
     ensures err { IfErr result (λ e. e ≡ Memory) }
 {
     if before == after {
@@ -159,7 +160,7 @@ fn push_move(
 fn told_events(
     alloc: Global,
     is_first: bool,
-    verdicts: &Rows<Verdict>,
+    verdicts: &SortedRows<Verdict>,
     focused: &Focused,
 ) -> Result<Vec<PlanEvent>, UpdateError>
     ensures quiet { IfOk result (λ events. IsTrue is_first → events.items ≡ []) }

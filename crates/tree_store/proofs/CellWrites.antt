@@ -3,22 +3,19 @@ use Rattle.std.proofs.Common.{◌≡◌, ◌≢◌, ℕ, ◌+◌, ◌<◌, List,
 use Rattle.std.specs.Prelude.{IsSome, is_none, count_by, option_and_then, option_to_list, is_ok, is_err}
 use Rattle.std.specs.Map.{lookup}
 use Rattle.std.specs.BTreeMap.{is_at}
-use Rattle.std.specs.Cmp.{eq_by_cmp_equiv}
 use Rattle.std.proofs.lemmas.Bool.Decides.{eqb_tells}
 use Rattle.std.proofs.lemmas.List.{length-set}
 use Rattle.std.proofs.lemmas.List.Sums.{count_by-le-length, sum_by-set, sum_by_push}
 use Rattle.std.proofs.lemmas.Option.{slice_get_within, get_or_from_slice_get}
 use Rattle.model.specs.declared.FullNodeId.{FullNodeId}
-use Rattle.model.specs.FullIds.{full_cmp, full_total}
+use Rattle.model.specs.FullIds.{full_cmp}
 use Rattle.model.proofs.Update.Merges.{slice_get_front, slice_get_push}
 use Rattle.tree_store.specs.declared.records.Record.{Record}
 use Rattle.tree_store.specs.declared.cells.Cell.{Cell}
 use Rattle.tree_store.specs.Cells.{SlotsView, kept_in, number_of, slot_in, slot_at, is_free, HasOwnCells, IsFreeList}
 use Rattle.tree_store.proofs.Boxed.{set_here, set_there, last_of}
 use Rattle.tree_store.proofs.KeptSlots.{same_id}
-
-at_itself : (q : FullNodeId) → is_at (full_cmp q) q ≡ true
-at_itself q = (eq_by_cmp_equiv full_total).refl q
+use Rattle.tree_store.proofs.WrittenSlots.{at_itself}
 
 not_none : {X : Type 0} (o : Option X) → IsSome o → o ≡ None → ⊥
 not_none None h e = cc

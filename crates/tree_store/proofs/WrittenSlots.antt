@@ -45,7 +45,7 @@ or-true : (a : Bool) → (a || true) ≡ true
 or-true true = refl
 or-true false = refl
 
-at_itself : (q : FullNodeId) → is_at (full_cmp q) q ≡ true
+pub at_itself : (q : FullNodeId) → is_at (full_cmp q) q ≡ true
 at_itself q = (eq_by_cmp_equiv full_total).refl q
 
 pub if_some : {P : ℕ → Type 0} (o : Option ℕ) → ((k : ℕ) → o ≡ Some k → P k) → IfSome o P
@@ -74,7 +74,7 @@ tight_put nodes k place before false new old e low = ap is_some e
 module _ (nodes : List (NodeId × NodeData)) (es fs : SlotsView) (k : FullNodeId) (c : NodeChange) (cs : NodeChanges)
     (sorted : IsStrictlySortedBy full_cmp (keys_of ((k, c) ∷ cs)))
     (records : (q : FullNodeId) → record_at fs q ≡ cond (is_at (full_cmp k) q) (record_after nodes c (record_at es k)) (record_at es q)) where
-  none_here : (q : FullNodeId) → is_at (full_cmp k) q ≡ true → change_at cs q ≡ None
+  pub none_here : (q : FullNodeId) → is_at (full_cmp k) q ≡ true → change_at cs q ≡ None
   none_here q b = subst (λ i. change_at cs i ≡ None) (same_id k q b) (only_first k c cs sorted)
 
   written_by : (q : FullNodeId) (b : Bool) → (b ≡ true → k ≡ q) → (b ≡ true → change_at cs q ≡ None) → record_at fs q ≡ cond b (record_after nodes c (record_at es k)) (record_at es q) → changed_record nodes (change_at cs q) (record_at fs q) ≡ changed_record nodes (cond b (Some c) (change_at cs q)) (record_at es q)

@@ -49,7 +49,8 @@ record_at s id = seen s (slot_in s) id
 
 -- An id's cell has that id and a slot, and a cell with a slot is that of its id: so two ids never share a cell, and no slot is lost.
 pub record HasOwnCells (s : SlotsView) : Type 0 where
-  pub own : (id : FullNodeId) (n : ℕ) → number_of s id ≡ Some n → (c : Cell) × (slice_get s.cells n ≡ Some c) × (c.id ≡ id) × IsSome (kept_in c)
+  pub own : (id : FullNodeId) (n : ℕ) → number_of s id ≡ Some n
+      → (c : Cell) × (slice_get s.cells n ≡ Some c) × (c.id ≡ id) × IsSome (kept_in c)
   pub back : (n : ℕ) (c : Cell) → slice_get s.cells n ≡ Some c → IsSome (kept_in c) → number_of s c.id ≡ Some n
 
 abbrev pub is_free : Cell → Bool

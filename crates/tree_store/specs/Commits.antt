@@ -40,7 +40,8 @@ record_moved_to place before = option_map (λ (r : Record). record { place = pla
 
 -- the record after a change, where these are the update's nodes
 abbrev pub record_after : List (NodeId × NodeData) → NodeChange → Option Record → Option Record
-record_after nodes (Put place (Some k)) before = option_map (λ d. let r : Record = record { place = place; node = d } in r) (entry_data nodes k)
+record_after nodes (Put place (Some k)) before =
+    option_map (λ d. let r : Record = record { place = place; node = d } in r) (entry_data nodes k)
 record_after nodes (Put place None) before = record_moved_to place before
 record_after nodes Gone before = None
 

@@ -10,5 +10,13 @@ use Rattle.tree_store.specs.declared.records.PresentTree.{PresentTree}
 abbrev pub record_of : TreeId → Option ℕ → Option FullNodeId → Option PresentTree → Option TreeRecord
 record_of name index graft tree =
     if is_some index || is_some graft
-    then Some (record { id = name; index = index; graft = graft; root = option_map (λ t. t.root) tree; focus = option_map (λ t. t.focus) tree })
+    then Some
+    (record {
+      id = name;
+      index = index;
+      graft = graft;
+      root = option_map (λ t. t.root) tree;
+      focus = option_map
+          (λ t. t.focus) tree;
+    })
     else None

@@ -21,7 +21,8 @@ IsLaidOver w o = ∥ IsDecision w (update_data o.update.now) o.decision.now ∥�
 
 -- it is the record of the name before, or the changed one
 abbrev pub IsRecordAfter : World → Overlay → TreeId → Option TreeRecord → Type 0
-IsRecordAfter w o name r = (before : Option TreeRecord) × IsTreeRecord w name before × (r ≡ tree_after o.decision.now.trees.items name before)
+IsRecordAfter w o name r =
+    (before : Option TreeRecord) × IsTreeRecord w name before × (r ≡ tree_after o.decision.now.trees.items name before)
 
 -- the tree info that replaces the toolkit's texts: that of an update of the root tree, if it has one
 abbrev pub replacing : World → UpdateData → Option InfoData

@@ -18,7 +18,8 @@ pub record StoreView : Type 0 where
 
 abbrev pub coded_store : Coded StoreView
 coded_store =
-    code_by (World × (FinSet full_cmp × (List TreeId × Bool))) (coded× coded_world (coded× (code coded_full) (coded× (coded_list name_row.coded) coded_bool)))
+    code_by (World × (FinSet full_cmp × (List TreeId × Bool)))
+    (coded× coded_world (coded× (code coded_full) (coded× (coded_list name_row.coded) coded_bool)))
     (λ k. (k.world, (k.slots, (k.names, k.room)))) (λ p. record { world = p.0; slots = p.1.0; names = p.1.1.0; room = p.1.1.1 }) (λ _. refl)
 
 -- there is a slot for each node, and no other

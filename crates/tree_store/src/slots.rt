@@ -187,42 +187,42 @@ fn boxed(alloc: Global, mut nodes: Vec<(NodeId, Node)>) -> Result<Waiting, Alloc
     Ok(waiting)
 }
 
-// applies this change to a node of a first state
+// applies this change to a node of a first state, which has no slot yet
 fn place_first(
     slots: &mut Slots,
     waiting: &mut Waiting,
     id: FullNodeId,
     change: NodeChange,
 ) -> Result<(), AllocError>
+    requires { slot_at slots.old id ≡ None }
     ensures records { OnOk result ((q : FullNodeId) → record_at slots.new q ≡ cond (is_at (full_cmp id) q) (record_from waiting.old.items change (record_at slots.old id)) (record_at slots.old q)) }
     ensures tight { OnOk result ((q : FullNodeId) → is_some (slot_at slots.new q) ≡ cond (is_at (full_cmp id) q) (is_some (record_at slots.new q)) (is_some (slot_at slots.old q))) }
+    ensures others { (k : ℕ) → entry_of change ≢ Some k → data_waiting waiting.new.items k ≡ data_waiting waiting.old.items k }
+{
+    match taken(waiting, change) {
+        Some(slot) => slots.add(id, slot),
+        None => Ok(()),
+    }
+}
+
+// takes the record of a change's entry, and sets its place
+fn taken(waiting: &mut Waiting, change: NodeChange) -> Option<Box<Option<Record>>>
+    ensures data { option_map (λ b. b.value) result ≡ option_map Some (record_from waiting.old.items change None) }
     ensures others { (k : ℕ) → entry_of change ≢ Some k → data_waiting waiting.new.items k ≡ data_waiting waiting.old.items k }
 {
     match change {
         NodeChange::Put {
             place,
             entry: Some(entry),
-        } => {
-            slots.remove(id);
-            if let Some(slot) = placed(waiting, entry, place) {
-                slots.add(id, slot)?;
-            }
-        }
-        NodeChange::Put { place, entry: None } => {
-            if slots.contains_key(id) {
-                put_place(slots, id, place);
-            }
-        }
-        NodeChange::Gone => {
-            slots.remove(id);
-        }
+        } => placed(waiting, entry, place),
+        NodeChange::Put { entry: None, .. } => None,
+        NodeChange::Gone => None,
     }
-    Ok(())
 }
 
 // takes an entry's record, and sets its place
 fn placed(waiting: &mut Waiting, entry: usize, place: Option<Place>) -> Option<Box<Option<Record>>>
-    ensures data { option_map (λ b. b.value) result ≡ option_map (λ d. Some (placed_record place d)) (data_waiting waiting.old.items entry) }
+    ensures data { option_map (λ b. b.value) result ≡ option_map Some (option_map (placed_record place) (data_waiting waiting.old.items entry)) }
     ensures others { (k : ℕ) → k ≢ entry → data_waiting waiting.new.items k ≡ data_waiting waiting.old.items k }
 {
     let mut slot = waiting.get_mut(entry)?.take()?;

@@ -82,7 +82,8 @@ pub fn root_sent_again_keeps_its_place()
 /// An active descendant is the answer of `focus`, and `is_focused` holds of it alone.
 #[tactic(auto, using(crate::proofs::Examples::ListBoxes::active_descendant_has_the_focus))]
 pub fn active_descendant_has_the_focus()
-    ensures { IsFocusId (focused_list 2) (Some (at 0 1)) × IsFocus (focused_list 2) (Some (at 0 2)) × IsFocusedNode (focused_list 2) (at 0 2) × ¬ (IsFocusedNode (focused_list 2) (at 0 1)) }
+    ensures { IsFocusId (focused_list 2) (Some (at 0 1)) × IsFocus (focused_list 2) (Some (at 0 2))
+        × IsFocusedNode (focused_list 2) (at 0 2) × ¬ (IsFocusedNode (focused_list 2) (at 0 1)) }
 {}
 
 /// A node that names itself as its active descendant is the answer of `focus`, and `is_focused` doesn't hold of it.

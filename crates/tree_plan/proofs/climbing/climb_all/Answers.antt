@@ -3,48 +3,43 @@ use Rattle.std.specs.List.{Contains}
 use Rattle.std.proofs.lemmas.List.{length-map, take_all}
 use Rattle.schema.specs.NodeData.{NodeData}
 use Rattle.schema.specs.declared.NodeId.{NodeId}
-use Rattle.schema.specs.UpdateData.{UpdateData, update_data}
+use Rattle.schema.specs.UpdateData.{UpdateData}
 use Rattle.model.specs.declared.FullNodeId.{FullNodeId}
 use Rattle.model.specs.World.{World, in_tree, Reached}
 use Rattle.model.specs.Update.{index_for, merged_world}
 use Rattle.model.specs.Work.{named_ids}
-use Rattle.model.specs.Surgery.{IsOld, IsRefined, Adopts}
-use Rattle.tree_plan.specs.Passes.{HoldsOpened, HoldsCompared, HoldsSettled}
+use Rattle.model.specs.Surgery.{IsRefined, Adopts}
+use Rattle.tree_plan.specs.Passes.{HoldsSettled}
 use Rattle.tree_plan.specs.Climbs.{AreClimbed, IsClimbedFrom, AreWays}
+use Rattle.tree_plan.specs.Cases.{IsCase, sent}
 use Rattle.tree_plan.proofs.Ascents.{IsStart, is_start}
 use Rattle.tree_plan.proofs.Ways.{id_named, ways_push, adopters_push, all_climbed, ways_steps}
 use Rattle.tree_plan.proofs.climbing.climb_all.Goals as goal
 
-pub climb-requires-clause-old : goal.climb-requires-clause-old
-climb-requires-clause-old g c = subst IsOld (sym c.loop-entry.invariant.world) c.requires.old
-
-pub climb-requires-clause-opening : goal.climb-requires-clause-opening
-climb-requires-clause-opening g c = subst (λ v. HoldsOpened v (update_data c.args.update.now) c.args.opened.now) (sym c.loop-entry.invariant.world) c.requires.opening
-
-pub climb-requires-clause-comparison : goal.climb-requires-clause-comparison
-climb-requires-clause-comparison g c = subst (λ v. HoldsCompared v (update_data c.args.update.now) c.args.compared.now) (sym c.loop-entry.invariant.world) c.requires.comparison
+pub climb-requires-clause-case : goal.climb-requires-clause-case
+climb-requires-clause-case g c = subst (λ v. IsCase v c.args.case.now) (sym c.loop-entry.invariant.world) c.requires.case
 
 pub climb-requires-clause-settlement : goal.climb-requires-clause-settlement
-climb-requires-clause-settlement g c = subst (λ v. HoldsSettled v (update_data c.args.update.now) c.args.settled.now) (sym c.loop-entry.invariant.world) c.requires.settlement
+climb-requires-clause-settlement g c = subst (λ v. HoldsSettled v (sent c.args.case.now) c.args.settled.now) (sym c.loop-entry.invariant.world) c.requires.settlement
 
 pub climb-requires-clause-refined : goal.climb-requires-clause-refined
-climb-requires-clause-refined g c = subst (λ v. IsRefined v (update_data c.args.update.now)) (sym c.loop-entry.invariant.world) c.requires.refined
+climb-requires-clause-refined g c = subst (λ v. IsRefined v (sent c.args.case.now)) (sym c.loop-entry.invariant.world) c.requires.refined
 
 pub climb-requires-clause-before : goal.climb-requires-clause-before
 climb-requires-clause-before g c =
-    let u : UpdateData = update_data c.args.update.now in
+    let u : UpdateData = sent c.args.case.now in
     subst (λ v. AreClimbed v u (take c.loop-entry.entry (named_ids v u)) c.loop-entry.climbed) (sym c.loop-entry.invariant.world) c.loop-entry.invariant.climbed
 
 pub loop-entry-preserved : goal.loop-entry-preserved
 loop-entry-preserved g c =
     let w : World = g.L.LookUps.world c.args.look_ups.now in
-    let u : UpdateData = update_data c.args.update.now in
+    let u : UpdateData = sent c.args.case.now in
     let before = c.loop-entry.invariant in
     let k = c.loop-entry.entry in
     let starts = take k (named_ids w u) in
     let way = subst (λ v. IsClimbedFrom v u k c.in_ok-climb.ensures.way.0) before.world c.in_ok-climb.ensures.way.1 in
     let steps = c.in_ok-climb.ensures.way.0 in
-    let first : IsStart w u k way.start = is_start w u c.requires.comparison.compared.named_once k way.start way.at in
+    let first : IsStart w u k way.start = is_start w u c.requires.case.comparison.compared.named_once k way.start way.at in
     record {
       world = c.climb.ensures.world ∙ before.world;
       climbed = subst (λ v. AreClimbed v u (take (k + 1) (named_ids v u)) c.climb.new.climbed) before.world c.in_ok-climb.ensures.climbed;
@@ -55,7 +50,7 @@ loop-entry-preserved g c =
 pub returns-clause-ok : goal.returns-clause-ok
 returns-clause-ok g c =
     let w : World = g.L.LookUps.world c.args.look_ups.now in
-    let u : UpdateData = update_data c.args.update.now in
+    let u : UpdateData = sent c.args.case.now in
     let ids = named_ids w u in
     let same = length-map u.nodes (λ (e : NodeId × NodeData). in_tree (index_for w u.name) e.0) in
     let all : take c.loop-entry.entry ids ≡ ids = take_all c.loop-entry.entry ids (omega (arith, c.loop-entry-test.false, same)) in
@@ -64,10 +59,10 @@ returns-clause-ok g c =
 pub returns-clause-counts : goal.returns-clause-counts
 returns-clause-counts g c =
     let w : World = g.L.LookUps.world c.args.look_ups.now in
-    let u : UpdateData = update_data c.args.update.now in
+    let u : UpdateData = sent c.args.case.now in
     let ids = named_ids w u in
     let same = length-map u.nodes (λ (e : NodeId × NodeData). in_tree (index_for w u.name) e.0) in
     let all : take c.loop-entry.entry ids ≡ ids = take_all c.loop-entry.entry ids (omega (arith, c.loop-entry-test.false, same)) in
     let climbed = all_climbed w u c.requires.refined (subst (λ xs. (n : FullNodeId) → Contains xs n → Adopts w u n → Reached (merged_world w u) n) all c.loop-entry.invariant.adopters) in
     let ways = c.loop-entry.invariant.ways in
-    (ways.0, ways_steps w u c.requires.old climbed ids ways.0 (id_named w u) (subst (λ xs. AreWays w u xs ways.0) all ways.1), ways.2)
+    (ways.0, ways_steps w u c.requires.case.old climbed ids ways.0 (id_named w u) (subst (λ xs. AreWays w u xs ways.0) all ways.1), ways.2)

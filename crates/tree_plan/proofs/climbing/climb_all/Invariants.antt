@@ -1,6 +1,5 @@
 use Rattle.std.proofs.Common.{◌≡◌, ℕ, take}
 use Rattle.std.specs.List.{Contains}
-use Rattle.schema.specs.UpdateData.{update_data}
 use Rattle.model.specs.declared.FullNodeId.{FullNodeId}
 use Rattle.model.specs.World.{Reached}
 use Rattle.model.specs.Update.{merged_world}
@@ -8,12 +7,13 @@ use Rattle.model.specs.Work.{named_ids}
 use Rattle.model.specs.Surgery.{Adopts}
 use Rattle.tree_changes.specs.LookUps.{IsRaisedUpTo}
 use Rattle.tree_plan.specs.Climbs.{AreClimbed, AreWays}
+use Rattle.tree_plan.specs.Cases.{sent}
 use Rattle.tree_plan.proofs.climbing.climb_all.Given as goal
 
 abbrev pub invariant-loop-entry : goal.invariant-loop-entry
 invariant-loop-entry g l =
     let w = g.L.LookUps.world l.fn.look_ups in
-    let u = update_data l.update in
+    let u = sent l.case in
     record {
       world : g.L.LookUps.world l.look_ups ≡ w;
       climbed : AreClimbed w u (take l.entry (named_ids w u)) l.climbed;

@@ -12,22 +12,20 @@ use Rattle.tree_plan.specs.Passes.{HoldsOpened, HoldsCompared, HoldsRemoved, IsF
 use Rattle.tree_plan.proofs.Within.{root_tree_there}
 use Rattle.tree_plan.proofs.deciding.conclude.Goals as goal
 
-pub find_focus-requires-clause-old : goal.find_focus-requires-clause-old
-find_focus-requires-clause-old g c = subst (λ w. IsOld w) c.requires.1.0 c.requires.1.1.1.1.old
+pub find_focus-requires-clause-case : goal.find_focus-requires-clause-case
+find_focus-requires-clause-case g c =
+    let f = c.args.findings in
+    let found = c.requires.1.1.1.1 in
+    let update = c.requires.1.1.0 in
+    record {
+      old = subst (λ w. IsOld w) c.requires.1.0 found.old;
+      opening = subst (λ w. HoldsOpened w (update_data c.args.update.now) f.opened) c.requires.1.0 (subst (λ u. HoldsOpened g.step.old u f.opened) update found.opening);
+      comparison = subst (λ w. HoldsCompared w (update_data c.args.update.now) f.compared) c.requires.1.0 (subst (λ u. HoldsCompared g.step.old u f.compared) update found.comparison);
+    }
 
 pub find_focus-requires-clause-present : goal.find_focus-requires-clause-present
 find_focus-requires-clause-present g c =
     subst (λ (w : World). ¬ (IsFirst w) → IsSome (get w.trees 0)) c.requires.1.0 (root_tree_there g.step.old c.requires.1.1.1.1.old)
-
-pub find_focus-requires-clause-opening : goal.find_focus-requires-clause-opening
-find_focus-requires-clause-opening g c =
-    let found = c.args.findings in
-    subst (λ w. HoldsOpened w (update_data c.args.update.now) found.opened) c.requires.1.0 (subst (λ u. HoldsOpened g.step.old u found.opened) c.requires.1.1.0 c.requires.1.1.1.1.opening)
-
-pub find_focus-requires-clause-comparison : goal.find_focus-requires-clause-comparison
-find_focus-requires-clause-comparison g c =
-    let found = c.args.findings in
-    subst (λ w. HoldsCompared w (update_data c.args.update.now) found.compared) c.requires.1.0 (subst (λ u. HoldsCompared g.step.old u found.compared) c.requires.1.1.0 c.requires.1.1.1.1.comparison)
 
 pub find_focus-requires-clause-removal : goal.find_focus-requires-clause-removal
 find_focus-requires-clause-removal g c =

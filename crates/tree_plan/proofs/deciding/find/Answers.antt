@@ -8,26 +8,27 @@ use Rattle.tree_changes.specs.Refusals.{IsRefusal}
 use Rattle.tree_plan.specs.Passes.{HoldsOpened, HoldsCompared, HoldsRemoved, HoldsRegrafted}
 use Rattle.tree_plan.proofs.deciding.find.Goals as goal
 
-pub find_removed-requires-clause-old : goal.find_removed-requires-clause-old
-find_removed-requires-clause-old g c = subst (λ v. IsOld v) (sym c.compare.ensures.world) c.requires.old
-
-pub find_removed-requires-clause-opening : goal.find_removed-requires-clause-opening
-find_removed-requires-clause-opening g c =
+pub find_removed-requires : goal.find_removed-requires
+find_removed-requires g c =
     let u = update_data c.args.update.now in
-    subst (λ v. HoldsOpened v u c.args.opened) (sym c.compare.ensures.world) c.requires.opening
+    let world = sym c.compare.ensures.world in
+    record {
+      case = record {
+        old = subst (λ v. IsOld v) world c.requires.old;
+        opening = subst (λ v. HoldsOpened v u c.args.opened) world c.requires.opening;
+        comparison = subst (λ v. HoldsCompared v u c.in_ok-compared.compared) world c.in_ok-compared.ensures.ok;
+      };
+    }
 
-pub find_removed-requires-clause-comparison : goal.find_removed-requires-clause-comparison
-find_removed-requires-clause-comparison g c =
+pub regraft-requires-clause-case : goal.regraft-requires-clause-case
+regraft-requires-clause-case g c =
     let u = update_data c.args.update.now in
-    subst (λ v. HoldsCompared v u c.in_ok-compared.compared) (sym c.compare.ensures.world) c.in_ok-compared.ensures.ok
-
-pub regraft-requires-clause-old : goal.regraft-requires-clause-old
-regraft-requires-clause-old g c = subst (λ v. IsOld v) (sym (c.find_removed.ensures.world ∙ c.compare.ensures.world)) c.requires.old
-
-pub regraft-requires-clause-comparison : goal.regraft-requires-clause-comparison
-regraft-requires-clause-comparison g c =
-    let u = update_data c.args.update.now in
-    subst (λ v. HoldsCompared v u c.in_ok-compared.compared) (sym (c.find_removed.ensures.world ∙ c.compare.ensures.world)) c.in_ok-compared.ensures.ok
+    let world = sym (c.find_removed.ensures.world ∙ c.compare.ensures.world) in
+    record {
+      old = subst (λ v. IsOld v) world c.requires.old;
+      opening = subst (λ v. HoldsOpened v u c.args.opened) world c.requires.opening;
+      comparison = subst (λ v. HoldsCompared v u c.in_ok-compared.compared) world c.in_ok-compared.ensures.ok;
+    }
 
 pub regraft-requires-clause-removal : goal.regraft-requires-clause-removal
 regraft-requires-clause-removal g c =

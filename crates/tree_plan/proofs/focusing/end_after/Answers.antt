@@ -1,91 +1,92 @@
 use Rattle.std.proofs.Common.{◌≡◌, ◌<◌, ◌≤◌, ◌+◌, None, Some, IsSome, length, sym, ap, subst, ◌∙◌, arith}
-use Rattle.schema.specs.UpdateData.{UpdateData, update_data}
+use Rattle.schema.specs.UpdateData.{UpdateData}
 use Rattle.model.specs.World.{World, focus_named, graft_name}
 use Rattle.model.specs.Update.{FocusOnEmptyGraft, Stands, merged_world}
 use Rattle.model.proofs.State.StatePlaces.{IsSome_is}
 use Rattle.model.proofs.Update.Merges.{length_fits}
 use Rattle.model.proofs.Surgery.FocusWalk.{lost_focus_stands}
 use Rattle.tree_plan.specs.Aims.{IsAimIn, IsLost, IsStaying}
+use Rattle.tree_plan.specs.Cases.{sent}
 use Rattle.tree_plan.proofs.FocusWays.{new_top, new_begins, new_goes, new_short, new_reached, empty_stands, aim_graft}
 use Rattle.tree_plan.proofs.focusing.end_after.Goals as goal
 
 pub unwrap-id-requires : goal.unwrap-id-requires
 unwrap-id-requires g c =
     let w : World = g.L.LookUps.world c.args.look_ups.now in
-    let u : UpdateData = update_data c.args.update.now in
-    let e = new_top w u c.requires.old c.requires.opening.opened in
+    let u : UpdateData = sent c.args.case.now in
+    let e = new_top w u c.requires.case.old c.requires.case.opening.opened in
     subst IsSome (sym (c.declared_after.ensures.focus ∙ ap (focus_named (merged_world w u)) c.root.ensures)) (IsSome_is e.0 e.1)
 
 pub loop-depth-init : goal.loop-depth-init
 loop-depth-init g c =
     let w : World = g.L.LookUps.world c.args.look_ups.now in
-    let u : UpdateData = update_data c.args.update.now in
+    let u : UpdateData = sent c.args.case.now in
     record {
-      world = c.declared_after.ensures.world;
-      asked = (omega (arith, c.declared_after.ensures.counts.0), omega (arith, c.declared_after.ensures.counts.1));
-      way = new_begins w u c.requires.old c.requires.opening.opened c.unwrap-id.result (sym (c.declared_after.ensures.focus ∙ ap (focus_named (merged_world w u)) c.root.ensures) ∙ c.unwrap-id.ensures);
+      world = c.declared_after.ensures.looks.0;
+      asked = (omega (arith, c.declared_after.ensures.looks.1.0), omega (arith, c.declared_after.ensures.looks.1.1));
+      way = new_begins w u c.requires.case.old c.requires.case.opening.opened c.unwrap-id.result (sym (c.declared_after.ensures.focus ∙ ap (focus_named (merged_world w u)) c.root.ensures) ∙ c.unwrap-id.ensures);
     }
 
 pub returns-in_default-clause-err : goal.returns-in_default-clause-err
 returns-in_default-clause-err g c =
     let w : World = g.L.LookUps.world c.args.look_ups.now in
-    let u : UpdateData = update_data c.args.update.now in
+    let u : UpdateData = sent c.args.case.now in
     let id = c.loop-depth.id in
     let before = c.loop-depth.invariant in
     let lost : IsLost w u id = subst (λ v. IsLost v u id) before.world c.in_default.ensures.aim in
-    lost_focus_stands w u c.requires.old c.requires.passed id before.way.0 lost.0 lost.1
+    lost_focus_stands w u c.requires.case.old c.requires.passed id before.way.0 lost.0 lost.1
 
 pub returns-in_default-graft-clause-reached : goal.returns-in_default-graft-clause-reached
 returns-in_default-graft-clause-reached g c =
     let w : World = g.L.LookUps.world c.args.look_ups.now in
-    let u : UpdateData = update_data c.args.update.now in
+    let u : UpdateData = sent c.args.case.now in
     let id = c.loop-depth.id in
-    let stays : IsStaying w c.args.compared.now c.args.removed.now id = subst (λ v. IsStaying v c.args.compared.now c.args.removed.now id) c.loop-depth.invariant.world c.in-Some.ensures.aim.0 in
-    rw c.end_at.ensures.id (new_reached w u c.requires.old c.args.compared.now c.args.removed.now c.requires.comparison c.requires.removal c.requires.passed id stays)
+    let stays : IsStaying w c.args.case.now.compared.now c.args.removed.now id = subst (λ v. IsStaying v c.args.case.now.compared.now c.args.removed.now id) c.loop-depth.invariant.world c.in-Some.ensures.aim.0 in
+    rw c.end_at.ensures.id (new_reached w u c.requires.case.old c.args.case.now.compared.now c.args.removed.now c.requires.case.comparison c.requires.removal c.requires.passed id stays)
 
 pub returns-in_default-graft-clause-counts : goal.returns-in_default-graft-clause-counts
 returns-in_default-graft-clause-counts g c =
     let w : World = g.L.LookUps.world c.args.look_ups.now in
-    let u : UpdateData = update_data c.args.update.now in
+    let u : UpdateData = sent c.args.case.now in
     let before = c.loop-depth.invariant in
-    let short : c.loop-depth._depth < length (merged_world w u).known = new_short w u c.requires.old c.args.compared.now c.args.removed.now c.requires.comparison c.requires.removal c.requires.passed c.loop-depth.id c.loop-depth._depth before.way in
-    (omega (arith, short, c.aim_after.ensures.counts.0, before.asked.0), omega (arith, c.aim_after.ensures.counts.1, before.asked.1))
+    let short : c.loop-depth._depth < length (merged_world w u).known = new_short w u c.requires.case.old c.args.case.now.compared.now c.args.removed.now c.requires.case.comparison c.requires.removal c.requires.passed c.loop-depth.id c.loop-depth._depth before.way in
+    (omega (arith, short, c.aim_after.ensures.looks.1.0, before.asked.0), omega (arith, c.aim_after.ensures.looks.1.1, before.asked.1))
 
 pub returns-in_default-declared_after-clause-err : goal.returns-in_default-declared_after-clause-err
 returns-in_default-declared_after-clause-err g c =
     let w : World = g.L.LookUps.world c.args.look_ups.now in
-    let u : UpdateData = update_data c.args.update.now in
+    let u : UpdateData = sent c.args.case.now in
     let id = c.loop-depth.id in
     let before = c.loop-depth.invariant in
-    let stays : IsStaying w c.args.compared.now c.args.removed.now id = subst (λ v. IsStaying v c.args.compared.now c.args.removed.now id) before.world c.in-Some.ensures.aim.0 in
+    let stays : IsStaying w c.args.case.now.compared.now c.args.removed.now id = subst (λ v. IsStaying v c.args.case.now.compared.now c.args.removed.now id) before.world c.in-Some.ensures.aim.0 in
     let aim : IsAimIn (merged_world w u) id c.in-Some.aim = subst (λ v. IsAimIn (merged_world v u) id c.in-Some.aim) before.world c.in-Some.ensures.aim.1 in
     let grafts : graft_name (merged_world w u) id ≡ Some c.in-Some-graft.inner = aim_graft (merged_world w u) id c.in-Some.aim aim ∙ c.in-Some-graft.is in
     let declared : focus_named (merged_world w u) c.in-Some-graft.inner ≡ None =
-    sym (c.declared_after-in-loop-depth.ensures.focus ∙ ap (focus_named (merged_world (g.L.LookUps.world c.aim_after.new.look_ups) u)) c.in-Some-graft.inner-is ∙ ap (λ v. focus_named (merged_world v u) c.in-Some-graft.inner) (c.aim_after.ensures.world ∙ before.world)) ∙ c.in_default-declared_after.is in
+    sym (c.declared_after-in-loop-depth.ensures.focus ∙ ap (focus_named (merged_world (g.L.LookUps.world c.aim_after.new.look_ups) u)) c.in-Some-graft.inner-is ∙ ap (λ v. focus_named (merged_world v u) c.in-Some-graft.inner) (c.aim_after.ensures.looks.0 ∙ before.world)) ∙ c.in_default-declared_after.is in
     subst (λ n. Stands w u (FocusOnEmptyGraft n)) (sym c.in-Some-graft.inner-is)
-    (empty_stands w u c.requires.old c.args.compared.now c.args.removed.now c.requires.comparison c.requires.removal c.requires.passed id c.in-Some-graft.inner before.way.0 stays grafts declared)
+    (empty_stands w u c.requires.case.old c.args.case.now.compared.now c.args.removed.now c.requires.case.comparison c.requires.removal c.requires.passed id c.in-Some-graft.inner before.way.0 stays grafts declared)
 
 pub loop-depth-preserved : goal.loop-depth-preserved
 loop-depth-preserved g c =
     let w : World = g.L.LookUps.world c.args.look_ups.now in
-    let u : UpdateData = update_data c.args.update.now in
+    let u : UpdateData = sent c.args.case.now in
     let id = c.loop-depth.id in
     let before = c.loop-depth.invariant in
-    let stays : IsStaying w c.args.compared.now c.args.removed.now id = subst (λ v. IsStaying v c.args.compared.now c.args.removed.now id) before.world c.in-Some.ensures.aim.0 in
+    let stays : IsStaying w c.args.case.now.compared.now c.args.removed.now id = subst (λ v. IsStaying v c.args.case.now.compared.now c.args.removed.now id) before.world c.in-Some.ensures.aim.0 in
     let aim : IsAimIn (merged_world w u) id c.in-Some.aim = subst (λ v. IsAimIn (merged_world v u) id c.in-Some.aim) before.world c.in-Some.ensures.aim.1 in
     let grafts : graft_name (merged_world w u) id ≡ Some c.in-Some-graft.inner = aim_graft (merged_world w u) id c.in-Some.aim aim ∙ c.in-Some-graft.is in
     let declared : focus_named (merged_world w u) c.in-Some-graft.inner ≡ Some c.in-Some-declared_after.declared =
-    sym (c.declared_after-in-loop-depth.ensures.focus ∙ ap (focus_named (merged_world (g.L.LookUps.world c.aim_after.new.look_ups) u)) c.in-Some-graft.inner-is ∙ ap (λ v. focus_named (merged_world v u) c.in-Some-graft.inner) (c.aim_after.ensures.world ∙ before.world)) ∙ c.in-Some-declared_after.is in
+    sym (c.declared_after-in-loop-depth.ensures.focus ∙ ap (focus_named (merged_world (g.L.LookUps.world c.aim_after.new.look_ups) u)) c.in-Some-graft.inner-is ∙ ap (λ v. focus_named (merged_world v u) c.in-Some-graft.inner) (c.aim_after.ensures.looks.0 ∙ before.world)) ∙ c.in-Some-declared_after.is in
     record {
-      world = c.declared_after-in-loop-depth.ensures.world ∙ c.aim_after.ensures.world ∙ before.world;
-      asked = (omega (arith, c.declared_after-in-loop-depth.ensures.counts.0, c.aim_after.ensures.counts.0, before.asked.0), omega (arith, c.declared_after-in-loop-depth.ensures.counts.1, c.aim_after.ensures.counts.1, before.asked.1));
-      way = new_goes w u c.requires.old c.args.compared.now c.args.removed.now c.requires.comparison c.requires.removal c.requires.passed id c.in-Some-declared_after.declared c.in-Some-graft.inner c.loop-depth._depth before.way stays grafts declared;
+      world = c.declared_after-in-loop-depth.ensures.looks.0 ∙ c.aim_after.ensures.looks.0 ∙ before.world;
+      asked = (omega (arith, c.declared_after-in-loop-depth.ensures.looks.1.0, c.aim_after.ensures.looks.1.0, before.asked.0), omega (arith, c.declared_after-in-loop-depth.ensures.looks.1.1, c.aim_after.ensures.looks.1.1, before.asked.1));
+      way = new_goes w u c.requires.case.old c.args.case.now.compared.now c.args.removed.now c.requires.case.comparison c.requires.removal c.requires.passed id c.in-Some-declared_after.declared c.in-Some-graft.inner c.loop-depth._depth before.way stays grafts declared;
     }
 
 pub unreachable-requires : goal.unreachable-requires
 unreachable-requires g c =
     let w : World = g.L.LookUps.world c.args.look_ups.now in
-    let u : UpdateData = update_data c.args.update.now in
-    let short : c.loop-depth._depth < length (merged_world w u).known = new_short w u c.requires.old c.args.compared.now c.args.removed.now c.requires.comparison c.requires.removal c.requires.passed c.loop-depth.id c.loop-depth._depth c.loop-depth.invariant.way in
+    let u : UpdateData = sent c.args.case.now in
+    let short : c.loop-depth._depth < length (merged_world w u).known = new_short w u c.requires.case.old c.args.case.now.compared.now c.args.removed.now c.requires.case.comparison c.requires.removal c.requires.passed c.loop-depth.id c.loop-depth._depth c.loop-depth.invariant.way in
     let most : length (merged_world w u).known ≤ length w.known + 1 = length_fits w u (length w.known + 1) (omega arith) (λ new. omega arith) in
     omega (arith, c.known_trees.ensures.count, c.from-limit.ensures, c.loop-depth-test.false)

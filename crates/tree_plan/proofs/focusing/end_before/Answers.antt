@@ -12,14 +12,14 @@ unwrap-first-requires g c =
     subst IsSome (sym (c.declared.ensures.focus ∙ ap (focus_named w) c.root.ensures)) (IsSome_is e.0 e.1)
 
 pub end_from-requires-clause-present : goal.end_from-requires-clause-present
-end_from-requires-clause-present g c = subst (λ (v : World). IsSome (get v.trees 0)) (sym c.declared.ensures.world) c.requires.present
+end_from-requires-clause-present g c = subst (λ (v : World). IsSome (get v.trees 0)) (sym c.declared.ensures.looks.0) c.requires.present
 
 pub end_from-requires-clause-first : goal.end_from-requires-clause-first
 end_from-requires-clause-first g c =
     let w : World = g.L.LookUps.world c.args.look_ups.now in
-    ap (λ (v : World). focus_named v ROOT_NAME) c.declared.ensures.world ∙ sym (c.declared.ensures.focus ∙ ap (focus_named w) c.root.ensures) ∙ c.unwrap-first.ensures
+    ap (λ (v : World). focus_named v ROOT_NAME) c.declared.ensures.looks.0 ∙ sym (c.declared.ensures.focus ∙ ap (focus_named w) c.root.ensures) ∙ c.unwrap-first.ensures
 
-pub returns-clause-counts : goal.returns-clause-counts
-returns-clause-counts g c =
-    let known : length (g.L.LookUps.world c.declared.new.look_ups).known ≡ length (g.L.LookUps.world c.args.look_ups.now).known = ap (λ (v : World). length v.known) c.declared.ensures.world in
-    (omega (arith, known, c.declared.ensures.counts.0, c.end_from.ensures.counts.0, c.end_from.ensures.known), omega (arith, c.declared.ensures.counts.1, c.end_from.ensures.counts.1))
+pub returns-clause-looks : goal.returns-clause-looks
+returns-clause-looks g c =
+    let known : length (g.L.LookUps.world c.declared.new.look_ups).known ≡ length (g.L.LookUps.world c.args.look_ups.now).known = ap (λ (v : World). length v.known) c.declared.ensures.looks.0 in
+    (c.end_from.ensures.looks.0 ∙ c.declared.ensures.looks.0, (omega (arith, known, c.declared.ensures.looks.1.0, c.end_from.ensures.looks.1.0, c.end_from.ensures.known), omega (arith, c.declared.ensures.looks.1.1, c.end_from.ensures.looks.1.1)))

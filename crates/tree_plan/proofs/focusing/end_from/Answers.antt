@@ -20,7 +20,7 @@ unwrap-id-requires g c =
     let id = c.loop-depth.id in
     let aim : IsAimIn (g.L.LookUps.world c.loop-depth.look_ups) id c.unwrap-aim.result = rw c.unwrap-aim.ensures at c.old_aim.ensures.aim in
     let grafts : graft_name w id ≡ Some c.in-Some.inner = ap (λ v. graft_name v id) (sym before.world) ∙ aim_graft (g.L.LookUps.world c.loop-depth.look_ups) id c.unwrap-aim.result aim ∙ c.in-Some.is in
-    let declared = c.declared.ensures.focus ∙ ap (focus_named (g.L.LookUps.world c.old_aim.new.look_ups)) c.in-Some.inner-is ∙ ap (λ v. focus_named v c.in-Some.inner) (c.old_aim.ensures.world ∙ before.world) in
+    let declared = c.declared.ensures.focus ∙ ap (focus_named (g.L.LookUps.world c.old_aim.new.look_ups)) c.in-Some.inner-is ∙ ap (λ v. focus_named v c.in-Some.inner) (c.old_aim.ensures.looks.0 ∙ before.world) in
     subst IsSome (sym declared) (old_next_there w c.requires.old id c.in-Some.inner before.way.0 grafts)
 
 pub loop-depth-preserved : goal.loop-depth-preserved
@@ -31,10 +31,10 @@ loop-depth-preserved g c =
     let aim : IsAimIn (g.L.LookUps.world c.loop-depth.look_ups) id c.unwrap-aim.result = rw c.unwrap-aim.ensures at c.old_aim.ensures.aim in
     let grafts : graft_name w id ≡ Some c.in-Some.inner = ap (λ v. graft_name v id) (sym before.world) ∙ aim_graft (g.L.LookUps.world c.loop-depth.look_ups) id c.unwrap-aim.result aim ∙ c.in-Some.is in
     let declared : focus_named w c.in-Some.inner ≡ Some c.unwrap-id.result =
-    sym (c.declared.ensures.focus ∙ ap (focus_named (g.L.LookUps.world c.old_aim.new.look_ups)) c.in-Some.inner-is ∙ ap (λ v. focus_named v c.in-Some.inner) (c.old_aim.ensures.world ∙ before.world)) ∙ c.unwrap-id.ensures in
+    sym (c.declared.ensures.focus ∙ ap (focus_named (g.L.LookUps.world c.old_aim.new.look_ups)) c.in-Some.inner-is ∙ ap (λ v. focus_named v c.in-Some.inner) (c.old_aim.ensures.looks.0 ∙ before.world)) ∙ c.unwrap-id.ensures in
     record {
-      world = c.declared.ensures.world ∙ c.old_aim.ensures.world ∙ before.world;
-      asked = (omega (arith, c.declared.ensures.counts.0, c.old_aim.ensures.counts.0, before.asked.0), omega (arith, c.declared.ensures.counts.1, c.old_aim.ensures.counts.1, before.asked.1));
+      world = c.declared.ensures.looks.0 ∙ c.old_aim.ensures.looks.0 ∙ before.world;
+      asked = (omega (arith, c.declared.ensures.looks.1.0, c.old_aim.ensures.looks.1.0, before.asked.0), omega (arith, c.declared.ensures.looks.1.1, c.old_aim.ensures.looks.1.1, before.asked.1));
       way = old_goes w c.requires.old id c.unwrap-id.result c.in-Some.inner c.loop-depth._depth before.way grafts declared;
     }
 

@@ -1,21 +1,21 @@
 use Rattle.std.proofs.Common.{◌≡◌, ◌<◌, Some, length, slice_get, refl, subst, ◌∙◌, arith}
 use Rattle.std.proofs.lemmas.Option.{slice_get_read}
-use Rattle.schema.specs.UpdateData.{update_data}
 use Rattle.model.specs.World.{listed_ids}
 use Rattle.model.specs.Update.{merged_world}
 use Rattle.tree_plan.specs.Refusing.{Enqueues}
+use Rattle.tree_plan.specs.Cases.{sent}
 use Rattle.tree_plan.proofs.RefusingSteps.{searching_start, searching_more, searching_end}
 use Rattle.tree_plan.proofs.refusing.work_off.Goals as goal
 
 pub loop-position-init : goal.loop-position-init
 loop-position-init g c = record {
   world = refl;
-  searching = searching_start (g.L.LookUps.world c.args.look_ups.now) (update_data c.args.update.now) c.args.search.now c.requires.search;
+  searching = searching_start (g.L.LookUps.world c.args.look_ups.now) (sent c.args.case.now) c.args.search.now c.requires.search;
 }
 
 pub loop-position-preserved : goal.loop-position-preserved
 loop-position-preserved g c =
-    let w = g.L.LookUps.world c.args.look_ups.now in let u = update_data c.args.update.now in
+    let w = g.L.LookUps.world c.args.look_ups.now in let u = sent c.args.case.now in
     let b = c.loop-position.search in
     let k = c.loop-position.position in
     let id = c.index-id.result.now in
@@ -29,8 +29,8 @@ loop-position-preserved g c =
 
 pub returns-then-position-len-clause-ok : goal.returns-then-position-len-clause-ok
 returns-then-position-len-clause-ok g c =
-    searching_end (g.L.LookUps.world c.args.look_ups.now) (update_data c.args.update.now) c.loop-position.position c.args.search.now c.loop-position.search (omega (arith, c.len.ensures, c.if-position-len.true)) c.loop-position.invariant.searching
+    searching_end (g.L.LookUps.world c.args.look_ups.now) (sent c.args.case.now) c.loop-position.position c.args.search.now c.loop-position.search (omega (arith, c.len.ensures, c.if-position-len.true)) c.loop-position.invariant.searching
 
 pub returns-clause-ok : goal.returns-clause-ok
 returns-clause-ok g c =
-    searching_end (g.L.LookUps.world c.args.look_ups.now) (update_data c.args.update.now) c.loop-position.position c.args.search.now c.loop-position.search (omega (arith, c.loop-position.search.queue.ok.0, c.loop-position-test.false)) c.loop-position.invariant.searching
+    searching_end (g.L.LookUps.world c.args.look_ups.now) (sent c.args.case.now) c.loop-position.position c.args.search.now c.loop-position.search (omega (arith, c.loop-position.search.queue.ok.0, c.loop-position-test.false)) c.loop-position.invariant.searching

@@ -3,10 +3,11 @@ use Rattle.std.specs.List.{Contains}
 use Rattle.std.proofs.lemmas.List.{take_more, take_all}
 use Rattle.std.proofs.lemmas.Result.{err_from_is_err_and}
 use Rattle.tree_changes.specs.Refusals.{IsRefusal}
-use Rattle.schema.specs.UpdateData.{UpdateData, update_data}
+use Rattle.schema.specs.UpdateData.{UpdateData}
 use Rattle.model.specs.World.{World}
 use Rattle.model.proofs.State.StatePlaces.{IsSome_is}
 use Rattle.tree_plan.specs.Regrafts.{HasRival, HasNoRival, MovesIn, AreRegrafted, grafted_record}
+use Rattle.tree_plan.specs.Cases.{sent}
 use Rattle.tree_plan.proofs.Gaining.{grafted_there, regrafts_more, not_before, regrafted_all, rival_refused}
 use Rattle.tree_plan.proofs.regrafting.regraft.Goals as goal
 
@@ -15,16 +16,16 @@ add-requires g c =
     let w : World = g.L.LookUps.world c.args.look_ups.now in
     let name = c.name-item.result in
     let items = c.deref-name-items.ensures.value in
-    let is : name ≡ get_or c.args.compared.now.gained.items c.loop-name.name-index name = c.name-item.is ∙ ap (λ xs. get_or xs c.loop-name.name-index name) items in
-    let «in» : Contains c.args.compared.now.gained.items name = (c.loop-name.name-index, omega (arith, c.loop-name-test.true, ap length items), sym is) in
-    let f = grafted_there w (update_data c.args._update.now) c.args.compared.now c.args.removed.now c.requires.comparison name «in» in
+    let is : name ≡ get_or c.args.case.now.compared.now.gained.items c.loop-name.name-index name = c.name-item.is ∙ ap (λ xs. get_or xs c.loop-name.name-index name) items in
+    let «in» : Contains c.args.case.now.compared.now.gained.items name = (c.loop-name.name-index, omega (arith, c.loop-name-test.true, ap length items), sym is) in
+    let f = grafted_there w (sent c.args.case.now) c.args.case.now.compared.now c.args.removed.now c.requires.case.comparison name «in» in
     IsSome_is f.0 f.1
 
 pub returns-in_err-add-clause-err : goal.returns-in_err-add-clause-err
 returns-in_err-add-clause-err g c =
     let w : World = g.L.LookUps.world c.args.look_ups.now in
-    let u : UpdateData = update_data c.args._update.now in
-    let d = c.args.compared.now in
+    let u : UpdateData = sent c.args.case.now in
+    let d = c.args.case.now.compared.now in
     let r = c.args.removed.now in
     let name = c.name-item.result in
     let before = c.loop-name.invariant in
@@ -33,14 +34,14 @@ returns-in_err-add-clause-err g c =
     let «in» : Contains d.gained.items name = (c.loop-name.name-index, omega (arith, c.loop-name-test.true, ap length items), sym is) in
     let p = err_from_is_err_and c.from_residual.result c.from_residual.ensures.1 in
     rw (p.1, p.2) (⊎_elim (λ memory. subst (IsRefusal w u) (sym memory) tt)
-    (λ h. subst (IsRefusal w u) (sym h.0) (rival_refused w u d r c.requires.comparison c.requires.old c.requires.removal c.requires.climbed name «in» (subst (λ v. HasRival v d r name) before.world h.1)))
+    (λ h. subst (IsRefusal w u) (sym h.0) (rival_refused w u d r c.requires.case.comparison c.requires.case.old c.requires.removal c.requires.climbed name «in» (subst (λ v. HasRival v d r name) before.world h.1)))
     c.in_err-add.ensures.err)
 
 pub loop-name-preserved : goal.loop-name-preserved
 loop-name-preserved g c =
     let w : World = g.L.LookUps.world c.args.look_ups.now in
-    let u : UpdateData = update_data c.args._update.now in
-    let d = c.args.compared.now in
+    let u : UpdateData = sent c.args.case.now in
+    let d = c.args.case.now.compared.now in
     let r = c.args.removed.now in
     let xs = d.gained.items in
     let k = c.loop-name.name-index in
@@ -51,8 +52,8 @@ loop-name-preserved g c =
     let is : name ≡ get_or xs k name = c.name-item.is ∙ ap (λ zs. get_or zs k name) items in
     let fits : k < length xs = omega (arith, c.loop-name-test.true, ap length items) in
     let «in» : Contains xs name = (k, fits, sym is) in
-    let more = regrafts_more w u d r c.requires.comparison (take k xs) name c.loop-name.regrafted c.add.new.self «in»
-    (subst (λ x. ¬ (Contains (take k xs) x)) (sym is) (not_before w u d r c.requires.comparison k name fits)) before.found
+    let more = regrafts_more w u d r c.requires.case.comparison (take k xs) name c.loop-name.regrafted c.add.new.self «in»
+    (subst (λ x. ¬ (Contains (take k xs) x)) (sym is) (not_before w u d r c.requires.case.comparison k name fits)) before.found
     (subst (λ v. HasNoRival v d r name) before.world e.free)
     (subst (λ v. c.add.new.self.trees.items ≡ c.loop-name.regrafted.trees.items ++ grafted_record v d name ∷ []) before.world e.trees)
     (subst (λ v. MovesIn v d name c.loop-name.regrafted.moved_in c.add.new.self.moved_in) before.world e.moved_in) in
@@ -65,12 +66,12 @@ loop-name-preserved g c =
 pub returns-clause-ok : goal.returns-clause-ok
 returns-clause-ok g c =
     let w : World = g.L.LookUps.world c.args.look_ups.now in
-    let u : UpdateData = update_data c.args._update.now in
-    let d = c.args.compared.now in
+    let u : UpdateData = sent c.args.case.now in
+    let d = c.args.case.now.compared.now in
     let r = c.args.removed.now in
     let xs = d.gained.items in
     let items = c.deref-name-items.ensures.value in
     let end : length xs ≤ c.loop-name.name-index = omega (arith, c.loop-name-test.false, ap length items) in
     let all : take c.loop-name.name-index xs ≡ xs = take_all c.loop-name.name-index xs (omega arith) in
-    regrafted_all w u d r c.requires.comparison c.requires.removal c.requires.climbed c.loop-name.regrafted
+    regrafted_all w u d r c.requires.case.comparison c.requires.removal c.requires.climbed c.loop-name.regrafted
     (subst (λ names. AreRegrafted w u d r names c.loop-name.regrafted) all c.loop-name.invariant.found)

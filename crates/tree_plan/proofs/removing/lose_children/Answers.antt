@@ -4,17 +4,18 @@ use Rattle.schema.specs.declared.NodeId.{NodeId}
 use Rattle.model.specs.declared.FullNodeId.{FullNodeId}
 use Rattle.model.specs.World.{in_tree}
 use Rattle.tree_plan.specs.Removing.{LosesAll}
+use Rattle.tree_plan.specs.Cases.{sent}
 use Rattle.tree_plan.proofs.RemovingSteps.{loses_more, contains_map_at}
 use Rattle.tree_plan.proofs.removing.lose_children.Goals as goal
 
 pub lose-requires : goal.lose-requires
 lose-requires g c =
     let id : FullNodeId = in_tree c.args.parent.tree (get_or c.args.children.now c.loop-child.child-index (record { 0 = 0 })) in
-    (record { old = c.requires.0.old; compared = c.requires.0.compared; found = c.loop-child.invariant.found }, c.requires.1 id (contains_map_at (in_tree c.args.parent.tree) c.args.children.now c.loop-child.child-index (record { 0 = 0 }) c.loop-child-test.true))
+    (record { case = c.requires.0.case; found = c.loop-child.invariant.found }, c.requires.1 id (contains_map_at (in_tree c.args.parent.tree) c.args.children.now c.loop-child.child-index (record { 0 = 0 }) c.loop-child-test.true))
 
 pub loop-child-preserved : goal.loop-child-preserved
 loop-child-preserved g c =
-    let w = g.setting.0 in let u = g.setting.1 in
+    let w = g.before in let u = sent c.args.case.now in
     let f : NodeId → FullNodeId = in_tree c.args.parent.tree in
     let i = c.loop-child.child-index in
     let d : NodeId = record { 0 = 0 } in

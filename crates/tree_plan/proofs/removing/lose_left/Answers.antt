@@ -3,6 +3,7 @@ use Rattle.model.specs.declared.FullNodeId.{FullNodeId}
 use Rattle.model.specs.Surgery.{Seat}
 use Rattle.model.proofs.Members.{contains_first}
 use Rattle.tree_plan.specs.Removing.{IsPlacedOrFound, LosesAll}
+use Rattle.tree_plan.specs.Cases.{sent}
 use Rattle.tree_plan.proofs.IdMaps.{none_done, read_step, done_step, done_weaker, done_all}
 use Rattle.tree_plan.proofs.RemovingSteps.{placed_stays, left_goes, left_end}
 use Rattle.tree_plan.proofs.removing.lose_left.Goals as goal
@@ -15,21 +16,21 @@ pub loop-item-init : goal.loop-item-init
 loop-item-init g c = record {
   found = c.requires.found;
   trees = refl;
-  done = none_done c.args.compared.now.left (λ id s. IsPlacedOrFound g.setting.0 g.setting.1 c.args.removing.now id);
+  done = none_done c.args.case.now.compared.now.left (λ id s. IsPlacedOrFound g.before (sent c.args.case.now) c.args.removing.now id);
 }
 
 pub lose-requires : goal.lose-requires
 lose-requires g c =
-    let w = g.setting.0 in let u = g.setting.1 in
-    let m = c.args.compared.now.left in
+    let w = g.before in let u = sent c.args.case.now in
+    let m = c.args.case.now.compared.now.left in
     let e = slice_index_or c.entries-item-items.result.now c.loop-item.item-index nothing in
     let is = read_step m c.entries-item-items.ensures.ascends c.entries-item-items.result.now c.entries-item-items.ensures.all c.loop-item.item-index nothing c.loop-item-test.true in
-    (record { old = c.requires.old; compared = c.requires.compared; found = c.loop-item.invariant.found }, left_goes w u c.args.compared.now c.requires.compared e.1 e.0 is)
+    (record { case = c.requires.case; found = c.loop-item.invariant.found }, left_goes w u c.args.case.now.compared.now c.requires.case.comparison e.1 e.0 is)
 
 pub loop-item-preserved : goal.loop-item-preserved
 loop-item-preserved g c =
-    let w = g.setting.0 in let u = g.setting.1 in
-    let m = c.args.compared.now.left in
+    let w = g.before in let u = sent c.args.case.now in
+    let m = c.args.case.now.compared.now.left in
     let k = c.loop-item.item-index in
     let a = c.loop-item.removing in
     let b = c.lose.new.removing in
@@ -44,9 +45,9 @@ loop-item-preserved g c =
 
 pub returns-clause-ok : goal.returns-clause-ok
 returns-clause-ok g c =
-    let w = g.setting.0 in let u = g.setting.1 in
-    let m = c.args.compared.now.left in
+    let w = g.before in let u = sent c.args.case.now in
+    let m = c.args.case.now.compared.now.left in
     let b = c.loop-item.removing in
     let same : length c.entries-item-items.result.now ≡ length m = ap length c.entries-item-items.ensures.all in
-    left_end w u c.args.compared.now c.requires.compared c.args.removing.now b c.loop-item.invariant.found c.loop-item.invariant.trees
+    left_end w u c.args.case.now.compared.now c.requires.case.comparison c.args.removing.now b c.loop-item.invariant.found c.loop-item.invariant.trees
     (done_all m (λ id s. IsPlacedOrFound w u b id) c.loop-item.item-index (omega (arith, c.loop-item-test.false)) c.loop-item.invariant.done)

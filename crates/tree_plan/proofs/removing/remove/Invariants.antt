@@ -1,5 +1,4 @@
-use Rattle.schema.specs.UpdateData.{update_data}
 use Rattle.tree_plan.proofs.removing.remove.Given as goal
 
 abbrev pub ghost-find_all : goal.ghost-find_all
-ghost-find_all g a = (g.L.LookUps.world a.look_ups.now, update_data a._update.now)
+ghost-find_all g a = g.L.LookUps.world a.look_ups.now

@@ -5,3 +5,6 @@ ghost-other_place g a = g.step
 
 abbrev pub ghost-moved_or_told : goal.ghost-moved_or_told
 ghost-moved_or_told g a = g.step
+
+abbrev pub ghost-is_removed : goal.ghost-is_removed
+ghost-is_removed g a = g.step

@@ -4,7 +4,7 @@ use Rattle.std.specs.Map.{set_value}
 use Rattle.model.specs.FullIds.{full_cmp}
 use Rattle.rows.specs.Rows.{Ascends, IsPlace}
 use Rattle.rows.proofs.Changed.{set_here, set_elsewhere, set_ascends}
-use Rattle.rows.proofs.rows.Rows.change_near.Goals as goal
+use Rattle.rows.proofs.rows.SortedRows.change_near.Goals as goal
 
 pub invariant_of-self : goal.invariant_of-self
 invariant_of-self g c =

@@ -1,7 +1,7 @@
 use Rattle.std.proofs.Common.{rules, sym, ap, ◌∙◌}
 use Rattle.rows.specs.Rows.{row_at}
 use Rattle.rows.proofs.Places.{found_here, not_here}
-use Rattle.rows.proofs.rows.Rows.get.Goals as goal
+use Rattle.rows.proofs.rows.SortedRows.get.Goals as goal
 
 pub returns-then-eq-clause-value : goal.returns-then-eq-clause-value
 returns-then-eq-clause-value g c =
