@@ -18,7 +18,19 @@ pub fn write_escaped<O: Write>(text: &str, out: &mut O) -> io::Result<()>
     ensures written { OnOk result (Appends (O.contents out.old) (O.contents out.new) (escaped text.now)) }
     ensures cut { OnErr result (AppendsBeginning (O.contents out.old) (O.contents out.new) (escaped text.now)) }
 {
-    for byte in text.as_bytes() {
+    write_escaped_bytes(text.as_bytes(), out)
+}
+
+/// Writes the bytes of a text in the same way.
+///
+/// # Errors
+///
+/// Returns the error of the output. A beginning of what is written for the text has then been written.
+pub fn write_escaped_bytes<O: Write>(text: &[u8], out: &mut O) -> io::Result<()>
+    ensures written { OnOk result (Appends (O.contents out.old) (O.contents out.new) (escaped text.now)) }
+    ensures cut { OnErr result (AppendsBeginning (O.contents out.old) (O.contents out.new) (escaped text.now)) }
+{
+    for byte in text {
         write_byte(*byte, out)?;
     }
     Ok(())

@@ -7,4 +7,4 @@ pub mod laws;
 mod writing;
 
 pub use elements::{write_attribute, write_element};
-pub use escaping::write_escaped;
+pub use escaping::{write_escaped, write_escaped_bytes};

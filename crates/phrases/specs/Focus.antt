@@ -1,18 +1,26 @@
 -- What is said of the focused node.
-use Rattle.std.specs.Prelude.{ℕ, ◌+◌, List, [], ◌++◌, Option, Some, None, codes, option_copied}
+use Rattle.std.specs.Prelude.{ℕ, ◌+◌, List, [], ◌++◌, Option, Some, None, codes, option_copied, option_map}
 use Rattle.std.specs.Fmt.{decimal}
 use Rattle.phrases.specs.declared.focus.Focus.{Focus}
 use Rattle.phrases.specs.declared.focus.Place.{Place}
 use Rattle.phrases.specs.Quoted.{named, part}
 use Rattle.phrases.specs.StateTexts.{state_text}
+use Rattle.phrases.specs.States.{popup_word, after_comma, where_it_is}
 
 -- a position in a set, counted from 1
 abbrev pub place_text : Option Place → List ℕ
 place_text None = []
 place_text (Some place) = codes ", " ++ decimal (place.position + 1) ++ codes " of " ++ decimal place.size
 
--- the role, the name, the value, the placeholder, the state, and the position in the set
+-- the role, the name, the value and the placeholder; of a name and a value also that they are hidden
+abbrev pub texts_said : Focus → List ℕ
+texts_said s =
+    s.role.now ++ named (option_copied s.label) ++ after_comma (where_it_is s.is_label_hidden (codes "label hidden"))
+    ++ part (codes "value") (option_copied s.value) ++ after_comma (where_it_is s.is_value_hidden (codes "value hidden"))
+    ++ part (codes "placeholder") (option_copied s.placeholder)
+
+-- that, the state, what pops up, the position in the set, and the description
 abbrev pub focus_text : Focus → List ℕ
 focus_text s =
-    s.role.now ++ named (option_copied s.label) ++ part (codes "value") (option_copied s.value)
-    ++ part (codes "placeholder") (option_copied s.placeholder) ++ state_text s.state ++ place_text s.place
+    texts_said s ++ state_text s.state ++ after_comma (option_map popup_word s.popup) ++ place_text s.place
+    ++ part (codes "description") (option_copied s.description)

@@ -1,5 +1,7 @@
 -- States in words.
 use Rattle.std.specs.Prelude.{ℕ, List, [], ◌++◌, Option, Some, None, Bool, true, false, codes, if◌then◌else◌}
+use Rattle.schema.specs.declared.values.HasPopup.{HasPopup}
+use Rattle.schema.specs.declared.values.HasPopup.TheVariants.{Menu, Listbox, Tree, Grid, Dialog}
 use Rattle.schema.specs.declared.values.Live.{Live}
 use Rattle.schema.specs.declared.values.Live.TheVariants.{Off, Polite, Assertive}
 use Rattle.schema.specs.declared.values.Toggled.{Toggled}
@@ -33,6 +35,14 @@ expanded_word is = if is then codes "expanded" else codes "collapsed"
 
 abbrev pub selected_word : Bool → List ℕ
 selected_word is = if is then codes "selected" else codes "not selected"
+
+-- what pops up from a node
+abbrev pub popup_word : HasPopup → List ℕ
+popup_word Menu = codes "opens a menu"
+popup_word Listbox = codes "opens a list"
+popup_word Tree = codes "opens a tree"
+popup_word Grid = codes "opens a grid"
+popup_word Dialog = codes "opens a dialog"
 
 -- a word after a comma, if there is one
 abbrev pub after_comma : Option (List ℕ) → List ℕ

@@ -2,7 +2,8 @@
 ghost use Rattle.std.specs.Prelude.{Some};
 
 use crate::quoted::{Named, Part};
-use crate::states::State;
+use crate::states::{State, flag, opening};
+use schema::HasPopup;
 use std::fmt;
 
 /// A node's position in its set.
@@ -40,12 +41,48 @@ pub struct Focus<'a> {
     /// The word for the role.
     pub role: &'a str,
     pub label: Option<&'a str>,
+    /// Whether there may be a label that isn't said.
+    pub is_label_hidden: bool,
     /// The value as shown.
     pub value: Option<&'a str>,
+    /// Whether there may be a value that isn't said.
+    pub is_value_hidden: bool,
     /// The hint that the node shows while it is empty.
     pub placeholder: Option<&'a str>,
     pub state: State,
+    pub popup: Option<HasPopup>,
     pub place: Option<Place>,
+    pub description: Option<&'a str>,
+}
+
+/// What a focused node is called, and its value.
+#[derive(Clone, Copy)]
+struct Texts<'a>(Focus<'a>);
+
+impl fmt::Display for Texts<'_> {
+    ghost use Rattle.phrases.specs.Focus.{texts_said};
+
+    ghost output = { λ s. Some (texts_said s.0) };
+
+    fn fmt<W: fmt::Write>(&self, f: &mut fmt::Formatter<W>) -> fmt::Result {
+        let focus = self.0;
+        let role = focus.role;
+        let label = Named(focus.label);
+        let hidden_label = flag(focus.is_label_hidden, "label hidden");
+        let value = Part {
+            what: "value",
+            text: focus.value,
+        };
+        let hidden_value = flag(focus.is_value_hidden, "value hidden");
+        let placeholder = Part {
+            what: "placeholder",
+            text: focus.placeholder,
+        };
+        write!(
+            f,
+            "{role}{label}{hidden_label}{value}{hidden_value}{placeholder}"
+        )
+    }
 }
 
 /// Prints, for example, `check box "Send copies", checked, 2 of 5`.
@@ -55,18 +92,14 @@ impl fmt::Display for Focus<'_> {
     ghost output = { λ s. Some (focus_text s) };
 
     fn fmt<W: fmt::Write>(&self, f: &mut fmt::Formatter<W>) -> fmt::Result {
-        let role = self.role;
-        let label = Named(self.label);
-        let value = Part {
-            what: "value",
-            text: self.value,
-        };
-        let placeholder = Part {
-            what: "placeholder",
-            text: self.placeholder,
-        };
+        let texts = Texts(*self);
         let state = self.state;
+        let popup = opening(self.popup);
         let place = AtPlace(self.place);
-        write!(f, "{role}{label}{value}{placeholder}{state}{place}")
+        let description = Part {
+            what: "description",
+            text: self.description,
+        };
+        write!(f, "{texts}{state}{popup}{place}{description}")
     }
 }

@@ -8,17 +8,23 @@ use crate::states::{flag, live_word};
 use schema::Live;
 use std::fmt;
 
-/// A dialog's title, or that it has none.
+/// A dialog's title, or that it has none, or that it isn't said.
 #[derive(Clone, Copy)]
-struct Titled<'a>(Option<&'a str>);
+struct Titled<'a> {
+    title: Option<&'a str>,
+    is_hidden: bool,
+}
 
 impl fmt::Display for Titled<'_> {
     ghost use Rattle.phrases.specs.Sayings.{titled};
 
-    ghost output = { λ s. Some (titled (option_copied s.0)) };
+    ghost output = { λ s. Some (titled s.is_hidden (option_copied s.title)) };
 
     fn fmt<W: fmt::Write>(&self, f: &mut fmt::Formatter<W>) -> fmt::Result {
-        match self.0 {
+        if self.is_hidden {
+            return f.write_str("label hidden");
+        }
+        match self.title {
             Some(title) => {
                 let title = Quoted(title);
                 write!(f, "{title}")
@@ -34,6 +40,8 @@ pub struct Dialog<'a> {
     /// The word for the role.
     pub role: &'a str,
     pub label: Option<&'a str>,
+    /// Whether there may be a label that isn't said.
+    pub is_label_hidden: bool,
     pub is_modal: bool,
 }
 
@@ -45,9 +53,33 @@ impl fmt::Display for Dialog<'_> {
 
     fn fmt<W: fmt::Write>(&self, f: &mut fmt::Formatter<W>) -> fmt::Result {
         let role = self.role;
-        let title = Titled(self.label);
+        let title = Titled {
+            title: self.label,
+            is_hidden: self.is_label_hidden,
+        };
         let modal = flag(self.is_modal, "modal");
         write!(f, "{role}: {title}{modal}")
+    }
+}
+
+/// What is said of a group.
+#[derive(Clone, Copy)]
+pub struct Group<'a> {
+    /// The word for the role.
+    pub role: &'a str,
+    pub label: &'a str,
+}
+
+/// Prints, for example, `radio group: "Size"`.
+impl fmt::Display for Group<'_> {
+    ghost use Rattle.phrases.specs.Sayings.{group_text};
+
+    ghost output = { λ s. Some (group_text s) };
+
+    fn fmt<W: fmt::Write>(&self, f: &mut fmt::Formatter<W>) -> fmt::Result {
+        let role = self.role;
+        let label = Quoted(self.label);
+        write!(f, "{role}: {label}")
     }
 }
 
@@ -77,18 +109,26 @@ pub enum Saying<'a> {
     Focused(Focus<'a>),
     /// The dialog that the focus has entered.
     InDialog(Dialog<'a>),
+    /// The group that the focus has entered.
+    InGroup(Group<'a>),
     /// A text of a live region.
     Told(Live, &'a str),
     /// The new label of the focused node.
     Named(&'a str),
     /// The new value of the focused node.
     Valued(&'a str),
+    /// The new description of the focused node.
+    Described(&'a str),
     /// A word for the new state of the focused node.
     Is(&'a str),
     /// The edit of the focused text.
     Changed(Change<'a>),
     /// The line that the caret has moved to.
     OnLine(&'a str),
+    /// A text that is selected now.
+    Selected(&'a str),
+    /// A text that was selected, where nothing is now.
+    Unselected(&'a str),
 }
 
 impl fmt::Display for Saying<'_> {
@@ -100,6 +140,7 @@ impl fmt::Display for Saying<'_> {
         match *self {
             Saying::Focused(focus) => writeln!(f, "focus: {focus}"),
             Saying::InDialog(dialog) => writeln!(f, "{dialog}"),
+            Saying::InGroup(group) => writeln!(f, "{group}"),
             Saying::Told(live, text) => {
                 let live = live_word(live);
                 let text = Quoted(text);
@@ -113,11 +154,23 @@ impl fmt::Display for Saying<'_> {
                 let value = Quoted(value);
                 writeln!(f, "value: {value}")
             }
+            Saying::Described(description) => {
+                let description = Quoted(description);
+                writeln!(f, "description: {description}")
+            }
             Saying::Is(word) => writeln!(f, "state: {word}"),
             Saying::Changed(change) => writeln!(f, "text: {change}"),
             Saying::OnLine(line) => {
                 let line = Quoted(line);
                 writeln!(f, "line: {line}")
+            }
+            Saying::Selected(text) => {
+                let text = Quoted(text);
+                writeln!(f, "text: selected {text}")
+            }
+            Saying::Unselected(text) => {
+                let text = Quoted(text);
+                writeln!(f, "text: unselected {text}")
             }
         }
     }

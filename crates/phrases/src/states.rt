@@ -1,8 +1,8 @@
 //! Words for the state of a node.
 ghost use Rattle.std.specs.Prelude.{◌≡◌, Some, option_copied, option_map};
-ghost use Rattle.phrases.specs.States.{checked_word, pressed_word, switched_word, toggled_word, expanded_word, selected_word, after_comma, where_it_is, new_word, same_flag, same_toggle, flag_word, live_word};
+ghost use Rattle.phrases.specs.States.{checked_word, pressed_word, switched_word, toggled_word, expanded_word, selected_word, popup_word, after_comma, where_it_is, new_word, same_flag, same_toggle, flag_word, live_word};
 
-use schema::{Live, Toggled};
+use schema::{HasPopup, Live, Toggled};
 use std::fmt;
 
 /// How the toggle state of a control is said.
@@ -87,6 +87,29 @@ pub fn selected_word(is_selected: bool) -> &'static str
         "selected"
     } else {
         "not selected"
+    }
+}
+
+/// The words for what pops up from a node.
+fn popup_word(popup: HasPopup) -> &'static str
+    ensures { result.now ≡ popup_word popup }
+{
+    match popup {
+        HasPopup::Menu => "opens a menu",
+        HasPopup::Listbox => "opens a list",
+        HasPopup::Tree => "opens a tree",
+        HasPopup::Grid => "opens a grid",
+        HasPopup::Dialog => "opens a dialog",
+    }
+}
+
+/// What pops up from a node, in words after a comma, if anything does.
+pub(crate) fn opening(popup: Option<HasPopup>) -> AfterComma
+    ensures { option_copied result.0 ≡ option_map popup_word popup }
+{
+    match popup {
+        Some(popup) => AfterComma(Some(popup_word(popup))),
+        None => AfterComma(None),
     }
 }
 

@@ -1,12 +1,14 @@
 -- The events of a step that a speaker and its mirror receive, and what is written of the step.
-use Rattle.std.specs.Prelude.{◌≡◌, ℕ, List, [], false, Option, Some, option_map, Result, Ok}
-use Rattle.std.specs.Io.KnownBytes.{Appends}
+use Rattle.std.specs.Prelude.{◌≡◌, ℕ, List, [], false, Bool, Option, Some, None, OnOk, option_map, if◌then◌else◌, Result, Ok, Err}
 use Rattle.atree_script.specs.Playing.{RunsTold}
+use Rattle.atree_script.specs.Played.{Bytes}
+use Rattle.atree_script.specs.Scripts.{Writes}
 use Rattle.model.specs.declared.FullNodeId.{FullNodeId}
 use Rattle.model.specs.Events.{Event}
 use Rattle.model.specs.Mirror.{Records, MirrorsWhileKept}
 use Rattle.model.specs.World.{World}
 use Rattle.script_words.specs.declared.stops.Stop.{Stop}
+use Rattle.script_words.specs.declared.stops.Stop.TheVariants.{Memory}
 use Rattle.session.specs.declared.commands.Command.{Command}
 use Rattle.speaking.specs.declared.speaker.Speaker.{Speaker}
 use Rattle.speaking.specs.Edits.{Settles}
@@ -29,23 +31,39 @@ Hears s e t = Speaks s.0 e t.0 × MirrorsWhileKept s.1 e t.1
 abbrev pub StepsHeard : World → Command → World → Speaker × Option Records → Speaker × Option Records → Result Unit Stop → Type 0
 StepsHeard old c new s t result = RunsTold Hears old c new s t result
 
--- A step ends in this world, with the focus that the mirror has: exactly what the speaker has said since the last one, to the step's
--- end, is written. The speaker keeps the focused text.
-pub record SaysAtEnd (w : World) (m : Option Records) (s t : Speaker) (before after : Option (List ℕ)) : Type 0 where
-  pub focus : Option FullNodeId
-  pub mirrored : option_map (λ r. r.focus) m ≡ Some focus
+-- one that fell silent has lost something, so the run stops
+abbrev pub end_of_silence : Bool → Result Unit Stop
+end_of_silence silent = if silent then Err Memory else Ok tt
+
+-- a speaker ends a step in this world, with the focus of its mirror; a mirror that ran out of memory has none, and the run stops
+abbrev pub Ends : World → Option (Option FullNodeId) → Speaker → Speaker → Result Unit Stop → Type 0
+Ends w None s t result = (t ≡ s) × (result ≡ Err Memory)
+Ends w (Some focus) s t result = Settles w focus s t × (result ≡ end_of_silence (fell_silent t))
+
+-- what was said is taken from the speaker, which stays as it is otherwise
+pub record IsTaken (s t : Speaker) : Type 0 where
+  pub said : said_by t ≡ []
+  pub waiting : waiting_in t ≡ waiting_in s
+  pub text : text_held_by t ≡ text_held_by s
+  pub silent : fell_silent t ≡ fell_silent s
+
+-- A step ends in this world: exactly what the speaker has said since the last one, to the step's end, is written. Where memory
+-- has run out the run then stops.
+pub record SaysAtEnd (w : World) (m : Option Records) (s t : Speaker) (result : Result Unit Stop) (before after : Bytes) : Type 0 where
   pub settled : Speaker
-  pub settles : Settles w focus s settled
-  pub speaks : fell_silent settled ≡ false
-  pub written : Appends before after (said_by settled)
-  pub taken : said_by t ≡ []
-  pub waiting : waiting_in t ≡ waiting_in settled
-  pub text : text_held_by t ≡ text_held_by settled
-  pub still_speaks : fell_silent t ≡ false
+  pub ended : Result Unit Stop
+  pub ends : Ends w (option_map (λ r. r.focus) m) s settled ended
+  pub written : Writes (said_by settled) ended result before after
+  pub taken : OnOk result (IsTaken settled t)
+
+-- a step that stops the run says nothing; after another one what is said of it is written
+abbrev pub SaysAfter : World → Result Unit Stop → Speaker × Option Records → Speaker × Option Records → Result Unit Stop → Bytes → Bytes → Type 0
+SaysAfter w (Err stop) s t result before after = (t ≡ s) × (result ≡ Err stop) × (after ≡ before)
+SaysAfter w (Ok done) s t result before after = SaysAtEnd w s.1 s.0 t.0 result before after × (t.1 ≡ s.1)
 
 -- both receive the events of a step, and what is said of it is written
-pub record SpokenStep (old : World) (c : Command) (new : World) (s t : Speaker × Option Records) (before after : Option (List ℕ)) : Type 0 where
+pub record SpokenStep (old : World) (c : Command) (new : World) (s t : Speaker × Option Records) (result : Result Unit Stop) (before after : Bytes) : Type 0 where
   pub between : Speaker × Option Records
-  pub heard : StepsHeard old c new s between (Ok tt)
-  pub says : SaysAtEnd new between.1 between.0 t.0 before after
-  pub mirror : t.1 ≡ between.1
+  pub stepped : Result Unit Stop
+  pub heard : StepsHeard old c new s between stepped
+  pub says : SaysAfter new stepped between t result before after

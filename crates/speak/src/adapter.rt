@@ -1,12 +1,16 @@
 //! Running a script with a speaker, and with a mirror that knows the focus.
-ghost use Rattle.std.specs.Prelude.{◌≡◌, ◌≤◌, ◌≢◌, IfSome, IsSomeAnd, IfOk, OnOk, ⊤};
+ghost use Rattle.std.specs.Prelude.{◌≡◌, ◌≤◌, ◌≢◌, IfSome, IsSomeAnd, IfOk, IfErr, OnOk, None};
+ghost use Rattle.atree_script.specs.Played.{PlaysOut};
 ghost use Rattle.model.specs.Mirror.{AreRecordsOf};
+ghost use Rattle.script_words.specs.declared.stops.Stop.TheVariants.{Memory};
 ghost use Rattle.views.specs.ShownWorlds.{world_of};
-ghost use Rattle.speak.specs.Steps.{IsBegun, StepsHeard, SaysAtEnd, SpokenStep};
+ghost use Rattle.speak.specs.Spoken.{aloud_of, Utters, SpeaksScript};
+ghost use Rattle.speak.specs.Steps.{IsBegun, StepsHeard, Ends, SaysAtEnd, SpokenStep};
 
 use accesskit_consumer::StateRef;
+use accesskit_consumer::node::FullNodeId;
 use accesskit_consumer::tree::{Mirror, UpdateError};
-use atree_script::{Player, Program, Stop, end_run, play, run_told, stopped_by};
+use atree_script::{Played, Player, Program, Stop, end_script_run, play, run_told, stopped_by};
 use session::{Command, Query, Session};
 use speaking::Speaker;
 use std::alloc::Global;
@@ -17,8 +21,9 @@ pub(crate) struct Speak;
 
 impl Program for Speak {
     /// Runs a script to its end, or until something stops it, and writes what a screen reader would say of it. Returns
-    /// the exit status, as for [`atree_script::run_script`]. An update that runs out of memory ends the run too, since
-    /// what it would have said is lost. Queries and `print` in the script say nothing.
+    /// the exit status, as for [`atree_script::run_script`]; of a bad line the column is reported too, and what is wrong
+    /// in it. An update that runs out of memory ends the run too, since what it would have said is lost. Queries and
+    /// `print` in the script say nothing.
     fn run<R: BufRead, O: Write, E: Write>(
         &self,
         alloc: Global,
@@ -28,26 +33,52 @@ impl Program for Speak {
     ) -> u8
         ensures bound { result ≤ 4 }
         ensures not_one { result ≢ 1 }
+        ensures speaks { SpeaksScript (R.remaining input.old) (O.contents output.old) (O.contents output.new) (E.contents errors.old) (E.contents errors.new) result }
     {
-        let (ended, number) = play_aloud(alloc, input, output);
-        end_run(ended, number, output, errors)
+        speak_script(alloc, input, output, errors)
     }
 }
 
-/// Runs a script, and writes what a screen reader would say of it. Returns how the run ended, and the number of the
-/// last line that was read.
-fn play_aloud<R: BufRead, O: Write>(
+/// Runs a script, and writes what a screen reader would say of it. Returns the exit status.
+fn speak_script<R: BufRead, O: Write, E: Write>(
     alloc: Global,
     input: &mut R,
     output: &mut O,
-) -> (Result<(), Stop>, u64) {
+    errors: &mut E,
+) -> u8
+    ensures bound { result ≤ 4 }
+    ensures not_one { result ≢ 1 }
+    ensures speaks { SpeaksScript (R.remaining input.old) (O.contents output.old) (O.contents output.new) (E.contents errors.old) (E.contents errors.new) result }
+{
     let mut adapter = Adapter {
         alloc,
         told: None,
         output: &mut *output,
     };
-    let played = play(alloc, input, &mut adapter);
-    (played.ended, played.number)
+    let played = play_aloud(alloc, input, &mut adapter);
+    let Adapter {
+        alloc: _,
+        told,
+        output: spoken,
+    } = adapter;
+    drop(told);
+    // This does nothing. The proof reads from it what the output has.
+    let _ = &*spoken;
+    end_script_run(played.ended, &played.script, output, errors)
+}
+
+/// Plays a script, and writes what a screen reader would say of it.
+fn play_aloud<R: BufRead, O: Write>(
+    alloc: Global,
+    input: &mut R,
+    adapter: &mut Adapter<'_, O>,
+) -> Played
+    ensures output { adapter.new.output.ghost_name ≡ adapter.old.output.ghost_name }
+    ensures plays { let before = aloud_of adapter.old.told (O.contents adapter.old.output.now) in
+        let after = aloud_of adapter.new.told (O.contents adapter.new.output.now) in
+        PlaysOut Utters (R.remaining input.old) before result after }
+{
+    play(alloc, input, adapter)
 }
 
 /// A speaker, a mirror, and the output to which speech is written.
@@ -60,11 +91,12 @@ struct Adapter<'a, O> {
 }
 
 impl<'a, O: Write> Player for Adapter<'a, O> {
-    ghost turns = { λ _ _ _ _. ⊤ };
+    ghost turns = { λ s turn result t. (t.output.ghost_name ≡ s.output.ghost_name)
+        × Utters (aloud_of s.told (O.contents s.output.now)) turn result (aloud_of t.told (O.contents t.output.now)) };
 
     fn begin(&mut self, session: &Session) -> Result<(), Stop> {
         let mut told = begun(self.alloc, session)?;
-        let written = write_said(&mut told, session.tree().state().view(), self.output);
+        let written = write_said(&mut told, view_of(session), self.output);
         self.told = Some(told);
         written
     }
@@ -94,11 +126,19 @@ impl<'a, O: Write> Player for Adapter<'a, O> {
 fn begun(alloc: Global, session: &Session) -> Result<(Speaker, Mirror), Stop>
     ensures speaker { IfOk result (λ told. IsBegun session.now told.0) }
     ensures mirror { IfOk result (λ told. IsSomeAnd told.1 (AreRecordsOf session.now)) }
+    ensures stops { IfErr result (λ stop. stop ≡ Memory) }
 {
     let mirror = Mirror::new(alloc, session.tree())?;
     let mut speaker = Speaker::new(alloc);
-    speaker.begin(session.tree().state().view());
+    speaker.begin(view_of(session));
     Ok((speaker, mirror))
+}
+
+/// A view of the session's tree.
+fn view_of(session: &Session) -> StateRef<'_>
+    ensures { world_of result ≡ session.now }
+{
+    session.tree().state().view()
 }
 
 /// Runs a command, whose events the speaker and the mirror receive, and writes what is said of it. A mirror that
@@ -110,11 +150,11 @@ fn speak_step<O: Write>(
     output: &mut O,
 ) -> Result<(), Stop>
     ensures spoken { let before = O.contents output.old in let after = O.contents output.new in
-        OnOk result (SpokenStep session.old command session.new told.old told.new before after) }
+        SpokenStep session.old command session.new told.old told.new result before after }
     ensures mirrored { OnOk result (IsSomeAnd told.old.1 (AreRecordsOf session.old) → IfSome told.new.1 (AreRecordsOf session.new)) }
 {
     step(session, command, told)?;
-    write_said(told, session.tree().state().view(), output)
+    write_said(told, view_of(session), output)
 }
 
 /// Runs a command, whose events the speaker and the mirror receive. A mirror that matches the session's tree before
@@ -134,17 +174,30 @@ fn write_said<O: Write>(
     output: &mut O,
 ) -> Result<(), Stop>
     ensures said { let before = O.contents output.old in let after = O.contents output.new in
-        OnOk result (SaysAtEnd (world_of view.entry) told.old.1 told.old.0 told.new.0 before after) }
+        SaysAtEnd (world_of view.entry) told.old.1 told.old.0 told.new.0 result before after }
     ensures mirror { told.new.1 ≡ told.old.1 }
 {
-    let Some(focus) = told.1.focus() else {
-        output.write_all(told.0.said().as_bytes())?;
-        return Err(Stop::Memory);
-    };
-    told.0.settle(view, focus);
+    let focus = told.1.focus();
+    let ended = settle(&mut told.0, view, focus);
     output.write_all(told.0.said().as_bytes())?;
     told.0.clear_said();
-    if told.0.is_silent() {
+    ended
+}
+
+/// Ends a step of the speaker, after which this node of the mirror is focused. If the mirror has no node any more, or if
+/// the speaker has fallen silent, an allocation failed, and the run stops.
+fn settle(
+    speaker: &mut Speaker,
+    view: StateRef,
+    focus: Option<Option<FullNodeId>>,
+) -> Result<(), Stop>
+    ensures { Ends (world_of view.entry) focus speaker.old speaker.new result }
+{
+    let Some(focus) = focus else {
+        return Err(Stop::Memory);
+    };
+    speaker.settle(view, focus);
+    if speaker.is_silent() {
         return Err(Stop::Memory);
     }
     Ok(())

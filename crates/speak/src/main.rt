@@ -2,11 +2,13 @@
 #![tactic(auto)]
 
 mod adapter;
+mod manual;
 
 use crate::adapter::Speak;
-use atree_script::run_program;
+use crate::manual::MANUAL;
+use atree_script::run_without_arguments;
 use std::process::ExitCode;
 
 fn main(rt: HostRuntime) -> ExitCode {
-    run_program(&rt, &Speak)
+    run_without_arguments(&rt, &MANUAL, &Speak)
 }

@@ -3,26 +3,26 @@ use Rattle.std.specs.Prelude.{◌≡◌, ℕ, List, codes, Option, Some, None, i
 use Rattle.schema.specs.NodeData.{NodeData}
 use Rattle.model.specs.World.{HasData}
 use Rattle.model.specs.Events.{Seen}
-use Rattle.model.specs.Labels.{label_of}
+use Rattle.hidden_texts.specs.Shown.{shown_label}
 use Rattle.phrases.specs.declared.states.State.{State}
 use Rattle.phrases.specs.News.{news}
-use Rattle.phrases.specs.Sayings.{label_line, value_line, state_line}
+use Rattle.phrases.specs.Sayings.{label_line, value_line, description_line, state_line}
 use Rattle.phrases.specs.States.{toggled_word, expanded_word, selected_word, new_word, same_flag, same_toggle, flag_word}
-use Rattle.phrases.specs.Voices.{Speech, said_too}
-use Rattle.speaking.specs.NodeTexts.{value_said, state_said, is_edited}
-
--- a line is said if there is something to say
-abbrev pub said_if : (List ℕ → List ℕ) → Option (List ℕ) → Speech → Speech
-said_if line None v = v
-said_if line (Some text) v = said_too v (line text)
+use Rattle.phrases.specs.Voices.{Speech}
+use Rattle.speaking.specs.Said.{said_if}
+use Rattle.speaking.specs.NodeTexts.{value_said, description_said, state_said, is_edited}
 
 abbrev pub label_said : Seen → Seen → Speech → Speech
-label_said old new v = said_if label_line (news (label_of old.world old.id) (label_of new.world new.id)) v
+label_said old new v = said_if label_line (news (shown_label old.world old.id) (shown_label new.world new.id)) v
 
 -- the new value, unless typing in the node is said as edits
 abbrev pub value_change : Seen → NodeData → Seen → NodeData → Speech → Speech
 value_change old d new e v =
-    if is_edited e then v else said_if value_line (news (value_said old.world old.id d) (value_said new.world new.id e)) v
+    if is_edited new.world new.id e then v else said_if value_line (news (value_said old.world old.id d) (value_said new.world new.id e)) v
+
+abbrev pub description_change : Seen → NodeData → Seen → NodeData → Speech → Speech
+description_change old d new e v =
+    said_if description_line (news (description_said old.world old.id d) (description_said new.world new.id e)) v
 
 -- words for what was toggled, expanded or selected
 abbrev pub toggles_said : State → State → Speech → Speech
@@ -38,10 +38,11 @@ flags_said s t v =
     (said_if state_line (flag_word (codes "read-only") (codes "editable") s.is_read_only t.is_read_only)
     (said_if state_line (flag_word (codes "disabled") (codes "enabled") s.is_disabled t.is_disabled) v))
 
--- the label, the value and the state, if they are new
+-- the label, the value, the description and the state, if they are new
 abbrev pub change_said : Seen → NodeData → Seen → NodeData → Speech → Speech
 change_said old d new e v =
-    flags_said (state_said d) (state_said e) (toggles_said (state_said d) (state_said e) (value_change old d new e (label_said old new v)))
+    flags_said (state_said d) (state_said e) (toggles_said (state_said d) (state_said e)
+    (description_change old d new e (value_change old d new e (label_said old new v))))
 
 pub record SaysChange (old new : Seen) (v u : Speech) : Type 0 where
   pub before : NodeData

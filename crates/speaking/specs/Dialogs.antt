@@ -1,11 +1,12 @@
--- What is said of a moved focus: the dialog that it enters, and the node.
+-- What is said of a moved focus: the dialog and the group that it enters, and the node.
 use Rattle.std.specs.Prelude.{◌≡◌, ◌≢◌, ⊤, ◌⊎◌, Option, Some, None, option_copied}
 use Rattle.schema.specs.NodeData.{NodeData}
 use Rattle.model.specs.declared.FullNodeId.{FullNodeId}
 use Rattle.model.specs.World.{World, HasData}
 use Rattle.model.specs.Events.{Seen}
 use Rattle.model.specs.Focus.{IsActiveDialog}
-use Rattle.model.specs.Labels.{label_of}
+use Rattle.hidden_texts.specs.Hidden.{hides_label}
+use Rattle.hidden_texts.specs.Shown.{shown_label}
 use Rattle.phrases.specs.declared.focus.Focus.{Focus}
 use Rattle.phrases.specs.declared.sayings.Dialog.{Dialog}
 use Rattle.phrases.specs.declared.sayings.Saying.TheVariants.{Focused, InDialog}
@@ -13,6 +14,7 @@ use Rattle.phrases.specs.News.{news}
 use Rattle.phrases.specs.Roles.{role_word}
 use Rattle.phrases.specs.Sayings.{saying}
 use Rattle.phrases.specs.Voices.{Speech, said_too}
+use Rattle.speaking.specs.Groups.{group_said}
 use Rattle.speaking.specs.NodeTexts.{ShowsFocus}
 
 -- the old focus was in the dialog
@@ -32,7 +34,8 @@ Enters old new None = IsActiveDialog new.world None ⊎ ((dialog : FullNodeId) �
 
 pub record ShowsDialog (w : World) (id : FullNodeId) (d : NodeData) (g : Dialog) : Type 0 where
   pub role : g.role.now ≡ role_word d.role
-  pub label : option_copied g.label ≡ news None (label_of w id)
+  pub label : option_copied g.label ≡ news None (shown_label w id)
+  pub hidden_label : g.is_label_hidden ≡ hides_label w id
   pub modal : g.is_modal ≡ d.modal
 
 -- a line says the dialog
@@ -55,13 +58,13 @@ abbrev pub SaysEntered : World → Option FullNodeId → Speech → Speech → T
 SaysEntered w None v u = u ≡ v
 SaysEntered w (Some dialog) v u = SaysDialog w dialog v u
 
--- the dialog first, and then the focus
+-- the dialog first, then the group, and then the focus
 pub record SaysMove (old : Option Seen) (new : Seen) (v u : Speech) : Type 0 where
   pub entered : Option FullNodeId
   pub enters : Enters old new entered
   pub between : Speech
   pub dialog : SaysEntered new.world entered v between
-  pub focus : SaysFocus new between u
+  pub focus : SaysFocus new (group_said old new between) u
 
 -- nothing is said if there is no focus any more
 abbrev pub SaysMoved : Option Seen → Option Seen → Speech → Speech → Type 0

@@ -2,6 +2,10 @@ pub mod Changes
 pub mod Dialogs
 pub mod Edits
 pub mod Events
+pub mod Groups
+pub mod Laws
+pub mod Lines
 pub mod LiveTexts
 pub mod NodeTexts
+pub mod Said
 pub mod Speakers

@@ -16,6 +16,7 @@ use Rattle.model.specs.RoleClasses.{is_text_input}
 use Rattle.model.specs.Upward.{says}
 use Rattle.model.specs.Views.{live}
 use Rattle.model.specs.World.{World, HasData}
+use Rattle.hidden_texts.specs.Hidden.{is_in_password}
 use Rattle.phrases.specs.News.{news}
 use Rattle.phrases.specs.Tellings.{told}
 use Rattle.phrases.specs.Voices.{Speech}
@@ -25,9 +26,9 @@ is_live Off = false
 is_live Polite = true
 is_live Assertive = true
 
--- it is in a live region, is shown, isn't busy, and isn't edited by typing
+-- it is in a live region, is shown, isn't busy, isn't edited by typing, and isn't in a password
 abbrev pub is_told : World → FullNodeId → NodeData → Bool
-is_told w id d = is_live (live w id) && (not (is_text_input d.role) && (not (is_hidden w id) && not d.busy))
+is_told w id d = is_live (live w id) && (not (is_text_input d.role) && (not (is_hidden w id) && (not d.busy && not (is_in_password w id))))
 
 -- typing is said for the input, and a value replaces its runs
 abbrev pub speaks_for_runs : NodeData → Bool

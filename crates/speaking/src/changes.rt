@@ -2,21 +2,23 @@
 ghost use Rattle.std.specs.Prelude.{◌≡◌, ℕ, List, OnOk, option_copied};
 ghost use Rattle.phrases.specs.Sayings.{state_line};
 ghost use Rattle.views.specs.Nodes.{data_at, seen_node};
-ghost use Rattle.speaking.specs.Changes.{said_if, label_said, value_change, toggles_said, flags_said, SaysChange};
+ghost use Rattle.speaking.specs.Said.{said_if};
+ghost use Rattle.speaking.specs.Changes.{label_said, value_change, description_change, toggles_said, flags_said, SaysChange};
 
-use crate::reading::{is_edited, shown_value, state_of};
+use crate::reading::{description_said, is_edited, state_of, value_said};
 use accesskit_consumer::NodeRef;
+use hidden_texts::shown_label;
 use phrases::{
     Saying, State, Voice, expanded_change, flag_change, news, selected_change, toggled_change,
 };
 use std::alloc::{AllocError, Global};
 
-/// Says the label if it changed.
+/// Says the label if it changed, and isn't hidden.
 fn say_label(alloc: Global, voice: &mut Voice, old: NodeRef, new: NodeRef) -> Result<(), AllocError>
     ensures { OnOk result (voice.new ≡ label_said (seen_node old.entry) (seen_node new.entry) voice.old) }
 {
-    let before = old.label(alloc)?;
-    let now = new.label(alloc)?;
+    let before = shown_label(alloc, &old)?;
+    let now = shown_label(alloc, &new)?;
     match news(before.as_deref(), now.as_deref()) {
         Some(label) => voice.say(Saying::Named(label)),
         None => Ok(()),
@@ -31,10 +33,21 @@ fn say_value(alloc: Global, voice: &mut Voice, old: NodeRef, new: NodeRef) -> Re
     if is_edited(new) {
         return Ok(());
     }
-    let before = shown_value(alloc, old)?;
-    let now = shown_value(alloc, new)?;
+    let before = value_said(alloc, old)?;
+    let now = value_said(alloc, new)?;
     match news(before.as_deref(), now.as_deref()) {
         Some(value) => voice.say(Saying::Valued(value)),
+        None => Ok(()),
+    }
+}
+
+/// Says the description if it changed.
+fn say_description(voice: &mut Voice, old: NodeRef, new: NodeRef) -> Result<(), AllocError>
+    ensures { let o = old.entry in let n = new.entry in
+        OnOk result (voice.new ≡ description_change (seen_node o) (data_at o) (seen_node n) (data_at n) voice.old) }
+{
+    match news(description_said(old), description_said(new)) {
+        Some(description) => voice.say(Saying::Described(description)),
         None => Ok(()),
     }
 }
@@ -96,6 +109,7 @@ pub(crate) fn say_change(
 {
     say_label(alloc, voice, old, new)?;
     say_value(alloc, voice, old, new)?;
+    say_description(voice, old, new)?;
     let before = state_of(old);
     let now = state_of(new);
     say_toggles(voice, before, now)?;

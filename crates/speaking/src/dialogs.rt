@@ -1,12 +1,14 @@
-//! Speech for a moved focus: the dialog that it enters, and the node.
+//! Speech for a moved focus: the dialog and the group that it enters, and the node.
 ghost use Rattle.std.specs.Prelude.{◌≡◌, ◌↔◌, true, false, IsTrue, IfSome, OnOk, option_map, option_copied};
 ghost use Rattle.model.specs.Focus.{IsActiveDialog};
-ghost use Rattle.model.specs.Labels.{label_of};
+ghost use Rattle.hidden_texts.specs.Shown.{shown_label};
 ghost use Rattle.views.specs.Nodes.{world_at, id_at, data_at, seen_node, seen_through};
 ghost use Rattle.speaking.specs.Dialogs.{WasInside, WasOutside, Enters, ShowsDialog, SaysDialog, SaysEntered, SaysMove, SaysMoved};
 
 use crate::focus::say_focus;
+use crate::groups::say_group;
 use accesskit_consumer::{FullNodeId, NodeRef};
+use hidden_texts::{hides_label, shown_label};
 use phrases::{Dialog, Saying, Voice, news, role_word};
 use std::alloc::{AllocError, Global};
 
@@ -58,12 +60,13 @@ fn entered<'a>(old: Option<&NodeRef<'_>>, new: NodeRef<'a>) -> Option<NodeRef<'a
 
 /// What is said of a dialog with this label, which may be empty.
 fn dialog_of<'a>(node: NodeRef, label: Option<&'a str>) -> Dialog<'a>
-    requires { option_copied label ≡ label_of (world_at node) (id_at node) }
+    requires { option_copied label ≡ shown_label (world_at node) (id_at node) }
     ensures { ShowsDialog (world_at node.entry) (id_at node.entry) (data_at node.entry) result }
 {
     Dialog {
         role: role_word(node.role()),
         label: news(None, label),
+        is_label_hidden: hides_label(&node),
         is_modal: node.is_modal(),
     }
 }
@@ -72,7 +75,7 @@ fn dialog_of<'a>(node: NodeRef, label: Option<&'a str>) -> Dialog<'a>
 fn say_dialog(alloc: Global, voice: &mut Voice, node: NodeRef) -> Result<(), AllocError>
     ensures { OnOk result (SaysDialog (world_at node.entry) (id_at node.entry) voice.old voice.new) }
 {
-    let label = node.label(alloc)?;
+    let label = shown_label(alloc, &node)?;
     voice.say(Saying::InDialog(dialog_of(node, label.as_deref())))
 }
 
@@ -93,7 +96,7 @@ fn say_entered(
     }
 }
 
-/// Says the new focus: the dialog that it has entered, and the node.
+/// Says the new focus: the dialog and the group that it has entered, and the node.
 fn say_come(
     alloc: Global,
     voice: &mut Voice,
@@ -103,6 +106,7 @@ fn say_come(
     ensures { OnOk result (SaysMove (seen_through old.entry) (seen_node new.entry) voice.old voice.new) }
 {
     say_entered(alloc, voice, entered(old, new), new)?;
+    say_group(alloc, voice, old, new)?;
     say_focus(alloc, voice, new)
 }
 

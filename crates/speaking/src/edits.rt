@@ -1,15 +1,18 @@
 //! The focused text: what is typed into it, and the line of its caret.
-ghost use Rattle.std.specs.Prelude.{◌≡◌, ◌↔◌, [], IsTrue, IfOk, IfSome, OnOk, unwrap_or, option_map, option_copied, string_bytes};
-ghost use Rattle.model.specs.Values.{document_text, value_of};
+ghost use Rattle.std.specs.Prelude.{◌≡◌, ◌↔◌, [], IsTrue, IfOk, IfSome, OnOk, None, Some, if◌then◌else◌, unwrap_or, option_map, option_copied, string_bytes};
+ghost use Rattle.hidden_texts.specs.Shown.{shown_value};
+ghost use Rattle.model.specs.Values.{document_text};
 ghost use Rattle.texts.specs.NodeTexts.{root_of};
 ghost use Rattle.views.specs.ShownWorlds.{world_of};
 ghost use Rattle.views.specs.Nodes.{world_at, id_at};
-ghost use Rattle.speaking.specs.Edits.{edited_text, caret_index, text_of_line, IsWithoutNewline, SaysText, SaysLine, SaysCaret, IsReadOf, SaysEdit, SaysArrival, held_of, SaysTextOf, SaysEdited, IsEdited, SaysFocused, SaysEnd};
+ghost use Rattle.speaking.specs.Lines.{caret_index, caret_said, line_of_runs, text_of_line};
+ghost use Rattle.speaking.specs.Edits.{runs_or_value, edited_text, selected_text, selection_said, IsWithoutNewline, SaysText, SaysLine, SaysCaret, SaysMoves, IsReadOf, SaysEdit, SaysArrival, held_of, SaysTextOf, SaysEdited, IsEdited, SaysFocused, SaysEnd};
 
 use crate::dialogs::is_same;
 use crate::reading::is_edited;
 use accesskit_consumer::text::{NodeText, Text, TextSelections};
 use accesskit_consumer::{FullNodeId, NodeRef, StateRef};
+use hidden_texts::shown_value;
 use phrases::{Saying, Voice, edit};
 use std::alloc::{AllocError, Global};
 
@@ -17,22 +20,26 @@ use std::alloc::{AllocError, Global};
 #[derive(Drop)]
 pub(crate) struct FocusedText {
     id: FullNodeId,
+    /// Whether the text is a password, and these are bullets.
+    is_password: bool,
     text: String,
-    /// The line of the caret, counted from 0.
+    /// The line of the caret, counted from 0; `None` in a password.
     line: Option<usize>,
+    /// The selected text; empty if nothing is selected, and in a password.
+    selected: String,
 }
 
-/// The value, or an empty text if there isn't one.
+/// The value that isn't hidden, of a password in bullets, or an empty text if there isn't one.
 fn value_or_empty(alloc: Global, node: NodeRef) -> Result<String, AllocError>
-    ensures { IfOk result (λ text. string_bytes text ≡ unwrap_or (value_of (world_at node.entry) (id_at node.entry)) []) }
+    ensures { IfOk result (λ text. string_bytes text ≡ unwrap_or (shown_value (world_at node.entry) (id_at node.entry)) []) }
 {
-    match node.value(alloc)? {
+    match shown_value(alloc, &node)? {
         Some(value) => Ok(value),
         None => Ok(String::new(alloc)),
     }
 }
 
-/// The whole text of the runs. That of a password is masked.
+/// The whole text of the runs.
 fn document_text(alloc: Global, text: Text) -> Result<String, AllocError>
     ensures { let n = root_of text.entry in
         IfOk result (λ it. string_bytes it ≡ document_text (world_at n) (id_at n)) }
@@ -40,14 +47,24 @@ fn document_text(alloc: Global, text: Text) -> Result<String, AllocError>
     text.range().text(alloc)
 }
 
-/// The edited text: that of the runs, or else the value.
-fn edited_text(alloc: Global, node: NodeRef) -> Result<String, AllocError>
-    ensures { IfOk result (λ text. string_bytes text ≡ edited_text (world_at node.entry) (id_at node.entry)) }
+/// The text of the runs, or else the value.
+fn runs_or_value(alloc: Global, node: NodeRef) -> Result<String, AllocError>
+    ensures { IfOk result (λ text. string_bytes text ≡ runs_or_value (world_at node.entry) (id_at node.entry)) }
 {
     match node.text() {
         Some(text) => document_text(alloc, text),
         None => value_or_empty(alloc, node),
     }
+}
+
+/// The edited text: that of the runs, unless they are a password's, or else the value.
+fn edited_text(alloc: Global, node: NodeRef) -> Result<String, AllocError>
+    ensures { IfOk result (λ text. string_bytes text ≡ edited_text (world_at node.entry) (id_at node.entry)) }
+{
+    if node.is_password_input() {
+        return value_or_empty(alloc, node);
+    }
+    runs_or_value(alloc, node)
 }
 
 /// The line of the caret, counted from 0.
@@ -58,10 +75,33 @@ fn caret_index(node: NodeRef) -> Option<usize>
     Some(caret.to_line_index())
 }
 
-/// The text of a line, by its number from 0.
-fn text_of_line(alloc: Global, node: NodeRef, line: usize) -> Result<Option<String>, AllocError>
+/// The line of the caret, but not in a password.
+pub(crate) fn caret_said(node: NodeRef) -> Option<usize>
+    ensures { result ≡ caret_said (world_at node.entry) (id_at node.entry) }
+{
+    if node.is_password_input() {
+        return None;
+    }
+    caret_index(node)
+}
+
+/// The selected text; empty if nothing is selected, and in a password.
+fn selected_text(alloc: Global, node: NodeRef) -> Result<String, AllocError>
+    ensures { IfOk result (λ text. string_bytes text ≡ selected_text (world_at node.entry) (id_at node.entry)) }
+{
+    if node.is_password_input() {
+        return Ok(String::new(alloc));
+    }
+    match node.text_selection() {
+        Some(range) => range.text(alloc),
+        None => Ok(String::new(alloc)),
+    }
+}
+
+/// The text of a line of the runs, by its number from 0.
+fn line_of_runs(alloc: Global, node: NodeRef, line: usize) -> Result<Option<String>, AllocError>
     ensures { let n = node.entry in
-        IfOk result (λ text. option_map string_bytes text ≡ text_of_line (world_at n) (id_at n) line) }
+        IfOk result (λ text. option_map string_bytes text ≡ line_of_runs (world_at n) (id_at n) line) }
 {
     let Some(text) = node.text() else {
         return Ok(None);
@@ -70,6 +110,17 @@ fn text_of_line(alloc: Global, node: NodeRef, line: usize) -> Result<Option<Stri
         Some(range) => Ok(Some(range.text(alloc)?)),
         None => Ok(None),
     }
+}
+
+/// The text of a line, by its number from 0, but not of a password.
+fn text_of_line(alloc: Global, node: NodeRef, line: usize) -> Result<Option<String>, AllocError>
+    ensures { let n = node.entry in
+        IfOk result (λ text. option_map string_bytes text ≡ text_of_line (world_at n) (id_at n) line) }
+{
+    if node.is_password_input() {
+        return Ok(None);
+    }
+    line_of_runs(alloc, node, line)
 }
 
 /// The text without the newline at its end.
@@ -114,8 +165,10 @@ fn read(alloc: Global, node: NodeRef) -> Result<FocusedText, AllocError>
 {
     Ok(FocusedText {
         id: node.id(),
+        is_password: node.is_password_input(),
         text: edited_text(alloc, node)?,
-        line: caret_index(node),
+        line: caret_said(node),
+        selected: selected_text(alloc, node)?,
     })
 }
 
@@ -143,7 +196,35 @@ fn say_caret(
     say_line(alloc, voice, node, now)
 }
 
-/// Says what was removed and typed, or else the line that the caret has moved to.
+/// Says what is selected, or what no longer is, if that is new.
+fn say_selection(voice: &mut Voice, before: &str, now: &str) -> Result<(), AllocError>
+    ensures { OnOk result (voice.new ≡ selection_said before.now now.now voice.old) }
+{
+    if before == now {
+        return Ok(());
+    }
+    if now.is_empty() {
+        return voice.say(Saying::Unselected(before));
+    }
+    voice.say(Saying::Selected(now))
+}
+
+/// Says the line that the caret has moved to, and the selection if it is new.
+fn say_moves(
+    alloc: Global,
+    voice: &mut Voice,
+    node: NodeRef,
+    before: &FocusedText,
+    now: &FocusedText,
+) -> Result<(), AllocError>
+    ensures { let n = node.entry in
+        OnOk result (SaysMoves (world_at n) (id_at n) before.now now.now voice.old voice.new) }
+{
+    say_caret(alloc, voice, node, before.line, now.line)?;
+    say_selection(voice, before.selected.as_str(), now.selected.as_str())
+}
+
+/// Says what was removed and typed, or else where the caret and the selection have moved.
 fn say_edit(
     alloc: Global,
     voice: &mut Voice,
@@ -156,7 +237,7 @@ fn say_edit(
 {
     match edit(before.text.as_str(), now.text.as_str()) {
         Some(change) => voice.say(Saying::Changed(change)),
-        None => say_caret(alloc, voice, node, before.line, now.line),
+        None => say_moves(alloc, voice, node, before, now),
     }
 }
 
@@ -176,12 +257,12 @@ fn say_arrival(
     say_line(alloc, voice, node, now.line)
 }
 
-/// The text, if it is that of the node.
-fn of_node(held: Option<FocusedText>, id: FullNodeId) -> Option<FocusedText>
-    ensures { result ≡ held_of id held }
+/// The text, if it is that of the node, and was a password then if it is one now.
+fn of_node(held: Option<FocusedText>, id: FullNodeId, is_password: bool) -> Option<FocusedText>
+    ensures { result ≡ held_of id is_password held }
 {
     let held = held?;
-    if is_same(held.id, id) {
+    if is_same(held.id, id) && held.is_password == is_password {
         Some(held)
     } else {
         None
@@ -216,7 +297,8 @@ fn say_edited(
         IfOk result (λ now. SaysEdited (world_at n) (id_at n) held now voice.old voice.new) }
 {
     let now = read(alloc, node)?;
-    say_text_of(alloc, voice, node, of_node(held, now.id), &now)?;
+    let before = of_node(held, now.id, now.is_password);
+    say_text_of(alloc, voice, node, before, &now)?;
     Ok(now)
 }
 

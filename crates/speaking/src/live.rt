@@ -8,6 +8,7 @@ ghost use Rattle.speaking.specs.LiveTexts.{is_live, is_told, speaks_for_runs, ho
 
 use accesskit_consumer::NodeRef;
 use accesskit_consumer::filters::FilterResult;
+use hidden_texts::is_in_password;
 use phrases::{Voice, news};
 use schema::{Live, Role};
 use std::alloc::AllocError;
@@ -22,11 +23,16 @@ fn is_live(live: Live) -> bool
     }
 }
 
-/// Whether a change of the node is announced: it is in a live region, is shown, isn't busy, and isn't edited by typing.
+/// Whether a change of the node is announced: it is in a live region, is shown, isn't busy, isn't edited by typing, and isn't
+/// in a password.
 fn is_told(node: NodeRef) -> bool
     ensures { let n = node.entry in result ≡ is_told (world_at n) (id_at n) (data_at n) }
 {
-    is_live(node.live()) && !node.is_text_input() && !node.is_hidden() && !node.is_busy()
+    is_live(node.live())
+        && !node.is_text_input()
+        && !node.is_hidden()
+        && !node.is_busy()
+        && !is_in_password(&node)
 }
 
 /// Whether the node is announced in place of its runs: typing is said for the input, and a value replaces its runs.

@@ -1,0 +1,6 @@
+pub mod Anys
+pub mod Apart
+pub mod HiddenAlike
+pub mod Outlined
+pub mod Secrets
+pub mod ShownAlike

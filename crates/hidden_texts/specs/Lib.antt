@@ -1,0 +1,5 @@
+pub mod Alike
+pub mod Hidden
+pub mod Laws
+pub mod Shown
+pub mod Walked

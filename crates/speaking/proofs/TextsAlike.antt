@@ -1,0 +1,75 @@
+-- In two worlds that differ in what is typed into a password alone, the same is said at the end of a step.
+use Rattle.std.proofs.Common.{◌≡◌, ℕ, Bool, true, false, not, ◌&&◌, Option, Some, None, string_bytes, is_none, refl, sym, ap, subst, ◌∙◌}
+use Rattle.schema.specs.NodeData.{NodeData}
+use Rattle.model.specs.declared.FullNodeId.{FullNodeId}
+use Rattle.model.specs.RoleClasses.{is_text_input}
+use Rattle.model.specs.World.{World, HasData}
+use Rattle.hidden_texts.specs.Hidden.{hides_text}
+use Rattle.phrases.specs.Voices.{Speech}
+use Rattle.speaking.specs.declared.edits.FocusedText.{FocusedText}
+use Rattle.speaking.specs.declared.speaker.Speaker.{Speaker}
+use Rattle.speaking.specs.Edits.{SaysLine, SaysText, IsReadOf, SaysMoves, SaysArrival, held_of, SaysTextOf, SaysEdited, SaysOf, IsEdited, SaysFocused, SaysEnd, Settles}
+use Rattle.speaking.specs.Laws.{AreAlike, SettlesAlike}
+use Rattle.speaking.specs.NodeTexts.{is_edited}
+use Rattle.speaking.proofs.Alike.{edited_is}
+use Rattle.speaking.proofs.LinesAlike.{secrets_one, many_is, line_is, edited_text_is, caret_is, selected_is}
+use Rattle.speaking.proofs.Plain.{both_true, not_true}
+use Rattle.speaking.proofs.Same.{there, back}
+
+-- ---- a node whose text isn't hidden
+
+module _ (p : FullNodeId) (w v : World) (alike : AreAlike p w v) (id : FullNodeId) (open' : hides_text w id ≡ false) where
+  says_line : (k : Option ℕ) (x y : Speech) → SaysLine w id k x y → SaysLine v id k x y
+  says_line None x y h = h
+  says_line (Some k) x y h = subst (λ o. SaysText o x y) (line_is p w v alike id open' k) h
+
+  is_read : (t : FocusedText) → IsReadOf w id t → IsReadOf v id t
+  is_read t h = record { node = h.node; kind = h.kind ∙ secrets_one p w v alike id open'; text = h.text ∙ edited_text_is p w v alike id open'; line = h.line ∙ caret_is p w v alike id open'; selected = h.selected ∙ selected_is p w v alike id open' }
+
+  says_moves : (before t : FocusedText) (x y : Speech) → SaysMoves w id before t x y → SaysMoves v id before t x y
+  says_moves before t x y h = record {
+    between = h.between;
+    caret = record { moved = λ far. says_line t.line x h.between (h.caret.moved far); stayed = h.caret.stayed };
+    selection = h.selection;
+  }
+
+  says_text_of : (held : Option FocusedText) (t : FocusedText) (x y : Speech) → SaysTextOf w id held t x y → SaysTextOf v id held t x y
+  says_text_of None t x y h = (λ e. says_line t.line x y (h.0 (many_is p w v alike id open' ∙ e)), λ e. h.1 (many_is p w v alike id open' ∙ e))
+  says_text_of (Some before) t x y h = record {
+    typed = h.typed;
+    same = λ e. says_moves before t x y (h.same e);
+  }
+
+  says_edited : (held : Option FocusedText) (t : FocusedText) (x y : Speech) → SaysEdited w id held t x y → SaysEdited v id held t x y
+  says_edited held t x y h = (is_read t h.0, says_text_of (held_of id t.is_password held) t x y h.1)
+
+-- ---- the focused text
+
+module _ (p : FullNodeId) (w v : World) (alike : AreAlike p w v) where
+  edited_node : (focus node : Option FullNodeId) → IsEdited w focus node → IsEdited v focus node
+  edited_node focus None h = λ id e at has.
+      let d = back p w v alike id e has in
+      sym (edited_is p w v alike id d.0 e d.2) ∙ h id d.0 at d.1
+  edited_node focus (Some id) h =
+      let e = there p w v alike id h.1.0 h.1.1 in
+      (h.0, (e.0, e.1, sym (edited_is p w v alike id h.1.0 e.0 (sym e.2)) ∙ h.1.2))
+
+  is_shown : (id : FullNodeId) (d : NodeData) → is_edited w id d ≡ true → hides_text w id ≡ false
+  is_shown id d e =
+      let first = both_true (is_text_input d.role) (is_none d.numeric_value && not (hides_text w id)) e in
+      not_true (hides_text w id) (both_true (is_none d.numeric_value) (not (hides_text w id)) first.1).1
+
+  says_of : (focus node : Option FullNodeId) (held now : Option FocusedText) (x y : Speech) → IsEdited w focus node → SaysOf w node held now x y → SaysOf v node held now x y
+  says_of focus None held now x y edited h = h
+  says_of focus (Some id) held None x y edited h = h
+  says_of focus (Some id) held (Some t) x y edited h = (says_edited p w v alike id (is_shown id edited.1.0 edited.1.2) held t x y h.0, h.1)
+
+  says_focused : (focus : Option FullNodeId) (held now : Option FocusedText) (x y : Speech) → SaysFocused w focus held now x y → SaysFocused v focus held now x y
+  says_focused focus held now x y h =
+      record { node = h.node; edited = edited_node focus h.node h.edited; says = says_of focus h.node held now x y h.edited h.says }
+
+  says_end : (focus : Option FullNodeId) (held now : Option FocusedText) (x y : Speech) → SaysEnd w focus held now x y → SaysEnd v focus held now x y
+  says_end focus held now x y h = record { between = h.between; text = says_focused focus held now x h.between h.text; waited = h.waited }
+
+pub settles_alike : SettlesAlike
+settles_alike p w v focus s t alike h = record { silent = h.silent; says = λ e. says_end p w v alike focus s.text t.text s.voice t.voice (h.says e) }

@@ -1,0 +1,88 @@
+//! Speech for a group that the focus enters.
+ghost use Rattle.std.specs.Prelude.{◌≡◌, IfSome, OnOk, option_map};
+ghost use Rattle.views.specs.Nodes.{world_at, id_at, data_at, seen_node, seen_through};
+ghost use Rattle.speaking.specs.Groups.{is_group_word, is_group, group_answer, group_around, was_in_group, group_named, group_said};
+
+use accesskit_consumer::NodeRef;
+use accesskit_consumer::filters::FilterResult;
+use hidden_texts::shown_label;
+use phrases::{Group, Saying, Voice, news, role_word};
+use schema::Role;
+use std::alloc::{AllocError, Global};
+
+/// Whether this is said of groups, radio groups or frames.
+fn is_group_word(word: &str) -> bool
+    ensures { result ≡ is_group_word word.now }
+{
+    word == "group" || word == "radio group" || word == "frame"
+}
+
+/// Whether the node is a group, a radio group or a frame. A container isn't.
+fn is_group(node: &NodeRef) -> bool
+    ensures { result ≡ is_group (data_at node.now).role }
+{
+    node.role() != Role::GenericContainer && is_group_word(role_word(node.role()))
+}
+
+/// The filter that includes groups.
+fn groups(node: &NodeRef<'_>) -> FilterResult
+    ensures { result ≡ group_answer (world_at node.now) (id_at node.now) }
+{
+    if is_group(node) {
+        FilterResult::Include
+    } else {
+        FilterResult::ExcludeNode
+    }
+}
+
+/// The nearest group above a node.
+fn group_around<'a>(node: NodeRef<'a>) -> Option<NodeRef<'a>>
+    ensures world { IfSome result (λ group. world_at group ≡ world_at node.entry) }
+    ensures group { option_map id_at result ≡ group_around (world_at node.entry) (id_at node.entry) }
+{
+    node.filtered_parent(&groups)
+}
+
+/// Whether the old focus was this group, or in it.
+fn was_in_group(old: Option<&NodeRef<'_>>, group: NodeRef) -> bool
+    ensures { result ≡ was_in_group (seen_through old.entry) (id_at group.entry) }
+{
+    match old {
+        Some(node) => node.is_descendant_of(&group),
+        None => false,
+    }
+}
+
+/// Says a group, if it has a name.
+fn say_named(alloc: Global, voice: &mut Voice, group: NodeRef) -> Result<(), AllocError>
+    ensures { OnOk result (voice.new ≡ group_named (world_at group.entry) (id_at group.entry) voice.old) }
+{
+    let label = shown_label(alloc, &group)?;
+    let Some(label) = news(None, label.as_deref()) else {
+        return Ok(());
+    };
+    let role = role_word(group.role());
+    voice.say(Saying::InGroup(Group { role, label }))
+}
+
+/// Says the nearest group above the new focus, unless the old focus was in it.
+///
+/// # Errors
+///
+/// Returns `AllocError` if memory runs out.
+pub(crate) fn say_group(
+    alloc: Global,
+    voice: &mut Voice,
+    old: Option<&NodeRef>,
+    new: NodeRef,
+) -> Result<(), AllocError>
+    ensures { OnOk result (voice.new ≡ group_said (seen_through old.entry) (seen_node new.entry) voice.old) }
+{
+    let Some(group) = group_around(new) else {
+        return Ok(());
+    };
+    if was_in_group(old, group) {
+        return Ok(());
+    }
+    say_named(alloc, voice, group)
+}
