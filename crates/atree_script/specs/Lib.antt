@@ -1,9 +1,9 @@
 pub mod Input
 pub mod Outline
-pub mod Passing
 pub mod Played
 pub mod Playing
 pub mod Printed
 pub mod Refused
 pub mod Replies
+pub mod Reports
 pub mod Scripts

@@ -1,10 +1,12 @@
 -- The result of playing a script, and of running it.
-use Rattle.std.specs.Prelude.{ℕ, Bool, List, Option, Result}
+use Rattle.std.specs.Prelude.{◌≡◌, ℕ, Bool, List, Option, Result}
 use Rattle.std.specs.Io.KnownBytes.{Keeps}
 use Rattle.model.specs.World.{World}
-use Rattle.script_lines.specs.Ends.{Tells, told_at_end, status_at_end}
+use Rattle.script_lines.specs.Ends.{Tells, TellsEnd, told_at_end, status_at_end}
 use Rattle.script_lines.specs.ScriptReading.{Place}
+use Rattle.script_lines.specs.Taking.{number_of}
 use Rattle.script_lines.specs.declared.reader.ScriptCommand.{ScriptCommand}
+use Rattle.script_lines.specs.declared.reader.ScriptReader.{ScriptReader}
 use Rattle.script_words.specs.declared.stops.Stop.{Stop}
 use Rattle.atree_script.specs.Input.{start_of}
 use Rattle.atree_script.specs.Playing.{Turn, Stage, no_tree, Plays}
@@ -23,11 +25,12 @@ module _ {P : Type 0} (turns : P → Turn → Result Unit Stop → P → Type 0)
   abbrev pub PlaysFrom : Option Place → Playing → P → Result Unit Stop → ℕ → Playing → P → Type 0
   PlaysFrom input old s ended number new t = (commands : List ScriptCommand) × Plays turns input (stage_of old, s) commands ended number (stage_of new, t)
 
-  -- a whole script is played, and this is the result
+  -- a whole script is played, and this is the result, with the reader as it is after the last line
   pub record PlaysOut (input : Option (List ℕ)) (s : P) (played : Played) (t : P) : Type 0 where
     pub commands : List ScriptCommand
     pub host : Bool
     pub plays : Plays turns (start_of input) (no_tree, s) commands played.ended played.number (record { world = played.session; host = host }, t)
+    pub numbered : number_of played.script ≡ played.number
 
 -- A script is run: each command of the input in turn, from no tree on, by a player whose output has these bytes. What it has
 -- written stands at the end, and why the run ended is reported.
@@ -39,3 +42,13 @@ pub record RunsBy {P : Type 0} (turns : P → Turn → Result Unit Stop → P �
   pub plays : Plays turns (start_of input) (no_tree, start) commands ended number end
   pub kept : Keeps (written end.1) after
   pub tells : Tells told_before told_after (told_at_end number ended) (status_at_end ended) status
+
+-- The same, but a bad line is reported with its fault, of which the reader of the script knows.
+pub record RunsWithFaults {P : Type 0} (turns : P → Turn → Result Unit Stop → P → Type 0) (written : P → Bytes) (start : P) (input after told_before told_after : Bytes) (status : ℕ) : Type 0 where
+  pub commands : List ScriptCommand
+  pub ended : Result Unit Stop
+  pub script : ScriptReader
+  pub end : Stage × P
+  pub plays : Plays turns (start_of input) (no_tree, start) commands ended (number_of script) end
+  pub kept : Keeps (written end.1) after
+  pub tells : TellsEnd script ended told_before told_after status

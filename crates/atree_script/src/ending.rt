@@ -1,13 +1,19 @@
 //! Reading a script for the tree that it leaves.
-ghost use Rattle.std.specs.Prelude.{◌≡◌, ◌≢◌, ◌≤◌, IfErr};
-ghost use Rattle.atree_script.specs.Passing.{Passes};
+ghost use Rattle.std.specs.Prelude.{◌≡◌, ◌≢◌, ◌≤◌, ℕ, IfErr, List};
+ghost use Rattle.model.specs.Events.{Event};
+ghost use Rattle.script_lines.specs.InputLines.{next_number};
+ghost use Rattle.session.specs.Replied.{IsStep};
+ghost use Rattle.atree_script.specs.Played.{Bytes, PlaysOut};
+ghost use Rattle.atree_script.specs.Reports.{ReadsTree, Reports, ReportsRefusal, ReportsReply, ReportsStep, count_after, refusal_of};
 
-use crate::playing::{Player, play, run_told, stopped_by};
+use crate::playing::{Played, Player, play, stopped_by};
 use accesskit_consumer::node::NodeRef;
 use accesskit_consumer::tree::{TreeChangeHandler, UpdateError};
-use script_lines::{Arguments, Program, Stop, end_run, read_arguments, run_program, tell_stop};
-use session::{Command, Query, Session};
-use std::alloc::Global;
+use script_lines::{
+    Arguments, Manual, Program, Stop, end_run, read_arguments, run_program, tell_script_stop,
+};
+use session::{Command, Query, Reply, Session};
+use std::alloc::{AllocError, Global};
 use std::io::{BufRead, Write};
 use std::process::ExitCode;
 
@@ -27,19 +33,30 @@ impl TreeChangeHandler for Silent {
     fn node_removed(&mut self, _node: &NodeRef) {}
 }
 
-impl Player for Silent {
-    ghost turns = { λ _ turn result _. Passes turn result };
+/// Reads a script for its tree, and reports which of its updates are refused.
+#[derive(Drop)]
+struct Reading<'a, E> {
+    errors: &'a mut E,
+    /// The number of updates so far.
+    updates: u64,
+}
+
+impl<'a, E: Write> Player for Reading<'a, E> {
+    ghost turns = { λ s turn result t. (t.errors.ghost_name ≡ s.errors.ghost_name) × Reports (s.updates, E.contents s.errors.now) turn result (t.updates, E.contents t.errors.now) };
 
     fn begin(&mut self, _session: &Session) -> Result<(), Stop> {
+        self.updates = next_number(self.updates);
         Ok(())
     }
 
     fn refuse(&mut self, refusal: UpdateError) -> Result<(), Stop> {
-        stopped_by(refusal)
+        self.updates = next_number(self.updates);
+        report_refusal(self.updates, refusal, self.errors)
     }
 
     fn run(&mut self, session: &mut Session, command: Command) -> Result<(), Stop> {
-        run_told(session, command, self)
+        self.updates = count_after(self.updates, &command);
+        run_reported(session, command, self.updates, self.errors)
     }
 
     fn ask(&mut self, _session: &mut Option<Session>, _query: Query) -> Result<(), Stop> {
@@ -48,6 +65,83 @@ impl Player for Silent {
 
     fn print(&mut self, _session: &Option<Session>) -> Result<(), Stop> {
         Ok(())
+    }
+}
+
+/// The number of updates after this command.
+fn count_after(updates: u64, command: &Command) -> u64
+    ensures { result ≡ count_after updates command.now }
+{
+    match command {
+        Command::Update(_) => next_number(updates),
+        Command::HostFocus(_) | Command::Query(_) => updates,
+    }
+}
+
+/// The number of updates after one more.
+fn next_number(updates: u64) -> u64
+    ensures { result ≡ next_number updates }
+{
+    updates.saturating_add(1)
+}
+
+/// Runs a command, and reports a refused update by this number.
+fn run_reported<E: Write>(
+    session: &mut Session,
+    command: Command,
+    number: u64,
+    errors: &mut E,
+) -> Result<(), Stop>
+    ensures { ReportsStep number session.old command session.new result (E.contents errors.old) (E.contents errors.new) }
+{
+    let reply = step_silent(session, command);
+    report_reply(number, &reply, errors)
+}
+
+/// Runs a command whose events nobody receives.
+fn step_silent(session: &mut Session, command: Command) -> Result<Reply, AllocError>
+    ensures { (events : List Event) × IsStep session.old command session.new events result }
+{
+    session.step(command, &mut Silent)
+}
+
+/// Reports by its number that an update was refused, if this is the reply to it.
+fn report_reply<E: Write>(
+    number: u64,
+    reply: &Result<Reply, AllocError>,
+    errors: &mut E,
+) -> Result<(), Stop>
+    ensures { ReportsReply number reply.now result (E.contents errors.old) (E.contents errors.new) }
+{
+    match reply {
+        Ok(reply) => match refusal_of(reply) {
+            Some(refusal) => report_refusal(number, refusal, errors),
+            None => Ok(()),
+        },
+        Err(_) => Err(Stop::Memory),
+    }
+}
+
+/// The refusal that a reply is, if it is one.
+fn refusal_of(reply: &Reply) -> Option<UpdateError>
+    ensures { result ≡ refusal_of reply.now }
+{
+    match reply {
+        Reply::Refused(refusal) => Some(*refusal),
+        _ => None,
+    }
+}
+
+/// Reports by its number that an update was refused, and why. One that ran out of memory stops the script, and isn't reported here.
+fn report_refusal<E: Write>(number: u64, refusal: UpdateError, errors: &mut E) -> Result<(), Stop>
+    ensures { ReportsRefusal number refusal result (E.contents errors.old) (E.contents errors.new) }
+{
+    match stopped_by(refusal) {
+        Ok(()) => {
+            writeln!(errors, "update {number}: {refusal}")?;
+            Ok(())
+        }
+        Err(stop) => Err(stop),
     }
 }
 
@@ -69,11 +163,11 @@ pub trait Teller {
 /// The exit status if what was asked for doesn't exist.
 const NOT_THERE: u8 = 1;
 
-/// Runs a program that prints something about the tree that the script on standard input leaves, as its arguments say.
-/// The exit status is 0 if what was asked for exists, and 1 if it doesn't; 2, 3 and 4 are as for [`crate::run_script`],
-/// and 2 is also for invalid arguments.
-pub fn tell_as_asked<T: Teller + Arguments>(rt: &HostRuntime) -> ExitCode {
-    let asked: Result<T, u8> = read_arguments(rt);
+/// Runs a program that prints something about the tree that the script on standard input leaves, as its arguments say, unless
+/// [`script_lines::read_arguments`] says that it is not to run. The exit status is 0 if what was asked for exists, and 1 if it doesn't;
+/// 2, 3 and 4 are as for [`crate::run_script`].
+pub fn tell_as_asked<T: Teller + Arguments>(rt: &HostRuntime, manual: &Manual) -> ExitCode {
+    let asked: Result<T, u8> = read_arguments(rt, manual);
     match asked {
         Ok(teller) => run_program(rt, &Telling { teller }),
         Err(status) => ExitCode::from(status),
@@ -141,7 +235,7 @@ fn told<T: Teller, O: Write>(
 }
 
 /// Reads a script to its end and returns the session that it leaves, if there is a tree. Refused updates change
-/// nothing, and queries are skipped.
+/// nothing and are reported on `errors`, each by its number among the updates; queries are skipped.
 ///
 /// # Errors
 ///
@@ -152,11 +246,32 @@ fn read_script<R: BufRead, E: Write>(
     input: &mut R,
     errors: &mut E,
 ) -> Result<Option<Session>, u8>
-    ensures { IfErr result (λ status. (status ≤ 4) × (status ≢ 0) × (status ≢ 1)) }
+    ensures status { IfErr result (λ status. (status ≤ 4) × (status ≢ 0) × (status ≢ 1)) }
+    ensures reads { ReadsTree (R.remaining input.old) (E.contents errors.old) (E.contents errors.new) result }
 {
-    let played = play(alloc, input, &mut Silent);
+    let mut reading = Reading {
+        errors: &mut *errors,
+        updates: 0,
+    };
+    let played = play_reported(alloc, input, &mut reading);
+    // This does nothing. The proof reads from it what the errors have.
+    let _ = &*reading.errors;
     match played.ended {
         Ok(()) => Ok(played.session),
-        Err(stop) => Err(tell_stop(stop, played.number, errors)),
+        Err(stop) => Err(tell_script_stop(stop, &played.script, errors)),
     }
+}
+
+/// Plays a script for its tree, and reports its refused updates.
+fn play_reported<R: BufRead, E: Write>(
+    alloc: Global,
+    input: &mut R,
+    reading: &mut Reading<'_, E>,
+) -> Played
+    ensures errors { reading.new.errors.ghost_name ≡ reading.old.errors.ghost_name }
+    ensures plays { let before : ℕ × Bytes = (reading.old.updates, E.contents reading.old.errors.now) in
+        let after : ℕ × Bytes = (reading.new.updates, E.contents reading.new.errors.now) in
+        PlaysOut Reports (R.remaining input.old) before result after }
+{
+    play(alloc, input, reading)
 }

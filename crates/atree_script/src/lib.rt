@@ -15,6 +15,7 @@ pub use printer::ShownId;
 pub use replies::write_text;
 pub use run::run_script;
 pub use script_lines::{
-    Arguments, Program, ScriptCommand, ScriptReader, Stop, end_run, number, role_named,
-    run_program, tell_no_memory, tree_named, write_quoted,
+    ArgumentError, ArgumentKind, Arguments, Manual, Program, ScriptCommand, ScriptReader, Stop,
+    end_run, end_script_run, is_like_a_file, miscounted, number, role_named, run_program,
+    run_without_arguments, tell_no_memory, tree_named, unknown_word, write_quoted,
 };

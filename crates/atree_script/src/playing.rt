@@ -4,7 +4,7 @@ ghost use Rattle.script_lines.specs.ScriptReading.{place};
 ghost use Rattle.script_lines.specs.Taking.{number_of};
 ghost use Rattle.script_lines.specs.declared.reader.ScriptCommand.TheVariants as script_;
 ghost use Rattle.script_words.specs.declared.stops.Stop.{Stop};
-ghost use Rattle.atree_script.specs.Playing.{Turn, Begun, FirstRefused, Ran, Asked, Printed, RunsTold, CarriesOut, SendsFirst, end_of_refusal};
+ghost use Rattle.atree_script.specs.Playing.{Turn, Begun, FirstRefused, Ran, Asked, Printed, RunsTold, CarriesOut, SendsFirst, end_of_refusal, end_of_reply};
 ghost use Rattle.atree_script.specs.Played.{stage_of, PlaysFrom, PlaysOut};
 
 use accesskit_consumer::tree::{TreeChangeHandler, UpdateError};
@@ -69,6 +69,8 @@ pub struct Played {
     pub ended: Result<(), Stop>,
     /// The number of the last line that was read, counted from 1.
     pub number: u64,
+    /// The reader of the script, which knows what is wrong in a bad line.
+    pub script: ScriptReader,
 }
 
 /// Plays a script to its end, or until something stops it. A refused update changes nothing.
@@ -86,6 +88,7 @@ pub fn play<R: BufRead, P: Player>(alloc: Global, input: &mut R, player: &mut P)
         session: play.session,
         ended,
         number: script.line_number(),
+        script,
     }
 }
 
@@ -102,7 +105,14 @@ pub fn run_told<H: TreeChangeHandler>(
     ensures { RunsTold H.steps session.old command session.new handler.old handler.new result }
 {
     let reply = session.step(command, handler)?;
-    match &reply {
+    ended_by(&reply)
+}
+
+/// Whether a reply stops the script: only that of an update that ran out of memory does.
+fn ended_by(reply: &Reply) -> Result<(), Stop>
+    ensures { result ≡ end_of_reply reply.now }
+{
+    match reply {
         Reply::Refused(refusal) => stopped_by(*refusal),
         _ => Ok(()),
     }

@@ -1,2 +1,7 @@
 pub mod Found
+pub mod Given
+pub mod Laws
+pub mod Middle
+pub mod Printed
 pub mod Sought
+pub mod Viewed

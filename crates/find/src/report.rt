@@ -1,103 +1,140 @@
 //! Printing a node that was found.
+mod middle;
+mod names;
 
-use accesskit_consumer::filters::common_filter;
+ghost use Rattle.std.specs.Prelude.{◌≡◌, OnOk};
+ghost use Rattle.std.specs.Io.KnownBytes.{Appends};
+ghost use Rattle.model.specs.Geometry.{bounding_box};
+ghost use Rattle.views.specs.Nodes.{world_at, id_at};
+ghost use Rattle.find.specs.Printed.{value_line, place_text, hit_text, middle_line, pair_text, sides_line, box_text, node_text};
+
+use self::middle::at_middle;
+use self::names::{write_name, write_path};
 use accesskit_consumer::node::NodeRef;
-use atree_script::{ShownId, Stop, write_quoted, write_text};
-use role_names::RoleName;
-use schema::{Point, WideRect};
+use atree_script::{ShownId, Stop, write_text};
+use hidden_texts::{hides_value, is_in_password, shown_value};
+use schema::WideRect;
 use std::alloc::Global;
 use std::io::{self, Write};
+use views::node::same::is_same;
 
-/// Prints a node: its id, value, path and bounds, and the node at its centre.
-pub(crate) fn report<O: Write>(alloc: Global, node: NodeRef, out: &mut O) -> Result<(), Stop> {
+/// Prints a node below the top: its id, value, path and bounds, and the node at its centre.
+pub(crate) fn report<O: Write>(
+    alloc: Global,
+    top: NodeRef,
+    node: NodeRef,
+    out: &mut O,
+) -> Result<(), Stop>
+    requires { world_at node ≡ world_at top }
+    ensures { let w = world_at node.entry in
+        OnOk result (Appends (O.contents out.old) (O.contents out.new) (node_text w (id_at top.entry) (id_at node.entry))) }
+{
     let id = ShownId(node.id());
     writeln!(out, "{id}")?;
-    out.write_all(b"  value ")?;
-    write_text(node.value(alloc)?.as_deref(), out)?;
+    write_value(alloc, node, out)?;
     write_path(alloc, node, out)?;
+    write_box(alloc, top, node, out)
+}
+
+/// Writes the node's value, or that it is hidden.
+fn write_value<O: Write>(alloc: Global, node: NodeRef, out: &mut O) -> Result<(), Stop>
+    ensures { OnOk result (Appends (O.contents out.old) (O.contents out.new) (value_line (world_at node.entry) (id_at node.entry))) }
+{
+    out.write_all(b"  value ")?;
+    if hides_value(&node) {
+        out.write_all(b"hidden\n")?;
+        return Ok(());
+    }
+    let value = shown_value(alloc, &node)?;
+    write_text(value.as_deref(), out)?;
+    Ok(())
+}
+
+/// Writes the node's bounds, and which node is at their centre.
+fn write_box<O: Write>(alloc: Global, top: NodeRef, node: NodeRef, out: &mut O) -> Result<(), Stop>
+    requires { world_at node ≡ world_at top }
+    ensures { let w = world_at node.entry in let id = id_at node.entry in
+        OnOk result (Appends (O.contents out.old) (O.contents out.new) (box_text w (id_at top.entry) id (bounding_box w id))) }
+{
     let Some(bounds) = node.bounding_box() else {
         out.write_all(b"  bounds none\n")?;
         return Ok(());
     };
-    let WideRect { x0, y0, x1, y1 } = bounds;
-    writeln!(out, "  bounds {x0},{y0},{x1},{y1}")?;
-    write_middle(alloc, node, bounds, out)
+    write_sides(bounds, out)?;
+    write_middle(alloc, top, node, bounds, out)
 }
 
-/// Writes the node's path: the role and label of each node from the root to it.
-fn write_path<O: Write>(alloc: Global, node: NodeRef, out: &mut O) -> Result<(), Stop> {
-    let mut upward = Vec::new(alloc);
-    let mut at = Some(node);
-    for _ in 0..usize::MAX {
-        let Some(node) = at else {
-            break;
-        };
-        upward.push(node)?;
-        at = node.parent();
-    }
-    out.write_all(b"  path")?;
-    for (depth, node) in upward.iter().rev().enumerate() {
-        if depth > 0 {
-            out.write_all(b" >")?;
-        }
-        write_name(alloc, *node, out)?;
-    }
-    out.write_all(b"\n")?;
-    Ok(())
+/// Writes the line of the bounds' sides.
+fn write_sides<O: Write>(bounds: WideRect, out: &mut O) -> io::Result<()>
+    ensures { OnOk result (Appends (O.contents out.old) (O.contents out.new) (sides_line bounds)) }
+{
+    out.write_all(b"  bounds ")?;
+    write_start(bounds, out)?;
+    out.write_all(b",")?;
+    write_end(bounds, out)?;
+    out.write_all(b"\n")
 }
 
-/// Writes a space, the node's role, and its label in quotes if it has one.
-fn write_name<O: Write>(alloc: Global, node: NodeRef, out: &mut O) -> Result<(), Stop> {
-    let role = RoleName(node.role());
-    write!(out, " {role}")?;
-    if let Some(label) = node.label(alloc)? {
-        write_in_quotes(&label, out)?;
-    }
-    Ok(())
+/// Writes the left and the top.
+fn write_start<O: Write>(bounds: WideRect, out: &mut O) -> io::Result<()>
+    ensures { OnOk result (Appends (O.contents out.old) (O.contents out.new) (pair_text bounds.x0 bounds.y0)) }
+{
+    write!(out, "{},{}", bounds.x0, bounds.y0)
 }
 
-/// Writes a space, and the text in quotes.
-fn write_in_quotes<O: Write>(text: &str, out: &mut O) -> io::Result<()> {
-    out.write_all(b" \"")?;
-    write_quoted(text.as_bytes(), out)?;
-    out.write_all(b"\"")
+/// Writes the right and the bottom.
+fn write_end<O: Write>(bounds: WideRect, out: &mut O) -> io::Result<()>
+    ensures { OnOk result (Appends (O.contents out.old) (O.contents out.new) (pair_text bounds.x1 bounds.y1)) }
+{
+    write!(out, "{},{}", bounds.x1, bounds.y1)
 }
 
 /// Writes which node is at the centre of the node: the node itself, another one within it, one that covers it, or none.
 fn write_middle<O: Write>(
     alloc: Global,
+    top: NodeRef,
     node: NodeRef,
     bounds: WideRect,
     out: &mut O,
-) -> Result<(), Stop> {
-    let root = node.tree_state().root();
-    let hit = middle(root, bounds).and_then(|point| root.node_at_point(point, &common_filter));
-    let Some(hit) = hit else {
-        out.write_all(b"  middle none\n")?;
+) -> Result<(), Stop>
+    requires { world_at node ≡ world_at top }
+    ensures { let w = world_at node.entry in
+        OnOk result (Appends (O.contents out.old) (O.contents out.new) (middle_line w (id_at top.entry) (id_at node.entry) bounds)) }
+{
+    out.write_all(b"  middle ")?;
+    let Some(hit) = at_middle(top, bounds) else {
+        out.write_all(b"none\n")?;
         return Ok(());
     };
-    if hit.id() == node.id() {
-        out.write_all(b"  middle itself\n")?;
+    write_hit(alloc, node, hit, out)
+}
+
+/// Writes which node it is.
+fn write_hit<O: Write>(alloc: Global, node: NodeRef, hit: NodeRef, out: &mut O) -> Result<(), Stop>
+    requires { world_at hit ≡ world_at node }
+    ensures { let w = world_at node.entry in
+        OnOk result (Appends (O.contents out.old) (O.contents out.new) (hit_text w (id_at node.entry) (id_at hit.entry))) }
+{
+    if is_same(hit.id(), node.id()) {
+        out.write_all(b"itself\n")?;
         return Ok(());
     }
+    let how = place_of(node, hit);
     let id = ShownId(hit.id());
-    let how = if hit.is_descendant_of(&node) {
-        "within"
-    } else {
-        "covered by"
-    };
-    write!(out, "  middle {how} {id}")?;
-    write_name(alloc, hit, out)?;
+    write!(out, "{how} {id}")?;
+    write_name(alloc, hit, is_in_password(&hit), out)?;
     out.write_all(b"\n")?;
     Ok(())
 }
 
-/// The centre of a rectangle in the root's coordinates, without the root's own translation.
-fn middle(root: NodeRef, bounds: WideRect) -> Option<Point> {
-    let center = bounds.center()?;
-    let moved = root.direct_transform();
-    Some(Point {
-        x: center.x.checked_sub(i64::from(moved.x))?,
-        y: center.y.checked_sub(i64::from(moved.y))?,
-    })
+/// Where the node that is hit is: within the node, or not.
+fn place_of(node: NodeRef, hit: NodeRef) -> &'static str
+    requires { world_at hit ≡ world_at node }
+    ensures { result.now ≡ place_text (world_at node.entry) (id_at node.entry) (id_at hit.entry) }
+{
+    if hit.is_descendant_of(&node) {
+        "within"
+    } else {
+        "covered by"
+    }
 }

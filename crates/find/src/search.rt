@@ -1,12 +1,16 @@
 //! Searching the tree that a script leaves.
-ghost use Rattle.std.specs.Prelude.{◌≡◌, ◌==◌, List, map, length, IfOk, option_map, string_bytes};
+ghost use Rattle.std.specs.Prelude.{◌≡◌, ◌==◌, List, map, length, IfOk, All, OnOk, option_map, string_bytes};
+ghost use Rattle.std.specs.Io.KnownBytes.{Appends};
 ghost use Rattle.std.specs.Iterator.{IsFinite, Drains};
+ghost use Rattle.model.specs.World.{IsNode};
 ghost use Rattle.model.specs.Filters.{common_filter as common};
 ghost use Rattle.views.specs.Descendants.{filtered_descendants};
 ghost use Rattle.views.specs.declared.node.node_ref.NodeRef.{NodeRef as ANode};
 ghost use Rattle.views.specs.Nodes.{world_at, id_at};
 ghost use Rattle.views.specs.ShownWorlds.{world_of};
 ghost use Rattle.find.specs.Found.{shown_from, is_labelled, is_wanted, found};
+ghost use Rattle.find.specs.Laws.{TypingPrintsTheSame};
+ghost use Rattle.find.specs.Printed.{node_text, nodes_text};
 
 use crate::report::report;
 use crate::wanted::Wanted;
@@ -14,8 +18,15 @@ use accesskit_consumer::filters::{FilterResult, common_filter};
 use accesskit_consumer::node::{FullNodeId, NodeRef};
 use accesskit_consumer::tree::StateRef;
 use atree_script::Stop;
+use hidden_texts::shown_label;
 use std::alloc::{AllocError, Global};
 use std::io::Write;
+
+/// In two worlds that differ in what is typed into a password alone, the same nodes are found, and the same is printed.
+#[tactic(auto, using(crate::proofs::Alike::typing_prints_the_same))]
+fn typing_prints_the_same()
+    ensures { TypingPrintsTheSame }
+{}
 
 /// Prints each matching node from the top on, and returns whether there is exactly one.
 pub(crate) fn tell_found<O: Write>(
@@ -24,19 +35,49 @@ pub(crate) fn tell_found<O: Write>(
     wanted: &Wanted,
     output: &mut O,
 ) -> Result<bool, Stop>
-    ensures { let label = option_map string_bytes wanted.now.label in
+    ensures printed { let w = world_at top.entry in let label = option_map string_bytes wanted.now.label in
+        let text = nodes_text w (id_at top.entry) (found wanted.now.role label w (id_at top.entry)) in
+        OnOk result (Appends (O.contents output.old) (O.contents output.new) text) }
+    ensures one { let label = option_map string_bytes wanted.now.label in
         IfOk result (λ is_one. is_one ≡ (length (found wanted.now.role label (world_at top.entry) (id_at top.entry)) == 1)) }
 {
     let ids = found_ids(alloc, top, wanted)?;
-    for id in &ids {
-        if let Some(node) = top.tree_state().node_by_id(*id) {
-            report(alloc, node, output)?;
-        }
-    }
+    write_nodes(alloc, top, &ids, output)?;
+    Ok(ids.len() == 1)
+}
+
+/// Prints each of these nodes, or `none`.
+fn write_nodes<O: Write>(
+    alloc: Global,
+    top: NodeRef,
+    ids: &[FullNodeId],
+    output: &mut O,
+) -> Result<(), Stop>
+    requires { All (λ id. IsNode (world_at top) id) ids.now }
+    ensures { OnOk result (Appends (O.contents output.old) (O.contents output.new) (nodes_text (world_at top.entry) (id_at top.entry) ids.now)) }
+{
     if ids.is_empty() {
         output.write_all(b"none\n")?;
+        return Ok(());
     }
-    Ok(ids.len() == 1)
+    for id in ids {
+        write_found(alloc, top, *id, output)?;
+    }
+    Ok(())
+}
+
+/// Prints a node.
+fn write_found<O: Write>(
+    alloc: Global,
+    top: NodeRef,
+    id: FullNodeId,
+    output: &mut O,
+) -> Result<(), Stop>
+    requires { IsNode (world_at top) id }
+    ensures { OnOk result (Appends (O.contents output.old) (O.contents output.new) (node_text (world_at top.entry) (id_at top.entry) id)) }
+{
+    let node = top.tree_state().node_by_id(id).unwrap();
+    report(alloc, top, node, output)
 }
 
 /// The ids of the matching nodes, from the top on.
@@ -109,7 +150,7 @@ fn is_wanted(
     is_labelled(alloc, node, wanted)
 }
 
-/// Whether the node has the label, if one is given.
+/// Whether the node shows the label, if one is given. A hidden label is never found.
 fn is_labelled(alloc: Global, node: NodeRef, wanted: &Wanted) -> Result<bool, AllocError>
     ensures { let label = option_map string_bytes wanted.now.label in
         IfOk result (λ is. is ≡ is_labelled label (world_at node.entry) (id_at node.entry)) }
@@ -117,7 +158,7 @@ fn is_labelled(alloc: Global, node: NodeRef, wanted: &Wanted) -> Result<bool, Al
     let Some(sought) = &wanted.label else {
         return Ok(true);
     };
-    let Some(own) = node.label(alloc)? else {
+    let Some(own) = shown_label(alloc, &node)? else {
         return Ok(false);
     };
     Ok(sought.as_str() == own.as_str())

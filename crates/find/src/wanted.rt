@@ -1,17 +1,14 @@
 //! The arguments of the program.
 
-ghost use Rattle.std.specs.Prelude.{◌≡◌, ◌↔◌, Some};
-ghost use Rattle.role_names.specs.Names.{number_named};
-ghost use Rattle.schema.specs.declared.Role.{Role as ARole};
-ghost use Rattle.find.specs.Sought.{IsSought};
+ghost use Rattle.std.specs.Prelude.{◌≡◌, IfOk, option_copied, option_map, string_bytes};
+ghost use Rattle.find.specs.Given.{GivesWanted, ReadsWanted};
 
+use crate::given::role_given;
 use crate::search::tell_found;
-use atree_script::{Arguments, Stop, Teller, role_named};
-use role_names::other_role_named;
+use atree_script::{ArgumentError, Arguments, Stop, Teller, miscounted};
 use schema::Role;
 use session::Session;
-use std::alloc::Global;
-use std::env::Args;
+use std::alloc::{AllocError, Global};
 use std::io::Write;
 
 /// The role and label to search for.
@@ -23,20 +20,15 @@ pub(crate) struct Wanted {
 }
 
 impl Arguments for Wanted {
-    fn usage() -> &'static str {
-        "find ROLE [LABEL]"
-    }
+    ghost reads = { ReadsWanted };
 
     /// A role, and a label if there is one.
-    fn from_arguments(args: Args) -> Option<Wanted> {
-        let mut args = args;
-        let _program = args.next()?;
-        let role = role_sought(&args.next()?)?;
-        let label = args.next();
-        if args.next().is_some() {
-            return None;
+    fn from_words(alloc: Global, words: &[String]) -> Result<Wanted, ArgumentError> {
+        match words {
+            [role] => sought_by(alloc, role.as_str(), None),
+            [role, label] => sought_by(alloc, role.as_str(), Some(label.as_str())),
+            _ => Err(miscounted(words)),
         }
-        Some(Wanted { role, label })
     }
 }
 
@@ -52,12 +44,21 @@ impl Teller for Wanted {
     }
 }
 
-/// The role with this name: one that is sent by a number by its name, or any role as a script names it.
-fn role_sought(word: &str) -> Option<Role>
-    ensures { (role : ARole) → (result ≡ Some role) ↔ IsSought (number_named word.now) word.now role }
+/// The search for a role of this name, and for this label if one is given.
+fn sought_by(alloc: Global, role: &str, label: Option<&str>) -> Result<Wanted, ArgumentError>
+    ensures { GivesWanted role.now (option_copied label.entry) result }
 {
-    match other_role_named(word) {
-        Some(role) => Some(role),
-        None => role_named(word),
+    let role = role_given(alloc, role)?;
+    let label = owned(alloc, label)?;
+    Ok(Wanted { role, label })
+}
+
+/// A copy of a text, if there is one.
+fn owned(alloc: Global, text: Option<&str>) -> Result<Option<String>, AllocError>
+    ensures { IfOk result (λ copy. option_map string_bytes copy ≡ option_copied text.entry) }
+{
+    match text {
+        Some(text) => Ok(Some(String::from_str(alloc, text)?)),
+        None => Ok(None),
     }
 }

@@ -15,7 +15,8 @@ use Rattle.model.specs.Geometry.{direct_transform, sum_of_moves, transform, boun
 use Rattle.model.specs.Covers.{is_included, is_cut_off, following_filtered_siblings, preceding_filtered_siblings}
 use Rattle.model.specs.Filters.{is_hidden, first_answer, base_filter, is_first_inside, is_far_outside, is_clipped_by, is_clipped, answer_at, common_filter}
 use Rattle.views.proofs.Climbing.{parent_of, parent_above, nothing_above}
-use Rattle.page.specs.Known.{sum_of, clip_frame, frame_below, is_clear, is_in_secret, is_secret}
+use Rattle.page.specs.Known.{sum_of, clip_frame, frame_below, is_below_left_out, is_clear, is_left_out, is_secret}
+use Rattle.hidden_texts.specs.Hidden.{is_in_password}
 
 abbrev is_shown : World → FullNodeId → Bool
 is_shown w a = is_included (base_filter w a)
@@ -59,8 +60,11 @@ module _ (w : World) (formed : IsFormed w) (id : FullNodeId) where
     pub hidden_below : (says (λ d. d.hidden) w id || is_hidden w q) ≡ is_hidden w id
     hidden_below = ap (λ ids. says (λ d. d.hidden) w id || list_any (says (λ d. d.hidden) w) ids) (sym above)
 
-    pub secret_below : is_secret w q ≡ is_in_secret w id
+    pub secret_below : is_secret w q ≡ is_in_password w id
     secret_below = ap (list_any (says (λ d. is_password_input d.role) w)) (sym above)
+
+    pub left_out_below : is_left_out w q ≡ is_below_left_out w id
+    left_out_below = ap (list_any (λ a. is_cut_off (common_filter w a))) (sym above)
 
     pub frame_passed_on : is_shown w id ≡ false → frame_below w q ≡ frame_below w id
     frame_passed_on hides = frame_of_other w id (upward w q) above hides

@@ -1,6 +1,11 @@
-pub mod Anys
 pub mod Carrying
+pub mod Ended
 pub mod Focused
-pub mod Secrets
+pub mod Hiding
+pub mod Items
+pub mod LeftOut
+pub mod Reporting
+pub mod SaidAlike
 pub mod Told
 pub mod Viewed
+pub mod WordsTold

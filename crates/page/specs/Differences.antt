@@ -1,27 +1,58 @@
 -- How a page tells of two states of a node.
-use Rattle.std.specs.Prelude.{ℕ, List, Option, codes}
+use Rattle.std.specs.Prelude.{ℕ, ℤ, List, ◌++◌, Option, Some, None, codes}
+use Rattle.std.specs.Fmt.{signed_decimal}
+use Rattle.std.specs.List.{FoldsTo, zip}
+use Rattle.schema.specs.declared.geometry.WideRect.{WideRect}
 use Rattle.model.specs.Geometry.{bounding_box}
 use Rattle.views.specs.declared.node.node_ref.NodeRef.{NodeRef}
-use Rattle.views.specs.Nodes.{world_at, id_at}
-use Rattle.page.specs.Known.{is_in_secret}
-use Rattle.page.specs.Said.{label_shown, value_shown, TellsChange, TellsIfOther}
+use Rattle.views.specs.Nodes.{world_at, id_at, data_at}
+use Rattle.page.specs.Said.{arrow, node_label, node_value, state_words, TellsChange, TellsIfOther}
 
 -- the label and the value that a page shows of a node
 abbrev pub label_of_state : NodeRef → Option (List ℕ)
-label_of_state n = label_shown (is_in_secret (world_at n) (id_at n)) (world_at n) (id_at n)
+label_of_state n = node_label (world_at n) (id_at n)
 
 abbrev pub value_of_state : NodeRef → Option (List ℕ)
-value_of_state n = value_shown (is_in_secret (world_at n) (id_at n)) (world_at n) (id_at n)
+value_of_state n = node_value (world_at n) (id_at n)
 
--- where the boxes differ, that they do
+-- a box by its left, top, right and bottom, or that there is none
+abbrev pub pair_text : ℤ → ℤ → List ℕ
+pair_text x y = signed_decimal x ++ codes "," ++ signed_decimal y
+
+abbrev pub sides_text : WideRect → List ℕ
+sides_text rect = pair_text rect.x0 rect.y0 ++ codes "," ++ pair_text rect.x1 rect.y1
+
+abbrev pub box_or_none : Option WideRect → List ℕ
+box_or_none None = codes "<i>none</i>"
+box_or_none (Some rect) = sides_text rect
+
+-- that a box was the one and is the other
+abbrev pub box_change : Option WideRect → Option WideRect → List ℕ
+box_change old new = codes "; box " ++ box_or_none old ++ arrow ++ box_or_none new
+
+-- where the boxes differ, both
 abbrev pub TellsBox : NodeRef → NodeRef → Option (List ℕ) → Option (List ℕ) → Type 0
 TellsBox old new before after =
-    TellsIfOther (bounding_box (world_at old) (id_at old)) (bounding_box (world_at new) (id_at new)) (codes "; its box has changed") before after
+    let was = bounding_box (world_at old) (id_at old) in
+    let is = bounding_box (world_at new) (id_at new) in
+    TellsIfOther was is (box_change was is) before after
 
--- in this order, each where it differs: the labels, the values, and that the boxes do
+-- a word of a node's state was the one and is the other
+abbrev pub TellsWord : Option (List ℕ) → Option (List ℕ) × Option (List ℕ) → Option (List ℕ) → Type 0
+TellsWord before words after = TellsChange (codes "state") words.0 words.1 before after
+
+-- of these words and those, each that differs
+abbrev pub TellsWords : List (Option (List ℕ)) → List (Option (List ℕ)) → Option (List ℕ) → Option (List ℕ) → Type 0
+TellsWords old new before after = FoldsTo TellsWord before (zip old new) after
+
+abbrev pub TellsStates : NodeRef → NodeRef → Option (List ℕ) → Option (List ℕ) → Type 0
+TellsStates old new before after = TellsWords (state_words (data_at old)) (state_words (data_at new)) before after
+
+-- in this order, each where it differs: the labels, the values, the words of the states, and the boxes
 abbrev pub TellsDifferences : NodeRef → NodeRef → Option (List ℕ) → Option (List ℕ) → Type 0
 TellsDifferences old new before after =
-    (labelled : Option (List ℕ)) × (valued : Option (List ℕ))
+    (labelled : Option (List ℕ)) × (valued : Option (List ℕ)) × (stated : Option (List ℕ))
     × TellsChange (codes "label") (label_of_state old) (label_of_state new) before labelled
     × TellsChange (codes "value") (value_of_state old) (value_of_state new) labelled valued
-    × TellsBox old new valued after
+    × TellsStates old new valued stated
+    × TellsBox old new stated after

@@ -5,16 +5,17 @@ use Rattle.schema.specs.declared.geometry.Translation.{Translation}
 use Rattle.schema.specs.declared.geometry.WideTranslation.{WideTranslation}
 use Rattle.schema.specs.declared.geometry.WideRect.{WideRect}
 use Rattle.model.specs.declared.FullNodeId.{FullNodeId}
-use Rattle.model.specs.declared.filters.FilterResult.{FilterResult}
-use Rattle.model.specs.declared.filters.FilterResult.TheVariants.{Include, ExcludeNode}
 use Rattle.model.specs.World.{World}
 use Rattle.model.specs.Forest.{place_of}
+use Rattle.model.specs.declared.filters.FilterResult.{FilterResult}
+use Rattle.model.specs.declared.filters.FilterResult.TheVariants.{Include, ExcludeNode}
 use Rattle.model.specs.Lists.{ancestors}
 use Rattle.model.specs.Upward.{says, says_upward, upward}
 use Rattle.model.specs.RoleClasses.{is_password_input}
 use Rattle.model.specs.Geometry.{transform, bounding_box, meets}
-use Rattle.model.specs.Covers.{is_included}
+use Rattle.model.specs.Covers.{is_cut_off, is_included}
 use Rattle.model.specs.Filters.{is_hidden, base_filter, common_filter}
+use Rattle.hidden_texts.specs.Hidden.{is_in_password}
 use Rattle.page.specs.declared.carried.Known.{Known}
 use Rattle.page.specs.declared.carried.Step.{Step}
 
@@ -37,26 +38,30 @@ is_clear (Some None) rect = true
 is_clear (Some (Some frame)) None = true
 is_clear (Some (Some frame)) (Some rect) = meets rect frame
 
--- includes password inputs alone
-abbrev pub secrets : World → FullNodeId → FilterResult
-secrets w id = if says (λ d. is_password_input d.role) w id then Include else ExcludeNode
-
--- an ancestor of the node is a password input
-abbrev pub is_in_secret : World → FullNodeId → Bool
-is_in_secret w id = list_any (says (λ d. is_password_input d.role) w) (ancestors w id)
-
 -- the node or an ancestor is a password input
 abbrev pub is_secret : World → FullNodeId → Bool
 is_secret w id = says_upward (λ d. is_password_input d.role) w id
+
+-- the common filter excludes the node, or an ancestor, with its subtree
+abbrev pub is_below_left_out : World → FullNodeId → Bool
+is_below_left_out w id = list_any (λ a. is_cut_off (common_filter w a)) (ancestors w id)
+
+abbrev pub is_left_out : World → FullNodeId → Bool
+is_left_out w id = list_any (λ a. is_cut_off (common_filter w a)) (upward w id)
+
+-- includes the nodes that the common filter excludes with their subtrees
+abbrev pub left_out_filter : World → FullNodeId → FilterResult
+left_out_filter w id = if is_cut_off (common_filter w id) then Include else ExcludeNode
 
 -- the properties are those of this node
 pub record IsKnown (w : World) (id : FullNodeId) (known : Known) : Type 0 where
   pub shift : known.shift ≡ transform w id
   pub rect : known.rect ≡ bounding_box w id
   pub hidden : known.is_hidden ≡ is_hidden w id
-  pub in_secret : known.is_in_password ≡ is_in_secret w id
+  pub in_secret : known.is_in_password ≡ is_in_password w id
   pub secret : known.is_secret ≡ is_secret w id
   pub answer : known.answer ≡ common_filter w id
+  pub left_out : known.is_left_out ≡ is_left_out w id
   pub frame : IfSome known.frame (λ frame. frame ≡ frame_below w id)
 
 abbrev pub IsStep : World → Step → Type 0

@@ -1,6 +1,11 @@
 pub mod Differences
+pub mod Endings
 pub mod Known
+pub mod Laws
 pub mod Named
 pub mod Places
+pub mod Reports
 pub mod Said
+pub mod Shown
+pub mod States
 pub mod Written

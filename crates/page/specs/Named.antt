@@ -1,20 +1,21 @@
 -- What names a node on a page.
-use Rattle.std.specs.Prelude.{ℕ, List, ◌++◌, codes, Bool}
+use Rattle.std.specs.Prelude.{ℕ, List, ◌++◌, codes}
 use Rattle.schema.specs.declared.Role.{Role}
+use Rattle.hidden_texts.specs.Hidden.{hides_label}
 use Rattle.role_names.specs.Names.{shown_name}
 use Rattle.model.specs.declared.FullNodeId.{FullNodeId}
 use Rattle.views.specs.declared.node.node_ref.NodeRef.{NodeRef}
 use Rattle.views.specs.Nodes.{world_at, id_at, data_at}
-use Rattle.page.specs.Known.{is_in_secret}
-use Rattle.page.specs.Said.{caption_shown, label_shown, value_shown}
+use Rattle.page.specs.Said.{caption_of, hidden_label_word}
 use Rattle.page.specs.Written.{anchor_text, small_id, word_text}
 
 abbrev pub role_bold : Role → List ℕ
 role_bold role = codes "<b>" ++ shown_name role ++ codes "</b>"
 
--- a node's role, and its label or else its value, where it has one that is shown
+-- a node's role, its label or else its value, where it has one that is shown, and that its label is hidden, where it is
 abbrev pub role_and_text : NodeRef → List ℕ
-role_and_text n = role_bold (data_at n).role ++ word_text (codes "q") (codes "l") (caption_shown (is_in_secret (world_at n) (id_at n)) (world_at n) (id_at n))
+role_and_text n =
+    role_bold (data_at n).role ++ word_text (codes "q") (codes "l") (caption_of (world_at n) (id_at n)) ++ word_text (codes "i") (codes "w") (hidden_label_word (hides_label (world_at n) (id_at n)))
 
 -- and its id
 abbrev pub name_text : NodeRef → List ℕ
@@ -30,8 +31,3 @@ linked_id state id = link_begun state id ++ small_id id ++ codes "</a>"
 -- a node's role and text, and its id as such a link
 abbrev pub linked_text : ℕ → NodeRef → List ℕ
 linked_text state n = role_and_text n ++ codes " " ++ linked_id state (id_at n)
-
--- a node's label and value as an outline shows them, of a node that stands in a password, or doesn't
-abbrev pub outline_texts : Bool → NodeRef → List ℕ
-outline_texts is_in_password n =
-    word_text (codes "q") (codes "l") (label_shown is_in_password (world_at n) (id_at n)) ++ word_text (codes "q") (codes "v") (value_shown is_in_password (world_at n) (id_at n))

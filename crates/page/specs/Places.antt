@@ -8,7 +8,8 @@ use Rattle.views.specs.declared.node.node_ref.NodeRef.{NodeRef}
 use Rattle.views.specs.Nodes.{world_at, id_at}
 use Rattle.views.specs.Descendants.{descendants}
 use Rattle.page.specs.declared.places.Place.{Place}
-use Rattle.page.specs.Known.{is_in_secret}
+use Rattle.page.specs.Known.{is_left_out}
+use Rattle.page.specs.Said.{hidden_at}
 
 abbrev pub node_at : Place → NodeRef
 node_at place = place.node
@@ -16,8 +17,9 @@ node_at place = place.node
 -- the properties are those of the node
 pub record IsPlace (place : Place) : Type 0 where
   pub answer : place.answer ≡ common_filter (world_at place.node) (id_at place.node)
+  pub left_out : place.is_left_out ≡ is_left_out (world_at place.node) (id_at place.node)
   pub hidden : place.is_hidden ≡ is_hidden (world_at place.node) (id_at place.node)
-  pub in_secret : place.is_in_password ≡ is_in_secret (world_at place.node) (id_at place.node)
+  pub texts : place.hidden ≡ hidden_at (world_at place.node) (id_at place.node)
   pub box : place.rect ≡ bounding_box (world_at place.node) (id_at place.node)
 
 -- views of these nodes of the world, in their order

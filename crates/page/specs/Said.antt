@@ -1,53 +1,63 @@
 -- What a page says of a node in texts and words.
-use Rattle.std.specs.Prelude.{◌≡◌, ◌≢◌, ◌⊎◌, ℕ, List, [], ◌∷◌, ◌++◌, codes, Bool, not, ◌&&◌, ◌||◌, Option, Some, None, is_none, option_map, if◌then◌else◌}
+use Rattle.std.specs.Prelude.{◌≡◌, ◌≢◌, ◌⊎◌, ℕ, List, [], ◌∷◌, ◌++◌, codes, Bool, ◌&&◌, Option, Some, None, option_map, if◌then◌else◌}
 use Rattle.std.specs.Option.{option_or}
-use Rattle.std.specs.List.{list_any}
 use Rattle.std.specs.Io.KnownBytes.{Appends}
 use Rattle.schema.specs.NodeData.{NodeData}
 use Rattle.model.specs.declared.FullNodeId.{FullNodeId}
 use Rattle.model.specs.World.{World}
-use Rattle.model.specs.Labels.{own_label, labelled_by, label_of}
-use Rattle.model.specs.RoleClasses.{is_password_input, is_read_only_supported}
-use Rattle.model.specs.TextRuns.{supports_text_ranges}
-use Rattle.model.specs.Upward.{says}
-use Rattle.model.specs.Values.{own_value, value_of}
+use Rattle.model.specs.Labels.{label_of}
+use Rattle.model.specs.RoleClasses.{is_read_only_supported}
+use Rattle.model.specs.TextRuns.{is_password}
+use Rattle.model.specs.Values.{value_of}
 use Rattle.model.specs.Views.{is_read_only}
-use Rattle.views.specs.Descendants.{descendants}
 use Rattle.phrases.specs.States.{switched_word, expanded_word, selected_word, where_it_is}
+use Rattle.hidden_texts.specs.Hidden.{hides_label, hides_value}
+use Rattle.hidden_texts.specs.Shown.{shown_value}
 use Rattle.html.specs.Escaped.{element_text}
-use Rattle.page.specs.Known.{is_in_secret}
+use Rattle.page.specs.Written.{word_text}
+use Rattle.page.specs.declared.secrets.Hidden.{Hidden}
 
--- the node is a password input
-abbrev pub is_secret_itself : World → FullNodeId → Bool
-is_secret_itself w id = says (λ d. is_password_input d.role) w id
+-- which of a node's texts are hidden
+abbrev pub hidden_at : World → FullNodeId → Hidden
+hidden_at w id = record { label = hides_label w id; value = hides_value w id }
 
--- of a node as a walk gives it: whether it is a password input, and whether it stands in a password
-abbrev pub is_secret_node : World × FullNodeId → Bool
-is_secret_node node = is_secret_itself node.0 node.1
-
-abbrev pub is_part_of_secret : World × FullNodeId → Bool
-is_part_of_secret node = is_in_secret node.0 node.1
-
--- the node has no label of its own, and a part of a password labels it
-abbrev pub is_labelled_from_secret : World → FullNodeId → Bool
-is_labelled_from_secret w id = is_none (own_label w id) && list_any (is_in_secret w) (labelled_by w id)
-
--- the node's value is the text of runs, and a password input stands among them
-abbrev pub has_secret_in_runs : World → FullNodeId → Bool
-has_secret_in_runs w id =
-    is_none (own_value w id) && (not (is_secret_itself w id) && (supports_text_ranges w id && list_any (is_secret_itself w) (descendants w id)))
-
--- the label of a node that stands in a password, or doesn't, as it is shown: none of which a password may be a part
+-- a label, and a value, as it is shown where it is hidden or isn't; what is shown of a password's own value is bullets
 abbrev pub label_shown : Bool → World → FullNodeId → Option (List ℕ)
-label_shown is_in_password w id = if is_in_password || is_labelled_from_secret w id then None else label_of w id
+label_shown is_hidden w id = if is_hidden then None else label_of w id
 
--- its value as it is shown: none of which a password may be a part
 abbrev pub value_shown : Bool → World → FullNodeId → Option (List ℕ)
-value_shown is_in_password w id = if is_in_password || has_secret_in_runs w id then None else value_of w id
+value_shown is_hidden w id = if is_password w id then shown_value w id else (if is_hidden then None else value_of w id)
+
+-- of a node
+abbrev pub node_label : World → FullNodeId → Option (List ℕ)
+node_label w id = label_shown (hides_label w id) w id
+
+abbrev pub node_value : World → FullNodeId → Option (List ℕ)
+node_value w id = value_shown (hides_value w id) w id
 
 -- the label that is shown, or else the value that is
-abbrev pub caption_shown : Bool → World → FullNodeId → Option (List ℕ)
-caption_shown is_in_password w id = option_or (label_shown is_in_password w id) (value_shown is_in_password w id)
+abbrev pub caption_shown : Hidden → World → FullNodeId → Option (List ℕ)
+caption_shown hidden w id = option_or (label_shown hidden.label w id) (value_shown hidden.value w id)
+
+abbrev pub caption_of : World → FullNodeId → Option (List ℕ)
+caption_of w id = caption_shown (hidden_at w id) w id
+
+-- what is said in place of a label and of a value that is hidden
+abbrev pub hidden_label_word : Bool → Option (List ℕ)
+hidden_label_word is_hidden = where_it_is is_hidden (codes "label hidden")
+
+abbrev pub hidden_value_word : Bool → Option (List ℕ)
+hidden_value_word is_hidden = where_it_is is_hidden (codes "value hidden")
+
+-- the texts of a node's row in the outline: its label and its value, or that they are hidden
+abbrev pub label_texts : Bool → World → FullNodeId → List ℕ
+label_texts is_hidden w id = word_text (codes "q") (codes "l") (label_shown is_hidden w id) ++ word_text (codes "i") (codes "w") (hidden_label_word is_hidden)
+
+abbrev pub value_texts : Bool → World → FullNodeId → List ℕ
+value_texts is_hidden w id = word_text (codes "q") (codes "v") (value_shown is_hidden w id) ++ word_text (codes "i") (codes "w") (hidden_value_word is_hidden)
+
+abbrev pub row_texts : Hidden → World → FullNodeId → List ℕ
+row_texts hidden w id = label_texts hidden.label w id ++ value_texts hidden.value w id
 
 -- the words of a node's state, each where it applies
 abbrev pub state_words : NodeData → List (Option (List ℕ))

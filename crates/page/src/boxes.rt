@@ -83,7 +83,8 @@ fn near(number: i128) -> i64 {
 /// The extents of the nodes' boxes.
 #[derive(Clone, Copy, Debug, PartialEq, Eq)]
 struct Extent {
-    /// The extent of the boxes of nodes that the common filter includes.
+    /// The extent of the boxes of nodes that the common filter includes, and of which it excludes no ancestor with its
+    /// subtree.
     shown: Option<Frame>,
     /// The extent of all boxes.
     all: Option<Frame>,
@@ -97,7 +98,7 @@ impl Extent {
         };
         let frame = Frame::of(rect);
         let shown = match place.answer {
-            FilterResult::Include => Some(around(self.shown, frame)),
+            FilterResult::Include if !place.is_left_out => Some(around(self.shown, frame)),
             _ => self.shown,
         };
         Extent {

@@ -6,10 +6,11 @@ ghost use Rattle.model.specs.Filters.{is_hidden as is_hidden_in, is_transparent,
 ghost use Rattle.model.specs.FocusFound.{is_focused};
 ghost use Rattle.model.specs.Covers.{is_included, is_cut_off};
 ghost use Rattle.views.specs.Nodes.{world_at, id_at};
-ghost use Rattle.page.specs.Known.{clip_frame, frame_below, is_clear, is_in_secret, IsKnown, IsStepAbove, sum_of};
+ghost use Rattle.hidden_texts.specs.Hidden.{is_in_password};
+ghost use Rattle.page.specs.Known.{clip_frame, frame_below, is_below_left_out, is_clear, is_left_out, left_out_filter, IsKnown, IsStepAbove, sum_of};
 
-use crate::words::is_in_password;
 use accesskit_consumer::{FilterResult, FullNodeId, NodeRef, common_filter};
+use hidden_texts::is_in_password;
 use schema::{Rect, Role, Translation, WideRect, WideTranslation};
 use views::node::geometry::ordered;
 
@@ -28,6 +29,8 @@ pub(crate) struct Known {
     pub is_secret: bool,
     /// The common filter's answer for the node.
     pub answer: FilterResult,
+    /// Whether the common filter excludes the node, or an ancestor, with its subtree.
+    pub is_left_out: bool,
     /// What clips the nodes below it, if that is known: the box of the nearest node, from this one upwards, that the
     /// base filter includes, if it clips its children.
     pub frame: Option<Option<WideRect>>,
@@ -49,13 +52,15 @@ pub(crate) fn known_of(node: NodeRef, above: Option<Step>) -> Known
     let rect = rect_of(node, shift);
     let is_hidden = is_hidden_at(node, above);
     let is_in_password = is_in_password_at(node, above);
+    let answer = answer_of(node, is_hidden, rect, above);
     Known {
         shift,
         rect,
         is_hidden,
         is_in_password,
         is_secret: node.is_password_input() || is_in_password,
-        answer: answer_of(node, is_hidden, rect, above),
+        answer,
+        is_left_out: is_left_out_at(node, answer, above),
         frame: frame_of(node, is_hidden, rect, above),
     }
 }
@@ -128,7 +133,7 @@ fn is_hidden_at(node: NodeRef, above: Option<Step>) -> bool
 /// Whether an ancestor of the node is a password input.
 fn is_in_password_at(node: NodeRef, above: Option<Step>) -> bool
     requires { IsStepAbove (world_at node) (id_at node) above }
-    ensures { result ≡ is_in_secret (world_at node.entry) (id_at node.entry) }
+    ensures { result ≡ is_in_password (world_at node.entry) (id_at node.entry) }
 {
     node.tree_state().know();
     match above {
@@ -198,7 +203,7 @@ fn answer_below(node: NodeRef, rect: Option<WideRect>, above: Step) -> FilterRes
 }
 
 /// Whether a node with this answer is excluded with its subtree.
-pub(crate) fn is_cut_off(answer: FilterResult) -> bool
+fn is_cut_off(answer: FilterResult) -> bool
     ensures { result ≡ is_cut_off answer }
 {
     match answer {
@@ -206,6 +211,47 @@ pub(crate) fn is_cut_off(answer: FilterResult) -> bool
         FilterResult::ExcludeNode => false,
         FilterResult::ExcludeSubtree => true,
     }
+}
+
+/// Whether the common filter excludes the node, or an ancestor, with its subtree.
+fn is_left_out_at(node: NodeRef, answer: FilterResult, above: Option<Step>) -> bool
+    requires answer { answer ≡ common_filter (world_at node) (id_at node) }
+    requires above { IsStepAbove (world_at node) (id_at node) above }
+    ensures { result ≡ is_left_out (world_at node.entry) (id_at node.entry) }
+{
+    if is_cut_off(answer) {
+        return true;
+    }
+    is_below_left_out_at(node, above)
+}
+
+/// Whether the common filter excludes an ancestor with its subtree.
+fn is_below_left_out_at(node: NodeRef, above: Option<Step>) -> bool
+    requires { IsStepAbove (world_at node) (id_at node) above }
+    ensures { result ≡ is_below_left_out (world_at node.entry) (id_at node.entry) }
+{
+    node.tree_state().know();
+    match above {
+        Some(step) => step.known.is_left_out,
+        None => is_below_left_out(&node),
+    }
+}
+
+/// The same, asked of each ancestor.
+fn is_below_left_out(node: &NodeRef) -> bool
+    ensures { result ≡ is_below_left_out (world_at node.now) (id_at node.now) }
+{
+    node.filtered_parent(&left_out).is_some()
+}
+
+/// The filter that includes the nodes that the common filter excludes with their subtrees.
+fn left_out(node: &NodeRef<'_>) -> FilterResult
+    ensures { result ≡ left_out_filter (world_at node.now) (id_at node.now) }
+{
+    if is_cut_off(common_filter(node)) {
+        return FilterResult::Include;
+    }
+    FilterResult::ExcludeNode
 }
 
 /// Whether it is known that a node with this box isn't clipped by what clips the nodes below its parent.

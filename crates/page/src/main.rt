@@ -3,6 +3,8 @@
 
 mod boxes;
 mod carried;
+mod faults;
+mod manual;
 mod marks;
 mod names;
 mod outline;
@@ -10,14 +12,17 @@ mod pager;
 mod picture;
 mod places;
 mod reported;
+mod secrets;
 mod sections;
 mod sheet;
+mod stops;
 mod words;
 
-use atree_script::run_program;
+use atree_script::run_without_arguments;
+use manual::MANUAL;
 use pager::Page;
 use std::process::ExitCode;
 
 fn main(rt: HostRuntime) -> ExitCode {
-    run_program(&rt, &Page)
+    run_without_arguments(&rt, &MANUAL, &Page)
 }

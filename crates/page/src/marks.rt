@@ -1,4 +1,7 @@
 //! The effect of an update on nodes.
+ghost use Rattle.std.specs.Prelude.{◌≡◌};
+ghost use Rattle.page.specs.Reports.{no_tally};
+ghost use Rattle.page.specs.States.{is_quiet};
 
 use accesskit_consumer::FullNodeId;
 use std::collections::BTreeMap;
@@ -32,7 +35,7 @@ impl Mark {
 }
 
 /// The numbers of nodes that an update added, updated and removed, and of moves of the focus.
-#[derive(Clone, Copy, Debug, Default, PartialEq, Eq)]
+#[derive(Clone, Copy, Debug, PartialEq, Eq)]
 pub(crate) struct Tally {
     pub added: u64,
     pub updated: u64,
@@ -41,8 +44,22 @@ pub(crate) struct Tally {
 }
 
 impl Tally {
+    /// No events.
+    pub(crate) fn none() -> Tally
+        ensures { result ≡ no_tally }
+    {
+        Tally {
+            added: 0,
+            updated: 0,
+            moved: 0,
+            removed: 0,
+        }
+    }
+
     /// Whether there were no events.
-    pub(crate) fn is_empty(self) -> bool {
+    pub(crate) fn is_empty(self) -> bool
+        ensures { result ≡ is_quiet self }
+    {
         self.added == 0 && self.updated == 0 && self.moved == 0 && self.removed == 0
     }
 }

@@ -5,16 +5,17 @@ ghost use Rattle.views.specs.Nodes.{data_at};
 ghost use Rattle.page.specs.Named.{role_bold, name_text, link_begun, linked_id, linked_text, role_and_text};
 ghost use Rattle.page.specs.Written.{anchor_text, small_id, word_text};
 
-use crate::words::{caption, is_in_password};
+use crate::faults::Fault;
+use crate::secrets::hidden_of;
+use crate::words::{caption, hidden_label_word};
 use accesskit_consumer::{FullNodeId, NodeRef};
-use atree_script::Stop;
 use html::write_element;
 use role_names::RoleName;
 use std::alloc::Global;
 use std::io::{self, Write};
 
 /// Writes the node's role, its label or else its value, and its id.
-pub(crate) fn write_name<O: Write>(alloc: Global, node: &NodeRef, out: &mut O) -> Result<(), Stop>
+pub(crate) fn write_name<O: Write>(alloc: Global, node: &NodeRef, out: &mut O) -> Result<(), Fault>
     ensures { OnOk result (Appends (O.contents out.old) (O.contents out.new) (name_text node.now)) }
 {
     write_role_and_text(alloc, node, out)?;
@@ -29,7 +30,7 @@ pub(crate) fn write_linked_name<O: Write>(
     state: u64,
     node: &NodeRef,
     out: &mut O,
-) -> Result<(), Stop>
+) -> Result<(), Fault>
     ensures { OnOk result (Appends (O.contents out.old) (O.contents out.new) (linked_text state node.now)) }
 {
     write_role_and_text(alloc, node, out)?;
@@ -56,13 +57,15 @@ fn begin_link<O: Write>(state: u64, id: FullNodeId, out: &mut O) -> io::Result<(
     out.write_all(b"\">")
 }
 
-/// Writes the node's role, and its label or else its value, if it has one.
-fn write_role_and_text<O: Write>(alloc: Global, node: &NodeRef, out: &mut O) -> Result<(), Stop>
+/// Writes the node's role, its label or else its value, if it has one, and that its label is hidden, if it is.
+fn write_role_and_text<O: Write>(alloc: Global, node: &NodeRef, out: &mut O) -> Result<(), Fault>
     ensures { OnOk result (Appends (O.contents out.old) (O.contents out.new) (role_and_text node.now)) }
 {
     write_role(node, out)?;
-    let text = caption(alloc, node, is_in_password(node))?;
+    let hidden = hidden_of(node);
+    let text = caption(alloc, node, hidden)?;
     write_word("q", "l", text.as_deref(), out)?;
+    write_word("i", "w", hidden_label_word(hidden.label), out)?;
     Ok(())
 }
 

@@ -1,14 +1,15 @@
 //! Writing a tree as an outline.
 ghost use Rattle.std.specs.Prelude.{OnOk};
 ghost use Rattle.std.specs.Io.KnownBytes.{Appends};
-ghost use Rattle.page.specs.Named.{outline_texts};
+ghost use Rattle.views.specs.Nodes.{world_at, id_at};
+ghost use Rattle.page.specs.Said.{label_texts, row_texts, value_texts};
 
+use crate::faults::Fault;
 use crate::marks::Mark;
 use crate::names::{write_anchor, write_id, write_role, write_word};
 use crate::places::Place;
-use crate::words::{shown_label, shown_value, state_words};
+use crate::words::{hidden_label_word, hidden_value_word, shown_label, shown_value, state_words};
 use accesskit_consumer::NodeRef;
-use atree_script::Stop;
 use std::alloc::Global;
 use std::io::{self, Write};
 
@@ -18,7 +19,7 @@ pub(crate) fn write_outline<O: Write>(
     number: u64,
     places: &[Place],
     out: &mut O,
-) -> Result<(), Stop> {
+) -> Result<(), Fault> {
     out.write_all(b"<ul class=\"outline\">\n")?;
     for place in places {
         write_row(alloc, number, place, out)?;
@@ -28,7 +29,12 @@ pub(crate) fn write_outline<O: Write>(
 }
 
 /// Writes a row: the role, label, value and state of its node, its marks, and its id.
-fn write_row<O: Write>(alloc: Global, number: u64, place: &Place, out: &mut O) -> Result<(), Stop> {
+fn write_row<O: Write>(
+    alloc: Global,
+    number: u64,
+    place: &Place,
+    out: &mut O,
+) -> Result<(), Fault> {
     begin_row(number, place, out)?;
     write_texts(alloc, place, out)?;
     end_row(place, out)?;
@@ -54,7 +60,7 @@ fn write_level<O: Write>(class: &str, depth: usize, out: &mut O) -> io::Result<(
 
 /// The classes of a row.
 fn row_class(place: &Place) -> &'static str {
-    match (place.is_left_out(), place.mark) {
+    match (place.is_left_out, place.mark) {
         (false, None) => "n",
         (false, Some(mark)) => mark.class(),
         (true, None) => "x",
@@ -63,14 +69,31 @@ fn row_class(place: &Place) -> &'static str {
     }
 }
 
-/// Writes a node's label and value, if it has them.
-fn write_texts<O: Write>(alloc: Global, place: &Place, out: &mut O) -> Result<(), Stop>
-    ensures { OnOk result (Appends (O.contents out.old) (O.contents out.new) (outline_texts place.now.is_in_password place.now.node)) }
+/// Writes a node's label and value, if it has them, and in place of each that is hidden, that it is.
+fn write_texts<O: Write>(alloc: Global, place: &Place, out: &mut O) -> Result<(), Fault>
+    ensures { OnOk result (Appends (O.contents out.old) (O.contents out.new) (row_texts place.now.hidden (world_at place.now.node) (id_at place.now.node))) }
 {
-    let label = shown_label(alloc, &place.node, place.is_in_password)?;
+    write_label(alloc, place, out)?;
+    write_value(alloc, place, out)
+}
+
+/// Writes a node's label, if it has one, and that it is hidden, if it is.
+fn write_label<O: Write>(alloc: Global, place: &Place, out: &mut O) -> Result<(), Fault>
+    ensures { OnOk result (Appends (O.contents out.old) (O.contents out.new) (label_texts place.now.hidden.label (world_at place.now.node) (id_at place.now.node))) }
+{
+    let label = shown_label(alloc, &place.node, place.hidden.label)?;
     write_word("q", "l", label.as_deref(), out)?;
-    let value = shown_value(alloc, &place.node, place.is_in_password)?;
+    write_word("i", "w", hidden_label_word(place.hidden.label), out)?;
+    Ok(())
+}
+
+/// Writes a node's value, if it has one, and that it is hidden, if it is.
+fn write_value<O: Write>(alloc: Global, place: &Place, out: &mut O) -> Result<(), Fault>
+    ensures { OnOk result (Appends (O.contents out.old) (O.contents out.new) (value_texts place.now.hidden.value (world_at place.now.node) (id_at place.now.node))) }
+{
+    let value = shown_value(alloc, &place.node, place.hidden.value)?;
     write_word("q", "v", value.as_deref(), out)?;
+    write_word("i", "w", hidden_value_word(place.hidden.value), out)?;
     Ok(())
 }
 
@@ -100,9 +123,9 @@ fn write_marks<O: Write>(place: &Place, out: &mut O) -> io::Result<()> {
     write_word("em", "h", left_out_word(place), out)
 }
 
-/// The word for a node that the common filter excludes with its subtree.
+/// The word for a node that the common filter excludes with a subtree.
 fn left_out_word(place: &Place) -> Option<&'static str> {
-    if !place.is_left_out() {
+    if !place.is_left_out {
         return None;
     }
     if place.is_hidden {

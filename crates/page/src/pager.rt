@@ -1,15 +1,23 @@
 //! Running a script and writing a page of it.
-ghost use Rattle.std.specs.Prelude.{◌≤◌, ◌≢◌, ⊤};
+ghost use Rattle.std.specs.Prelude.{◌≡◌, ◌≤◌, ◌≢◌, OnOk};
+ghost use Rattle.atree_script.specs.Played.{PlaysOut};
+ghost use Rattle.page.specs.Shown.{pages_of, EndsPage, Notes, Opens, PagesFrom, Shows, ShowsScript, ShowsState, ShowsStep, WritesTree, first_summary};
+ghost use Rattle.page.specs.States.{next_number, updates_after};
+ghost use Rattle.page.specs.declared.sections.Outcome.TheVariants.{Begun, Refused};
 
+use crate::faults::Fault;
 use crate::marks::{Marks, Tally};
 use crate::outline::write_outline;
 use crate::picture::write_picture;
 use crate::places::places;
-use crate::reported::Reporter;
-use crate::sections::{Cause, Outcome, Summary, begin_state, write_end, write_head, write_outcome};
+use crate::reported::{Reported, report_step};
+use crate::sections::{
+    Cause, Outcome, Summary, begin_state, cause_of, write_end, write_head, write_outcome,
+};
+use crate::stops::{Ending, end_told, ending_of};
 use accesskit_consumer::{StateRef, UpdateError};
-use atree_script::{Player, Program, Stop, end_run, play};
-use session::{Command, Query, Reply, Session};
+use atree_script::{Played, Player, Program, Stop, end_run, play};
+use session::{Command, Query, Session};
 use std::alloc::Global;
 use std::io::{BufRead, Write};
 
@@ -19,7 +27,7 @@ pub(crate) struct Page;
 impl Program for Page {
     /// Runs a script to its end, or until something stops it, and writes a page of the states of its tree: one for each
     /// update, and one for each change of the host's focus once there is a tree. Returns the exit status as `atree`
-    /// does: 0 at the end of the input; 2 for a bad line, whose number is reported on `errors`; 3 for an error of the
+    /// does: 0 at the end of the input; 2 for a bad line, which is reported on `errors` with what is wrong in it; 3 for an error of the
     /// input or an output; 4 if memory runs out while a line is read or a state is written, which is reported on
     /// `errors` too. Unless the output has an error, the page is completed in each case and says why it ended; after an
     /// error of the output nothing more is written. If memory runs out in an update, the update is refused and the
@@ -33,30 +41,69 @@ impl Program for Page {
     ) -> u8
         ensures bound { result ≤ 4 }
         ensures not_one { result ≢ 1 }
+        ensures shows { ShowsScript (R.remaining input.old) (O.contents output.old) (O.contents output.new) (E.contents errors.old) (E.contents errors.new) result }
     {
-        let (ended, number) = play_page(alloc, input, output);
-        end_run(ended, number, output, errors)
+        match write_head(output) {
+            Ok(()) => show_script(alloc, input, output, errors),
+            Err(_) => end_run(Err(Stop::WriteFault), 0, output, errors),
+        }
     }
 }
 
-/// Runs a script, and writes its page. Returns how the run ended, and the number of the last line that was read.
-fn play_page<R: BufRead, O: Write>(
+/// Runs a script, and writes its page after the head. Returns the exit status.
+fn show_script<R: BufRead, O: Write, E: Write>(
     alloc: Global,
     input: &mut R,
     output: &mut O,
-) -> (Result<(), Stop>, u64) {
-    if write_head(output).is_err() {
-        return (Err(Stop::WriteFault), 0);
-    }
+    errors: &mut E,
+) -> u8
+    ensures bound { result ≤ 4 }
+    ensures not_one { result ≢ 1 }
+    ensures shows { PagesFrom (R.remaining input.old) (O.contents output.old) (O.contents output.new) (E.contents errors.old) (E.contents errors.new) result }
+{
     let mut pager = Pager {
         alloc,
         output: &mut *output,
         updates: 0,
         states: Vec::new(alloc),
     };
-    let played = play(alloc, input, &mut pager);
-    let number = played.number;
-    (pager.end(played.ended, number), number)
+    let played = play_shown(alloc, input, &mut pager);
+    let Pager {
+        alloc: _,
+        output: written,
+        updates: _,
+        states,
+    } = pager;
+    // This does nothing. The proof reads from it what the output has.
+    let _ = &*written;
+    let ending = ending_of(alloc, &played);
+    let ended = end_page(&states, &ending, output);
+    end_told(ended, &ending, output, errors)
+}
+
+/// Plays a script, and writes its states.
+fn play_shown<R: BufRead, O: Write>(
+    alloc: Global,
+    input: &mut R,
+    pager: &mut Pager<'_, O>,
+) -> Played
+    ensures output { pager.new.output.ghost_name ≡ pager.old.output.ghost_name }
+    ensures plays { let before = pages_of pager.old.updates pager.old.states.items (O.contents pager.old.output.now) in
+        let after = pages_of pager.new.updates pager.new.states.items (O.contents pager.new.output.now) in
+        PlaysOut Shows (R.remaining input.old) before result after }
+{
+    play(alloc, input, pager)
+}
+
+/// Ends the page unless the output had an error, and returns how the run ended.
+fn end_page<O: Write>(states: &[Summary], ending: &Ending, output: &mut O) -> Result<(), Stop>
+    ensures { EndsPage states.now ending.now result (O.contents output.old) (O.contents output.new) }
+{
+    if ending.ended == Err(Stop::WriteFault) {
+        return ending.ended;
+    }
+    write_end(states, ending, output)?;
+    ending.ended
 }
 
 /// A page while it is written.
@@ -71,40 +118,31 @@ struct Pager<'a, O> {
 }
 
 impl<'a, O: Write> Player for Pager<'a, O> {
-    ghost turns = { λ _ _ _ _. ⊤ };
+    ghost turns = { λ s turn result t. (t.output.ghost_name ≡ s.output.ghost_name)
+        × Shows (pages_of s.updates s.states.items (O.contents s.output.now)) turn result (pages_of t.updates t.states.items (O.contents t.output.now)) };
 
     /// Shows the first state, which has no events.
     fn begin(&mut self, session: &Session) -> Result<(), Stop> {
-        let cause = self.begin_update()?;
-        self.show(Summary {
-            cause,
-            outcome: Outcome::Begun,
-            tally: Tally::default(),
-        })?;
-        self.write_tree(session, &Marks::new(self.alloc))
+        self.show_begun(session.tree().state().view())?;
+        Ok(())
     }
 
     /// Shows why the update is refused, also if memory ran out.
     fn refuse(&mut self, refusal: UpdateError) -> Result<(), Stop> {
-        let cause = self.begin_update()?;
-        self.show(Summary {
-            cause,
-            outcome: Outcome::Refused(refusal),
-            tally: Tally::default(),
-        })
+        self.show_refused(refusal)?;
+        Ok(())
     }
 
     /// Shows the state that the command makes. Setting the host's focus to its current value makes none.
     fn run(&mut self, session: &mut Session, command: Command) -> Result<(), Stop> {
-        let was_host_focused = session.tree().state().is_host_focused();
-        let cause = match &command {
-            Command::Update(_) => self.begin_update()?,
-            Command::HostFocus(is_host_focused) if *is_host_focused != was_host_focused => {
-                self.begin_host_focus(*is_host_focused)?
+        let is_host_focused = session.tree().state().is_host_focused();
+        match cause_of(&command, is_host_focused, self.updates) {
+            Some(cause) => {
+                self.show_step(cause, session, command)?;
+                Ok(())
             }
-            Command::HostFocus(_) | Command::Query(_) => return Ok(()),
-        };
-        self.run_command(session, command, cause)
+            None => Ok(()),
+        }
     }
 
     /// A page shows no answers.
@@ -120,84 +158,133 @@ impl<'a, O: Write> Player for Pager<'a, O> {
 
 impl<'a, O: Write> Pager<'a, O> {
     /// The number of the next state, counted from 1.
-    fn next_number(&self) -> u64 {
-        u64::try_from(self.states.len())
-            .unwrap_or(u64::MAX)
-            .saturating_add(1)
+    fn next_number(&self) -> u64
+        ensures { result ≡ next_number self.now.states.items }
+    {
+        (self.states.len() as u64).saturating_add(1)
     }
 
-    /// Begins the state of the next update, and returns its cause.
-    fn begin_update(&mut self) -> Result<Cause, Stop> {
-        self.updates = self.updates.saturating_add(1);
-        self.begin_state(Cause::Update(self.updates))
+    /// Shows the first state of the tree.
+    fn show_begun(&mut self, state: StateRef) -> Result<(), Fault>
+        ensures output { self.new.output.ghost_name ≡ self.old.output.ghost_name }
+        ensures shows { let before = pages_of self.old.updates self.old.states.items (O.contents self.old.output.now) in
+            let after = pages_of self.new.updates self.new.states.items (O.contents self.new.output.now) in
+            OnOk result (ShowsState (first_summary self.old.updates Begun) before after) }
+    {
+        let number = self.next_number();
+        self.show_quiet(first_summary(self.updates, Outcome::Begun))?;
+        let marks = Marks::new(self.alloc);
+        write_tree(
+            self.alloc,
+            number,
+            Outcome::Begun,
+            state,
+            &marks,
+            self.output,
+        )
     }
 
-    /// Begins the state of a change of the host's focus, and returns its cause.
-    fn begin_host_focus(&mut self, is_host_focused: bool) -> Result<Cause, Stop> {
-        self.begin_state(match is_host_focused {
-            true => Cause::HostOn,
-            false => Cause::HostOff,
-        })
+    /// Shows that the first update was refused.
+    fn show_refused(&mut self, refusal: UpdateError) -> Result<(), Fault>
+        ensures output { self.new.output.ghost_name ≡ self.old.output.ghost_name }
+        ensures shows { let before = pages_of self.old.updates self.old.states.items (O.contents self.old.output.now) in
+            let after = pages_of self.new.updates self.new.states.items (O.contents self.new.output.now) in
+            OnOk result (Opens (first_summary self.old.updates (Refused refusal)) before after) }
+    {
+        self.show_quiet(first_summary(self.updates, Outcome::Refused(refusal)))
     }
 
-    /// Begins a state.
-    fn begin_state(&mut self, cause: Cause) -> Result<Cause, Stop> {
-        begin_state(self.next_number(), cause, self.output)?;
-        Ok(cause)
+    /// Begins a state without events, and says what came of it.
+    fn show_quiet(&mut self, it: Summary) -> Result<(), Fault>
+        ensures output { self.new.output.ghost_name ≡ self.old.output.ghost_name }
+        ensures opens { let before = pages_of self.old.updates self.old.states.items (O.contents self.old.output.now) in
+            let after = pages_of self.new.updates self.new.states.items (O.contents self.new.output.now) in
+            OnOk result (Opens it before after) }
+    {
+        begin_state(self.next_number(), it.cause, self.output)?;
+        self.note(it)
     }
 
     /// Runs a command, and shows its events and its state.
-    fn run_command(
+    fn show_step(
         &mut self,
+        cause: Cause,
         session: &mut Session,
         command: Command,
-        cause: Cause,
-    ) -> Result<(), Stop> {
-        let mut reporter = Reporter::new(self.alloc, self.next_number(), &mut *self.output);
-        let reply = session.step(command, &mut reporter);
-        let (tally, marks) = reporter.finish()?;
-        let outcome = outcome_of(&reply?, tally);
-        let has_changed = matches!(outcome, Outcome::Changed);
-        self.show(Summary {
+    ) -> Result<(), Fault>
+        ensures output { self.new.output.ghost_name ≡ self.old.output.ghost_name }
+        ensures shows { let before = pages_of self.old.updates self.old.states.items (O.contents self.old.output.now) in
+            let after = pages_of self.new.updates self.new.states.items (O.contents self.new.output.now) in
+            OnOk result (ShowsStep cause before session.old command session.new after) }
+    {
+        let number = self.next_number();
+        begin_state(number, cause, self.output)?;
+        let it = report_step(self.alloc, number, session, command, self.output)?;
+        self.note(Summary {
             cause,
-            outcome,
-            tally,
+            outcome: it.outcome,
+            tally: it.tally,
         })?;
-        if has_changed {
-            self.write_tree(session, &marks)?;
-        }
-        Ok(())
-    }
-
-    /// Writes the outcome of the state, and keeps its summary.
-    fn show(&mut self, summary: Summary) -> Result<(), Stop> {
-        write_outcome(self.next_number(), &summary, self.output)?;
-        self.states.push(summary)?;
-        Ok(())
-    }
-
-    /// Writes the tree of the last state.
-    fn write_tree(&mut self, session: &Session, marks: &Marks) -> Result<(), Stop> {
-        let number = u64::try_from(self.states.len()).unwrap_or(u64::MAX);
         let state = session.tree().state().view();
-        write_state(self.alloc, number, state, marks, self.output)
+        write_tree(
+            self.alloc,
+            number,
+            it.outcome,
+            state,
+            &it.marks,
+            self.output,
+        )
     }
 
-    /// Ends the page unless the output had an error, and returns how the run ended.
-    fn end(&mut self, run: Result<(), Stop>, line: u64) -> Result<(), Stop> {
-        if run != Err(Stop::WriteFault) {
-            write_end(&self.states, run, line, self.output)?;
-        }
-        run
+    /// Says what came of the next state, and keeps its summary.
+    fn note(&mut self, it: Summary) -> Result<(), Fault>
+        ensures output { self.new.output.ghost_name ≡ self.old.output.ghost_name }
+        ensures notes { let before = pages_of self.old.updates self.old.states.items (O.contents self.old.output.now) in
+            let after = pages_of self.new.updates self.new.states.items (O.contents self.new.output.now) in
+            OnOk result (Notes it before after) }
+    {
+        write_outcome(self.next_number(), it.outcome, self.output)?;
+        self.updates = updates_after(it.cause, self.updates);
+        self.states.push(it)?;
+        Ok(())
     }
 }
 
-/// The outcome of a state.
-fn outcome_of(reply: &Reply, tally: Tally) -> Outcome {
-    match reply {
-        Reply::Refused(refusal) => Outcome::Refused(*refusal),
-        _ if tally.is_empty() => Outcome::Same,
-        _ => Outcome::Changed,
+/// The number of updates after a state with this cause.
+fn updates_after(cause: Cause, updates: u64) -> u64
+    ensures { result ≡ updates_after cause updates }
+{
+    match cause {
+        Cause::Update(number) => number,
+        Cause::HostOn | Cause::HostOff => updates,
+    }
+}
+
+/// The summary of the state of a first update, after so many updates.
+fn first_summary(updates: u64, outcome: Outcome) -> Summary
+    ensures { result ≡ first_summary updates outcome }
+{
+    Summary {
+        cause: Cause::Update(updates.saturating_add(1)),
+        outcome,
+        tally: Tally::none(),
+    }
+}
+
+/// Writes the tree of a state, where it has begun or changed.
+fn write_tree<O: Write>(
+    alloc: Global,
+    number: u64,
+    outcome: Outcome,
+    state: StateRef,
+    marks: &Marks,
+    output: &mut O,
+) -> Result<(), Fault>
+    ensures { OnOk result (WritesTree outcome (O.contents output.old) (O.contents output.new)) }
+{
+    match outcome {
+        Outcome::Begun | Outcome::Changed => write_state(alloc, number, state, marks, output),
+        Outcome::Same | Outcome::Refused(_) => Ok(()),
     }
 }
 
@@ -208,7 +295,7 @@ fn write_state<O: Write>(
     state: StateRef,
     marks: &Marks,
     output: &mut O,
-) -> Result<(), Stop> {
+) -> Result<(), Fault> {
     let places = places(alloc, state, marks)?;
     output.write_all(b"<div class=\"state\">\n")?;
     write_outline(alloc, number, &places, output)?;

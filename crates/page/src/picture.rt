@@ -1,12 +1,12 @@
 //! Drawing the boxes of a state.
 
 use crate::boxes::{Frame, picture_frame};
+use crate::faults::Fault;
 use crate::marks::Mark;
 use crate::names::write_anchor;
 use crate::places::Place;
 use crate::words::caption;
 use accesskit_consumer::{FilterResult, NodeRef};
-use atree_script::Stop;
 use html::write_escaped;
 use std::alloc::Global;
 use std::io::{self, Write};
@@ -19,7 +19,7 @@ pub(crate) fn write_picture<O: Write>(
     places: &[Place],
     focus: Option<NodeRef>,
     out: &mut O,
-) -> Result<(), Stop> {
+) -> Result<(), Fault> {
     let Some(shown) = picture_frame(places) else {
         out.write_all(b"<p class=\"note\">No node has a box.</p>\n")?;
         return Ok(());
@@ -39,7 +39,7 @@ fn write_boxes<O: Write>(
     frame: Frame,
     places: &[Place],
     out: &mut O,
-) -> Result<(), Stop> {
+) -> Result<(), Fault> {
     for place in places {
         if let Some(rect) = place.rect {
             write_box(alloc, number, frame, Frame::of(rect), place, out)?;
@@ -56,12 +56,12 @@ fn begin_picture<O: Write>(number: u64, frame: Frame, out: &mut O) -> io::Result
     let height = frame.height();
     write!(
         out,
-        "<figure><figcaption>Boxes of state {number}</figcaption>\n<svg viewBox=\"{x} {y} {width} {height}\">\n"
+        "<figure><figcaption>Boxes of state {number}</figcaption>\n<svg aria-hidden=\"true\" viewBox=\"{x} {y} {width} {height}\">\n"
     )
 }
 
-/// Draws a node's box as a link to its row of the outline. The box of a node without children contains its label or
-/// value.
+/// Draws a node's box as a link to its row of the outline, with the node's label or value in it: of a node with children
+/// at the top.
 fn write_box<O: Write>(
     alloc: Global,
     number: u64,
@@ -69,9 +69,9 @@ fn write_box<O: Write>(
     rect: Frame,
     place: &Place,
     out: &mut O,
-) -> Result<(), Stop> {
+) -> Result<(), Fault> {
     begin_box(number, rect, place, out)?;
-    if !place.is_left_out() && place.node.child_ids().next().is_none() {
+    if !place.is_left_out {
         write_caption(alloc, frame, rect, place, out)?;
     }
     out.write_all(b"</a>\n")?;
@@ -83,20 +83,41 @@ fn begin_box<O: Write>(number: u64, rect: Frame, place: &Place, out: &mut O) -> 
     out.write_all(b"<a tabindex=\"-1\" href=\"#")?;
     write_anchor(number, place.node.id(), out)?;
     out.write_all(b"\">")?;
-    write_rect(box_class(place.answer, place.mark), rect, out)
+    write_rect(box_class(place), rect, out)
 }
 
 /// The classes of a box.
-fn box_class(answer: FilterResult, mark: Option<Mark>) -> &'static str {
-    match (answer, mark) {
-        (FilterResult::Include, None) => "n",
-        (FilterResult::Include, Some(mark)) => mark.class(),
-        (FilterResult::ExcludeNode, None) => "t",
-        (FilterResult::ExcludeNode, Some(Mark::Added)) => "t a",
-        (FilterResult::ExcludeNode, Some(Mark::Updated)) => "t u",
-        (FilterResult::ExcludeSubtree, None) => "x",
-        (FilterResult::ExcludeSubtree, Some(Mark::Added)) => "x a",
-        (FilterResult::ExcludeSubtree, Some(Mark::Updated)) => "x u",
+fn box_class(place: &Place) -> &'static str {
+    match place.answer {
+        _ if place.is_left_out => left_out_class(place.mark),
+        FilterResult::Include => included_class(place.mark),
+        _ => transparent_class(place.mark),
+    }
+}
+
+/// The classes of the box of a node that is excluded with a subtree.
+fn left_out_class(mark: Option<Mark>) -> &'static str {
+    match mark {
+        None => "x",
+        Some(Mark::Added) => "x a",
+        Some(Mark::Updated) => "x u",
+    }
+}
+
+/// The classes of the box of a node that is included.
+fn included_class(mark: Option<Mark>) -> &'static str {
+    match mark {
+        None => "n",
+        Some(mark) => mark.class(),
+    }
+}
+
+/// The classes of the box of a node that is excluded alone.
+fn transparent_class(mark: Option<Mark>) -> &'static str {
+    match mark {
+        None => "t",
+        Some(Mark::Added) => "t a",
+        Some(Mark::Updated) => "t u",
     }
 }
 
@@ -119,14 +140,39 @@ fn write_caption<O: Write>(
     rect: Frame,
     place: &Place,
     out: &mut O,
-) -> Result<(), Stop> {
-    let Some(text) = caption(alloc, &place.node, place.is_in_password)? else {
+) -> Result<(), Fault> {
+    let Some(text) = caption(alloc, &place.node, place.hidden)? else {
         return Ok(());
     };
-    begin_caption(frame, rect, text.len(), out)?;
+    match place.node.child_ids().next() {
+        Some(_) => begin_heading(frame, rect, out)?,
+        None => begin_caption(frame, rect, text.len(), out)?,
+    }
     write_escaped(&text, out)?;
     out.write_all(b"</text></svg>")?;
     Ok(())
+}
+
+/// Begins a text in small letters at the top of its box, which clips it.
+fn begin_heading<O: Write>(frame: Frame, rect: Frame, out: &mut O) -> io::Result<()> {
+    let size = (rect.height() / 2).min(frame.width() / 60).max(1);
+    begin_clip(rect, out)?;
+    write!(
+        out,
+        "<text class=\"l\" x=\"1%\" y=\"{size}\" font-size=\"{size}\">"
+    )
+}
+
+/// Begins what a box clips.
+fn begin_clip<O: Write>(rect: Frame, out: &mut O) -> io::Result<()> {
+    let x = rect.x0;
+    let y = rect.y0;
+    let width = rect.width();
+    let height = rect.height();
+    write!(
+        out,
+        "<svg x=\"{x}\" y=\"{y}\" width=\"{width}\" height=\"{height}\">"
+    )
 }
 
 /// Begins a text of this length in its box, which clips it: centred, or at the left if it is too long.
@@ -136,23 +182,17 @@ fn begin_caption<O: Write>(
     length: usize,
     out: &mut O,
 ) -> io::Result<()> {
-    let x = rect.x0;
-    let y = rect.y0;
-    let width = rect.width();
-    let height = rect.height();
     let fitting = fitting_size(rect, length);
     let least = frame.width() / 60;
-    let most = (height / 2).min(frame.width() / 26);
+    let most = (rect.height() / 2).min(frame.width() / 26);
     let size = fitting.max(least).min(most).max(1);
     let place = if fitting < size {
         "class=\"l\" x=\"1%\""
     } else {
         "x=\"50%\""
     };
-    write!(
-        out,
-        "<svg x=\"{x}\" y=\"{y}\" width=\"{width}\" height=\"{height}\"><text {place} y=\"50%\" font-size=\"{size}\">"
-    )
+    begin_clip(rect, out)?;
+    write!(out, "<text {place} y=\"50%\" font-size=\"{size}\">")
 }
 
 /// The font size at which a text of this length just fits into its box.

@@ -8,8 +8,9 @@ ghost use Rattle.views.specs.ShownWorlds.{world_of};
 ghost use Rattle.page.specs.Known.{IsStep, IsStepAbove};
 ghost use Rattle.page.specs.Places.{node_at, IsPlace, AreNodes, from_node, shown_nodes};
 
-use crate::carried::{Step, is_cut_off, known_of};
+use crate::carried::{Step, known_of};
 use crate::marks::{Mark, Marks};
+use crate::secrets::{Hidden, hidden_below};
 use accesskit_consumer::{FilterResult, NodeRef, StateRef};
 use schema::WideRect;
 use std::alloc::{AllocError, Global};
@@ -24,19 +25,14 @@ pub(crate) struct Place<'a> {
     pub answer: FilterResult,
     /// Whether it or an ancestor is hidden.
     pub is_hidden: bool,
-    /// Whether an ancestor is a password input.
-    pub is_in_password: bool,
+    /// Which of its texts are hidden.
+    pub hidden: Hidden,
     /// Its box, if it has one.
     pub rect: Option<WideRect>,
+    /// Whether the common filter excludes it, or an ancestor, with its subtree.
+    pub is_left_out: bool,
     /// The effect of the update on it.
     pub mark: Option<Mark>,
-}
-
-impl Place<'_> {
-    /// Whether the common filter excludes the node with its subtree.
-    pub(crate) fn is_left_out(&self) -> bool {
-        is_cut_off(self.answer)
-    }
 }
 
 /// Each node of the state with its properties: the root, then each child followed by those below it.
@@ -141,8 +137,9 @@ fn place_at<'a>(node: NodeRef<'a>, depth: usize, step: Step, marks: &Marks) -> P
         depth,
         answer: step.known.answer,
         is_hidden: step.known.is_hidden,
-        is_in_password: step.known.is_in_password,
+        hidden: hidden_below(&node, step.known.is_in_password),
         rect: step.known.rect,
+        is_left_out: step.known.is_left_out,
         mark: marks.get(&step.id).copied(),
     }
 }

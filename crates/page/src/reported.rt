@@ -1,159 +1,326 @@
 //! Writing each event of an update as it is reported.
-ghost use Rattle.std.specs.Prelude.{◌≡◌, ◌↔◌, IsTrue, OnOk, option_copied, ⊤};
+ghost use Rattle.std.specs.Prelude.{◌≡◌, ◌↔◌, ◌++◌, codes, IsTrue, List, None, IfNone, IfOk, OnOk, map, option_copied};
 ghost use Rattle.std.specs.Io.KnownBytes.{Appends};
-ghost use Rattle.page.specs.Differences.{TellsDifferences, TellsBox};
-ghost use Rattle.page.specs.Said.{TellsChange, change_text, text_or_none};
+ghost use Rattle.model.specs.Events.{Event, Told};
+ghost use Rattle.session.specs.Replied.{IsStep};
+ghost use Rattle.views.specs.Nodes.{seen_node, seen_through};
+ghost use Rattle.page.specs.Differences.{box_change, box_or_none, pair_text, sides_text, TellsBox, TellsDifferences, TellsStates, TellsWords};
+ghost use Rattle.page.specs.Named.{name_text, linked_text};
+ghost use Rattle.page.specs.Reports.{item_begun, item_ended, list_begun, list_ended, new_focus, old_focus, report_of, Reports, ReportsAdded, ReportsFocus, ReportsRemoved, ReportsStep, ReportsUpdated, TellsUpdated};
+ghost use Rattle.page.specs.Said.{TellsChange, arrow, change_text, text_or_none};
 
+use crate::faults::Fault;
 use crate::marks::{Mark, Marks, Tally};
 use crate::names::{write_linked_name, write_name};
-use crate::words::{is_in_password, shown_label, shown_value};
+use crate::secrets::hidden_of;
+use crate::sections::{Outcome, outcome_of};
+use crate::words::{shown_label, shown_value, state_words};
 use accesskit_consumer::{NodeRef, TreeChangeHandler};
-use atree_script::Stop;
 use html::write_element;
 use schema::WideRect;
-use std::alloc::Global;
+use session::{Command, Reply, Session};
+use std::alloc::{AllocError, Global};
 use std::io::{self, Write};
+
+/// What came of a step.
+#[derive(Drop)]
+pub(crate) struct Reported {
+    pub outcome: Outcome,
+    pub tally: Tally,
+    pub marks: Marks,
+}
+
+/// Runs a command, and writes its events as a list, if there are any.
+pub(crate) fn report_step<O: Write>(
+    alloc: Global,
+    state: u64,
+    session: &mut Session,
+    command: Command,
+    out: &mut O,
+) -> Result<Reported, Fault>
+    ensures { let before = O.contents out.old in let after = O.contents out.new in
+        IfOk result (λ it. ReportsStep state session.old command session.new before it.outcome it.tally it.marks after) }
+{
+    let mut reporter = Reporter {
+        alloc,
+        state,
+        out: &mut *out,
+        tally: Tally::none(),
+        marks: Marks::new(alloc),
+        fault: None,
+    };
+    let reply = step_reported(session, command, &mut reporter);
+    let Reporter {
+        alloc: _,
+        state: _,
+        out: written,
+        tally,
+        marks,
+        fault,
+    } = reporter;
+    // This does nothing. The proof reads from it what the output has.
+    let _ = &*written;
+    if let Some(fault) = fault {
+        return Err(fault);
+    }
+    end_list(tally, out)?;
+    let outcome = outcome_of(&reply?, tally);
+    Ok(Reported {
+        outcome,
+        tally,
+        marks,
+    })
+}
+
+/// Runs a command, whose events are written until the first error.
+fn step_reported<O: Write>(
+    session: &mut Session,
+    command: Command,
+    reporter: &mut Reporter<'_, O>,
+) -> Result<Reply, AllocError>
+    ensures output { reporter.new.out.ghost_name ≡ reporter.old.out.ghost_name }
+    ensures step { let before = report_of (O.contents reporter.old.out.now) reporter.old.tally reporter.old.marks in
+        let after = report_of (O.contents reporter.new.out.now) reporter.new.tally reporter.new.marks in
+        (events : List Event) × IsStep session.old command session.new events result
+        × IfNone reporter.new.fault ((reporter.old.fault ≡ None) × Told (Reports reporter.old.state) before events after) }
+{
+    session.step(command, reporter)
+}
+
+/// Ends the list of events, if there is one.
+fn end_list<O: Write>(tally: Tally, out: &mut O) -> io::Result<()>
+    ensures { OnOk result (Appends (O.contents out.old) (O.contents out.new) (list_ended tally)) }
+{
+    if tally.is_empty() {
+        return Ok(());
+    }
+    out.write_all(b"</ol></details>\n")
+}
+
+/// Begins the list of events before the first one.
+fn begin_list<O: Write>(tally: Tally, out: &mut O) -> io::Result<()>
+    ensures { OnOk result (Appends (O.contents out.old) (O.contents out.new) (list_begun tally)) }
+{
+    if tally.is_empty() {
+        return out.write_all(b"<details class=\"events\" open><summary>Events</summary><ol>\n");
+    }
+    Ok(())
+}
+
+/// Begins an event after those that are counted.
+fn begin_item<O: Write>(tally: Tally, class: &str, event: &str, out: &mut O) -> io::Result<()>
+    ensures { OnOk result (Appends (O.contents out.old) (O.contents out.new) (item_begun tally class.now event.now)) }
+{
+    begin_list(tally, out)?;
+    out.write_all(b"<li>")?;
+    write_element("em", class, event, out)?;
+    out.write_all(b" ")
+}
+
+/// Writes that a node was added.
+fn write_added<O: Write>(
+    alloc: Global,
+    state: u64,
+    tally: Tally,
+    node: &NodeRef,
+    out: &mut O,
+) -> Result<(), Fault>
+    ensures { let text = item_begun tally (codes "a") (codes "added") ++ linked_text state node.now ++ item_ended in
+        OnOk result (Appends (O.contents out.old) (O.contents out.new) text) }
+{
+    begin_item(tally, "a", "added", out)?;
+    write_linked_name(alloc, state, node, out)?;
+    out.write_all(b"</li>\n")?;
+    Ok(())
+}
+
+/// Writes that a node was updated, and how.
+fn write_updated<O: Write>(
+    alloc: Global,
+    state: u64,
+    tally: Tally,
+    old: &NodeRef,
+    new: &NodeRef,
+    out: &mut O,
+) -> Result<(), Fault>
+    ensures { OnOk result (TellsUpdated state tally old.now new.now (O.contents out.old) (O.contents out.new)) }
+{
+    begin_item(tally, "u", "updated", out)?;
+    write_linked_name(alloc, state, new, out)?;
+    write_differences(alloc, old, new, out)?;
+    out.write_all(b"</li>\n")?;
+    Ok(())
+}
+
+/// Writes the old and the new focus.
+fn write_focus<O: Write>(
+    alloc: Global,
+    state: u64,
+    tally: Tally,
+    old: Option<&NodeRef>,
+    new: Option<&NodeRef>,
+    out: &mut O,
+) -> Result<(), Fault>
+    ensures { let text = item_begun tally (codes "f") (codes "focus") ++ old_focus old.entry ++ arrow ++ new_focus state new.entry ++ item_ended in
+        OnOk result (Appends (O.contents out.old) (O.contents out.new) text) }
+{
+    begin_item(tally, "f", "focus", out)?;
+    write_old_focus(alloc, old, out)?;
+    out.write_all(" → ".as_bytes())?;
+    write_new_focus(alloc, state, new, out)?;
+    out.write_all(b"</li>\n")?;
+    Ok(())
+}
+
+/// Writes which node had the focus.
+fn write_old_focus<O: Write>(alloc: Global, old: Option<&NodeRef>, out: &mut O) -> Result<(), Fault>
+    ensures { OnOk result (Appends (O.contents out.old) (O.contents out.new) (old_focus old.entry)) }
+{
+    match old {
+        Some(node) => write_name(alloc, node, out),
+        None => {
+            out.write_all(b"<i>none</i>")?;
+            Ok(())
+        }
+    }
+}
+
+/// Writes which node has the focus, with a link to where the state shows it.
+fn write_new_focus<O: Write>(
+    alloc: Global,
+    state: u64,
+    new: Option<&NodeRef>,
+    out: &mut O,
+) -> Result<(), Fault>
+    ensures { OnOk result (Appends (O.contents out.old) (O.contents out.new) (new_focus state new.entry)) }
+{
+    match new {
+        Some(node) => write_linked_name(alloc, state, node, out),
+        None => {
+            out.write_all(b"<i>none</i>")?;
+            Ok(())
+        }
+    }
+}
+
+/// Writes that a node was removed.
+fn write_removed<O: Write>(
+    alloc: Global,
+    tally: Tally,
+    node: &NodeRef,
+    out: &mut O,
+) -> Result<(), Fault>
+    ensures { let text = item_begun tally (codes "r") (codes "removed") ++ name_text node.now ++ item_ended in
+        OnOk result (Appends (O.contents out.old) (O.contents out.new) text) }
+{
+    begin_item(tally, "r", "removed", out)?;
+    write_name(alloc, node, out)?;
+    out.write_all(b"</li>\n")?;
+    Ok(())
+}
 
 /// Writes each event as a list item, until the first error, and keeps which nodes were added and updated.
 #[derive(Drop)]
-pub(crate) struct Reporter<W> {
+struct Reporter<'a, O> {
     alloc: Global,
     /// The number of the state that the update makes.
     state: u64,
-    out: W,
+    out: &'a mut O,
     tally: Tally,
     marks: Marks,
-    fault: Option<Stop>,
+    fault: Option<Fault>,
 }
 
-impl<W: Write + Drop> Reporter<W> {
-    pub(crate) fn new(alloc: Global, state: u64, out: W) -> Reporter<W> {
-        Reporter {
-            alloc,
-            state,
-            out,
-            tally: Tally::default(),
-            marks: Marks::new(alloc),
-            fault: None,
-        }
-    }
-
-    /// Ends the list, and returns a summary of the events.
-    ///
-    /// # Errors
-    ///
-    /// Returns the first error.
-    pub(crate) fn finish(self) -> Result<(Tally, Marks), Stop> {
-        let Reporter {
-            alloc: _,
-            state: _,
-            mut out,
-            tally,
-            marks,
-            fault,
-        } = self;
-        if let Some(fault) = fault {
-            return Err(fault);
-        }
-        if !tally.is_empty() {
-            out.write_all(b"</ol></details>\n")?;
-        }
-        Ok((tally, marks))
-    }
-
-    /// Keeps the first error.
-    fn keep(&mut self, told: Result<(), Stop>) {
-        if let Err(fault) = told {
-            self.fault = Some(fault);
-        }
-    }
-
-    /// Begins an event, and the list if it is the first one.
-    fn begin(&mut self, class: &str, event: &str) -> io::Result<()> {
-        if self.tally.is_empty() {
-            self.out.write_all(b"<details class=\"events\" open><summary>Events</summary><ol>\n")?;
-        }
-        self.out.write_all(b"<li>")?;
-        write_element("em", class, event, &mut self.out)?;
-        self.out.write_all(b" ")
-    }
-
-    /// Writes that a node was added.
-    fn tell_added(&mut self, node: &NodeRef) -> Result<(), Stop> {
-        self.begin("a", "added")?;
+impl<'a, O: Write> Reporter<'a, O> {
+    /// Writes that a node was added, and keeps it.
+    fn tell_added(&mut self, node: &NodeRef) -> Result<(), Fault>
+        ensures output { self.new.out.ghost_name ≡ self.old.out.ghost_name }
+        ensures kept { (self.new.state ≡ self.old.state) × (self.new.fault ≡ self.old.fault) }
+        ensures told { let before = report_of (O.contents self.old.out.now) self.old.tally self.old.marks in
+            let after = report_of (O.contents self.new.out.now) self.new.tally self.new.marks in
+            OnOk result (ReportsAdded self.old.state before (seen_node node.now) after) }
+    {
+        write_added(self.alloc, self.state, self.tally, node, self.out)?;
         self.tally.added = self.tally.added.saturating_add(1);
         self.marks.insert(node.id(), Mark::Added)?;
-        write_linked_name(self.alloc, self.state, node, &mut self.out)?;
-        self.out.write_all(b"</li>\n")?;
         Ok(())
     }
 
-    /// Writes that a node was updated, and how.
-    fn tell_updated(&mut self, old: &NodeRef, new: &NodeRef) -> Result<(), Stop> {
-        self.begin("u", "updated")?;
+    /// Writes that a node was updated, and how, and keeps it.
+    fn tell_updated(&mut self, old: &NodeRef, new: &NodeRef) -> Result<(), Fault>
+        ensures output { self.new.out.ghost_name ≡ self.old.out.ghost_name }
+        ensures kept { (self.new.state ≡ self.old.state) × (self.new.fault ≡ self.old.fault) }
+        ensures told { let before = report_of (O.contents self.old.out.now) self.old.tally self.old.marks in
+            let after = report_of (O.contents self.new.out.now) self.new.tally self.new.marks in
+            OnOk result (ReportsUpdated self.old.state before (seen_node old.now) (seen_node new.now) after) }
+    {
+        write_updated(self.alloc, self.state, self.tally, old, new, self.out)?;
         self.tally.updated = self.tally.updated.saturating_add(1);
         self.marks.insert(new.id(), Mark::Updated)?;
-        write_linked_name(self.alloc, self.state, new, &mut self.out)?;
-        write_differences(self.alloc, old, new, &mut self.out)?;
-        self.out.write_all(b"</li>\n")?;
         Ok(())
     }
 
     /// Writes the old and the new focus.
-    fn tell_focus(&mut self, old: Option<&NodeRef>, new: Option<&NodeRef>) -> Result<(), Stop> {
-        self.begin("f", "focus")?;
+    fn tell_focus(&mut self, old: Option<&NodeRef>, new: Option<&NodeRef>) -> Result<(), Fault>
+        ensures output { self.new.out.ghost_name ≡ self.old.out.ghost_name }
+        ensures kept { (self.new.state ≡ self.old.state) × (self.new.fault ≡ self.old.fault) }
+        ensures told { let before = report_of (O.contents self.old.out.now) self.old.tally self.old.marks in
+            let after = report_of (O.contents self.new.out.now) self.new.tally self.new.marks in
+            OnOk result (ReportsFocus self.old.state before (seen_through old.entry) (seen_through new.entry) after) }
+    {
+        write_focus(self.alloc, self.state, self.tally, old, new, self.out)?;
         self.tally.moved = self.tally.moved.saturating_add(1);
-        match old {
-            Some(node) => write_name(self.alloc, node, &mut self.out)?,
-            None => self.out.write_all(b"<i>none</i>")?,
-        }
-        self.out.write_all(" → ".as_bytes())?;
-        match new {
-            Some(node) => write_linked_name(self.alloc, self.state, node, &mut self.out)?,
-            None => self.out.write_all(b"<i>none</i>")?,
-        }
-        self.out.write_all(b"</li>\n")?;
         Ok(())
     }
 
     /// Writes that a node was removed.
-    fn tell_removed(&mut self, node: &NodeRef) -> Result<(), Stop> {
-        self.begin("r", "removed")?;
+    fn tell_removed(&mut self, node: &NodeRef) -> Result<(), Fault>
+        ensures output { self.new.out.ghost_name ≡ self.old.out.ghost_name }
+        ensures kept { (self.new.state ≡ self.old.state) × (self.new.fault ≡ self.old.fault) }
+        ensures told { let before = report_of (O.contents self.old.out.now) self.old.tally self.old.marks in
+            let after = report_of (O.contents self.new.out.now) self.new.tally self.new.marks in
+            OnOk result (ReportsRemoved before (seen_node node.now) after) }
+    {
+        write_removed(self.alloc, self.tally, node, self.out)?;
         self.tally.removed = self.tally.removed.saturating_add(1);
-        write_name(self.alloc, node, &mut self.out)?;
-        self.out.write_all(b"</li>\n")?;
         Ok(())
     }
 }
 
-impl<W: Write + Drop> TreeChangeHandler for Reporter<W> {
-    ghost steps = { λ _ _ _. ⊤ };
+impl<'a, O: Write> TreeChangeHandler for Reporter<'a, O> {
+    ghost steps = { λ s e t. (t.out.ghost_name ≡ s.out.ghost_name) × (t.state ≡ s.state)
+        × IfNone t.fault ((s.fault ≡ None)
+        × Reports s.state (report_of (O.contents s.out.now) s.tally s.marks) e (report_of (O.contents t.out.now) t.tally t.marks)) };
 
     fn node_added(&mut self, node: &NodeRef) {
         if self.fault.is_none() {
-            let told = self.tell_added(node);
-            self.keep(told);
+            if let Err(fault) = self.tell_added(node) {
+                self.fault = Some(fault);
+            }
         }
     }
 
     fn node_updated(&mut self, old_node: &NodeRef, new_node: &NodeRef) {
         if self.fault.is_none() {
-            let told = self.tell_updated(old_node, new_node);
-            self.keep(told);
+            if let Err(fault) = self.tell_updated(old_node, new_node) {
+                self.fault = Some(fault);
+            }
         }
     }
 
     fn focus_moved(&mut self, old_node: Option<&NodeRef>, new_node: Option<&NodeRef>) {
         if self.fault.is_none() {
-            let told = self.tell_focus(old_node, new_node);
-            self.keep(told);
+            if let Err(fault) = self.tell_focus(old_node, new_node) {
+                self.fault = Some(fault);
+            }
         }
     }
 
     fn node_removed(&mut self, node: &NodeRef) {
         if self.fault.is_none() {
-            let told = self.tell_removed(node);
-            self.keep(told);
+            if let Err(fault) = self.tell_removed(node) {
+                self.fault = Some(fault);
+            }
         }
     }
 }
@@ -164,29 +331,103 @@ fn write_differences<O: Write>(
     old: &NodeRef,
     new: &NodeRef,
     out: &mut O,
-) -> Result<(), Stop>
+) -> Result<(), Fault>
     ensures { OnOk result (TellsDifferences old.now new.now (O.contents out.old) (O.contents out.new)) }
 {
-    let was_in_password = is_in_password(old);
-    let is_in_password = is_in_password(new);
-    let label = shown_label(alloc, old, was_in_password)?;
-    let new_label = shown_label(alloc, new, is_in_password)?;
+    let was_hidden = hidden_of(old);
+    let is_hidden = hidden_of(new);
+    let label = shown_label(alloc, old, was_hidden.label)?;
+    let new_label = shown_label(alloc, new, is_hidden.label)?;
     write_difference("label", label.as_deref(), new_label.as_deref(), out)?;
-    let value = shown_value(alloc, old, was_in_password)?;
-    let new_value = shown_value(alloc, new, is_in_password)?;
+    let value = shown_value(alloc, old, was_hidden.value)?;
+    let new_value = shown_value(alloc, new, is_hidden.value)?;
     write_difference("value", value.as_deref(), new_value.as_deref(), out)?;
+    write_state_difference(old, new, out)?;
     write_box_difference(old, new, out)?;
     Ok(())
 }
 
-/// Writes that the boxes of two states of a node differ, if they do.
+/// Writes each word of two states of a node that differs.
+fn write_state_difference<O: Write>(old: &NodeRef, new: &NodeRef, out: &mut O) -> io::Result<()>
+    ensures { OnOk result (TellsStates old.now new.now (O.contents out.old) (O.contents out.new)) }
+{
+    let was = state_words(old);
+    let is = state_words(new);
+    write_word_differences(&was, &is, out)
+}
+
+/// Writes each of these words and those that differs: the old one and the new one.
+fn write_word_differences<O: Write>(
+    old: &[Option<&'static str>],
+    new: &[Option<&'static str>],
+    out: &mut O,
+) -> io::Result<()>
+    ensures { OnOk result (TellsWords (map option_copied old.now) (map option_copied new.now) (O.contents out.old) (O.contents out.new)) }
+{
+    let count = old.len().min(new.len());
+    for index in 0..count {
+        write_difference("state", old[index], new[index], out)?;
+    }
+    Ok(())
+}
+
+/// Writes the boxes of two states of a node, if they differ.
 fn write_box_difference<O: Write>(old: &NodeRef, new: &NodeRef, out: &mut O) -> io::Result<()>
     ensures { OnOk result (TellsBox old.now new.now (O.contents out.old) (O.contents out.new)) }
 {
-    if is_same_box(old.bounding_box(), new.bounding_box()) {
+    let was = old.bounding_box();
+    let is = new.bounding_box();
+    if is_same_box(was, is) {
         return Ok(());
     }
-    out.write_all(b"; its box has changed")
+    write_box_change(was, is, out)
+}
+
+/// Writes that a box was the one and is the other.
+fn write_box_change<O: Write>(
+    old: Option<WideRect>,
+    new: Option<WideRect>,
+    out: &mut O,
+) -> io::Result<()>
+    ensures { OnOk result (Appends (O.contents out.old) (O.contents out.new) (box_change old new)) }
+{
+    out.write_all(b"; box ")?;
+    write_box_or_none(old, out)?;
+    out.write_all(" → ".as_bytes())?;
+    write_box_or_none(new, out)
+}
+
+/// Writes a box's left, top, right and bottom, or that there isn't one.
+fn write_box_or_none<O: Write>(rect: Option<WideRect>, out: &mut O) -> io::Result<()>
+    ensures { OnOk result (Appends (O.contents out.old) (O.contents out.new) (box_or_none rect)) }
+{
+    match rect {
+        Some(rect) => write_sides(rect, out),
+        None => out.write_all(b"<i>none</i>"),
+    }
+}
+
+/// Writes a rectangle's left, top, right and bottom.
+fn write_sides<O: Write>(rect: WideRect, out: &mut O) -> io::Result<()>
+    ensures { OnOk result (Appends (O.contents out.old) (O.contents out.new) (sides_text rect)) }
+{
+    write_start(rect, out)?;
+    out.write_all(b",")?;
+    write_end(rect, out)
+}
+
+/// Writes a rectangle's left and top.
+fn write_start<O: Write>(rect: WideRect, out: &mut O) -> io::Result<()>
+    ensures { OnOk result (Appends (O.contents out.old) (O.contents out.new) (pair_text rect.x0 rect.y0)) }
+{
+    write!(out, "{},{}", rect.x0, rect.y0)
+}
+
+/// Writes a rectangle's right and bottom.
+fn write_end<O: Write>(rect: WideRect, out: &mut O) -> io::Result<()>
+    ensures { OnOk result (Appends (O.contents out.old) (O.contents out.new) (pair_text rect.x1 rect.y1)) }
+{
+    write!(out, "{},{}", rect.x1, rect.y1)
 }
 
 /// Whether two boxes are equal, or there is neither.

@@ -1,9 +1,42 @@
 //! Writing the parts of a page around its states, and the head of each state.
+ghost use Rattle.std.specs.Prelude.{◌≡◌, OnOk};
+ghost use Rattle.std.specs.Io.KnownBytes.{Appends};
+ghost use Rattle.page.specs.States.{
+  cause_line,
+  cause_of,
+  cause_text,
+  count_text,
+  fault_text,
+  heading,
+  host_cause,
+  item_text,
+  items_from,
+  next_link,
+  outcome_of,
+  outcome_of_events,
+  outcome_text,
+  outcome_word,
+  page_end,
+  previous_link,
+  reason_text,
+  same_text,
+  section_end,
+  some_text,
+  state_begun,
+  state_link,
+  stop_begun,
+  stop_text,
+  tally_text,
+  why_text,
+};
 
 use crate::marks::Tally;
 use crate::sheet::SHEET;
+use crate::stops::Ending;
 use accesskit_consumer::UpdateError;
 use atree_script::Stop;
+use html::write_escaped_bytes;
+use session::{Command, Reply};
 use std::io::{self, Write};
 
 /// The outcome of a state.
@@ -50,7 +83,7 @@ pub(crate) fn write_head<O: Write>(out: &mut O) -> io::Result<()> {
     }
     out.write_all(b"</style>\n</head>\n<body>\n")?;
     write_legend(out)?;
-    out.write_all(b"<main>\n")
+    out.write_all(b"<main id=\"first\">\n")
 }
 
 /// Writes what the marks of a page mean.
@@ -60,37 +93,111 @@ fn write_legend<O: Write>(out: &mut O) -> io::Result<()> {
     out.write_all(b"<em class=\"r\">removed</em> <em class=\"f\">focus</em> ")?;
     out.write_all(b"<em class=\"h\">hidden or clipped</em></p>\n")?;
     out.write_all(
-        b"<p><a href=\"#state-1\">First state</a> <a href=\"#states\">All states</a></p></header>\n",
+        b"<p><a href=\"#first\">First state</a> <a href=\"#states\">All states</a></p></header>\n",
     )
 }
 
+/// The cause of the state that a command makes after so many updates. Setting the host's focus to its current value makes
+/// none, and neither does a query.
+pub(crate) fn cause_of(command: &Command, is_host_focused: bool, updates: u64) -> Option<Cause>
+    ensures { result ≡ cause_of is_host_focused updates command.now }
+{
+    match command {
+        Command::Update(_) => Some(Cause::Update(updates.saturating_add(1))),
+        Command::HostFocus(is_focused) if *is_focused != is_host_focused => {
+            Some(host_cause(*is_focused))
+        }
+        Command::HostFocus(_) | Command::Query(_) => None,
+    }
+}
+
+/// The cause of a state in which the host's focus has changed.
+fn host_cause(is_focused: bool) -> Cause
+    ensures { result ≡ host_cause is_focused }
+{
+    match is_focused {
+        true => Cause::HostOn,
+        false => Cause::HostOff,
+    }
+}
+
+/// The outcome of a step after the first update.
+pub(crate) fn outcome_of(reply: &Reply, tally: Tally) -> Outcome
+    ensures { result ≡ outcome_of reply.now tally }
+{
+    match reply {
+        Reply::Refused(refusal) => Outcome::Refused(*refusal),
+        _ => outcome_of_events(tally),
+    }
+}
+
+/// The outcome of a step that wasn't refused.
+fn outcome_of_events(tally: Tally) -> Outcome
+    ensures { result ≡ outcome_of_events tally }
+{
+    match tally.is_empty() {
+        true => Outcome::Same,
+        false => Outcome::Changed,
+    }
+}
+
 /// Ends the state before, if there is one, and begins the next one.
-pub(crate) fn begin_state<O: Write>(number: u64, cause: Cause, out: &mut O) -> io::Result<()> {
+pub(crate) fn begin_state<O: Write>(number: u64, cause: Cause, out: &mut O) -> io::Result<()>
+    ensures { OnOk result (Appends (O.contents out.old) (O.contents out.new) (state_begun number cause)) }
+{
+    write_next_link(number, out)?;
+    write_heading(number, out)?;
+    write_cause_line(cause, out)?;
+    write_previous_link(number.saturating_sub(1), out)
+}
+
+/// Writes a link from the state before to the one with this number, and ends the state before, if there is one.
+fn write_next_link<O: Write>(number: u64, out: &mut O) -> io::Result<()>
+    ensures { OnOk result (Appends (O.contents out.old) (O.contents out.new) (next_link number)) }
+{
     if number > 1 {
         write!(
             out,
             "<a class=\"next\" rel=\"next\" href=\"#state-{number}\">Next</a></section>\n"
         )?;
     }
-    write!(
-        out,
-        "<section id=\"state-{number}\">\n<h2>State {number}</h2>\n"
-    )?;
-    out.write_all(b"<p class=\"cause\">")?;
-    write_cause(cause, out)?;
-    out.write_all(b"</p>\n")?;
-    let before = number.saturating_sub(1);
-    if before > 0 {
+    Ok(())
+}
+
+/// Writes a link to the state with this number, if there is one.
+fn write_previous_link<O: Write>(number: u64, out: &mut O) -> io::Result<()>
+    ensures { OnOk result (Appends (O.contents out.old) (O.contents out.new) (previous_link number)) }
+{
+    if number > 0 {
         write!(
             out,
-            "<a class=\"prev\" rel=\"prev\" href=\"#state-{before}\">Previous</a>\n"
+            "<a class=\"prev\" rel=\"prev\" href=\"#state-{number}\">Previous</a>\n"
         )?;
     }
     Ok(())
 }
 
+/// Begins a state with its heading.
+fn write_heading<O: Write>(number: u64, out: &mut O) -> io::Result<()>
+    ensures { OnOk result (Appends (O.contents out.old) (O.contents out.new) (heading number)) }
+{
+    write!(out, "<section id=\"state-{number}\">\n")?;
+    write!(out, "<h2>State {number}</h2>\n")
+}
+
+/// Writes the line with the cause of a state.
+fn write_cause_line<O: Write>(cause: Cause, out: &mut O) -> io::Result<()>
+    ensures { OnOk result (Appends (O.contents out.old) (O.contents out.new) (cause_line cause)) }
+{
+    out.write_all(b"<p class=\"cause\">")?;
+    write_cause(cause, out)?;
+    out.write_all(b"</p>\n")
+}
+
 /// Writes the cause of a state.
-fn write_cause<O: Write>(cause: Cause, out: &mut O) -> io::Result<()> {
+fn write_cause<O: Write>(cause: Cause, out: &mut O) -> io::Result<()>
+    ensures { OnOk result (Appends (O.contents out.old) (O.contents out.new) (cause_text cause)) }
+{
     match cause {
         Cause::Update(number) => write!(out, "Update {number}"),
         Cause::HostOn => out.write_all(b"The host window gets the focus"),
@@ -99,19 +206,13 @@ fn write_cause<O: Write>(cause: Cause, out: &mut O) -> io::Result<()> {
 }
 
 /// Writes the outcome of a state.
-pub(crate) fn write_outcome<O: Write>(
-    number: u64,
-    summary: &Summary,
-    out: &mut O,
-) -> io::Result<()> {
-    let before = number.saturating_sub(1);
-    match summary.outcome {
+pub(crate) fn write_outcome<O: Write>(number: u64, outcome: Outcome, out: &mut O) -> io::Result<()>
+    ensures { OnOk result (Appends (O.contents out.old) (O.contents out.new) (outcome_text number outcome)) }
+{
+    match outcome {
         Outcome::Begun => out.write_all(b"<p class=\"note\">The tree begins.</p>\n"),
         Outcome::Changed => Ok(()),
-        Outcome::Same => write!(
-            out,
-            "<p class=\"note\">Nothing has changed since <a href=\"#state-{before}\">the state before</a>.</p>\n"
-        ),
+        Outcome::Same => write_same(number.saturating_sub(1), out),
         Outcome::Refused(refusal) => write!(
             out,
             "<p class=\"refused\">Refused: {refusal}. Nothing has changed.</p>\n"
@@ -119,56 +220,138 @@ pub(crate) fn write_outcome<O: Write>(
     }
 }
 
+/// Writes that nothing has changed since the state with this number.
+fn write_same<O: Write>(before: u64, out: &mut O) -> io::Result<()>
+    ensures { OnOk result (Appends (O.contents out.old) (O.contents out.new) (same_text before)) }
+{
+    write!(
+        out,
+        "<p class=\"note\">Nothing has changed since <a href=\"#state-{before}\">the state before</a>.</p>\n"
+    )
+}
+
 /// Ends the page: says why the script stopped before its end, if it did, and lists the states.
 pub(crate) fn write_end<O: Write>(
     states: &[Summary],
-    run: Result<(), Stop>,
-    line: u64,
+    ending: &Ending,
     out: &mut O,
-) -> io::Result<()> {
-    if !states.is_empty() {
-        out.write_all(b"</section>\n")?;
-    }
-    if let Err(stop) = run {
-        let why = stop_text(stop);
-        write!(out, "<p class=\"refused\">Line {line}: {why}</p>\n")?;
-    }
+) -> io::Result<()>
+    ensures { OnOk result (Appends (O.contents out.old) (O.contents out.new) (page_end states.now ending.now.ended ending.now.line ending.now.message.items)) }
+{
+    end_section(states, out)?;
+    write_stop(ending.ended, ending.line, &ending.message, out)?;
     out.write_all(b"</main>\n<nav id=\"states\" aria-label=\"States\"><h2>States</h2><ol>\n")?;
-    for (index, summary) in states.iter().enumerate() {
-        write_summary(index.saturating_add(1), summary, out)?;
-    }
+    write_items(states, out)?;
     out.write_all(b"</ol></nav>\n</body>\n</html>\n")
 }
 
-/// Why a script stopped.
-fn stop_text(stop: Stop) -> &'static str {
-    match stop {
-        Stop::BadLine => "bad line. The script stops here.",
-        Stop::Memory => "no memory. The script stops here.",
-        Stop::ReadFault => "the next line can't be read.",
-        Stop::WriteFault => "the page can't be written.",
+/// Ends the last of these states, if there is one.
+fn end_section<O: Write>(states: &[Summary], out: &mut O) -> io::Result<()>
+    ensures { OnOk result (Appends (O.contents out.old) (O.contents out.new) (section_end states.now)) }
+{
+    match states.first() {
+        Some(_) => out.write_all(b"</section>\n"),
+        None => Ok(()),
     }
 }
 
-/// Writes the summary of a state, as a link to it.
-fn write_summary<O: Write>(number: usize, summary: &Summary, out: &mut O) -> io::Result<()> {
-    write!(
-        out,
-        "<li><a href=\"#state-{number}\">State {number}</a> <small>"
-    )?;
-    write_cause(summary.cause, out)?;
-    out.write_all(b"</small>")?;
-    match summary.outcome {
-        Outcome::Begun => out.write_all(b" begun")?,
-        Outcome::Changed => write_tally(summary.tally, out)?,
-        Outcome::Same => out.write_all(b" unchanged")?,
-        Outcome::Refused(_) => out.write_all(b" <em class=\"r\">refused</em>")?,
+/// Writes why the script stopped before its end, if it did.
+fn write_stop<O: Write>(
+    ended: Result<(), Stop>,
+    line: u64,
+    message: &[u8],
+    out: &mut O,
+) -> io::Result<()>
+    ensures { OnOk result (Appends (O.contents out.old) (O.contents out.new) (stop_text ended line message.now)) }
+{
+    match ended {
+        Ok(()) => Ok(()),
+        Err(stop) => write_why(stop, line, message, out),
     }
+}
+
+/// Writes why the script stopped: of a bad line this message, and otherwise the line and a reason.
+fn write_why<O: Write>(stop: Stop, line: u64, message: &[u8], out: &mut O) -> io::Result<()>
+    ensures { OnOk result (Appends (O.contents out.old) (O.contents out.new) (why_text stop line message.now)) }
+{
+    match stop {
+        Stop::BadLine => write_fault(message, out),
+        Stop::Memory => write_reason(line, "no memory. The script stops here.", out),
+        Stop::ReadFault => write_reason(line, "the next line can't be read.", out),
+        Stop::WriteFault => write_reason(line, "the page can't be written.", out),
+    }
+}
+
+/// Writes that the script stopped at a bad line, with what is wrong in it.
+fn write_fault<O: Write>(message: &[u8], out: &mut O) -> io::Result<()>
+    ensures { OnOk result (Appends (O.contents out.old) (O.contents out.new) (fault_text message.now)) }
+{
+    out.write_all(b"<p class=\"refused\">The script stops at ")?;
+    write_escaped_bytes(message, out)?;
+    out.write_all(b"</p>\n")
+}
+
+/// Writes why the script stopped at a line.
+fn write_reason<O: Write>(line: u64, reason: &str, out: &mut O) -> io::Result<()>
+    ensures { OnOk result (Appends (O.contents out.old) (O.contents out.new) (reason_text line reason.now)) }
+{
+    begin_stop(line, out)?;
+    out.write_all(reason.as_bytes())?;
+    out.write_all(b"</p>\n")
+}
+
+/// Writes at which line the script stopped.
+fn begin_stop<O: Write>(line: u64, out: &mut O) -> io::Result<()>
+    ensures { OnOk result (Appends (O.contents out.old) (O.contents out.new) (stop_begun line)) }
+{
+    write!(out, "<p class=\"refused\">Line {line}: ")
+}
+
+/// Writes an item for each state, counted from 1.
+fn write_items<O: Write>(states: &[Summary], out: &mut O) -> io::Result<()>
+    ensures { OnOk result (Appends (O.contents out.old) (O.contents out.new) (items_from 1 states.now)) }
+{
+    for (index, it) in states.iter().enumerate() {
+        write_item(index + 1, it, out)?;
+    }
+    Ok(())
+}
+
+/// Writes an item for a state, as a link to it.
+fn write_item<O: Write>(number: usize, it: &Summary, out: &mut O) -> io::Result<()>
+    ensures { OnOk result (Appends (O.contents out.old) (O.contents out.new) (item_text number it.now)) }
+{
+    begin_item(number, out)?;
+    write_cause(it.cause, out)?;
+    out.write_all(b"</small>")?;
+    write_outcome_word(it.outcome, it.tally, out)?;
     out.write_all(b"</li>\n")
 }
 
+/// Begins an item with a link to its state.
+fn begin_item<O: Write>(number: usize, out: &mut O) -> io::Result<()>
+    ensures { OnOk result (Appends (O.contents out.old) (O.contents out.new) (state_link number)) }
+{
+    write!(out, "<li><a href=\"#state-{number}\">")?;
+    write!(out, "State {number}</a> <small>")
+}
+
+/// Writes what came of a state, in short.
+fn write_outcome_word<O: Write>(outcome: Outcome, tally: Tally, out: &mut O) -> io::Result<()>
+    ensures { OnOk result (Appends (O.contents out.old) (O.contents out.new) (outcome_word outcome tally)) }
+{
+    match outcome {
+        Outcome::Begun => out.write_all(b" begun"),
+        Outcome::Changed => write_tally(tally, out),
+        Outcome::Same => out.write_all(b" unchanged"),
+        Outcome::Refused(_) => out.write_all(b" <em class=\"r\">refused</em>"),
+    }
+}
+
 /// Writes the numbers of nodes added, updated and removed, and whether the focus moved.
-fn write_tally<O: Write>(tally: Tally, out: &mut O) -> io::Result<()> {
+fn write_tally<O: Write>(tally: Tally, out: &mut O) -> io::Result<()>
+    ensures { OnOk result (Appends (O.contents out.old) (O.contents out.new) (tally_text tally)) }
+{
     write_count("a", "added", tally.added, out)?;
     write_count("u", "updated", tally.updated, out)?;
     write_count("r", "removed", tally.removed, out)?;
@@ -176,9 +359,20 @@ fn write_tally<O: Write>(tally: Tally, out: &mut O) -> io::Result<()> {
 }
 
 /// Writes a count that isn't 0.
-fn write_count<O: Write>(class: &str, what: &str, count: u64, out: &mut O) -> io::Result<()> {
+fn write_count<O: Write>(class: &str, what: &str, count: u64, out: &mut O) -> io::Result<()>
+    ensures { OnOk result (Appends (O.contents out.old) (O.contents out.new) (count_text class.now what.now count)) }
+{
     if count == 0 {
         return Ok(());
     }
-    write!(out, " <em class=\"{class}\">{count} {what}</em>")
+    write_some(class, what, count, out)
+}
+
+/// Writes a count.
+fn write_some<O: Write>(class: &str, what: &str, count: u64, out: &mut O) -> io::Result<()>
+    ensures { OnOk result (Appends (O.contents out.old) (O.contents out.new) (some_text class.now what.now count)) }
+{
+    write!(out, " <em class=\"{class}\">")?;
+    write!(out, "{count} ")?;
+    write!(out, "{what}</em>")
 }

@@ -1,7 +1,7 @@
 //! The style of a page.
 
 /// The lines of the style sheet.
-pub(crate) static SHEET: [&str; 45] = [
+pub(crate) static SHEET: [&str; 46] = [
     ":root{color-scheme:light dark;--bg:#fff;--fg:#1f2328;--dim:#59636e;--line:#d1d9e0;--panel:#f6f8fa;--box:#edf4fc;--edge:#57606a;--link:#0550ae;--a:#116329;--abg:#dafbe1;--u:#7d4e00;--ubg:#fff1c2;--r:#a40e26;--rbg:#ffe3e0;--f:#6e2ab5;--fbg:#efe3ff}",
     "@media(prefers-color-scheme:dark){:root{--bg:#0d1117;--fg:#e6edf3;--dim:#9da7b3;--line:#3d444d;--panel:#161b22;--box:#172230;--edge:#9da7b3;--link:#79c0ff;--a:#7ee787;--abg:#0f3b1d;--u:#f2cc60;--ubg:#43330a;--r:#ffa198;--rbg:#5c1a1a;--f:#d2a8ff;--fbg:#3b2160}}",
     "*{box-sizing:border-box}",
@@ -14,6 +14,7 @@ pub(crate) static SHEET: [&str; 45] = [
     "p{margin:.4rem 0}",
     "header p a{margin-right:1rem}",
     "section{position:relative;border-top:1px solid var(--line)}",
+    "@media screen{@supports selector(:has(a)){section{display:none}section:target,section:has(:target),main:not(:has(:target))>section:first-of-type{display:block}}}",
     "section h2{padding-right:10rem}",
     ".prev,.next{position:absolute;top:.8rem;padding:.3rem .7rem;border:1px solid var(--line);border-radius:.4rem;background:var(--panel);text-decoration:none;font-size:.9rem}",
     ".prev{right:calc(clamp(.75rem,3vw,2rem) + 4.2rem)}",

@@ -49,11 +49,10 @@ description_of w id = option_and_then (λ d. d.description) (data_of w id)
 -- whether a node has the texts that are wanted
 abbrev pub has_texts : Wanted → World → FullNodeId → Bool
 has_texts wanted w id =
-    holds_of bytes_eq wanted.label (label_of w id)
-    && (holds_of stands_in wanted.label_part (label_of w id)
+    (holds_of bytes_eq wanted.label (label_of w id) && holds_of stands_in wanted.label_part (label_of w id))
     && (holds_of bytes_eq wanted.text (text_of w id)
     && (holds_of bytes_eq wanted.value (value_of w id)
-    && holds_of bytes_eq wanted.description (description_of w id))))
+    && holds_of bytes_eq wanted.description (description_of w id)))
 
 -- whether it has the role and the texts
 abbrev pub fits : Wanted → World → FullNodeId → Bool

@@ -1,12 +1,13 @@
 //! The arguments of the program.
 
+ghost use Rattle.read.specs.Given.{GivesAsked, ReadsAsked};
+
+use crate::given::{id_given, tree_given};
 use crate::reading::tell_text;
 use accesskit_consumer::text::NodeText;
-use atree_script::{Arguments, Stop, Teller, number, tree_named};
-use schema::NodeId;
+use atree_script::{ArgumentError, Arguments, Stop, Teller, miscounted};
 use session::{NodeName, Session};
 use std::alloc::Global;
-use std::env::Args;
 use std::io::Write;
 
 /// The node whose text is printed.
@@ -16,20 +17,14 @@ pub(crate) struct Asked {
 }
 
 impl Arguments for Asked {
-    fn usage() -> &'static str {
-        "read ID TREE"
-    }
+    ghost reads = { ReadsAsked };
 
     /// The node's id, and its tree.
-    fn from_arguments(args: Args) -> Option<Asked> {
-        let mut args = args;
-        let _program = args.next()?;
-        let id = NodeId(number(&args.next()?)?);
-        let tree = tree_named(&args.next()?)?;
-        if args.next().is_some() {
-            return None;
+    fn from_words(alloc: Global, words: &[String]) -> Result<Asked, ArgumentError> {
+        match words {
+            [id, tree] => named(alloc, id.as_str(), tree.as_str()),
+            _ => Err(miscounted(words)),
         }
-        Some(Asked { name: (id, tree) })
     }
 }
 
@@ -53,4 +48,13 @@ impl Teller for Asked {
         tell_text(alloc, text, output)?;
         Ok(true)
     }
+}
+
+/// The node that is named by these words.
+fn named(alloc: Global, id: &str, tree: &str) -> Result<Asked, ArgumentError>
+    ensures { GivesAsked id.now tree.now result }
+{
+    let id = id_given(alloc, id)?;
+    let tree = tree_given(alloc, tree)?;
+    Ok(Asked { name: (id, tree) })
 }

@@ -2,13 +2,16 @@
 #![tactic(auto)]
 
 mod asked;
+mod given;
+mod manual;
 mod reading;
 mod selected;
 
 use crate::asked::Asked;
+use crate::manual::MANUAL;
 use atree_script::tell_as_asked;
 use std::process::ExitCode;
 
 fn main(rt: HostRuntime) -> ExitCode {
-    tell_as_asked::<Asked>(&rt)
+    tell_as_asked::<Asked>(&rt, &MANUAL)
 }

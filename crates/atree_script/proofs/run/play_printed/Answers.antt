@@ -24,4 +24,5 @@ returns-clause-plays g c =
       host = h.host;
       plays = plays_seen (λ s turn r t. (t.output.ghost_name ≡ s.output.ghost_name) × Prints (written s) turn r (written t)) Prints written (λ s turn r t k. k.1)
           (start_of (g.R.Read.remaining c.args.input.now)) (no_tree, c.args.writing.now) (end, c.play.new.player) h.commands c.play.result.ended c.play.result.number h.plays;
+      numbered = h.numbered;
     }

@@ -3,7 +3,7 @@ use Rattle.std.proofs.lemmas.Result.{IfOk-weaker}
 use Rattle.model.specs.Filters.{common_filter}
 use Rattle.views.specs.Nodes.{world_at}
 use Rattle.views.specs.FilteredWalks.{descendants_walk}
-use Rattle.session.proofs.Drained.{gives_all}
+use Rattle.views.proofs.Drained.{gives_all}
 use Rattle.find.proofs.search.ids_below.Goals as goal
 
 pub returns : goal.returns

@@ -1,0 +1,26 @@
+use Rattle.std.proofs.Common.{sym, ap, subst}
+use Rattle.std.specs.Prelude.{false, flat_map, reverse}
+use Rattle.std.specs.Io.KnownBytes.{Appends}
+use Rattle.std.proofs.KnownBytes.{Appends-trans}
+use Rattle.std.proofs.lemmas.Result.{on_ok_weaker}
+use Rattle.find.specs.Viewed.{name_seen, later_seen, names_seen, IsWayDown}
+use Rattle.find.proofs.Upward.{last_taken}
+use Rattle.find.proofs.Ways.{goes_down, below_root}
+use Rattle.find.proofs.report.names.write_names.Goals as goal
+
+pub write_name-requires : goal.write_name-requires
+write_name-requires g c = (goes_down c.args.nodes.items c.pop.new.self.items c.in-Some.root false c.in-Some.ensures.items c.requires).within
+
+pub write_later-requires : goal.write_later-requires
+write_later-requires g c =
+    let left = c.pop.new.self.items in
+    subst (IsWayDown left) (sym c.is_password_input.ensures) (below_root left c.in-Some.root (goes_down c.args.nodes.items left c.in-Some.root false c.in-Some.ensures.items c.requires))
+
+pub returns : goal.returns
+returns g c =
+    let left = c.pop.new.self.items in
+    on_ok_weaker c.write_later.result
+    (λ later.
+    subst (Appends (g.O.Write.contents c.args.out.now) (g.O.Write.contents c.write_later.new.out)) (sym (ap names_seen (last_taken c.args.nodes.items left c.in-Some.root c.in-Some.ensures.items)))
+    (Appends-trans _ _ _ (name_seen c.in-Some.root) (flat_map later_seen (reverse left)) c.in_ok-write_name.ensures later))
+    c.write_later.ensures

@@ -1,0 +1,44 @@
+-- What is hidden of a node, by what is known of it.
+use Rattle.std.proofs.Common.{◌≡◌, Bool, true, false, ◌&&◌, ◌||◌, List, [], map, refl, sym, ap, ◌∙◌}
+use Rattle.std.specs.Prelude.{is_none}
+use Rattle.std.specs.List.{list_any}
+use Rattle.model.specs.declared.FullNodeId.{FullNodeId}
+use Rattle.model.specs.World.{World}
+use Rattle.model.specs.Labels.{own_label, labelled_by}
+use Rattle.model.specs.TextRuns.{has_runs, sent_runs}
+use Rattle.views.specs.PlainWalks.{node_in}
+use Rattle.hidden_texts.specs.Hidden.{is_in_password, has_password_below, holds_password, is_valued_by_runs, hides_value, hides_part, hides_label}
+use Rattle.hidden_texts.specs.Walked.{hides_part_of}
+use Rattle.hidden_texts.proofs.Anys.{any_in}
+use Rattle.page.specs.Said.{hidden_at}
+use Rattle.page.specs.declared.secrets.Hidden.{Hidden}
+
+and_false : (b : Bool) → (b && false) ≡ false
+and_false true = refl
+and_false false = refl
+
+abbrev both : Bool → Bool → Hidden
+both label value = record { label = label; value = value }
+
+module _ (w : World) (id : FullNodeId) where
+  -- in a password both are
+  pub all_hidden : is_in_password w id ≡ true → both true true ≡ hidden_at w id
+  all_hidden within =
+      let label = ap (λ b. b || (is_none (own_label w id) && list_any (hides_part w) (labelled_by w id))) within in
+      let value = ap (λ b. b || (is_valued_by_runs w id && holds_password w id)) within in
+      sym (λ i. both (label i) (value i))
+
+  -- outside, the label isn't where no node labels it
+  pub unlabelled : is_in_password w id ≡ false → (left : List (World × FullNodeId)) → left ≡ map (node_in w) (labelled_by w id) → left ≡ [] → false ≡ hides_label w id
+  unlabelled out left is none =
+      let no_labels : list_any (hides_part w) (labelled_by w id) ≡ false = sym (any_in hides_part w (labelled_by w id)) ∙ ap (list_any hides_part_of) (sym is ∙ none) in
+      sym
+      (ap (λ b. b || (is_none (own_label w id) && list_any (hides_part w) (labelled_by w id))) out
+      ∙ ap (λ b. is_none (own_label w id) && b) no_labels ∙ and_false (is_none (own_label w id)))
+
+  -- and the value isn't where there are no runs
+  pub runless : is_in_password w id ≡ false → false ≡ has_runs w id (sent_runs w id) → false ≡ hides_value w id
+  runless out no_runs =
+      sym
+      (ap (λ b. b || (is_valued_by_runs w id && holds_password w id)) out
+      ∙ ap (λ b. is_valued_by_runs w id && (b && has_password_below w id)) (sym no_runs) ∙ and_false (is_valued_by_runs w id))

@@ -1,0 +1,9 @@
+use Rattle.std.proofs.KnownBytes.{Appends-trans}
+use Rattle.std.proofs.lemmas.Result.{on_ok_weaker}
+use Rattle.page.specs.States.{state_link_begun, state_word}
+use Rattle.page.proofs.sections.begin_item.Goals as goal
+
+pub returns : goal.returns
+returns g c =
+    let number = c.args.number in
+    on_ok_weaker c.write-2.result (Appends-trans _ _ _ (state_link_begun number) (state_word number) c.in_ok-write.ensures.bytes) c.write-2.ensures.bytes

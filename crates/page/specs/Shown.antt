@@ -1,0 +1,123 @@
+-- What a page shows of a script, command by command.
+use Rattle.std.specs.Prelude.{◌≡◌, ◌⊎◌, ℕ, List, [], ◌∷◌, ◌++◌, Option, Some, None, MatchOption, MatchResult, Result, Ok, Err, ⊤}
+use Rattle.std.specs.Io.KnownBytes.{Appends, Keeps}
+use Rattle.atree_script.specs.Input.{start_of}
+use Rattle.atree_script.specs.declared.playing.Played.{Played}
+use Rattle.atree_script.specs.Playing.{Turn, Begun as TreeBegun, FirstRefused, Ran, Asked, Printed, Stage, no_tree, Plays}
+use Rattle.atree_script.specs.Scripts.{Writes}
+use Rattle.model.specs.World.{World}
+use Rattle.script_lines.specs.Ends.{Tells, status_at_end}
+use Rattle.script_lines.specs.declared.reader.ScriptCommand.{ScriptCommand}
+use Rattle.script_words.specs.declared.stops.Stop.{Stop}
+use Rattle.script_words.specs.declared.stops.Stop.TheVariants.{Memory, WriteFault}
+use Rattle.session.specs.declared.commands.Command.{Command}
+use Rattle.page.specs.declared.faults.Fault.{Fault}
+use Rattle.page.specs.declared.faults.Fault.TheVariants as fault
+use Rattle.page.specs.declared.marks.Tally.{Tally}
+use Rattle.page.specs.declared.sections.Cause.{Cause}
+use Rattle.page.specs.declared.sections.Cause.TheVariants.{Update}
+use Rattle.page.specs.declared.sections.Outcome.{Outcome}
+use Rattle.page.specs.declared.sections.Outcome.TheVariants.{Begun, Changed, Same, Refused}
+use Rattle.page.specs.declared.sections.Summary.{Summary}
+use Rattle.page.specs.declared.stops.Ending.{Ending}
+use Rattle.page.specs.Endings.{EndsAs, told_text}
+use Rattle.page.specs.Reports.{Bytes, Marked, ReportsStep, no_tally}
+use Rattle.page.specs.States.{counted, next_number, cause_of, updates_after, state_begun, outcome_text, page_end}
+
+-- a page while it is written: how many updates there were, its states, and what is written
+pub record Pages : Type 0 where
+  pub updates : ℕ
+  pub states : List Summary
+  pub written : Bytes
+
+abbrev pub pages_of : ℕ → List Summary → Bytes → Pages
+pages_of updates states written = record { updates = updates; states = states; written = written }
+
+-- why a page is not written further
+abbrev pub stop_of : Fault → Stop
+stop_of fault.Memory = Memory
+stop_of fault.Output = WriteFault
+
+abbrev pub summary : Cause → Outcome → Tally → Summary
+summary cause outcome tally = record { cause = cause; outcome = outcome; tally = tally }
+
+-- a tree is written after its beginning and after each change: how is not said here
+abbrev pub WritesTree : Outcome → Bytes → Bytes → Type 0
+WritesTree Begun before after = ⊤
+WritesTree Changed before after = ⊤
+WritesTree Same before after = after ≡ before
+WritesTree (Refused why) before after = after ≡ before
+
+-- the state of a first update, which has no events
+abbrev pub first_summary : ℕ → Outcome → Summary
+first_summary updates outcome = summary (Update (counted updates)) outcome no_tally
+
+-- what came of a state is said, and it is one more state
+pub record Notes (it : Summary) (s t : Pages) : Type 0 where
+  pub outcome : Appends s.written t.written (outcome_text (next_number s.states) it.outcome)
+  pub states : t.states ≡ s.states ++ it ∷ []
+  pub updates : t.updates ≡ updates_after it.cause s.updates
+
+-- a state without events begins, and what came of it is said
+pub record Opens (it : Summary) (s t : Pages) : Type 0 where
+  pub begun : Bytes
+  pub begins : Appends s.written begun (state_begun (next_number s.states) it.cause)
+  pub notes : Notes it (pages_of s.updates s.states begun) t
+
+-- and its tree is written
+pub record ShowsState (it : Summary) (s t : Pages) : Type 0 where
+  pub noted : Bytes
+  pub opens : Opens it s (pages_of t.updates t.states noted)
+  pub tree : WritesTree it.outcome noted t.written
+
+-- the state that a step makes is shown, with its events
+pub record ShowsStep (cause : Cause) (s : Pages) (old : World) (c : Command) (new : World) (t : Pages) : Type 0 where
+  pub begun : Bytes
+  pub begins : Appends s.written begun (state_begun (next_number s.states) cause)
+  pub told : Bytes
+  pub outcome : Outcome
+  pub tally : Tally
+  pub marks : Marked
+  pub reports : ReportsStep (next_number s.states) old c new begun outcome tally marks told
+  pub noted : Bytes
+  pub notes : Notes (summary cause outcome tally) (pages_of s.updates s.states told) (pages_of t.updates t.states noted)
+  pub tree : WritesTree outcome noted t.written
+
+-- this is shown, or the page is not written further
+abbrev pub OrStops : Result Unit Stop → Type 0 → Type 0
+OrStops result shown = MatchResult result (λ _. shown) (λ stop. (why : Fault) × (stop ≡ stop_of why))
+
+-- a command that makes no state shows nothing
+abbrev pub ShowsRun : World → Command → World → Pages → Result Unit Stop → Pages → Type 0
+ShowsRun old c new s result t =
+    MatchOption (cause_of old.host_focused s.updates c) ((new ≡ old) × (t ≡ s) × (result ≡ Ok tt)) (λ cause. OrStops result (ShowsStep cause s old c new t))
+
+-- What a command shows. Of a query or a `print` that is nothing.
+abbrev pub Shows : Pages → Turn → Result Unit Stop → Pages → Type 0
+Shows s (TreeBegun w) result t = OrStops result (ShowsState (first_summary s.updates Begun) s t)
+Shows s (FirstRefused why) result t = OrStops result (Opens (first_summary s.updates (Refused why)) s t)
+Shows s (Ran old c new) result t = ShowsRun old c new s result t
+Shows s (Asked old q new) result t = (new ≡ old) × (t ≡ s) × (result ≡ Ok tt)
+Shows s (Printed w) result t = (t ≡ s) × (result ≡ Ok tt)
+
+-- the page ends as the script did, and lists its states; or the output has an error
+abbrev pub EndsPage : List Summary → Ending → Result Unit Stop → Bytes → Bytes → Type 0
+EndsPage states ending result before after = Writes (page_end states ending.ended ending.line ending.message.items) ending.ended result before after
+
+-- a script is run after the head of its page, and its states are shown in turn
+pub record PagesFrom (input head after told_before told_after : Bytes) (status : ℕ) : Type 0 where
+  pub commands : List ScriptCommand
+  pub played : Played
+  pub end : Stage × Pages
+  pub plays : Plays Shows (start_of input) (no_tree, pages_of 0 [] head) commands played.ended played.number end
+  pub ending : Ending
+  pub ends_as : EndsAs played ending
+  pub result : Result Unit Stop
+  pub closed : Bytes
+  pub ends : EndsPage end.1.states ending result end.1.written closed
+  pub kept : Keeps closed after
+  pub tells : Tells told_before told_after (told_text result ending.line ending.message.items) (status_at_end result) status
+
+-- a script is run, and shown as a page; or the output has an error before its first state
+abbrev pub ShowsScript : Bytes → Bytes → Bytes → Bytes → Bytes → ℕ → Type 0
+ShowsScript input before after told_before told_after status = (status ≡ 3) ⊎ ((head : Bytes) × PagesFrom input head after told_before told_after status)

@@ -1,0 +1,102 @@
+//! What of a node's texts may show what is typed into a password.
+ghost use Rattle.std.specs.Prelude.{◌≡◌, [], false};
+ghost use Rattle.model.specs.RoleClasses.{holds_text, is_document as is_document_role};
+ghost use Rattle.hidden_texts.specs.Hidden.{is_in_password as stands_in_password, hides_label, hides_value};
+ghost use Rattle.views.specs.LabelWalks.{labels_left};
+ghost use Rattle.views.specs.Nodes.{world_at, id_at, data_at};
+ghost use Rattle.page.specs.Laws.{TextsMayBeShown, TypingSaysTheSame};
+ghost use Rattle.page.specs.Said.{hidden_at};
+
+use accesskit_consumer::NodeRef;
+use accesskit_consumer::walks::LabelledBy;
+use hidden_texts::{hides_label, hides_value, is_in_password};
+use schema::Role;
+
+/// Which of a node's texts are hidden, since they may show what is typed into a password.
+#[derive(Clone, Copy)]
+pub(crate) struct Hidden {
+    pub label: bool,
+    pub value: bool,
+}
+
+/// Which of the node's texts are hidden.
+pub(crate) fn hidden_of(node: &NodeRef) -> Hidden
+    ensures { result ≡ hidden_at (world_at node.now) (id_at node.now) }
+{
+    hidden_below(node, is_in_password(node))
+}
+
+/// The same of a node of which it is known whether an ancestor is a password input.
+pub(crate) fn hidden_below(node: &NodeRef, is_in_password: bool) -> Hidden
+    requires { is_in_password ≡ stands_in_password (world_at node.now) (id_at node.now) }
+    ensures { result ≡ hidden_at (world_at node.now) (id_at node.now) }
+{
+    if is_in_password {
+        return Hidden {
+            label: true,
+            value: true,
+        };
+    }
+    Hidden {
+        label: hides_label_outside(node),
+        value: hides_value_outside(node),
+    }
+}
+
+/// Whether the label of a node that isn't in a password is hidden. Only that of a node with others that label it can be.
+fn hides_label_outside(node: &NodeRef) -> bool
+    requires { stands_in_password (world_at node.now) (id_at node.now) ≡ false }
+    ensures { result ≡ hides_label (world_at node.now) (id_at node.now) }
+{
+    if has_label_node(node.labelled_by()) {
+        return hides_label(node);
+    }
+    false
+}
+
+/// Whether the walk has a node.
+fn has_label_node(labels: LabelledBy<'_>) -> bool
+    ensures { result ≡ false → labels_left labels.entry ≡ [] }
+{
+    let mut nodes = labels;
+    match nodes.next() {
+        Some(_) => true,
+        None => false,
+    }
+}
+
+/// Whether the value of a node that isn't in a password is hidden. Only that of a node with a text of runs can be.
+fn hides_value_outside(node: &NodeRef) -> bool
+    requires { stands_in_password (world_at node.now) (id_at node.now) ≡ false }
+    ensures { result ≡ hides_value (world_at node.now) (id_at node.now) }
+{
+    if may_hold_text(node) {
+        return hides_value(node);
+    }
+    false
+}
+
+/// Whether the runs of a node with this role can make a text.
+fn may_hold_text(node: &NodeRef) -> bool
+    ensures { result ≡ holds_text (data_at node.now).role }
+{
+    node.is_text_input() || is_document(node) || node.label_comes_from_value()
+}
+
+/// Whether the node holds text that is read and not edited.
+fn is_document(node: &NodeRef) -> bool
+    ensures { result ≡ is_document_role (data_at node.now).role }
+{
+    matches!(node.role(), Role::Document | Role::Terminal)
+}
+
+/// A law: a page shows the label and the value of a node that `hidden_texts` lets it show.
+#[tactic(auto, using(crate::proofs::SaidAlike::texts_may_be_shown))]
+pub(crate) fn texts_may_be_shown()
+    ensures { TextsMayBeShown }
+{}
+
+/// A law: a page says the same of each node of two worlds that differ in what is typed into a password alone.
+pub(crate) fn typing_says_the_same()
+    ensures { TypingSaysTheSame }
+{}
