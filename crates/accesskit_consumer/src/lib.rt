@@ -18,6 +18,7 @@ pub mod text {
         TextPlaces, TextPosition, TextRange, TextRangePropertyValue, TextRoot, TextSelections,
         WeakTextRange,
     };
+    pub use views::runs::{RunDefect, TextDefect};
 }
 
 /// Trees, their states, and the handler of changes.
@@ -42,7 +43,8 @@ pub mod walks {
 pub use filters::{FilterResult, common_filter, common_filter_with_root_exception};
 pub use node::{FullNodeId, NodeRef};
 pub use text::{
-    NodeText, RangeCharacters, RangeLines, RangeWords, Text, TextIndexes, TextLines, TextPlaces,
-    TextPosition, TextRange, TextRangePropertyValue, TextRoot, TextSelections, WeakTextRange,
+    NodeText, RangeCharacters, RangeLines, RangeWords, RunDefect, Text, TextDefect, TextIndexes,
+    TextLines, TextPlaces, TextPosition, TextRange, TextRangePropertyValue, TextRoot,
+    TextSelections, WeakTextRange,
 };
 pub use tree::{Mirror, StateRef, Tree, TreeChangeHandler, TreeState, UpdateError};

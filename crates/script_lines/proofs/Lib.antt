@@ -5,3 +5,5 @@ pub mod LineEnds
 pub mod Beginnings
 pub mod ReadingBack
 pub mod CommandLines
+pub mod FaultTold
+pub mod Mapped

@@ -1,5 +1,7 @@
 pub mod Lines
 pub mod Questions
+pub mod ArgumentErrors
+pub mod Arguments
 pub mod Ends
 pub mod LineReading
 pub mod Commands

@@ -4,6 +4,7 @@ use Rattle.schema.specs.NodeData.{NodeData}
 use Rattle.schema.specs.UpdateData.{UpdateData, update_data}
 use Rattle.schema.specs.declared.NodeId.{NodeId}
 use Rattle.script_lines.specs.Commands.{Said, Sends, Turns, Prints, Asks, said}
+use Rattle.script_lines.specs.InputLines.{without_end}
 use Rattle.script_words.specs.Reading.{Reads}
 use Rattle.script_lines.specs.declared.lines.Line.{Line}
 use Rattle.script_lines.specs.declared.lines.Line.TheVariants as says
@@ -19,6 +20,10 @@ begun_of reader = option_map update_data reader.begun
 -- the number of the last line that it has read
 abbrev pub number_of : ScriptReader → ℕ
 number_of reader = reader.lines.number
+
+-- the last line that it has read, without its end
+abbrev pub last_line : ScriptReader → List ℕ
+last_line reader = without_end reader.lines.bytes.items
 
 abbrev pub with_entry : UpdateData → NodeId → NodeData → UpdateData
 with_entry u id n = record u { nodes = u.nodes ++ (id, n) ∷ [] }

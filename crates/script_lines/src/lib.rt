@@ -1,6 +1,8 @@
 //! The lines of a script: reads them as commands, and writes commands as lines. It needs no tree.
 #![tactic(auto)]
 
+mod argument_errors;
+mod arguments;
 mod ends;
 mod heads;
 mod line_reader;
@@ -9,11 +11,17 @@ mod program;
 mod questions;
 mod read_back;
 mod reader;
+mod streams;
 mod write_questions;
 mod writer;
 
-pub use ends::{end_run, tell_no_memory, tell_stop};
-pub use program::{Arguments, Program, read_arguments, run_program};
+pub use argument_errors::{
+    ArgumentError, ArgumentKind, UnknownWord, is_like_a_file, miscounted, unknown_word,
+};
+pub use arguments::{Arguments, Manual, NoArguments, read_arguments};
+pub use ends::{end_run, end_script_run, tell_no_memory, tell_script_stop, tell_stop};
+pub use line_faults::{FieldSet, LineFault, OtherReason, Reason, column, suggestion, write_fault};
+pub use program::{Program, run_program, run_without_arguments};
 pub use read_back::lines_are_read_back;
 pub use reader::{ScriptCommand, ScriptReader};
 pub use script_words::names::role_named;

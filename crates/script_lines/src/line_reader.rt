@@ -2,7 +2,7 @@
 
 ghost use Rattle.std.specs.Prelude.{◌≡◌, ◌≢◌, ◌-◌, ◌≤◌, ◌<◌, All, IfErr, IfSome, Ok, Err, None, OnOk, OnSome, length, take, true, false};
 ghost use Rattle.std.specs.Io.{IsEmptyOrEndsWith, StartsWith, StopsAt, appended_bytes};
-ghost use Rattle.std.specs.Io.BufRead.{DropsThrough, take_through};
+ghost use Rattle.std.specs.Io.BufRead.{DropsThrough, strip_last, take_through};
 ghost use Rattle.std.specs.Io.KnownBytes.{Consumes, IsAtEnd};
 ghost use Rattle.script_lines.specs.InputLines.{CountsLine, ReadsLine, ReadsNext, StopsReading, without_end};
 
@@ -17,7 +17,7 @@ use std::str;
 pub(crate) struct LineReader {
     alloc: Global,
     /// The last line that was read, with its line end.
-    bytes: Vec<u8>,
+    pub(crate) bytes: Vec<u8>,
     /// Its number, counted from 1.
     pub(crate) number: u64,
 }
@@ -113,4 +113,21 @@ fn without_line_end(line: &str) -> &str
 {
     let line = line.strip_suffix('\n').unwrap_or(line);
     line.strip_suffix('\r').unwrap_or(line)
+}
+
+/// The bytes of a line without its newline, and without one carriage return before it.
+pub(crate) fn without_end_of_line(line: &[u8]) -> &[u8]
+    ensures { result.now ≡ without_end line.now }
+{
+    without_last(without_last(line, b'\n'), b'\r')
+}
+
+/// The bytes without this one at their end.
+fn without_last(line: &[u8], end: u8) -> &[u8]
+    ensures { result.now ≡ strip_last end line.now }
+{
+    if line.is_empty() || line[line.len() - 1] != end {
+        return line;
+    }
+    &line[..line.len() - 1]
 }

@@ -1,16 +1,18 @@
 //! Reading a script's commands from its input, line by line.
 
-ghost use Rattle.std.specs.Prelude.{◌≡◌, ◌++◌, ◌∷◌, [], All, Err, IfSome, List, MatchOption, None, Ok, OnOk, Some};
+ghost use Rattle.std.specs.Prelude.{◌≡◌, ◌++◌, ◌∷◌, [], All, Err, IfSome, List, MatchOption, None, Ok, OnOk, Some, is_some};
+ghost use Rattle.line_faults.specs.Faults.{Explains};
 ghost use Rattle.schema.specs.UpdateData.{update_data};
 ghost use Rattle.script_lines.specs.Commands.{Said};
 ghost use Rattle.script_words.specs.Reading.{Reads};
 ghost use Rattle.script_lines.specs.ReadingBack.{IsSaid, ReadsBack, script_text};
 ghost use Rattle.script_lines.specs.ScriptReading.{IsPlace, Place, ReadsTo, place};
-ghost use Rattle.script_lines.specs.Taking.{IsNodeLine, TakesAs, begun_of, number_of, taken};
+ghost use Rattle.script_lines.specs.Taking.{IsNodeLine, TakesAs, begun_of, last_line, number_of, taken};
 ghost use Rattle.script_words.specs.declared.stops.Stop.TheVariants as stop_;
 
-use crate::line_reader::LineReader;
+use crate::line_reader::{LineReader, without_end_of_line};
 use crate::lines::Line;
+use line_faults::{LineFault, explain, input_ended};
 use model::Query;
 use schema::{Node, NodeId, TreeUpdate};
 use script_words::stops::Stop;
@@ -57,12 +59,33 @@ impl ScriptReader {
         self.lines.number
     }
 
+    /// The last line that was read, without its line end; empty at the end of the input.
+    pub fn last_line(&self) -> &[u8]
+        ensures { result.now ≡ last_line self.now }
+    {
+        without_end_of_line(&self.lines.bytes)
+    }
+
+    /// What is wrong in the last line, if it was refused as a bad line.
+    ///
+    /// A field with an unknown name and an unknown role come before other faults of the line. At the end of the input, the
+    /// fault is that it ends inside an update.
+    pub fn fault(&self) -> LineFault
+        ensures { Explains (is_some self.now.begun) (last_line self.now) result }
+    {
+        let line = self.last_line();
+        if line.is_empty() {
+            return input_ended();
+        }
+        explain(line, self.begun.is_some())
+    }
+
     /// Reads the next command and returns it; `None` at the end of the input.
     ///
     /// # Errors
     ///
     /// Returns `Stop` if a line is malformed or out of place, if the input ends inside an update or has an error, or if
-    /// memory runs out. Nothing more can be read then.
+    /// memory runs out. Nothing more can be read then. [`ScriptReader::fault`] says what is wrong in a bad line.
     pub fn next_command<R: BufRead>(&mut self, input: &mut R) -> Result<Option<ScriptCommand>, Stop>
         ensures reads { IfSome (R.remaining input.old) (λ bytes. (next : Place) × ReadsTo (place self.old bytes) result next × IsPlace next result self.new (R.remaining input.new)) }
         ensures whole { OnOk result (begun_of self.new ≡ None) }

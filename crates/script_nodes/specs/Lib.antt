@@ -2,3 +2,4 @@ pub mod FieldKinds
 pub mod NodeText
 pub mod NodeReading
 pub mod ActionLists
+pub mod FieldReading

@@ -9,7 +9,7 @@ use script_words::names::named;
 
 /// A list of nodes.
 #[derive(Clone, Copy)]
-pub(crate) enum IdsField {
+pub enum IdsField {
     Children,
     LabelledBy,
     Controls,
@@ -17,7 +17,7 @@ pub(crate) enum IdsField {
 
 /// A node.
 #[derive(Clone, Copy)]
-pub(crate) enum IdField {
+pub enum IdField {
     ActiveDescendant,
     PreviousOnLine,
     NextOnLine,
@@ -25,7 +25,7 @@ pub(crate) enum IdField {
 
 /// A text in quotes.
 #[derive(Clone, Copy)]
-pub(crate) enum TextField {
+pub enum TextField {
     Label,
     Value,
     Description,
@@ -45,7 +45,7 @@ pub(crate) enum TextField {
 
 /// A flag, which has no value.
 #[derive(Clone, Copy)]
-pub(crate) enum FlagField {
+pub enum FlagField {
     Hidden,
     ClipsChildren,
     Disabled,
@@ -61,35 +61,35 @@ pub(crate) enum FlagField {
 
 /// A list of numbers of a text run.
 #[derive(Clone, Copy)]
-pub(crate) enum NumbersField {
+pub enum NumbersField {
     CharacterLengths,
     WordStarts,
 }
 
 /// An optional list of numbers of a text run, in units of 1/64 pixel.
 #[derive(Clone, Copy)]
-pub(crate) enum UnitsField {
+pub enum UnitsField {
     CharacterPositions,
     CharacterWidths,
 }
 
 /// A flag that may be unset.
 #[derive(Clone, Copy)]
-pub(crate) enum BoolField {
+pub enum BoolField {
     Expanded,
     Selected,
 }
 
 /// A colour.
 #[derive(Clone, Copy)]
-pub(crate) enum ColorField {
+pub enum ColorField {
     Background,
     Foreground,
 }
 
 /// A line above, through or below text.
 #[derive(Clone, Copy)]
-pub(crate) enum DecorationField {
+pub enum DecorationField {
     Overline,
     Strikethrough,
     Underline,
@@ -97,7 +97,7 @@ pub(crate) enum DecorationField {
 
 /// A number, with a minus sign if it is negative.
 #[derive(Clone, Copy)]
-pub(crate) enum NumberField {
+pub enum NumberField {
     NumericValue,
     MinNumericValue,
     MaxNumericValue,
@@ -113,7 +113,7 @@ pub(crate) enum NumberField {
 
 /// A count.
 #[derive(Clone, Copy)]
-pub(crate) enum CountField {
+pub enum CountField {
     Level,
     SizeOfSet,
     PositionInSet,
@@ -121,14 +121,14 @@ pub(crate) enum CountField {
 
 /// A set of actions.
 #[derive(Clone, Copy)]
-pub(crate) enum ActionsField {
+pub enum ActionsField {
     Own,
     Children,
 }
 
 /// A field of a node.
 #[derive(Clone, Copy)]
-pub(crate) enum Field {
+pub enum Field {
     Ids(IdsField),
     Id(IdField),
     Text(TextField),
@@ -274,8 +274,93 @@ pub(crate) fn named_fields() -> &'static [(&'static str, Field)]
     &FIELD_NAMES
 }
 
+/// The names that [`node_field_names`] returns.
+static FIELD_WORDS: [&str; 74] = [
+    "children",
+    "labelled",
+    "controls",
+    "tree",
+    "active",
+    "label",
+    "value",
+    "description",
+    "placeholder",
+    "role_description",
+    "url",
+    "author_id",
+    "html_id",
+    "class_name",
+    "braille_label",
+    "braille_role_description",
+    "column_index_text",
+    "row_index_text",
+    "font_family",
+    "language",
+    "hidden",
+    "clips",
+    "disabled",
+    "read_only",
+    "required",
+    "modal",
+    "busy",
+    "multiselectable",
+    "italic",
+    "live_atomic",
+    "touch_transparent",
+    "bounds",
+    "move",
+    "selection",
+    "chars",
+    "words",
+    "character_positions",
+    "character_widths",
+    "prev",
+    "next",
+    "toggled",
+    "expanded",
+    "selected",
+    "live",
+    "orientation",
+    "sort_direction",
+    "aria_current",
+    "has_popup",
+    "font_size",
+    "font_weight",
+    "background_color",
+    "foreground_color",
+    "overline",
+    "strikethrough",
+    "underline",
+    "text_direction",
+    "text_align",
+    "vertical_offset",
+    "number",
+    "min",
+    "max",
+    "step",
+    "jump",
+    "level",
+    "set_size",
+    "position",
+    "scroll_x",
+    "scroll_x_min",
+    "scroll_x_max",
+    "scroll_y",
+    "scroll_y_min",
+    "scroll_y_max",
+    "actions",
+    "child_actions",
+];
+
+/// The names of the fields of a node, in the order in which fields are written.
+pub fn node_field_names() -> &'static [&'static str]
+    ensures { map (λ name. name.now) result.now ≡ map field_name all_fields }
+{
+    &FIELD_WORDS
+}
+
 /// The field with this name.
-pub(crate) fn field_named(name: &str) -> Option<Field>
+pub fn field_named(name: &str) -> Option<Field>
     ensures { MatchOption result ((field : Field) → name.now ≢ field_name field) (λ field. name.now ≡ field_name field) }
 {
     named(named_fields(), name)

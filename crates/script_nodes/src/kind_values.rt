@@ -1,18 +1,17 @@
 //! The values of a node's fields, by their kinds.
 
-ghost use Rattle.std.specs.Prelude.{ℕ, ℤ, ◌<◌, ◌≡◌, ◌∷◌, [], All, Bool, List, OnOk, Option, Some, None, option_copied};
+ghost use Rattle.std.specs.Prelude.{ℕ, ◌<◌, ◌≡◌, ◌∷◌, [], All, List, OnOk, Option, Some, None};
 ghost use Rattle.std.specs.Fmt.{decimal, signed_decimal};
 ghost use Rattle.std.specs.Str.{IsUtf8};
 ghost use Rattle.schema.specs.declared.NodeId.{NodeId};
 ghost use Rattle.schema.specs.declared.actions.Action.{Action};
-ghost use Rattle.schema.specs.declared.values.Color.{Color};
-ghost use Rattle.schema.specs.declared.values.TextDecoration.{TextDecoration};
 ghost use Rattle.script_nodes.specs.ActionLists.{with_actions};
 ghost use Rattle.script_nodes.specs.FieldKinds.{ids_at, with_ids, id_at, with_id, text_at, with_text, numbers_at, with_numbers, units_at, with_units, bool_at, with_bool, color_at, with_color, decoration_at, with_decoration, number_at, with_number, count_at, with_count, actions_at, with_actions_field};
+ghost use Rattle.script_nodes.specs.FieldReading.{TakesAny, TakesFit};
 ghost use Rattle.script_words.specs.Names.{truth_name};
-ghost use Rattle.script_words.specs.Parts.{ids_text, numbers_text, units_text, color_text, decoration_text, action_list_text};
+ghost use Rattle.script_words.specs.Parts.{ids_text, numbers_text, units_text, color_text, decoration_text, action_list_text, id_text};
 ghost use Rattle.script_words.specs.Quoted.{quoted};
-ghost use Rattle.script_words.specs.Reading.{Begins, Reads, IsAction, IsId, IsCount, IsNumber, IsShort, IsUnits, IsColor, IsDecoration};
+ghost use Rattle.script_words.specs.Reading.{Begins, Reads, IsAction, IsId, IsCount, IsNumber, IsShort, IsUnits, IsColor, IsDecoration, unread};
 ghost use Rattle.script_words.specs.Words.{left};
 
 use crate::field_kinds::{
@@ -34,8 +33,9 @@ pub(crate) fn text_value(
     field: TextField,
     node: &mut Node,
 ) -> Result<(), Stop>
-    ensures reads { (text : List ℕ) (rest : Option (List ℕ)) → IsUtf8 text → Begins (option_copied words.old.rest) (quoted text) rest → text_at field node.old ≡ None → Reads result (λ _. (node.new ≡ with_text field (Some text) node.old) × (option_copied words.new.rest ≡ rest)) }
-    ensures shorter { OnOk result (left (option_copied words.new.rest) < left (option_copied words.old.rest)) }
+    ensures reads { TakesFit IsUtf8 quoted words.old words.new result
+        (text_at field node.old ≡ None) (λ value. node.new ≡ with_text field (Some value) node.old) }
+    ensures shorter { OnOk result (left (unread words.new) < left (unread words.old)) }
 {
     if field.of(node).is_some() {
         return Err(Stop::BadLine);
@@ -53,8 +53,10 @@ pub(crate) fn ids_value(
     field: IdsField,
     node: &mut Node,
 ) -> Result<(), Stop>
-    ensures reads { (id : NodeId) (others : List NodeId) (rest : Option (List ℕ)) → IsId id → All IsId others → Begins (option_copied words.old.rest) (ids_text id others) rest → ids_at field node.old ≡ [] → Reads result (λ _. (node.new ≡ with_ids field (id ∷ others) node.old) × (option_copied words.new.rest ≡ rest)) }
-    ensures shorter { OnOk result (left (option_copied words.new.rest) < left (option_copied words.old.rest)) }
+    ensures reads { (id : NodeId) (others : List NodeId) (rest : Option (List ℕ)) → IsId id → All IsId others
+        → Begins (unread words.old) (ids_text id others) rest → ids_at field node.old ≡ []
+        → Reads result (λ _. (node.new ≡ with_ids field (id ∷ others) node.old) × (unread words.new ≡ rest)) }
+    ensures shorter { OnOk result (left (unread words.new) < left (unread words.old)) }
 {
     if !field.of(node).is_empty() {
         return Err(Stop::BadLine);
@@ -66,8 +68,9 @@ pub(crate) fn ids_value(
 
 /// A node, which the node doesn't have yet.
 pub(crate) fn id_value(words: &mut Words, field: IdField, node: &mut Node) -> Result<(), Stop>
-    ensures reads { (id : NodeId) (rest : Option (List ℕ)) → IsId id → Begins (option_copied words.old.rest) (decimal id.0) rest → id_at field node.old ≡ None → Reads result (λ _. (node.new ≡ with_id field (Some id) node.old) × (option_copied words.new.rest ≡ rest)) }
-    ensures shorter { OnOk result (left (option_copied words.new.rest) < left (option_copied words.old.rest)) }
+    ensures reads { TakesFit IsId id_text words.old words.new result
+        (id_at field node.old ≡ None) (λ value. node.new ≡ with_id field (Some value) node.old) }
+    ensures shorter { OnOk result (left (unread words.new) < left (unread words.old)) }
 {
     if field.of(node).is_some() {
         return Err(Stop::BadLine);
@@ -85,8 +88,10 @@ pub(crate) fn numbers_value(
     field: NumbersField,
     node: &mut Node,
 ) -> Result<(), Stop>
-    ensures reads { (number : ℕ) (others : List ℕ) (rest : Option (List ℕ)) → IsShort number → All IsShort others → Begins (option_copied words.old.rest) (numbers_text number others) rest → numbers_at field node.old ≡ [] → Reads result (λ _. (node.new ≡ with_numbers field (number ∷ others) node.old) × (option_copied words.new.rest ≡ rest)) }
-    ensures shorter { OnOk result (left (option_copied words.new.rest) < left (option_copied words.old.rest)) }
+    ensures reads { (number : ℕ) (others : List ℕ) (rest : Option (List ℕ)) → IsShort number → All IsShort others
+        → Begins (unread words.old) (numbers_text number others) rest → numbers_at field node.old ≡ []
+        → Reads result (λ _. (node.new ≡ with_numbers field (number ∷ others) node.old) × (unread words.new ≡ rest)) }
+    ensures shorter { OnOk result (left (unread words.new) < left (unread words.old)) }
 {
     if !field.of(node).is_empty() {
         return Err(Stop::BadLine);
@@ -104,8 +109,9 @@ pub(crate) fn units_value(
     field: UnitsField,
     node: &mut Node,
 ) -> Result<(), Stop>
-    ensures reads { (units : List ℤ) (rest : Option (List ℕ)) → All IsUnits units → Begins (option_copied words.old.rest) (units_text units) rest → units_at field node.old ≡ None → Reads result (λ _. (node.new ≡ with_units field (Some units) node.old) × (option_copied words.new.rest ≡ rest)) }
-    ensures shorter { OnOk result (left (option_copied words.new.rest) < left (option_copied words.old.rest)) }
+    ensures reads { TakesFit (All IsUnits) units_text words.old words.new result
+        (units_at field node.old ≡ None) (λ value. node.new ≡ with_units field (Some value) node.old) }
+    ensures shorter { OnOk result (left (unread words.new) < left (unread words.old)) }
 {
     if field.of(node).is_some() {
         return Err(Stop::BadLine);
@@ -118,8 +124,9 @@ pub(crate) fn units_value(
 /// A flag that may be unset, which the node doesn't have yet.
 #[tactic(auto, using(script_words::proofs::NamedWords::truth_is_word))]
 pub(crate) fn bool_value(words: &mut Words, field: BoolField, node: &mut Node) -> Result<(), Stop>
-    ensures reads { (value : Bool) (rest : Option (List ℕ)) → Begins (option_copied words.old.rest) (truth_name value) rest → bool_at field node.old ≡ None → Reads result (λ _. (node.new ≡ with_bool field (Some value) node.old) × (option_copied words.new.rest ≡ rest)) }
-    ensures shorter { OnOk result (left (option_copied words.new.rest) < left (option_copied words.old.rest)) }
+    ensures reads { TakesAny truth_name words.old words.new result
+        (bool_at field node.old ≡ None) (λ value. node.new ≡ with_bool field (Some value) node.old) }
+    ensures shorter { OnOk result (left (unread words.new) < left (unread words.old)) }
 {
     if field.of(node).is_some() {
         return Err(Stop::BadLine);
@@ -132,8 +139,9 @@ pub(crate) fn bool_value(words: &mut Words, field: BoolField, node: &mut Node) -
 /// A colour, which the node doesn't have yet.
 #[tactic(auto, using(script_words::proofs::CommaWords::color_is_word))]
 pub(crate) fn color_value(words: &mut Words, field: ColorField, node: &mut Node) -> Result<(), Stop>
-    ensures reads { (value : Color) (rest : Option (List ℕ)) → IsColor value → Begins (option_copied words.old.rest) (color_text value) rest → color_at field node.old ≡ None → Reads result (λ _. (node.new ≡ with_color field (Some value) node.old) × (option_copied words.new.rest ≡ rest)) }
-    ensures shorter { OnOk result (left (option_copied words.new.rest) < left (option_copied words.old.rest)) }
+    ensures reads { TakesFit IsColor color_text words.old words.new result
+        (color_at field node.old ≡ None) (λ value. node.new ≡ with_color field (Some value) node.old) }
+    ensures shorter { OnOk result (left (unread words.new) < left (unread words.old)) }
 {
     if field.of(node).is_some() {
         return Err(Stop::BadLine);
@@ -150,8 +158,9 @@ pub(crate) fn decoration_value(
     field: DecorationField,
     node: &mut Node,
 ) -> Result<(), Stop>
-    ensures reads { (value : TextDecoration) (rest : Option (List ℕ)) → IsDecoration value → Begins (option_copied words.old.rest) (decoration_text value) rest → decoration_at field node.old ≡ None → Reads result (λ _. (node.new ≡ with_decoration field (Some value) node.old) × (option_copied words.new.rest ≡ rest)) }
-    ensures shorter { OnOk result (left (option_copied words.new.rest) < left (option_copied words.old.rest)) }
+    ensures reads { TakesFit IsDecoration decoration_text words.old words.new result
+        (decoration_at field node.old ≡ None) (λ value. node.new ≡ with_decoration field (Some value) node.old) }
+    ensures shorter { OnOk result (left (unread words.new) < left (unread words.old)) }
 {
     if field.of(node).is_some() {
         return Err(Stop::BadLine);
@@ -167,8 +176,9 @@ pub(crate) fn number_value(
     field: NumberField,
     node: &mut Node,
 ) -> Result<(), Stop>
-    ensures reads { (value : ℤ) (rest : Option (List ℕ)) → IsNumber value → Begins (option_copied words.old.rest) (signed_decimal value) rest → number_at field node.old ≡ None → Reads result (λ _. (node.new ≡ with_number field (Some value) node.old) × (option_copied words.new.rest ≡ rest)) }
-    ensures shorter { OnOk result (left (option_copied words.new.rest) < left (option_copied words.old.rest)) }
+    ensures reads { TakesFit IsNumber signed_decimal words.old words.new result
+        (number_at field node.old ≡ None) (λ value. node.new ≡ with_number field (Some value) node.old) }
+    ensures shorter { OnOk result (left (unread words.new) < left (unread words.old)) }
 {
     if field.of(node).is_some() {
         return Err(Stop::BadLine);
@@ -180,8 +190,9 @@ pub(crate) fn number_value(
 
 /// A count, which the node doesn't have yet.
 pub(crate) fn count_value(words: &mut Words, field: CountField, node: &mut Node) -> Result<(), Stop>
-    ensures reads { (value : ℕ) (rest : Option (List ℕ)) → IsCount value → Begins (option_copied words.old.rest) (decimal value) rest → count_at field node.old ≡ None → Reads result (λ _. (node.new ≡ with_count field (Some value) node.old) × (option_copied words.new.rest ≡ rest)) }
-    ensures shorter { OnOk result (left (option_copied words.new.rest) < left (option_copied words.old.rest)) }
+    ensures reads { TakesFit IsCount decimal words.old words.new result
+        (count_at field node.old ≡ None) (λ value. node.new ≡ with_count field (Some value) node.old) }
+    ensures shorter { OnOk result (left (unread words.new) < left (unread words.old)) }
 {
     if field.of(node).is_some() {
         return Err(Stop::BadLine);
@@ -199,8 +210,11 @@ pub(crate) fn actions_value(
     field: ActionsField,
     node: &mut Node,
 ) -> Result<(), Stop>
-    ensures reads { (action : Action) (others : List Action) (rest : Option (List ℕ)) → IsAction action → All IsAction others → Begins (option_copied words.old.rest) (action_list_text action others) rest → actions_at field node.old ≡ 0 → Reads result (λ _. (node.new ≡ with_actions_field field (with_actions 0 (action ∷ others)) node.old) × (option_copied words.new.rest ≡ rest)) }
-    ensures shorter { OnOk result (left (option_copied words.new.rest) < left (option_copied words.old.rest)) }
+    ensures reads { (action : Action) (others : List Action) (rest : Option (List ℕ)) → IsAction action → All IsAction others
+        → Begins (unread words.old) (action_list_text action others) rest → actions_at field node.old ≡ 0
+        → Reads result (λ _. (node.new ≡ with_actions_field field (with_actions 0 (action ∷ others)) node.old)
+        × (unread words.new ≡ rest)) }
+    ensures shorter { OnOk result (left (unread words.new) < left (unread words.old)) }
 {
     if field.is_in(node) {
         return Err(Stop::BadLine);

@@ -11,6 +11,10 @@ mod node_lines;
 mod node_writer;
 mod single_values;
 
+pub use field_kinds::{
+    ActionsField, BoolField, ColorField, CountField, DecorationField, Field, FlagField, IdField,
+    IdsField, NumberField, NumbersField, TextField, UnitsField, field_named, node_field_names,
+};
 pub use fits::{action_set_gains, new_node_has_action_sets, node_fits};
 pub use node_lines::node_line;
 pub use node_writer::write_node;

@@ -1,23 +1,11 @@
 //! Reading the values of fields that are the only ones of their kind.
 
-ghost use Rattle.std.specs.Prelude.{ℕ, ◌<◌, ◌^◌, ◌≡◌, List, OnOk, Option, Some, None, option_copied};
+ghost use Rattle.std.specs.Prelude.{◌<◌, ◌≡◌, OnOk, Some, None};
 ghost use Rattle.std.specs.Fmt.{decimal};
-ghost use Rattle.schema.specs.declared.TreeId.{TreeId};
-ghost use Rattle.schema.specs.declared.geometry.Rect.{Rect};
-ghost use Rattle.schema.specs.declared.geometry.Translation.{Translation};
-ghost use Rattle.schema.specs.declared.values.TextSelection.{TextSelection};
-ghost use Rattle.schema.specs.declared.values.Toggled.{Toggled};
-ghost use Rattle.schema.specs.declared.values.Live.{Live};
-ghost use Rattle.schema.specs.declared.values.Orientation.{Orientation};
-ghost use Rattle.schema.specs.declared.values.SortDirection.{SortDirection};
-ghost use Rattle.schema.specs.declared.values.AriaCurrent.{AriaCurrent};
-ghost use Rattle.schema.specs.declared.values.HasPopup.{HasPopup};
-ghost use Rattle.schema.specs.declared.values.TextDirection.{TextDirection};
-ghost use Rattle.schema.specs.declared.values.TextAlign.{TextAlign};
-ghost use Rattle.schema.specs.declared.values.VerticalOffset.{VerticalOffset};
+ghost use Rattle.script_nodes.specs.FieldReading.{TakesAny, TakesFit};
 ghost use Rattle.script_words.specs.Names.{toggled_name, live_name, orientation_name, sort_direction_name, aria_current_name, has_popup_name, text_direction_name, text_align_name, vertical_offset_name};
 ghost use Rattle.script_words.specs.Parts.{tree_text, rect_text, translation_text, selection_text};
-ghost use Rattle.script_words.specs.Reading.{Begins, Reads, IsTreeName, IsShort, IsRect, IsTranslation, IsSelection};
+ghost use Rattle.script_words.specs.Reading.{IsTreeName, IsShort, IsRect, IsTranslation, IsSelection, IsNarrow, unread};
 ghost use Rattle.script_words.specs.Words.{left};
 
 use schema::Node;
@@ -30,8 +18,9 @@ use script_words::words::{Words, rect, selection, short, translation};
 
 /// The tree that is grafted at the node, which wasn't set yet.
 pub(crate) fn tree_value(words: &mut Words, node: &mut Node) -> Result<(), Stop>
-    ensures reads { (value : TreeId) (rest : Option (List ℕ)) → IsTreeName value → Begins (option_copied words.old.rest) (tree_text value) rest → node.old.tree_id ≡ None → Reads result (λ _. (node.new ≡ record node.old { tree_id = Some value }) × (option_copied words.new.rest ≡ rest)) }
-    ensures shorter { OnOk result (left (option_copied words.new.rest) < left (option_copied words.old.rest)) }
+    ensures reads { TakesFit IsTreeName tree_text words.old words.new result
+        (node.old.tree_id ≡ None) (λ value. node.new ≡ record node.old { tree_id = Some value }) }
+    ensures shorter { OnOk result (left (unread words.new) < left (unread words.old)) }
 {
     if node.tree_id().is_some() {
         return Err(Stop::BadLine);
@@ -43,8 +32,9 @@ pub(crate) fn tree_value(words: &mut Words, node: &mut Node) -> Result<(), Stop>
 /// The node's rectangle, which wasn't set yet.
 #[tactic(auto, using(script_words::proofs::CommaWords::rect_is_word))]
 pub(crate) fn bounds_value(words: &mut Words, node: &mut Node) -> Result<(), Stop>
-    ensures reads { (value : Rect) (rest : Option (List ℕ)) → IsRect value → Begins (option_copied words.old.rest) (rect_text value) rest → node.old.bounds ≡ None → Reads result (λ _. (node.new ≡ record node.old { bounds = Some value }) × (option_copied words.new.rest ≡ rest)) }
-    ensures shorter { OnOk result (left (option_copied words.new.rest) < left (option_copied words.old.rest)) }
+    ensures reads { TakesFit IsRect rect_text words.old words.new result
+        (node.old.bounds ≡ None) (λ value. node.new ≡ record node.old { bounds = Some value }) }
+    ensures shorter { OnOk result (left (unread words.new) < left (unread words.old)) }
 {
     if node.bounds().is_some() {
         return Err(Stop::BadLine);
@@ -56,8 +46,9 @@ pub(crate) fn bounds_value(words: &mut Words, node: &mut Node) -> Result<(), Sto
 /// By how much the node and its subtree are shifted, which wasn't set yet.
 #[tactic(auto, using(script_words::proofs::CommaWords::translation_is_word))]
 pub(crate) fn transform_value(words: &mut Words, node: &mut Node) -> Result<(), Stop>
-    ensures reads { (value : Translation) (rest : Option (List ℕ)) → IsTranslation value → Begins (option_copied words.old.rest) (translation_text value) rest → node.old.transform ≡ None → Reads result (λ _. (node.new ≡ record node.old { transform = Some value }) × (option_copied words.new.rest ≡ rest)) }
-    ensures shorter { OnOk result (left (option_copied words.new.rest) < left (option_copied words.old.rest)) }
+    ensures reads { TakesFit IsTranslation translation_text words.old words.new result
+        (node.old.transform ≡ None) (λ value. node.new ≡ record node.old { transform = Some value }) }
+    ensures shorter { OnOk result (left (unread words.new) < left (unread words.old)) }
 {
     if node.transform().is_some() {
         return Err(Stop::BadLine);
@@ -69,8 +60,9 @@ pub(crate) fn transform_value(words: &mut Words, node: &mut Node) -> Result<(), 
 /// The selection in the node's text, which wasn't set yet.
 #[tactic(auto, using(script_words::proofs::CommaWords::selection_is_word))]
 pub(crate) fn selection_value(words: &mut Words, node: &mut Node) -> Result<(), Stop>
-    ensures reads { (value : TextSelection) (rest : Option (List ℕ)) → IsSelection value → Begins (option_copied words.old.rest) (selection_text value) rest → node.old.text_selection ≡ None → Reads result (λ _. (node.new ≡ record node.old { text_selection = Some value }) × (option_copied words.new.rest ≡ rest)) }
-    ensures shorter { OnOk result (left (option_copied words.new.rest) < left (option_copied words.old.rest)) }
+    ensures reads { TakesFit IsSelection selection_text words.old words.new result
+        (node.old.text_selection ≡ None) (λ value. node.new ≡ record node.old { text_selection = Some value }) }
+    ensures shorter { OnOk result (left (unread words.new) < left (unread words.old)) }
 {
     if node.text_selection().is_some() {
         return Err(Stop::BadLine);
@@ -81,8 +73,9 @@ pub(crate) fn selection_value(words: &mut Words, node: &mut Node) -> Result<(), 
 
 /// The size of a text, which wasn't set yet.
 pub(crate) fn font_size_value(words: &mut Words, node: &mut Node) -> Result<(), Stop>
-    ensures reads { (value : ℕ) (rest : Option (List ℕ)) → value < 2 ^ 32 → Begins (option_copied words.old.rest) (decimal value) rest → node.old.font_size ≡ None → Reads result (λ _. (node.new ≡ record node.old { font_size = Some value }) × (option_copied words.new.rest ≡ rest)) }
-    ensures shorter { OnOk result (left (option_copied words.new.rest) < left (option_copied words.old.rest)) }
+    ensures reads { TakesFit IsNarrow decimal words.old words.new result
+        (node.old.font_size ≡ None) (λ value. node.new ≡ record node.old { font_size = Some value }) }
+    ensures shorter { OnOk result (left (unread words.new) < left (unread words.old)) }
 {
     if node.font_size().is_some() {
         return Err(Stop::BadLine);
@@ -94,8 +87,9 @@ pub(crate) fn font_size_value(words: &mut Words, node: &mut Node) -> Result<(), 
 /// The weight of a text, which wasn't set yet.
 #[tactic(auto, using(script_words::proofs::Decimals::decimal_is_word))]
 pub(crate) fn font_weight_value(words: &mut Words, node: &mut Node) -> Result<(), Stop>
-    ensures reads { (value : ℕ) (rest : Option (List ℕ)) → IsShort value → Begins (option_copied words.old.rest) (decimal value) rest → node.old.font_weight ≡ None → Reads result (λ _. (node.new ≡ record node.old { font_weight = Some value }) × (option_copied words.new.rest ≡ rest)) }
-    ensures shorter { OnOk result (left (option_copied words.new.rest) < left (option_copied words.old.rest)) }
+    ensures reads { TakesFit IsShort decimal words.old words.new result
+        (node.old.font_weight ≡ None) (λ value. node.new ≡ record node.old { font_weight = Some value }) }
+    ensures shorter { OnOk result (left (unread words.new) < left (unread words.old)) }
 {
     if node.font_weight().is_some() {
         return Err(Stop::BadLine);
@@ -107,8 +101,9 @@ pub(crate) fn font_weight_value(words: &mut Words, node: &mut Node) -> Result<()
 /// The toggle state of a control, which wasn't set yet.
 #[tactic(auto, using(script_words::proofs::NamedWords::toggled_is_word))]
 pub(crate) fn toggled_value(words: &mut Words, node: &mut Node) -> Result<(), Stop>
-    ensures reads { (value : Toggled) (rest : Option (List ℕ)) → Begins (option_copied words.old.rest) (toggled_name value) rest → node.old.toggled ≡ None → Reads result (λ _. (node.new ≡ record node.old { toggled = Some value }) × (option_copied words.new.rest ≡ rest)) }
-    ensures shorter { OnOk result (left (option_copied words.new.rest) < left (option_copied words.old.rest)) }
+    ensures reads { TakesAny toggled_name words.old words.new result
+        (node.old.toggled ≡ None) (λ value. node.new ≡ record node.old { toggled = Some value }) }
+    ensures shorter { OnOk result (left (unread words.new) < left (unread words.old)) }
 {
     if node.toggled().is_some() {
         return Err(Stop::BadLine);
@@ -120,8 +115,9 @@ pub(crate) fn toggled_value(words: &mut Words, node: &mut Node) -> Result<(), St
 /// How changes are announced, which wasn't set yet.
 #[tactic(auto, using(script_words::proofs::NamedWords::live_is_word))]
 pub(crate) fn live_value(words: &mut Words, node: &mut Node) -> Result<(), Stop>
-    ensures reads { (value : Live) (rest : Option (List ℕ)) → Begins (option_copied words.old.rest) (live_name value) rest → node.old.live ≡ None → Reads result (λ _. (node.new ≡ record node.old { live = Some value }) × (option_copied words.new.rest ≡ rest)) }
-    ensures shorter { OnOk result (left (option_copied words.new.rest) < left (option_copied words.old.rest)) }
+    ensures reads { TakesAny live_name words.old words.new result
+        (node.old.live ≡ None) (λ value. node.new ≡ record node.old { live = Some value }) }
+    ensures shorter { OnOk result (left (unread words.new) < left (unread words.old)) }
 {
     if node.live().is_some() {
         return Err(Stop::BadLine);
@@ -133,8 +129,9 @@ pub(crate) fn live_value(words: &mut Words, node: &mut Node) -> Result<(), Stop>
 /// The axis of a control, which wasn't set yet.
 #[tactic(auto, using(script_words::proofs::NamedWords::orientation_is_word))]
 pub(crate) fn orientation_value(words: &mut Words, node: &mut Node) -> Result<(), Stop>
-    ensures reads { (value : Orientation) (rest : Option (List ℕ)) → Begins (option_copied words.old.rest) (orientation_name value) rest → node.old.orientation ≡ None → Reads result (λ _. (node.new ≡ record node.old { orientation = Some value }) × (option_copied words.new.rest ≡ rest)) }
-    ensures shorter { OnOk result (left (option_copied words.new.rest) < left (option_copied words.old.rest)) }
+    ensures reads { TakesAny orientation_name words.old words.new result
+        (node.old.orientation ≡ None) (λ value. node.new ≡ record node.old { orientation = Some value }) }
+    ensures shorter { OnOk result (left (unread words.new) < left (unread words.old)) }
 {
     if node.orientation().is_some() {
         return Err(Stop::BadLine);
@@ -146,8 +143,9 @@ pub(crate) fn orientation_value(words: &mut Words, node: &mut Node) -> Result<()
 /// The sort order, which wasn't set yet.
 #[tactic(auto, using(script_words::proofs::NamedWords::sort_direction_is_word))]
 pub(crate) fn sort_direction_value(words: &mut Words, node: &mut Node) -> Result<(), Stop>
-    ensures reads { (value : SortDirection) (rest : Option (List ℕ)) → Begins (option_copied words.old.rest) (sort_direction_name value) rest → node.old.sort_direction ≡ None → Reads result (λ _. (node.new ≡ record node.old { sort_direction = Some value }) × (option_copied words.new.rest ≡ rest)) }
-    ensures shorter { OnOk result (left (option_copied words.new.rest) < left (option_copied words.old.rest)) }
+    ensures reads { TakesAny sort_direction_name words.old words.new result
+        (node.old.sort_direction ≡ None) (λ value. node.new ≡ record node.old { sort_direction = Some value }) }
+    ensures shorter { OnOk result (left (unread words.new) < left (unread words.old)) }
 {
     if node.sort_direction().is_some() {
         return Err(Stop::BadLine);
@@ -159,8 +157,9 @@ pub(crate) fn sort_direction_value(words: &mut Words, node: &mut Node) -> Result
 /// Which kind of current item the node is, which wasn't set yet.
 #[tactic(auto, using(script_words::proofs::NamedWords::aria_current_is_word))]
 pub(crate) fn aria_current_value(words: &mut Words, node: &mut Node) -> Result<(), Stop>
-    ensures reads { (value : AriaCurrent) (rest : Option (List ℕ)) → Begins (option_copied words.old.rest) (aria_current_name value) rest → node.old.aria_current ≡ None → Reads result (λ _. (node.new ≡ record node.old { aria_current = Some value }) × (option_copied words.new.rest ≡ rest)) }
-    ensures shorter { OnOk result (left (option_copied words.new.rest) < left (option_copied words.old.rest)) }
+    ensures reads { TakesAny aria_current_name words.old words.new result
+        (node.old.aria_current ≡ None) (λ value. node.new ≡ record node.old { aria_current = Some value }) }
+    ensures shorter { OnOk result (left (unread words.new) < left (unread words.old)) }
 {
     if node.aria_current().is_some() {
         return Err(Stop::BadLine);
@@ -172,8 +171,9 @@ pub(crate) fn aria_current_value(words: &mut Words, node: &mut Node) -> Result<(
 /// The kind of popup that the node opens, which wasn't set yet.
 #[tactic(auto, using(script_words::proofs::NamedWords::has_popup_is_word))]
 pub(crate) fn has_popup_value(words: &mut Words, node: &mut Node) -> Result<(), Stop>
-    ensures reads { (value : HasPopup) (rest : Option (List ℕ)) → Begins (option_copied words.old.rest) (has_popup_name value) rest → node.old.has_popup ≡ None → Reads result (λ _. (node.new ≡ record node.old { has_popup = Some value }) × (option_copied words.new.rest ≡ rest)) }
-    ensures shorter { OnOk result (left (option_copied words.new.rest) < left (option_copied words.old.rest)) }
+    ensures reads { TakesAny has_popup_name words.old words.new result
+        (node.old.has_popup ≡ None) (λ value. node.new ≡ record node.old { has_popup = Some value }) }
+    ensures shorter { OnOk result (left (unread words.new) < left (unread words.old)) }
 {
     if node.has_popup().is_some() {
         return Err(Stop::BadLine);
@@ -185,8 +185,9 @@ pub(crate) fn has_popup_value(words: &mut Words, node: &mut Node) -> Result<(), 
 /// The direction of a text, which wasn't set yet.
 #[tactic(auto, using(script_words::proofs::NamedWords::text_direction_is_word))]
 pub(crate) fn text_direction_value(words: &mut Words, node: &mut Node) -> Result<(), Stop>
-    ensures reads { (value : TextDirection) (rest : Option (List ℕ)) → Begins (option_copied words.old.rest) (text_direction_name value) rest → node.old.text_direction ≡ None → Reads result (λ _. (node.new ≡ record node.old { text_direction = Some value }) × (option_copied words.new.rest ≡ rest)) }
-    ensures shorter { OnOk result (left (option_copied words.new.rest) < left (option_copied words.old.rest)) }
+    ensures reads { TakesAny text_direction_name words.old words.new result
+        (node.old.text_direction ≡ None) (λ value. node.new ≡ record node.old { text_direction = Some value }) }
+    ensures shorter { OnOk result (left (unread words.new) < left (unread words.old)) }
 {
     if node.text_direction().is_some() {
         return Err(Stop::BadLine);
@@ -198,8 +199,9 @@ pub(crate) fn text_direction_value(words: &mut Words, node: &mut Node) -> Result
 /// How a text is aligned, which wasn't set yet.
 #[tactic(auto, using(script_words::proofs::NamedWords::text_align_is_word))]
 pub(crate) fn text_align_value(words: &mut Words, node: &mut Node) -> Result<(), Stop>
-    ensures reads { (value : TextAlign) (rest : Option (List ℕ)) → Begins (option_copied words.old.rest) (text_align_name value) rest → node.old.text_align ≡ None → Reads result (λ _. (node.new ≡ record node.old { text_align = Some value }) × (option_copied words.new.rest ≡ rest)) }
-    ensures shorter { OnOk result (left (option_copied words.new.rest) < left (option_copied words.old.rest)) }
+    ensures reads { TakesAny text_align_name words.old words.new result
+        (node.old.text_align ≡ None) (λ value. node.new ≡ record node.old { text_align = Some value }) }
+    ensures shorter { OnOk result (left (unread words.new) < left (unread words.old)) }
 {
     if node.text_align().is_some() {
         return Err(Stop::BadLine);
@@ -211,8 +213,9 @@ pub(crate) fn text_align_value(words: &mut Words, node: &mut Node) -> Result<(),
 /// Whether text is superscript or subscript, which wasn't set yet.
 #[tactic(auto, using(script_words::proofs::NamedWords::vertical_offset_is_word))]
 pub(crate) fn vertical_offset_value(words: &mut Words, node: &mut Node) -> Result<(), Stop>
-    ensures reads { (value : VerticalOffset) (rest : Option (List ℕ)) → Begins (option_copied words.old.rest) (vertical_offset_name value) rest → node.old.vertical_offset ≡ None → Reads result (λ _. (node.new ≡ record node.old { vertical_offset = Some value }) × (option_copied words.new.rest ≡ rest)) }
-    ensures shorter { OnOk result (left (option_copied words.new.rest) < left (option_copied words.old.rest)) }
+    ensures reads { TakesAny vertical_offset_name words.old words.new result
+        (node.old.vertical_offset ≡ None) (λ value. node.new ≡ record node.old { vertical_offset = Some value }) }
+    ensures shorter { OnOk result (left (unread words.new) < left (unread words.old)) }
 {
     if node.vertical_offset().is_some() {
         return Err(Stop::BadLine);

@@ -7,3 +7,4 @@ pub mod Items
 pub mod Says
 pub mod SaysParts
 pub mod NamedIn
+pub mod NameLists

@@ -1,6 +1,6 @@
 -- The beginning of the rest of a line.
 use mir.Syntax.{w32, w64}
-use Rattle.std.specs.Prelude.{ℕ, ℤ, ◌<◌, ◌^◌, All, FitsSigned, List, [], ◌∷◌, ◌++◌, length, slice_index_or, Option, Some, None, Result, MatchResult, ◌≡◌, ◌≢◌}
+use Rattle.std.specs.Prelude.{ℕ, ℤ, ◌<◌, ◌^◌, All, FitsSigned, List, [], ◌∷◌, ◌++◌, length, slice_index_or, Option, Some, None, Result, Ok, MatchResult, option_copied, ◌≡◌, ◌≢◌}
 use Rattle.schema.specs.declared.NodeId.{NodeId}
 use Rattle.schema.specs.declared.Role.{Role}
 use Rattle.schema.specs.declared.Role.TheVariants as role
@@ -15,6 +15,7 @@ use Rattle.schema.specs.declared.values.TextPosition.{TextPosition}
 use Rattle.schema.specs.declared.values.TextSelection.{TextSelection}
 use Rattle.script_words.specs.declared.stops.Stop.{Stop}
 use Rattle.script_words.specs.declared.stops.Stop.TheVariants.{Memory}
+use Rattle.script_words.specs.declared.words.Words.{Words}
 
 -- the text has no such byte
 abbrev pub Lacks : ℕ → List ℕ → Type 0
@@ -50,6 +51,9 @@ IsNumber z = FitsSigned w64 z
 
 abbrev pub IsUnits : ℤ → Type 0
 IsUnits z = FitsSigned w32 z
+
+abbrev pub IsNarrow : ℕ → Type 0
+IsNarrow n = n < 2 ^ 32
 
 -- and 16 bits, and eight
 abbrev pub IsShort : ℕ → Type 0
@@ -99,3 +103,19 @@ IsFieldName name = IsWord name × Lacks 61 name
 -- what is read is such, unless memory runs out
 abbrev pub Reads : {T : Type 0} → Result T Stop → (T → Type 0) → Type 0
 Reads result P = MatchResult result P (λ stop. stop ≡ Memory)
+
+-- what a reader hasn't read of its line
+abbrev pub unread : Words → Option (List ℕ)
+unread words = option_copied words.rest
+
+-- Where a line goes on with the text of a value that fits, the value is read, and what follows it is left.
+abbrev pub ReadsFit : {T : Type 0} → (T → Type 0) → (T → List ℕ) → Words → Result T Stop → Words → Type 0
+ReadsFit {T} Fits text line result left =
+    (value : T) (rest : Option (List ℕ)) → Fits value → Begins (unread line) (text value) rest
+    → (result ≡ Ok value) × (unread left ≡ rest)
+
+-- The same of any value.
+abbrev pub ReadsAny : {T : Type 0} → (T → List ℕ) → Words → Result T Stop → Words → Type 0
+ReadsAny {T} text line result left =
+    (value : T) (rest : Option (List ℕ)) → Begins (unread line) (text value) rest
+    → (result ≡ Ok value) × (unread left ≡ rest)

@@ -22,7 +22,9 @@ abbrev pub SaysPair : List ℕ → ℤ → ℤ → Type 0
 SaysPair word x y = SaysBoth word 44 (λ part. SaysSigned part x) (λ part. SaysSigned part y)
 
 abbrev pub SaysRect : List ℕ → Rect → Type 0
-SaysRect word r = SaysBoth word 44 (λ part. SaysSigned part r.x0) (λ rest. SaysBoth rest 44 (λ part. SaysSigned part r.y0) (λ rest. SaysPair rest r.x1 r.y1))
+SaysRect word r =
+    SaysBoth word 44 (λ part. SaysSigned part r.x0)
+    (λ rest. SaysBoth rest 44 (λ part. SaysSigned part r.y0) (λ rest. SaysPair rest r.x1 r.y1))
 
 abbrev pub SaysTranslation : List ℕ → Translation → Type 0
 SaysTranslation word t = SaysPair word t.x t.y
@@ -37,7 +39,9 @@ abbrev pub SaysBytes : List ℕ → ℕ → ℕ → Type 0
 SaysBytes word x y = SaysBoth word 44 (λ part. SaysNumber part x) (λ part. SaysNumber part y)
 
 abbrev pub SaysColor : List ℕ → Color → Type 0
-SaysColor word c = SaysBoth word 44 (λ part. SaysNumber part c.red) (λ rest. SaysBoth rest 44 (λ part. SaysNumber part c.green) (λ rest. SaysBytes rest c.blue c.alpha))
+SaysColor word c =
+    SaysBoth word 44 (λ part. SaysNumber part c.red)
+    (λ rest. SaysBoth rest 44 (λ part. SaysNumber part c.green) (λ rest. SaysBytes rest c.blue c.alpha))
 
 abbrev pub SaysDecoration : List ℕ → TextDecoration → Type 0
 SaysDecoration word d = SaysBoth word 44 (λ part. part ≡ decoration_style_name d.style) (λ rest. SaysColor rest d.color)
@@ -47,7 +51,8 @@ SaysDecoration word d = SaysBoth word 44 (λ part. part ≡ decoration_style_nam
 -- the rest, if there is any, consists of parts separated by commas, each standing for its item
 abbrev pub SaysItems : {T : Type 0} → (List ℕ → T → Type 0) → Option (List ℕ) → List T → Type 0
 SaysItems Says left [] = left ≡ None
-SaysItems Says left (item ∷ others) = (part : List ℕ) × (more : Option (List ℕ)) × (left ≡ Some (part ++ behind 44 more)) × Says part item × SaysItems Says more others
+SaysItems Says left (item ∷ others) =
+    (part : List ℕ) × (more : Option (List ℕ)) × (left ≡ Some (part ++ behind 44 more)) × Says part item × SaysItems Says more others
 
 -- items of lists
 abbrev pub SaysId : List ℕ → NodeId → Type 0

@@ -55,7 +55,8 @@ impl Item for Action {
 
 /// Actions by their names, separated by commas.
 pub fn action_list(alloc: Global, word: &str) -> Result<Vec<Action>, Stop>
-    ensures reads { (action : Action) (others : List Action) → IsAction action → All IsAction others → word.now ≡ action_list_text action others → Reads result (λ read. read.items ≡ action ∷ others) }
+    ensures reads { (action : Action) (others : List Action) → IsAction action → All IsAction others
+        → word.now ≡ action_list_text action others → Reads result (λ read. read.items ≡ action ∷ others) }
     ensures only { IfOk result (λ read. SaysItems SaysListed (Some word.now) read.items) }
 {
     items(alloc, word)

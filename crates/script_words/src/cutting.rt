@@ -7,7 +7,8 @@ ghost use Rattle.script_words.specs.Words.{left};
 /// The text before the first such character, and the text after it.
 pub(crate) fn cut_at(line: &str, mark: char) -> (&str, Option<&str>)
     requires { mark < 128 }
-    ensures reads { (text : List ℕ) (rest : Option (List ℕ)) → Lacks mark text → line.now ≡ text ++ behind mark rest → (result.0.now ≡ text) × (option_copied result.1 ≡ rest) }
+    ensures reads { (text : List ℕ) (rest : Option (List ℕ)) → Lacks mark text → line.now ≡ text ++ behind mark rest
+        → (result.0.now ≡ text) × (option_copied result.1 ≡ rest) }
     ensures whole { line.now ≡ result.0.now ++ behind mark (option_copied result.1) }
     ensures shorter { (length result.0.now ≤ length line.now) × (left (option_copied result.1) ≤ length line.now) }
 {
@@ -20,7 +21,8 @@ pub(crate) fn cut_at(line: &str, mark: char) -> (&str, Option<&str>)
 /// The text before the first such character, and the text after it, if there is one.
 pub(crate) fn parts_at(word: &str, mark: char) -> Option<(&str, &str)>
     requires { mark < 128 }
-    ensures reads { (text rest : List ℕ) → Lacks mark text → word.now ≡ text ++ (mark ∷ rest) → IsSomeAnd result (λ parts. (parts.0.now ≡ text) × (parts.1.now ≡ rest)) }
+    ensures reads { (text rest : List ℕ) → Lacks mark text → word.now ≡ text ++ (mark ∷ rest)
+        → IsSomeAnd result (λ parts. (parts.0.now ≡ text) × (parts.1.now ≡ rest)) }
     ensures only { IfSome result (λ parts. word.now ≡ parts.0.now ++ (mark ∷ parts.1.now)) }
 {
     word.split_once(mark)

@@ -82,7 +82,8 @@ impl Item for i32 {
 
 /// Items separated by commas.
 pub(crate) fn items<T: Item>(alloc: Global, word: &str) -> Result<Vec<T>, Stop>
-    ensures reads { (item : T) (others : List T) → T.is_item item → All T.is_item others → word.now ≡ list_text T.item_text item others → Reads result (λ read. read.items ≡ item ∷ others) }
+    ensures reads { (item : T) (others : List T) → T.is_item item → All T.is_item others → word.now ≡ list_text T.item_text item others
+        → Reads result (λ read. read.items ≡ item ∷ others) }
     ensures only { IfOk result (λ read. SaysItems T.says (Some word.now) read.items) }
 {
     let mut items = Vec::new(alloc);

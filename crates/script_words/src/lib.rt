@@ -7,6 +7,7 @@ pub mod called;
 mod cutting;
 pub mod fits;
 mod items;
+pub mod name_lists;
 pub mod names;
 pub mod quoted;
 pub mod stops;

@@ -8,7 +8,8 @@ use std::alloc::Global;
 
 /// The text at the front, whose opening quote was read, and the number of bytes after its closing quote.
 pub(crate) fn unquoted(alloc: Global, bytes: &[u8]) -> Result<(Vec<u8>, usize), Stop>
-    ensures reads { (text more : List ℕ) → bytes.now ≡ flat_map quoted_byte text ++ codes "\"" ++ more → Reads result (λ read. (read.0.items ≡ text) × (read.1 ≡ length more)) }
+    ensures reads { (text more : List ℕ) → bytes.now ≡ flat_map quoted_byte text ++ codes "\"" ++ more
+        → Reads result (λ read. (read.0.items ≡ text) × (read.1 ≡ length more)) }
     ensures shorter { IfOk result (λ read. read.1 < length bytes.now) }
 {
     let mut text = Vec::new(alloc);
@@ -25,7 +26,8 @@ pub(crate) fn unquoted(alloc: Global, bytes: &[u8]) -> Result<(Vec<u8>, usize), 
 
 /// The next byte of a quoted text, or `None` at its closing quote, and the rest after it.
 fn next_byte(left: &[u8]) -> Result<(Option<u8>, &[u8]), Stop>
-    ensures reads { (byte : ℕ) (more : List ℕ) → left.now ≡ quoted_byte byte ++ more → IsOkAnd result (λ read. (read.0 ≡ Some byte) × (read.1.now ≡ more)) }
+    ensures reads { (byte : ℕ) (more : List ℕ) → left.now ≡ quoted_byte byte ++ more
+        → IsOkAnd result (λ read. (read.0 ≡ Some byte) × (read.1.now ≡ more)) }
     ensures closes { (more : List ℕ) → left.now ≡ codes "\"" ++ more → IsOkAnd result (λ read. (read.0 ≡ None) × (read.1.now ≡ more)) }
     ensures shorter { IfOk result (λ read. length read.1.now < length left.now) }
 {

@@ -19,7 +19,8 @@ use std::alloc::Global;
 
 /// Node ids, separated by commas.
 pub fn ids(alloc: Global, word: &str) -> Result<Vec<NodeId>, Stop>
-    ensures reads { (id : NodeId) (others : List NodeId) → IsId id → All IsId others → word.now ≡ ids_text id others → Reads result (λ read. read.items ≡ id ∷ others) }
+    ensures reads { (id : NodeId) (others : List NodeId) → IsId id → All IsId others → word.now ≡ ids_text id others
+        → Reads result (λ read. read.items ≡ id ∷ others) }
     ensures only { IfOk result (λ read. SaysItems SaysId (Some word.now) read.items) }
 {
     items(alloc, word)
@@ -27,7 +28,8 @@ pub fn ids(alloc: Global, word: &str) -> Result<Vec<NodeId>, Stop>
 
 /// Numbers below 65,536, separated by commas.
 pub fn numbers(alloc: Global, word: &str) -> Result<Vec<u16>, Stop>
-    ensures reads { (number : ℕ) (others : List ℕ) → IsShort number → All IsShort others → word.now ≡ numbers_text number others → Reads result (λ read. read.items ≡ number ∷ others) }
+    ensures reads { (number : ℕ) (others : List ℕ) → IsShort number → All IsShort others → word.now ≡ numbers_text number others
+        → Reads result (λ read. read.items ≡ number ∷ others) }
     ensures only { IfOk result (λ read. SaysItems SaysShort (Some word.now) read.items) }
 {
     items(alloc, word)
@@ -77,7 +79,8 @@ pub fn decoration(word: &str) -> Option<TextDecoration>
 /// Two numbers of one byte, separated by a comma.
 #[tactic(auto, using(crate::proofs::CommaWords::byte_lacks_comma))]
 fn two_bytes(word: &str) -> Option<(u8, u8)>
-    ensures reads { (first second : ℕ) → IsByte first → IsByte second → word.now ≡ decimal first ++ (44 ∷ decimal second) → result ≡ Some (first, second) }
+    ensures reads { (first second : ℕ) → IsByte first → IsByte second → word.now ≡ decimal first ++ (44 ∷ decimal second)
+        → result ≡ Some (first, second) }
     ensures only { IfSome result (λ read. IsByte read.0 × IsByte read.1 × SaysBytes word.now read.0 read.1) }
 {
     let (first, second) = parts_at(word, ',')?;

@@ -10,14 +10,14 @@ ghost use Rattle.script_words.specs.Quoted.{quoted};
 ghost use mir.Syntax.{w32, w64};
 ghost use Rattle.schema.specs.declared.NodeId.{NodeId};
 ghost use Rattle.schema.specs.declared.TreeId.{TreeId};
-ghost use Rattle.script_words.specs.Parts.{pair_text, rect_text, translation_text, place_text, selection_text, tree_text, name_text, at_text, point_text};
+ghost use Rattle.script_words.specs.Parts.{pair_text, rect_text, translation_text, place_text, selection_text, tree_text, name_text, at_text, point_text, id_text};
 ghost use Rattle.script_words.specs.Names.{filter_name, move_name, side_name};
 ghost use Rattle.model.specs.declared.queries.Side.{Side};
 ghost use Rattle.model.specs.declared.queries.NamedFilter.{NamedFilter};
 ghost use Rattle.model.specs.declared.queries.Move.{Move};
 ghost use Rattle.model.specs.declared.queries.At.{At};
 ghost use Rattle.schema.specs.declared.geometry.Point.{Point};
-ghost use Rattle.script_words.specs.Reading.{IsWord, Lacks, Begins, IsTreeName, IsName, IsCount, IsNumber, IsFieldName, Reads, after, IsByte, IsShort, IsUnits, IsRect, IsTranslation, IsPosition, IsSelection};
+ghost use Rattle.script_words.specs.Reading.{IsWord, Begins, IsTreeName, IsName, IsCount, IsNumber, IsFieldName, Reads, after, IsByte, IsShort, IsUnits, IsRect, IsTranslation, IsPosition, IsSelection, IsId, IsNarrow, ReadsAny, ReadsFit, unread};
 ghost use Rattle.schema.specs.declared.geometry.Rect.{Rect};
 ghost use Rattle.schema.specs.declared.geometry.Translation.{Translation};
 ghost use Rattle.schema.specs.declared.values.TextPosition.{TextPosition};
@@ -45,8 +45,9 @@ pub struct Words<'a> {
 impl<'a> Words<'a> {
     /// The next word.
     pub fn word(&mut self) -> Result<&'a str, Stop>
-        ensures reads { (text : List ℕ) (rest : Option (List ℕ)) → IsWord text → Begins (option_copied self.old.rest) text rest → IsOkAnd result (λ word. word.now ≡ text) × (option_copied self.new.rest ≡ rest) }
-        ensures shorter { OnOk result (left (option_copied self.new.rest) < left (option_copied self.old.rest)) }
+        ensures reads { (text : List ℕ) (rest : Option (List ℕ)) → IsWord text → Begins (unread self.old) text rest
+            → IsOkAnd result (λ word. word.now ≡ text) × (unread self.new ≡ rest) }
+        ensures shorter { OnOk result (left (unread self.new) < left (unread self.old)) }
     {
         let rest = self.rest.ok_or(Stop::BadLine)?;
         let (word, after) = cut_at(rest, ' ');
@@ -59,7 +60,7 @@ impl<'a> Words<'a> {
 
     /// Reads the next word, which must be the last.
     pub fn last_word(&mut self) -> Result<&'a str, Stop>
-        ensures reads { (text : List ℕ) → IsWord text → option_copied self.old.rest ≡ Some text → IsOkAnd result (λ word. word.now ≡ text) }
+        ensures reads { (text : List ℕ) → IsWord text → unread self.old ≡ Some text → IsOkAnd result (λ word. word.now ≡ text) }
     {
         let word = self.word()?;
         self.end()?;
@@ -69,8 +70,8 @@ impl<'a> Words<'a> {
     /// Reads the next word as a node's id.
     #[tactic(auto, using(crate::proofs::Decimals::decimal_is_word))]
     pub fn id(&mut self) -> Result<NodeId, Stop>
-        ensures reads { (id : NodeId) (rest : Option (List ℕ)) → id.0 < 2 ^ 64 → Begins (option_copied self.old.rest) (decimal id.0) rest → (result ≡ Ok id) × (option_copied self.new.rest ≡ rest) }
-        ensures shorter { OnOk result (left (option_copied self.new.rest) < left (option_copied self.old.rest)) }
+        ensures reads { ReadsFit IsId id_text self.old result self.new }
+        ensures shorter { OnOk result (left (unread self.new) < left (unread self.old)) }
     {
         let number = number(self.word()?).ok_or(Stop::BadLine)?;
         Ok(NodeId(number))
@@ -79,8 +80,8 @@ impl<'a> Words<'a> {
     /// Reads the next word as a tree's id.
     #[tactic(auto, using(crate::proofs::TreeNames::tree_is_word))]
     pub fn tree(&mut self) -> Result<TreeId, Stop>
-        ensures reads { (tree : TreeId) (rest : Option (List ℕ)) → IsTreeName tree → Begins (option_copied self.old.rest) (tree_text tree) rest → (result ≡ Ok tree) × (option_copied self.new.rest ≡ rest) }
-        ensures shorter { OnOk result (left (option_copied self.new.rest) < left (option_copied self.old.rest)) }
+        ensures reads { ReadsFit IsTreeName tree_text self.old result self.new }
+        ensures shorter { OnOk result (left (unread self.new) < left (unread self.old)) }
     {
         tree_named(self.word()?).ok_or(Stop::BadLine)
     }
@@ -88,7 +89,7 @@ impl<'a> Words<'a> {
     /// Reads the next two words as a node's id and its tree's id.
     #[tactic(auto, using(crate::proofs::Cuts::begins_two))]
     pub fn node_name(&mut self) -> Result<NodeName, Stop>
-        ensures reads { (name : NodeId × TreeId) (rest : Option (List ℕ)) → IsName name → Begins (option_copied self.old.rest) (name_text name) rest → (result ≡ Ok name) × (option_copied self.new.rest ≡ rest) }
+        ensures reads { ReadsFit IsName name_text self.old result self.new }
     {
         let node = self.id()?;
         let tree = self.tree()?;
@@ -99,7 +100,7 @@ impl<'a> Words<'a> {
     /// filter.
     #[tactic(auto, using(crate::proofs::NamedWords::filter_is_word))]
     pub fn filter(&mut self) -> Result<NamedFilter, Stop>
-        ensures reads { (filter : NamedFilter) (rest : Option (List ℕ)) → Begins (option_copied self.old.rest) (filter_name filter) rest → (result ≡ Ok filter) × (option_copied self.new.rest ≡ rest) }
+        ensures reads { ReadsAny filter_name self.old result self.new }
     {
         if self.rest.is_none() {
             return Ok(NamedFilter::Common);
@@ -110,8 +111,8 @@ impl<'a> Words<'a> {
     /// Reads the next word as a number, with a minus sign if it is negative.
     #[tactic(auto, using(crate::proofs::Decimals::signed_is_word))]
     pub fn signed(&mut self) -> Result<i64, Stop>
-        ensures reads { (z : ℤ) (rest : Option (List ℕ)) → IsNumber z → Begins (option_copied self.old.rest) (signed_decimal z) rest → (result ≡ Ok z) × (option_copied self.new.rest ≡ rest) }
-        ensures shorter { OnOk result (left (option_copied self.new.rest) < left (option_copied self.old.rest)) }
+        ensures reads { ReadsFit IsNumber signed_decimal self.old result self.new }
+        ensures shorter { OnOk result (left (unread self.new) < left (unread self.old)) }
     {
         signed(self.word()?).ok_or(Stop::BadLine)
     }
@@ -119,8 +120,8 @@ impl<'a> Words<'a> {
     /// Reads the next word as a count.
     #[tactic(auto, using(crate::proofs::Decimals::decimal_is_word))]
     pub fn index(&mut self) -> Result<usize, Stop>
-        ensures reads { (n : ℕ) (rest : Option (List ℕ)) → IsCount n → Begins (option_copied self.old.rest) (decimal n) rest → (result ≡ Ok n) × (option_copied self.new.rest ≡ rest) }
-        ensures shorter { OnOk result (left (option_copied self.new.rest) < left (option_copied self.old.rest)) }
+        ensures reads { ReadsFit IsCount decimal self.old result self.new }
+        ensures shorter { OnOk result (left (unread self.new) < left (unread self.old)) }
     {
         index(self.word()?).ok_or(Stop::BadLine)
     }
@@ -128,8 +129,8 @@ impl<'a> Words<'a> {
     /// Reads the next word as a number of four bytes.
     #[tactic(auto, using(crate::proofs::Decimals::decimal_is_word))]
     pub fn narrow(&mut self) -> Result<u32, Stop>
-        ensures reads { (n : ℕ) (rest : Option (List ℕ)) → n < 2 ^ 32 → Begins (option_copied self.old.rest) (decimal n) rest → (result ≡ Ok n) × (option_copied self.new.rest ≡ rest) }
-        ensures shorter { OnOk result (left (option_copied self.new.rest) < left (option_copied self.old.rest)) }
+        ensures reads { ReadsFit IsNarrow decimal self.old result self.new }
+        ensures shorter { OnOk result (left (unread self.new) < left (unread self.old)) }
     {
         let number = number(self.word()?).ok_or(Stop::BadLine)?;
         u32::try_from(number).or(Err(Stop::BadLine))
@@ -138,14 +139,16 @@ impl<'a> Words<'a> {
     /// Reads the next word as a side.
     #[tactic(auto, using(crate::proofs::NamedWords::side_is_word))]
     pub fn side(&mut self) -> Result<Side, Stop>
-        ensures reads { (side : Side) (rest : Option (List ℕ)) → Begins (option_copied self.old.rest) (side_name side) rest → (result ≡ Ok side) × (option_copied self.new.rest ≡ rest) }
+        ensures reads { ReadsAny side_name self.old result self.new }
     {
         side_named(self.word()?).ok_or(Stop::BadLine)
     }
 
     /// Reads the next two words as a point, in the node's coordinates.
     pub fn point(&mut self) -> Result<Point, Stop>
-        ensures reads { (point : Point) (rest : Option (List ℕ)) → IsNumber point.x → IsNumber point.y → Begins (option_copied self.old.rest) (point_text point) rest → (result ≡ Ok point) × (option_copied self.new.rest ≡ rest) }
+        ensures reads { (point : Point) (rest : Option (List ℕ)) → IsNumber point.x → IsNumber point.y
+            → Begins (unread self.old) (point_text point) rest
+            → (result ≡ Ok point) × (unread self.new ≡ rest) }
     {
         let x = self.signed()?;
         let y = self.signed()?;
@@ -154,7 +157,8 @@ impl<'a> Words<'a> {
 
     /// Reads the next two words as an index in a text, and the side to take where two runs meet.
     pub fn at(&mut self) -> Result<At, Stop>
-        ensures reads { (at : At) (rest : Option (List ℕ)) → IsCount at.index → Begins (option_copied self.old.rest) (at_text at) rest → (result ≡ Ok at) × (option_copied self.new.rest ≡ rest) }
+        ensures reads { (at : At) (rest : Option (List ℕ)) → IsCount at.index → Begins (unread self.old) (at_text at) rest
+            → (result ≡ Ok at) × (unread self.new ≡ rest) }
     {
         let index = self.index()?;
         let side = self.side()?;
@@ -164,14 +168,14 @@ impl<'a> Words<'a> {
     /// Reads the next word as a caret movement.
     #[tactic(auto, using(crate::proofs::NamedWords::move_is_word))]
     pub fn movement(&mut self) -> Result<Move, Stop>
-        ensures reads { (move : Move) (rest : Option (List ℕ)) → Begins (option_copied self.old.rest) (move_name move) rest → (result ≡ Ok move) × (option_copied self.new.rest ≡ rest) }
+        ensures reads { ReadsAny move_name self.old result self.new }
     {
         move_named(self.word()?).ok_or(Stop::BadLine)
     }
 
     /// The end of the line.
     pub fn end(&self) -> Result<(), Stop>
-        ensures reads { option_copied self.now.rest ≡ None → result ≡ Ok tt }
+        ensures reads { unread self.now ≡ None → result ≡ Ok tt }
     {
         if self.rest.is_some() {
             return Err(Stop::BadLine);
@@ -181,9 +185,12 @@ impl<'a> Words<'a> {
 
     /// The name of the next field, and whether a value comes next.
     pub fn field(&mut self) -> Result<(&'a str, bool), Stop>
-        ensures reads_valued { (name more : List ℕ) → IsFieldName name → option_copied self.old.rest ≡ Some (name ++ codes "=" ++ more) → IsOkAnd result (λ field. (field.0.now ≡ name) × (field.1 ≡ true)) × (option_copied self.new.rest ≡ Some more) }
-        ensures reads_flag { (name : List ℕ) (rest : Option (List ℕ)) → IsFieldName name → Begins (option_copied self.old.rest) name rest → IsOkAnd result (λ field. (field.0.now ≡ name) × (field.1 ≡ false)) × (option_copied self.new.rest ≡ rest) }
-        ensures shorter { OnOk result (left (option_copied self.new.rest) < left (option_copied self.old.rest)) }
+        ensures reads_valued { (name more : List ℕ) → IsFieldName name → unread self.old ≡ Some (name ++ codes "=" ++ more)
+            → IsOkAnd result (λ field. (field.0.now ≡ name) × (field.1 ≡ true)) × (unread self.new ≡ Some more) }
+        ensures reads_flag { (name : List ℕ) (rest : Option (List ℕ)) → IsFieldName name
+            → Begins (unread self.old) name rest
+            → IsOkAnd result (λ field. (field.0.now ≡ name) × (field.1 ≡ false)) × (unread self.new ≡ rest) }
+        ensures shorter { OnOk result (left (unread self.new) < left (unread self.old)) }
     {
         let rest = self.rest.ok_or(Stop::BadLine)?;
         match valued(rest) {
@@ -197,8 +204,9 @@ impl<'a> Words<'a> {
 
     /// Reads the next quoted text. In it `\"`, `\\` and `\n` are a quote, a backslash and a newline.
     pub fn text(&mut self, alloc: Global) -> Result<String, Stop>
-        ensures reads { (text : List ℕ) (rest : Option (List ℕ)) → IsUtf8 text → Begins (option_copied self.old.rest) (quoted text) rest → Reads result (λ read. (string_bytes read ≡ text) × (option_copied self.new.rest ≡ rest)) }
-        ensures shorter { OnOk result (left (option_copied self.new.rest) < left (option_copied self.old.rest)) }
+        ensures reads { (text : List ℕ) (rest : Option (List ℕ)) → IsUtf8 text → Begins (unread self.old) (quoted text) rest
+            → Reads result (λ read. (string_bytes read ≡ text) × (unread self.new ≡ rest)) }
+        ensures shorter { OnOk result (left (unread self.new) < left (unread self.old)) }
     {
         let rest = self.rest.ok_or(Stop::BadLine)?;
         let (text, more) = text_and_rest(alloc, rest)?;
@@ -209,7 +217,8 @@ impl<'a> Words<'a> {
 
 /// The quoted text with which a line begins, and the rest after it.
 fn text_and_rest(alloc: Global, line: &str) -> Result<(String, Option<&str>), Stop>
-    ensures reads { (text : List ℕ) (rest : Option (List ℕ)) → IsUtf8 text → line.now ≡ quoted text ++ after rest → Reads result (λ read. (string_bytes read.0 ≡ text) × (option_copied read.1 ≡ rest)) }
+    ensures reads { (text : List ℕ) (rest : Option (List ℕ)) → IsUtf8 text → line.now ≡ quoted text ++ after rest
+        → Reads result (λ read. (string_bytes read.0 ≡ text) × (option_copied read.1 ≡ rest)) }
     ensures shorter { IfOk result (λ read. left (option_copied read.1) ≤ length line.now) }
 {
     let Some(inner) = line.strip_prefix('"') else {
@@ -228,7 +237,8 @@ fn text_and_rest(alloc: Global, line: &str) -> Result<(String, Option<&str>), St
 
 /// The name of the next field and the text after its equals sign, if the next word has a value.
 fn valued(line: &str) -> Option<(&str, &str)>
-    ensures named { (name more : List ℕ) → IsFieldName name → line.now ≡ name ++ codes "=" ++ more → IsSomeAnd result (λ parts. (parts.0.now ≡ name) × (parts.1.now ≡ more)) }
+    ensures named { (name more : List ℕ) → IsFieldName name → line.now ≡ name ++ codes "=" ++ more
+        → IsSomeAnd result (λ parts. (parts.0.now ≡ name) × (parts.1.now ≡ more)) }
     ensures flag { (name : List ℕ) (rest : Option (List ℕ)) → IsFieldName name → line.now ≡ name ++ after rest → result ≡ None }
     ensures shorter { IfSome result (λ parts. length parts.1.now < length line.now) }
 {

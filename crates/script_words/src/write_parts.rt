@@ -29,7 +29,8 @@ pub fn write_flag<O: Write>(name: &str, is_set: bool, out: &mut O) -> io::Result
 
 /// Writes a field that is a text in quotes, if there is one.
 pub fn write_quoted_field<O: Write>(name: &str, value: Option<&str>, out: &mut O) -> io::Result<()>
-    ensures { OnOk result (Appends (O.contents out.old) (O.contents out.new) (word_field name.now (option_map quoted (option_copied value.entry)))) }
+    ensures { OnOk result (Appends (O.contents out.old) (O.contents out.new)
+        (word_field name.now (option_map quoted (option_copied value.entry)))) }
 {
     let Some(text) = value else {
         return Ok(());
@@ -173,7 +174,8 @@ impl fmt::Display for MoreUnits<'_> {
 
 /// Writes a field that is a list of numbers in units of 1/64 pixel, if there is one; `-` is an empty list.
 pub fn write_unit_list<O: Write>(name: &str, value: Option<&[i32]>, out: &mut O) -> io::Result<()>
-    ensures { OnOk result (Appends (O.contents out.old) (O.contents out.new) (word_field name.now (option_map units_text (option_copied value.entry)))) }
+    ensures { OnOk result (Appends (O.contents out.old) (O.contents out.new)
+        (word_field name.now (option_map units_text (option_copied value.entry)))) }
 {
     let Some(numbers) = value else {
         return Ok(());

@@ -1,4 +1,3 @@
 pub mod Naming
 pub mod Running
 pub mod Betweens
-pub mod Drained

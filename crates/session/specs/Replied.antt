@@ -77,15 +77,18 @@ TakesMemory (command.Update u) = ⊥
 TakesMemory (command.HostFocus focused) = ⊥
 TakesMemory (command.Query q) = IsTrue (takes_memory q)
 
--- the command takes one world to another, these events are reported, and this is the reply; or memory for the reply ran out, and nothing is done
+-- the command takes one world to another, these events are reported, and this is the reply; or memory for the reply ran out, and
+-- nothing is done
 abbrev pub IsStep : World → Command → World → List Event → Result Reply AllocError → Type 0
 IsStep old c new told (Ok reply) = Does old (command_said c) new told (reply_said reply)
 IsStep old c new told (Err wanting) = (new ≡ old) × (told ≡ []) × TakesMemory c
 
--- the commands in turn take one world to another, these events are reported, and these are the replies; or memory ran out, and the first of them did so
+-- the commands in turn take one world to another, these events are reported, and these are the replies; or memory ran out, and the
+-- first of them did so
 abbrev pub RunsAs : World → List Command → World → List Event → Result (Vec Reply) RunStopped → Type 0
 RunsAs old commands new told (Ok replies) = Runs old (map command_said commands) new told (map reply_said replies.items)
-RunsAs old commands new told (Err stopped) = RunsUpTo stopped.done old (map command_said commands) new told (map reply_said stopped.replies.items)
+RunsAs old commands new told (Err stopped) =
+    RunsUpTo stopped.done old (map command_said commands) new told (map reply_said stopped.replies.items)
 
 -- each session that is alike to this one, and wasn't stopped, has alike replies and reports the same openly
 abbrev pub IsAlike : World → List Command → List Event → Result (Vec Reply) RunStopped → Type 0

@@ -149,7 +149,8 @@ impl Session {
         ensures run { (told : List Event)
             × RunsAs self.old commands.items self.new told result
             × Told H.steps handler.old told handler.new }
-        ensures alike { (told : List Event) → RunsAs self.old commands.items self.new told result → IsAlike self.old commands.items told result }
+        ensures alike { (told : List Event) → RunsAs self.old commands.items self.new told result
+            → IsAlike self.old commands.items told result }
     {
         let Ok(mut replies) = Vec::with_capacity(self.alloc, commands.len()) else {
             let replies = Vec::new(self.alloc);
@@ -179,7 +180,8 @@ impl Session {
         ensures run { (told : List Event)
             × RunsAs self.old commands.items self.new told result
             × Told MirrorsWhileKept mirror.old told mirror.new }
-        ensures alike { (told : List Event) → RunsAs self.old commands.items self.new told result → IsAlike self.old commands.items told result }
+        ensures alike { (told : List Event) → RunsAs self.old commands.items self.new told result
+            → IsAlike self.old commands.items told result }
         ensures mirrored { IsSomeAnd mirror.old (AreRecordsOf self.old) → IfSome mirror.new (AreRecordsOf self.new) }
     {
         self.run(commands, mirror)

@@ -1,12 +1,11 @@
 -- Well-formed text, run by run.
 use Rattle.std.proofs.Common.{◌≡◌, ℕ, suc, ◌+◌, ◌-◌, ◌^◌, ◌<◌, Bool, true, false, List, [], ◌∷◌, length, ◌++◌, map, refl, sym, ap, subst, ◌∙◌, arith}
-use Rattle.std.specs.Prelude.{◌&&◌, ◌==◌, nat_lt, unwrap_or, not, Option, Some, None, is_some, is_none, slice_get, sum_by}
+use Rattle.std.specs.Prelude.{◌&&◌, ◌==◌, nat_lt, unwrap_or, is_none, slice_get, sum_by}
 use Rattle.std.specs.Option.{option_map_or}
 use Rattle.std.specs.List.{list_all}
 use Rattle.std.proofs.lemmas.Bool.{ltb-true, lt-ltb}
 use Rattle.std.proofs.lemmas.List.Sums.{sum_by-cons}
 use Rattle.schema.specs.NodeData.{NodeData, empty_node}
-use Rattle.schema.specs.declared.NodeId.{NodeId}
 use Rattle.schema.specs.declared.Role.TheVariants.{TextRun}
 use Rattle.model.specs.declared.FullNodeId.{FullNodeId}
 use Rattle.model.specs.World.{World}
@@ -17,8 +16,8 @@ use Rattle.model.proofs.Text.TextFacts.{both}
 use Rattle.views.specs.declared.runs.Run.{Run}
 use Rattle.views.specs.declared.node.node_ref.NodeRef.{NodeRef}
 use Rattle.views.specs.Nodes.{world_at, id_at, data_at}
+use Rattle.views.proofs.DefectRules.{is_fit, is_small, is_followed_by, are_fit_from}
 use Rattle.views.specs.Runs.{run_world, root_id, run_id, sent_of, ids_after, ids_before, sents_after, IsFirstOf, IsAfter}
-use Rattle.views.specs.WellFormed.{is_fit, is_small, is_followed_by, are_fit_from}
 
 -- ---- tests
 
@@ -34,28 +33,6 @@ same_tests true b f g = sym (f refl)
 same_tests false true f g = g refl
 same_tests false false f g = refl
 
-pub third_fails : (a b c d : Bool) → c ≡ false → false ≡ (a && (b && (c && d)))
-third_fails true true true d e = cc
-third_fails true true false d e = refl
-third_fails true false c d e = refl
-third_fails false b c d e = refl
-
-pub fourth_counts : (a b c d : Bool) → a ≡ true → b ≡ true → c ≡ true → d ≡ (a && (b && (c && d)))
-fourth_counts true true true d e f g = refl
-fourth_counts true true false d e f g = cc
-fourth_counts true false c d e f g = cc
-fourth_counts false b c d e f g = cc
-
-second_fails : (a b c : Bool) → b ≡ false → (a && (b && c)) ≡ false
-second_fails true true c e = cc
-second_fails true false c e = refl
-second_fails false b c e = refl
-
-third_left : (a b c : Bool) → a ≡ true → b ≡ true → (a && (b && c)) ≡ c
-third_left true true c e f = refl
-third_left true false c e f = cc
-third_left false b c e f = cc
-
 -- ---- runs as views show them
 
 -- what was sent of a run is what it shows
@@ -65,27 +42,6 @@ sent_known r = ap (λ o. let s : SentRun = record { id = run_id r; node = unwrap
 pub sents_next : (r s : Run) → IsAfter r s → sents_after r ≡ sent_of s ∷ sents_after s
 sents_next r s after =
     ap (map (sent_run (run_world r))) after.after ∙ ap (λ n. map (sent_run (world_at n)) (run_id s ∷ ids_after s)) (sym after.root) ∙ ap (λ x. x ∷ sents_after s) (sent_known s)
-
-module _ (tree : ℕ) (password : Bool) (size : ℕ) where
-  pub unfit : (a : SentRun) (rest : List SentRun) → is_fit tree password a ≡ false → are_fit_from tree password size a rest ≡ false
-  unfit a [] e = ap (λ t. t && (is_small size a && is_none a.node.next_on_line)) e
-  unfit a (b ∷ rest) e = ap (λ t. t && (is_small size a && (is_followed_by a b && are_fit_from tree password (size + length (run_value a)) b rest))) e
-
-  pub too_big : (a : SentRun) (rest : List SentRun) → is_small size a ≡ false → are_fit_from tree password size a rest ≡ false
-  too_big a [] e = second_fails (is_fit tree password a) (is_small size a) (is_none a.node.next_on_line) e
-  too_big a (b ∷ rest) e = second_fails (is_fit tree password a) (is_small size a) (is_followed_by a b && are_fit_from tree password (size + length (run_value a)) b rest) e
-
-  pub fit_last : (r : Run) → ids_after r ≡ [] → is_fit tree password (sent_of r) ≡ true → is_small size (sent_of r) ≡ true →
-      are_fit_from tree password size (sent_of r) (sents_after r) ≡ is_none (sent_of r).node.next_on_line
-  fit_last r last fit small =
-      ap (λ ids. are_fit_from tree password size (sent_of r) (map (sent_run (run_world r)) ids)) last
-      ∙ third_left (is_fit tree password (sent_of r)) (is_small size (sent_of r)) (is_none (sent_of r).node.next_on_line) fit small
-
-  pub fit_next : (r s : Run) → IsAfter r s → is_fit tree password (sent_of r) ≡ true → is_small size (sent_of r) ≡ true →
-      are_fit_from tree password size (sent_of r) (sents_after r) ≡ (is_followed_by (sent_of r) (sent_of s) && are_fit_from tree password (size + length (run_value (sent_of r))) (sent_of s) (sents_after s))
-  fit_next r s after fit small =
-      ap (are_fit_from tree password size (sent_of r)) (sents_next r s after)
-      ∙ third_left (is_fit tree password (sent_of r)) (is_small size (sent_of r)) (is_followed_by (sent_of r) (sent_of s) && are_fit_from tree password (size + length (run_value (sent_of r))) (sent_of s) (sents_after s)) fit small
 
 -- ---- the same of all runs at once
 
@@ -238,7 +194,7 @@ first_sents r first =
     let all : run_ids (run_world r) (root_id r) ≡ run_id r ∷ ids_after r = sym r.known.among ∙ ap (λ ids. ids ++ run_id r ∷ ids_after r) first in
     ap (map (sent_run (run_world r))) all ∙ ap (λ x. x ∷ sents_after r) (sent_known r)
 
-abbrev fits_from_first : NodeRef → Run → Bool
+abbrev pub fits_from_first : NodeRef → Run → Bool
 fits_from_first n r =
     holds_text (data_at n).role && (is_none (sent_of r).node.previous_on_line && are_fit_from (id_at n).tree (is_password_input (data_at n).role) 0 (sent_of r) (sents_after r))
 
@@ -251,31 +207,3 @@ text_from_root r first =
 
 pub text_from_first : (n : NodeRef) (r : Run) → IsFirstOf n r → supports_text_ranges (world_at n) (id_at n) ≡ fits_from_first n r
 text_from_first n r first = subst (λ m. supports_text_ranges (world_at m) (id_at m) ≡ fits_from_first m r) first.root (text_from_root r first.order)
-
-none_is_not_some : {A : Type 0} (o : Option A) (b : Bool) → is_some o ≡ b → is_none o ≡ not b
-none_is_not_some None b e = ap not e
-none_is_not_some (Some x) b e = ap not e
-
-pub linked_back_no_text : (n : NodeRef) (r : Run) (link : Option NodeId) → IsFirstOf n r → link ≡ (sent_of r).node.previous_on_line → is_some link ≡ true → supports_text_ranges (world_at n) (id_at n) ≡ false
-linked_back_no_text n r link first is linked =
-    text_from_first n r first
-    ∙ second_fails (holds_text (data_at n).role) (is_none (sent_of r).node.previous_on_line) (are_fit_from (id_at n).tree (is_password_input (data_at n).role) 0 (sent_of r) (sents_after r)) (ap is_none (sym is) ∙ none_is_not_some link true linked)
-
-pub text_if_fit : (n : NodeRef) (r : Run) (link : Option NodeId) → IsFirstOf n r → link ≡ (sent_of r).node.previous_on_line → is_some link ≡ false → holds_text (data_at n).role ≡ true →
-    are_fit_from (id_at n).tree (is_password_input (data_at n).role) 0 (sent_of r) (sents_after r) ≡ supports_text_ranges (world_at n) (id_at n)
-text_if_fit n r link first is linked held =
-    sym (text_from_first n r first
-    ∙ third_left (holds_text (data_at n).role) (is_none (sent_of r).node.previous_on_line) (are_fit_from (id_at n).tree (is_password_input (data_at n).role) 0 (sent_of r) (sents_after r)) held (ap is_none (sym is) ∙ none_is_not_some link false linked))
-
-pub rising_same : (r : SentRun) (starts : List ℕ) (count : ℕ) → starts ≡ r.node.word_starts → count ≡ said_count r →
-    (list_all (λ (p : ℕ × ℕ). nat_lt p.0 p.1) (neighbours starts) && list_all (λ k. nat_lt k count) starts) ≡ has_rising_words r
-rising_same r starts count e f =
-    ap (λ ks. list_all (λ (p : ℕ × ℕ). nat_lt p.0 p.1) (neighbours ks) && list_all (λ k. nat_lt k count) ks) e
-    ∙ ap (λ n. list_all (λ (p : ℕ × ℕ). nat_lt p.0 p.1) (neighbours r.node.word_starts) && list_all (λ k. nat_lt k n) r.node.word_starts) f
-
-pub not_small : (size : ℕ) (r : SentRun) → (size + length (run_value r) < 2 ^ 64 → ⊥) → is_small size r ≡ false
-not_small size r big = go (is_small size r) refl
-  where
-    go : (b : Bool) → is_small size r ≡ b → is_small size r ≡ false
-    go true e = absurd (big (ltb-true _ _ e))
-    go false e = e

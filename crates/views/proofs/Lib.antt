@@ -35,4 +35,7 @@ pub mod RunTexts
 pub mod DocumentTexts
 pub mod RisingNumbers
 pub mod CutTexts
+pub mod DefectRules
 pub mod FitRuns
+pub mod Drained
+pub mod DefectRuns

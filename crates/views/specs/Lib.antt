@@ -28,6 +28,8 @@ pub mod SeenPoints
 pub mod RunPlaces
 pub mod Runs
 pub mod RunTexts
-pub mod WellFormed
+pub mod TextDefects
+pub mod DefectTexts
+pub mod DefectWalks
 pub mod Secrets
 pub mod ValueCalls

@@ -1,5 +1,7 @@
 //! The runs of a text: a walk over them in order, and steps from a run to its neighbours. Nothing here allocates.
+mod defects;
 mod parts;
+mod rules;
 mod well_formed;
 
 ghost use Rattle.std.specs.Prelude.{◌≡◌};
@@ -13,6 +15,7 @@ use crate::walks::ends::{following, preceding};
 use crate::walks::filter::Filter;
 use crate::walks::searches::{next_shown, previous_shown};
 use crate::walks::spot::{Member, Spot};
+pub use defects::{RunDefect, TextDefect};
 use model::FullNodeId;
 use model::filters::FilterResult;
 use schema::{Node, Role, WideTranslation};

@@ -1,99 +1,60 @@
-//! Whether a node's runs make a text that can be walked by characters.
-ghost use Rattle.std.specs.Prelude.{◌≡◌};
-ghost use Rattle.model.specs.TextRuns.{is_enough as is_enough_for, is_measured as are_metrics_right, leads_to as leads_to_run, links_agree as agree, supports_text_ranges};
+//! Whether a node's runs make a text that can be walked by characters, and why not.
+ghost use Rattle.std.specs.Prelude.{◌≡◌, ◌==◌, ◌||◌, is_none, length};
+ghost use Rattle.model.specs.TextRuns.{is_password, run_ids, sent_runs, supports_text_ranges};
 ghost use Rattle.model.specs.RoleClasses.{holds_text};
 ghost use Rattle.views.specs.Nodes.{world_at, id_at, data_at};
-ghost use Rattle.views.specs.Runs.{sent_as, sent_of, sents_after};
-ghost use Rattle.views.specs.WellFormed.{is_fit as is_fit_run, are_fit_from};
+ghost use Rattle.views.specs.Runs.{sent_of, sents_after, IsFirstOf};
+ghost use Rattle.views.specs.TextDefects.{first_defect, text_defect};
+ghost use Rattle.views.specs.DefectWalks.{defect_from};
 
 use crate::node::NodeRef;
 use crate::runs::Run;
-use crate::runs::parts::{is_cut_by, rise_below};
-use crate::walks::spot::Member;
-use schema::NodeId;
+use crate::runs::defects::{RunDefect, TextDefect};
+use crate::runs::rules::{defect_between, last_defect, own_defect};
 
-/// Whether there are enough numbers for the characters: one for each, or for a password at least one.
-fn is_enough(password: bool, count: usize, given: usize) -> bool
-    ensures { result ≡ is_enough_for password count given }
-{
-    let least = if password { count.min(1) } else { count };
-    given <= count && least <= given
-}
-
-/// Whether a run has enough positions and widths of its characters, if it has any.
-fn is_measured(run: Member<'_>, password: bool) -> bool
-    ensures { result ≡ are_metrics_right password (sent_as run.entry) }
-{
-    let count = run.character_count();
-    if let Some(positions) = run.node.character_positions() {
-        if !is_enough(password, count, positions.len()) {
-            return false;
-        }
-    }
-    match run.node.character_widths() {
-        Some(widths) => is_enough(password, count, widths.len()),
-        None => true,
-    }
-}
-
-/// Whether the run itself is well-formed.
-fn is_fit(run: Member<'_>, tree: u32, password: bool) -> bool
-    ensures { result ≡ is_fit_run tree password (sent_as run.entry) }
-{
-    if run.id.tree != tree {
-        return false;
-    }
-    if !is_cut_by(run.value(), run.node.character_lengths()) {
-        return false;
-    }
-    if !rise_below(run.node.word_starts(), run.character_count()) {
-        return false;
-    }
-    is_measured(run, password)
-}
-
-/// Whether the link names the run.
-fn leads_to(link: Option<NodeId>, run: Member<'_>) -> bool
-    ensures { result ≡ leads_to_run link (sent_as run.entry) }
-{
-    match link {
-        Some(node) => node.0 == run.id.node.0,
-        None => false,
-    }
-}
-
-/// Whether two neighbours are linked both ways or not at all.
-fn links_agree(a: Member<'_>, b: Member<'_>) -> bool
-    ensures { result ≡ agree (sent_as a.entry) (sent_as b.entry) }
-{
-    let next = a.node.next_on_line();
-    let previous = b.node.previous_on_line();
-    (next.is_none() && previous.is_none()) || (leads_to(next, b) && leads_to(previous, a))
-}
-
-/// Whether a first run and those after it are well-formed, each by itself and in relation to the next one.
-fn are_fit(first: Run<'_>, tree: u32, password: bool) -> bool
-    ensures { result ≡
-        are_fit_from tree password 0 (sent_of first.entry) (sents_after first.entry) }
+/// The first defect of a first run and those after it, without the first one's link back.
+fn defect_from(first: Run<'_>, tree: u32, password: bool) -> Option<TextDefect>
+    ensures { result ≡ defect_from tree password 0 (sent_of first.entry) (sents_after first.entry) }
 {
     let mut run = first;
     let mut size = 0usize;
     loop {
         let sent = run.spot.member;
-        if !is_fit(sent, tree, password) {
-            return false;
+        if let Some(defect) = own_defect(sent, tree, password) {
+            return Some(TextDefect::Run {
+                id: sent.id,
+                defect,
+            });
         }
         let Some(sum) = size.checked_add(sent.value().len()) else {
-            return false;
+            return Some(TextDefect::Run {
+                id: sent.id,
+                defect: RunDefect::TooLong,
+            });
         };
         if !run.step() {
-            return sent.node.next_on_line().is_none();
+            return last_defect(sent);
         }
-        if sent.character_count() == 0 || !links_agree(sent, run.spot.member) {
-            return false;
+        if let Some(defect) = defect_between(sent, run.spot.member) {
+            return Some(defect);
         }
         size = sum;
     }
+}
+
+/// The first defect of a node's runs, of which this is the first one.
+fn first_defect(root: NodeRef<'_>, first: Run<'_>) -> Option<TextDefect>
+    requires { IsFirstOf root first }
+    ensures { let w = world_at root.entry in let id = id_at root.entry in
+        result ≡ first_defect id.tree (is_password w id) (sent_runs w id) }
+{
+    if let Some(link) = first.node().previous_on_line() {
+        return Some(TextDefect::Run {
+            id: first.id(),
+            defect: RunDefect::PreviousLink(link),
+        });
+    }
+    defect_from(first, root.id.tree, root.is_password_input())
 }
 
 /// Whether the node's role is one whose runs can make a text.
@@ -118,7 +79,25 @@ impl NodeRef<'_> {
         let Some(first) = Run::first(*self) else {
             return false;
         };
-        first.node().previous_on_line().is_none()
-            && are_fit(first, self.id.tree, self.is_password_input())
+        first_defect(*self, first).is_none()
+    }
+
+    /// Why the node's runs make no text, or `None` if they make one.
+    ///
+    /// It is the role, if that holds no text, or else the first run in the order of the tree that breaks a rule, with
+    /// the first rule that it breaks in the order of [`RunDefect`]. It is `None` too if there are no runs, whatever the
+    /// role.
+    pub fn text_defect(&self) -> Option<TextDefect>
+        ensures exact { result ≡ text_defect (world_at self.now) (id_at self.now) }
+        ensures none { let w = world_at self.now in let id = id_at self.now in
+            is_none result ≡ (length (run_ids w id) == 0 || supports_text_ranges w id) }
+    {
+        let Some(first) = Run::first(*self) else {
+            return None;
+        };
+        if !holds_text(*self) {
+            return Some(TextDefect::Role);
+        }
+        first_defect(*self, first)
     }
 }

@@ -3,7 +3,7 @@ use Rattle.std.proofs.lemmas.Result.{IfOk-weaker}
 use Rattle.model.specs.Filters.{filter_named}
 use Rattle.views.specs.Nodes.{world_at}
 use Rattle.views.specs.FilteredWalks.{children_walk}
-use Rattle.session.proofs.Drained.{gives_all}
+use Rattle.views.proofs.Drained.{gives_all}
 use Rattle.session.proofs.walked.filtered_ids.Goals as goal
 
 pub returns : goal.returns

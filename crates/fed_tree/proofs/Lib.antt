@@ -1,0 +1,5 @@
+pub mod Carrying
+pub mod Commands
+pub mod Fed
+pub mod Found
+pub mod Keeping

@@ -1,0 +1,270 @@
+//! The arguments of a program, and what it says of itself.
+
+ghost use Rattle.std.specs.Prelude.{◌≡◌, ◌≤◌, ◌≢◌, ℕ, IfErr, List, OnOk, Result, map, option_copied};
+ghost use Rattle.std.specs.Io.KnownBytes.{Appends};
+ghost use Rattle.std.specs.String.{string_bytes};
+ghost use Rattle.script_lines.specs.ArgumentErrors.{ReadsNone, ReadsWords};
+ghost use Rattle.script_lines.specs.Arguments.{Answers, TellsError, call_text, error_text, hint_text, kind_text, manual_text, near_text, unknown_text, usage_text, wrong_text};
+ghost use Rattle.script_lines.specs.Ends.{Tells};
+ghost use Rattle.script_lines.specs.declared.argument_errors.ArgumentError.{ArgumentError as AnError};
+
+use crate::argument_errors::{
+    ArgumentError, ArgumentKind, UnknownWord, is_option, miscounted, no_option,
+};
+use crate::ends::{BAD_LINE, DONE, FAULT, tell_no_memory};
+use line_text::write_shown;
+use std::alloc::Global;
+use std::env;
+use std::io::{self, ErrorKind, IsTerminal, Write};
+
+/// What a program says of itself.
+#[derive(Clone, Copy)]
+pub struct Manual {
+    /// Its name, as `find`.
+    pub name: &'static str,
+    /// Its arguments with a space before each, as ` ROLE [LABEL]`.
+    pub arguments: &'static str,
+    /// Lines with its purpose, its arguments, an example and its exit statuses.
+    pub help: &'static str,
+}
+
+/// The arguments of a program.
+pub trait Arguments: Sized + Drop {
+    /// What is read from words: the words, and the result.
+    ghost reads: { List (List ℕ) → Result Self AnError → Type 0 };
+
+    /// The meaning of the words that follow the program's name. The first of them is no option.
+    ///
+    /// # Errors
+    ///
+    /// Returns what is wrong with them, or that memory ran out.
+    fn from_words(alloc: Global, words: &[String]) -> Result<Self, ArgumentError>
+        ensures { reads (map string_bytes words.now) result };
+}
+
+/// The arguments of a program without arguments.
+#[derive(Clone, Copy)]
+pub struct NoArguments;
+
+impl Arguments for NoArguments {
+    ghost reads = { ReadsNone };
+
+    /// Any word is taken for a file's name.
+    fn from_words(_alloc: Global, words: &[String]) -> Result<NoArguments, ArgumentError> {
+        if words.is_empty() {
+            return Ok(NoArguments);
+        }
+        Err(ArgumentError::File)
+    }
+}
+
+/// Reads the program's arguments. If the first of them is `--help`, its manual is printed on standard output. Wrong arguments are reported
+/// on standard error, with the usage. If the script would have to be typed, that is said on standard error too.
+///
+/// # Errors
+///
+/// Returns the exit status if the program is not to run: 0 once its manual is printed, 2 for wrong arguments, 3 if a stream failed, and 4
+/// if memory runs out.
+pub fn read_arguments<A: Arguments>(rt: &HostRuntime, manual: &Manual) -> Result<A, u8>
+    ensures { IfErr result (λ status. (status ≤ 4) × (status ≢ 1)) }
+{
+    let mut output = io::writer(rt);
+    let mut errors = rt.stderr();
+    let words = match words_given(rt) {
+        Ok(words) => words,
+        Err(error) => return Err(tell_error(&error, manual, &mut output, &mut errors)),
+    };
+    let asked = answer_words(rt.alloc(), &words, manual, &mut output, &mut errors)?;
+    if rt.stdin().is_terminal() && write_terminal(&mut errors).is_err() {
+        return Err(FAULT);
+    }
+    Ok(asked)
+}
+
+/// The words that follow the program's name.
+fn words_given(rt: &HostRuntime) -> Result<Vec<String>, ArgumentError> {
+    let mut words = Vec::new(rt.alloc());
+    match env::args(rt) {
+        Ok(args) => {
+            for word in args.skip(1) {
+                words.push(word)?;
+            }
+            Ok(words)
+        }
+        Err(error) if error.kind() == ErrorKind::OutOfMemory => Err(ArgumentError::Memory),
+        Err(_) => Err(ArgumentError::NotUtf8),
+    }
+}
+
+/// Writes that the script is read from a terminal: a file's name may have been taken for a label.
+fn write_terminal<E: Write>(errors: &mut E) -> io::Result<()> {
+    errors.write_all(b"the script is read from this terminal; Ctrl-D ends it\n")
+}
+
+/// The meaning of a program's words. If the program is not to run, its manual is printed, or what is wrong
+/// with them is reported.
+///
+/// # Errors
+///
+/// Returns the exit status if the program is not to run.
+fn answer_words<A: Arguments, O: Write, E: Write>(
+    alloc: Global,
+    words: &[String],
+    manual: &Manual,
+    output: &mut O,
+    errors: &mut E,
+) -> Result<A, u8>
+    ensures bound { IfErr result (λ status. (status ≤ 4) × (status ≢ 1)) }
+    ensures answers { Answers A.reads manual.now (map string_bytes words.now) result (O.contents output.old) (O.contents output.new) (E.contents errors.old) (E.contents errors.new) }
+{
+    match asked_for(alloc, words) {
+        Ok(asked) => Ok(asked),
+        Err(error) => Err(tell_error(&error, manual, output, errors)),
+    }
+}
+
+/// The meaning of a program's words, of which the first may be an option.
+fn asked_for<A: Arguments>(alloc: Global, words: &[String]) -> Result<A, ArgumentError>
+    ensures { ReadsWords A.reads (map string_bytes words.now) result }
+{
+    match words {
+        [first, ..] if is_option(first.as_str()) => Err(no_option(alloc, first.as_str())),
+        _ => A::from_words(alloc, words),
+    }
+}
+
+/// Prints a program's manual or reports what is wrong with its arguments, and returns the exit status.
+fn tell_error<O: Write, E: Write>(
+    error: &ArgumentError,
+    manual: &Manual,
+    output: &mut O,
+    errors: &mut E,
+) -> u8
+    ensures bound { result ≤ 4 }
+    ensures not_one { result ≢ 1 }
+    ensures told { TellsError manual.now error.now (O.contents output.old) (O.contents output.new) (E.contents errors.old) (E.contents errors.new) result }
+{
+    match error {
+        ArgumentError::Help => tell_manual(manual, output),
+        ArgumentError::Memory => tell_no_memory(errors),
+        ArgumentError::Count
+        | ArgumentError::File
+        | ArgumentError::Unknown(_)
+        | ArgumentError::NotUtf8 => tell_wrong(error, manual, errors),
+    }
+}
+
+/// Prints a program's manual, and returns the exit status.
+fn tell_manual<O: Write>(manual: &Manual, output: &mut O) -> u8
+    ensures bound { result ≤ 4 }
+    ensures not_one { result ≢ 1 }
+    ensures told { Tells (O.contents output.old) (O.contents output.new) (manual_text manual.now) 0 result }
+{
+    if write_manual(manual, output).is_err() || output.flush().is_err() {
+        return FAULT;
+    }
+    DONE
+}
+
+/// Writes a program's manual.
+fn write_manual<O: Write>(manual: &Manual, output: &mut O) -> io::Result<()>
+    ensures { OnOk result (Appends (O.contents output.old) (O.contents output.new) (manual_text manual.now)) }
+{
+    write_call(manual, output)?;
+    output.write_all(b"\n\n")?;
+    output.write_all(manual.help.as_bytes())
+}
+
+/// Writes how a program is called.
+fn write_call<O: Write>(manual: &Manual, output: &mut O) -> io::Result<()>
+    ensures { OnOk result (Appends (O.contents output.old) (O.contents output.new) (call_text manual.now)) }
+{
+    output.write_all(manual.name.as_bytes())?;
+    output.write_all(manual.arguments.as_bytes())?;
+    output.write_all(b" < SCRIPT")
+}
+
+/// Reports what is wrong with a program's arguments, with the usage, and returns the exit status.
+fn tell_wrong<E: Write>(error: &ArgumentError, manual: &Manual, errors: &mut E) -> u8
+    ensures bound { result ≤ 4 }
+    ensures not_one { result ≢ 1 }
+    ensures told { Tells (E.contents errors.old) (E.contents errors.new) (wrong_text manual.now error.now) 2 result }
+{
+    if write_wrong(error, manual, errors).is_err() || errors.flush().is_err() {
+        return FAULT;
+    }
+    BAD_LINE
+}
+
+/// Writes what is wrong with a program's arguments, and the usage.
+fn write_wrong<E: Write>(error: &ArgumentError, manual: &Manual, errors: &mut E) -> io::Result<()>
+    ensures { OnOk result (Appends (E.contents errors.old) (E.contents errors.new) (wrong_text manual.now error.now)) }
+{
+    write_error(error, errors)?;
+    write_usage(manual, errors)
+}
+
+/// Writes what is wrong with a program's arguments, in a line; nothing if words are missing or too many.
+fn write_error<E: Write>(error: &ArgumentError, errors: &mut E) -> io::Result<()>
+    ensures { OnOk result (Appends (E.contents errors.old) (E.contents errors.new) (error_text error.now)) }
+{
+    match error {
+        ArgumentError::File => errors.write_all(
+            b"the script is read from standard input: put < before its file's name\n",
+        ),
+        ArgumentError::Unknown(unknown) => write_unknown(unknown, errors),
+        ArgumentError::NotUtf8 => errors.write_all(b"an argument isn't UTF-8\n"),
+        ArgumentError::Help | ArgumentError::Count | ArgumentError::Memory => Ok(()),
+    }
+}
+
+/// Writes that there is no such word of its kind, and the one that may be meant, if there is one. Control characters of the word are
+/// written as question marks.
+fn write_unknown<E: Write>(unknown: &UnknownWord, errors: &mut E) -> io::Result<()>
+    ensures { OnOk result (Appends (E.contents errors.old) (E.contents errors.new) (unknown_text unknown.now)) }
+{
+    errors.write_all(b"no ")?;
+    errors.write_all(kind_name(unknown.kind).as_bytes())?;
+    errors.write_all(b" ")?;
+    write_shown(unknown.word.as_bytes(), errors)?;
+    write_near(unknown.near, errors)
+}
+
+/// What words of this kind are called.
+fn kind_name(kind: ArgumentKind) -> &'static str
+    ensures { result.now ≡ kind_text kind }
+{
+    match kind {
+        ArgumentKind::Role => "role",
+        ArgumentKind::Number => "number",
+        ArgumentKind::Tree => "tree",
+        ArgumentKind::Dashed => "option",
+    }
+}
+
+/// Writes the word that may be meant, if there is one, and the end of the line.
+fn write_near<E: Write>(near: Option<&str>, errors: &mut E) -> io::Result<()>
+    ensures { OnOk result (Appends (E.contents errors.old) (E.contents errors.new) (near_text (option_copied near.entry))) }
+{
+    match near {
+        Some(near) => writeln!(errors, "; did you mean {near}?"),
+        None => errors.write_all(b"\n"),
+    }
+}
+
+/// Writes a program's usage.
+fn write_usage<E: Write>(manual: &Manual, errors: &mut E) -> io::Result<()>
+    ensures { OnOk result (Appends (E.contents errors.old) (E.contents errors.new) (usage_text manual.now)) }
+{
+    errors.write_all(b"usage: ")?;
+    write_call(manual, errors)?;
+    write_hint(manual, errors)
+}
+
+/// Writes what says more.
+fn write_hint<E: Write>(manual: &Manual, errors: &mut E) -> io::Result<()>
+    ensures { OnOk result (Appends (E.contents errors.old) (E.contents errors.new) (hint_text manual.now)) }
+{
+    let name = manual.name;
+    writeln!(errors, "; {name} --help says more")
+}
