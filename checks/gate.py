@@ -23,10 +23,10 @@ PROCESSORS = len(os.sched_getaffinity(0))
 
 READING = [
     "checks/formatted",
-    "docs/check-excerpts",
-    "docs/index --check",
-    "docs/crates --check",
-    "docs/check-documents --docstrings",
+    "tools/check-excerpts",
+    "tools/index --check",
+    "tools/crates --check",
+    "tools/check-documents --docstrings",
     "checks/names",
     "checks/trust",
     "checks/turned --read",
@@ -37,9 +37,11 @@ PROVING = "rt ci"
 ON_PROGRAMS = {
     "checks/run-scripts": {"atree"},
     "checks/made-up 20000 1": {"atree"},
-    "checks/run-programs": {"find", "page", "read", "record", "speak"},
+    # (one by one, so that only the last waits for the last program)
+    **{f"checks/run-programs {it}": {it} for it in sorted(os.listdir(os.path.join(TOP, "checks", "programs")))},
+    "checks/converse": {"atree", "find", "page", "record", "speak"},
     "checks/refused-growths": {"atree", "growths"},
-    "docs/check-documents --programs": {"atree", "find", "page", "read", "record", "speak"},
+    "tools/check-documents --programs": {"atree", "find", "page", "read", "record", "speak"},
 }
 WRONG = "checks/wrong --jobs 1"
 WRONG_BODIES = os.path.join(TOP, "checks", "wrong-bodies")
@@ -174,8 +176,9 @@ class Gate:
     def prove(self):
         """Runs `rt ci`, and beside it what needs the programs that it has built and the wrong bodies of crates that it has proved."""
         if memory_for_each() >= 4:
-            # (by its own plan for memory rt would leave processors idle, as no check here takes 4 GB)
-            os.environ.setdefault("RT_JOBS", str(PROCESSORS))
+            # (by its own plan for memory rt would leave processors idle, as no check here takes 4 GB; where there are four or more, one is
+            # left to the checks beside the proofs: no more are needed to end with the longest chain of crates)
+            os.environ.setdefault("RT_JOBS", str(PROCESSORS if PROCESSORS < 4 else PROCESSORS - 1))
         waiting = dict(ON_PROGRAMS)
         with ThreadPoolExecutor(1) as on_programs, ThreadPoolExecutor(max(1, PROCESSORS // 2)) as wrong:
 

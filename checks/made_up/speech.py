@@ -1,0 +1,130 @@
+"""Random windows whose changes are spoken: controls, fields with and without runs, live regions, and a dialog that opens and closes."""
+
+from model.scripts import text_line
+
+WORDS = ["", "a", "ab", "abc", "b", "x y", "\u00e4\u00f6", "no \"end\"", "two"]
+CONTROLS = "Button DefaultButton Switch CheckBox RadioButton Slider Tab MenuItemCheckBox Link".split()
+FIELDS = "TextInput SearchInput PasswordInput SpinButton EditableComboBox".split()
+FLAGS = "disabled read_only required hidden busy".split()
+WINDOW, CONTROL, FIELD, TEXT, HINT, REGION, SAID, LIST, DIALOG, BUTTON, SECRET = range(11)
+RUNS = (30, 31, 32)
+OPTIONS = (40, 41, 42)
+REGION_RUN, SECRET_RUN = 50, 51
+
+
+def with_one_in(dice, bound, words):
+    """The words, once in so many times."""
+    return [words] if dice.one_in(bound) else []
+
+
+def of_words(dice, name, bound=2):
+    """A text for a field, often."""
+    return with_one_in(dice, bound, f"{name}={text_line(dice.choice(WORDS))}")
+
+
+def flags(dice):
+    """Some flags, each now and then."""
+    return [flag for flag in FLAGS if dice.one_in(9)]
+
+
+def state(dice):
+    """What a control may be set to."""
+    toggled = with_one_in(dice, 2, "toggled=" + dice.choice(["true", "false", "mixed"]))
+    others = [f"{name}={dice.choice(['true', 'false'])}" for name in ("expanded", "selected") if dice.one_in(4)]
+    return [*toggled, *others, *with_one_in(dice, 4, f"number={dice.choice([-70, 0, 5, 1200, 2500])}")]
+
+
+def live(dice):
+    """How a node's changes are told."""
+    return with_one_in(dice, 2, "live=" + dice.choice(["off", "polite", "polite", "assertive"]))
+
+
+def run_line(dice, number, is_last):
+    """A run, with a newline at its end where it isn't the last one."""
+    text = dice.choice(WORDS) + ("" if is_last or dice.one_in(3) else "\n")
+    lengths = ",".join(str(len(character.encode())) for character in text)
+    return " ".join([f"node {number} TextRun value={text_line(text)}", *([f"chars={lengths}"] if text else [])])
+
+
+def selection(dice, runs):
+    """A selection in these runs, often."""
+    ends = [f"{dice.choice(runs)}:{dice.randrange(3)}" for _ in range(2)]
+    return [] if dice.one_in(4) else ["selection=" + ",".join(ends)]
+
+
+class Window:
+    """What is in the window, by the numbers of its nodes: a line for each."""
+
+    def __init__(self, dice):
+        self.dice, self.has_dialog, self.runs = dice, False, RUNS[:1]
+
+    def node(self, number, role, *words):
+        """A node's line."""
+        return " ".join([f"node {number} {role}", *(word for some in words for word in some)])
+
+    def lines_of(self, number):
+        """The lines of a node, made up anew, with those of what stands in it."""
+        dice = self.dice
+        if number == WINDOW:
+            self.has_dialog = dice.one_in(2)
+            shown = [CONTROL, FIELD, TEXT, HINT, REGION, LIST, *([DIALOG] if self.has_dialog else [])]
+            dialog = self.lines_of(DIALOG) if self.has_dialog else []
+            return [self.node(WINDOW, "Window", ["children=" + ",".join(map(str, shown))]), *dialog]
+        if number == TEXT:
+            self.runs = RUNS[: dice.randrange(1, 4)]
+            given = ["children=" + ",".join(map(str, self.runs))]
+            text = self.node(TEXT, dice.choice(["MultilineTextInput", "TextInput"]), given, selection(dice, self.runs), of_words(dice, "label"))
+            return [text, *(run_line(dice, run, run == self.runs[-1]) for run in self.runs)]
+        if number == REGION:
+            region = self.node(REGION, "GenericContainer", [f"children={SAID}"], live(dice), flags(dice))
+            return [region, *self.lines_of(SAID)]
+        if number == SAID:
+            said = self.node(SAID, "Label", [f"children={REGION_RUN}"], of_words(dice, "value", 3), live(dice), flags(dice))
+            return [said, run_line(dice, REGION_RUN, True)]
+        if number == LIST:
+            options = [self.node(option, "ListBoxOption", of_words(dice, "label"), state(dice), flags(dice)) for option in OPTIONS]
+            return [self.node(LIST, "ListBox", ["children=" + ",".join(map(str, OPTIONS))], live(dice)), *options]
+        if number == DIALOG:
+            role = dice.choice(["Dialog", "AlertDialog"])
+            dialog = self.node(DIALOG, role, [f"children={BUTTON},{SECRET}"], of_words(dice, "label"), with_one_in(dice, 2, "modal"))
+            return [dialog, *self.lines_of(BUTTON), *self.lines_of(SECRET)]
+        if number == SECRET:
+            secret = self.node(SECRET, "PasswordInput", [f"children={SECRET_RUN}"], selection(dice, [SECRET_RUN]), of_words(dice, "placeholder"))
+            return [secret, run_line(dice, SECRET_RUN, True)]
+        if number == FIELD:
+            number_of_field = with_one_in(dice, 5, "number=1500")
+            words = of_words(dice, "value"), of_words(dice, "placeholder"), number_of_field, live(dice), flags(dice)
+            return [self.node(FIELD, dice.choice(FIELDS), of_words(dice, "label"), *words)]
+        if number == HINT:
+            return [self.node(HINT, "Label", of_words(dice, "value"), of_words(dice, "label", 3), live(dice), flags(dice))]
+        return [self.node(number, dice.choice(CONTROLS), of_words(dice, "label"), of_words(dice, "value", 3), state(dice), flags(dice))]
+
+    def any_focus(self):
+        """A node that may have the focus."""
+        shown = [WINDOW, CONTROL, FIELD, FIELD, TEXT, TEXT, LIST, *OPTIONS]
+        return self.dice.choice(shown + [DIALOG, BUTTON, SECRET, SECRET] * self.has_dialog)
+
+
+def send(maker, lines, focus, head=""):
+    """Adds an update's lines."""
+    for line in (f"update root focus={focus}{head}", *lines, "end"):
+        maker.say(line)
+
+
+def make_speech(maker):
+    """A window, whose nodes change while the focus goes through it."""
+    dice, window = maker.dice, Window(maker.dice)
+    if not dice.one_in(4):
+        maker.say("host on")
+    lines = [line for number in (WINDOW, CONTROL, FIELD, TEXT, HINT, REGION, LIST) for line in window.lines_of(number)]
+    focus = window.any_focus()
+    send(maker, lines, focus, " root=0")
+    for _ in range(dice.randrange(4, 16)):
+        if dice.one_in(9):
+            maker.set_host()
+        some = [number for number in (CONTROL, FIELD, FIELD, TEXT, TEXT, HINT, REGION, LIST) if dice.one_in(4)]
+        some += [WINDOW] if dice.one_in(4) else [SECRET] if window.has_dialog and dice.one_in(2) else []
+        lines = [line for number in dict.fromkeys(some) for line in window.lines_of(number)]
+        if dice.one_in(2) or focus in (DIALOG, BUTTON, SECRET):
+            focus = window.any_focus()
+        send(maker, lines, focus)

@@ -1,0 +1,481 @@
+"""What a page of a script shows, by the model, and what a page says to one who reads it as HTML: the two are compared, and
+nothing of how a page is written is known here but its elements and their classes."""
+
+import re
+from html.parser import HTMLParser
+
+from model.worlds import ROOT, accepted, differences, effective_focus, faults, focus, is_focused, root_named, told_of_update
+from model.scripts import BadLine, Play, role_shown, told_by
+from model.speech import EXPANDED, SELECTED, SWITCHED
+from model.texts import BULLET, HOLDS_TEXT, is_read_only, is_text, label_of, labelled_by, runs_of, value_of
+from model.views import CUT_OFF, INCLUDED, ancestors, bounding_box, common_filter, preorder, upward
+
+REFUSALS = {
+    "MissingTreeInfo": "the first update has no tree info",
+    "NotRootTree": "the first update is not for the root tree",
+    "MissingData": "no data for node {0}",
+    "NotReached": "node {0} is named and not reached from the root",
+    "NamedTwice": "node {0} is named twice",
+    "ListedTwice": "node {0} is listed at two places, or is the root and listed",
+    "RootTreeGrafted": "node {0} grafts the root tree",
+    "GraftWithChildren": "node {0} is a graft and lists children",
+    "GraftedTwice": "tree {0} is grafted twice",
+    "NoGraft": "no node grafts tree {0}",
+    "NoFirstTreeInfo": "tree {0} is not present, and the update has no tree info",
+    "FocusMissing": "the focus {0} is not reached",
+    "FocusOnEmptyGraft": "the focus is on a graft of tree {0}, which is not present",
+}
+
+
+# ---- what is shown of a node
+
+
+def id_text(id):
+    return f"{id[0]}:{id[1]}"
+
+
+def is_password(world, id):
+    return world.nodes[id].role == "PasswordInput"
+
+
+def is_in_password(world, id):
+    """Whether it stands below a password input."""
+    return any(is_password(world, up) for up in ancestors(world, id))
+
+
+def holds_password(world, id):
+    """Whether the runs of a password may be among its runs."""
+    has_runs = world.nodes[id].role in HOLDS_TEXT and runs_of(world, id)
+    return bool(has_runs) and any(is_password(world, below) for below in preorder(world, id)[1:])
+
+
+def hides_value(world, id):
+    """Whether its value may show what is typed into a password."""
+    is_of_runs = is_password(world, id) or world.nodes[id].value is None
+    return is_in_password(world, id) or is_of_runs and holds_password(world, id)
+
+
+def hides_part(world, id):
+    """Whether what it gives to another node's label may."""
+    return hides_value(world, id) if world.nodes[id].role == "Label" else is_in_password(world, id)
+
+
+def hides_label(world, id):
+    """Whether its label may."""
+    is_own = world.nodes[id].label is not None
+    return is_in_password(world, id) or not is_own and any(hides_part(world, part) for part in labelled_by(world, id))
+
+
+def shown_label(world, id):
+    """The label, where it isn't hidden."""
+    return None if hides_label(world, id) else label_of(world, id)
+
+
+def shown_value(world, id):
+    """The value, where it isn't hidden: of a password a bullet for each character."""
+    if hides_value(world, id):
+        return None
+    if not is_password(world, id):
+        return value_of(world, id)
+    if is_text(world, id):
+        return BULLET * sum(len(world.nodes[run].chars) for run in runs_of(world, id))
+    value = world.nodes[id].value
+    return value and BULLET * len(value)
+
+
+def hidden_words(world, id):
+    """What is said in place of a label and a value that are hidden."""
+    return ["label hidden"] * hides_label(world, id) + ["value hidden"] * hides_value(world, id)
+
+
+def caption(world, id):
+    """The label, or else the value."""
+    label = shown_label(world, id)
+    return shown_value(world, id) if label is None else label
+
+
+def words_of_state(node):
+    """What is said of its state, each where it applies."""
+    return [
+        SWITCHED.get(node.toggled),
+        EXPANDED.get(node.expanded),
+        SELECTED.get(node.selected),
+        node.disabled and "disabled",
+        is_read_only(node) and "read-only",
+        node.required and "required",
+        node.busy and "busy",
+        node.modal and "modal",
+    ]
+
+
+def state_words(node):
+    return [word for word in words_of_state(node) if word]
+
+
+def focus_words(world, id):
+    """What is said of the focus, and of that of the tree where the host doesn't have it."""
+    if is_focused(world, id):
+        return ["focus"]
+    return ["focus in the tree"] if not world.is_host_focused and id == effective_focus(world) else []
+
+
+def is_left_out(world, id):
+    """Whether the common filter excludes it, or a node above it, with its subtree."""
+    return any(common_filter(world, up) == CUT_OFF for up in upward(world, id))
+
+
+def row(world, id, number, marks):
+    """What the outline says of a node."""
+    is_hidden = any(world.nodes[up].hidden for up in upward(world, id))
+    left_out = ["hidden" if is_hidden else "clipped"] * is_left_out(world, id)
+    return {
+        "anchor": f"s{number}-{id[0]}-{id[1]}",
+        "depth": len(ancestors(world, id)),
+        "role": role_shown(world.nodes[id].role),
+        "label": shown_label(world, id),
+        "value": shown_value(world, id),
+        "words": hidden_words(world, id) + state_words(world.nodes[id]),
+        "marks": [marks[id] for id in {id} & set(marks)] + focus_words(world, id) + left_out,
+        "id": id_text(id),
+    }
+
+
+def drawn(world, id, number, marks):
+    """The box of a node, and what stands in it."""
+    box, is_out = bounding_box(world, id), is_left_out(world, id)
+    text = None if is_out else caption(world, id)
+    look = "x" if is_out else "" if common_filter(world, id) == INCLUDED else "t", marks.get(id, "")[:1]
+    classes = " ".join(filter(None, look)) or "n"
+    return f"#s{number}-{id[0]}-{id[1]}", classes, box[:2] + (max(box[2] - box[0], 1), max(box[3] - box[1], 1)), text
+
+
+# ---- what has become of a state
+
+
+def named(world, id):
+    """What names a node: its role, its label or else its value, its id, and whether its label is hidden."""
+    return [role_shown(world.nodes[id].role), caption(world, id), id_text(id), hides_label(world, id)] if id else ["none"]
+
+
+def box_text(box):
+    """A box by its left, top, right and bottom."""
+    return ",".join(map(str, box)) if box else "none"
+
+
+def event_told(old, new, event):
+    """What is told of an event."""
+    kind, id, *_ = event
+    if kind == "focus":
+        return [kind, named(old, id), named(new, event[2])]
+    told = [kind, named(old if kind == "removed" else new, id)]
+    if kind == "updated":
+        for what, shown in (("label", shown_label), ("value", shown_value)):
+            texts = shown(old, id), shown(new, id)
+            told += [[what, *texts]] if texts[0] != texts[1] else []
+        states = zip(words_of_state(old.nodes[id]), words_of_state(new.nodes[id]))
+        told += [["state", was or None, now or None] for was, now in states if (was or None) != (now or None)]
+        boxes = box_text(bounding_box(old, id)), box_text(bounding_box(new, id))
+        told += [f"; box {boxes[0]} → {boxes[1]}"] if boxes[0] != boxes[1] else []
+    return told
+
+
+def tree_shown(world, number, marks):
+    """The outline, the boxes and the ring of a world."""
+    ids = preorder(world, root_named(world, ROOT))
+    boxes = [drawn(world, id, number, marks) for id in ids if bounding_box(world, id)]
+    ring = bounding_box(world, focus(world)) if focus(world) else None
+    return [row(world, id, number, marks) for id in ids], boxes, ring
+
+
+class Pages(Play):
+    """A script as far as it has run, with what a page shows of it."""
+
+    def __init__(self, without=None):
+        super().__init__()
+        self.states, self.updates, self.without = [], 0, without
+
+    def show(self, cause, old, told, refused=None):
+        """The next state."""
+        state = {"cause": cause, "refused": refused, "events": [event_told(old, self.world, event) for event in told]}
+        if refused is None and (told or not old.known):
+            marks = {event[1]: event[0] for event in told if event[0] in ("added", "updated")}
+            state["tree"] = tree_shown(self.world, len(self.states) + 1, marks)
+        self.states.append(state)
+
+    def send(self):
+        self.updates += 1
+        cause = f"Update {self.updates}"
+        if self.open and len(self.states) == self.without:
+            self.open = None
+            return self.show(cause, self.world, [], {"out of memory"}) or []
+        old, update, standing = self.world, self.open, faults(self.world, self.open) if self.open else set()
+        printed = super().send()
+        told = told_of_update(old, update, self.world) if not standing else []
+        reasons = {REFUSALS[fault.name].format(fault.subject) for fault in standing}
+        self.show(cause, old, told, reasons or None)
+        return printed
+
+    def set_host(self, is_focused):
+        old = self.world
+        printed = super().set_host(is_focused)
+        if old.known and old.is_host_focused != is_focused:
+            what = "gets" if is_focused else "loses"
+            self.show(f"The host window {what} the focus", old, differences(old, self.world))
+        return printed
+
+
+def as_read(shown):
+    """What can be read of what is shown: no page can show U+0000, in whose place stands U+FFFD."""
+    if isinstance(shown, str):
+        return shown.replace("\0", "\ufffd")
+    if isinstance(shown, dict):
+        return {key: as_read(value) for key, value in shown.items()}
+    return type(shown)(map(as_read, shown)) if isinstance(shown, (list, tuple, set)) else shown
+
+
+def states_of(script, without=None):
+    """What a page shows of a script, which is bytes, and the number of its bad line, if it has one. The update that would make
+    the state `without`, counted from 0, finds no memory."""
+    pages = Pages(without)
+    try:
+        for line in script.split(b"\n"):
+            pages.line(line)
+    except BadLine:
+        pass
+    return as_read(pages.states), told_by(script)[1]
+
+
+# ---- pages as they are read
+
+
+class Reader(HTMLParser):
+    """The elements of a page, each with its name, attributes, elements and texts in it."""
+
+    VOID = {"meta", "rect"}
+
+    def __init__(self):
+        super().__init__()
+        self.top = ("", {}, [])
+        self.open = [self.top]
+
+    def handle_starttag(self, name, attributes):
+        element = (name, dict(attributes), [])
+        self.open[-1][2].append(element)
+        if name not in self.VOID:
+            self.open.append(element)
+
+    def handle_startendtag(self, name, attributes):
+        self.open[-1][2].append((name, dict(attributes), []))
+
+    def handle_endtag(self, name):
+        assert self.open[-1][0] == name, f"</{name}> ends <{self.open[-1][0]}>"
+        self.open.pop()
+
+    def handle_data(self, text):
+        self.open[-1][2].append(text)
+
+
+def top_of(page):
+    """A page, which is bytes, as a parser of HTML reads it: it drops U+0000, and makes a line feed of a carriage return."""
+    reader = Reader()
+    reader.feed(page.decode().replace("\0", "").replace("\r\n", "\n").replace("\r", "\n"))
+    reader.close()
+    assert len(reader.open) == 1, f"<{reader.open[-1][0]}> has no end"
+    return reader.top
+
+
+def elements(top, name):
+    """The elements in this one that have this name, at any depth."""
+    for part in top[2]:
+        if not isinstance(part, str):
+            if part[0] == name:
+                yield part
+            yield from elements(part, name)
+
+
+def text_in(top):
+    """All text in an element."""
+    return "".join(part if isinstance(part, str) else text_in(part) for part in top[2])
+
+
+def first(found):
+    return next(iter(found), None)
+
+
+def of_class(top, name, classes):
+    """The text of the first such element, if there is one."""
+    return first(text_in(part) for part in elements(top, name) if part[1].get("class") == classes)
+
+
+def row_read(item):
+    """What a row of an outline says."""
+    return {
+        "anchor": item[1]["id"],
+        "depth": int(re.search(r"--d:(\d+)", item[1]["style"]).group(1)),
+        "role": text_in(first(elements(item, "b"))),
+        "label": of_class(item, "q", "l"),
+        "value": of_class(item, "q", "v"),
+        "words": [text_in(part) for part in elements(item, "i")],
+        "marks": [text_in(part) for part in elements(item, "em")],
+        "id": text_in(first(elements(item, "small"))),
+    }
+
+
+def rect_read(rect):
+    return tuple(int(rect[1][name]) for name in ("x", "y", "width", "height"))
+
+
+def box_read(link):
+    """A box of a picture."""
+    rect, text = first(elements(link, "rect")), first(elements(link, "text"))
+    return link[1]["href"], rect[1]["class"], rect_read(rect), text and text_in(text)
+
+
+def parts_of_event(item):
+    """What an item of the list of events says, in the order of its elements."""
+    kind, *rest = [part for part in item[2] if part != " "]
+    told, names, texts = [text_in(kind)], [], []
+    for part in rest:
+        if isinstance(part, str):
+            match = re.match(r"; (label|value|state) $", part)
+            if match:
+                texts.append([match.group(1)])
+            elif part.startswith("; box "):
+                texts.append(part)
+            elif texts and isinstance(texts[-1], str):
+                texts[-1] += part
+            continue
+        name, text = part[0], text_in(part)
+        if texts and isinstance(texts[-1], str):
+            texts[-1] += text
+        elif texts and isinstance(texts[-1], list) and len(texts[-1]) < 3 and name in ("q", "i"):
+            texts[-1].append(text if name == "q" else None)
+        elif name == "b":
+            names.append([text, None, None, False])
+        elif name == "q":
+            names[-1][1] = text
+        elif name == "i" and part[1].get("class") == "w":
+            names[-1][3] = text == "label hidden"
+        elif name == "i":
+            names.append(["none"])
+        else:
+            names[-1][2] = text
+    return told + names + texts
+
+
+def state_read(section):
+    """What a state's section says."""
+    refused = of_class(section, "p", "refused")
+    details = first(elements(section, "details"))
+    state = {
+        "cause": of_class(section, "p", "cause"),
+        "refused": refused and {refused[len("Refused: ") : -len(". Nothing has changed.")]},
+        "events": [parts_of_event(item) for item in elements(details, "li")] if details else [],
+    }
+    outline = first(elements(section, "ul"))
+    if outline:
+        links = [link for link in elements(section, "a") if link[1].get("tabindex")]
+        ring = first(rect for rect in elements(section, "rect") if rect[1]["class"] == "ring")
+        boxes = [box_read(link) for link in links]
+        state["tree"] = [row_read(item) for item in elements(outline, "li")], boxes, ring and rect_read(ring)
+    return state
+
+
+def is_around(ring, box):
+    """Whether a ring has a box in it, with the same room on each side."""
+    room = box[0] - ring[0]
+    return room >= 0 and ring == (box[0] - room, box[1] - room, max(box[2] - box[0], 0) + 2 * room, box[3] - box[1] + 2 * room)
+
+
+def difference_of_states(told, read):
+    """In what two states differ."""
+    if (told["cause"], told["events"]) != (read["cause"], read["events"]):
+        pairs = [pair for pair in zip(told["events"], read["events"]) if pair[0] != pair[1]]
+        return f"events {pairs[:1]} {len(told['events'])} {len(read['events'])}"
+    if bool(told["refused"]) != bool(read["refused"]) or read["refused"] and not read["refused"] <= told["refused"]:
+        return f"refused {read['refused']} and not {told['refused']}"
+    if ("tree" in told) != ("tree" in read):
+        return "one has a tree"
+    for mine, other in zip(told.get("tree", ())[:2], read.get("tree", ())[:2]):
+        if mine != other:
+            return str([pair for pair in zip(mine, other) if pair[0] != pair[1]][:1] or (len(mine), len(other)))
+    rings = told.get("tree", (0, 0, None))[2], read.get("tree", (0, 0, None))[2]
+    if (rings[0] is None) != (rings[1] is None) or rings[0] is not None and not is_around(rings[1], rings[0]):
+        return f"the ring is {rings[1]} around {rings[0]}"
+    return None
+
+
+def difference_of_page(script, page, without=None):
+    """In what a page differs from what the model says of the script; `None` where it doesn't."""
+    try:
+        top = top_of(page)
+    except AssertionError as fault:
+        return str(fault)
+    told, bad = states_of(script, without)
+    read = [state_read(section) for section in elements(top, "section")]
+    for number, (one, other) in enumerate(zip(told, read), 1):
+        differs = difference_of_states(one, other)
+        if differs:
+            return f"state {number}: {differs}"
+    if len(told) != len(read):
+        return f"{len(read)} states and not {len(told)}"
+    notes = notes_at_end(top)
+    wanted = rf"(The script stops at line {bad}, column [1-9][0-9]*: (?!bad line)[^\n]+\n)" if bad else ""
+    if not re.fullmatch(wanted, "".join(notes)):
+        return f"it ends with {notes}"
+    return difference_of_links(top, len(read))
+
+
+def notes_at_end(top):
+    """What a page says after its states."""
+    return [text_in(part) for part in first(elements(top, "main"))[2] if part[0] == "p"]
+
+
+def tells_fault(page, errors):
+    """Whether a page says of a bad line what is reported on standard error."""
+    return notes_at_end(top_of(page)) == [f"The script stops at {errors.decode()}"]
+
+
+def is_ended(page, told):
+    """Whether a page is a beginning of another one, and then says at once why it ends."""
+    before, note, _ = page.rpartition(b'<p class="refused">Line ')
+    return bool(note) and told.startswith(before.removesuffix(b"</section>\n")) and page.endswith(b"</html>\n")
+
+
+def has_refused(script, page):
+    """Whether a page is that of the script with one of its updates refused for want of memory."""
+    count = len(states_of(script)[0])
+    return any(difference_of_page(script, page, without) is None for without in range(count))
+
+
+def difference_of_links(top, count):
+    """Each link leads to an element, each state to the one before and after it, and nothing but the style's sheet, no script
+    and no picture from elsewhere is in the page."""
+    ids = [part[1]["id"] for part in everything(top) if "id" in part[1]]
+    if len(ids) != len(set(ids)):
+        return "an id stands twice"
+    links = [part[1]["href"] for part in everything(top) if "href" in part[1]]
+    astray = [link for link in links if link[0] != "#" or link[1:] not in ids]
+    if astray:
+        return f"{astray[0]} leads nowhere"
+    nexts = [link[1]["href"] for link in elements(top, "a") if link[1].get("rel") == "next"]
+    if nexts != [f"#state-{number}" for number in range(2, count + 1)]:
+        return "the states are not linked"
+    foreign = [part for part in everything(top) if part[0] in ("script", "img", "link") or any(name[:2] == "on" for name in part[1])]
+    return f"<{foreign[0][0]}> is in the page" if foreign else None
+
+
+def everything(top):
+    """All elements in this one."""
+    for part in top[2]:
+        if not isinstance(part, str):
+            yield part
+            yield from everything(part)
+
+
+if __name__ == "__main__":
+    import sys
+
+    with open(sys.argv[1], "rb") as script, open(sys.argv[2], "rb") as page:
+        differs = difference_of_page(script.read(), page.read())
+    sys.exit(differs)

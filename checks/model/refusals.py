@@ -1,0 +1,51 @@
+"""The model's words for a refused update, which `find` and `read` report on standard error (docs/SCRIPT.md#the-programs)."""
+
+from model.scripts import Play
+
+WORDS = {
+    "MissingTreeInfo": "the first update has no tree info",
+    "NotRootTree": "the first update is not for the root tree",
+    "MissingData": "no data for node {0}",
+    "NotReached": "node {0} is named and not reached from the root",
+    "NamedTwice": "node {0} is named twice",
+    "ListedTwice": "node {0} is listed at two places, or is the root and listed",
+    "RootTreeGrafted": "node {0} grafts the root tree",
+    "GraftWithChildren": "node {0} is a graft and lists children",
+    "GraftedTwice": "tree {0} is grafted twice",
+    "NoGraft": "no node grafts tree {0}",
+    "NoFirstTreeInfo": "tree {0} is not present, and the update has no tree info",
+    "FocusMissing": "the focus {0} is not reached",
+    "FocusOnEmptyGraft": "the focus is on a graft of tree {0}, which is not present",
+}
+
+
+def words_of(line):
+    """The words for each of the rules that a line of `atree` names: `refused NotReached 5 or NotReached 6`."""
+    for named in line[len("refused ") :].split(" or "):
+        name, _, subject = named.partition(" ")
+        yield WORDS[name].format(subject)
+
+
+def reports(script):
+    """What is reported of the refused updates of a script without a bad line, each by its number among the updates. Where an update
+    breaks several rules, the line has the words for each of them: `update 3: WORDS | WORDS`."""
+    play, updates, lines = Play(), 0, []
+    for line in script.split(b"\n"):
+        was_open = play.open
+        told = play.line(line)
+        if was_open and not play.open:
+            updates += 1
+            lines += [f"update {updates}: {' | '.join(words_of(one))}" for one in told if one.startswith("refused ")]
+    return "".join(line + "\n" for line in lines).encode()
+
+
+def is_reported(told, errors):
+    """Whether what is told on standard error was written. Of a refused update one of several words may be."""
+    lines, others = told.decode().split("\n"), errors.decode(errors="replace").split("\n")
+    return len(lines) == len(others) and all(map(is_one_of, lines, others))
+
+
+def is_one_of(line, other):
+    """Whether a line is this one, or one of those for which it stands."""
+    head, mark, words = line.partition(": ")
+    return other in [head + mark + one for one in words.split(" | ")]

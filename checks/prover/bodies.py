@@ -1,0 +1,191 @@
+"""Wrong bodies of functions: how they are read and made, which are tried together, and what the prover said of each."""
+
+import os
+import re
+from collections import namedtuple
+
+from prover import functions as sources
+
+# A wrong body: its name, the paths of the functions that have to refuse it, the clause that is meant to, whether it is tried on demand
+# alone, what it has to come to (`refused`), its pairs of texts as (file, old, new), and why it can't be read, or None.
+Body = namedtuple("Body", "name functions clause demand wanted pairs fault")
+
+# Where a wrong body stands in its crate: the lines that it changes as (file, line), the functions in whose bodies these are, whether
+# it changes anything outside of bodies and comments, as a constant or a type, and why it can't be made, or None.
+Place = namedtuple("Place", "lines inside is_outside fault")
+
+# What a try of a wrong body came to, and what is told of it. A body has passed where it is refused.
+REFUSED, PROVED, UNREAD, CALLS, NAMES, UNSURE = "refused", "proved", "unread", "calls", "names", "unsure"
+NO_PLACE, NO_FUNCTION = "no place", "no function"
+# What is known of a wrong body whatever is tried with it. Where one doesn't compile, nothing is known of the others.
+SETTLED = (REFUSED, PROVED, UNREAD, NAMES, NO_FUNCTION)
+TELL = {
+    REFUSED: "refused",
+    PROVED: "FAILED: NOT REFUSED: the function is still proved",
+    UNREAD: "FAILED: it doesn't compile, or the prover can't read it",
+    CALLS: "FAILED: only a function that it calls isn't proved",
+    NAMES: "FAILED: a proof file names what the edit took away, so that nothing is shown of the contract: change a value and keep the names",
+    NO_PLACE: "FAILED: it can't be made",
+    NO_FUNCTION: "FAILED: the prover knows no such function",
+    UNSURE: "FAILED: nothing is known of it",
+}
+
+# What the prover says of a place, and of a function. A proof file that names what an edit took away isn't read, what cites it isn't
+# admitted, and an answer to what is no longer asked isn't used: the goals that then are left show nothing.
+SAID = re.compile(r"^(?:note: )?(?:\./)?((?:src|specs|proofs)/\S+?):(\d+):(\d+): (.*)$")
+TAKEN_AWAY = re.compile(r"has no field|is not in scope|has no `|was not admitted")
+UNUSED = re.compile(r"^note: (?:\./)?(proofs/\S+): `[^`]*` is no name that rattle asks for")
+NOT_READ = re.compile(r"is not in scope|has no field|is no name|operand is missing|expected the end|cannot continue")
+OWN = re.compile(r"did not prove `")
+UNKNOWN = re.compile(r"^rattle: error: `\w+` has no function `([^`]*)`", re.M)
+
+
+def read(path, is_own=False):
+    """Reads a wrong body from its file. One that tries the runner itself may come to something else than a refusal, and says what."""
+    name = os.path.basename(path)[: -len(".edit")]
+    said, pairs, file, old = {"function": [], "clause": [], "on": []}, [], None, None
+    if is_own:
+        said["comes to"] = []
+    with open(path, encoding="utf-8") as lines:
+        for number, line in enumerate(lines.read().split("\n"), 1):
+            key, colon, text = line.partition(":")
+            text = text[1:] if text.startswith(" ") else text
+            if not line.strip() or line.startswith("#"):
+                continue
+            if colon and key in said:
+                said[key].append(text.strip())
+            elif colon and key == "file":
+                file = text.strip()
+            elif colon and key == "old" and old is None:
+                old = text
+            elif colon and key == "new" and file and old:
+                pairs.append((file, old, text))
+                old = None
+            else:
+                return Body(name, [], "", False, REFUSED, [], "line %d can't be read: %s" % (number, line[:80]))
+    fault = None
+    if not pairs or old is not None:
+        fault = "it has no pair of lines `old:` and `new:`, or one without the other"
+    elif said["on"] not in ([], ["demand"]):
+        fault = "a line `on:` says `demand`, and nothing else"
+    elif not all(file.startswith("src/") and os.path.normpath(file) == file for file, _, _ in pairs):
+        fault = "a line `file:` names no file below src/"
+    wanted = (said.get("comes to") or [REFUSED])[0]
+    return Body(name, said["function"], " ".join(said["clause"]), bool(said["on"]), wanted, pairs, fault)
+
+
+def made(body, texts):
+    """The texts of the files that the wrong body changes, in place of these, or why it can't be made."""
+    changed = {}
+    for file, old, new in body.pairs:
+        if file not in texts:
+            return None, "there is no file %s" % file
+        text = changed.get(file, texts[file])
+        if text.count(old) != 1:
+            return None, "the old text stands %d times in %s, and not once: %s" % (text.count(old), file, old.strip()[:80])
+        changed[file] = text.replace(old, new)
+    if all(changed[file] == texts[file] for file in changed):
+        return None, "it changes nothing"
+    return changed, None
+
+
+def place_of(body, texts, found):
+    """Where the wrong body stands in the crate of these sources and functions."""
+    if body.fault:
+        return Place(set(), [], False, body.fault)
+    changed, fault = made(body, texts)
+    lines, inside, is_outside = set(), [], False
+    for file, old, new in body.pairs:
+        start = texts.get(file, "").find(old)
+        if start >= 0:
+            at = start + len(os.path.commonprefix([old, new]))
+            function = sources.function_at(found, file, at)
+            lines.add((file, texts[file].count("\n", 0, at) + 1))
+            inside += [function] if function else []
+            is_outside |= not function and sources.blanked(texts[file])[start : start + len(old)].strip() != ""
+    if not fault and not body.functions:
+        held = sorted({it.path for it in inside})
+        fault = "it has no line `function:`" + (", and its old text stands in %s" % " and ".join(held) if held else "")
+    return Place(lines, inside, is_outside, fault)
+
+
+class Round:
+    """Wrong bodies that are tried in one check: no two of one function, of one cycle of calls or on one line. What changes
+    anything outside of bodies, as a constant or a type, is tried by itself."""
+
+    def __init__(self, texts):
+        self.texts, self.changed, self.bodies, self.taken, self.is_alone = texts, {}, [], set(), False
+
+    def add(self, body, place, is_alone=False):
+        """Takes the wrong body up, if it can be tried with those that are there."""
+        is_alone = is_alone or place.is_outside
+        if self.bodies and (is_alone or self.is_alone):
+            return False
+        taken = {*place.lines, *body.functions, *(it.path for it in place.inside), *("cycle " + it.cycle for it in place.inside if it.cycle)}
+        changed, fault = made(body, {**self.texts, **self.changed})
+        if fault or taken & self.taken:
+            return False
+        self.changed.update(changed)
+        self.bodies.append(body)
+        self.taken |= taken
+        self.is_alone = is_alone
+        return True
+
+
+def judged(crate, body, place, ran, found):
+    """What the check says of a wrong body that was made in it: a word, and a line that tells why."""
+    spans = [it for it in found if it.path in body.functions]
+    folders = ["proofs/%s/" % it.replace("::", "/") for it in body.functions]
+    touched = {*place.lines}
+
+    def is_own(file, line):
+        # (what changes a constant or a type is tried by itself, so that all that is said is said of it)
+        return place.is_outside or file.startswith(tuple(folders)) or any(it.file == file and it.first <= line <= it.last for it in spans) or (file, line) in touched
+
+    said = [(it.group(0), it.group(1), it.group(4)) for it in map(SAID.match, ran.said.splitlines()) if it and is_own(it.group(1), int(it.group(2)))]
+    refusal = next((line for line, file, text in said if not_compiled(text) or file.startswith("src/") and is_unread(text)), None)
+    if refusal:
+        return UNREAD, refusal
+    lost = [it for it in UNKNOWN.findall(ran.said) if it in body.functions]
+    if lost:
+        return NO_FUNCTION, lost[0]
+    states = states_of(crate, ran.said, body.functions)
+    if not states:
+        return UNSURE, first_lines(ran)
+    if all(text.startswith("proved") for _, text in states):
+        return PROVED, "%s: %s" % states[0]
+    name, state = next((it for it in states if not it[1].startswith("proved")), states[0])
+    if any("could not tell" in text for _, text in states):
+        return UNSURE, "%s: %s" % (name, state)
+    told = [(line, file) for line, file, text in said if text.startswith(("it is not proved", "error: "))]
+    taken = [line for line, file in told if file.startswith("proofs/") and TAKEN_AWAY.search(line)]
+    taken += [it.group(0) for it in map(UNUSED.match, ran.said.splitlines()) if it and it.group(1).startswith(tuple(folders))]
+    if taken:
+        return NAMES, "%s: %s" % (name, taken[0])
+    if told or any(OWN.search(text) for _, text in states):
+        return REFUSED, "%s: %s" % (name, told[0][0] if told else state)
+    return (CALLS if "it calls" in state else UNSURE), "%s: %s" % (name, state)
+
+
+def states_of(crate, said, functions):
+    """What the check says of these functions and the closures in them, as pairs of a name and a text."""
+    closures = [re.sub(r"(^|::)((?:[A-Z]\w*::)?\w+)$", r"\1fn::\2::", it) for it in functions]
+    states = re.findall(r"^fn %s::(\S+): (.*)$" % crate, said, re.M)
+    return [(name, text) for name, text in states if name in functions or name.startswith(tuple(closures))]
+
+
+def not_compiled(text):
+    """Whether this is an error of the compiler's, which comes before any proof."""
+    return re.match(r"error\[[\w-]+\]", text) is not None
+
+
+def is_unread(text):
+    """Whether the prover could not read an edited text, where an edit that makes a statement false reads well."""
+    it = re.match(r"error: (?:(`[^`]*`): )?(.*)", text)
+    return bool(it) and (not it.group(1) or bool(NOT_READ.search(re.sub(r"`[^`]*`", "", it.group(2)))))
+
+
+def first_lines(ran):
+    """The first lines of what a check said, in one."""
+    lines = [it for it in ran.said.splitlines() if it.strip()][:4]
+    return "the check ended with status %d: %s" % (ran.status, " | ".join(lines)[:500])
