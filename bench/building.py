@@ -1,4 +1,5 @@
-"""Builds the programs that are measured, with proof, using what the gate or a check has kept of the crates."""
+"""Builds the programs that are measured: those of the library with proof, using what the gate or a check has kept of the crates,
+and that of the memory work alone by the C compiler."""
 
 import os
 import shutil
@@ -44,6 +45,13 @@ def build_works(folder):
         return shutil.copy(proved(MADE, "works", "build", "1", "1"), folder)
     finally:
         shutil.rmtree(MADE)
+
+
+def build_bare(folder):
+    """The path of the program of the memory work alone, in the folder, for the processors that the proved programs are for."""
+    to = os.path.join(folder, "bare")
+    subprocess.run(["cc", "-O3", "-march=x86-64-v2", "-o", to, os.path.join(HERE, "bare.c")], check=True)
+    return to
 
 
 def build_atree():

@@ -1,5 +1,7 @@
-"""Measures a program: the instructions of a run by valgrind's callgrind, its seconds and its peak memory by the system."""
+"""Measures a program: the instructions of a run by valgrind's cachegrind, its seconds and its peak memory by the system."""
 
+import hashlib
+import json
 import os
 import re
 import subprocess
@@ -8,18 +10,35 @@ from collections import namedtuple
 from concurrent.futures import ThreadPoolExecutor
 
 # How many runs are counted side by side. What is counted doesn't depend on it.
-SIDE_BY_SIDE = 2
+SIDE_BY_SIDE = len(os.sched_getaffinity(0))
+
+# What was counted of programs, by the checksums of their files. A run is not counted again while its program is the same.
+COUNTED = os.path.join(os.path.dirname(os.path.abspath(__file__)), "out", "counted")
 
 # The seconds of a program are the least of so many runs.
 RUNS = 5
 
-CALLGRIND = ["valgrind", "--tool=callgrind", "--callgrind-out-file=/dev/null"]
+CACHEGRIND = ["valgrind", "--tool=cachegrind", "--cache-sim=no", "--cachegrind-out-file=/dev/null"]
 
-# What a run under callgrind gave: its instructions, and what it printed.
+# What a run under cachegrind gave: its instructions, and what it printed.
 Counted = namedtuple("Counted", "instructions printed")
 
 # What a run took: its seconds of a processor, the most memory that it had at a time in bytes, and what it printed.
 Spent = namedtuple("Spent", "seconds peak printed")
+
+
+def checksum(path):
+    """The checksum of a file."""
+    with open(path, "rb") as file:
+        return hashlib.sha256(file.read()).hexdigest()
+
+
+def kept_counts(path):
+    """What was counted of a program, by the words of its runs."""
+    if not os.path.exists(path):
+        return {}
+    with open(path, encoding="utf-8") as file:
+        return {words: Counted(*counted) for words, *counted in map(json.loads, file)}
 
 
 class Program:
@@ -29,15 +48,23 @@ class Program:
         self.path = os.path.abspath(path)
         if not os.access(self.path, os.X_OK):
             raise SystemExit(f"there is no program at {self.path}")
-        self.counted = {}
+        self.kept = os.path.join(COUNTED, checksum(self.path))
+        self.counted = kept_counts(self.kept)
 
     def count(self, words):
         """What a run with these words gives, which is counted once."""
         if words not in self.counted:
-            ran = subprocess.run([*CALLGRIND, self.path, *words.split()], capture_output=True, text=True, check=True)
-            collected = re.search(r"Collected : (\d+)", ran.stderr)
-            self.counted[words] = Counted(int(collected.group(1)), ran.stdout.strip())
+            ran = subprocess.run([*CACHEGRIND, self.path, *words.split()], capture_output=True, text=True, check=True)
+            counted = re.search(r"I +refs: +([\d,]+)", ran.stderr).group(1)
+            self.counted[words] = Counted(int(counted.replace(",", "")), ran.stdout.strip())
+            self.keep(words)
         return self.counted[words]
+
+    def keep(self, words):
+        """Keeps what was counted of a run for later measurements."""
+        os.makedirs(COUNTED, exist_ok=True)
+        with open(self.kept, "a", encoding="utf-8") as file:
+            file.write(json.dumps([words, *self.counted[words]]) + "\n")
 
     def spend(self, words, script=""):
         """What a run with these words takes, with this script as its input."""

@@ -9,6 +9,11 @@ def three_digits(number):
     return f"{number:,.0f}" if number >= 100 else f"{number:.1f}" if number >= 10 else f"{number:.2f}"
 
 
+def sized(size):
+    """A size, with commas where it is long."""
+    return f"{size:,}" if size >= 10_000 else str(size)
+
+
 def told(figure, measure):
     """A figure with its unit."""
     if figure is None:

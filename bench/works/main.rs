@@ -3,12 +3,17 @@
 //!
 //!     works WORK NODES COUNT
 //!     works WORK RUNS CHARACTERS COUNT [SHAPE]
+//!     works IDS WORK NODES COUNT
 //!
 //! The works on updates stand in `updates`, those on walks in `walks`, an adapter's turn in `adapter`, and those on texts,
-//! which take the second form, in `texts`. It prints a sum of what it met.
+//! which take the second form, in `texts`. The third form is that of `loads`, which say what ids their nodes have: one of
+//! `counted`, `spread`, `alike-above`, `alike-below` and `reversed`. It prints a sum of what it met.
 #![tactic(auto)]
 
 mod adapter;
+mod ids;
+mod interfaces;
+mod loads;
 mod texts;
 mod updates;
 mod walks;
@@ -16,7 +21,8 @@ mod walks;
 use anyhow::Context;
 use std::env;
 
-const USAGE: &str = "works WORK NODES COUNT, or works WORK RUNS CHARACTERS COUNT [SHAPE]";
+const USAGE: &str =
+    "works WORK NODES COUNT, works WORK RUNS CHARACTERS COUNT [SHAPE], or works IDS WORK NODES COUNT";
 
 /// The number that a word of the command line says.
 fn number(word: Option<String>) -> anyhow::Result<u64> {
@@ -29,6 +35,14 @@ fn main(rt: HostRuntime) -> anyhow::Result<()> {
     let mut words = env::args(&rt)?;
     drop(words.next());
     let work = words.next().context(USAGE)?;
+    if let Some(ids) = ids::ids_of(work.as_str()) {
+        let load = words.next().context(USAGE)?;
+        let nodes = number(words.next())?;
+        let count = number(words.next())?;
+        let sum = loads::sum(alloc, load.as_str(), ids, nodes, count)?;
+        println!(rt; "{sum}")?;
+        return Ok(());
+    }
     let nodes = number(words.next())?;
     let second = number(words.next())?;
     let sum = match work.as_str() {

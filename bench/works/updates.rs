@@ -22,8 +22,8 @@ const BELOW_MOVED: u64 = 999;
 
 /// Counts what it is told.
 #[derive(Clone, Copy)]
-struct Events {
-    count: u64,
+pub struct Events {
+    pub count: u64,
 }
 
 impl Events {

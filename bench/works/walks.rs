@@ -95,7 +95,7 @@ fn tree(alloc: Global, shape: Shape, nodes: u64, is_clipping: bool) -> anyhow::R
 }
 
 /// How many nodes the common filter shows below the root.
-fn shown(alloc: Global, tree: &Tree, nodes: u64) -> Result<u64, AllocError> {
+pub fn shown(alloc: Global, tree: &Tree, nodes: u64) -> Result<u64, AllocError> {
     let mut left = Vec::new(alloc);
     left.push(tree.state().view().root())?;
     let mut count: u64 = 0;
@@ -112,7 +112,7 @@ fn shown(alloc: Global, tree: &Tree, nodes: u64) -> Result<u64, AllocError> {
 }
 
 /// How many nodes there are, in pre-order.
-fn preorder(alloc: Global, tree: &Tree, nodes: u64) -> Result<u64, AllocError> {
+pub fn preorder(alloc: Global, tree: &Tree, nodes: u64) -> Result<u64, AllocError> {
     let mut left = Vec::new(alloc);
     left.push(tree.state().view().root())?;
     let mut count: u64 = 0;
