@@ -1,16 +1,20 @@
 -- A script that is played, by what is seen of its player.
-use Rattle.std.proofs.Common.{◌≡◌, ◌⊎◌, ℕ, inl, inr, Bool, List, [], ◌∷◌, ◌++◌, Option, Some, None, sym, ap, ◌∙◌}
+use Rattle.std.proofs.Common.{◌≡◌, ◌⊎◌, ℕ, inl, inr, Bool, List, [], ◌∷◌, ◌++◌, Option, Some, None, sym, ap, ◌∙◌, subst}
 use Rattle.std.specs.Prelude.{MatchOption, Result, Ok, Err}
 use Rattle.std.specs.List.{FoldsTo}
 use Rattle.model.specs.World.{World}
 use Rattle.schema.specs.declared.update.TreeUpdate.{TreeUpdate}
 use Rattle.script_lines.specs.ScriptReading.{Place}
+use Rattle.script_lines.specs.Taking.{number_of}
 use Rattle.script_lines.specs.declared.reader.ScriptCommand.{ScriptCommand}
 use Rattle.script_lines.specs.declared.reader.ScriptCommand.TheVariants as script
 use Rattle.script_words.specs.declared.stops.Stop.{Stop}
 use Rattle.session.specs.declared.commands.Command.{Command}
 use Rattle.session.specs.declared.commands.Command.TheVariants as command
-use Rattle.atree_script.specs.Playing.{Turn, Begun, FirstRefused, Ran, Asked, Printed, Stage, SendsFirst, RunsOn, CarriesOut, GoesOn, StopsAtLast, Plays}
+use Rattle.atree_script.specs.Input.{start_of}
+use Rattle.atree_script.specs.Played.{PlaysOut}
+use Rattle.atree_script.specs.Playing.{Turn, Begun, FirstRefused, Ran, Asked, Printed, Stage, no_tree, SendsFirst, RunsOn, CarriesOut, GoesOn, StopsAtLast, Plays}
+use Rattle.atree_script.specs.declared.playing.Played.{Played}
 
 by_tree : {A B : Type 0} {C D : World → Type 0} (o : Option World) → (A → B) → ((w : World) → C w → D w) → MatchOption o A C → MatchOption o B D
 by_tree None without with_one h = without h
@@ -85,3 +89,8 @@ module _ {P N : Type 0} (turns : P → Turn → Result Unit Stop → P → Type 
   pub plays_keep : (input : Option Place) (a b : Stage × P) (cs : List ScriptCommand) (ended : Result Unit Stop) (number : ℕ) → Plays turns input a cs ended number b → name b.1 ≡ name a.1
   plays_keep input a b cs ended number (inl h) = all_keep a b cs h.0
   plays_keep input a b cs ended number (inr (h, reads)) = carried_keeps h.between.0 h.between.1 h.last ended b.0 b.1 h.carried ∙ all_keep a h.between h.earlier h.before
+
+-- a script that is played is so up to the number of its reader's last line
+pub plays_to_last : {P : Type 0} (turns : P → Turn → Result Unit Stop → P → Type 0) (input : Option (List ℕ)) (s : P) (played : Played) (t : P) (h : PlaysOut turns input s played t) → Plays turns (start_of input) (no_tree, s) h.commands played.ended (number_of played.script) (record { world = played.session; host = h.host }, t)
+plays_to_last turns input s played t h =
+    subst (λ (n : ℕ). Plays turns (start_of input) (no_tree, s) h.commands played.ended n (record { world = played.session; host = h.host }, t)) (sym h.numbered) h.plays

@@ -7,12 +7,12 @@ use Rattle.model.specs.Events.{Event, Told}
 use Rattle.atree_script.specs.Printed.{event_line}
 
 -- of one with no fault
-without : {F A : Type 0} (fault : Option F) → A → IfNone fault ((fault ≡ None) × A)
+pub without : {F A : Type 0} (fault : Option F) → A → IfNone fault ((fault ≡ None) × A)
 without None held = (refl, held)
 without (Some fault) held = tt
 
 -- where there is no fault there was none before
-before_it : {F A B C : Type 0} (first second third : Option F) → (A → B → C) → IfNone second ((first ≡ None) × A) → IfNone third ((second ≡ None) × B) → IfNone third ((first ≡ None) × C)
+pub before_it : {F A B C : Type 0} (first second third : Option F) → (A → B → C) → IfNone second ((first ≡ None) × A) → IfNone third ((second ≡ None) × B) → IfNone third ((first ≡ None) × C)
 before_it first second (Some fault) both a b = tt
 before_it {A = A} first second None both a b =
     let earlier : (first ≡ None) × A = subst (λ o. IfNone o ((first ≡ None) × A)) b.0 a in

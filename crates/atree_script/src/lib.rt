@@ -8,6 +8,7 @@ mod printer;
 mod refusals;
 mod replies;
 mod run;
+mod sides;
 
 pub use ending::{Teller, tell_as_asked};
 pub use playing::{Played, Player, play, run_told, stopped_by};
@@ -19,3 +20,4 @@ pub use script_lines::{
     end_run, end_script_run, is_like_a_file, miscounted, number, role_named, run_program,
     run_without_arguments, tell_no_memory, tree_named, unknown_word, write_quoted,
 };
+pub use sides::write_sides;

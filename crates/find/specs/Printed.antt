@@ -1,6 +1,5 @@
 -- What is printed of the nodes that are found.
-use Rattle.std.specs.Prelude.{ℕ, ℤ, List, [], ◌∷◌, ◌++◌, codes, flat_map, reverse, Option, Some, None, if◌then◌else◌}
-use Rattle.std.specs.Fmt.{signed_decimal}
+use Rattle.std.specs.Prelude.{ℕ, List, [], ◌∷◌, ◌++◌, codes, flat_map, reverse, Option, Some, None, if◌then◌else◌}
 use Rattle.std.specs.Option.{option_map_or}
 use Rattle.schema.specs.declared.geometry.WideRect.{WideRect}
 use Rattle.role_names.specs.Names.{shown_name}
@@ -9,6 +8,7 @@ use Rattle.model.specs.World.{World, data_of}
 use Rattle.model.specs.Forest.{is_same}
 use Rattle.model.specs.Geometry.{bounding_box}
 use Rattle.model.specs.Upward.{upward, is_within}
+use Rattle.script_words.specs.Parts.{corners_text}
 use Rattle.script_words.specs.Quoted.{quoted_byte}
 use Rattle.atree_script.specs.Printed.{id_text}
 use Rattle.atree_script.specs.Replies.{text_line}
@@ -45,12 +45,9 @@ names_text w (first ∷ others) = name_text w first ++ flat_map (λ id. codes " 
 abbrev pub path_line : World → FullNodeId → List ℕ
 path_line w id = codes "  path" ++ names_text w (reverse (upward w id)) ++ codes "\n"
 
-abbrev pub pair_text : ℤ → ℤ → List ℕ
-pair_text x y = signed_decimal x ++ codes "," ++ signed_decimal y
-
 -- the sides of the box
 abbrev pub sides_line : WideRect → List ℕ
-sides_line r = codes "  bounds " ++ pair_text r.x0 r.y0 ++ codes "," ++ pair_text r.x1 r.y1 ++ codes "\n"
+sides_line r = codes "  bounds " ++ corners_text r.x0 r.y0 r.x1 r.y1 ++ codes "\n"
 
 abbrev pub place_text : World → FullNodeId → FullNodeId → List ℕ
 place_text w id hit = if is_within w id hit then codes "within" else codes "covered by"

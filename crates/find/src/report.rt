@@ -6,12 +6,12 @@ ghost use Rattle.std.specs.Prelude.{◌≡◌, OnOk};
 ghost use Rattle.std.specs.Io.KnownBytes.{Appends};
 ghost use Rattle.model.specs.Geometry.{bounding_box};
 ghost use Rattle.views.specs.Nodes.{world_at, id_at};
-ghost use Rattle.find.specs.Printed.{value_line, place_text, hit_text, middle_line, pair_text, sides_line, box_text, node_text};
+ghost use Rattle.find.specs.Printed.{value_line, place_text, hit_text, middle_line, sides_line, box_text, node_text};
 
 use self::middle::at_middle;
 use self::names::{write_name, write_path};
 use accesskit_consumer::node::NodeRef;
-use atree_script::{ShownId, Stop, write_text};
+use atree_script::{ShownId, Stop, write_sides, write_text};
 use hidden_texts::{hides_value, is_in_password, shown_value};
 use schema::WideRect;
 use std::alloc::Global;
@@ -60,33 +60,17 @@ fn write_box<O: Write>(alloc: Global, top: NodeRef, node: NodeRef, out: &mut O) 
         out.write_all(b"  bounds none\n")?;
         return Ok(());
     };
-    write_sides(bounds, out)?;
+    write_bounds(bounds, out)?;
     write_middle(alloc, top, node, bounds, out)
 }
 
 /// Writes the line of the bounds' sides.
-fn write_sides<O: Write>(bounds: WideRect, out: &mut O) -> io::Result<()>
+fn write_bounds<O: Write>(bounds: WideRect, out: &mut O) -> io::Result<()>
     ensures { OnOk result (Appends (O.contents out.old) (O.contents out.new) (sides_line bounds)) }
 {
     out.write_all(b"  bounds ")?;
-    write_start(bounds, out)?;
-    out.write_all(b",")?;
-    write_end(bounds, out)?;
+    write_sides(bounds, out)?;
     out.write_all(b"\n")
-}
-
-/// Writes the left and the top.
-fn write_start<O: Write>(bounds: WideRect, out: &mut O) -> io::Result<()>
-    ensures { OnOk result (Appends (O.contents out.old) (O.contents out.new) (pair_text bounds.x0 bounds.y0)) }
-{
-    write!(out, "{},{}", bounds.x0, bounds.y0)
-}
-
-/// Writes the right and the bottom.
-fn write_end<O: Write>(bounds: WideRect, out: &mut O) -> io::Result<()>
-    ensures { OnOk result (Appends (O.contents out.old) (O.contents out.new) (pair_text bounds.x1 bounds.y1)) }
-{
-    write!(out, "{},{}", bounds.x1, bounds.y1)
 }
 
 /// Writes which node is at the centre of the node: the node itself, another one within it, one that covers it, or none.

@@ -2,19 +2,8 @@
 use Rattle.std.proofs.Common.{◌≡◌, ℕ, List, [], ◌∷◌, Option, Some, None, refl, sym, ap, ◌∙◌, subst}
 use Rattle.std.specs.Prelude.{IfNone}
 use Rattle.model.specs.Events.{Event, Told}
+use Rattle.atree_script.proofs.Printing.{without, before_it}
 use Rattle.page.specs.Reports.{Report, Reports}
-
--- of one with no fault
-without : {F A : Type 0} (fault : Option F) → A → IfNone fault ((fault ≡ None) × A)
-without None held = (refl, held)
-without (Some fault) held = tt
-
--- where there is no fault there was none before
-before_it : {F A B C : Type 0} (first second third : Option F) → (A → B → C) → IfNone second ((first ≡ None) × A) → IfNone third ((second ≡ None) × B) → IfNone third ((first ≡ None) × C)
-before_it first second (Some fault) both a b = tt
-before_it {A = A} first second None both a b =
-    let earlier : (first ≡ None) × A = subst (λ o. IfNone o ((first ≡ None) × A)) b.0 a in
-    (earlier.0, both earlier.1 b.1)
 
 -- a reporter's output by its name, the state that it tells of, what it has told, and its fault
 module _ {S N F : Type 0} (name : S → N) (state : S → ℕ) (has : S → Report) (fault : S → Option F) where

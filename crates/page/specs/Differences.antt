@@ -1,7 +1,7 @@
 -- How a page tells of two states of a node.
-use Rattle.std.specs.Prelude.{ℕ, ℤ, List, ◌++◌, Option, Some, None, codes}
-use Rattle.std.specs.Fmt.{signed_decimal}
+use Rattle.std.specs.Prelude.{ℕ, List, ◌++◌, Option, Some, None, codes}
 use Rattle.std.specs.List.{FoldsTo, zip}
+use Rattle.script_words.specs.Parts.{corners_text}
 use Rattle.schema.specs.declared.geometry.WideRect.{WideRect}
 use Rattle.model.specs.Geometry.{bounding_box}
 use Rattle.views.specs.declared.node.node_ref.NodeRef.{NodeRef}
@@ -16,15 +16,9 @@ abbrev pub value_of_state : NodeRef → Option (List ℕ)
 value_of_state n = node_value (world_at n) (id_at n)
 
 -- a box by its left, top, right and bottom, or that there is none
-abbrev pub pair_text : ℤ → ℤ → List ℕ
-pair_text x y = signed_decimal x ++ codes "," ++ signed_decimal y
-
-abbrev pub sides_text : WideRect → List ℕ
-sides_text rect = pair_text rect.x0 rect.y0 ++ codes "," ++ pair_text rect.x1 rect.y1
-
 abbrev pub box_or_none : Option WideRect → List ℕ
 box_or_none None = codes "<i>none</i>"
-box_or_none (Some rect) = sides_text rect
+box_or_none (Some rect) = corners_text rect.x0 rect.y0 rect.x1 rect.y1
 
 -- that a box was the one and is the other
 abbrev pub box_change : Option WideRect → Option WideRect → List ℕ

@@ -4,7 +4,7 @@ ghost use Rattle.std.specs.Io.KnownBytes.{Appends};
 ghost use Rattle.model.specs.Events.{Event, Told};
 ghost use Rattle.session.specs.Replied.{IsStep};
 ghost use Rattle.views.specs.Nodes.{seen_node, seen_through};
-ghost use Rattle.page.specs.Differences.{box_change, box_or_none, pair_text, sides_text, TellsBox, TellsDifferences, TellsStates, TellsWords};
+ghost use Rattle.page.specs.Differences.{box_change, box_or_none, TellsBox, TellsDifferences, TellsStates, TellsWords};
 ghost use Rattle.page.specs.Named.{name_text, linked_text};
 ghost use Rattle.page.specs.Reports.{item_begun, item_ended, list_begun, list_ended, new_focus, old_focus, report_of, Reports, ReportsAdded, ReportsFocus, ReportsRemoved, ReportsStep, ReportsUpdated, TellsUpdated};
 ghost use Rattle.page.specs.Said.{TellsChange, arrow, change_text, text_or_none};
@@ -16,6 +16,7 @@ use crate::secrets::hidden_of;
 use crate::sections::{Outcome, outcome_of};
 use crate::words::{shown_label, shown_value, state_words};
 use accesskit_consumer::{NodeRef, TreeChangeHandler};
+use atree_script::write_sides;
 use html::write_element;
 use schema::WideRect;
 use session::{Command, Reply, Session};
@@ -405,29 +406,6 @@ fn write_box_or_none<O: Write>(rect: Option<WideRect>, out: &mut O) -> io::Resul
         Some(rect) => write_sides(rect, out),
         None => out.write_all(b"<i>none</i>"),
     }
-}
-
-/// Writes a rectangle's left, top, right and bottom.
-fn write_sides<O: Write>(rect: WideRect, out: &mut O) -> io::Result<()>
-    ensures { OnOk result (Appends (O.contents out.old) (O.contents out.new) (sides_text rect)) }
-{
-    write_start(rect, out)?;
-    out.write_all(b",")?;
-    write_end(rect, out)
-}
-
-/// Writes a rectangle's left and top.
-fn write_start<O: Write>(rect: WideRect, out: &mut O) -> io::Result<()>
-    ensures { OnOk result (Appends (O.contents out.old) (O.contents out.new) (pair_text rect.x0 rect.y0)) }
-{
-    write!(out, "{},{}", rect.x0, rect.y0)
-}
-
-/// Writes a rectangle's right and bottom.
-fn write_end<O: Write>(rect: WideRect, out: &mut O) -> io::Result<()>
-    ensures { OnOk result (Appends (O.contents out.old) (O.contents out.new) (pair_text rect.x1 rect.y1)) }
-{
-    write!(out, "{},{}", rect.x1, rect.y1)
 }
 
 /// Whether two boxes are equal, or there is neither.

@@ -1,8 +1,8 @@
-use Rattle.std.proofs.Common.{ℕ, refl, sym, ap, subst}
+use Rattle.std.proofs.Common.{refl, sym, ap, subst}
 use Rattle.script_lines.specs.Ends.{TellsStop}
-use Rattle.atree_script.specs.Input.{start_of}
-use Rattle.atree_script.specs.Playing.{Stage, no_tree, Plays}
+use Rattle.atree_script.specs.Playing.{Stage}
 use Rattle.atree_script.specs.Reports.{Reports}
+use Rattle.atree_script.proofs.Plays.{plays_to_last}
 use Rattle.atree_script.proofs.ending.read_script.Goals as goal
 
 pub returns-in-Ok-clause-reads : goal.returns-in-Ok-clause-reads
@@ -17,7 +17,7 @@ returns-in-Ok-clause-reads g c =
       ended = played.ended;
       script = played.script;
       end = (end, (reading.updates, g.E.Write.contents reading.errors.now));
-      plays = subst (λ (n : ℕ). Plays Reports (start_of (g.R.Read.remaining c.args.input.now)) (no_tree, (0, before)) h.commands played.ended n (end, (reading.updates, g.E.Write.contents reading.errors.now))) (sym h.numbered) h.plays;
+      plays = plays_to_last Reports (g.R.Read.remaining c.args.input.now) (0, before) played (reading.updates, g.E.Write.contents reading.errors.now) h;
       gives = (c.in-Ok.is, refl, ap g.E.Write.contents (c.errors-1.given.1 (sym c.play_reported-played.ensures.errors)));
     }
 
@@ -33,7 +33,7 @@ returns-in-Err-clause-reads g c =
       ended = played.ended;
       script = played.script;
       end = (end, (reading.updates, g.E.Write.contents reading.errors.now));
-      plays = subst (λ (n : ℕ). Plays Reports (start_of (g.R.Read.remaining c.args.input.now)) (no_tree, (0, before)) h.commands played.ended n (end, (reading.updates, g.E.Write.contents reading.errors.now))) (sym h.numbered) h.plays;
+      plays = plays_to_last Reports (g.R.Read.remaining c.args.input.now) (0, before) played (reading.updates, g.E.Write.contents reading.errors.now) h;
       gives = (
         c.in-Err.stop,
         c.in-Err.is,

@@ -17,5 +17,5 @@ returns g c =
     on_ok_weaker c.write_middle.result
     (λ rest.
     subst (λ o. Appends (g.O.Write.contents c.args.out.now) (g.O.Write.contents c.write_middle.new.out) (box_text w top id o)) found
-    (Appends-trans _ _ _ (sides_line box) (middle_line w top id box) c.in_ok-write_sides.ensures rest))
+    (Appends-trans _ _ _ (sides_line box) (middle_line w top id box) c.in_ok-write_bounds.ensures rest))
     c.write_middle.ensures
