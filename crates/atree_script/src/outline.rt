@@ -55,7 +55,8 @@ fn print_name<O: Write>(node: NodeRef, out: &mut O) -> io::Result<()>
 
 /// Prints two spaces for each ancestor of the node.
 fn print_indent<O: Write>(node: NodeRef, out: &mut O) -> io::Result<()>
-    ensures { OnOk result (Appends (O.contents out.old) (O.contents out.new) (spaces_for (ancestors (world_at node.entry) (id_at node.entry)))) }
+    ensures { OnOk result (Appends (O.contents out.old) (O.contents out.new)
+        (spaces_for (ancestors (world_at node.entry) (id_at node.entry)))) }
 {
     node.tree_state().know();
     let mut current = node;

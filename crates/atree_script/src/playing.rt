@@ -149,7 +149,8 @@ impl Playing {
         input: &mut R,
         player: &mut P,
     ) -> Result<(), Stop>
-        ensures { PlaysFrom P.turns (option_map (place script.old) (R.remaining input.old)) self.old player.old result (number_of script.new) self.new player.new }
+        ensures { PlaysFrom P.turns (option_map (place script.old) (R.remaining input.old)) self.old player.old result
+            (number_of script.new) self.new player.new }
     {
         for _ in 0..u64::MAX {
             let Some(command) = script.next_command(input)? else {
@@ -205,7 +206,8 @@ impl Playing {
         is_host_focused: bool,
         player: &mut P,
     ) -> Result<(), Stop>
-        ensures { CarriesOut P.turns (stage_of self.old) player.old (script_.HostFocus is_host_focused) result (stage_of self.new) player.new }
+        ensures { CarriesOut P.turns (stage_of self.old) player.old (script_.HostFocus is_host_focused) result
+            (stage_of self.new) player.new }
     {
         self.is_host_focused = is_host_focused;
         match &mut self.session {

@@ -30,7 +30,8 @@ pub fn run_script<R: BufRead, O: Write, E: Write>(
 ) -> u8
     ensures bound { result ≤ 4 }
     ensures not_one { result ≢ 1 }
-    ensures runs { RunsScript (R.remaining input.old) (O.contents output.old) (O.contents output.new) (E.contents errors.old) (E.contents errors.new) result }
+    ensures runs { RunsScript (R.remaining input.old) (O.contents output.old) (O.contents output.new) (E.contents errors.old)
+        (E.contents errors.new) result }
 {
     let mut writing = Writing {
         output: &mut *output,

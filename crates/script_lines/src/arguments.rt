@@ -115,7 +115,8 @@ fn answer_words<A: Arguments, O: Write, E: Write>(
     errors: &mut E,
 ) -> Result<A, u8>
     ensures bound { IfErr result (λ status. (status ≤ 4) × (status ≢ 1)) }
-    ensures answers { Answers A.reads manual.now (map string_bytes words.now) result (O.contents output.old) (O.contents output.new) (E.contents errors.old) (E.contents errors.new) }
+    ensures answers { Answers A.reads manual.now (map string_bytes words.now) result (O.contents output.old) (O.contents output.new)
+        (E.contents errors.old) (E.contents errors.new) }
 {
     match asked_for(alloc, words) {
         Ok(asked) => Ok(asked),
@@ -142,7 +143,8 @@ fn tell_error<O: Write, E: Write>(
 ) -> u8
     ensures bound { result ≤ 4 }
     ensures not_one { result ≢ 1 }
-    ensures told { TellsError manual.now error.now (O.contents output.old) (O.contents output.new) (E.contents errors.old) (E.contents errors.new) result }
+    ensures told { TellsError manual.now error.now (O.contents output.old) (O.contents output.new) (E.contents errors.old)
+        (E.contents errors.new) result }
 {
     match error {
         ArgumentError::Help => tell_manual(manual, output),

@@ -53,7 +53,8 @@ pub fn end_script_run<O: Write, E: Write>(
     ensures bound { result ≤ 4 }
     ensures not_one { result ≢ 1 }
     ensures bad { ended ≡ Err stop_.BadLine → TellsFault script.now (E.contents errors.old) (E.contents errors.new) result }
-    ensures told { ended ≢ Err stop_.BadLine → Tells (E.contents errors.old) (E.contents errors.new) (told_at_end (number_of script.now) ended) (status_at_end ended) result }
+    ensures told { ended ≢ Err stop_.BadLine → Tells (E.contents errors.old) (E.contents errors.new)
+        (told_at_end (number_of script.now) ended) (status_at_end ended) result }
     ensures printed { Keeps (O.contents output.old) (O.contents output.new) }
 {
     match ended {
@@ -72,7 +73,8 @@ fn end_stopped_run<O: Write, E: Write>(
     ensures bound { result ≤ 4 }
     ensures not_one { result ≢ 1 }
     ensures bad { stop ≡ stop_.BadLine → TellsFault script.now (E.contents errors.old) (E.contents errors.new) result }
-    ensures told { stop ≢ stop_.BadLine → Tells (E.contents errors.old) (E.contents errors.new) (told_of (number_of script.now) stop) (status_of stop) result }
+    ensures told { stop ≢ stop_.BadLine → Tells (E.contents errors.old) (E.contents errors.new) (told_of (number_of script.now) stop)
+        (status_of stop) result }
     ensures printed { Keeps (O.contents output.old) (O.contents output.new) }
 {
     match stop {
@@ -103,7 +105,8 @@ pub fn tell_script_stop<E: Write>(stop: Stop, script: &ScriptReader, errors: &mu
     ensures not_one { result ≢ 1 }
     ensures not_done { result ≢ 0 }
     ensures bad { stop ≡ stop_.BadLine → TellsFault script.now (E.contents errors.old) (E.contents errors.new) result }
-    ensures told { stop ≢ stop_.BadLine → Tells (E.contents errors.old) (E.contents errors.new) (told_of (number_of script.now) stop) (status_of stop) result }
+    ensures told { stop ≢ stop_.BadLine → Tells (E.contents errors.old) (E.contents errors.new) (told_of (number_of script.now) stop)
+        (status_of stop) result }
 {
     match stop {
         Stop::BadLine => tell_fault(script, errors),

@@ -29,7 +29,8 @@ struct Head {
 /// Reads `update TREE focus=ID [root=ID] [toolkit="t"] [version="t"]`, from `TREE` on. The fields may be in any order;
 /// those of the toolkit are only allowed with `root=`.
 pub(crate) fn update_line(alloc: Global, mut words: Words) -> Result<TreeUpdate, Stop>
-    ensures reads { (u : UpdateData) → IsHead u → u.nodes ≡ [] → option_copied words.entry.rest ≡ Some (head_args u) → Reads result (λ update. update_data update ≡ u) }
+    ensures reads { (u : UpdateData) → IsHead u → u.nodes ≡ [] → option_copied words.entry.rest ≡ Some (head_args u) →
+        Reads result (λ update. update_data update ≡ u) }
 {
     let tree_id = words.tree()?;
     let mut head = Head::new();
@@ -52,7 +53,8 @@ impl Head {
 
     /// Reads fields, up to the end of the line.
     fn read_fields(&mut self, alloc: Global, words: &mut Words) -> Result<(), Stop>
-        ensures reads { (fields : List HeadField) → AreFree fields (head_data self.old) → option_copied words.old.rest ≡ rest_text fields → Reads result (λ _. head_data self.new ≡ with_head_fields fields (head_data self.old)) }
+        ensures reads { (fields : List HeadField) → AreFree fields (head_data self.old) → option_copied words.old.rest ≡ rest_text fields →
+            Reads result (λ _. head_data self.new ≡ with_head_fields fields (head_data self.old)) }
     {
         while words.rest.is_some() {
             self.read_field(alloc, words)?;
@@ -62,7 +64,9 @@ impl Head {
 
     /// Reads a field, which wasn't read yet.
     fn read_field(&mut self, alloc: Global, words: &mut Words) -> Result<(), Stop>
-        ensures reads { (field : HeadField) (rest : Option (List ℕ)) → IsHeadField field → IsFree field (head_data self.old) → Begins (option_copied words.old.rest) (head_name field ++ codes "=" ++ head_value field) rest → Reads result (λ _. (head_data self.new ≡ with_head_field field (head_data self.old)) × (option_copied words.new.rest ≡ rest)) }
+        ensures reads { (field : HeadField) (rest : Option (List ℕ)) → IsHeadField field → IsFree field (head_data self.old) →
+            Begins (option_copied words.old.rest) (head_name field ++ codes "=" ++ head_value field) rest →
+            Reads result (λ _. (head_data self.new ≡ with_head_field field (head_data self.old)) × (option_copied words.new.rest ≡ rest)) }
         ensures shorter { OnOk result (left (option_copied words.new.rest) < left (option_copied words.old.rest)) }
     {
         let (name, has_value) = words.field()?;
@@ -74,7 +78,9 @@ impl Head {
 
     /// Reads the value of a field, which wasn't read yet.
     fn read_value(&mut self, alloc: Global, name: &str, words: &mut Words) -> Result<(), Stop>
-        ensures reads { (field : HeadField) (rest : Option (List ℕ)) → IsHeadField field → IsFree field (head_data self.old) → name.now ≡ head_name field → Begins (option_copied words.old.rest) (head_value field) rest → Reads result (λ _. (head_data self.new ≡ with_head_field field (head_data self.old)) × (option_copied words.new.rest ≡ rest)) }
+        ensures reads { (field : HeadField) (rest : Option (List ℕ)) → IsHeadField field → IsFree field (head_data self.old) →
+            name.now ≡ head_name field → Begins (option_copied words.old.rest) (head_value field) rest →
+            Reads result (λ _. (head_data self.new ≡ with_head_field field (head_data self.old)) × (option_copied words.new.rest ≡ rest)) }
         ensures shorter { OnOk result (left (option_copied words.new.rest) < left (option_copied words.old.rest)) }
     {
         match name {
@@ -88,7 +94,8 @@ impl Head {
 
     /// The update of this tree, still without nodes.
     fn finish(self, alloc: Global, tree_id: TreeId) -> Result<TreeUpdate, Stop>
-        ensures reads { (u : UpdateData) → u.nodes ≡ [] → u.name ≡ tree_id → head_data self ≡ head_of u → IsOkAnd result (λ update. update_data update ≡ u) }
+        ensures reads { (u : UpdateData) → u.nodes ≡ [] → u.name ≡ tree_id → head_data self ≡ head_of u →
+            IsOkAnd result (λ update. update_data update ≡ u) }
     {
         let focus = self.focus.ok_or(Stop::BadLine)?;
         let tree = tree_info(self.root, self.toolkit_name, self.toolkit_version)?;
@@ -107,7 +114,8 @@ fn tree_info(
     toolkit_name: Option<String>,
     toolkit_version: Option<String>,
 ) -> Result<Option<TreeInfo>, Stop>
-    ensures reads { (focus : NodeId) (info : Option InfoData) → record { focus = Some focus; root = root; toolkit = option_map string_bytes toolkit_name; version = option_map string_bytes toolkit_version } ≡ info_head focus info → IsOkAnd result (λ tree. option_map info_data tree ≡ info) }
+    ensures reads { (focus : NodeId) (info : Option InfoData) →
+        record { focus = Some focus; root = root; toolkit = option_map string_bytes toolkit_name; version = option_map string_bytes toolkit_version } ≡ info_head focus info → IsOkAnd result (λ tree. option_map info_data tree ≡ info) }
 {
     match root {
         Some(root) => Ok(Some(TreeInfo {
@@ -122,7 +130,8 @@ fn tree_info(
 
 /// Reads the next word as a node's id, if none was read yet.
 fn new_id(words: &mut Words, place: &mut Option<NodeId>) -> Result<(), Stop>
-    ensures reads { (id : NodeId) (rest : Option (List ℕ)) → IsId id → Begins (option_copied words.old.rest) (decimal id.0) rest → place.old ≡ None → (result ≡ Ok tt) × (place.new ≡ Some id) × (option_copied words.new.rest ≡ rest) }
+    ensures reads { (id : NodeId) (rest : Option (List ℕ)) → IsId id → Begins (option_copied words.old.rest) (decimal id.0) rest →
+        place.old ≡ None → (result ≡ Ok tt) × (place.new ≡ Some id) × (option_copied words.new.rest ≡ rest) }
     ensures shorter { OnOk result (left (option_copied words.new.rest) < left (option_copied words.old.rest)) }
 {
     if place.is_some() {
@@ -134,7 +143,8 @@ fn new_id(words: &mut Words, place: &mut Option<NodeId>) -> Result<(), Stop>
 
 /// Reads the next text, if none was read yet.
 fn new_text(alloc: Global, words: &mut Words, place: &mut Option<String>) -> Result<(), Stop>
-    ensures reads { (text : List ℕ) (rest : Option (List ℕ)) → IsUtf8 text → Begins (option_copied words.old.rest) (quoted text) rest → place.old ≡ None → Reads result (λ _. (option_map string_bytes place.new ≡ Some text) × (option_copied words.new.rest ≡ rest)) }
+    ensures reads { (text : List ℕ) (rest : Option (List ℕ)) → IsUtf8 text → Begins (option_copied words.old.rest) (quoted text) rest →
+        place.old ≡ None → Reads result (λ _. (option_map string_bytes place.new ≡ Some text) × (option_copied words.new.rest ≡ rest)) }
     ensures shorter { OnOk result (left (option_copied words.new.rest) < left (option_copied words.old.rest)) }
 {
     if place.is_some() {

@@ -78,8 +78,10 @@ fn read_bytes<R: BufRead>(input: &mut R, bytes: &mut Vec<u8>) -> Result<(), Stop
 fn read_part<R: BufRead>(input: &mut R, bytes: &mut Vec<u8>) -> Result<bool, Stop>
     ensures appends { StartsWith bytes.new.items bytes.old.items }
     ensures bytes { Consumes (R.remaining input.old) (R.remaining input.new) (appended_bytes bytes.old.items bytes.new.items) }
-    ensures ended { result ≡ Ok true → StopsAt (appended_bytes bytes.old.items bytes.new.items) 10 × IsEmptyOrEndsWith (appended_bytes bytes.old.items bytes.new.items) 10 }
-    ensures end { result ≡ Ok true → length (appended_bytes bytes.old.items bytes.new.items) ≡ 0 → OnSome (R.remaining input.old) (IsAtEnd (R.remaining input.new)) }
+    ensures ended { result ≡ Ok true → StopsAt (appended_bytes bytes.old.items bytes.new.items) 10
+        × IsEmptyOrEndsWith (appended_bytes bytes.old.items bytes.new.items) 10 }
+    ensures end { result ≡ Ok true → length (appended_bytes bytes.old.items bytes.new.items) ≡ 0 →
+        OnSome (R.remaining input.old) (IsAtEnd (R.remaining input.new)) }
     ensures goes_on { result ≡ Ok false → All (λ byte. byte ≢ 10) (appended_bytes bytes.old.items bytes.new.items) }
     ensures stops { IfErr result StopsReading }
 {

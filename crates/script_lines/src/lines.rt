@@ -45,8 +45,10 @@ pub(crate) enum Line {
 /// Reads a line, without its line end.
 pub(crate) fn read_line(alloc: Global, line: &str) -> Result<Line, Stop>
     ensures nothing { (result ≡ Ok says.Nothing) ↔ IsBlank line.now }
-    ensures reads_head { (u : UpdateData) → IsHead u → u.nodes ≡ [] → line.now ≡ codes "update " ++ head_args u → Reads result (BeginsUpdate u) }
-    ensures reads_node { (id : NodeId) (n : NodeData) → IsId id → IsNode n → line.now ≡ node_text id n → Reads result (λ read. read ≡ says.Node id n) }
+    ensures reads_head { (u : UpdateData) → IsHead u → u.nodes ≡ [] → line.now ≡ codes "update " ++ head_args u →
+        Reads result (BeginsUpdate u) }
+    ensures reads_node { (id : NodeId) (n : NodeData) → IsId id → IsNode n → line.now ≡ node_text id n →
+        Reads result (λ read. read ≡ says.Node id n) }
     ensures reads_end { line.now ≡ codes "end" → result ≡ Ok says.End }
     ensures reads_host { (is_focused : Bool) → line.now ≡ host_text is_focused → result ≡ Ok (says.HostFocus is_focused) }
     ensures reads_print { line.now ≡ codes "print" → result ≡ Ok says.Print }
@@ -71,12 +73,16 @@ fn says_nothing(line: &str) -> bool
 /// The line that begins with this word, from the next word on.
 fn line_by_word(alloc: Global, word: &str, words: Words) -> Result<Line, Stop>
     ensures something { result ≢ Ok says.Nothing }
-    ensures reads_head { (u : UpdateData) → IsHead u → u.nodes ≡ [] → word.now ≡ codes "update" → option_copied words.entry.rest ≡ Some (head_args u) → Reads result (BeginsUpdate u) }
-    ensures reads_node { (id : NodeId) (n : NodeData) → IsId id → IsNode n → word.now ≡ codes "node" → option_copied words.entry.rest ≡ Some (node_args id n) → Reads result (λ read. read ≡ says.Node id n) }
+    ensures reads_head { (u : UpdateData) → IsHead u → u.nodes ≡ [] → word.now ≡ codes "update" →
+        option_copied words.entry.rest ≡ Some (head_args u) → Reads result (BeginsUpdate u) }
+    ensures reads_node { (id : NodeId) (n : NodeData) → IsId id → IsNode n → word.now ≡ codes "node" →
+        option_copied words.entry.rest ≡ Some (node_args id n) → Reads result (λ read. read ≡ says.Node id n) }
     ensures reads_end { word.now ≡ codes "end" → option_copied words.entry.rest ≡ None → result ≡ Ok says.End }
-    ensures reads_host { (is_focused : Bool) → word.now ≡ codes "host" → option_copied words.entry.rest ≡ Some (host_word is_focused) → result ≡ Ok (says.HostFocus is_focused) }
+    ensures reads_host { (is_focused : Bool) → word.now ≡ codes "host" → option_copied words.entry.rest ≡ Some (host_word is_focused) →
+        result ≡ Ok (says.HostFocus is_focused) }
     ensures reads_print { word.now ≡ codes "print" → option_copied words.entry.rest ≡ None → result ≡ Ok says.Print }
-    ensures reads_query { (q : Query) → IsQuery q → word.now ≡ question_word q → option_copied words.entry.rest ≡ question_args q → result ≡ Ok (says.Query q) }
+    ensures reads_query { (q : Query) → IsQuery q → word.now ≡ question_word q → option_copied words.entry.rest ≡ question_args q →
+        result ≡ Ok (says.Query q) }
 {
     match word {
         "update" => Ok(Line::Update(update_line(alloc, words)?)),
@@ -100,7 +106,8 @@ fn line_by_word(alloc: Global, word: &str, words: Words) -> Result<Line, Stop>
 /// `host on` or `host off`, from the second word on.
 fn host_line(mut words: Words) -> Result<Line, Stop>
     ensures something { result ≢ Ok says.Nothing }
-    ensures reads { (is_focused : Bool) → option_copied words.entry.rest ≡ Some (host_word is_focused) → result ≡ Ok (says.HostFocus is_focused) }
+    ensures reads { (is_focused : Bool) → option_copied words.entry.rest ≡ Some (host_word is_focused) →
+        result ≡ Ok (says.HostFocus is_focused) }
 {
     match words.last_word()? {
         "on" => Ok(Line::HostFocus(true)),

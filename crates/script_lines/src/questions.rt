@@ -31,7 +31,8 @@ fn last_name(words: &mut Words) -> Result<NodeName, Stop>
 
 /// Reads the last words, which name a node, and optionally a filter.
 fn last_name_and_filter(words: &mut Words) -> Result<(NodeName, NamedFilter), Stop>
-    ensures reads { (name : NodeId × TreeId) (filter : NamedFilter) → IsName name → option_copied words.old.rest ≡ Some (name_and_filter name filter) → result ≡ Ok (name, filter) }
+    ensures reads { (name : NodeId × TreeId) (filter : NamedFilter) → IsName name →
+        option_copied words.old.rest ≡ Some (name_and_filter name filter) → result ≡ Ok (name, filter) }
 {
     let name = words.node_name()?;
     let filter = words.filter()?;
@@ -41,7 +42,8 @@ fn last_name_and_filter(words: &mut Words) -> Result<(NodeName, NamedFilter), St
 
 /// The query for a node's filtered children.
 fn filtered_children(words: &mut Words) -> Result<Query, Stop>
-    ensures reads { (name : NodeId × TreeId) (filter : NamedFilter) → IsName name → option_copied words.old.rest ≡ Some (name_and_filter name filter) → result ≡ Ok (query.FilteredChildren name filter) }
+    ensures reads { (name : NodeId × TreeId) (filter : NamedFilter) → IsName name →
+        option_copied words.old.rest ≡ Some (name_and_filter name filter) → result ≡ Ok (query.FilteredChildren name filter) }
 {
     let (name, filter) = last_name_and_filter(words)?;
     Ok(Query::FilteredChildren(name, filter))
@@ -49,7 +51,8 @@ fn filtered_children(words: &mut Words) -> Result<Query, Stop>
 
 /// The query for the filtered siblings after a node.
 fn following_filtered(words: &mut Words) -> Result<Query, Stop>
-    ensures reads { (name : NodeId × TreeId) (filter : NamedFilter) → IsName name → option_copied words.old.rest ≡ Some (name_and_filter name filter) → result ≡ Ok (query.FollowingFiltered name filter) }
+    ensures reads { (name : NodeId × TreeId) (filter : NamedFilter) → IsName name →
+        option_copied words.old.rest ≡ Some (name_and_filter name filter) → result ≡ Ok (query.FollowingFiltered name filter) }
 {
     let (name, filter) = last_name_and_filter(words)?;
     Ok(Query::FollowingFiltered(name, filter))
@@ -57,7 +60,8 @@ fn following_filtered(words: &mut Words) -> Result<Query, Stop>
 
 /// The query for the filtered siblings before a node.
 fn preceding_filtered(words: &mut Words) -> Result<Query, Stop>
-    ensures reads { (name : NodeId × TreeId) (filter : NamedFilter) → IsName name → option_copied words.old.rest ≡ Some (name_and_filter name filter) → result ≡ Ok (query.PrecedingFiltered name filter) }
+    ensures reads { (name : NodeId × TreeId) (filter : NamedFilter) → IsName name →
+        option_copied words.old.rest ≡ Some (name_and_filter name filter) → result ≡ Ok (query.PrecedingFiltered name filter) }
 {
     let (name, filter) = last_name_and_filter(words)?;
     Ok(Query::PrecedingFiltered(name, filter))
@@ -65,7 +69,8 @@ fn preceding_filtered(words: &mut Words) -> Result<Query, Stop>
 
 /// The query for a node's set.
 fn set_query(words: &mut Words) -> Result<Query, Stop>
-    ensures reads { (name : NodeId × TreeId) (filter : NamedFilter) → IsName name → option_copied words.old.rest ≡ Some (name_and_filter name filter) → result ≡ Ok (query.Set name filter) }
+    ensures reads { (name : NodeId × TreeId) (filter : NamedFilter) → IsName name →
+        option_copied words.old.rest ≡ Some (name_and_filter name filter) → result ≡ Ok (query.Set name filter) }
 {
     let (name, filter) = last_name_and_filter(words)?;
     Ok(Query::Set(name, filter))
@@ -73,7 +78,8 @@ fn set_query(words: &mut Words) -> Result<Query, Stop>
 
 /// The query for a hit.
 fn hit(words: &mut Words) -> Result<Query, Stop>
-    ensures reads { (name : NodeId × TreeId) (point : Point) (filter : NamedFilter) → IsName name → IsNumber point.x → IsNumber point.y → option_copied words.old.rest ≡ question_args (query.Hit name point filter) → result ≡ Ok (query.Hit name point filter) }
+    ensures reads { (name : NodeId × TreeId) (point : Point) (filter : NamedFilter) → IsName name → IsNumber point.x → IsNumber point.y →
+        option_copied words.old.rest ≡ question_args (query.Hit name point filter) → result ≡ Ok (query.Hit name point filter) }
 {
     let name = words.node_name()?;
     let point = words.point()?;
@@ -84,7 +90,8 @@ fn hit(words: &mut Words) -> Result<Query, Stop>
 
 /// The query for a caret movement.
 fn moved(words: &mut Words) -> Result<Query, Stop>
-    ensures reads { (name : NodeId × TreeId) (at : At) (move : Move) → IsName name → IsCount at.index → option_copied words.old.rest ≡ question_args (query.Move name at move) → result ≡ Ok (query.Move name at move) }
+    ensures reads { (name : NodeId × TreeId) (at : At) (move : Move) → IsName name → IsCount at.index →
+        option_copied words.old.rest ≡ question_args (query.Move name at move) → result ≡ Ok (query.Move name at move) }
 {
     let name = words.node_name()?;
     let at = words.at()?;
@@ -95,7 +102,8 @@ fn moved(words: &mut Words) -> Result<Query, Stop>
 
 /// Reads the last words, which name a node and a position in its text.
 fn last_place(words: &mut Words) -> Result<(NodeName, At), Stop>
-    ensures reads { (name : NodeId × TreeId) (at : At) → IsName name → IsCount at.index → option_copied words.old.rest ≡ question_args (query.Indexes name at) → result ≡ Ok (name, at) }
+    ensures reads { (name : NodeId × TreeId) (at : At) → IsName name → IsCount at.index →
+        option_copied words.old.rest ≡ question_args (query.Indexes name at) → result ≡ Ok (name, at) }
 {
     let name = words.node_name()?;
     let at = words.at()?;
@@ -105,7 +113,8 @@ fn last_place(words: &mut Words) -> Result<(NodeName, At), Stop>
 
 /// Reads the last words, which name a node and two positions in its text.
 fn last_places(words: &mut Words) -> Result<(NodeName, At, At), Stop>
-    ensures reads { (name : NodeId × TreeId) (start finish : At) → IsName name → IsCount start.index → IsCount finish.index → option_copied words.old.rest ≡ question_args (query.RangeText name start finish) → result ≡ Ok (name, start, finish) }
+    ensures reads { (name : NodeId × TreeId) (start finish : At) → IsName name → IsCount start.index → IsCount finish.index →
+        option_copied words.old.rest ≡ question_args (query.RangeText name start finish) → result ≡ Ok (name, start, finish) }
 {
     let name = words.node_name()?;
     let from = words.at()?;
@@ -116,7 +125,8 @@ fn last_places(words: &mut Words) -> Result<(NodeName, At, At), Stop>
 
 /// Reads the query that begins with this word, from the next word on.
 pub(crate) fn question(word: &str, mut words: Words) -> Result<Query, Stop>
-    ensures reads { (query : Query) → IsQuery query → word.now ≡ question_word query → option_copied words.entry.rest ≡ question_args query → result ≡ Ok query }
+    ensures reads { (query : Query) → IsQuery query → word.now ≡ question_word query →
+        option_copied words.entry.rest ≡ question_args query → result ≡ Ok query }
 {
     match word {
         "children" => Ok(Query::Children(last_name(&mut words)?)),

@@ -87,9 +87,11 @@ impl ScriptReader {
     /// Returns `Stop` if a line is malformed or out of place, if the input ends inside an update or has an error, or if
     /// memory runs out. Nothing more can be read then. [`ScriptReader::fault`] says what is wrong in a bad line.
     pub fn next_command<R: BufRead>(&mut self, input: &mut R) -> Result<Option<ScriptCommand>, Stop>
-        ensures reads { IfSome (R.remaining input.old) (λ bytes. (next : Place) × ReadsTo (place self.old bytes) result next × IsPlace next result self.new (R.remaining input.new)) }
+        ensures reads { IfSome (R.remaining input.old)
+            (λ bytes. (next : Place) × ReadsTo (place self.old bytes) result next × IsPlace next result self.new (R.remaining input.new)) }
         ensures whole { OnOk result (begun_of self.new ≡ None) }
-        ensures reads_back { (commands : List Said) → All IsSaid commands → begun_of self.old ≡ None → R.remaining input.old ≡ Some (script_text commands) → ReadsBack commands result (R.remaining input.new) }
+        ensures reads_back { (commands : List Said) → All IsSaid commands → begun_of self.old ≡ None →
+            R.remaining input.old ≡ Some (script_text commands) → ReadsBack commands result (R.remaining input.new) }
     {
         for _ in 0..u64::MAX {
             let Some(line) = self.lines.next(input)? else {

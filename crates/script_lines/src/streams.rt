@@ -44,7 +44,8 @@ impl<W: Write + Drop> Output<W> {
 
     /// Puts bytes into the buffer, which is written where they have no room.
     fn write_all(&mut self, bytes: &[u8]) -> io::Result<()>
-        ensures appends { OnOk result (Appends (writer_contents W.contents self.old.writer) (writer_contents W.contents self.new.writer) bytes.now) }
+        ensures appends { OnOk result (Appends (writer_contents W.contents self.old.writer)
+            (writer_contents W.contents self.new.writer) bytes.now) }
         ensures fails { OnErr result (self.new.has_failed ≡ true) }
         ensures failed { self.old.has_failed ≡ true → IsErr result × (self.new ≡ self.old) }
     {

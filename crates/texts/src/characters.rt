@@ -46,7 +46,8 @@ impl<'a> TextPosition<'a> {
     pub fn previous_character(&self) -> Option<TextPosition<'a>>
         ensures found { let to = previous_character (position_text self.now) (flat_position self.now) in
             IsAtFound (root_at self.now) to result }
-        ensures secret { InEachText (root_at self.now) (λ t. option_map flat_position result ≡ previous_character t (flat_position self.now)) }
+        ensures secret { InEachText (root_at self.now)
+            (λ t. option_map flat_position result ≡ previous_character t (flat_position self.now)) }
     {
         if !self.has_character_before() {
             return None;

@@ -84,7 +84,8 @@ impl TextRange<'_> {
             OnErr result (IsCutShort W.received W.faults text writer.old writer.new) }
         ensures called { OnOk result (IsCalled W.steps (range_calls self.now) writer.old writer.new) }
         ensures stopped { OnErr result (IsCalledTillFault W.steps (range_calls self.now) writer.old writer.new) }
-        ensures secret { OnOk result (InEachText self.now.root (λ t. IsWritten W.received W.faults (text_of t (range_at self.now)) writer.old writer.new)) }
+        ensures secret { OnOk result (InEachText self.now.root
+            (λ t. IsWritten W.received W.faults (text_of t (range_at self.now)) writer.old writer.new)) }
     {
         let range = *self;
         let masked = needs_masking(range.root);

@@ -133,7 +133,8 @@ impl Slots {
         slot: Box<Option<Record>>,
     ) -> Result<(), AllocError>
         requires { slot_at self.old id ≡ None }
-        ensures ok { OnOk result ((q : FullNodeId) → slot_at self.new q ≡ cond (is_at (full_cmp id) q) (Some slot.value) (slot_at self.old q)) }
+        ensures ok { OnOk result ((q : FullNodeId) →
+            slot_at self.new q ≡ cond (is_at (full_cmp id) q) (Some slot.value) (slot_at self.old q)) }
         ensures err { OnErr result (self.new ≡ self.old) }
     {
         let Some(number) = self.free.last().copied() else {
@@ -151,7 +152,8 @@ impl Slots {
     // gives a new cell to an id that has none
     fn push(&mut self, id: FullNodeId, slot: Box<Option<Record>>) -> Result<(), AllocError>
         requires { slot_at self.old id ≡ None }
-        ensures ok { OnOk result ((q : FullNodeId) → slot_at self.new q ≡ cond (is_at (full_cmp id) q) (Some slot.value) (slot_at self.old q)) }
+        ensures ok { OnOk result ((q : FullNodeId) →
+            slot_at self.new q ≡ cond (is_at (full_cmp id) q) (Some slot.value) (slot_at self.old q)) }
         ensures err { OnErr result (self.new ≡ self.old) }
     {
         let number = self.cells.len();
@@ -192,7 +194,9 @@ impl Slots {
     )
         requires slot { IsSome (slot_at self.old id) }
         requires entry { entry < length nodes.old.items }
-        ensures slots { (q : FullNodeId) → slot_at self.new q ≡ cond (is_at (full_cmp id) q) (Some (record_after nodes.old.items (Put place (Some entry)) (record_at self.old id))) (slot_at self.old q) }
+        ensures slots { (q : FullNodeId) → slot_at self.new q
+            ≡ cond (is_at (full_cmp id) q) (Some (record_after nodes.old.items (Put place (Some entry)) (record_at self.old id)))
+            (slot_at self.old q) }
         ensures nodes { (k : ℕ) → k ≢ entry → slice_get nodes.new.items k ≡ slice_get nodes.old.items k }
         ensures count { length nodes.new.items ≡ length nodes.old.items }
     {
@@ -206,7 +210,8 @@ impl Slots {
     pub(crate) fn set_place(&mut self, id: FullNodeId, place: Option<Place>) -> bool
         requires { IsSome (slot_at self.old id) }
         ensures there { result ≡ is_some (record_at self.old id) }
-        ensures after { (q : FullNodeId) → slot_at self.new q ≡ cond (is_at (full_cmp id) q) (Some (record_moved_to place (record_at self.old id))) (slot_at self.old q) }
+        ensures after { (q : FullNodeId) → slot_at self.new q
+            ≡ cond (is_at (full_cmp id) q) (Some (record_moved_to place (record_at self.old id))) (slot_at self.old q) }
     {
         match self.index.get(&id).copied() {
             Some(number) => move_in(&mut self.cells[number as usize], place),

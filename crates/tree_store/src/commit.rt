@@ -119,13 +119,17 @@ impl Tables {
         requires there { HasNames self.old.names decision.now.trees.items }
         requires once { AllPairs (λ a b. a.id ≢ b.id) decision.now.trees.items }
         requires spare { is_new ≡ true → vec_len self.old.known < vec_capacity self.old.known }
-        requires indexes { All (λ r. IfSome r.index (λ i. i < length (with_name is_new (names_shown self.old.known.items) update.tree_id))) decision.now.trees.items }
-        ensures records { (id : FullNodeId) → record_at self.new.nodes id ≡ changed_record update.nodes.items (change_at decision.now.nodes.items id) (record_at self.old.nodes id) }
+        requires indexes { All (λ r. IfSome r.index
+            (λ i. i < length (with_name is_new (names_shown self.old.known.items) update.tree_id))) decision.now.trees.items }
+        ensures records { (id : FullNodeId) → record_at self.new.nodes id
+            ≡ changed_record update.nodes.items (change_at decision.now.nodes.items id) (record_at self.old.nodes id) }
         ensures tight { HasNoSpare self.new.nodes }
-        ensures kept { (name : TreeId) → name_at self.new.names name ≡ name_after (tree_change decision.now.trees.items name) (name_at self.old.names name) }
+        ensures kept { (name : TreeId) → name_at self.new.names name
+            ≡ name_after (tree_change decision.now.trees.items name) (name_at self.old.names name) }
         ensures names { names_shown self.new.known.items ≡ with_name is_new (names_shown self.old.known.items) update.tree_id }
         ensures trees { trees_shown 0 self.new.known.items ≡ put_trees (trees_shown 0 self.old.known.items) decision.now.trees.items }
-        ensures texts { texts_shown self.new.toolkit ≡ texts_after (if is_root then option_map info_data update.tree else None) (texts_shown self.old.toolkit) }
+        ensures texts { texts_shown self.new.toolkit
+            ≡ texts_after (if is_root then option_map info_data update.tree else None) (texts_shown self.old.toolkit) }
     {
         let TreeUpdate {
             nodes: mut entries,
@@ -154,12 +158,15 @@ impl Tables {
         requires there { HasNames self.old.names decision.now.trees.items }
         requires once { AllPairs (λ a b. a.id ≢ b.id) decision.now.trees.items }
         requires spare { is_new ≡ true → vec_len self.old.known < vec_capacity self.old.known }
-        requires indexes { All (λ r. IfSome r.index (λ i. i < length (with_name is_new (names_shown self.old.known.items) tree_id))) decision.now.trees.items }
+        requires indexes { All (λ r. IfSome r.index
+            (λ i. i < length (with_name is_new (names_shown self.old.known.items) tree_id))) decision.now.trees.items }
         ensures nodes { self.new.nodes ≡ self.old.nodes }
-        ensures kept { (name : TreeId) → name_at self.new.names name ≡ name_after (tree_change decision.now.trees.items name) (name_at self.old.names name) }
+        ensures kept { (name : TreeId) → name_at self.new.names name
+            ≡ name_after (tree_change decision.now.trees.items name) (name_at self.old.names name) }
         ensures names { names_shown self.new.known.items ≡ with_name is_new (names_shown self.old.known.items) tree_id }
         ensures trees { trees_shown 0 self.new.known.items ≡ put_trees (trees_shown 0 self.old.known.items) decision.now.trees.items }
-        ensures texts { texts_shown self.new.toolkit ≡ texts_after (if is_root then option_map info_data tree else None) (texts_shown self.old.toolkit) }
+        ensures texts { texts_shown self.new.toolkit
+            ≡ texts_after (if is_root then option_map info_data tree else None) (texts_shown self.old.toolkit) }
     {
         write_known(&mut self.known, is_new, tree_id, decision.trees.as_slice());
         write_names(&mut self.names, decision.trees.as_slice());

@@ -65,7 +65,8 @@ fn write_tree(known: &mut Vec<KnownTree>, changed: &TreeRecord)
 fn set_tree(known: &mut Vec<KnownTree>, index: usize, tree: Option<PresentTree>)
     requires { index < length known.old.items }
     ensures names { names_shown known.new.items ≡ names_shown known.old.items }
-    ensures trees { (q : ℕ) → tree_in (slice_get known.new.items q) ≡ cond (eq_by_cmp nat_cmp q index) (option_map tree_of tree) (tree_in (slice_get known.old.items q)) }
+    ensures trees { (q : ℕ) → tree_in (slice_get known.new.items q)
+        ≡ cond (eq_by_cmp nat_cmp q index) (option_map tree_of tree) (tree_in (slice_get known.old.items q)) }
     ensures count { length known.new.items ≡ length known.old.items }
 {
     known[index].tree = tree;

@@ -51,7 +51,8 @@ fn add_slot(alloc: Global, slots: &mut Slots, id: FullNodeId) -> Result<(), Allo
 
 /// Removes the empty slots of changed nodes.
 pub(crate) fn take_back(slots: &mut Slots, changes: &[(FullNodeId, NodeChange)])
-    requires { (id : FullNodeId) → IsTrue (is_some (slot_at slots.old id)) → IsTrue (is_some (record_at slots.old id) || is_some (change_at changes.now id)) }
+    requires { (id : FullNodeId) → IsTrue (is_some (slot_at slots.old id)) →
+        IsTrue (is_some (record_at slots.old id) || is_some (change_at changes.now id)) }
     ensures same { (id : FullNodeId) → record_at slots.new id ≡ record_at slots.old id }
     ensures tight { HasNoSpare slots.new }
 {
@@ -62,7 +63,8 @@ pub(crate) fn take_back(slots: &mut Slots, changes: &[(FullNodeId, NodeChange)])
 
 fn remove_empty(slots: &mut Slots, id: FullNodeId)
     ensures same { (q : FullNodeId) → record_at slots.new q ≡ record_at slots.old q }
-    ensures tight { (q : FullNodeId) → is_some (slot_at slots.new q) ≡ cond (is_at (full_cmp id) q) (is_some (record_at slots.old q)) (is_some (slot_at slots.old q)) }
+    ensures tight { (q : FullNodeId) → is_some (slot_at slots.new q)
+        ≡ cond (is_at (full_cmp id) q) (is_some (record_at slots.old q)) (is_some (slot_at slots.old q)) }
 {
     if !slots.has_record(id) {
         slots.remove(id);
@@ -72,8 +74,10 @@ fn remove_empty(slots: &mut Slots, id: FullNodeId)
 // sets a node's place
 fn put_place(slots: &mut Slots, id: FullNodeId, place: Option<Place>)
     requires { IsSome (slot_at slots.old id) }
-    ensures records { (q : FullNodeId) → record_at slots.new q ≡ cond (is_at (full_cmp id) q) (record_moved_to place (record_at slots.old id)) (record_at slots.old q) }
-    ensures tight { (q : FullNodeId) → is_some (slot_at slots.new q) ≡ cond (is_at (full_cmp id) q) (is_some (record_at slots.new q)) (is_some (slot_at slots.old q)) }
+    ensures records { (q : FullNodeId) → record_at slots.new q
+        ≡ cond (is_at (full_cmp id) q) (record_moved_to place (record_at slots.old id)) (record_at slots.old q) }
+    ensures tight { (q : FullNodeId) → is_some (slot_at slots.new q)
+        ≡ cond (is_at (full_cmp id) q) (is_some (record_at slots.new q)) (is_some (slot_at slots.old q)) }
 {
     if !slots.set_place(id, place) {
         slots.remove(id);
@@ -91,8 +95,11 @@ fn put_entry(
 )
     requires slot { IsSome (slot_at slots.old id) }
     requires entry { entry < length nodes.old.items }
-    ensures records { (q : FullNodeId) → record_at slots.new q ≡ cond (is_at (full_cmp id) q) (record_after nodes.old.items (Put place (Some entry)) (record_at slots.old id)) (record_at slots.old q) }
-    ensures tight { (q : FullNodeId) → is_some (slot_at slots.new q) ≡ cond (is_at (full_cmp id) q) (is_some (record_at slots.new q)) (is_some (slot_at slots.old q)) }
+    ensures records { (q : FullNodeId) → record_at slots.new q
+        ≡ cond (is_at (full_cmp id) q) (record_after nodes.old.items (Put place (Some entry)) (record_at slots.old id))
+        (record_at slots.old q) }
+    ensures tight { (q : FullNodeId) → is_some (slot_at slots.new q)
+        ≡ cond (is_at (full_cmp id) q) (is_some (record_at slots.new q)) (is_some (slot_at slots.old q)) }
     ensures nodes { (k : ℕ) → k ≢ entry → slice_get nodes.new.items k ≡ slice_get nodes.old.items k }
     ensures count { length nodes.new.items ≡ length nodes.old.items }
 {
@@ -108,8 +115,10 @@ fn write(
 )
     requires slot { IsSome (slot_at slots.old id) }
     requires entry { IfSome (entry_of change) (λ k. k < length nodes.old.items) }
-    ensures records { (q : FullNodeId) → record_at slots.new q ≡ cond (is_at (full_cmp id) q) (record_after nodes.old.items change (record_at slots.old id)) (record_at slots.old q) }
-    ensures tight { (q : FullNodeId) → is_some (slot_at slots.new q) ≡ cond (is_at (full_cmp id) q) (is_some (record_at slots.new q)) (is_some (slot_at slots.old q)) }
+    ensures records { (q : FullNodeId) → record_at slots.new q
+        ≡ cond (is_at (full_cmp id) q) (record_after nodes.old.items change (record_at slots.old id)) (record_at slots.old q) }
+    ensures tight { (q : FullNodeId) → is_some (slot_at slots.new q)
+        ≡ cond (is_at (full_cmp id) q) (is_some (record_at slots.new q)) (is_some (slot_at slots.old q)) }
     ensures nodes { (k : ℕ) → entry_of change ≢ Some k → slice_get nodes.new.items k ≡ slice_get nodes.old.items k }
     ensures count { length nodes.new.items ≡ length nodes.old.items }
 {
@@ -134,7 +143,8 @@ pub(crate) fn write_all(
     requires ascending { IsStrictlySortedBy full_cmp (map (λ e. e.0) changes.now) }
     requires entries { HasEntries nodes.old.items changes.now }
     requires apart { AreEntriesApart changes.now }
-    ensures records { (id : FullNodeId) → record_at slots.new id ≡ changed_record nodes.old.items (change_at changes.now id) (record_at slots.old id) }
+    ensures records { (id : FullNodeId) → record_at slots.new id
+        ≡ changed_record nodes.old.items (change_at changes.now id) (record_at slots.old id) }
     ensures tight { HasNoSpare slots.new }
 {
     for change in changes {
@@ -159,7 +169,8 @@ pub(crate) fn first_slots(
 ) -> Result<Slots, AllocError>
     requires ascending { IsStrictlySortedBy full_cmp (map (λ e. e.0) changes.now) }
     requires apart { AreEntriesApart changes.now }
-    ensures records { IfOk result (λ slots. (id : FullNodeId) → record_at slots id ≡ changed_record nodes.items (change_at changes.now id) None) }
+    ensures records { IfOk result (λ slots. (id : FullNodeId) →
+        record_at slots id ≡ changed_record nodes.items (change_at changes.now id) None) }
     ensures tight { IfOk result HasNoSpare }
 {
     let mut waiting = boxed(alloc, nodes)?;
@@ -195,8 +206,11 @@ fn place_first(
     change: NodeChange,
 ) -> Result<(), AllocError>
     requires { slot_at slots.old id ≡ None }
-    ensures records { OnOk result ((q : FullNodeId) → record_at slots.new q ≡ cond (is_at (full_cmp id) q) (record_from waiting.old.items change (record_at slots.old id)) (record_at slots.old q)) }
-    ensures tight { OnOk result ((q : FullNodeId) → is_some (slot_at slots.new q) ≡ cond (is_at (full_cmp id) q) (is_some (record_at slots.new q)) (is_some (slot_at slots.old q))) }
+    ensures records { OnOk result ((q : FullNodeId) →
+        record_at slots.new q ≡ cond (is_at (full_cmp id) q) (record_from waiting.old.items change (record_at slots.old id))
+        (record_at slots.old q)) }
+    ensures tight { OnOk result ((q : FullNodeId) →
+        is_some (slot_at slots.new q) ≡ cond (is_at (full_cmp id) q) (is_some (record_at slots.new q)) (is_some (slot_at slots.old q))) }
     ensures others { (k : ℕ) → entry_of change ≢ Some k → data_waiting waiting.new.items k ≡ data_waiting waiting.old.items k }
 {
     match taken(waiting, change) {
@@ -222,7 +236,8 @@ fn taken(waiting: &mut Waiting, change: NodeChange) -> Option<Box<Option<Record>
 
 // takes an entry's record, and sets its place
 fn placed(waiting: &mut Waiting, entry: usize, place: Option<Place>) -> Option<Box<Option<Record>>>
-    ensures data { option_map (λ b. b.value) result ≡ option_map Some (option_map (placed_record place) (data_waiting waiting.old.items entry)) }
+    ensures data { option_map (λ b. b.value) result
+        ≡ option_map Some (option_map (placed_record place) (data_waiting waiting.old.items entry)) }
     ensures others { (k : ℕ) → k ≢ entry → data_waiting waiting.new.items k ≡ data_waiting waiting.old.items k }
 {
     let mut slot = waiting.get_mut(entry)?.take()?;

@@ -129,7 +129,8 @@ fn is_outside(node: &NodeRef<'_>, frame: WideRect) -> bool
 
 /// Whether the node exists and has a box that meets the frame.
 fn is_inside(node: Option<NodeRef<'_>>, frame: WideRect) -> bool
-    ensures { result ≡ option_map_or (λ n. option_map_or (λ box. meets box frame) (bounding_box (world_at n) (id_at n)) false) node.entry false }
+    ensures { result ≡ option_map_or (λ n. option_map_or (λ box. meets box frame)
+        (bounding_box (world_at n) (id_at n)) false) node.entry false }
 {
     let Some(node) = node else {
         return false;

@@ -108,8 +108,10 @@ impl<'a> NodeRef<'a> {
             OnOk result (IsWritten W.received W.faults (spaced is_later part) writer.old writer.new) }
         ensures err { let part = unwrap_or (label_part (world_at self.now) (id_at self.now)) [] in
             OnErr result (IsCutShort W.received W.faults (spaced is_later part) writer.old writer.new) }
-        ensures called { OnOk result (IsCalled W.steps (spaced_calls is_later (part_calls (world_at self.now) (id_at self.now))) writer.old writer.new) }
-        ensures stopped { OnErr result (IsCalledTillFault W.steps (spaced_calls is_later (part_calls (world_at self.now) (id_at self.now))) writer.old writer.new) }
+        ensures called { OnOk result (IsCalled W.steps
+            (spaced_calls is_later (part_calls (world_at self.now) (id_at self.now))) writer.old writer.new) }
+        ensures stopped { OnErr result (IsCalledTillFault W.steps
+            (spaced_calls is_later (part_calls (world_at self.now) (id_at self.now))) writer.old writer.new) }
     {
         if !is_later {
             return self.write_bare_part(writer);
@@ -134,7 +136,8 @@ impl<'a> NodeRef<'a> {
         ensures err { let label = label_of (world_at self.now) (id_at self.now) in
             OnErr result (IsCutShort W.received W.faults (unwrap_or label []) writer.old writer.new) }
         ensures called { OnOk result (IsCalled W.steps (label_calls (world_at self.now) (id_at self.now)) writer.old writer.new) }
-        ensures stopped { OnErr result (IsCalledTillFault W.steps (label_calls (world_at self.now) (id_at self.now)) writer.old writer.new) }
+        ensures stopped { OnErr result (IsCalledTillFault W.steps
+            (label_calls (world_at self.now) (id_at self.now)) writer.old writer.new) }
     {
         if let Some(label) = self.node.label() {
             writer.write_str(label)?;

@@ -137,7 +137,8 @@ pub(crate) fn write_document<W: TextWrite>(
     ensures err { let text = document_text (world_at root.entry) (id_at root.entry) in
         OnErr result (IsCutShort W.received W.faults text writer.old writer.new) }
     ensures called { OnOk result (IsCalled W.steps (document_calls (world_at root.entry) (id_at root.entry)) writer.old writer.new) }
-    ensures stopped { OnErr result (IsCalledTillFault W.steps (document_calls (world_at root.entry) (id_at root.entry)) writer.old writer.new) }
+    ensures stopped { OnErr result (IsCalledTillFault W.steps
+        (document_calls (world_at root.entry) (id_at root.entry)) writer.old writer.new) }
 {
     write_runs(root, needs_masking(root), writer)
 }

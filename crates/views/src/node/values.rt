@@ -123,7 +123,8 @@ impl<'a> NodeRef<'a> {
         ensures err { let value = value_of (world_at self.now) (id_at self.now) in
             OnErr result (IsCutShort W.received W.faults (unwrap_or value []) writer.old writer.new) }
         ensures called { OnOk result (IsCalled W.steps (value_calls (world_at self.now) (id_at self.now)) writer.old writer.new) }
-        ensures stopped { OnErr result (IsCalledTillFault W.steps (value_calls (world_at self.now) (id_at self.now)) writer.old writer.new) }
+        ensures stopped { OnErr result (IsCalledTillFault W.steps
+            (value_calls (world_at self.now) (id_at self.now)) writer.old writer.new) }
         ensures secret { IfOk result (λ there. InEachOfShape self.now (λ v. let value = value_of v (id_at self.now) in
             (there ≡ is_some value) × IsWritten W.received W.faults (unwrap_or value []) writer.old writer.new)) }
     {
