@@ -2,9 +2,11 @@
 use Rattle.std.specs.Prelude.{ℕ, ◌-◌, ◌≡◌, nat_lt, nat_le, min, List, [], ◌∷◌, ◌++◌, codes, map, length, take, drop, Option, Some, None, ◌&&◌, if◌then◌else◌}
 use Rattle.std.specs.Borrow.{Bor}
 use Rattle.std.specs.Fmt.{decimal}
+use Rattle.std.specs.Option.{option_map_or}
 use Rattle.line_text.specs.Columns.{column_after}
 use Rattle.line_text.specs.Nearness.{IsNearest}
 use Rattle.line_text.specs.Shown.{shown}
+use Rattle.role_names.specs.Names.{number_named}
 use Rattle.line_faults.specs.Known.{field_names, role_names}
 use Rattle.line_faults.specs.declared.reasons.FieldSet.{FieldSet}
 use Rattle.line_faults.specs.declared.reasons.LineFault.{LineFault}
@@ -111,18 +113,31 @@ abbrev pub near_text : Option (List ℕ) → List ℕ
 near_text None = []
 near_text (Some name) = codes "; did you mean \"" ++ name ++ codes "\"?"
 
+-- the number of the role that the word names, if the fault is an unknown role and the role is sent by a number
+abbrev pub number_meant : Reason → List ℕ → Option ℕ
+number_meant reason.UnknownRole word = number_named word
+number_meant why word = None
+
+-- how a script writes the role with this number
+abbrev pub written_text : ℕ → List ℕ
+written_text number = codes "; in a script it is Other(" ++ decimal number ++ codes ")"
+
+-- how a script writes the role that the word names, if it is sent by a number, and else the word that may be meant
+abbrev pub hint_text : Reason → List ℕ → Option (List ℕ) → List ℕ
+hint_text why word near = option_map_or written_text (number_meant why word) (near_text near)
+
 -- the column of the fault, in characters from 1
 abbrev pub column_of : List ℕ → LineFault → ℕ
 column_of line fault = column_after (take (min fault.start (length line)) line)
 
 -- the end of a message
-abbrev pub end_text : List ℕ → Option (List ℕ) → List ℕ
-end_text word near = word_text word ++ near_text near ++ codes "\n"
+abbrev pub end_text : Reason → List ℕ → Option (List ℕ) → List ℕ
+end_text why word near = word_text word ++ hint_text why word near ++ codes "\n"
 
 -- the message about a word, in the line with this number and at this column
 abbrev pub message_text : ℕ → ℕ → Reason → List ℕ → Option (List ℕ) → List ℕ
 message_text number column why word near =
-    codes "line " ++ decimal number ++ codes ", column " ++ decimal column ++ codes ": " ++ reason_text why ++ end_text word near
+    codes "line " ++ decimal number ++ codes ", column " ++ decimal column ++ codes ": " ++ reason_text why ++ end_text why word near
 
 -- the message about a fault of the line with this number
 abbrev pub fault_line : ℕ → List ℕ → LineFault → Option (List ℕ) → List ℕ

@@ -2,17 +2,18 @@
 
 ghost use Rattle.std.specs.Prelude.{ℕ, ◌≡◌, List, OnOk, Option, None, Some, codes, option_copied};
 ghost use Rattle.std.specs.Io.KnownBytes.{Appends};
-ghost use Rattle.line_faults.specs.Messages.{Suggests, column_of, end_text, fault_line, message_text, near_text, word_of, word_text};
+ghost use Rattle.line_faults.specs.Messages.{Suggests, column_of, end_text, fault_line, hint_text, message_text, near_text, number_meant, word_of, word_text};
 
 use crate::names::{field_names, role_names, words};
 use crate::phrases::write_reason;
 use crate::reasons::{LineFault, OtherReason, Reason};
 use line_text::{column_after, nearest, write_shown};
+use role_names::number_named;
 use std::io::{self, Write};
 
 /// Writes the fault of the line with this number, counted from 1: the line, the column in characters from 1, the reason,
-/// the word at fault, and the nearest right word if one is near. Control characters of the word are written as question
-/// marks; a word of more than 200 bytes isn't written.
+/// the word at fault, and the nearest right word if one is near; of a role that is sent by a number, how a script writes it.
+/// Control characters of the word are written as question marks; a word of more than 200 bytes isn't written.
 ///
 /// The line is given without its line end.
 pub fn write_fault<O: Write>(
@@ -43,16 +44,47 @@ fn write_message<O: Write>(
     let (line, column) = place;
     write!(out, "line {line}, column {column}: ")?;
     write_reason(reason, out)?;
-    write_end(word, near, out)
+    write_end(reason, word, near, out)
 }
 
-/// Writes the end of a message: the word, and the one that may be meant.
-fn write_end<O: Write>(word: &[u8], near: Option<&str>, out: &mut O) -> io::Result<()>
-    ensures { OnOk result (Appends (O.contents out.old) (O.contents out.new) (end_text word.now (option_copied near.entry))) }
+/// Writes the end of a message: the word, and what may be meant.
+fn write_end<O: Write>(
+    reason: Reason,
+    word: &[u8],
+    near: Option<&str>,
+    out: &mut O,
+) -> io::Result<()>
+    ensures { OnOk result (Appends (O.contents out.old) (O.contents out.new) (end_text reason word.now (option_copied near.entry))) }
 {
     write_word(word, out)?;
-    write_near(near, out)?;
+    write_hint(reason, word, near, out)?;
     out.write_all(b"\n")
+}
+
+/// Writes how a script writes the role that the word names, if that is sent by a number, and else the word that may be
+/// meant.
+fn write_hint<O: Write>(
+    reason: Reason,
+    word: &[u8],
+    near: Option<&str>,
+    out: &mut O,
+) -> io::Result<()>
+    ensures { OnOk result (Appends (O.contents out.old) (O.contents out.new) (hint_text reason word.now (option_copied near.entry))) }
+{
+    match number_meant(reason, word) {
+        Some(number) => write!(out, "; in a script it is Other({number})"),
+        None => write_near(near, out),
+    }
+}
+
+/// The number of the role that the word names, if the fault is an unknown role, and the role is sent by a number.
+fn number_meant(reason: Reason, word: &[u8]) -> Option<u16>
+    ensures { result ≡ number_meant reason word.now }
+{
+    match reason {
+        Reason::UnknownRole => number_named(word),
+        Reason::UnknownField(_) | Reason::Other(_) => None,
+    }
 }
 
 /// The column of a fault, counted in characters (Unicode scalar values) from 1.

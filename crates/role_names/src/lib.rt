@@ -5,5 +5,5 @@ pub mod laws;
 mod names;
 mod table;
 
-pub use names::{RoleName, name_of, other_role_named, word_of};
+pub use names::{RoleName, name_of, number_named, other_role_named, word_of};
 pub use table::{OtherRole, other_roles};

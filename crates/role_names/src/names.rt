@@ -17,10 +17,10 @@ fn numbered_in(table: &[OtherRole], number: u16) -> Option<&OtherRole>
 }
 
 /// The first of these entries with this name.
-fn named_in<'a>(table: &'a [OtherRole], name: &str) -> Option<&'a OtherRole>
+fn named_in<'a>(table: &'a [OtherRole], name: &[u8]) -> Option<&'a OtherRole>
     ensures { option_copied result ≡ find (λ entry. bytes_eq entry.1.now name.now) table.now }
 {
-    table.iter().find(|entry| entry.1 == name)
+    table.iter().find(|entry| entry.1.as_bytes() == name)
 }
 
 /// The entry of the table with this number.
@@ -32,7 +32,7 @@ fn numbered(number: u16) -> Option<&'static OtherRole>
 }
 
 /// The entry of the table with this name.
-fn named(name: &str) -> Option<&'static OtherRole>
+fn named(name: &[u8]) -> Option<&'static OtherRole>
     ensures { option_map entry_of (option_copied result) ≡ named name.now }
 {
     named_in(other_roles(), name)
@@ -59,13 +59,21 @@ pub fn word_of(number: u16) -> Option<&'static str>
     }
 }
 
+/// The number of the role with this name, if the table has one: 328 of `Heading`. The name is given by its bytes.
+pub fn number_named(name: &[u8]) -> Option<u16>
+    ensures { result ≡ number_named name.now }
+{
+    let (number, _, _) = named(name)?;
+    Some(*number)
+}
+
 /// The role with this name, if the table has one: `Other(328)` of `Heading`. The names of the roles that have a variant of
 /// their own, as `Button`, are not in the table.
 pub fn other_role_named(name: &str) -> Option<Role>
     ensures { result ≡ option_map (λ number. Other number) (number_named name.now) }
 {
-    let (number, _, _) = named(name)?;
-    Some(Role::Other(*number))
+    let number = number_named(name.as_bytes())?;
+    Some(Role::Other(number))
 }
 
 /// A role, printed by its name: one that is sent by a number by its name in the table, if it has one there, and any other
