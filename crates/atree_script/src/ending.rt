@@ -69,7 +69,7 @@ impl<'a, E: Write> Player for Reading<'a, E> {
 }
 
 /// The number of updates after this command.
-fn count_after(updates: u64, command: &Command) -> u64
+pub fn count_after(updates: u64, command: &Command) -> u64
     ensures { result ≡ count_after updates command.now }
 {
     match command {
@@ -79,7 +79,7 @@ fn count_after(updates: u64, command: &Command) -> u64
 }
 
 /// The number of updates after one more.
-fn next_number(updates: u64) -> u64
+pub fn next_number(updates: u64) -> u64
     ensures { result ≡ next_number updates }
 {
     updates.saturating_add(1)
@@ -106,7 +106,11 @@ fn step_silent(session: &mut Session, command: Command) -> Result<Reply, AllocEr
 }
 
 /// Reports by its number that an update was refused, if this is the reply to it.
-fn report_reply<E: Write>(
+///
+/// # Errors
+///
+/// Returns `Stop::Memory` if memory ran out, also in the update, and `Stop::WriteFault` for an error of `errors`.
+pub fn report_reply<E: Write>(
     number: u64,
     reply: &Result<Reply, AllocError>,
     errors: &mut E,
@@ -133,7 +137,15 @@ fn refusal_of(reply: &Reply) -> Option<UpdateError>
 }
 
 /// Reports by its number that an update was refused, and why. One that ran out of memory stops the script, and isn't reported here.
-fn report_refusal<E: Write>(number: u64, refusal: UpdateError, errors: &mut E) -> Result<(), Stop>
+///
+/// # Errors
+///
+/// Returns `Stop::Memory` if memory ran out in the update, and `Stop::WriteFault` for an error of `errors`.
+pub fn report_refusal<E: Write>(
+    number: u64,
+    refusal: UpdateError,
+    errors: &mut E,
+) -> Result<(), Stop>
     ensures { ReportsRefusal number refusal result (E.contents errors.old) (E.contents errors.new) }
 {
     match stopped_by(refusal) {

@@ -10,14 +10,14 @@ mod replies;
 mod run;
 mod sides;
 
-pub use ending::{Teller, tell_as_asked};
+pub use ending::{Teller, count_after, next_number, report_refusal, report_reply, tell_as_asked};
 pub use playing::{Played, Player, play, run_told, stopped_by};
 pub use printer::ShownId;
 pub use replies::write_text;
 pub use run::run_script;
 pub use script_lines::{
     ArgumentError, ArgumentKind, Arguments, Manual, Program, ScriptCommand, ScriptReader, Stop,
-    end_run, end_script_run, is_like_a_file, miscounted, number, role_named, run_program,
-    run_without_arguments, tell_no_memory, tree_named, unknown_word, write_quoted,
+    end_run, end_script_run, is_like_a_file, miscounted, number, read_option, role_named,
+    run_program, run_without_arguments, tell_no_memory, tree_named, unknown_word, write_quoted,
 };
 pub use sides::write_sides;

@@ -1,8 +1,9 @@
 -- What a program says of itself and of its arguments.
-use Rattle.std.specs.Prelude.{ℕ, List, [], ◌++◌, codes, Option, Some, None, option_copied, Result, Ok, Err, MatchResult, ◌≡◌}
+use Rattle.std.specs.Prelude.{ℕ, List, [], ◌∷◌, ◌++◌, codes, Bool, true, false, if◌then◌else◌, MatchOption, Option, Some, None, option_copied, Result, Ok, Err, MatchResult, ◌≡◌}
+use Rattle.std.specs.Str.{bytes_eq}
 use Rattle.std.specs.String.{string_bytes}
 use Rattle.line_text.specs.Shown.{shown}
-use Rattle.script_lines.specs.ArgumentErrors.{ReadsWords}
+use Rattle.script_lines.specs.ArgumentErrors.{ReadsNone, ReadsWords}
 use Rattle.script_lines.specs.Ends.{Tells, told_of}
 use Rattle.script_lines.specs.declared.argument_errors.ArgumentError.{ArgumentError}
 use Rattle.script_lines.specs.declared.argument_errors.ArgumentError.TheVariants.{Help, Count, File, Unknown, NotUtf8, Memory}
@@ -70,3 +71,20 @@ Answers reads manual words result out out' err err' =
     MatchResult result
     (λ asked. ReadsWords reads words (Ok asked) × (out' ≡ out) × (err' ≡ err))
     (λ status. (error : ArgumentError) × ReadsWords reads words (Err error) × TellsError manual error out out' err err' status)
+
+-- the words after the option, if it is the first
+abbrev pub after_option : List ℕ → List (List ℕ) → Option (List (List ℕ))
+after_option option [] = None
+after_option option (first ∷ others) = if bytes_eq first option then Some others else None
+
+-- what is answered to words by a program without arguments: whether its option is given, if there are none
+abbrev pub AnswersOthers : Bool → Manual → List (List ℕ) → Result Bool ℕ → Bytes → Bytes → Bytes → Bytes → Type 0
+AnswersOthers given manual words (Ok answer) out out' err err' = (answer ≡ given) × (words ≡ []) × (out' ≡ out) × (err' ≡ err)
+AnswersOthers given manual words (Err status) out out' err err' =
+    (error : ArgumentError) × ReadsWords ReadsNone words (Err error) × TellsError manual error out out' err err' status
+
+-- what is answered to words by a program whose only argument is an option, which comes first
+abbrev pub AnswersOption : List ℕ → Manual → List (List ℕ) → Result Bool ℕ → Bytes → Bytes → Bytes → Bytes → Type 0
+AnswersOption option manual words result out out' err err' =
+    MatchOption (after_option option words) (AnswersOthers false manual words result out out' err err')
+    (λ others. AnswersOthers true manual others result out out' err err')

@@ -1,10 +1,10 @@
 //! The arguments of a program, and what it says of itself.
 
-ghost use Rattle.std.specs.Prelude.{◌≡◌, ◌≤◌, ◌≢◌, ℕ, IfErr, List, OnOk, Result, map, option_copied};
+ghost use Rattle.std.specs.Prelude.{◌≡◌, ◌≤◌, ◌≢◌, ℕ, IfErr, List, OnOk, Result, map, option_copied, option_map};
 ghost use Rattle.std.specs.Io.KnownBytes.{Appends};
 ghost use Rattle.std.specs.String.{string_bytes};
 ghost use Rattle.script_lines.specs.ArgumentErrors.{ReadsNone, ReadsWords};
-ghost use Rattle.script_lines.specs.Arguments.{Answers, TellsError, call_text, error_text, hint_text, kind_text, manual_text, near_text, unknown_text, usage_text, wrong_text};
+ghost use Rattle.script_lines.specs.Arguments.{after_option, Answers, AnswersOption, AnswersOthers, TellsError, call_text, error_text, hint_text, kind_text, manual_text, near_text, unknown_text, usage_text, wrong_text};
 ghost use Rattle.script_lines.specs.Ends.{Tells};
 ghost use Rattle.script_lines.specs.declared.argument_errors.ArgumentError.{ArgumentError as AnError};
 
@@ -75,10 +75,28 @@ pub fn read_arguments<A: Arguments>(rt: &HostRuntime, manual: &Manual) -> Result
         Err(error) => return Err(tell_error(&error, manual, &mut output, &mut errors)),
     };
     let asked = answer_words(rt.alloc(), &words, manual, &mut output, &mut errors)?;
-    if rt.stdin().is_terminal() && write_terminal(&mut errors).is_err() {
-        return Err(FAULT);
-    }
+    note_terminal(rt, &mut errors)?;
     Ok(asked)
+}
+
+/// Reads the arguments of a program whose only argument is this option, and returns whether it is given, as the first word. The other words
+/// are read as by [`read_arguments`] for a program without arguments.
+///
+/// # Errors
+///
+/// Returns the exit status if the program is not to run, as [`read_arguments`] does.
+pub fn read_option(rt: &HostRuntime, manual: &Manual, option: &str) -> Result<bool, u8>
+    ensures { IfErr result (λ status. (status ≤ 4) × (status ≢ 1)) }
+{
+    let mut output = io::writer(rt);
+    let mut errors = rt.stderr();
+    let words = match words_given(rt) {
+        Ok(words) => words,
+        Err(error) => return Err(tell_error(&error, manual, &mut output, &mut errors)),
+    };
+    let is_given = answer_option(rt.alloc(), option, &words, manual, &mut output, &mut errors)?;
+    note_terminal(rt, &mut errors)?;
+    Ok(is_given)
 }
 
 /// The words that follow the program's name.
@@ -94,6 +112,16 @@ fn words_given(rt: &HostRuntime) -> Result<Vec<String>, ArgumentError> {
         Err(error) if error.kind() == ErrorKind::OutOfMemory => Err(ArgumentError::Memory),
         Err(_) => Err(ArgumentError::NotUtf8),
     }
+}
+
+/// Says on standard error that the script would have to be typed, if that is so.
+fn note_terminal<E: Write>(rt: &HostRuntime, errors: &mut E) -> Result<(), u8>
+    ensures { IfErr result (λ status. (status ≤ 4) × (status ≢ 1)) }
+{
+    if rt.stdin().is_terminal() && write_terminal(errors).is_err() {
+        return Err(FAULT);
+    }
+    Ok(())
 }
 
 /// Writes that the script is read from a terminal: a file's name may have been taken for a label.
@@ -121,6 +149,62 @@ fn answer_words<A: Arguments, O: Write, E: Write>(
     match asked_for(alloc, words) {
         Ok(asked) => Ok(asked),
         Err(error) => Err(tell_error(&error, manual, output, errors)),
+    }
+}
+
+/// Whether the option is the first of a program's words. If the program is not to run, its manual is printed, or what is wrong with
+/// the other words is reported.
+///
+/// # Errors
+///
+/// Returns the exit status if the program is not to run.
+fn answer_option<O: Write, E: Write>(
+    alloc: Global,
+    option: &str,
+    words: &[String],
+    manual: &Manual,
+    output: &mut O,
+    errors: &mut E,
+) -> Result<bool, u8>
+    ensures bound { IfErr result (λ status. (status ≤ 4) × (status ≢ 1)) }
+    ensures answers { AnswersOption option.now manual.now (map string_bytes words.now) result (O.contents output.old) (O.contents output.new) (E.contents errors.old) (E.contents errors.new) }
+{
+    match after_option(option, words) {
+        Some(others) => answer_others(true, alloc, others, manual, output, errors),
+        None => answer_others(false, alloc, words, manual, output, errors),
+    }
+}
+
+/// The words after the option, if it is the first.
+fn after_option<'a>(option: &str, words: &'a [String]) -> Option<&'a [String]>
+    ensures { option_map (λ others. map string_bytes others.now) result ≡ after_option option.now (map string_bytes words.now) }
+{
+    match words {
+        [first, others @ ..] if first.as_str() == option => Some(others),
+        _ => None,
+    }
+}
+
+/// Whether the option is given, if there are no other words. If the program is not to run, its manual is printed, or what is wrong with
+/// the words is reported.
+///
+/// # Errors
+///
+/// Returns the exit status if the program is not to run.
+fn answer_others<O: Write, E: Write>(
+    is_given: bool,
+    alloc: Global,
+    words: &[String],
+    manual: &Manual,
+    output: &mut O,
+    errors: &mut E,
+) -> Result<bool, u8>
+    ensures bound { IfErr result (λ status. (status ≤ 4) × (status ≢ 1)) }
+    ensures answers { AnswersOthers is_given manual.now (map string_bytes words.now) result (O.contents output.old) (O.contents output.new) (E.contents errors.old) (E.contents errors.new) }
+{
+    match answer_words(alloc, words, manual, output, errors) {
+        Ok(NoArguments) => Ok(is_given),
+        Err(status) => Err(status),
     }
 }
 
