@@ -8,7 +8,7 @@ use crate::states::{flag, live_word};
 use schema::Live;
 use std::fmt;
 
-/// A dialog's title, or that it has none, or that it isn't said.
+/// A dialog's title: `no name` if the dialog isn't named, and `label hidden` if its name isn't said.
 #[derive(Clone, Copy)]
 struct Titled<'a> {
     title: Option<&'a str>,

@@ -7,15 +7,14 @@ use Rattle.model.specs.Mirror.{Records, AreRecordsOf, MirrorsWhileKept}
 use Rattle.model.specs.World.{World}
 use Rattle.model.proofs.Mirror.KeptRecords.{kept_records_follow_run}
 use Rattle.model.proofs.Run.Runs.{runs_one}
-use Rattle.script_words.specs.declared.stops.Stop.{Stop}
 use Rattle.session.specs.declared.commands.Command.{Command}
 use Rattle.session.specs.declared.commands.Reply.{Reply}
 use Rattle.session.specs.Replied.{command_said, reply_said, IsStep}
 use Rattle.speaking.specs.declared.speaker.Speaker.{Speaker}
-use Rattle.speak.specs.Steps.{Hears, StepsHeard}
+use Rattle.speak.proofs.Rightly.{HearBoth}
 
 -- what the second of two is told
-second_told : (s t : Speaker × Option Records) (es : List Event) → Told Hears s es t → Told MirrorsWhileKept s.1 es t.1
+second_told : (s t : Speaker × Option Records) (es : List Event) → Told HearBoth s es t → Told MirrorsWhileKept s.1 es t.1
 second_told s t [] h = ap (λ x. x.1) h
 second_told s t (e ∷ es) h = (h.0.1, (h.1.0.1, second_told h.0 t es h.1.1))
 
@@ -30,5 +29,5 @@ follows w v c told (Ok reply) (Some r) n step heard held = kept_records_follow_r
 follows w v c told (Err wanting) (Some r) n step heard held = kept_as_it_was w v r n told step.0 step.1 held heard
 
 -- a mirror that had the records of the session's tree has them after a step, while it keeps anything
-pub mirror_follows : (w v : World) (c : Command) (s t : Speaker × Option Records) (result : Result Unit Stop) → StepsHeard w c v s t result → IsSomeAnd s.1 (AreRecordsOf w) → IfSome t.1 (AreRecordsOf v)
-mirror_follows w v c s t result h held = follows w v c h.events h.reply s.1 t.1 h.step (second_told s t h.events h.told) held
+pub mirror_follows : (w v : World) (c : Command) (s t : Speaker × Option Records) (told : List Event) (reply : Result Reply AllocError) → IsStep w c v told reply → Told HearBoth s told t → IsSomeAnd s.1 (AreRecordsOf w) → IfSome t.1 (AreRecordsOf v)
+mirror_follows w v c s t told reply step heard held = follows w v c told reply s.1 t.1 step (second_told s t told heard) held

@@ -3,12 +3,16 @@
 
 mod adapter;
 mod manual;
+mod numbering;
 
 use crate::adapter::Speak;
-use crate::manual::MANUAL;
-use atree_script::run_without_arguments;
+use crate::manual::{MANUAL, NUMBERED};
+use atree_script::{read_option, run_program};
 use std::process::ExitCode;
 
 fn main(rt: HostRuntime) -> ExitCode {
-    run_without_arguments(&rt, &MANUAL, &Speak)
+    match read_option(&rt, &MANUAL, NUMBERED) {
+        Ok(is_numbered) => run_program(&rt, &Speak { is_numbered }),
+        Err(status) => ExitCode::from(status),
+    }
 }

@@ -2,19 +2,25 @@
 
 use atree_script::Manual;
 
+/// The only argument: a line before each update's speech.
+pub(crate) const NUMBERED: &str = "--numbered";
+
 /// What the program says of itself.
 pub(crate) const MANUAL: Manual = Manual {
     name: "speak",
-    arguments: "",
+    arguments: " [--numbered]",
     help: HELP,
 };
 
 const HELP: &str = "\
 Prints what a small screen reader would say at each step of a script: of the focus, of what changes in the focused
-node, and of live regions. The script is read from standard input. There are no arguments.
+node, and of live regions. The script is read from standard input. Refused updates are reported on standard error.
+
+  --numbered  put a line before what is said of each update: its number
 
 For example:
   bin/speak < examples/settings.script
+  bin/speak --numbered < examples/mail.script
 
 Exit status: 0 at the end of the script; 2 for a bad line, or for an argument; 3 if a stream failed; 4 if memory ran
 out, also in an update.

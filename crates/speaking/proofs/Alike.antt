@@ -1,27 +1,24 @@
 -- In two worlds that differ in what is typed into a password alone, the same is said of each node, of the focus, and of each event.
-use Rattle.std.proofs.Common.{◌≡◌, ◌≢◌, ℕ, ◌⊎◌, inl, inr, ℤ, Bool, true, false, not, ◌&&◌, ◌||◌, cond, List, [], ◌∷◌, map, length, Option, Some, None, find, unwrap_or, option_map, is_some, is_none, refl, sym, ap, subst, ◌∙◌, if◌then◌else◌}
+use Rattle.std.proofs.Common.{◌≡◌, ◌≢◌, ℕ, ◌⊎◌, inl, inr, Bool, true, false, not, ◌&&◌, ◌||◌, cond, List, [], ◌∷◌, map, Option, Some, None, find, unwrap_or, option_map, is_some, is_none, refl, sym, ap, subst, ◌∙◌, if◌then◌else◌}
 use Rattle.std.specs.Option.{option_map_or, option_or}
 use Rattle.std.specs.List.{list_any}
 use Rattle.std.proofs.lemmas.Option.{same_Some}
 use Rattle.schema.specs.NodeData.{NodeData}
 use Rattle.schema.specs.Roles.{same_role}
 use Rattle.schema.specs.declared.Role.TheVariants.{TextRun}
-use Rattle.schema.specs.declared.values.Live.{Live}
 use Rattle.schema.specs.declared.values.Live.TheVariants.{Off}
 use Rattle.model.specs.declared.FullNodeId.{FullNodeId}
-use Rattle.model.specs.declared.filters.FilterResult.{FilterResult}
 use Rattle.model.specs.declared.filters.FilterResult.TheVariants.{Include, ExcludeNode, ExcludeSubtree}
-use Rattle.model.specs.Covers.{is_included, filtered_parent}
-use Rattle.model.specs.Events.{Seen, Event, seen_in}
+use Rattle.model.specs.Covers.{is_included}
+use Rattle.model.specs.Events.{seen_in}
 use Rattle.model.specs.Forest.{is_same}
 use Rattle.model.specs.Filters.{is_hidden}
-use Rattle.model.specs.Focus.{IsEffectiveFocus, IsFocus, IsFocusedNode, IsActiveDialog, Resolves}
+use Rattle.model.specs.Focus.{IsEffectiveFocus, IsFocusedNode, Resolves}
 use Rattle.model.specs.Lists.{ancestors}
 use Rattle.model.specs.Outline.{outline, without_text}
 use Rattle.model.specs.RoleClasses.{is_text_input, is_password_input, is_multiline, is_see_through}
 use Rattle.model.specs.TextRuns.{is_password}
-use Rattle.model.specs.Upward.{says, field_at, is_within}
-use Rattle.model.specs.Values.{is_without_text, placeholder}
+use Rattle.model.specs.Upward.{says, says_upward, field_at, is_within}
 use Rattle.model.specs.Views.{live, computed_size_of_set, computed_position_in_set}
 use Rattle.model.specs.World.{World, Place, HasData, data_of}
 use Rattle.model.proofs.Alike.Bare as bare
@@ -30,8 +27,7 @@ use Rattle.model.proofs.Alike.Sets.{size_same, position_same}
 use Rattle.model.proofs.Text.Outlines.{says_same, given_same, inherited_same, above_is, reads_or}
 use Rattle.views.proofs.Climbing.{rest_above}
 use Rattle.hidden_texts.specs.Alike.{DifferInPassword}
-use Rattle.hidden_texts.specs.Hidden.{is_in_password, hides_label, hides_text, hides_value}
-use Rattle.hidden_texts.specs.Shown.{shown_label, shown_value}
+use Rattle.hidden_texts.specs.Hidden.{is_in_password, hides_text}
 use Rattle.hidden_texts.proofs.HiddenAlike.{in_one, values_one, hidden_labels_one, texts_one, data_one, is_other}
 use Rattle.hidden_texts.proofs.ShownAlike.{value_shown, label_shown}
 use Rattle.phrases.specs.declared.focus.Focus.{Focus}
@@ -41,15 +37,16 @@ use Rattle.phrases.specs.Roles.{role_word}
 use Rattle.phrases.specs.Sayings.{label_line, value_line, description_line, group_line}
 use Rattle.phrases.specs.Tellings.{told}
 use Rattle.phrases.specs.Voices.{Speech}
-use Rattle.speaking.specs.declared.speaker.Speaker.{Speaker}
-use Rattle.speaking.specs.Changes.{label_said, value_change, toggles_said, flags_said, change_said, SaysChange}
-use Rattle.speaking.specs.Dialogs.{WasInside, WasOutside, Enters, ShowsDialog, SaysDialog, SaysEntered, SaysFocus, SaysMove, SaysMoved}
-use Rattle.speaking.specs.Events.{HasFocus, SaysAdded, SaysUpdated, Says, Begins}
+use Rattle.speaking.specs.Changes.{label_said, toggles_said, flags_said, change_said, SaysChange}
+use Rattle.speaking.specs.Dialogs.{WasInside, WasOutside, Enters, ShowsDialog, SaysDialog, SaysEntered, SaysFocus, SaysMoved}
+use Rattle.speaking.specs.Events.{SaysAdded, SaysUpdated}
 use Rattle.speaking.specs.Said.{said_if}
-use Rattle.speaking.specs.Groups.{is_group, group_answer, group_around, was_in_group, group_named, group_said}
-use Rattle.speaking.specs.Laws.{AreAlike, AreAlikeEvents, added, updated, moved, removed, BeginsAlike, SaysAlike}
+use Rattle.speaking.specs.Groups.{is_group, group_around, was_in_group, group_named, group_said}
+use Rattle.speaking.specs.Laws.{AreAlike, added, updated, moved, removed, BeginsAlike, SaysAlike}
+use Rattle.speaking.specs.Above.{above_of}
+use Rattle.speaking.specs.Holders.{speaks_for_runs, holder_answer, speaks_itself}
 use Rattle.speaking.specs.Lines.{caret_said}
-use Rattle.speaking.specs.LiveTexts.{is_live, is_told, speaks_for_runs, holder_answer, speaks_itself, own_text, told_text, TellsNew, TellsChange}
+use Rattle.speaking.specs.LiveTexts.{is_live, is_told, own_text, unless_blank, told_text, TellsNew, TellsChange}
 use Rattle.speaking.specs.NodeTexts.{number_said, value_said, placeholder_said, description_said, shown, instead, state_said, listed_answer, place_from, place_said, is_edited, is_said_by_line, ShowsFocus}
 use Rattle.speaking.proofs.LinesAlike.{caret_is}
 use Rattle.speaking.proofs.Plain.{both_true, not_true, left_false, right_false, plain_node}
@@ -167,9 +164,13 @@ module _ (p : FullNodeId) (w v : World) (alike : AreAlike p w v) where
   hidden_is : (id : FullNodeId) → is_hidden w id ≡ is_hidden v id
   hidden_is id = one_of p w v alike (λ u. is_hidden u id) (λ u i. hidden_same u i id)
 
-  told_is : (id : FullNodeId) (d e : NodeData) → without_text d ≡ without_text e → is_told w id d ≡ is_told v id e
+  busy_is : (id : FullNodeId) → says_upward (λ d. d.busy) w id ≡ says_upward (λ d. d.busy) v id
+  busy_is id =
+      one_of p w v alike (λ u. says_upward (λ d. d.busy) u id) (λ u i. list_any (says_same u (λ d. d.busy) (λ d. refl) i) (id ∷ map (λ (q : Place). q.0) (above_is u i id)))
+
+  told_is : (id : FullNodeId) (d e : NodeData) → without_text d ≡ without_text e → is_told (above_of w id) d ≡ is_told (above_of v id) e
   told_is id d e s i =
-      is_live (live_is id i) && (not (is_text_input (s i).role) && (not (hidden_is id i) && (not (s i).busy && not (in_one p w v alike.formed typed i id))))
+      is_live (live_is id i) && (not (is_text_input (s i).role) && (not (hidden_is id i) && (not (busy_is id i) && not (in_one p w v alike.formed typed i id))))
 
   -- what is above a node that is in no password has the same data in both
   above_one : (up : List FullNodeId) (id : FullNodeId) → ancestors w id ≡ up → list_any (is_password w) up ≡ false →
@@ -191,25 +192,27 @@ module _ (p : FullNodeId) (w v : World) (alike : AreAlike p w v) where
       let found = above_one (ancestors w id) id refl out in
       ap is_none found ∙ (λ i. is_none (find (λ a. is_included (holder_answer v a)) (ancestors_one i id)))
 
-  own_is : (id : FullNodeId) (d e : NodeData) → HasData w id d → HasData v id e → is_told w id d ≡ true → own_text w id d ≡ own_text v id e
+  own_is : (id : FullNodeId) (d e : NodeData) → HasData w id d → HasData v id e → is_told (above_of w id) d ≡ true → own_text (above_of w id) d ≡ own_text (above_of v id) e
   own_is id d e h k is =
-      let first = both_true (is_live (live w id)) (not (is_text_input d.role) && (not (is_hidden w id) && (not d.busy && not (is_in_password w id)))) is in
-      let second = both_true (not (is_text_input d.role)) (not (is_hidden w id) && (not d.busy && not (is_in_password w id))) first.1 in
-      let third = both_true (not (is_hidden w id)) (not d.busy && not (is_in_password w id)) second.1 in
-      let fourth = both_true (not d.busy) (not (is_in_password w id)) third.1 in
+      let first = both_true (is_live (live w id)) (not (is_text_input d.role) && (not (is_hidden w id) && (not (says_upward (λ x. x.busy) w id) && not (is_in_password w id)))) is in
+      let second = both_true (not (is_text_input d.role)) (not (is_hidden w id) && (not (says_upward (λ x. x.busy) w id) && not (is_in_password w id))) first.1 in
+      let third = both_true (not (is_hidden w id)) (not (says_upward (λ x. x.busy) w id) && not (is_in_password w id)) second.1 in
+      let fourth = both_true (not (says_upward (λ x. x.busy) w id)) (not (is_in_password w id)) third.1 in
       let out : is_in_password w id ≡ false = not_true (is_in_password w id) fourth.1 in
       let plain : is_password w id ≡ false = plain_node w id d h (not_true (is_text_input d.role) second.0) in
       let facts : data_of w id ≡ data_of v id = data_one p w v alike.formed typed id (is_other p w v alike.formed typed id plain) out in
       let q : d ≡ e = same_Some d e (sym h ∙ facts ∙ k) in
       let itself : speaks_itself w id ≡ speaks_itself v id = itself_is id out in
-      λ i. if same_role (q i).role TextRun then (if itself i then (q i).value else None) else option_or (q i).value (q i).label
+      λ i. if same_role (q i).role TextRun then (if not (itself i) then None else (q i).value) else option_or (q i).value (q i).label
 
   told_by : (a b : Bool) (x y : Option (List ℕ)) → a ≡ b → (a ≡ true → x ≡ y) → (if a then x else None) ≡ (if b then y else None)
   told_by true b x y e h = h refl ∙ ap (λ c. if c then y else None) e
   told_by false b x y e h = ap (λ c. if c then y else None) e
 
-  pub told_text_is : (id : FullNodeId) (d e : NodeData) → HasData w id d → HasData v id e → without_text d ≡ without_text e → told_text w id d ≡ told_text v id e
-  told_text_is id d e h k s = told_by (is_told w id d) (is_told v id e) (own_text w id d) (own_text v id e) (told_is id d e s) (own_is id d e h k)
+  pub told_text_is : (id : FullNodeId) (d e : NodeData) → HasData w id d → HasData v id e → without_text d ≡ without_text e → told_text (above_of w id) d ≡ told_text (above_of v id) e
+  told_text_is id d e h k s =
+      told_by (is_told (above_of w id) d) (is_told (above_of v id) e) (unless_blank (own_text (above_of w id) d)) (unless_blank (own_text (above_of v id) e)) (told_is id d e s)
+      (λ is. ap unless_blank (own_is id d e h k is))
 
   pub tells_new : (id : FullNodeId) (x y : Speech) → TellsNew (seen_in w id) x y → TellsNew (seen_in v id) x y
   tells_new id x y h =

@@ -1,6 +1,9 @@
 pub mod Alike
+pub mod Hearing
 pub mod LinesAlike
 pub mod Plain
 pub mod Same
+pub mod Steps
 pub mod TextsAlike
 pub mod Typing
+pub mod Ways

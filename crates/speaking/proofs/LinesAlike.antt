@@ -1,23 +1,21 @@
 -- In two worlds that differ in what is typed into a password alone, a text that isn't hidden is the same.
-use Rattle.std.proofs.Common.{◌≡◌, ◌≢◌, ℕ, Bool, true, false, not, ◌&&◌, ◌||◌, nat_lt, bytes_eq, List, [], ◌∷◌, map, length, Option, Some, None, unwrap_or, option_map, option_and_then, is_some, is_none, string_bytes, refl, sym, ap, subst, ◌∙◌, if◌then◌else◌}
-use Rattle.std.specs.Prelude.{Contains, IfSome, IsSome}
+use Rattle.std.proofs.Common.{◌≡◌, ◌≢◌, ℕ, Bool, true, false, not, ◌&&◌, nat_lt, bytes_eq, List, [], ◌∷◌, map, length, Option, None, unwrap_or, option_map, option_and_then, is_some, refl, sym, ap, ◌∙◌, if◌then◌else◌}
+use Rattle.std.specs.Prelude.{Contains}
 use Rattle.std.specs.List.{flat_map}
-use Rattle.schema.specs.NodeData.{NodeData, empty_node}
+use Rattle.schema.specs.NodeData.{empty_node}
 use Rattle.schema.specs.declared.Role.TheVariants.{TextRun}
 use Rattle.schema.specs.declared.values.TextSelection.{TextSelection}
 use Rattle.model.specs.declared.FullNodeId.{FullNodeId}
-use Rattle.model.specs.FlatText.{ShownRun, FlatText, are_alike, flat_text, needs_masking, shown_run, shown_character, metrics_of}
-use Rattle.model.specs.Forest.{is_same}
+use Rattle.model.specs.FlatText.{FlatText, are_alike, flat_text, needs_masking, shown_run, shown_character, metrics_of}
 use Rattle.model.specs.Geometry.{transform, transform_within}
 use Rattle.model.specs.Moves.{to_line_index}
-use Rattle.model.specs.Outline.{outline, without_text}
 use Rattle.model.specs.Ranges.{text_of, document_range, range_between, nearest_named, selection}
-use Rattle.model.specs.RoleClasses.{holds_text, is_multiline, is_text_input}
+use Rattle.model.specs.RoleClasses.{holds_text, is_multiline}
 use Rattle.model.specs.Styles.{style_of}
 use Rattle.model.specs.TextRuns.{SentRun, is_password, run_ids, has_runs, sent_run, sent_runs, sent_characters, ends_with_newline, lie_in_tree, are_cut, have_rising_words, are_empty_last, are_linked_in_order, have_size, are_measured, supports_text_ranges}
 use Rattle.model.specs.Upward.{says, inherited_field}
 use Rattle.model.specs.Values.{document_text}
-use Rattle.model.specs.World.{World, HasData, data_of}
+use Rattle.model.specs.World.{World, data_of}
 use Rattle.model.proofs.Members.{contains_first, contains_later}
 use Rattle.model.proofs.Text.Outlines.{says_same, inherited_same, runs_same, style_same, transform_same, transform_within_same}
 use Rattle.hidden_texts.specs.Hidden.{is_in_password, has_password_below, holds_password, hides_text}

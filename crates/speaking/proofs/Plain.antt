@@ -1,5 +1,5 @@
 -- Booleans, and nodes that are no password.
-use Rattle.std.proofs.Common.{◌≡◌, Bool, true, false, not, ◌&&◌, ◌||◌, Option, Some, None, sym, ap, refl, ◌∙◌}
+use Rattle.std.proofs.Common.{◌≡◌, Bool, true, false, not, ◌&&◌, ◌||◌, ap, refl, ◌∙◌}
 use Rattle.std.specs.Option.{option_map_or}
 use Rattle.schema.specs.NodeData.{NodeData}
 use Rattle.schema.specs.declared.Role.{Role}

@@ -1,14 +1,13 @@
 -- In two worlds that differ in what is typed into a password alone, the same is said at the end of a step.
-use Rattle.std.proofs.Common.{◌≡◌, ℕ, Bool, true, false, not, ◌&&◌, Option, Some, None, string_bytes, is_none, refl, sym, ap, subst, ◌∙◌}
+use Rattle.std.proofs.Common.{◌≡◌, ℕ, true, false, not, ◌&&◌, Option, Some, None, is_none, sym, subst, ◌∙◌}
 use Rattle.schema.specs.NodeData.{NodeData}
 use Rattle.model.specs.declared.FullNodeId.{FullNodeId}
 use Rattle.model.specs.RoleClasses.{is_text_input}
-use Rattle.model.specs.World.{World, HasData}
+use Rattle.model.specs.World.{World}
 use Rattle.hidden_texts.specs.Hidden.{hides_text}
 use Rattle.phrases.specs.Voices.{Speech}
 use Rattle.speaking.specs.declared.edits.FocusedText.{FocusedText}
-use Rattle.speaking.specs.declared.speaker.Speaker.{Speaker}
-use Rattle.speaking.specs.Edits.{SaysLine, SaysText, IsReadOf, SaysMoves, SaysArrival, held_of, SaysTextOf, SaysEdited, SaysOf, IsEdited, SaysFocused, SaysEnd, Settles}
+use Rattle.speaking.specs.Edits.{SaysLine, SaysText, IsReadOf, SaysMoves, held_of, SaysTextOf, SaysEdited, SaysOf, IsEdited, SaysFocused, SaysEnd}
 use Rattle.speaking.specs.Laws.{AreAlike, SettlesAlike}
 use Rattle.speaking.specs.NodeTexts.{is_edited}
 use Rattle.speaking.proofs.Alike.{edited_is}

@@ -4,7 +4,6 @@ use Rattle.std.proofs.lemmas.Option.{same_Some}
 use Rattle.std.proofs.lemmas.Slice.Eq.{bytes_eq-Decides}
 use Rattle.schema.specs.NodeData.{NodeData}
 use Rattle.schema.specs.declared.values.Live.{Live}
-use Rattle.schema.specs.declared.values.Live.TheVariants.{Off, Polite, Assertive}
 use Rattle.schema.specs.declared.values.Toggled.{Toggled}
 use Rattle.schema.specs.declared.values.Toggled.TheVariants.{False, True, Mixed}
 use Rattle.model.specs.declared.FullNodeId.{FullNodeId}
@@ -15,16 +14,16 @@ use Rattle.model.specs.World.{World, HasData}
 use Rattle.hidden_texts.specs.Shown.{shown_label}
 use Rattle.hidden_texts.proofs.ShownAlike.{label_shown}
 use Rattle.phrases.specs.declared.states.State.{State}
-use Rattle.phrases.specs.declared.states.Toggling.{Toggling}
 use Rattle.phrases.specs.News.{news}
 use Rattle.phrases.specs.Sayings.{label_line, value_line, description_line, state_line}
 use Rattle.phrases.specs.States.{new_word, same_flag, same_toggle, flag_word, toggled_word, expanded_word, selected_word}
 use Rattle.phrases.specs.Tellings.{told}
 use Rattle.phrases.specs.Voices.{Speech}
-use Rattle.speaking.specs.Changes.{label_said, value_change, description_change, toggles_said, flags_said, change_said, SaysChange}
+use Rattle.speaking.specs.Changes.{label_said, value_change, description_change, toggles_said, flags_said, change_said}
 use Rattle.speaking.specs.Said.{said_if}
 use Rattle.speaking.specs.Laws.{AreAlike, TypingSaysNothing, TypingIsNoChange}
-use Rattle.speaking.specs.LiveTexts.{told_text, TellsChange}
+use Rattle.speaking.specs.Above.{above_of}
+use Rattle.speaking.specs.LiveTexts.{told_text}
 use Rattle.speaking.specs.NodeTexts.{value_said, description_said, state_said, is_edited}
 use Rattle.speaking.proofs.Same.{there}
 use Rattle.speaking.proofs.Alike.{value_is, description_is, told_text_is}
@@ -113,7 +112,7 @@ module _ (p : FullNodeId) (o w : World) (id : FullNodeId) (alike : AreAlike p o 
     change = λ h. h.said ∙ nothing_changed h.before h.after (alike_data h.before h.after h.had h.has) v;
     region = λ h.
         let texts = told_text_is p o w alike id h.before h.after h.had h.has (alike_data h.before h.after h.had h.has) in
-        h.tells ∙ ap (λ t. told (live w id) t v) (ap (λ x. news x (told_text w id h.after)) texts ∙ no_news (told_text w id h.after));
+        h.tells ∙ ap (λ t. told (live w id) t v) (ap (λ x. news x (told_text (above_of w id) h.after)) texts ∙ no_news (told_text (above_of w id) h.after));
   }
 
 pub typing_is_no_change : TypingIsNoChange

@@ -1,5 +1,5 @@
 -- What is said of a change on the focused node.
-use Rattle.std.specs.Prelude.{◌≡◌, ℕ, List, codes, Option, Some, None, if◌then◌else◌}
+use Rattle.std.specs.Prelude.{◌≡◌, codes, if◌then◌else◌}
 use Rattle.schema.specs.NodeData.{NodeData}
 use Rattle.model.specs.World.{HasData}
 use Rattle.model.specs.Events.{Seen}

@@ -1,11 +1,12 @@
 -- What is said of each event.
-use Rattle.std.specs.Prelude.{◌≡◌, false, IsTrue, Option, None, option_map}
+use Rattle.std.specs.Prelude.{◌≡◌, ⊤, false, IsTrue, Option, None, option_map}
 use Rattle.model.specs.declared.FullNodeId.{FullNodeId}
 use Rattle.model.specs.World.{World}
 use Rattle.model.specs.Events.{Seen, seen_in, Event, NodeAdded, NodeUpdated, FocusMoved, NodeRemoved}
 use Rattle.model.specs.Focus.{IsFocus, IsFocusedNode}
 use Rattle.phrases.specs.Voices.{Speech}
 use Rattle.speaking.specs.declared.speaker.Speaker.{Speaker}
+use Rattle.speaking.specs.Above.{IsReady}
 use Rattle.speaking.specs.Changes.{SaysChange}
 use Rattle.speaking.specs.Dialogs.{SaysMoved}
 use Rattle.speaking.specs.LiveTexts.{TellsNew, TellsChange}
@@ -30,7 +31,26 @@ Says (NodeUpdated old new) v u = SaysUpdated old new v u
 Says (FocusMoved old new) v u = SaysMoved old new v u
 Says (NodeRemoved old) v u = u ≡ v
 
--- A speaker says what there is to say of the event, unless an allocation fails; from then on it is silent.
+-- what it has looked up in these worlds is right
+abbrev pub KnowsRightly : World → World → Speaker → Type 0
+KnowsRightly old new s = IsReady old new s.looks
+
+-- the event is one of a step from the one world to the other
+abbrev pub IsOfStep : World → World → Event → Type 0
+IsOfStep old new (NodeAdded n) = n.world ≡ new
+IsOfStep old new (NodeUpdated o n) = (o.world ≡ old) × (n.world ≡ new)
+IsOfStep old new (FocusMoved before after) = ⊤
+IsOfStep old new (NodeRemoved o) = ⊤
+
+-- A speaker that knows rightly says what there is to say of an event of the step, and still knows rightly, unless an allocation
+-- fails; from then on it is silent.
+pub record Hears (s : Speaker) (e : Event) (t : Speaker) : Type 0 where
+  pub silent : IsTrue s.is_silent → t ≡ s
+  pub says : (old new : World) → IsOfStep old new e → KnowsRightly old new s → t.is_silent ≡ false →
+      Says e s.voice t.voice × KnowsRightly old new t
+  pub text : t.text ≡ s.text
+
+-- the same of a speaker in a step
 pub record Speaks (s : Speaker) (e : Event) (t : Speaker) : Type 0 where
   pub silent : IsTrue s.is_silent → t ≡ s
   pub says : t.is_silent ≡ false → Says e s.voice t.voice
@@ -42,3 +62,9 @@ pub record Begins (w : World) (s t : Speaker) : Type 0 where
   pub is : IsFocus w focus
   pub says : t.is_silent ≡ false → SaysMoved None (option_map (seen_in w) focus) s.voice t.voice
   pub text : t.text ≡ s.text
+
+-- but for what it has looked up it is the same
+pub record IsStillSaying (s t : Speaker) : Type 0 where
+  pub voice : t.voice ≡ s.voice
+  pub text : t.text ≡ s.text
+  pub silent : t.is_silent ≡ s.is_silent

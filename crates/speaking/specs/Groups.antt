@@ -1,5 +1,5 @@
 -- What is said of a group that the focus enters.
-use Rattle.std.specs.Prelude.{ℕ, List, [], ◌++◌, codes, Bool, false, not, ◌&&◌, ◌||◌, Option, Some, None, bytes_eq, if◌then◌else◌}
+use Rattle.std.specs.Prelude.{ℕ, List, [], codes, Bool, false, not, ◌&&◌, ◌||◌, Option, Some, None, bytes_eq, if◌then◌else◌}
 use Rattle.std.specs.Option.{option_map_or}
 use Rattle.schema.specs.Roles.{same_role}
 use Rattle.schema.specs.declared.Role.{Role}

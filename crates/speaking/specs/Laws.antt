@@ -1,5 +1,5 @@
 -- What is said doesn't depend on what is typed into a password, but for its length.
-use Rattle.std.specs.Prelude.{◌≡◌, Option, None, option_map}
+use Rattle.std.specs.Prelude.{◌≡◌, Option, option_map}
 use Rattle.model.specs.declared.FullNodeId.{FullNodeId}
 use Rattle.model.specs.Events.{Event, NodeAdded, NodeUpdated, FocusMoved, NodeRemoved, seen_in}
 use Rattle.model.specs.Forest.{IsFormed}

@@ -1,8 +1,10 @@
+pub mod Above
 pub mod Changes
 pub mod Dialogs
 pub mod Edits
 pub mod Events
 pub mod Groups
+pub mod Holders
 pub mod Laws
 pub mod Lines
 pub mod LiveTexts

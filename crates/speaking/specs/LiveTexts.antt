@@ -1,58 +1,54 @@
 -- What is announced of nodes in live regions.
-use Rattle.std.specs.Prelude.{◌≡◌, ℕ, List, Bool, true, false, not, ◌&&◌, ◌||◌, Option, None, is_some, is_none, if◌then◌else◌}
+use Rattle.std.specs.Prelude.{◌≡◌, ℕ, List, Bool, true, false, not, ◌&&◌, ◌||◌, ◌==◌, Option, Some, None, if◌then◌else◌}
+use Rattle.std.specs.List.{list_any}
 use Rattle.std.specs.Option.{option_or}
 use Rattle.schema.specs.NodeData.{NodeData}
 use Rattle.schema.specs.declared.Role.TheVariants.{TextRun}
 use Rattle.schema.specs.declared.values.Live.{Live}
 use Rattle.schema.specs.declared.values.Live.TheVariants.{Off, Polite, Assertive}
 use Rattle.schema.specs.Roles.{same_role}
-use Rattle.model.specs.declared.FullNodeId.{FullNodeId}
-use Rattle.model.specs.declared.filters.FilterResult.{FilterResult}
-use Rattle.model.specs.declared.filters.FilterResult.TheVariants.{Include, ExcludeNode}
-use Rattle.model.specs.Covers.{filtered_parent}
 use Rattle.model.specs.Events.{Seen}
-use Rattle.model.specs.Filters.{is_hidden}
 use Rattle.model.specs.RoleClasses.{is_text_input}
-use Rattle.model.specs.Upward.{says}
-use Rattle.model.specs.Views.{live}
-use Rattle.model.specs.World.{World, HasData}
-use Rattle.hidden_texts.specs.Hidden.{is_in_password}
+use Rattle.model.specs.World.{HasData}
 use Rattle.phrases.specs.News.{news}
 use Rattle.phrases.specs.Tellings.{told}
 use Rattle.phrases.specs.Voices.{Speech}
+use Rattle.speaking.specs.declared.above.Above.{Above}
+use Rattle.speaking.specs.Above.{above_of}
 
 abbrev pub is_live : Live → Bool
 is_live Off = false
 is_live Polite = true
 is_live Assertive = true
 
--- it is in a live region, is shown, isn't busy, isn't edited by typing, and isn't in a password
-abbrev pub is_told : World → FullNodeId → NodeData → Bool
-is_told w id d = is_live (live w id) && (not (is_text_input d.role) && (not (is_hidden w id) && (not d.busy && not (is_in_password w id))))
-
--- typing is said for the input, and a value replaces its runs
-abbrev pub speaks_for_runs : NodeData → Bool
-speaks_for_runs d = is_text_input d.role || is_some d.value
-
-abbrev pub holder_answer : World → FullNodeId → FilterResult
-holder_answer w id = if says speaks_for_runs w id then Include else ExcludeNode
-
--- whether a run is announced itself and not by an ancestor
-abbrev pub speaks_itself : World → FullNodeId → Bool
-speaks_itself w id = is_none (filtered_parent (holder_answer w) w id)
+-- it is in a live region, is shown, isn't in a busy part, isn't edited by typing, and isn't in a password
+abbrev pub is_told : Above → NodeData → Bool
+is_told a d = is_live a.live && (not (is_text_input d.role) && (not a.is_hidden && (not a.is_busy && not a.is_in_password)))
 
 -- the text to announce: of a run its text, unless an ancestor is announced instead; of another node its value, or else its own label
-abbrev pub own_text : World → FullNodeId → NodeData → Option (List ℕ)
-own_text w id d = if same_role d.role TextRun then (if speaks_itself w id then d.value else None) else option_or d.value d.label
+abbrev pub own_text : Above → NodeData → Option (List ℕ)
+own_text a d = if same_role d.role TextRun then (if a.is_held then None else d.value) else option_or d.value d.label
 
-abbrev pub told_text : World → FullNodeId → NodeData → Option (List ℕ)
-told_text w id d = if is_told w id d then own_text w id d else None
+-- a space, a tab, or part of a line end
+abbrev pub is_space : ℕ → Bool
+is_space byte = byte == 32 || byte == 9 || byte == 10 || byte == 13
+
+abbrev pub says_something : List ℕ → Bool
+says_something text = list_any (λ byte. not (is_space byte)) text
+
+-- a text that says something; of blanks alone nothing is announced
+abbrev pub unless_blank : Option (List ℕ) → Option (List ℕ)
+unless_blank None = None
+unless_blank (Some text) = if says_something text then Some text else None
+
+abbrev pub told_text : Above → NodeData → Option (List ℕ)
+told_text a d = if is_told a d then unless_blank (own_text a d) else None
 
 -- a new node's text is announced
 pub record TellsNew (new : Seen) (v u : Speech) : Type 0 where
   pub node : NodeData
   pub has : HasData new.world new.id node
-  pub tells : u ≡ told (live new.world new.id) (news None (told_text new.world new.id node)) v
+  pub tells : let a = above_of new.world new.id in u ≡ told a.live (news None (told_text a node)) v
 
 -- a changed node's text is announced if it differs
 pub record TellsChange (old new : Seen) (v u : Speech) : Type 0 where
@@ -60,4 +56,6 @@ pub record TellsChange (old new : Seen) (v u : Speech) : Type 0 where
   pub had : HasData old.world old.id before
   pub after : NodeData
   pub has : HasData new.world new.id after
-  pub tells : u ≡ told (live new.world new.id) (news (told_text old.world old.id before) (told_text new.world new.id after)) v
+  pub tells :
+      let a = above_of new.world new.id in
+      u ≡ told a.live (news (told_text (above_of old.world old.id) before) (told_text a after)) v

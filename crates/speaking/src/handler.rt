@@ -1,8 +1,10 @@
 //! The handler that turns events into speech.
 ghost use Rattle.std.specs.Prelude.{◌≡◌, OnOk};
-ghost use Rattle.views.specs.Nodes.{seen_node};
-ghost use Rattle.speaking.specs.Events.{SaysAdded, SaysUpdated, Speaks};
+ghost use Rattle.views.specs.Nodes.{seen_node, world_at};
+ghost use Rattle.speaking.specs.Above.{AreRight, IsReady};
+ghost use Rattle.speaking.specs.Events.{SaysAdded, SaysUpdated, Hears};
 
+use crate::above::LookUps;
 use crate::changes::say_change;
 use crate::dialogs::say_move;
 use crate::live::{tell_change, tell_new};
@@ -17,13 +19,17 @@ use std::alloc::{AllocError, Global};
 fn say_updated(
     alloc: Global,
     voice: &mut Voice,
+    looks: &mut LookUps,
     old: NodeRef,
     new: NodeRef,
 ) -> Result<(), AllocError>
-    ensures { OnOk result (SaysUpdated (seen_node old.entry) (seen_node new.entry) voice.old voice.new) }
+    ensures says { let o = old.entry in let n = new.entry in
+        IsReady (world_at o) (world_at n) looks.old → OnOk result (SaysUpdated (seen_node o) (seen_node n) voice.old voice.new) }
+    ensures known { let o = world_at old.entry in let n = world_at new.entry in
+        IsReady o n looks.old → OnOk result (IsReady o n looks.new) }
 {
     if !new.is_focused() {
-        return tell_change(voice, old, new);
+        return tell_change(alloc, voice, looks, old, new);
     }
     if !old.is_focused() {
         return Ok(());
@@ -32,35 +38,48 @@ fn say_updated(
 }
 
 /// Says the announcement of a new node as a live region, unless it is focused.
-fn say_added(voice: &mut Voice, node: NodeRef) -> Result<(), AllocError>
-    ensures { OnOk result (SaysAdded (seen_node node.entry) voice.old voice.new) }
+fn say_added(
+    alloc: Global,
+    voice: &mut Voice,
+    looks: &mut LookUps,
+    node: NodeRef,
+) -> Result<(), AllocError>
+    ensures says { AreRight (world_at node.entry) looks.old.after → OnOk result (SaysAdded (seen_node node.entry) voice.old voice.new) }
+    ensures known { AreRight (world_at node.entry) looks.old.after → OnOk result (AreRight (world_at node.entry) looks.new.after) }
+    ensures before { looks.new.before ≡ looks.old.before }
 {
     if node.is_focused() {
         return Ok(());
     }
-    tell_new(voice, node)
+    tell_new(alloc, voice, looks, node)
 }
 
 impl TreeChangeHandler for Speaker {
-    ghost steps = { Speaks };
+    ghost steps = { Hears };
 
     fn node_added(&mut self, node: &NodeRef) {
-        if !self.is_silent {
-            self.is_silent = say_added(&mut self.voice, *node).is_err();
+        if self.is_silent {
+            return;
         }
+        let said = say_added(self.alloc, &mut self.voice, &mut self.looks, *node);
+        self.is_silent = said.is_err();
     }
 
     fn node_updated(&mut self, old_node: &NodeRef, new_node: &NodeRef) {
-        if !self.is_silent {
-            let said = say_updated(self.alloc, &mut self.voice, *old_node, *new_node);
-            self.is_silent = said.is_err();
+        if self.is_silent {
+            return;
         }
+        let (old, new) = (*old_node, *new_node);
+        let said = say_updated(self.alloc, &mut self.voice, &mut self.looks, old, new);
+        self.is_silent = said.is_err();
     }
 
     fn focus_moved(&mut self, old_node: Option<&NodeRef>, new_node: Option<&NodeRef>) {
-        if !self.is_silent {
-            self.is_silent = say_move(self.alloc, &mut self.voice, old_node, new_node).is_err();
+        if self.is_silent {
+            return;
         }
+        let said = say_move(self.alloc, &mut self.voice, old_node, new_node);
+        self.is_silent = said.is_err();
     }
 
     fn node_removed(&mut self, _node: &NodeRef) {}

@@ -1,6 +1,7 @@
 //! What a screen reader says at each event of a tree: a handler that turns changes into sayings.
 #![tactic(auto)]
 
+mod above;
 mod changes;
 mod dialogs;
 mod edits;

@@ -1,17 +1,17 @@
 //! Live regions, whose changes are announced wherever the focus is.
-ghost use Rattle.std.specs.Prelude.{◌≡◌, OnOk, None, option_copied, if◌then◌else◌};
+ghost use Rattle.std.specs.Prelude.{◌≡◌, OnOk, option_copied};
 ghost use Rattle.std.specs.Option.{option_or};
 ghost use Rattle.schema.specs.Roles.{same_role};
 ghost use Rattle.schema.specs.declared.Role.TheVariants.{TextRun};
-ghost use Rattle.views.specs.Nodes.{world_at, id_at, data_at, seen_node};
-ghost use Rattle.speaking.specs.LiveTexts.{is_live, is_told, speaks_for_runs, holder_answer, speaks_itself, own_text, told_text, TellsNew, TellsChange};
+ghost use Rattle.views.specs.Nodes.{world_at, data_at, seen_node};
+ghost use Rattle.speaking.specs.Above.{AreRight, IsReady};
+ghost use Rattle.speaking.specs.LiveTexts.{is_live, is_told, own_text, is_space, says_something, unless_blank, told_text, TellsNew, TellsChange};
 
+use crate::above::{Above, LookUps, look_up};
 use accesskit_consumer::NodeRef;
-use accesskit_consumer::filters::FilterResult;
-use hidden_texts::is_in_password;
 use phrases::{Voice, news};
 use schema::{Live, Role};
-use std::alloc::AllocError;
+use std::alloc::{AllocError, Global};
 
 /// Whether changes are announced at all.
 fn is_live(live: Live) -> bool
@@ -23,41 +23,16 @@ fn is_live(live: Live) -> bool
     }
 }
 
-/// Whether a change of the node is announced: it is in a live region, is shown, isn't busy, isn't edited by typing, and isn't
-/// in a password.
-fn is_told(node: NodeRef) -> bool
-    ensures { let n = node.entry in result ≡ is_told (world_at n) (id_at n) (data_at n) }
+/// Whether a change of the node is announced: it is in a live region, is shown, isn't busy, also by no node above it, isn't
+/// edited by typing, and isn't in a password.
+fn is_told(node: NodeRef, above: Above) -> bool
+    ensures { result ≡ is_told above (data_at node.entry) }
 {
-    is_live(node.live())
+    is_live(above.live)
         && !node.is_text_input()
-        && !node.is_hidden()
-        && !node.is_busy()
-        && !is_in_password(&node)
-}
-
-/// Whether the node is announced in place of its runs: typing is said for the input, and a value replaces its runs.
-fn speaks_for_runs(node: NodeRef) -> bool
-    ensures { result ≡ speaks_for_runs (data_at node.entry) }
-{
-    node.is_text_input() || node.raw_value().is_some()
-}
-
-/// The filter that includes nodes that are announced in place of their runs.
-fn holder(node: &NodeRef<'_>) -> FilterResult
-    ensures { result ≡ holder_answer (world_at node.now) (id_at node.now) }
-{
-    if speaks_for_runs(*node) {
-        FilterResult::Include
-    } else {
-        FilterResult::ExcludeNode
-    }
-}
-
-/// Whether a run is announced itself and not by an ancestor.
-fn speaks_itself(node: NodeRef) -> bool
-    ensures { result ≡ speaks_itself (world_at node.entry) (id_at node.entry) }
-{
-    node.filtered_parent(&holder).is_none()
+        && !above.is_hidden
+        && !above.is_busy
+        && !above.is_in_password
 }
 
 /// Whether the node is a run of a text.
@@ -65,18 +40,6 @@ fn is_run(node: NodeRef) -> bool
     ensures { result ≡ same_role (data_at node.entry).role TextRun }
 {
     node.role() == Role::TextRun
-}
-
-/// The text of a run, unless an ancestor is announced in its place.
-fn run_text<'a>(node: NodeRef<'a>) -> Option<&'a str>
-    ensures { let n = node.entry in
-        option_copied result ≡ (if speaks_itself (world_at n) (id_at n) then (data_at n).value else None) }
-{
-    if speaks_itself(node) {
-        node.raw_value()
-    } else {
-        None
-    }
 }
 
 /// The value as sent in the update, or else the node's own label.
@@ -89,24 +52,51 @@ fn value_or_label<'a>(node: NodeRef<'a>) -> Option<&'a str>
     }
 }
 
-/// The text to announce for a node.
-fn own_text<'a>(node: NodeRef<'a>) -> Option<&'a str>
-    ensures { let n = node.entry in option_copied result ≡ own_text (world_at n) (id_at n) (data_at n) }
+/// The text to announce for a node: of a run its text, unless an ancestor is announced in its place.
+fn own_text<'a>(node: NodeRef<'a>, above: Above) -> Option<&'a str>
+    ensures { option_copied result ≡ own_text above (data_at node.entry) }
 {
-    if is_run(node) {
-        return run_text(node);
+    if !is_run(node) {
+        return value_or_label(node);
     }
-    value_or_label(node)
+    if above.is_held {
+        return None;
+    }
+    node.raw_value()
+}
+
+/// Whether a byte is a space, a tab or part of a line end.
+fn is_space(byte: u8) -> bool
+    ensures { result ≡ is_space byte }
+{
+    matches!(byte, b' ' | b'\t' | b'\n' | b'\r')
+}
+
+/// Whether there is more in the text than spaces, tabs and line ends.
+fn says_something(text: &str) -> bool
+    ensures { result ≡ says_something text.now }
+{
+    text.as_bytes().iter().any(|byte| !is_space(*byte))
+}
+
+/// The text, unless it is made of spaces, tabs and line ends alone.
+fn unless_blank<'a>(text: Option<&'a str>) -> Option<&'a str>
+    ensures { option_copied result ≡ unless_blank (option_copied text.entry) }
+{
+    match text {
+        Some(text) if says_something(text) => Some(text),
+        _ => None,
+    }
 }
 
 /// The text to announce for a node, if its changes are announced.
-fn told_text<'a>(node: NodeRef<'a>) -> Option<&'a str>
-    ensures { let n = node.entry in option_copied result ≡ told_text (world_at n) (id_at n) (data_at n) }
+fn told_text<'a>(node: NodeRef<'a>, above: Above) -> Option<&'a str>
+    ensures { option_copied result ≡ told_text above (data_at node.entry) }
 {
-    if !is_told(node) {
+    if !is_told(node, above) {
         return None;
     }
-    own_text(node)
+    unless_blank(own_text(node, above))
 }
 
 /// Announces a new node in a live region.
@@ -114,10 +104,18 @@ fn told_text<'a>(node: NodeRef<'a>) -> Option<&'a str>
 /// # Errors
 ///
 /// Returns `AllocError` if memory runs out.
-pub(crate) fn tell_new(voice: &mut Voice, node: NodeRef) -> Result<(), AllocError>
-    ensures { OnOk result (TellsNew (seen_node node.entry) voice.old voice.new) }
+pub(crate) fn tell_new(
+    alloc: Global,
+    voice: &mut Voice,
+    looks: &mut LookUps,
+    node: NodeRef,
+) -> Result<(), AllocError>
+    ensures tells { AreRight (world_at node.entry) looks.old.after → OnOk result (TellsNew (seen_node node.entry) voice.old voice.new) }
+    ensures known { AreRight (world_at node.entry) looks.old.after → OnOk result (AreRight (world_at node.entry) looks.new.after) }
+    ensures before { looks.new.before ≡ looks.old.before }
 {
-    voice.tell(node.live(), news(None, told_text(node)))
+    let above = look_up(alloc, &mut looks.after, node)?;
+    voice.tell(above.live, news(None, told_text(node, above)))
 }
 
 /// Announces a node in a live region whose text has changed.
@@ -125,9 +123,20 @@ pub(crate) fn tell_new(voice: &mut Voice, node: NodeRef) -> Result<(), AllocErro
 /// # Errors
 ///
 /// Returns `AllocError` if memory runs out.
-pub(crate) fn tell_change(voice: &mut Voice, old: NodeRef, new: NodeRef) -> Result<(), AllocError>
-    ensures { OnOk result (TellsChange (seen_node old.entry) (seen_node new.entry) voice.old voice.new) }
+pub(crate) fn tell_change(
+    alloc: Global,
+    voice: &mut Voice,
+    looks: &mut LookUps,
+    old: NodeRef,
+    new: NodeRef,
+) -> Result<(), AllocError>
+    ensures tells { let o = old.entry in let n = new.entry in
+        IsReady (world_at o) (world_at n) looks.old → OnOk result (TellsChange (seen_node o) (seen_node n) voice.old voice.new) }
+    ensures known { let o = world_at old.entry in let n = world_at new.entry in
+        IsReady o n looks.old → OnOk result (IsReady o n looks.new) }
 {
-    let said = news(told_text(old), told_text(new));
-    voice.tell(new.live(), said)
+    let before = look_up(alloc, &mut looks.before, old)?;
+    let after = look_up(alloc, &mut looks.after, new)?;
+    let said = news(told_text(old, before), told_text(new, after));
+    voice.tell(after.live, said)
 }

@@ -1,10 +1,12 @@
 //! A speaker, which falls silent at the first failed allocation.
 ghost use Rattle.std.specs.Prelude.{◌≡◌, [], None, false};
+ghost use Rattle.model.specs.World.{World};
 ghost use Rattle.views.specs.ShownWorlds.{world_of};
 ghost use Rattle.speaking.specs.Edits.{Settles};
-ghost use Rattle.speaking.specs.Events.{Begins};
+ghost use Rattle.speaking.specs.Events.{Begins, IsStillSaying, KnowsRightly};
 ghost use Rattle.speaking.specs.Speakers.{said_by, waiting_in, text_held_by, fell_silent};
 
+use crate::above::LookUps;
 use crate::dialogs::say_move;
 use crate::edits::{FocusedText, say_end};
 use accesskit_consumer::{FullNodeId, StateRef};
@@ -21,6 +23,8 @@ pub struct Speaker {
     pub(crate) is_silent: bool,
     /// The focused text as it was last said.
     pub(crate) text: Option<FocusedText>,
+    /// What nodes of a step say together with those above them.
+    pub(crate) looks: LookUps,
 }
 
 impl Speaker {
@@ -36,6 +40,7 @@ impl Speaker {
             voice: Voice::new(alloc),
             is_silent: false,
             text: None,
+            looks: LookUps::new(alloc),
         }
     }
 
@@ -46,6 +51,15 @@ impl Speaker {
     {
         let focus = state.focus();
         self.is_silent = say_move(self.alloc, &mut self.voice, None, focus.as_ref()).is_err();
+    }
+
+    /// Begins a step: forgets what was looked up in the last one. Each event that the speaker receives until it ends has to be of that
+    /// step.
+    pub fn begin_step(&mut self)
+        ensures ready { (old new : World) → KnowsRightly old new self.new }
+        ensures same { IsStillSaying self.old self.new }
+    {
+        self.looks = LookUps::new(self.alloc);
     }
 
     /// Ends a step, after which the node with this id is focused: says what changed in the focused text, now that all
