@@ -1,0 +1,4 @@
+pub mod Asked
+pub mod Heap
+pub mod Walking
+pub mod Words

@@ -1,0 +1,5 @@
+pub mod Answers
+pub mod Held
+pub mod Questions
+pub mod Records
+pub mod Stops
