@@ -28,18 +28,20 @@ READING = [
     "tools/crates --check",
     "tools/check-documents --docstrings",
     "checks/names",
+    "checks/header",
     "checks/trust",
     "checks/turned --read",
     "checks/wrong --read",
 ]
 PROVING = "rt ci"
-# What runs on programs that `rt ci` has built, with those programs.
+# What runs on programs, or on a static library, that `rt ci` has built, with those crates.
 ON_PROGRAMS = {
     "checks/run-scripts": {"atree"},
     "checks/made-up 20000 1": {"atree"},
     # (one by one, so that only the last waits for the last program)
     **{f"checks/run-programs {it}": {it} for it in sorted(os.listdir(os.path.join(TOP, "checks", "programs")))},
     "checks/converse": {"atree", "find", "page", "record", "speak"},
+    "checks/from-c": {"fed_tree_c"},
     "checks/refused-growths": {"atree", "growths"},
     "tools/check-documents --programs": {"atree", "find", "page", "read", "record", "speak"},
 }

@@ -1,0 +1,215 @@
+//! The proved accessibility tree in a Rust process: safe types over the calls of `accesskit_proved.h`.
+//!
+//! A [`Tree`] is fed with the lines of a script (docs/SCRIPT.md) and read by the ids of its nodes. docs/FROM_C.md says what is proved of
+//! the library. The declarations below are not: `checks/header` compares them with the library's.
+use std::marker::PhantomData;
+
+mod raw {
+    #[repr(C)]
+    pub struct Tree {
+        pub at: *mut u8,
+        pub is_there: bool,
+    }
+    #[repr(C)]
+    #[derive(Clone, Copy, Default)]
+    pub struct Id {
+        pub node: u64,
+        pub tree: u32,
+    }
+    #[repr(C)]
+    #[derive(Default)]
+    pub struct Event {
+        pub old_node: u64,
+        pub new_node: u64,
+        pub old_tree: u32,
+        pub new_tree: u32,
+        pub kind: u8,
+        pub has_old: bool,
+        pub has_new: bool,
+    }
+    #[repr(C)]
+    #[derive(Default)]
+    pub struct Stop {
+        pub line: u64,
+        pub done: u64,
+        pub node: u64,
+        pub rule: u8,
+    }
+    extern "C" {
+        pub fn ak_tree_open(tree: &mut Tree) -> u8;
+        pub fn ak_tree_close(tree: &mut Tree);
+        pub fn ak_tree_feed(tree: &mut Tree, lines: *const u8, length: usize, stop: &mut Stop) -> u8;
+        pub fn ak_tree_event_count(tree: &mut Tree, count: &mut usize) -> u8;
+        pub fn ak_tree_event(tree: &mut Tree, index: usize, event: &mut Event) -> u8;
+        pub fn ak_tree_root(tree: &mut Tree, root: &mut Id) -> u8;
+        pub fn ak_tree_focus(tree: &mut Tree, focus: &mut Id) -> u8;
+        pub fn ak_node_parent(tree: &mut Tree, node: u64, tree_index: u32, parent: &mut Id) -> u8;
+        pub fn ak_node_children(tree: &mut Tree, node: u64, tree_index: u32, buffer: *mut Id, room: usize, count: &mut usize) -> u8;
+        pub fn ak_node_role(tree: &mut Tree, node: u64, tree_index: u32, buffer: *mut u8, room: usize, length: &mut usize) -> u8;
+        pub fn ak_node_label(tree: &mut Tree, node: u64, tree_index: u32, buffer: *mut u8, room: usize, length: &mut usize) -> u8;
+        pub fn ak_node_value(tree: &mut Tree, node: u64, tree_index: u32, buffer: *mut u8, room: usize, length: &mut usize) -> u8;
+        pub fn ak_node_text(tree: &mut Tree, node: u64, tree_index: u32, buffer: *mut u8, room: usize, length: &mut usize) -> u8;
+    }
+}
+
+/// A node's id: the index of its tree, and its id there.
+#[derive(Clone, Copy, Debug, PartialEq, Eq, Hash)]
+pub struct Id {
+    pub tree: u32,
+    pub node: u64,
+}
+
+/// A change.
+#[derive(Clone, Copy, Debug, PartialEq, Eq)]
+pub enum Event {
+    Added(Id),
+    Updated(Id),
+    Removed(Id),
+    FocusMoved { old: Option<Id>, new: Option<Id> },
+}
+
+/// Why not all lines were carried out, or a question has no answer.
+#[derive(Clone, Copy, Debug, PartialEq, Eq)]
+pub enum Error {
+    /// Memory ran out, after so many commands.
+    NoMemory { done: u64 },
+    /// The line with this number, counted from 1, is bad. Nothing was carried out.
+    BadLine(u64),
+    /// An update was refused, after so many commands: it breaks the rule with this number, at this node.
+    Refused { done: u64, rule: u8, node: u64 },
+}
+
+/// A tree, which has nothing until it is fed. It is neither `Send` nor `Sync`, and what reads it takes `&mut self`, as the library does.
+pub struct Tree {
+    // (boxed, since the library's handle is to stay where it is)
+    raw: Box<raw::Tree>,
+    _stays: PhantomData<*mut u8>,
+}
+
+impl Tree {
+    pub fn new() -> Result<Tree, Error> {
+        let mut raw = Box::new(raw::Tree { at: std::ptr::null_mut(), is_there: false });
+        // SAFETY (of each call below): the declarations are those of the library, references are valid and apart, a pointer goes with
+        // the length of what it points to, and the handle began closed and is changed by the library alone.
+        if unsafe { raw::ak_tree_open(&mut raw) } == DONE {
+            Ok(Tree { raw, _stays: PhantomData })
+        } else {
+            Err(Error::NoMemory { done: 0 })
+        }
+    }
+
+    /// Carries out whole commands.
+    pub fn feed(&mut self, lines: &str) -> Result<(), Error> {
+        let mut stop = raw::Stop::default();
+        match unsafe { raw::ak_tree_feed(&mut self.raw, lines.as_ptr(), lines.len(), &mut stop) } {
+            DONE => Ok(()),
+            BAD_LINE => Err(Error::BadLine(stop.line)),
+            REFUSED => Err(Error::Refused { done: stop.done, rule: stop.rule, node: stop.node }),
+            _ => Err(Error::NoMemory { done: stop.done }),
+        }
+    }
+
+    /// What the last lines changed, in order; `None` if memory for an event ran out.
+    pub fn events(&mut self) -> Option<Vec<Event>> {
+        let mut count = 0;
+        if unsafe { raw::ak_tree_event_count(&mut self.raw, &mut count) } != DONE {
+            return None;
+        }
+        (0..count).map(|index| self.event(index)).collect()
+    }
+
+    fn event(&mut self, index: usize) -> Option<Event> {
+        let mut event = raw::Event::default();
+        if unsafe { raw::ak_tree_event(&mut self.raw, index, &mut event) } != DONE {
+            return None;
+        }
+        let old = event.has_old.then_some(Id { tree: event.old_tree, node: event.old_node });
+        let new = event.has_new.then_some(Id { tree: event.new_tree, node: event.new_node });
+        match event.kind {
+            0 => new.map(Event::Added),
+            1 => new.map(Event::Updated),
+            2 => old.map(Event::Removed),
+            _ => Some(Event::FocusMoved { old, new }),
+        }
+    }
+
+    /// The root tree's root.
+    pub fn root(&mut self) -> Option<Id> {
+        self.id(|tree, id| unsafe { raw::ak_tree_root(tree, id) })
+    }
+
+    /// What has the focus, while the host has it.
+    pub fn focus(&mut self) -> Option<Id> {
+        self.id(|tree, id| unsafe { raw::ak_tree_focus(tree, id) })
+    }
+
+    pub fn parent(&mut self, of: Id) -> Option<Id> {
+        self.id(|tree, id| unsafe { raw::ak_node_parent(tree, of.node, of.tree, id) })
+    }
+
+    fn id(&mut self, call: impl Fn(&mut raw::Tree, &mut raw::Id) -> u8) -> Option<Id> {
+        let mut id = raw::Id::default();
+        (call(&mut self.raw, &mut id) == DONE).then_some(Id { tree: id.tree, node: id.node })
+    }
+
+    pub fn children(&mut self, of: Id) -> Result<Option<Vec<Id>>, Error> {
+        let call = |tree: &mut raw::Tree, buffer: &mut [raw::Id], count: &mut usize| unsafe {
+            raw::ak_node_children(tree, of.node, of.tree, buffer.as_mut_ptr(), buffer.len(), count)
+        };
+        let found = self.list(call)?;
+        Ok(found.map(|ids| ids.iter().map(|id| Id { tree: id.tree, node: id.node }).collect()))
+    }
+
+    /// The name of the node's role.
+    pub fn role(&mut self, of: Id) -> Result<Option<String>, Error> {
+        self.text_by(raw::ak_node_role, of)
+    }
+
+    pub fn label(&mut self, of: Id) -> Result<Option<String>, Error> {
+        self.text_by(raw::ak_node_label, of)
+    }
+
+    pub fn value(&mut self, of: Id) -> Result<Option<String>, Error> {
+        self.text_by(raw::ak_node_value, of)
+    }
+
+    /// The whole text of the node's runs.
+    pub fn text(&mut self, of: Id) -> Result<Option<String>, Error> {
+        self.text_by(raw::ak_node_text, of)
+    }
+
+    fn text_by(&mut self, call: TextCall, of: Id) -> Result<Option<String>, Error> {
+        let bytes = self.list(|tree, buffer, length| unsafe { call(tree, of.node, of.tree, buffer.as_mut_ptr(), buffer.len(), length) })?;
+        Ok(bytes.and_then(|bytes| String::from_utf8(bytes).ok()))
+    }
+
+    /// A list of any length: asked for again with room for all of it where there wasn't enough.
+    fn list<T: Clone + Default>(&mut self, call: impl Fn(&mut raw::Tree, &mut [T], &mut usize) -> u8) -> Result<Option<Vec<T>>, Error> {
+        let mut buffer = vec![T::default(); 64];
+        loop {
+            let mut length = 0;
+            match call(&mut self.raw, &mut buffer, &mut length) {
+                DONE if length <= buffer.len() => {
+                    buffer.truncate(length);
+                    return Ok(Some(buffer));
+                }
+                DONE => buffer.resize(length, T::default()),
+                NO_MEMORY => return Err(Error::NoMemory { done: 0 }),
+                _ => return Ok(None),
+            }
+        }
+    }
+}
+
+type TextCall = unsafe extern "C" fn(&mut raw::Tree, u64, u32, *mut u8, usize, &mut usize) -> u8;
+
+const DONE: u8 = 0;
+const NO_MEMORY: u8 = 1;
+const BAD_LINE: u8 = 4;
+const REFUSED: u8 = 5;
+
+impl Drop for Tree {
+    fn drop(&mut self) {
+        unsafe { raw::ak_tree_close(&mut self.raw) }
+    }
+}

@@ -1,0 +1,194 @@
+/* What the calls answer where nothing is as it should be, and what becomes of a tree when each growth of memory fails in turn.
+ * malloc and realloc are those below: linked with -Wl,--wrap=malloc,--wrap=realloc. Prints `N passed, M failed`. */
+#include "accesskit_proved.h"
+#include <stdio.h>
+#include <stdlib.h>
+#include <string.h>
+
+static int passed, failed;
+static long until_failure = -1; /* growths before the one that fails; below 0 none does */
+
+void *__real_malloc(size_t size);
+void *__real_realloc(void *block, size_t size);
+
+static bool fails(void) { return until_failure >= 0 && until_failure-- == 0; }
+void *__wrap_malloc(size_t size) { return fails() ? NULL : __real_malloc(size); }
+void *__wrap_realloc(void *block, size_t size) { return fails() ? NULL : __real_realloc(block, size); }
+
+static void check(bool holds, const char *what) {
+    holds ? passed++ : failed++;
+    if (!holds) printf("fails: %s\n", what);
+}
+#define CHECK(holds) check((holds), #holds)
+
+static const char first[] = "host on\nupdate root focus=2 root=1\nnode 1 Window label=\"Mail\" children=2,3,4\nnode 2 Button label=\"Send\"\n"
+                            "node 3 CheckBox label=\"Receipt\"\nnode 4 Slider value=\"five\"\nend\n";
+static const char second[] = "update root focus=3\nnode 1 Window label=\"Mail\" children=3,4,5\nnode 5 Button label=\"More\"\nend\nhost off\n";
+
+static uint8_t feed_bytes(ak_tree *tree, const char *lines, size_t length, ak_stop *stop) {
+    return ak_tree_feed(tree, (const uint8_t *)lines, length, stop);
+}
+static uint8_t feed(ak_tree *tree, const char *lines, ak_stop *stop) { return feed_bytes(tree, lines, strlen(lines), stop); }
+
+/* All that a tree says of the nodes 0 to 9 of two trees, as text. Growths don't fail meanwhile. */
+static void tell(ak_tree *tree, char *told, size_t room) {
+    typedef uint8_t (*text_call)(ak_tree *, uint64_t, uint32_t, uint8_t *, size_t, size_t *);
+    static const text_call texts[] = {ak_node_role, ak_node_label, ak_node_value, ak_node_text};
+    ak_id id, ids[16];
+    uint8_t text[64];
+    size_t length, at = 0;
+    long kept = until_failure;
+    until_failure = -1;
+    if (ak_tree_root(tree, &id) == AK_DONE) at += (size_t)snprintf(told + at, room - at, "root %u:%lu\n", id.tree, (unsigned long)id.node);
+    if (ak_tree_focus(tree, &id) == AK_DONE) at += (size_t)snprintf(told + at, room - at, "focus %u:%lu\n", id.tree, (unsigned long)id.node);
+    for (uint32_t index = 0; index < 2; index++)
+        for (uint64_t node = 0; node < 10; node++) {
+            if (ak_node_children(tree, node, index, ids, 16, &length) != AK_DONE) continue;
+            at += (size_t)snprintf(told + at, room - at, "%u:%lu", index, (unsigned long)node);
+            for (size_t i = 0; i < length; i++) at += (size_t)snprintf(told + at, room - at, " %lu", (unsigned long)ids[i].node);
+            if (ak_node_parent(tree, node, index, &id) == AK_DONE) at += (size_t)snprintf(told + at, room - at, " in %lu", (unsigned long)id.node);
+            for (int i = 0; i < 4; i++)
+                if (texts[i](tree, node, index, text, sizeof text, &length) == AK_DONE)
+                    at += (size_t)snprintf(told + at, room - at, " %.*s", (int)length, text);
+            at += (size_t)snprintf(told + at, room - at, "\n");
+        }
+    until_failure = kept;
+}
+
+static void closed_handles(void) {
+    ak_tree tree = AK_TREE_CLOSED;
+    ak_stop stop = {7, 7, 7, 7};
+    ak_event event;
+    ak_id id = {7, 7};
+    size_t count = 7;
+    uint8_t byte = 7;
+    for (int round = 0; round < 2; round++) {
+        CHECK(feed(&tree, first, &stop) == AK_CLOSED && stop.line == 7 && stop.done == 7);
+        CHECK(ak_tree_root(&tree, &id) == AK_CLOSED && ak_tree_focus(&tree, &id) == AK_CLOSED && id.node == 7);
+        CHECK(ak_tree_event_count(&tree, &count) == AK_CLOSED && ak_tree_event(&tree, 0, &event) == AK_CLOSED);
+        CHECK(ak_node_parent(&tree, 1, 0, &id) == AK_CLOSED && ak_node_children(&tree, 1, 0, &id, 1, &count) == AK_CLOSED);
+        CHECK(ak_node_label(&tree, 1, 0, &byte, 1, &count) == AK_CLOSED && ak_node_text(&tree, 1, 0, &byte, 1, &count) == AK_CLOSED);
+        CHECK(count == 7 && byte == 7 && id.node == 7);
+        ak_tree_close(&tree);
+        CHECK(ak_tree_open(&tree) == AK_DONE && ak_tree_open(&tree) == AK_DONE);
+        CHECK(ak_tree_root(&tree, &id) == AK_NOTHING && ak_node_role(&tree, 1, 0, &byte, 1, &count) == AK_NOTHING);
+        CHECK(ak_tree_event_count(&tree, &count) == AK_DONE && count == 0);
+        count = 7;
+        ak_tree_close(&tree);
+        ak_tree_close(&tree);
+    }
+}
+
+static void bad_lines(void) {
+    static const char *const lines[] = {"what\n", "update root focus=1 root=1\n", "end\n", "node 1 Button\n", "host maybe\n"};
+    char before[4000], after[4000];
+    ak_tree tree = AK_TREE_CLOSED;
+    ak_stop stop;
+    CHECK(ak_tree_open(&tree) == AK_DONE && feed(&tree, first, &stop) == AK_DONE && stop.line == 0 && stop.done == 0);
+    tell(&tree, before, sizeof before);
+    for (size_t i = 0; i < sizeof lines / sizeof *lines; i++) {
+        CHECK(feed(&tree, lines[i], &stop) == AK_BAD_LINE && stop.line == 1);
+        char both[400];
+        snprintf(both, sizeof both, "%s%s", second, lines[i]);
+        CHECK(feed(&tree, both, &stop) == AK_BAD_LINE && stop.line == 6 && stop.done == 0);
+        tell(&tree, after, sizeof after);
+        CHECK(strcmp(before, after) == 0);
+    }
+    CHECK(feed_bytes(&tree, "host on\n\xff\xfe\n", 11, &stop) == AK_BAD_LINE && stop.line == 2);
+    CHECK(feed_bytes(&tree, "host on\n\0\n", 10, &stop) == AK_BAD_LINE && stop.line == 2);
+    CHECK(feed_bytes(&tree, NULL, 0, &stop) == AK_DONE);
+    CHECK(feed(&tree, "update root focus=9\nend\n", &stop) == AK_REFUSED && stop.rule == AK_FOCUS_MISSING && stop.node == 9 && stop.done == 0);
+    CHECK(feed(&tree, "host off\nupdate root focus=2\nnode 1 Window children=2,2\nend\nhost on\n", &stop) == AK_REFUSED && stop.rule == AK_LISTED_TWICE
+          && stop.done == 1);
+    ak_id id;
+    CHECK(ak_tree_focus(&tree, &id) == AK_NOTHING);
+    ak_tree_close(&tree);
+}
+
+static void rooms(void) {
+    ak_tree tree = AK_TREE_CLOSED;
+    ak_stop stop;
+    ak_id ids[4];
+    uint8_t text[8];
+    size_t length;
+    CHECK(ak_tree_open(&tree) == AK_DONE && feed(&tree, first, &stop) == AK_DONE);
+    for (size_t room = 0; room <= sizeof text; room++) {
+        memset(text, '-', sizeof text);
+        CHECK(ak_node_label(&tree, 2, 0, text, room, &length) == AK_DONE && length == 4);
+        CHECK(memcmp(text, "Send", room < 4 ? room : 4) == 0);
+        for (size_t i = room < 4 ? room : 4; i < sizeof text; i++) CHECK(text[i] == '-');
+    }
+    CHECK(ak_node_label(&tree, 2, 0, NULL, 0, &length) == AK_DONE && length == 4);
+    for (size_t room = 0; room <= 4; room++) {
+        memset(ids, 9, sizeof ids);
+        CHECK(ak_node_children(&tree, 1, 0, ids, room, &length) == AK_DONE && length == 3);
+        for (size_t i = 0; i < 4; i++) CHECK(i < room && i < 3 ? ids[i].node == i + 2 && ids[i].tree == 0 : ids[i].node == 0x0909090909090909);
+    }
+    CHECK(ak_node_children(&tree, 1, 0, NULL, 0, &length) == AK_DONE && length == 3);
+    CHECK(ak_node_label(&tree, 99, 0, text, 8, &length) == AK_NOTHING && ak_node_label(&tree, 2, 4000000000, text, 8, &length) == AK_NOTHING);
+    CHECK(ak_node_value(&tree, 4, 0, text, 8, &length) == AK_DONE && length == 4 && memcmp(text, "five", 4) == 0);
+    CHECK(ak_node_value(&tree, 2, 0, text, 8, &length) == AK_NOTHING && ak_node_text(&tree, 2, 0, text, 8, &length) == AK_NOTHING);
+    CHECK(ak_node_parent(&tree, 1, 0, ids) == AK_NOTHING && ak_node_parent(&tree, 4, 0, ids) == AK_DONE && ids[0].node == 1);
+    ak_event event;
+    CHECK(ak_tree_event(&tree, SIZE_MAX, &event) == AK_NOTHING);
+    ak_tree_close(&tree);
+}
+
+/* Each growth of a feed fails in turn: either nothing is carried out, or as much as is answered. */
+static void growths(void) {
+    char before[4000], between[4000], after[4000], told[4000];
+    ak_tree tree = AK_TREE_CLOSED;
+    ak_stop stop;
+    CHECK(ak_tree_open(&tree) == AK_DONE && feed(&tree, first, &stop) == AK_DONE);
+    tell(&tree, before, sizeof before);
+    CHECK(feed_bytes(&tree, second, strlen(second) - strlen("host off\n"), &stop) == AK_DONE);
+    tell(&tree, between, sizeof between);
+    CHECK(feed(&tree, "host off\n", &stop) == AK_DONE);
+    tell(&tree, after, sizeof after);
+    ak_tree_close(&tree);
+    for (long growth = 0;; growth++) {
+        until_failure = -1;
+        CHECK(ak_tree_open(&tree) == AK_DONE && feed(&tree, first, &stop) == AK_DONE);
+        until_failure = growth;
+        uint8_t answer = feed(&tree, second, &stop);
+        bool has_failed = until_failure < 0;
+        until_failure = -1;
+        tell(&tree, told, sizeof told);
+        if (answer == AK_DONE) CHECK(!has_failed && strcmp(told, after) == 0);
+        else CHECK(answer == AK_NO_MEMORY && has_failed && strcmp(told, stop.done == 0 ? before : stop.done == 1 ? between : after) == 0);
+        size_t count;
+        uint8_t kept = ak_tree_event_count(&tree, &count);
+        CHECK(answer == AK_DONE ? kept == AK_DONE && count > 0 : stop.done > 0 || (kept == AK_DONE && count == 0));
+        ak_tree_close(&tree);
+        if (!has_failed) break;
+    }
+    until_failure = 0;
+    CHECK(ak_tree_open(&tree) == AK_NO_MEMORY && ak_tree_root(&tree, &(ak_id){0}) == AK_CLOSED);
+    until_failure = -1;
+    CHECK(ak_tree_open(&tree) == AK_DONE && feed(&tree, first, &stop) == AK_DONE);
+    for (long growth = 0; growth < 20; growth++) {
+        uint8_t text[8] = {0};
+        size_t length = 9;
+        ak_id ids[4] = {{9, 9}};
+        until_failure = growth;
+        uint8_t answer = ak_node_label(&tree, 2, 0, text, 8, &length);
+        CHECK(answer == AK_DONE ? length == 4 : answer == AK_NO_MEMORY && length == 9 && text[0] == 0);
+        until_failure = growth;
+        length = 9;
+        answer = ak_node_children(&tree, 1, 0, ids, 4, &length);
+        CHECK(answer == AK_DONE ? length == 3 : answer == AK_NO_MEMORY && length == 9 && ids[0].node == 9);
+    }
+    until_failure = -1;
+    tell(&tree, told, sizeof told);
+    CHECK(strcmp(told, before) == 0);
+    ak_tree_close(&tree);
+}
+
+int main(void) {
+    closed_handles();
+    bad_lines();
+    rooms();
+    growths();
+    printf("%d passed, %d failed\n", passed, failed);
+    return failed != 0;
+}
