@@ -1,5 +1,5 @@
 -- What C sees of ids and events.
-use Rattle.std.specs.Prelude.{◌≡◌, ℕ, Bool, is_some, Option, Some, None}
+use Rattle.std.specs.Prelude.{ℕ, is_some, Option}
 use Rattle.std.specs.Option.{option_map_or}
 use Rattle.model.specs.declared.FullNodeId.{FullNodeId}
 use Rattle.fed_tree.specs.declared.events.Event.{Event}
