@@ -34,7 +34,7 @@ READING = [
     "checks/wrong --read",
 ]
 PROVING = "rt ci"
-# What runs on programs, or on a static library, that `rt ci` has built, with those crates.
+# What runs on programs that `rt ci` has built, or on a static library that it has proved, with those crates.
 ON_PROGRAMS = {
     "checks/run-scripts": {"atree"},
     "checks/made-up 20000 1": {"atree"},
