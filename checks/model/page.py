@@ -193,6 +193,7 @@ class Pages(Play):
     def __init__(self, without=None):
         super().__init__()
         self.states, self.updates, self.without = [], 0, without
+        self.reports = []
 
     def show(self, cause, old, told, refused=None):
         """The next state."""
@@ -200,6 +201,7 @@ class Pages(Play):
         if refused is None and (told or not old.known):
             marks = {event[1]: event[0] for event in told if event[0] in ("added", "updated")}
             state["tree"] = tree_shown(self.world, len(self.states) + 1, marks)
+        self.reports += [f"update {self.updates}: {' | '.join(sorted(refused))}\n"] if refused else []
         self.states.append(state)
 
     def send(self):
@@ -236,13 +238,24 @@ def as_read(shown):
 def states_of(script, without=None):
     """What a page shows of a script, which is bytes, and the number of its bad line, if it has one. The update that would make
     the state `without`, counted from 0, finds no memory."""
+    return as_read(pages_of(script, without).states), told_by(script)[1]
+
+
+def reports_of(script, without=None):
+    """What is reported of the refused updates of a script, up to its bad line if it has one, each by its number among the updates and
+    with the words for each rule that it breaks: `update 3: WORDS | WORDS`."""
+    return "".join(pages_of(script, without).reports).encode()
+
+
+def pages_of(script, without):
+    """The page of a script, up to its bad line if it has one."""
     pages = Pages(without)
     try:
         for line in script.split(b"\n"):
             pages.line(line)
     except BadLine:
         pass
-    return as_read(pages.states), told_by(script)[1]
+    return pages
 
 
 # ---- pages as they are read
@@ -307,17 +320,37 @@ def of_class(top, name, classes):
     return first(text_in(part) for part in elements(top, name) if part[1].get("class") == classes)
 
 
-def row_read(item):
+# So many lists of an outline are in one another at most.
+MOST_LISTS = 100
+
+
+def children(top, name):
+    """The elements right in this one that have this name."""
+    return [part for part in top[2] if not isinstance(part, str) and part[0] == name]
+
+
+def items_of(outline, within=0):
+    """The items of an outline, each with its line: a folding item is open, and the items in it come after its own."""
+    for item in children(outline, "li"):
+        assert min(int(item[1]["aria-level"]) - 1, MOST_LISTS) == within, f"{item[1]['id']} is in {within} lists"
+        folds = children(item, "details")
+        yield item, children(folds[0], "summary")[0] if folds else item
+        for fold in folds:
+            assert "open" in fold[1] and item[2] == [fold], f"{item[1]['id']} isn't open"
+            yield from items_of(children(fold, "ul")[0], within + 1)
+
+
+def row_read(item, line):
     """What a row of an outline says."""
     return {
         "anchor": item[1]["id"],
-        "depth": int(re.search(r"--d:(\d+)", item[1]["style"]).group(1)),
-        "role": text_in(first(elements(item, "b"))),
-        "label": of_class(item, "q", "l"),
-        "value": of_class(item, "q", "v"),
-        "words": [text_in(part) for part in elements(item, "i")],
-        "marks": [text_in(part) for part in elements(item, "em")],
-        "id": text_in(first(elements(item, "small"))),
+        "depth": int(item[1]["aria-level"]) - 1,
+        "role": text_in(first(elements(line, "b"))),
+        "label": of_class(line, "q", "l"),
+        "value": of_class(line, "q", "v"),
+        "words": [text_in(part) for part in elements(line, "i")],
+        "marks": [text_in(part) for part in elements(line, "em")],
+        "id": text_in(first(elements(line, "small"))),
     }
 
 
@@ -366,7 +399,7 @@ def parts_of_event(item):
 def state_read(section):
     """What a state's section says."""
     refused = of_class(section, "p", "refused")
-    details = first(elements(section, "details"))
+    details = first(part for part in children(section, "details") if part[1].get("class") == "events")
     state = {
         "cause": of_class(section, "p", "cause"),
         "refused": refused and {refused[len("Refused: ") : -len(". Nothing has changed.")]},
@@ -377,7 +410,7 @@ def state_read(section):
         links = [link for link in elements(section, "a") if link[1].get("tabindex")]
         ring = first(rect for rect in elements(section, "rect") if rect[1]["class"] == "ring")
         boxes = [box_read(link) for link in links]
-        state["tree"] = [row_read(item) for item in elements(outline, "li")], boxes, ring and rect_read(ring)
+        state["tree"] = [row_read(item, line) for item, line in items_of(outline)], boxes, ring and rect_read(ring)
     return state
 
 
@@ -412,7 +445,10 @@ def difference_of_page(script, page, without=None):
     except AssertionError as fault:
         return str(fault)
     told, bad = states_of(script, without)
-    read = [state_read(section) for section in elements(top, "section")]
+    try:
+        read = [state_read(section) for section in elements(top, "section")]
+    except AssertionError as fault:
+        return str(fault)
     for number, (one, other) in enumerate(zip(told, read), 1):
         differs = difference_of_states(one, other)
         if differs:
@@ -442,10 +478,10 @@ def is_ended(page, told):
     return bool(note) and told.startswith(before.removesuffix(b"</section>\n")) and page.endswith(b"</html>\n")
 
 
-def has_refused(script, page):
-    """Whether a page is that of the script with one of its updates refused for want of memory."""
+def refused_in(script, page):
+    """The states, counted from 0, without which a page is that of the script: their updates are refused for want of memory."""
     count = len(states_of(script)[0])
-    return any(difference_of_page(script, page, without) is None for without in range(count))
+    return [without for without in range(count) if difference_of_page(script, page, without) is None]
 
 
 def difference_of_links(top, count):

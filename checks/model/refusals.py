@@ -1,4 +1,4 @@
-"""The model's words for a refused update, which `find` and `read` report on standard error (docs/SCRIPT.md#the-programs)."""
+"""The model's words for a refused update, which the programs report on standard error (docs/SCRIPT.md#the-programs)."""
 
 from model.scripts import Play
 

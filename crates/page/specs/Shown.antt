@@ -4,6 +4,7 @@ use Rattle.std.specs.Io.KnownBytes.{Appends, Keeps}
 use Rattle.atree_script.specs.Input.{start_of}
 use Rattle.atree_script.specs.declared.playing.Played.{Played}
 use Rattle.atree_script.specs.Playing.{Turn, Begun as TreeBegun, FirstRefused, Ran, Asked, Printed, Stage, no_tree, Plays}
+use Rattle.atree_script.specs.Reports.{report_line}
 use Rattle.atree_script.specs.Scripts.{Writes}
 use Rattle.model.specs.World.{World}
 use Rattle.script_lines.specs.Ends.{Tells, status_at_end}
@@ -70,12 +71,11 @@ pub record ShowsState (it : Summary) (s t : Pages) : Type 0 where
   pub opens : Opens it s (pages_of t.updates t.states noted)
   pub tree : WritesTree it.outcome noted t.written
 
--- the state that a step makes is shown, with its events
-pub record ShowsStep (cause : Cause) (s : Pages) (old : World) (c : Command) (new : World) (t : Pages) : Type 0 where
+-- the state that a step makes is shown, with its events and what came of it
+pub record ShowsStep (cause : Cause) (outcome : Outcome) (s : Pages) (old : World) (c : Command) (new : World) (t : Pages) : Type 0 where
   pub begun : Bytes
   pub begins : Appends s.written begun (state_begun (next_number s.states) cause)
   pub told : Bytes
-  pub outcome : Outcome
   pub tally : Tally
   pub marks : Marked
   pub reports : ReportsStep (next_number s.states) old c new begun outcome tally marks told
@@ -83,19 +83,44 @@ pub record ShowsStep (cause : Cause) (s : Pages) (old : World) (c : Command) (ne
   pub notes : Notes (summary cause outcome tally) (pages_of s.updates s.states told) (pages_of t.updates t.states noted)
   pub tree : WritesTree outcome noted t.written
 
--- this is shown, or the page is not written further
-abbrev pub OrStops : Result Unit Stop → Type 0 → Type 0
-OrStops result shown = MatchResult result (λ _. shown) (λ stop. (why : Fault) × (stop ≡ stop_of why))
+-- ---- what is shown and reported of a turn
+
+-- a page, and the bytes that are reported on standard error
+abbrev pub Shown : Type 0
+Shown = Pages × Bytes
+
+-- what is reported of a state: of a refused update its number among the updates, and why it is refused
+abbrev pub report_text : Cause → Outcome → List ℕ
+report_text (Update number) (Refused why) = report_line number why
+report_text cause outcome = []
+
+-- this is shown and reported; or the page is not written further, and nothing is reported; or standard error has an error
+abbrev pub OrStops : Result Unit Stop → Type 0 → Type 0 → Type 0
+OrStops result shown silent = MatchResult result (λ _. shown) (λ stop. ((why : Fault) × (stop ≡ stop_of why) × silent) ⊎ (stop ≡ WriteFault))
+
+-- a first tree is shown, of which nothing is reported
+abbrev pub ShowsFirst : Summary → Shown → Shown → Type 0
+ShowsFirst it s t = ShowsState it s.0 t.0 × (t.1 ≡ s.1)
+
+-- that a first update is refused is shown and reported
+abbrev pub RefusesFirst : Summary → Shown → Shown → Type 0
+RefusesFirst it s t = Opens it s.0 t.0 × Appends s.1 t.1 (report_text it.cause it.outcome)
+
+-- the state that a step makes is shown, and its refusal is reported, if it is refused
+pub record ShowsTurn (cause : Cause) (s : Shown) (old : World) (c : Command) (new : World) (t : Shown) : Type 0 where
+  pub outcome : Outcome
+  pub shows : ShowsStep cause outcome s.0 old c new t.0
+  pub reports : Appends s.1 t.1 (report_text cause outcome)
 
 -- a command that makes no state shows nothing
-abbrev pub ShowsRun : World → Command → World → Pages → Result Unit Stop → Pages → Type 0
+abbrev pub ShowsRun : World → Command → World → Shown → Result Unit Stop → Shown → Type 0
 ShowsRun old c new s result t =
-    MatchOption (cause_of old.host_focused s.updates c) ((new ≡ old) × (t ≡ s) × (result ≡ Ok tt)) (λ cause. OrStops result (ShowsStep cause s old c new t))
+    MatchOption (cause_of old.host_focused s.0.updates c) ((new ≡ old) × (t ≡ s) × (result ≡ Ok tt)) (λ cause. OrStops result (ShowsTurn cause s old c new t) (t.1 ≡ s.1))
 
 -- What a command shows. Of a query or a `print` that is nothing.
-abbrev pub Shows : Pages → Turn → Result Unit Stop → Pages → Type 0
-Shows s (TreeBegun w) result t = OrStops result (ShowsState (first_summary s.updates Begun) s t)
-Shows s (FirstRefused why) result t = OrStops result (Opens (first_summary s.updates (Refused why)) s t)
+abbrev pub Shows : Shown → Turn → Result Unit Stop → Shown → Type 0
+Shows s (TreeBegun w) result t = OrStops result (ShowsFirst (first_summary s.0.updates Begun) s t) (t.1 ≡ s.1)
+Shows s (FirstRefused why) result t = OrStops result (RefusesFirst (first_summary s.0.updates (Refused why)) s t) (t.1 ≡ s.1)
 Shows s (Ran old c new) result t = ShowsRun old c new s result t
 Shows s (Asked old q new) result t = (new ≡ old) × (t ≡ s) × (result ≡ Ok tt)
 Shows s (Printed w) result t = (t ≡ s) × (result ≡ Ok tt)
@@ -108,15 +133,15 @@ EndsPage states ending result before after = Writes (page_end states ending.ende
 pub record PagesFrom (input head after told_before told_after : Bytes) (status : ℕ) : Type 0 where
   pub commands : List ScriptCommand
   pub played : Played
-  pub end : Stage × Pages
-  pub plays : Plays Shows (start_of input) (no_tree, pages_of 0 [] head) commands played.ended played.number end
+  pub end : Stage × Shown
+  pub plays : Plays Shows (start_of input) (no_tree, (pages_of 0 [] head, told_before)) commands played.ended played.number end
   pub ending : Ending
   pub ends_as : EndsAs played ending
   pub result : Result Unit Stop
   pub closed : Bytes
-  pub ends : EndsPage end.1.states ending result end.1.written closed
+  pub ends : EndsPage end.1.0.states ending result end.1.0.written closed
   pub kept : Keeps closed after
-  pub tells : Tells told_before told_after (told_text result ending.line ending.message.items) (status_at_end result) status
+  pub tells : Tells end.1.1 told_after (told_text result ending.line ending.message.items) (status_at_end result) status
 
 -- a script is run, and shown as a page; or the output has an error before its first state
 abbrev pub ShowsScript : Bytes → Bytes → Bytes → Bytes → Bytes → ℕ → Type 0

@@ -13,7 +13,13 @@ use accesskit_consumer::NodeRef;
 use std::alloc::Global;
 use std::io::{self, Write};
 
-/// Writes each node as a list item, in order.
+/// The greatest number of lists in one another. Browsers keep no more than some hundred elements in one another.
+const MOST_LISTS: usize = 100;
+
+/// The number of lists in one another that are indented.
+const INDENTED: usize = 24;
+
+/// Writes each node as a list item, in order. The item of a node with children folds, and has the items of those below it.
 pub(crate) fn write_outline<O: Write>(
     alloc: Global,
     number: u64,
@@ -21,41 +27,82 @@ pub(crate) fn write_outline<O: Write>(
     out: &mut O,
 ) -> Result<(), Fault> {
     out.write_all(b"<ul class=\"outline\">\n")?;
+    let mut lists = 0;
     for place in places {
-        write_row(alloc, number, place, out)?;
+        let within = place.depth.min(MOST_LISTS);
+        end_lists(within, lists, out)?;
+        lists = write_row(alloc, number, place, within, out)?;
     }
+    end_lists(0, lists, out)?;
     out.write_all(b"</ul>\n")?;
     Ok(())
 }
 
-/// Writes a row: the role, label, value and state of its node, its marks, and its id.
+/// Ends lists until only so many are left.
+fn end_lists<O: Write>(left: usize, lists: usize, out: &mut O) -> io::Result<()> {
+    for _ in left..lists {
+        out.write_all(b"</ul></details></li>\n")?;
+    }
+    Ok(())
+}
+
+/// Writes a row within so many lists: the role, label, value and state of its node, its marks, and its id. If the node has
+/// children, it begins a list of them. Returns the number of lists.
 fn write_row<O: Write>(
     alloc: Global,
     number: u64,
     place: &Place,
+    within: usize,
     out: &mut O,
-) -> Result<(), Fault> {
-    begin_row(number, place, out)?;
+) -> Result<usize, Fault> {
+    let is_folding = within < MOST_LISTS && place.node.child_ids().next().is_some();
+    begin_row(number, place, is_folding, out)?;
     write_texts(alloc, place, out)?;
     end_row(place, out)?;
-    Ok(())
+    if !is_folding {
+        out.write_all(b"</li>\n")?;
+        return Ok(within);
+    }
+    out.write_all(begun_list(within).as_bytes())?;
+    Ok(within.saturating_add(1))
+}
+
+/// Ends the line of an item that folds, and begins the list in it, within so many others.
+fn begun_list(within: usize) -> &'static str {
+    match within < INDENTED {
+        true => "</summary><ul class=\"in\">\n",
+        false => "</summary><ul>\n",
+    }
 }
 
 /// Begins a row's item with its node's role.
-fn begin_row<O: Write>(number: u64, place: &Place, out: &mut O) -> io::Result<()> {
+fn begin_row<O: Write>(
+    number: u64,
+    place: &Place,
+    is_folding: bool,
+    out: &mut O,
+) -> io::Result<()> {
     out.write_all(b"<li id=\"")?;
     write_anchor(number, place.node.id(), out)?;
-    write_level(row_class(place), place.depth, out)?;
+    write_level(row_class(place), place.depth, is_folding, out)?;
     write_role(&place.node, out)
 }
 
-/// Ends the tag of a row's item with its classes, its depth and its level, which counts from 1.
-fn write_level<O: Write>(class: &str, depth: usize, out: &mut O) -> io::Result<()> {
+/// Ends the tag of a row's item with its classes and its level, which counts from 1, and begins its line if it folds.
+fn write_level<O: Write>(
+    class: &str,
+    depth: usize,
+    is_folding: bool,
+    out: &mut O,
+) -> io::Result<()> {
     let level = depth.saturating_add(1);
-    write!(
-        out,
-        "\" class=\"{class}\" style=\"--d:{depth}\" aria-level=\"{level}\">"
-    )
+    match is_folding {
+        true => write!(
+            out,
+            "\" class=\"{class}\" aria-level=\"{level}\"><details open><summary>"
+        ),
+        false => write!(out, "\" class=\"{class} e\" aria-level=\"{level}\">"),
+    }
 }
 
 /// The classes of a row.
@@ -102,8 +149,7 @@ fn end_row<O: Write>(place: &Place, out: &mut O) -> io::Result<()> {
     write_words(&state_words(&place.node), out)?;
     write_marks(place, out)?;
     out.write_all(b" ")?;
-    write_id(place.node.id(), out)?;
-    out.write_all(b"</li>\n")
+    write_id(place.node.id(), out)
 }
 
 /// Writes each word, if it is set.

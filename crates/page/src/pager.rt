@@ -1,7 +1,26 @@
 //! Running a script and writing a page of it.
-ghost use Rattle.std.specs.Prelude.{◌≡◌, ◌≤◌, ◌≢◌, OnOk};
+ghost use Rattle.std.specs.Prelude.{◌≡◌, ◌≤◌, ◌≢◌, IfOk, Ok, OnOk};
 ghost use Rattle.atree_script.specs.Played.{PlaysOut};
-ghost use Rattle.page.specs.Shown.{pages_of, EndsPage, Notes, Opens, PagesFrom, Shows, ShowsScript, ShowsState, ShowsStep, WritesTree, first_summary};
+ghost use Rattle.atree_script.specs.Scripts.{Writes};
+ghost use Rattle.page.specs.Shown.{
+  pages_of,
+  report_text,
+  EndsPage,
+  Notes,
+  Opens,
+  OrStops,
+  PagesFrom,
+  RefusesFirst,
+  Shown,
+  Shows,
+  ShowsFirst,
+  ShowsScript,
+  ShowsState,
+  ShowsStep,
+  ShowsTurn,
+  WritesTree,
+  first_summary,
+};
 ghost use Rattle.page.specs.States.{next_number, updates_after};
 ghost use Rattle.page.specs.declared.sections.Outcome.TheVariants.{Begun, Refused};
 
@@ -29,9 +48,9 @@ impl Program for Page {
     /// update, and one for each change of the host's focus once there is a tree. Returns the exit status as `atree`
     /// does: 0 at the end of the input; 2 for a bad line, which is reported on `errors` with what is wrong in it; 3 for an error of the
     /// input or an output; 4 if memory runs out while a line is read or a state is written, which is reported on
-    /// `errors` too. Unless the output has an error, the page is completed in each case and says why it ended; after an
-    /// error of the output nothing more is written. If memory runs out in an update, the update is refused and the
-    /// script goes on.
+    /// `errors` too. Unless an output has an error, the page is completed in each case and says why it ended; after an
+    /// error of an output nothing more is written. Each refused update is reported on `errors` too, by its number among
+    /// the updates. If memory runs out in an update, the update is refused and the script goes on.
     fn run<R: BufRead, O: Write, E: Write>(
         &self,
         alloc: Global,
@@ -64,6 +83,7 @@ fn show_script<R: BufRead, O: Write, E: Write>(
     let mut pager = Pager {
         alloc,
         output: &mut *output,
+        errors: &mut *errors,
         updates: 0,
         states: Vec::new(alloc),
     };
@@ -71,31 +91,34 @@ fn show_script<R: BufRead, O: Write, E: Write>(
     let Pager {
         alloc: _,
         output: written,
+        errors: reported,
         updates: _,
         states,
     } = pager;
-    // This does nothing. The proof reads from it what the output has.
+    // These do nothing. The proof reads from them what the outputs have.
     let _ = &*written;
+    let _ = &*reported;
     let ending = ending_of(alloc, &played);
     let ended = end_page(&states, &ending, output);
     end_told(ended, &ending, output, errors)
 }
 
 /// Plays a script, and writes its states.
-fn play_shown<R: BufRead, O: Write>(
+fn play_shown<R: BufRead, O: Write, E: Write>(
     alloc: Global,
     input: &mut R,
-    pager: &mut Pager<'_, O>,
+    pager: &mut Pager<'_, '_, O, E>,
 ) -> Played
     ensures output { pager.new.output.ghost_name ≡ pager.old.output.ghost_name }
-    ensures plays { let before = pages_of pager.old.updates pager.old.states.items (O.contents pager.old.output.now) in
-        let after = pages_of pager.new.updates pager.new.states.items (O.contents pager.new.output.now) in
+    ensures errors { pager.new.errors.ghost_name ≡ pager.old.errors.ghost_name }
+    ensures plays { let before : Shown = (pages_of pager.old.updates pager.old.states.items (O.contents pager.old.output.now), E.contents pager.old.errors.now) in
+        let after : Shown = (pages_of pager.new.updates pager.new.states.items (O.contents pager.new.output.now), E.contents pager.new.errors.now) in
         PlaysOut Shows (R.remaining input.old) before result after }
 {
     play(alloc, input, pager)
 }
 
-/// Ends the page unless the output had an error, and returns how the run ended.
+/// Ends the page unless an output had an error, and returns how the run ended.
 fn end_page<O: Write>(states: &[Summary], ending: &Ending, output: &mut O) -> Result<(), Stop>
     ensures { EndsPage states.now ending.now result (O.contents output.old) (O.contents output.new) }
 {
@@ -108,18 +131,19 @@ fn end_page<O: Write>(states: &[Summary], ending: &Ending, output: &mut O) -> Re
 
 /// A page while it is written.
 #[derive(Drop)]
-struct Pager<'a, O> {
+struct Pager<'a, 'b, O, E> {
     alloc: Global,
     output: &'a mut O,
+    errors: &'b mut E,
     /// The number of updates sent so far.
     updates: u64,
     /// A summary of each state so far.
     states: Vec<Summary>,
 }
 
-impl<'a, O: Write> Player for Pager<'a, O> {
-    ghost turns = { λ s turn result t. (t.output.ghost_name ≡ s.output.ghost_name)
-        × Shows (pages_of s.updates s.states.items (O.contents s.output.now)) turn result (pages_of t.updates t.states.items (O.contents t.output.now)) };
+impl<'a, 'b, O: Write, E: Write> Player for Pager<'a, 'b, O, E> {
+    ghost turns = { λ s turn result t. (t.output.ghost_name ≡ s.output.ghost_name) × (t.errors.ghost_name ≡ s.errors.ghost_name)
+        × Shows (pages_of s.updates s.states.items (O.contents s.output.now), E.contents s.errors.now) turn result (pages_of t.updates t.states.items (O.contents t.output.now), E.contents t.errors.now) };
 
     /// Shows the first state, which has no events.
     fn begin(&mut self, session: &Session) -> Result<(), Stop> {
@@ -127,20 +151,22 @@ impl<'a, O: Write> Player for Pager<'a, O> {
         Ok(())
     }
 
-    /// Shows why the update is refused, also if memory ran out.
+    /// Shows and reports why the update is refused, also if memory ran out.
     fn refuse(&mut self, refusal: UpdateError) -> Result<(), Stop> {
-        self.show_refused(refusal)?;
-        Ok(())
+        let first = first_summary(self.updates, Outcome::Refused(refusal));
+        self.show_quiet(Summary {
+            cause: first.cause,
+            outcome: first.outcome,
+            tally: first.tally,
+        })?;
+        report_outcome(first.cause, first.outcome, self.errors)
     }
 
-    /// Shows the state that the command makes. Setting the host's focus to its current value makes none.
+    /// Shows the state that the command makes, and reports a refusal. Setting the host's focus to its current value makes none.
     fn run(&mut self, session: &mut Session, command: Command) -> Result<(), Stop> {
         let is_host_focused = session.tree().state().is_host_focused();
         match cause_of(&command, is_host_focused, self.updates) {
-            Some(cause) => {
-                self.show_step(cause, session, command)?;
-                Ok(())
-            }
+            Some(cause) => self.take_turn(cause, session, command),
             None => Ok(()),
         }
     }
@@ -156,7 +182,24 @@ impl<'a, O: Write> Player for Pager<'a, O> {
     }
 }
 
-impl<'a, O: Write> Pager<'a, O> {
+impl<'a, 'b, O: Write, E: Write> Pager<'a, 'b, O, E> {
+    /// Runs a command, shows its events and its state, and reports a refusal.
+    fn take_turn(
+        &mut self,
+        cause: Cause,
+        session: &mut Session,
+        command: Command,
+    ) -> Result<(), Stop>
+        ensures output { self.new.output.ghost_name ≡ self.old.output.ghost_name }
+        ensures errors { self.new.errors.ghost_name ≡ self.old.errors.ghost_name }
+        ensures shows { let before : Shown = (pages_of self.old.updates self.old.states.items (O.contents self.old.output.now), E.contents self.old.errors.now) in
+            let after : Shown = (pages_of self.new.updates self.new.states.items (O.contents self.new.output.now), E.contents self.new.errors.now) in
+            OrStops result (ShowsTurn cause before session.old command session.new after) (after.1 ≡ before.1) }
+    {
+        let outcome = self.show_step(cause, session, command)?;
+        report_outcome(cause, outcome, self.errors)
+    }
+
     /// The number of the next state, counted from 1.
     fn next_number(&self) -> u64
         ensures { result ≡ next_number self.now.states.items }
@@ -167,6 +210,7 @@ impl<'a, O: Write> Pager<'a, O> {
     /// Shows the first state of the tree.
     fn show_begun(&mut self, state: StateRef) -> Result<(), Fault>
         ensures output { self.new.output.ghost_name ≡ self.old.output.ghost_name }
+        ensures errors { self.new.errors ≡ self.old.errors }
         ensures shows { let before = pages_of self.old.updates self.old.states.items (O.contents self.old.output.now) in
             let after = pages_of self.new.updates self.new.states.items (O.contents self.new.output.now) in
             OnOk result (ShowsState (first_summary self.old.updates Begun) before after) }
@@ -184,19 +228,10 @@ impl<'a, O: Write> Pager<'a, O> {
         )
     }
 
-    /// Shows that the first update was refused.
-    fn show_refused(&mut self, refusal: UpdateError) -> Result<(), Fault>
-        ensures output { self.new.output.ghost_name ≡ self.old.output.ghost_name }
-        ensures shows { let before = pages_of self.old.updates self.old.states.items (O.contents self.old.output.now) in
-            let after = pages_of self.new.updates self.new.states.items (O.contents self.new.output.now) in
-            OnOk result (Opens (first_summary self.old.updates (Refused refusal)) before after) }
-    {
-        self.show_quiet(first_summary(self.updates, Outcome::Refused(refusal)))
-    }
-
     /// Begins a state without events, and says what came of it.
     fn show_quiet(&mut self, it: Summary) -> Result<(), Fault>
         ensures output { self.new.output.ghost_name ≡ self.old.output.ghost_name }
+        ensures errors { self.new.errors ≡ self.old.errors }
         ensures opens { let before = pages_of self.old.updates self.old.states.items (O.contents self.old.output.now) in
             let after = pages_of self.new.updates self.new.states.items (O.contents self.new.output.now) in
             OnOk result (Opens it before after) }
@@ -205,17 +240,18 @@ impl<'a, O: Write> Pager<'a, O> {
         self.note(it)
     }
 
-    /// Runs a command, and shows its events and its state.
+    /// Runs a command, shows its events and its state, and returns what came of it.
     fn show_step(
         &mut self,
         cause: Cause,
         session: &mut Session,
         command: Command,
-    ) -> Result<(), Fault>
+    ) -> Result<Outcome, Fault>
         ensures output { self.new.output.ghost_name ≡ self.old.output.ghost_name }
+        ensures errors { self.new.errors ≡ self.old.errors }
         ensures shows { let before = pages_of self.old.updates self.old.states.items (O.contents self.old.output.now) in
             let after = pages_of self.new.updates self.new.states.items (O.contents self.new.output.now) in
-            OnOk result (ShowsStep cause before session.old command session.new after) }
+            IfOk result (λ outcome. ShowsStep cause outcome before session.old command session.new after) }
     {
         let number = self.next_number();
         begin_state(number, cause, self.output)?;
@@ -233,12 +269,14 @@ impl<'a, O: Write> Pager<'a, O> {
             state,
             &it.marks,
             self.output,
-        )
+        )?;
+        Ok(it.outcome)
     }
 
     /// Says what came of the next state, and keeps its summary.
     fn note(&mut self, it: Summary) -> Result<(), Fault>
         ensures output { self.new.output.ghost_name ≡ self.old.output.ghost_name }
+        ensures errors { self.new.errors ≡ self.old.errors }
         ensures notes { let before = pages_of self.old.updates self.old.states.items (O.contents self.old.output.now) in
             let after = pages_of self.new.updates self.new.states.items (O.contents self.new.output.now) in
             OnOk result (Notes it before after) }
@@ -247,6 +285,19 @@ impl<'a, O: Write> Pager<'a, O> {
         self.updates = updates_after(it.cause, self.updates);
         self.states.push(it)?;
         Ok(())
+    }
+}
+
+/// Reports what came of a state: of a refused update its number among the updates, and why it is refused.
+fn report_outcome<E: Write>(cause: Cause, outcome: Outcome, errors: &mut E) -> Result<(), Stop>
+    ensures { Writes (report_text cause outcome) (Ok tt) result (E.contents errors.old) (E.contents errors.new) }
+{
+    match (cause, outcome) {
+        (Cause::Update(number), Outcome::Refused(refusal)) => {
+            writeln!(errors, "update {number}: {refusal}")?;
+            Ok(())
+        }
+        _ => Ok(()),
     }
 }
 

@@ -1,7 +1,7 @@
 //! The style of a page.
 
 /// The lines of the style sheet.
-pub(crate) static SHEET: [&str; 46] = [
+pub(crate) static SHEET: [&str; 48] = [
     ":root{color-scheme:light dark;--bg:#fff;--fg:#1f2328;--dim:#59636e;--line:#d1d9e0;--panel:#f6f8fa;--box:#edf4fc;--edge:#57606a;--link:#0550ae;--a:#116329;--abg:#dafbe1;--u:#7d4e00;--ubg:#fff1c2;--r:#a40e26;--rbg:#ffe3e0;--f:#6e2ab5;--fbg:#efe3ff}",
     "@media(prefers-color-scheme:dark){:root{--bg:#0d1117;--fg:#e6edf3;--dim:#9da7b3;--line:#3d444d;--panel:#161b22;--box:#172230;--edge:#9da7b3;--link:#79c0ff;--a:#7ee787;--abg:#0f3b1d;--u:#f2cc60;--ubg:#43330a;--r:#ffa198;--rbg:#5c1a1a;--f:#d2a8ff;--fbg:#3b2160}}",
     "*{box-sizing:border-box}",
@@ -19,7 +19,7 @@ pub(crate) static SHEET: [&str; 46] = [
     ".prev,.next{position:absolute;top:.8rem;padding:.3rem .7rem;border:1px solid var(--line);border-radius:.4rem;background:var(--panel);text-decoration:none;font-size:.9rem}",
     ".prev{right:calc(clamp(.75rem,3vw,2rem) + 4.2rem)}",
     ".next{right:clamp(.75rem,3vw,2rem)}",
-    "a:focus-visible{outline:2px solid var(--link);outline-offset:2px}",
+    "a:focus-visible,summary:focus-visible{outline:2px solid var(--link);outline-offset:2px}",
     ".cause,.note,small{color:var(--dim)}",
     ".refused{color:var(--r);background:var(--rbg);padding:.5rem .8rem;border-radius:.4rem}",
     "em{font-style:normal;font-size:.85em;font-weight:600;padding:.05em .45em;border-radius:.6em;white-space:nowrap}",
@@ -35,12 +35,14 @@ pub(crate) static SHEET: [&str; 46] = [
     ".events{margin:.6rem 0}",
     ".events ol{margin:.3rem 0;padding-left:2.2rem;max-height:24vh;overflow:auto}",
     ".state{display:grid;gap:1rem;margin-top:.6rem}",
-    ".outline{margin:0;padding:0;list-style:none;min-width:0}",
-    ".outline li{padding:.1rem .4rem;margin-left:min(calc(var(--d)*1.1rem),50%);border-left:2px solid var(--line)}",
-    ".outline li.a{border-color:var(--a)}",
-    ".outline li.u{border-color:var(--u)}",
+    ".outline,.outline ul{margin:0;padding:0;list-style:none;min-width:0}",
+    ".outline ul.in{padding-left:min(1.1rem,4%)}",
+    ".outline summary,.outline li.e{padding:.1rem .4rem;border-left:2px solid var(--line)}",
+    ".outline summary{cursor:pointer}.outline li.e{padding-left:1.5rem}",
+    ".outline li.a>details>summary,.outline li.a.e{border-color:var(--a)}",
+    ".outline li.u>details>summary,.outline li.u.e{border-color:var(--u)}",
     ".outline li.x b,.outline li.x q{color:var(--dim);font-weight:400}",
-    ".outline li:target{background:var(--fbg)}",
+    ".outline li:target>details>summary,.outline li.e:target{background:var(--fbg)}",
     "figure{margin:0;min-width:0;order:-1}",
     "figcaption{color:var(--dim);font-size:.9rem}",
     "figure>svg{display:block;width:100%;height:auto;max-height:60vh;background:var(--panel);border:1px solid var(--line);border-radius:.4rem}",

@@ -1,7 +1,9 @@
 use Rattle.std.proofs.Common.{List, sym, subst}
 use Rattle.atree_script.specs.Input.{start_of}
 use Rattle.atree_script.specs.Playing.{Stage, no_tree, Plays}
-use Rattle.page.specs.Shown.{EndsPage, Pages, Shows, pages_of}
+use Rattle.script_lines.specs.Ends.{Tells, status_at_end}
+use Rattle.page.specs.Endings.{told_text}
+use Rattle.page.specs.Shown.{EndsPage, Shown, Shows, pages_of}
 use Rattle.page.specs.declared.sections.Summary.{Summary}
 use Rattle.page.proofs.pager.show_script.Goals as goal
 
@@ -11,15 +13,16 @@ returns-clause-shows g c =
     let played = c.play_shown-played.result in
     let pager = c.play_shown-played.new.pager in
     let stage : Stage = record { world = played.session; host = h.host } in
-    let end : Stage × Pages = (stage, pages_of pager.updates pager.states.items (g.O.Write.contents pager.output.now)) in
+    let end : Stage × Shown = (stage, (pages_of pager.updates pager.states.items (g.O.Write.contents pager.output.now), g.E.Write.contents pager.errors.now)) in
     let ending = c.ending_of-ending.result in
     let closed = g.O.Write.contents c.end_page-ended.new.output in
     let head = g.O.Write.contents c.args.output.now in
+    let told = g.E.Write.contents c.args.errors.now in
     record {
       commands = h.commands;
       played = played;
       end = end;
-      plays = subst (λ (states : List Summary). Plays Shows (start_of (g.R.Read.remaining c.args.input.now)) (no_tree, pages_of 0 states head) h.commands played.ended played.number end) c.new.ensures.items h.plays;
+      plays = subst (λ (states : List Summary). Plays Shows (start_of (g.R.Read.remaining c.args.input.now)) (no_tree, (pages_of 0 states head, told)) h.commands played.ended played.number end) c.new.ensures.items h.plays;
       ending = ending;
       ends_as = c.ending_of-ending.ensures;
       result = c.end_page-ended.result;
@@ -28,5 +31,7 @@ returns-clause-shows g c =
           subst (λ (its : List Summary). EndsPage its ending c.end_page-ended.result (g.O.Write.contents pager.output.now) closed) c.deref.ensures.value
           (subst (λ x. EndsPage c.deref.result.now ending c.end_page-ended.result (g.O.Write.contents x) closed) (c.output-1.given.1 (sym c.play_shown-played.ensures.output)) c.end_page-ended.ensures);
       kept = c.end_told.ensures.printed;
-      tells = c.end_told.ensures.told;
+      tells =
+          subst (λ x. Tells (g.E.Write.contents x) (g.E.Write.contents c.end_told.new.errors) (told_text c.end_page-ended.result ending.line ending.message.items) (status_at_end c.end_page-ended.result) c.end_told.result)
+          (c.errors-1.given.1 (sym c.play_shown-played.ensures.errors)) c.end_told.ensures.told;
     }

@@ -1,5 +1,4 @@
 use Rattle.std.proofs.Common.{ℕ, subst}
-use Rattle.std.proofs.lemmas.Result.{on_ok_weaker}
 use Rattle.std.specs.Io.KnownBytes.{Appends}
 use Rattle.page.specs.Reports.{ReportsStep}
 use Rattle.page.specs.States.{state_begun}
@@ -11,17 +10,14 @@ returns-clause-shows g c =
     let begun = g.O.Write.contents c.begin_state.new.out in
     let told = g.O.Write.contents c.report_step.new.out in
     let it = c.in_ok-it.it in
-    on_ok_weaker c.write_tree.result
-    (λ tree. record {
+    record {
       begun = begun;
       begins = subst (λ (n : ℕ). Appends before begun (state_begun n c.args.cause)) c.next_number-number.ensures c.in_ok-begin_state.ensures;
       told = told;
-      outcome = it.outcome;
       tally = it.tally;
       marks = it.marks;
       reports = subst (λ (n : ℕ). ReportsStep n c.args.session.now c.args.command c.report_step.new.session begun it.outcome it.tally it.marks told) c.next_number-number.ensures c.in_ok-it.ensures;
       noted = g.O.Write.contents c.note.new.self.output.now;
       notes = c.in_ok-note.ensures.notes;
-      tree = tree;
-    })
-    c.write_tree.ensures
+      tree = c.in_ok-write_tree.ensures;
+    }
