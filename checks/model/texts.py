@@ -109,6 +109,46 @@ def is_text(world, root):
     return not broken_rules(world, root)
 
 
+def wrong_link(link, neighbour, answer, names):
+    """What is wrong with a link, which should lead to this neighbour, and be answered by a link from there."""
+    field, place, other = names
+    if link is not None and (neighbour is None or link != neighbour[1]):
+        yield f"its {field} is {link}, which is not the {place}"
+    elif link is not None and answer is None:
+        yield f"its {field} is the {place}, which has no {other}"
+
+
+def wrong_with_run(world, root, before, id, after):
+    """What is wrong with a run between these two, in the order in which it is told."""
+    node = world.nodes[id]
+    previous, following = (world.nodes[at] if at is not None else None for at in (before, after))
+    yield from wrong_link(node.prev, before, previous and previous.next, ("previous_on_line", "run before it", "next_on_line"))
+    if id[0] != root[0]:
+        yield "it is in another tree"
+    if characters_of(node) is None:
+        yield "its character lengths do not cut its value into characters"
+    if not has_rising_words(node):
+        yield "its word starts do not rise, or go beyond its characters"
+    least = 1 if world.nodes[root].role == "PasswordInput" else len(node.chars)
+    for name, given in (("positions", node.character_positions), ("widths", node.character_widths)):
+        if given is not None and not min(least, len(node.chars)) <= len(given) <= len(node.chars):
+            yield f"its character {name} are not one for each character"
+    if after is not None and not node.chars:
+        yield "it is empty, and another run follows"
+    yield from wrong_link(node.next, after, following and following.prev, ("next_on_line", "next run", "previous_on_line"))
+
+
+def why_no_text(world, root):
+    """Why the node's runs make no text: its role, or the first run that something is wrong with."""
+    ids = runs_of(world, root)
+    if not ids:
+        return "it has no runs"
+    if world.nodes[root].role not in HOLDS_TEXT:
+        return "its role holds no text"
+    triples = zip([None, *ids], ids, [*ids[1:], None])
+    return next(f"run {id[1]}: {wrong}" for before, id, after in triples for wrong in wrong_with_run(world, root, before, id, after))
+
+
 # ---- the flat text
 
 

@@ -1,1 +1,4 @@
+pub mod Asked
 pub mod Given
+pub mod NoText
+pub mod Shown

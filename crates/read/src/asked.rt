@@ -1,10 +1,12 @@
 //! The arguments of the program.
 
+ghost use Rattle.std.specs.Prelude.{◌≡◌, false, IfOk, OnOk};
+ghost use Rattle.std.specs.Io.KnownBytes.{Appends};
+ghost use Rattle.read.specs.Asked.{refused_text, is_told};
 ghost use Rattle.read.specs.Given.{GivesAsked, ReadsAsked};
 
 use crate::given::{id_given, tree_given};
-use crate::reading::tell_text;
-use accesskit_consumer::text::NodeText;
+use crate::reading::tell_node;
 use atree_script::{ArgumentError, Arguments, Stop, Teller, miscounted};
 use session::{NodeName, Session};
 use std::alloc::Global;
@@ -29,24 +31,13 @@ impl Arguments for Asked {
 }
 
 impl Teller for Asked {
-    /// Prints the text of the node, or why it has no text, and returns whether it has one.
-    fn tell<O: Write>(
-        &self,
-        alloc: Global,
-        session: &Session,
-        output: &mut O,
-    ) -> Result<bool, Stop> {
-        let (id, tree) = self.name;
-        let Some(node) = session.tree().state().node_by_tree_local_id(id, tree) else {
-            output.write_all(b"no node\n")?;
-            return Ok(false);
-        };
-        let Some(text) = node.text() else {
-            output.write_all(b"no text\n")?;
-            return Ok(false);
-        };
-        tell_text(alloc, text, output)?;
-        Ok(true)
+    /// Prints the text of the node, or why none is shown, and returns whether it is shown.
+    fn tell<O: Write>(&self, alloc: Global, session: &Session, output: &mut O) -> Result<bool, Stop>
+        ensures refused { OnOk result (is_told session.now self.now.name ≡ false →
+            Appends (O.contents output.old) (O.contents output.new) (refused_text session.now self.now.name)) }
+        ensures there { IfOk result (λ there. there ≡ is_told session.now self.now.name) }
+    {
+        tell_node(alloc, session.tree().state().view(), self.name, output)
     }
 }
 

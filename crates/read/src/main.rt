@@ -2,6 +2,7 @@
 #![tactic(auto)]
 
 mod asked;
+mod defect;
 mod given;
 mod manual;
 mod reading;

@@ -1,88 +1,202 @@
 //! Printing a text.
+pub(crate) mod shown;
 
+ghost use Rattle.std.specs.Prelude.{◌≡◌, false, IfOk, IfSome, OnOk, option_map};
+ghost use Rattle.std.specs.Io.KnownBytes.{Appends};
+ghost use Rattle.model.specs.Queries.{node_named};
+ghost use Rattle.views.specs.Nodes.{world_at, id_at};
+ghost use Rattle.views.specs.ShownWorlds.{world_of};
+ghost use Rattle.read.specs.Asked.{no_text_of, refused_text, shows_text, is_told};
+
+use self::shown::{shown_text, units};
+use crate::defect::tell_defect;
 use crate::selected::{Selected, tell_selection};
-use accesskit_consumer::text::{Text, TextRange};
+use accesskit_consumer::node::NodeRef;
+use accesskit_consumer::text::{NodeText, RangeCharacters, RangeWords, Text, TextLines, TextRange};
+use accesskit_consumer::tree::StateRef;
 use atree_script::{Stop, write_text};
+use hidden_texts::hides_text;
+use session::NodeName;
 use std::alloc::Global;
 use std::io::Write;
 
-/// Prints the selection of a text, and its lines.
-pub(crate) fn tell_text<O: Write>(alloc: Global, text: Text, out: &mut O) -> Result<(), Stop> {
-    let selected = tell_selection(alloc, text, out)?;
-    let last = text.end().to_line_index();
-    let mut lines = text.lines();
-    let mut start = 0usize;
-    for number in 0..usize::MAX {
-        let Some(line) = lines.line(number) else {
-            break;
-        };
-        let written = line.text(alloc)?;
-        let end = start.saturating_add(units(&written));
-        write!(out, "line {number} {start} {end} ")?;
-        write_text(Some(&written), out)?;
-        tell_words(alloc, line, start, selected, out)?;
-        start = end;
-        if number >= last {
-            break;
-        }
-    }
-    Ok(())
+/// Prints the text of the node with this name, or why none is shown, and returns whether it is shown.
+pub(crate) fn tell_node<O: Write>(
+    alloc: Global,
+    state: StateRef,
+    name: NodeName,
+    out: &mut O,
+) -> Result<bool, Stop>
+    ensures refused { let w = world_of state.entry in
+        OnOk result (is_told w name ≡ false → Appends (O.contents out.old) (O.contents out.new) (refused_text w name)) }
+    ensures there { IfOk result (λ there. there ≡ is_told (world_of state.entry) name) }
+{
+    let Some(node) = named_node(state, name) else {
+        out.write_all(b"no node\n")?;
+        return Ok(false);
+    };
+    tell_found(alloc, node, out)
 }
 
-/// Prints the words of a line that starts at this index. A word that continues on the next line is cut.
-fn tell_words<O: Write>(
+/// The node with this name, if it is in the state.
+fn named_node<'a>(state: StateRef<'a>, name: NodeName) -> Option<NodeRef<'a>>
+    ensures world { IfSome result (λ node. world_at node ≡ world_of state.entry) }
+    ensures node { option_map id_at result ≡ node_named (world_of state.entry) name }
+{
+    state.know();
+    state.node_by_tree_local_id(name.0, name.1)
+}
+
+/// Prints the text of a node, or why none is shown, and returns whether it is shown.
+fn tell_found<O: Write>(alloc: Global, node: NodeRef, out: &mut O) -> Result<bool, Stop>
+    ensures refused { let w = world_at node.entry in let id = id_at node.entry in
+        OnOk result (shows_text w id ≡ false → Appends (O.contents out.old) (O.contents out.new) (no_text_of w id)) }
+    ensures there { IfOk result (λ there. there ≡ shows_text (world_at node.entry) (id_at node.entry)) }
+{
+    if hides_text(&node) {
+        out.write_all(b"text hidden\n")?;
+        return Ok(false);
+    }
+    let Some(text) = node.text() else {
+        tell_defect(node.text_defect(), out)?;
+        return Ok(false);
+    };
+    tell_text(alloc, text, out)?;
+    Ok(true)
+}
+
+/// Prints the selection of a text, and its lines.
+fn tell_text<O: Write>(alloc: Global, text: Text, out: &mut O) -> Result<(), Stop> {
+    let selected = tell_selection(alloc, text, out)?;
+    tell_lines(alloc, text, selected, out)
+}
+
+/// Prints the lines of a text.
+fn tell_lines<O: Write>(
     alloc: Global,
-    line: TextRange<'_>,
-    start: usize,
+    text: Text,
     selected: Selected,
     out: &mut O,
 ) -> Result<(), Stop> {
-    let mut index = start;
-    let mut words = line.words();
+    let last = text.end().to_line_index();
+    let mut lines = text.lines();
+    let mut at = 0usize;
+    for number in 0..last {
+        at = tell_line(alloc, &mut lines, number, at, selected, out)?;
+    }
+    tell_line(alloc, &mut lines, last, at, selected, out)?;
+    Ok(())
+}
+
+/// Prints the line with this number, which starts at this index, if there is one, and its words. Returns the index after
+/// it. A word that continues on the next line is cut.
+fn tell_line<O: Write>(
+    alloc: Global,
+    lines: &mut TextLines<'_>,
+    number: usize,
+    at: usize,
+    selected: Selected,
+    out: &mut O,
+) -> Result<usize, Stop> {
+    let Some(line) = lines.line(number) else {
+        return Ok(at);
+    };
+    write!(out, "line {number} ")?;
+    let after = tell_span(alloc, line, at, out)?;
+    tell_words(alloc, line.words(), at, selected, out)?;
+    Ok(after)
+}
+
+/// Prints the index at which a range starts, that after it, and its text. Returns the index after it.
+fn tell_span<O: Write>(
+    alloc: Global,
+    range: TextRange<'_>,
+    at: usize,
+    out: &mut O,
+) -> Result<usize, Stop> {
+    let written = shown_text(alloc, range)?;
+    let after = at.saturating_add(units(&written));
+    write!(out, "{at} {after} ")?;
+    write_text(Some(&written), out)?;
+    Ok(after)
+}
+
+/// Prints words, of which the first starts at this index.
+fn tell_words<O: Write>(
+    alloc: Global,
+    words: RangeWords<'_>,
+    at: usize,
+    selected: Selected,
+    out: &mut O,
+) -> Result<(), Stop> {
+    let mut left = words;
+    let mut index = at;
     for _ in 0..usize::MAX {
-        let Some(word) = words.next() else {
+        let Some(word) = left.next() else {
             break;
         };
-        let written = word.text(alloc)?;
-        let until = index.saturating_add(units(&written));
-        write!(out, "  word {index} {until} ")?;
-        write_text(Some(&written), out)?;
-        tell_characters(alloc, word, index, selected, out)?;
-        index = until;
+        index = tell_word(alloc, word, index, selected, out)?;
     }
     Ok(())
 }
 
-/// Prints the characters of a word that starts at this index: the index of each, with a star if it is selected.
+/// Prints a word that starts at this index, and its characters. Returns the index after it.
+fn tell_word<O: Write>(
+    alloc: Global,
+    word: TextRange<'_>,
+    at: usize,
+    selected: Selected,
+    out: &mut O,
+) -> Result<usize, Stop> {
+    out.write_all(b"  word ")?;
+    let after = tell_span(alloc, word, at, out)?;
+    tell_characters(alloc, word, at, selected, out)?;
+    Ok(after)
+}
+
+/// Prints the characters of a word on a line.
 fn tell_characters<O: Write>(
     alloc: Global,
     word: TextRange<'_>,
-    start: usize,
+    at: usize,
     selected: Selected,
     out: &mut O,
 ) -> Result<(), Stop> {
     out.write_all(b"   ")?;
-    let mut index = start;
-    let mut characters = word.characters();
-    for _ in 0..usize::MAX {
-        let Some(character) = characters.next() else {
-            break;
-        };
-        write!(out, " {index}")?;
-        if selected.has(index) {
-            out.write_all(b"*")?;
-        }
-        index = index.saturating_add(units(&character.text(alloc)?));
-    }
+    tell_marks(alloc, word.characters(), at, selected, out)?;
     out.write_all(b"\n")?;
     Ok(())
 }
 
-/// The length of a text in UTF-16 code units.
-fn units(text: &str) -> usize {
-    let mut count = 0usize;
-    for c in text.chars() {
-        count = count.saturating_add(c.len_utf16());
+/// Prints the index of each character, with a star if it is selected. The first starts at this index.
+fn tell_marks<O: Write>(
+    alloc: Global,
+    characters: RangeCharacters<'_>,
+    at: usize,
+    selected: Selected,
+    out: &mut O,
+) -> Result<(), Stop> {
+    let mut left = characters;
+    let mut index = at;
+    for _ in 0..usize::MAX {
+        let Some(character) = left.next() else {
+            break;
+        };
+        index = tell_mark(alloc, character, index, selected, out)?;
     }
-    count
+    Ok(())
+}
+
+/// Prints the index of a character, with a star if it is selected. Returns the index after it.
+fn tell_mark<O: Write>(
+    alloc: Global,
+    character: TextRange<'_>,
+    at: usize,
+    selected: Selected,
+    out: &mut O,
+) -> Result<usize, Stop> {
+    let star = selected.star(at);
+    write!(out, " {at}{star}")?;
+    let written = shown_text(alloc, character)?;
+    Ok(at.saturating_add(units(&written)))
 }

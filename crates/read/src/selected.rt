@@ -1,5 +1,6 @@
 //! The selection in a text.
-use accesskit_consumer::text::Text;
+use crate::reading::shown::{shown_index, shown_text};
+use accesskit_consumer::text::{Text, TextRange};
 use atree_script::{Stop, write_text};
 use std::alloc::Global;
 use std::io::Write;
@@ -13,9 +14,20 @@ pub(crate) struct Selected {
 
 impl Selected {
     /// Whether the index is selected.
-    pub(crate) fn has(self, index: usize) -> bool {
+    fn has(self, index: usize) -> bool {
         self.from <= index && index < self.to
     }
+
+    /// A star if the index is selected.
+    pub(crate) fn star(self, index: usize) -> &'static str {
+        if self.has(index) { "*" } else { "" }
+    }
+}
+
+/// Prints that there is no selection.
+fn tell_none<O: Write>(out: &mut O) -> Result<Selected, Stop> {
+    out.write_all(b"selection none\n")?;
+    Ok(Selected { from: 0, to: 0 })
 }
 
 /// Prints the selection: its anchor, its focus, and the selected text. Returns its indexes.
@@ -24,15 +36,35 @@ pub(crate) fn tell_selection<O: Write>(
     text: Text,
     out: &mut O,
 ) -> Result<Selected, Stop> {
-    let ends = (text.selection_anchor(), text.selection_focus());
-    let (Some(range), (Some(anchor), Some(focus))) = (text.selection(), ends) else {
-        out.write_all(b"selection none\n")?;
-        return Ok(Selected { from: 0, to: 0 });
+    let Some(range) = text.selection() else {
+        return tell_none(out);
     };
-    let anchor = anchor.to_global_utf16_index();
-    let focus = focus.to_global_utf16_index();
+    let Some(anchor) = text.selection_anchor() else {
+        return tell_none(out);
+    };
+    let Some(focus) = text.selection_focus() else {
+        return tell_none(out);
+    };
+    tell_range(
+        alloc,
+        shown_index(text, anchor),
+        shown_index(text, focus),
+        range,
+        out,
+    )
+}
+
+/// Prints a selection by the indexes of its ends, and its text.
+fn tell_range<O: Write>(
+    alloc: Global,
+    anchor: usize,
+    focus: usize,
+    range: TextRange,
+    out: &mut O,
+) -> Result<Selected, Stop> {
     write!(out, "selection {anchor} {focus} ")?;
-    write_text(Some(&range.text(alloc)?), out)?;
+    let written = shown_text(alloc, range)?;
+    write_text(Some(&written), out)?;
     Ok(Selected {
         from: anchor.min(focus),
         to: anchor.max(focus),
