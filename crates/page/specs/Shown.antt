@@ -96,7 +96,8 @@ report_text cause outcome = []
 
 -- this is shown and reported; or the page is not written further, and nothing is reported; or standard error has an error
 abbrev pub OrStops : Result Unit Stop → Type 0 → Type 0 → Type 0
-OrStops result shown silent = MatchResult result (λ _. shown) (λ stop. ((why : Fault) × (stop ≡ stop_of why) × silent) ⊎ (stop ≡ WriteFault))
+OrStops result shown silent =
+    MatchResult result (λ _. shown) (λ stop. ((why : Fault) × (stop ≡ stop_of why) × silent) ⊎ (stop ≡ WriteFault))
 
 -- a first tree is shown, of which nothing is reported
 abbrev pub ShowsFirst : Summary → Shown → Shown → Type 0
@@ -115,7 +116,8 @@ pub record ShowsTurn (cause : Cause) (s : Shown) (old : World) (c : Command) (ne
 -- a command that makes no state shows nothing
 abbrev pub ShowsRun : World → Command → World → Shown → Result Unit Stop → Shown → Type 0
 ShowsRun old c new s result t =
-    MatchOption (cause_of old.host_focused s.0.updates c) ((new ≡ old) × (t ≡ s) × (result ≡ Ok tt)) (λ cause. OrStops result (ShowsTurn cause s old c new t) (t.1 ≡ s.1))
+    MatchOption (cause_of old.host_focused s.0.updates c) ((new ≡ old) × (t ≡ s) × (result ≡ Ok tt))
+    (λ cause. OrStops result (ShowsTurn cause s old c new t) (t.1 ≡ s.1))
 
 -- What a command shows. Of a query or a `print` that is nothing.
 abbrev pub Shows : Shown → Turn → Result Unit Stop → Shown → Type 0
