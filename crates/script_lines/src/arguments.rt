@@ -167,7 +167,8 @@ fn answer_option<O: Write, E: Write>(
     errors: &mut E,
 ) -> Result<bool, u8>
     ensures bound { IfErr result (λ status. (status ≤ 4) × (status ≢ 1)) }
-    ensures answers { AnswersOption option.now manual.now (map string_bytes words.now) result (O.contents output.old) (O.contents output.new) (E.contents errors.old) (E.contents errors.new) }
+    ensures answers { AnswersOption option.now manual.now (map string_bytes words.now) result (O.contents output.old)
+        (O.contents output.new) (E.contents errors.old) (E.contents errors.new) }
 {
     match after_option(option, words) {
         Some(others) => answer_others(true, alloc, others, manual, output, errors),
@@ -200,7 +201,8 @@ fn answer_others<O: Write, E: Write>(
     errors: &mut E,
 ) -> Result<bool, u8>
     ensures bound { IfErr result (λ status. (status ≤ 4) × (status ≢ 1)) }
-    ensures answers { AnswersOthers is_given manual.now (map string_bytes words.now) result (O.contents output.old) (O.contents output.new) (E.contents errors.old) (E.contents errors.new) }
+    ensures answers { AnswersOthers is_given manual.now (map string_bytes words.now) result (O.contents output.old) (O.contents output.new)
+        (E.contents errors.old) (E.contents errors.new) }
 {
     match answer_words(alloc, words, manual, output, errors) {
         Ok(NoArguments) => Ok(is_given),

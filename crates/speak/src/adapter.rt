@@ -43,7 +43,8 @@ impl Program for Speak {
     ) -> u8
         ensures bound { result ≤ 4 }
         ensures not_one { result ≢ 1 }
-        ensures speaks { SpeaksScript self.now.is_numbered (R.remaining input.old) (O.contents output.old) (O.contents output.new) (E.contents errors.old) (E.contents errors.new) result }
+        ensures speaks { SpeaksScript self.now.is_numbered (R.remaining input.old) (O.contents output.old) (O.contents output.new)
+            (E.contents errors.old) (E.contents errors.new) result }
     {
         speak_script(self.is_numbered, alloc, input, output, errors)
     }
@@ -59,7 +60,8 @@ fn speak_script<R: BufRead, O: Write, E: Write>(
 ) -> u8
     ensures bound { result ≤ 4 }
     ensures not_one { result ≢ 1 }
-    ensures speaks { SpeaksScript is_numbered (R.remaining input.old) (O.contents output.old) (O.contents output.new) (E.contents errors.old) (E.contents errors.new) result }
+    ensures speaks { SpeaksScript is_numbered (R.remaining input.old) (O.contents output.old) (O.contents output.new)
+        (E.contents errors.old) (E.contents errors.new) result }
 {
     let mut adapter = Adapter {
         alloc,
@@ -112,7 +114,8 @@ struct Adapter<'a, 'b, O, E> {
 
 impl<'a, 'b, O: Write, E: Write> Player for Adapter<'a, 'b, O, E> {
     ghost turns = { λ s turn result t. (t.output.ghost_name ≡ s.output.ghost_name) × (t.errors.ghost_name ≡ s.errors.ghost_name)
-        × Utters (aloud_of s.numbering s.told (O.contents s.output.now) (E.contents s.errors.now)) turn result (aloud_of t.numbering t.told (O.contents t.output.now) (E.contents t.errors.now)) };
+        × Utters (aloud_of s.numbering s.told (O.contents s.output.now) (E.contents s.errors.now)) turn result
+        (aloud_of t.numbering t.told (O.contents t.output.now) (E.contents t.errors.now)) };
 
     fn begin(&mut self, session: &Session) -> Result<(), Stop> {
         self.numbering = self.numbering.after_one();
@@ -182,7 +185,8 @@ fn speak_step<O: Write, E: Write>(
     output: &mut O,
     errors: &mut E,
 ) -> Result<(), Stop>
-    ensures spoken { SpokenStep numbering session.old command session.new told.old told.new result (O.contents output.old) (O.contents output.new) (E.contents errors.old) (E.contents errors.new) }
+    ensures spoken { SpokenStep numbering session.old command session.new told.old told.new result (O.contents output.old)
+        (O.contents output.new) (E.contents errors.old) (E.contents errors.new) }
     ensures mirrored { OnOk result (IsSomeAnd told.old.1 (AreRecordsOf session.old) → IfSome told.new.1 (AreRecordsOf session.new)) }
 {
     let heading = numbering.heading_of(&command);
