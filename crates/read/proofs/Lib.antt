@@ -1,2 +1,9 @@
+pub mod Alike
 pub mod Characters
 pub mod Counted
+pub mod Following
+pub mod Located
+pub mod Muted
+pub mod Numbered
+pub mod ReadAlike
+pub mod Written

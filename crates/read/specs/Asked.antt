@@ -1,4 +1,4 @@
--- What is printed where no text of the node that was asked for is shown.
+-- What is printed of the node that was asked for.
 use Rattle.std.specs.Prelude.{ℕ, Bool, false, not, ◌&&◌, List, codes, if◌then◌else◌}
 use Rattle.std.specs.Option.{option_map_or}
 use Rattle.schema.specs.declared.NodeId.{NodeId}
@@ -9,15 +9,16 @@ use Rattle.model.specs.Queries.{node_named}
 use Rattle.model.specs.TextRuns.{supports_text_ranges}
 use Rattle.hidden_texts.specs.Hidden.{hides_text}
 use Rattle.views.specs.TextDefects.{text_defect}
+use Rattle.read.specs.Lines.{read_text}
 use Rattle.read.specs.NoText.{no_text_line}
 
--- why no text of a node is printed: it is hidden, or its runs make none
-abbrev pub no_text_of : World → FullNodeId → List ℕ
-no_text_of w id = if hides_text w id then codes "text hidden\n" else no_text_line (text_defect w id)
+-- the text of a node, unless it is hidden or there is none; then why
+abbrev pub told_of : World → FullNodeId → List ℕ
+told_of w id = if hides_text w id then codes "text hidden\n" else (if supports_text_ranges w id then read_text w id else no_text_line (text_defect w id))
 
--- the same of the node with this name, or that there is none
-abbrev pub refused_text : World → NodeId × TreeId → List ℕ
-refused_text w name = option_map_or (no_text_of w) (node_named w name) (codes "no node\n")
+-- the text of a node by its name
+abbrev pub asked_text : World → NodeId × TreeId → List ℕ
+asked_text w name = option_map_or (told_of w) (node_named w name) (codes "no node\n")
 
 -- the node exists and has a text that isn't hidden
 abbrev pub shows_text : World → FullNodeId → Bool

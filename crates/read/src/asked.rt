@@ -1,8 +1,8 @@
 //! The arguments of the program.
 
-ghost use Rattle.std.specs.Prelude.{◌≡◌, false, IfOk, OnOk};
+ghost use Rattle.std.specs.Prelude.{◌≡◌, IfOk, OnOk};
 ghost use Rattle.std.specs.Io.KnownBytes.{Appends};
-ghost use Rattle.read.specs.Asked.{refused_text, is_told};
+ghost use Rattle.read.specs.Asked.{asked_text, is_told};
 ghost use Rattle.read.specs.Given.{GivesAsked, ReadsAsked};
 
 use crate::given::{id_given, tree_given};
@@ -33,8 +33,7 @@ impl Arguments for Asked {
 impl Teller for Asked {
     /// Prints the text of the node, or why none is shown, and returns whether it is shown.
     fn tell<O: Write>(&self, alloc: Global, session: &Session, output: &mut O) -> Result<bool, Stop>
-        ensures refused { OnOk result (is_told session.now self.now.name ≡ false →
-            Appends (O.contents output.old) (O.contents output.new) (refused_text session.now self.now.name)) }
+        ensures printed { OnOk result (Appends (O.contents output.old) (O.contents output.new) (asked_text session.now self.now.name)) }
         ensures there { IfOk result (λ there. there ≡ is_told session.now self.now.name) }
     {
         tell_node(alloc, session.tree().state().view(), self.name, output)

@@ -1,12 +1,20 @@
 //! Printing a text.
 pub(crate) mod shown;
 
-ghost use Rattle.std.specs.Prelude.{◌≡◌, false, IfOk, IfSome, OnOk, option_map};
-ghost use Rattle.std.specs.Io.KnownBytes.{Appends};
+ghost use Rattle.std.specs.Prelude.{◌≡◌, IfOk, IfSome, OnOk, option_map};
 ghost use Rattle.model.specs.Queries.{node_named};
+ghost use Rattle.std.specs.Io.KnownBytes.{Appends};
+ghost use Rattle.texts.specs.Cuts.{word_ranges};
+ghost use Rattle.texts.specs.LineWalks.{lines_root};
+ghost use Rattle.texts.specs.NodeTexts.{root_of};
+ghost use Rattle.texts.specs.RangeCuts.{located, characters_left, words_left};
 ghost use Rattle.views.specs.Nodes.{world_at, id_at};
 ghost use Rattle.views.specs.ShownWorlds.{world_of};
-ghost use Rattle.read.specs.Asked.{no_text_of, refused_text, shows_text, is_told};
+ghost use Rattle.read.specs.Asked.{told_of, asked_text, shows_text, is_told};
+ghost use Rattle.read.specs.Laws.{TypingReadsTheSame};
+ghost use Rattle.read.specs.Lines.{mark, marks, marks_line, span_line, word_text, words_text, numbered_text, index_past, line_numbers, lines_text, selected, read_text};
+ghost use Rattle.read.specs.Shown.{index_after, parts_at};
+ghost use Rattle.read.specs.Spans.{span_of};
 
 use self::shown::{shown_text, units};
 use crate::defect::tell_defect;
@@ -20,6 +28,11 @@ use session::NodeName;
 use std::alloc::Global;
 use std::io::Write;
 
+/// In two worlds that differ in what is typed into a password alone, the same is printed of each node.
+fn typing_reads_the_same()
+    ensures { TypingReadsTheSame }
+{}
+
 /// Prints the text of the node with this name, or why none is shown, and returns whether it is shown.
 pub(crate) fn tell_node<O: Write>(
     alloc: Global,
@@ -27,8 +40,7 @@ pub(crate) fn tell_node<O: Write>(
     name: NodeName,
     out: &mut O,
 ) -> Result<bool, Stop>
-    ensures refused { let w = world_of state.entry in
-        OnOk result (is_told w name ≡ false → Appends (O.contents out.old) (O.contents out.new) (refused_text w name)) }
+    ensures printed { OnOk result (Appends (O.contents out.old) (O.contents out.new) (asked_text (world_of state.entry) name)) }
     ensures there { IfOk result (λ there. there ≡ is_told (world_of state.entry) name) }
 {
     let Some(node) = named_node(state, name) else {
@@ -49,8 +61,8 @@ fn named_node<'a>(state: StateRef<'a>, name: NodeName) -> Option<NodeRef<'a>>
 
 /// Prints the text of a node, or why none is shown, and returns whether it is shown.
 fn tell_found<O: Write>(alloc: Global, node: NodeRef, out: &mut O) -> Result<bool, Stop>
-    ensures refused { let w = world_at node.entry in let id = id_at node.entry in
-        OnOk result (shows_text w id ≡ false → Appends (O.contents out.old) (O.contents out.new) (no_text_of w id)) }
+    ensures printed { let w = world_at node.entry in
+        OnOk result (Appends (O.contents out.old) (O.contents out.new) (told_of w (id_at node.entry))) }
     ensures there { IfOk result (λ there. there ≡ shows_text (world_at node.entry) (id_at node.entry)) }
 {
     if hides_text(&node) {
@@ -66,7 +78,10 @@ fn tell_found<O: Write>(alloc: Global, node: NodeRef, out: &mut O) -> Result<boo
 }
 
 /// Prints the selection of a text, and its lines.
-fn tell_text<O: Write>(alloc: Global, text: Text, out: &mut O) -> Result<(), Stop> {
+fn tell_text<O: Write>(alloc: Global, text: Text, out: &mut O) -> Result<(), Stop>
+    ensures { let root = root_of text.entry in
+        OnOk result (Appends (O.contents out.old) (O.contents out.new) (read_text (world_at root) (id_at root))) }
+{
     let selected = tell_selection(alloc, text, out)?;
     tell_lines(alloc, text, selected, out)
 }
@@ -77,7 +92,10 @@ fn tell_lines<O: Write>(
     text: Text,
     selected: Selected,
     out: &mut O,
-) -> Result<(), Stop> {
+) -> Result<(), Stop>
+    ensures { let w = world_at (root_of text.entry) in let id = id_at (root_of text.entry) in
+        OnOk result (Appends (O.contents out.old) (O.contents out.new) (lines_text w id (span_of selected) 0 (line_numbers w id))) }
+{
     let last = text.end().to_line_index();
     let mut lines = text.lines();
     let mut at = 0usize;
@@ -97,7 +115,13 @@ fn tell_line<O: Write>(
     at: usize,
     selected: Selected,
     out: &mut O,
-) -> Result<usize, Stop> {
+) -> Result<usize, Stop>
+    ensures same { lines_root lines.new ≡ lines_root lines.old }
+    ensures printed { let root = lines_root lines.old in
+        OnOk result (Appends (O.contents out.old) (O.contents out.new) (numbered_text (world_at root) (id_at root) (span_of selected) at number)) }
+    ensures after { let root = lines_root lines.old in
+        IfOk result (λ after. after ≡ index_past (world_at root) (id_at root) at number) }
+{
     let Some(line) = lines.line(number) else {
         return Ok(at);
     };
@@ -113,7 +137,10 @@ fn tell_span<O: Write>(
     range: TextRange<'_>,
     at: usize,
     out: &mut O,
-) -> Result<usize, Stop> {
+) -> Result<usize, Stop>
+    ensures printed { OnOk result (Appends (O.contents out.old) (O.contents out.new) (span_line at (located range.entry))) }
+    ensures after { IfOk result (λ after. after ≡ index_after at (located range.entry)) }
+{
     let written = shown_text(alloc, range)?;
     let after = at.saturating_add(units(&written));
     write!(out, "{at} {after} ")?;
@@ -128,13 +155,12 @@ fn tell_words<O: Write>(
     at: usize,
     selected: Selected,
     out: &mut O,
-) -> Result<(), Stop> {
+) -> Result<(), Stop>
+    ensures { OnOk result (Appends (O.contents out.old) (O.contents out.new) (words_text (span_of selected) at (words_left words.entry))) }
+{
     let mut left = words;
     let mut index = at;
-    for _ in 0..usize::MAX {
-        let Some(word) = left.next() else {
-            break;
-        };
+    while let Some(word) = left.next() {
         index = tell_word(alloc, word, index, selected, out)?;
     }
     Ok(())
@@ -147,7 +173,10 @@ fn tell_word<O: Write>(
     at: usize,
     selected: Selected,
     out: &mut O,
-) -> Result<usize, Stop> {
+) -> Result<usize, Stop>
+    ensures printed { OnOk result (Appends (O.contents out.old) (O.contents out.new) (word_text (span_of selected) at (located word.entry))) }
+    ensures after { IfOk result (λ after. after ≡ index_after at (located word.entry)) }
+{
     out.write_all(b"  word ")?;
     let after = tell_span(alloc, word, at, out)?;
     tell_characters(alloc, word, at, selected, out)?;
@@ -161,7 +190,9 @@ fn tell_characters<O: Write>(
     at: usize,
     selected: Selected,
     out: &mut O,
-) -> Result<(), Stop> {
+) -> Result<(), Stop>
+    ensures { OnOk result (Appends (O.contents out.old) (O.contents out.new) (marks_line (span_of selected) at (located word.entry))) }
+{
     out.write_all(b"   ")?;
     tell_marks(alloc, word.characters(), at, selected, out)?;
     out.write_all(b"\n")?;
@@ -175,13 +206,12 @@ fn tell_marks<O: Write>(
     at: usize,
     selected: Selected,
     out: &mut O,
-) -> Result<(), Stop> {
+) -> Result<(), Stop>
+    ensures { OnOk result (Appends (O.contents out.old) (O.contents out.new) (marks (span_of selected) at (characters_left characters.entry))) }
+{
     let mut left = characters;
     let mut index = at;
-    for _ in 0..usize::MAX {
-        let Some(character) = left.next() else {
-            break;
-        };
+    while let Some(character) = left.next() {
         index = tell_mark(alloc, character, index, selected, out)?;
     }
     Ok(())
@@ -194,7 +224,10 @@ fn tell_mark<O: Write>(
     at: usize,
     selected: Selected,
     out: &mut O,
-) -> Result<usize, Stop> {
+) -> Result<usize, Stop>
+    ensures printed { OnOk result (Appends (O.contents out.old) (O.contents out.new) (mark (span_of selected) at)) }
+    ensures after { IfOk result (λ after. after ≡ index_after at (located character.entry)) }
+{
     let star = selected.star(at);
     write!(out, " {at}{star}")?;
     let written = shown_text(alloc, character)?;

@@ -1,4 +1,12 @@
 //! The selection in a text.
+ghost use Rattle.std.specs.Prelude.{◌≡◌, min, max, codes, IfOk, OnOk};
+ghost use Rattle.std.specs.Io.KnownBytes.{Appends};
+ghost use Rattle.texts.specs.NodeTexts.{root_of};
+ghost use Rattle.texts.specs.RangeCuts.{located};
+ghost use Rattle.views.specs.Nodes.{world_at, id_at};
+ghost use Rattle.read.specs.Lines.{is_selected, star, ends_line, selection_text, selected};
+ghost use Rattle.read.specs.Spans.{span_of};
+
 use crate::reading::shown::{shown_index, shown_text};
 use accesskit_consumer::text::{Text, TextRange};
 use atree_script::{Stop, write_text};
@@ -14,18 +22,25 @@ pub(crate) struct Selected {
 
 impl Selected {
     /// Whether the index is selected.
-    fn has(self, index: usize) -> bool {
+    fn has(self, index: usize) -> bool
+        ensures { result ≡ is_selected (span_of self) index }
+    {
         self.from <= index && index < self.to
     }
 
     /// A star if the index is selected.
-    pub(crate) fn star(self, index: usize) -> &'static str {
+    pub(crate) fn star(self, index: usize) -> &'static str
+        ensures { result.now ≡ star (span_of self) index }
+    {
         if self.has(index) { "*" } else { "" }
     }
 }
 
 /// Prints that there is no selection.
-fn tell_none<O: Write>(out: &mut O) -> Result<Selected, Stop> {
+fn tell_none<O: Write>(out: &mut O) -> Result<Selected, Stop>
+    ensures printed { OnOk result (Appends (O.contents out.old) (O.contents out.new) (codes "selection none\n")) }
+    ensures span { IfOk result (λ none. span_of none ≡ (0, 0)) }
+{
     out.write_all(b"selection none\n")?;
     Ok(Selected { from: 0, to: 0 })
 }
@@ -35,7 +50,12 @@ pub(crate) fn tell_selection<O: Write>(
     alloc: Global,
     text: Text,
     out: &mut O,
-) -> Result<Selected, Stop> {
+) -> Result<Selected, Stop>
+    ensures printed { let root = root_of text.entry in
+        OnOk result (Appends (O.contents out.old) (O.contents out.new) (selection_text (world_at root) (id_at root))) }
+    ensures span { let root = root_of text.entry in
+        IfOk result (λ found. span_of found ≡ selected (world_at root) (id_at root)) }
+{
     let Some(range) = text.selection() else {
         return tell_none(out);
     };
@@ -61,7 +81,10 @@ fn tell_range<O: Write>(
     focus: usize,
     range: TextRange,
     out: &mut O,
-) -> Result<Selected, Stop> {
+) -> Result<Selected, Stop>
+    ensures printed { OnOk result (Appends (O.contents out.old) (O.contents out.new) (ends_line anchor focus (located range.entry))) }
+    ensures span { IfOk result (λ found. span_of found ≡ (min anchor focus, max anchor focus)) }
+{
     write!(out, "selection {anchor} {focus} ")?;
     let written = shown_text(alloc, range)?;
     write_text(Some(&written), out)?;

@@ -1,13 +1,14 @@
 //! What is printed of a range's text, and the indexes of positions: of a password a bullet for each character.
-ghost use Rattle.std.specs.Prelude.{◌≡◌, length, IfOk, string_bytes};
+ghost use Rattle.std.specs.Prelude.{◌≡◌, ◌+◌, min, length, IfOk, string_bytes};
 ghost use Rattle.model.specs.Moves.{utf16_len};
 ghost use Rattle.model.specs.Values.{bullets};
 ghost use Rattle.texts.specs.Cuts.{character_ranges};
 ghost use Rattle.texts.specs.NodeTexts.{root_of};
-ghost use Rattle.texts.specs.Positions.{root_at};
-ghost use Rattle.texts.specs.RangeCuts.{located};
+ghost use Rattle.texts.specs.Positions.{root_at, flat_position, node_text};
+ghost use Rattle.texts.specs.RangeCuts.{located, characters_left};
 ghost use Rattle.texts.specs.TextRanges.{text_in, range_at};
-ghost use Rattle.read.specs.Shown.{shown_text};
+ghost use Rattle.views.specs.Nodes.{world_at, id_at};
+ghost use Rattle.read.specs.Shown.{count_before, further, shown_index, shown_text};
 
 use accesskit_consumer::text::{RangeCharacters, Text, TextPosition, TextRange};
 use std::alloc::{AllocError, Global};
@@ -39,13 +40,12 @@ pub(crate) fn shown_text(alloc: Global, range: TextRange<'_>) -> Result<String, 
 }
 
 /// How many characters these are, or the greatest number of this type.
-fn count(characters: RangeCharacters<'_>) -> usize {
+fn count(characters: RangeCharacters<'_>) -> usize
+    ensures { result ≡ further 0 (length (characters_left characters.entry)) }
+{
     let mut left = characters;
     let mut count = 0usize;
-    for _ in 0..usize::MAX {
-        if left.next().is_none() {
-            break;
-        }
+    while let Some(_character) = left.next() {
         count = count.saturating_add(1);
     }
     count
@@ -54,6 +54,7 @@ fn count(characters: RangeCharacters<'_>) -> usize {
 /// How many characters of the text are before a position, or the greatest number of this type.
 fn characters_before(text: Text<'_>, position: TextPosition<'_>) -> usize
     requires { root_at position ≡ root_of text }
+    ensures { result ≡ further 0 (count_before (node_text (root_of text.entry)) (flat_position position.entry)) }
 {
     let mut range = text.range();
     range.set_end(position);
@@ -63,6 +64,8 @@ fn characters_before(text: Text<'_>, position: TextPosition<'_>) -> usize
 /// The index of a position of the text in UTF-16 code units, in a password the number of bullets before it.
 pub(crate) fn shown_index(text: Text<'_>, position: TextPosition<'_>) -> usize
     requires { root_at position ≡ root_of text }
+    ensures { let root = root_of text.entry in
+        result ≡ shown_index (world_at root) (id_at root) (flat_position position.entry) }
 {
     if text.node().is_password_input() {
         return characters_before(text, position);
