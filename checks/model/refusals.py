@@ -1,6 +1,6 @@
 """The model's words for a refused update, which the programs report on standard error (docs/SCRIPT.md#the-programs)."""
 
-from model.scripts import Play
+from model.scripts import BadLine, Play
 
 WORDS = {
     "MissingTreeInfo": "the first update has no tree info",
@@ -27,15 +27,18 @@ def words_of(line):
 
 
 def reports(script):
-    """What is reported of the refused updates of a script without a bad line, each by its number among the updates. Where an update
-    breaks several rules, the line has the words for each of them: `update 3: WORDS | WORDS`."""
+    """What is reported of the refused updates of a script, up to its bad line if it has one, each by its number among the updates. Where
+    an update breaks several rules, the line has the words for each of them: `update 3: WORDS | WORDS`."""
     play, updates, lines = Play(), 0, []
-    for line in script.split(b"\n"):
-        was_open = play.open
-        told = play.line(line)
-        if was_open and not play.open:
-            updates += 1
-            lines += [f"update {updates}: {' | '.join(words_of(one))}" for one in told if one.startswith("refused ")]
+    try:
+        for line in script.split(b"\n"):
+            was_open = play.open
+            told = play.line(line)
+            if was_open and not play.open:
+                updates += 1
+                lines += [f"update {updates}: {' | '.join(words_of(one))}" for one in told if one.startswith("refused ")]
+    except BadLine:
+        pass
     return "".join(line + "\n" for line in lines).encode()
 
 
