@@ -18,7 +18,7 @@ pub(crate) struct Stage {
 }
 
 impl Stage {
-    /// Carries out a command, whose events the handler is told. Printing and questions do nothing.
+    /// Carries out a command, and notifies the handler of its events. Printing and questions do nothing.
     ///
     /// # Errors
     ///

@@ -6,7 +6,7 @@ ghost use Rattle.read.specs.NoText.{no_text_line};
 use accesskit_consumer::TextDefect;
 use std::io::{self, Write};
 
-/// Prints why a node has no text: what is wrong with its runs, or that it has none.
+/// Prints why a node has no text: what is wrong with its runs, or that there are no runs.
 pub(crate) fn tell_defect<O: Write>(defect: Option<TextDefect>, out: &mut O) -> io::Result<()>
     ensures { OnOk result (Appends (O.contents out.old) (O.contents out.new) (no_text_line defect)) }
 {
