@@ -94,3 +94,20 @@ module _ {P N : Type 0} (turns : P → Turn → Result Unit Stop → P → Type 
 pub plays_to_last : {P : Type 0} (turns : P → Turn → Result Unit Stop → P → Type 0) (input : Option (List ℕ)) (s : P) (played : Played) (t : P) (h : PlaysOut turns input s played t) → Plays turns (start_of input) (no_tree, s) h.commands played.ended (number_of played.script) (record { world = played.session; host = h.host }, t)
 plays_to_last turns input s played t h =
     subst (λ (n : ℕ). Plays turns (start_of input) (no_tree, s) h.commands played.ended n (record { world = played.session; host = h.host }, t)) (sym h.numbered) h.plays
+
+-- ---- the same of a whole script that is played
+
+module _ {P : Type 0} (turns : P → Turn → Result Unit Stop → P → Type 0) (input : Option (List ℕ)) (s : P) (played : Played) (t : P) (h : PlaysOut turns input s played t) where
+  abbrev end : Stage
+  end = record { world = played.session; host = h.host }
+
+  pub seen_out : {Q : Type 0} (seen : Q → Turn → Result Unit Stop → Q → Type 0) (look : P → Q) → ((a : P) (turn : Turn) (r : Result Unit Stop) (b : P) → turns a turn r b → seen (look a) turn r (look b)) → PlaysOut seen input (look s) played (look t)
+  seen_out seen look shows = record {
+    commands = h.commands;
+    host = h.host;
+    plays = plays_seen turns seen look shows (start_of input) (no_tree, s) (end, t) h.commands played.ended played.number h.plays;
+    numbered = h.numbered;
+  }
+
+  pub kept_out : {N : Type 0} (name : P → N) → ((a : P) (turn : Turn) (r : Result Unit Stop) (b : P) → turns a turn r b → name b ≡ name a) → name t ≡ name s
+  kept_out name keeps = plays_keep turns name keeps (start_of input) (no_tree, s) (end, t) h.commands played.ended played.number h.plays
