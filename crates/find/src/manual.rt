@@ -6,6 +6,7 @@ use atree_script::Manual;
 pub(crate) const MANUAL: Manual = Manual {
     name: "find",
     arguments: " ROLE [LABEL]",
+    option: None,
     help: HELP,
 };
 

@@ -6,6 +6,7 @@ use atree_script::Manual;
 pub(crate) const MANUAL: Manual = Manual {
     name: "page",
     arguments: "",
+    option: None,
     help: HELP,
 };
 

@@ -6,6 +6,7 @@ use atree_script::Manual;
 pub(crate) const MANUAL: Manual = Manual {
     name: "read",
     arguments: " ID TREE",
+    option: None,
     help: HELP,
 };
 

@@ -6,6 +6,7 @@ use script_lines::Manual;
 pub(crate) const MANUAL: Manual = Manual {
     name: "record",
     arguments: "",
+    option: None,
     help: HELP,
 };
 

@@ -1,8 +1,9 @@
 -- What is wrong with the arguments of a program.
-use Rattle.std.specs.Prelude.{ℕ, ◌==◌, nat_eq, List, [], ◌∷◌, codes, Bool, true, false, ◌||◌, MatchBool, if◌then◌else◌, Option, Some, option_copied, Result, Ok, Err, IsErrAnd, ◌≡◌}
+use Rattle.std.specs.Prelude.{ℕ, ◌==◌, nat_eq, List, [], ◌∷◌, codes, Bool, true, false, ◌||◌, MatchBool, if◌then◌else◌, Option, Some, None, option_copied, unwrap_or, Result, Ok, Err, IsErrAnd, ◌≡◌}
 use Rattle.std.specs.List.{list_any, starts_with}
 use Rattle.std.specs.Str.{bytes_eq}
 use Rattle.std.specs.String.{string_bytes}
+use Rattle.line_faults.specs.Messages.{IsNearestOf}
 use Rattle.script_lines.specs.declared.argument_errors.ArgumentError.{ArgumentError}
 use Rattle.script_lines.specs.declared.argument_errors.ArgumentError.TheVariants.{Help, Count, File, Unknown, NotUtf8, Memory}
 use Rattle.script_lines.specs.declared.argument_errors.ArgumentKind.{ArgumentKind}
@@ -29,15 +30,26 @@ IsUnknownWord kind word near _ = ⊥
 abbrev pub is_option : List ℕ → Bool
 is_option word = starts_with nat_eq word (codes "--") || bytes_eq word (codes "-h")
 
--- an option asks for the manual if it is `--help`, and else that is what may be meant
-abbrev pub IsNoOption : List ℕ → ArgumentError → Type 0
-IsNoOption word Help = bytes_eq word (codes "--help") ≡ true
-IsNoOption word error = (bytes_eq word (codes "--help") ≡ false) × IsUnknownWord Dashed word (Some (codes "--help")) error
+-- the options of a program that may have one besides `--help`
+abbrev pub options_with : Option (List ℕ) → List (List ℕ)
+options_with None = codes "--help" ∷ []
+options_with (Some option) = codes "--help" ∷ option ∷ []
 
--- what is read from words, of which the first may be an option, by a program that reads other words so
-abbrev pub ReadsWords : {A : Type 0} → (List (List ℕ) → Result A ArgumentError → Type 0) → List (List ℕ) → Result A ArgumentError → Type 0
-ReadsWords reads [] result = reads [] result
-ReadsWords reads (first ∷ more) result = MatchBool (is_option first) (IsErrAnd result (IsNoOption first)) (reads (first ∷ more) result)
+-- of these options a word may mean this one: the nearest, and `--help` if none is near
+abbrev pub MayMean : List (List ℕ) → List ℕ → List ℕ → Type 0
+MayMean options word meant = (near : Option (List ℕ)) × IsNearestOf word options near × (meant ≡ unwrap_or near (codes "--help"))
+
+-- an option asks for the manual if it is `--help`; any other is unknown, and named with the one that may be meant
+abbrev pub IsNoOption : List (List ℕ) → List ℕ → ArgumentError → Type 0
+IsNoOption options word Help = bytes_eq word (codes "--help") ≡ true
+IsNoOption options word error =
+    (bytes_eq word (codes "--help") ≡ false) × (meant : List ℕ) × MayMean options word meant × IsUnknownWord Dashed word (Some meant) error
+
+-- what is read from words, of which the first may be an option, by a program with these options that reads other words so
+abbrev pub ReadsWords : {A : Type 0} → (List (List ℕ) → Result A ArgumentError → Type 0) → List (List ℕ) → List (List ℕ) → Result A ArgumentError → Type 0
+ReadsWords reads options [] result = reads [] result
+ReadsWords reads options (first ∷ more) result =
+    MatchBool (is_option first) (IsErrAnd result (IsNoOption options first)) (reads (first ∷ more) result)
 
 -- a program without arguments takes any word for a file's name
 abbrev pub ReadsNone : List (List ℕ) → Result NoArguments ArgumentError → Type 0

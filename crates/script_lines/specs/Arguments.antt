@@ -3,7 +3,7 @@ use Rattle.std.specs.Prelude.{ℕ, List, [], ◌∷◌, ◌++◌, codes, Bool, t
 use Rattle.std.specs.Str.{bytes_eq}
 use Rattle.std.specs.String.{string_bytes}
 use Rattle.line_text.specs.Shown.{shown}
-use Rattle.script_lines.specs.ArgumentErrors.{ReadsNone, ReadsWords}
+use Rattle.script_lines.specs.ArgumentErrors.{ReadsNone, ReadsWords, options_with}
 use Rattle.script_lines.specs.Ends.{Tells, told_of}
 use Rattle.script_lines.specs.declared.argument_errors.ArgumentError.{ArgumentError}
 use Rattle.script_lines.specs.declared.argument_errors.ArgumentError.TheVariants.{Help, Count, File, Unknown, NotUtf8, Memory}
@@ -24,6 +24,10 @@ call_text manual = manual.name.now ++ manual.arguments.now ++ codes " < SCRIPT"
 -- what is printed for `--help`
 abbrev pub manual_text : Manual → List ℕ
 manual_text manual = call_text manual ++ codes "\n\n" ++ manual.help.now
+
+-- a program's options
+abbrev pub options : Manual → List (List ℕ)
+options manual = options_with (option_copied manual.option)
 
 -- what says more
 abbrev pub hint_text : Manual → List ℕ
@@ -69,22 +73,23 @@ TellsError manual error out out' err err' status = Tells err err' (wrong_text ma
 abbrev pub Answers : {A : Type 0} → (List (List ℕ) → Result A ArgumentError → Type 0) → Manual → List (List ℕ) → Result A ℕ → Bytes → Bytes → Bytes → Bytes → Type 0
 Answers reads manual words result out out' err err' =
     MatchResult result
-    (λ asked. ReadsWords reads words (Ok asked) × (out' ≡ out) × (err' ≡ err))
-    (λ status. (error : ArgumentError) × ReadsWords reads words (Err error) × TellsError manual error out out' err err' status)
+    (λ asked. ReadsWords reads (options manual) words (Ok asked) × (out' ≡ out) × (err' ≡ err))
+    (λ status. (error : ArgumentError) × ReadsWords reads (options manual) words (Err error) × TellsError manual error out out' err err' status)
 
--- the words after the option, if it is the first
-abbrev pub after_option : List ℕ → List (List ℕ) → Option (List (List ℕ))
-after_option option [] = None
-after_option option (first ∷ others) = if bytes_eq first option then Some others else None
+-- the words after the option, if there is one and it is the first
+abbrev pub after_option : Option (List ℕ) → List (List ℕ) → Option (List (List ℕ))
+after_option None words = None
+after_option (Some option) [] = None
+after_option (Some option) (first ∷ others) = if bytes_eq first option then Some others else None
 
 -- what is answered to words by a program without arguments: whether its option is given, if there are none
 abbrev pub AnswersOthers : Bool → Manual → List (List ℕ) → Result Bool ℕ → Bytes → Bytes → Bytes → Bytes → Type 0
 AnswersOthers given manual words (Ok answer) out out' err err' = (answer ≡ given) × (words ≡ []) × (out' ≡ out) × (err' ≡ err)
 AnswersOthers given manual words (Err status) out out' err err' =
-    (error : ArgumentError) × ReadsWords ReadsNone words (Err error) × TellsError manual error out out' err err' status
+    (error : ArgumentError) × ReadsWords ReadsNone (options manual) words (Err error) × TellsError manual error out out' err err' status
 
 -- what is answered to words by a program whose only argument is an option, which comes first
-abbrev pub AnswersOption : List ℕ → Manual → List (List ℕ) → Result Bool ℕ → Bytes → Bytes → Bytes → Bytes → Type 0
-AnswersOption option manual words result out out' err err' =
-    MatchOption (after_option option words) (AnswersOthers false manual words result out out' err err')
+abbrev pub AnswersOption : Manual → List (List ℕ) → Result Bool ℕ → Bytes → Bytes → Bytes → Bytes → Type 0
+AnswersOption manual words result out out' err err' =
+    MatchOption (after_option (option_copied manual.option) words) (AnswersOthers false manual words result out out' err err')
     (λ others. AnswersOthers true manual others result out out' err err')

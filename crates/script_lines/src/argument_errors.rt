@@ -3,10 +3,14 @@
 ghost use Rattle.std.specs.Prelude.{◌≡◌, map, option_copied};
 ghost use Rattle.std.specs.List.{list_any};
 ghost use Rattle.std.specs.String.{string_bytes};
-ghost use Rattle.script_lines.specs.ArgumentErrors.{IsNoOption, IsUnknownWord, is_like_a_file, is_option, miscounted};
+ghost use Rattle.script_lines.specs.ArgumentErrors.{IsNoOption, IsUnknownWord, MayMean, is_like_a_file, is_option, miscounted, options_with};
 ghost use Rattle.script_lines.specs.declared.argument_errors.ArgumentError.TheVariants.{Memory};
 
+use line_text::nearest;
 use std::alloc::{AllocError, AllocFailed, Global};
+
+/// The option that every program has.
+const HELP: &str = "--help";
 
 /// What a word of a program's arguments is.
 #[derive(Clone, Copy)]
@@ -118,12 +122,28 @@ pub(crate) fn is_option(word: &str) -> bool
     word.as_bytes().starts_with(b"--") || word == "-h"
 }
 
-/// The error about an option. The only one is `--help`.
-pub(crate) fn no_option(alloc: Global, word: &str) -> ArgumentError
-    ensures { IsNoOption word.now result }
+/// The error about an option of a program that has this one besides `--help`.
+pub(crate) fn no_option(alloc: Global, word: &str, option: Option<&'static str>) -> ArgumentError
+    ensures { IsNoOption (options_with (option_copied option.entry)) word.now result }
 {
-    if word == "--help" {
+    if word == HELP {
         return ArgumentError::Help;
     }
-    unknown_word(alloc, ArgumentKind::Dashed, word, Some("--help"))
+    unknown_word(
+        alloc,
+        ArgumentKind::Dashed,
+        word,
+        Some(option_meant(word, option)),
+    )
+}
+
+/// The option that may be meant: the nearest of `--help` and this one, and `--help` if neither is near.
+fn option_meant(word: &str, option: Option<&'static str>) -> &'static str
+    ensures { MayMean (options_with (option_copied option.entry)) word.now result.now }
+{
+    let near = match option {
+        Some(option) => nearest(word.as_bytes(), &[HELP, option]),
+        None => nearest(word.as_bytes(), &[HELP]),
+    };
+    near.unwrap_or(HELP)
 }

@@ -4,7 +4,7 @@ ghost use Rattle.std.specs.Prelude.{◌≡◌, ◌≤◌, ◌≢◌, ℕ, IfErr,
 ghost use Rattle.std.specs.Io.KnownBytes.{Appends};
 ghost use Rattle.std.specs.String.{string_bytes};
 ghost use Rattle.script_lines.specs.ArgumentErrors.{ReadsNone, ReadsWords};
-ghost use Rattle.script_lines.specs.Arguments.{after_option, Answers, AnswersOption, AnswersOthers, TellsError, call_text, error_text, hint_text, kind_text, manual_text, near_text, unknown_text, usage_text, wrong_text};
+ghost use Rattle.script_lines.specs.Arguments.{after_option, options, Answers, AnswersOption, AnswersOthers, TellsError, call_text, error_text, hint_text, kind_text, manual_text, near_text, unknown_text, usage_text, wrong_text};
 ghost use Rattle.script_lines.specs.Ends.{Tells};
 ghost use Rattle.script_lines.specs.declared.argument_errors.ArgumentError.{ArgumentError as AnError};
 
@@ -24,6 +24,8 @@ pub struct Manual {
     pub name: &'static str,
     /// Its arguments with a space before each, as ` ROLE [LABEL]`.
     pub arguments: &'static str,
+    /// An option that may come first, as `--numbered`, if it has one.
+    pub option: Option<&'static str>,
     /// Lines with its purpose, its arguments, an example and its exit statuses.
     pub help: &'static str,
 }
@@ -79,13 +81,13 @@ pub fn read_arguments<A: Arguments>(rt: &HostRuntime, manual: &Manual) -> Result
     Ok(asked)
 }
 
-/// Reads the arguments of a program whose only argument is this option, and returns whether it is given, as the first word. The other words
-/// are read as by [`read_arguments`] for a program without arguments.
+/// Reads the arguments of a program whose only argument is the option that its manual names, and returns whether it is given, as the first
+/// word. The other words are read as by [`read_arguments`] for a program without arguments.
 ///
 /// # Errors
 ///
 /// Returns the exit status if the program is not to run, as [`read_arguments`] does.
-pub fn read_option(rt: &HostRuntime, manual: &Manual, option: &str) -> Result<bool, u8>
+pub fn read_option(rt: &HostRuntime, manual: &Manual) -> Result<bool, u8>
     ensures { IfErr result (λ status. (status ≤ 4) × (status ≢ 1)) }
 {
     let mut output = io::writer(rt);
@@ -94,7 +96,7 @@ pub fn read_option(rt: &HostRuntime, manual: &Manual, option: &str) -> Result<bo
         Ok(words) => words,
         Err(error) => return Err(tell_error(&error, manual, &mut output, &mut errors)),
     };
-    let is_given = answer_option(rt.alloc(), option, &words, manual, &mut output, &mut errors)?;
+    let is_given = answer_option(rt.alloc(), &words, manual, &mut output, &mut errors)?;
     note_terminal(rt, &mut errors)?;
     Ok(is_given)
 }
@@ -146,13 +148,13 @@ fn answer_words<A: Arguments, O: Write, E: Write>(
     ensures answers { Answers A.reads manual.now (map string_bytes words.now) result (O.contents output.old) (O.contents output.new)
         (E.contents errors.old) (E.contents errors.new) }
 {
-    match asked_for(alloc, words) {
+    match asked_for(alloc, manual, words) {
         Ok(asked) => Ok(asked),
         Err(error) => Err(tell_error(&error, manual, output, errors)),
     }
 }
 
-/// Whether the option is the first of a program's words. If the program is not to run, its manual is printed, or what is wrong with
+/// Whether a program's option is the first of its words. If the program is not to run, its manual is printed, or what is wrong with
 /// the other words is reported.
 ///
 /// # Errors
@@ -160,26 +162,26 @@ fn answer_words<A: Arguments, O: Write, E: Write>(
 /// Returns the exit status if the program is not to run.
 fn answer_option<O: Write, E: Write>(
     alloc: Global,
-    option: &str,
     words: &[String],
     manual: &Manual,
     output: &mut O,
     errors: &mut E,
 ) -> Result<bool, u8>
     ensures bound { IfErr result (λ status. (status ≤ 4) × (status ≢ 1)) }
-    ensures answers { AnswersOption option.now manual.now (map string_bytes words.now) result (O.contents output.old)
+    ensures answers { AnswersOption manual.now (map string_bytes words.now) result (O.contents output.old)
         (O.contents output.new) (E.contents errors.old) (E.contents errors.new) }
 {
-    match after_option(option, words) {
+    match after_option(manual.option, words) {
         Some(others) => answer_others(true, alloc, others, manual, output, errors),
         None => answer_others(false, alloc, words, manual, output, errors),
     }
 }
 
-/// The words after the option, if it is the first.
-fn after_option<'a>(option: &str, words: &'a [String]) -> Option<&'a [String]>
-    ensures { option_map (λ others. map string_bytes others.now) result ≡ after_option option.now (map string_bytes words.now) }
+/// The words after the option, if there is one and it is the first.
+fn after_option<'a>(option: Option<&str>, words: &'a [String]) -> Option<&'a [String]>
+    ensures { option_map (λ others. map string_bytes others.now) result ≡ after_option (option_copied option.entry) (map string_bytes words.now) }
 {
+    let option = option?;
     match words {
         [first, others @ ..] if first.as_str() == option => Some(others),
         _ => None,
@@ -211,11 +213,17 @@ fn answer_others<O: Write, E: Write>(
 }
 
 /// The meaning of a program's words, of which the first may be an option.
-fn asked_for<A: Arguments>(alloc: Global, words: &[String]) -> Result<A, ArgumentError>
-    ensures { ReadsWords A.reads (map string_bytes words.now) result }
+fn asked_for<A: Arguments>(
+    alloc: Global,
+    manual: &Manual,
+    words: &[String],
+) -> Result<A, ArgumentError>
+    ensures { ReadsWords A.reads (options manual.now) (map string_bytes words.now) result }
 {
     match words {
-        [first, ..] if is_option(first.as_str()) => Err(no_option(alloc, first.as_str())),
+        [first, ..] if is_option(first.as_str()) => {
+            Err(no_option(alloc, first.as_str(), manual.option))
+        }
         _ => A::from_words(alloc, words),
     }
 }

@@ -6,12 +6,12 @@ mod manual;
 mod numbering;
 
 use crate::adapter::Speak;
-use crate::manual::{MANUAL, NUMBERED};
+use crate::manual::MANUAL;
 use atree_script::{read_option, run_program};
 use std::process::ExitCode;
 
 fn main(rt: HostRuntime) -> ExitCode {
-    match read_option(&rt, &MANUAL, NUMBERED) {
+    match read_option(&rt, &MANUAL) {
         Ok(is_numbered) => run_program(&rt, &Speak { is_numbered }),
         Err(status) => ExitCode::from(status),
     }

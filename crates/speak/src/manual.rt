@@ -2,13 +2,11 @@
 
 use atree_script::Manual;
 
-/// The only argument: a line before each update's speech.
-pub(crate) const NUMBERED: &str = "--numbered";
-
 /// What the program says of itself.
 pub(crate) const MANUAL: Manual = Manual {
     name: "speak",
     arguments: " [--numbered]",
+    option: Some("--numbered"),
     help: HELP,
 };
 
