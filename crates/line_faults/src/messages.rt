@@ -1,4 +1,4 @@
-//! The message about a bad line.
+//! The message about a bad line, and the right word that may be meant.
 
 ghost use Rattle.std.specs.Prelude.{ℕ, ◌≡◌, List, OnOk, Option, None, Some, codes, option_copied};
 ghost use Rattle.std.specs.Io.KnownBytes.{Appends};

@@ -1,4 +1,4 @@
-//! The rectangles of a picture.
+//! The rectangles of a picture, computed. `picture` writes them.
 
 use crate::places::Place;
 use accesskit_consumer::FilterResult;

@@ -1,4 +1,4 @@
-//! The fields of a node's line.
+//! Reads the fields of a node's line.
 //!
 //! A field occurs once. A number has a minus sign if it is negative.
 

@@ -1,4 +1,4 @@
-//! Reading and setting a node's fields, by the kinds of their values.
+//! Gets and sets the fields of a node, by the kinds of their values. It reads no line.
 
 ghost use Rattle.std.specs.Prelude.{◌≡◌, IfOk, OnOk, Some, true, false, option_copied};
 ghost use Rattle.script_nodes.specs.FieldKinds.{ids_at, with_ids, id_at, with_id, text_at, with_text, flag_at, with_flag, numbers_at, with_numbers, units_at, with_units, bool_at, with_bool, color_at, with_color, decoration_at, with_decoration, number_at, with_number, count_at, with_count, actions_at, with_actions_field};

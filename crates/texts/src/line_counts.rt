@@ -1,4 +1,4 @@
-//! The number of a line.
+//! The number of the line that a position, such as a caret, is in.
 ghost use Rattle.std.specs.Prelude.{◌≡◌};
 ghost use Rattle.model.specs.Moves.{to_line_index};
 ghost use Rattle.texts.specs.Positions.{root_at, position_text, flat_position};

@@ -1,4 +1,4 @@
-//! Look-ups of a state's records by id, each of them counted.
+//! Look-ups of a state's records by id, each of them counted. `tree_store` has the counter.
 ghost use Rattle.std.specs.Prelude.{◌≡◌, ℕ, ⊤, is_some, IfSome, length};
 ghost use Rattle.std.specs.Borrow.{sem, follows_so};
 ghost use mathlib.Core.Option.{none};

@@ -1,4 +1,4 @@
-//! Nodes that are listed nowhere, or twice.
+//! Refuses nodes that are listed nowhere, or at a new place and one that they keep.
 ghost use Rattle.std.specs.Prelude.{◌≡◌, ◌↔◌, ◌∷◌, [], map, IsTrue, Some, OnOk, IfOk, IfErr};
 ghost use Rattle.model.specs.declared.FullNodeId.{FullNodeId};
 ghost use Rattle.model.specs.World.{Place, in_tree, listed_ids};

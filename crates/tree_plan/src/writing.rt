@@ -1,4 +1,4 @@
-//! The decision, from what the passes found.
+//! The decision, from what the passes found: its changes, and its events in order.
 ghost use Rattle.std.specs.Prelude.{◌≡◌, ◌++◌, [], List, IfOk, IfErr, OnOk, IsTrue, ◌↔◌, Some, None, option_to_list, if◌then◌else◌};
 ghost use Rattle.std.specs.List.{flat_map};
 ghost use Rattle.rows.specs.Rows.{Ascends};
