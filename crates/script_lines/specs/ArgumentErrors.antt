@@ -39,11 +39,14 @@ options_with (Some option) = codes "--help" ∷ option ∷ []
 abbrev pub MayMean : List (List ℕ) → List ℕ → List ℕ → Type 0
 MayMean options word meant = (near : Option (List ℕ)) × IsNearestOf word options near × (meant ≡ unwrap_or near (codes "--help"))
 
--- an option asks for the manual if it is `--help`; any other is unknown, and named with the one that may be meant
-abbrev pub IsNoOption : List (List ℕ) → List ℕ → ArgumentError → Type 0
-IsNoOption options word Help = bytes_eq word (codes "--help") ≡ true
-IsNoOption options word error =
-    (bytes_eq word (codes "--help") ≡ false) × (meant : List ℕ) × MayMean options word meant × IsUnknownWord Dashed word (Some meant) error
+-- an option that isn't `--help` is unknown, and named with the one of these options that may be meant
+abbrev pub IsUnknownOption : List (List ℕ) → List ℕ → ArgumentError → Type 0
+IsUnknownOption options word error = (meant : List ℕ) × MayMean options word meant × IsUnknownWord Dashed word (Some meant) error
+
+-- an option asks for the manual if it is `--help`; any other is unknown
+pub record IsNoOption (options : List (List ℕ)) (word : List ℕ) (error : ArgumentError) : Type 0 where
+  pub help : bytes_eq word (codes "--help") ≡ true → error ≡ Help
+  pub unknown : bytes_eq word (codes "--help") ≡ false → IsUnknownOption options word error
 
 -- what is read from words, of which the first may be an option, by a program with these options that reads other words so
 abbrev pub ReadsWords : {A : Type 0} → (List (List ℕ) → Result A ArgumentError → Type 0) → List (List ℕ) → List (List ℕ) → Result A ArgumentError → Type 0

@@ -3,7 +3,7 @@
 ghost use Rattle.std.specs.Prelude.{◌≡◌, map, option_copied};
 ghost use Rattle.std.specs.List.{list_any};
 ghost use Rattle.std.specs.String.{string_bytes};
-ghost use Rattle.script_lines.specs.ArgumentErrors.{IsNoOption, IsUnknownWord, MayMean, is_like_a_file, is_option, miscounted, options_with};
+ghost use Rattle.script_lines.specs.ArgumentErrors.{IsNoOption, IsUnknownOption, IsUnknownWord, MayMean, is_like_a_file, is_option, miscounted, options_with};
 ghost use Rattle.script_lines.specs.declared.argument_errors.ArgumentError.TheVariants.{Memory};
 
 use line_text::nearest;
@@ -129,12 +129,15 @@ pub(crate) fn no_option(alloc: Global, word: &str, option: Option<&'static str>)
     if word == HELP {
         return ArgumentError::Help;
     }
-    unknown_word(
-        alloc,
-        ArgumentKind::Dashed,
-        word,
-        Some(option_meant(word, option)),
-    )
+    unknown_option(alloc, word, option)
+}
+
+/// The error that there is no such option, with the one that may be meant.
+fn unknown_option(alloc: Global, word: &str, option: Option<&'static str>) -> ArgumentError
+    ensures { IsUnknownOption (options_with (option_copied option.entry)) word.now result }
+{
+    let meant = option_meant(word, option);
+    unknown_word(alloc, ArgumentKind::Dashed, word, Some(meant))
 }
 
 /// The option that may be meant: the nearest of `--help` and this one, and `--help` if neither is near.
