@@ -2,12 +2,14 @@
 
 Checks that only read come first. Then `rt ci` proves the crates, builds the programs and runs what tests there are; as soon as it has
 built the programs that another check needs, that check runs beside it, with a lower priority. So do the wrong bodies of each crate
-that is proved. A line for each crate says how far the proofs are. All that a check prints is kept in .check/, and what failed is
-printed at the end.
+that is proved. Where there are four processors or more, another run proves the longest chain of crates ahead of it, two processors for
+each proof. A line for each crate says how far the proofs are. All that a check prints is kept in .check/, and what failed is printed
+at the end.
 
 The last line is `N passed, M failed`.
 """
 
+import contextlib
 import os
 import re
 import signal
@@ -34,6 +36,8 @@ READING = [
     "checks/wrong --read",
 ]
 PROVING = "rt ci"
+# The crate that most of the longest chain of crates leads up to.
+AHEAD = "texts"
 # What runs on programs that `rt ci` has built, or on a static library that it has proved, with those crates.
 ON_PROGRAMS = {
     "checks/run-scripts": {"atree"},
@@ -104,8 +108,8 @@ class ProcessorTimes(threading.Thread):
             words = file.read().decode(errors="replace").split("\0")
         if os.path.basename(words[0]) == "rattle" and "--crate-name" in words and self.is_ours(process):
             crate = words[words.index("--crate-name") + 1]
-            is_here = os.readlink(f"/proc/{process}/cwd").startswith(os.path.join(TOP, "crates"))
-            part = ("tests" if "--test" in words else "proof") if is_here else "wrong bodies"
+            is_wrong = os.path.basename(os.readlink(f"/proc/{process}/cwd")).startswith("wrong-")
+            part = "wrong bodies" if is_wrong else "tests" if "--test" in words else "proof"
             with open(f"/proc/{process}/stat", encoding="ascii", errors="replace") as file:
                 clocks = file.read().rpartition(")")[2].split()[11:13]
             self.taken[crate, part, process] = sum(map(int, clocks)) / os.sysconf("SC_CLK_TCK")
@@ -130,6 +134,7 @@ class Gate:
 
     def __init__(self):
         self.begun = time.monotonic()
+        self.memory = memory_for_each()
         self.ended = []
         self.running = []
         self.lock = threading.Lock()
@@ -175,9 +180,27 @@ class Gate:
             self.ended.append((command, time.monotonic() - begun, passed, failed, status, printed))
         self.say(f"{command}: {passed} passed, {failed} failed, {minutes(time.monotonic() - begun)}")
 
+    @contextlib.contextmanager
+    def proving_ahead(self):
+        """Has a run of its own prove the crates up to `AHEAD`. It has little to do at once, so that each of its proofs gets two processors
+        where there are four or more, which `rt ci` gives to no proof that others wait beside. The run over all crates waits for what
+        this one proves, and takes it as it is; what fails here is tried again there, and told."""
+        if PROCESSORS < 4 or self.memory < 4 or {"RT_JOBS", "CI"} & set(os.environ):
+            yield
+            return
+        with open(os.path.join(LOGS, "ahead.log"), "w", encoding="utf-8") as kept:
+            how = {"stdin": subprocess.DEVNULL, "stdout": kept, "stderr": subprocess.STDOUT}
+            child = subprocess.Popen([*PROVING.split(), AHEAD], cwd=TOP, preexec_fn=lambda: os.setpgid(0, 0), **how)
+            try:
+                yield
+            finally:
+                if child.poll() is None:
+                    os.killpg(child.pid, signal.SIGTERM)
+                child.wait()
+
     def prove(self):
         """Runs `rt ci`, and beside it what needs the programs that it has built and the wrong bodies of crates that it has proved."""
-        if memory_for_each() >= 4:
+        if self.memory >= 4:
             # (by its own plan for memory rt would leave processors idle, as no check here takes 4 GB; where there are four or more, one is
             # left to the checks beside the proofs: no more are needed to end with the longest chain of crates)
             os.environ.setdefault("RT_JOBS", str(PROCESSORS if PROCESSORS < 4 else PROCESSORS - 1))
@@ -241,12 +264,13 @@ def main(words):
         return 2
     gate = Gate()
     try:
-        for command in READING:
-            gate.run(command)
-        if words:
-            gate.run(UNPROVED, on_line=gate.say)
-        else:
-            gate.prove()
+        with contextlib.nullcontext() if words else gate.proving_ahead():
+            for command in READING:
+                gate.run(command)
+            if words:
+                gate.run(UNPROVED, on_line=gate.say)
+            else:
+                gate.prove()
     except KeyboardInterrupt:
         gate.stop()
         return 130
