@@ -11,8 +11,9 @@ from prover import functions as sources
 Body = namedtuple("Body", "name functions clause demand wanted pairs fault")
 
 # Where a wrong body stands in its crate: the lines that it changes as (file, line), the functions in whose bodies these are, whether
-# it changes anything outside of bodies and comments, as a constant or a type, and why it can't be made, or None.
-Place = namedtuple("Place", "lines inside is_outside fault")
+# it changes anything outside of bodies and comments, as a constant or a type, why it can't be made, or None, and the function of
+# which a copy can have it, or None.
+Place = namedtuple("Place", "lines inside is_outside fault function")
 
 # What a try of a wrong body came to, and what is told of it. A body has passed where it is refused.
 REFUSED, PROVED, UNREAD, CALLS, NAMES, UNSURE = "refused", "proved", "unread", "calls", "names", "unsure"
@@ -93,7 +94,7 @@ def made(body, texts):
 def place_of(body, texts, found):
     """Where the wrong body stands in the crate of these sources and functions."""
     if body.fault:
-        return Place(set(), [], False, body.fault)
+        return Place(set(), [], False, body.fault, None)
     changed, fault = made(body, texts)
     lines, inside, is_outside = set(), [], False
     for file, old, new in body.pairs:
@@ -107,30 +108,101 @@ def place_of(body, texts, found):
     if not fault and not body.functions:
         held = sorted({it.path for it in inside})
         fault = "it has no line `function:`" + (", and its old text stands in %s" % " and ".join(held) if held else "")
-    return Place(lines, inside, is_outside, fault)
+    can_copy = not fault and not is_outside and body.functions == sorted({it.path for it in inside}) and is_apart(inside[0])
+    return Place(lines, inside, is_outside, fault, inside[0] if can_copy else None)
+
+
+def is_apart(function):
+    """Whether another function of the same text may stand beside this one: not for a method of a trait, nor in a cycle of calls."""
+    return not function.is_of_trait and not function.cycle
+
+
+class Copy(namedtuple("Copy", "body function name before after")):
+    """A copy of a function, under a name of its own, that has a wrong body; and what stands in the file before it and then."""
+
+    def path(self):
+        return self.function.path[: -len(self.function.name)] + self.name
+
+    def folders(self):
+        """The folders of the function's proof and of the copy's."""
+        return tuple("proofs/" + it.replace("::", "/") for it in (self.function.path, self.path()))
+
+    def proof(self, text):
+        """A proof file of the function, as the copy has it: it names its own goals."""
+        one, other = ("proofs." + it.replace("::", ".") + "." for it in (self.function.path, self.path()))
+        return text.replace(one, other)
+
+
+def copied(body, function, texts, number):
+    """A copy of the function with the wrong body, or None where it can't be made."""
+    before = sources.whole(texts[function.file], function)
+    name = "%s_%d" % (function.name, number)
+    after, count = re.subn(r"\bfn %s\b" % function.name, "fn " + name, before, count=1)
+    for file, old, new in body.pairs:
+        if file != function.file or after.count(old) != 1:
+            return None
+        after = after.replace(old, new)
+    is_made = count and texts[function.file].count(before) == 1 and not re.search(r"\b%s\b" % name, texts[function.file])
+    return Copy(body, function, name, before, after) if is_made else None
 
 
 class Round:
-    """Wrong bodies that are tried in one check: no two of one function, of one cycle of calls or on one line. What changes
-    anything outside of bodies, as a constant or a type, is tried by itself."""
+    """Wrong bodies that are tried in one check. Each is that of a copy of its function, which stands beside it under another name, so that
+    neither the function nor its callers are another's. A method of a trait can't have a copy, nor a function in a cycle of calls: of
+    these no two wrong bodies are of one function, of one cycle or on one line. What changes anything outside of bodies, as a constant
+    or a type, is tried by itself."""
 
     def __init__(self, texts):
-        self.texts, self.changed, self.bodies, self.taken, self.is_alone = texts, {}, [], set(), False
+        self.texts, self.bodies, self.taken, self.is_alone = texts, [], set(), False
+        self.in_place, self.copies = {}, {}
 
     def add(self, body, place, is_alone=False):
         """Takes the wrong body up, if it can be tried with those that are there."""
         is_alone = is_alone or place.is_outside
         if self.bodies and (is_alone or self.is_alone):
             return False
-        taken = {*place.lines, *body.functions, *(it.path for it in place.inside), *("cycle " + it.cycle for it in place.inside if it.cycle)}
-        changed, fault = made(body, {**self.texts, **self.changed})
-        if fault or taken & self.taken:
+        copy = place.function and not is_alone and copied(body, place.function, self.texts, len(self.copies) + 1)
+        if not (self.add_copy(copy) if copy else self.add_in_place(body, place)):
             return False
-        self.changed.update(changed)
         self.bodies.append(body)
-        self.taken |= taken
         self.is_alone = is_alone
         return True
+
+    def add_copy(self, copy):
+        if copy.function.path in self.taken:
+            return False
+        self.copies[copy.body.name] = copy
+        self.taken.add("copy " + copy.function.path)
+        return True
+
+    def add_in_place(self, body, place):
+        changed, fault = made(body, {**self.texts, **self.in_place})
+        taken = {*place.lines, *body.functions, *(it.path for it in place.inside), *("cycle " + it.cycle for it in place.inside if it.cycle)}
+        if fault or taken & self.taken or {"copy " + it.path for it in place.inside} & self.taken:
+            return False
+        self.in_place.update(changed)
+        self.taken |= taken
+        return True
+
+    def changed(self):
+        """The texts of the files that have wrong bodies."""
+        found = dict(self.in_place)
+        for it in self.copies.values():
+            text = found.get(it.function.file, self.texts[it.function.file])
+            found[it.function.file] = text.replace(it.before, it.before + "\n\n" + it.after)
+        return found
+
+    def functions_of(self, body):
+        """The paths of the functions that have to refuse this wrong body."""
+        return [self.copies[body.name].path()] if body.name in self.copies else body.functions
+
+    def judged(self, crate, ran, places):
+        """What the check says of each wrong body, by name."""
+        found, nowhere = sources.functions_in({**self.texts, **self.changed()}), Place(set(), [], False, None, None)
+        return {
+            it.name: judged(crate, it._replace(functions=self.functions_of(it)), nowhere if it.name in self.copies else places[it.name], ran, found)
+            for it in self.bodies
+        }
 
 
 def judged(crate, body, place, ran, found):

@@ -10,8 +10,8 @@ from bisect import bisect_right
 from collections import namedtuple
 
 # A function: its path below the crate, the file as `src/a.rt`, its name, the offsets of its head and of its body, without the
-# braces, in the file, its first and last line, and the name of its cycle of calls, or "".
-Function = namedtuple("Function", "path file name start body end first last cycle")
+# braces, in the file, its first and last line, the name of its cycle of calls, or "", and whether it is a method of a trait.
+Function = namedtuple("Function", "path file name start body end first last cycle is_of_trait")
 
 HIDDEN = re.compile(r"""//[^\n]*|/\*.*?\*/|b?r(#*)".*?"\1|b?"(?:\\.|[^"\\])*"|b?'(?:\\(?:x..|u\{\w*\}|.)|[^'\\\n])'""", re.S)
 ITEM = re.compile(r"[{}]|\b(?:(mod|trait) (\w+)|(impl)\b|fn (\w+))")
@@ -41,8 +41,12 @@ def sources(folder):
 
 def functions(folder):
     """All functions of the crate in this folder that have a body."""
-    texts = {path: blanked(text) for path, text in sources(folder).items()}
-    homes = {}
+    return functions_in(sources(folder))
+
+
+def functions_in(texts):
+    """All functions that have a body in a crate of these sources."""
+    texts, homes = {path: blanked(text) for path, text in texts.items()}, {}
     for path, text in texts.items():
         for name in TYPE.findall(text):
             homes.setdefault(name, []).append(module_of(path))
@@ -71,7 +75,8 @@ def functions_of(path, text, homes):
                 owner = [it for it in blocks if it]
                 cycle = CYCLE.search(text, 0, item.start())
                 full = "::".join([*path_of(module_of(path), owner, homes), name])
-                yield Function(full, path, name, item.start(), body[0], body[1], line(item.start()), line(body[1]), cycle.group(1) if cycle else "")
+                lines_of = line(item.start()), line(body[1])
+                yield Function(full, path, name, item.start(), *body, *lines_of, cycle.group(1) if cycle else "", any(map(is_of_trait, owner)))
                 at = body[1] + 1
         elif item.group(3):
             end = text.index("{", at)
@@ -79,6 +84,27 @@ def functions_of(path, text, homes):
             at = end
         elif text[at:].lstrip()[:1] == "{" or item.group(1) == "trait":
             opening = (item.group(1), item.group(2))
+
+
+def is_of_trait(block):
+    """Whether what stands in this block is a trait's, or one type's part of a trait."""
+    kind, head = block
+    return kind == "trait" or kind == "impl" and " for " in split_head(head)[1]
+
+
+def whole(text, function):
+    """The text of a function in its file, with the comments and attributes above it and no line end after it."""
+    lines = text[: text.index("\n", function.end)].split("\n")
+    first = text.count("\n", 0, function.start)
+    while first and not is_between(lines[first - 1]):
+        first -= 1
+    return "\n".join(lines[first:])
+
+
+def is_between(line):
+    """Whether no function's comment or attribute is in this line: it is blank, or opens or closes a block."""
+    line = line.strip()
+    return not line or not line.startswith(("//", "#")) and line.endswith(("{", "}", ";"))
 
 
 def body_at(text, at):
