@@ -35,8 +35,9 @@ def state(dice):
 
 
 def live(dice):
-    """How a node's changes are told."""
-    return with_one_in(dice, 2, "live=" + dice.choice(["off", "polite", "polite", "assertive"]))
+    """How a node's changes are told, and whether as a whole."""
+    how = with_one_in(dice, 2, "live=" + dice.choice(["off", "polite", "polite", "assertive"]))
+    return how + with_one_in(dice, 4, "live_atomic")
 
 
 def run_line(dice, number, is_last):

@@ -35,19 +35,22 @@ use Rattle.phrases.specs.declared.sayings.Dialog.{Dialog}
 use Rattle.phrases.specs.News.{news}
 use Rattle.phrases.specs.Roles.{role_word}
 use Rattle.phrases.specs.Sayings.{label_line, value_line, description_line, group_line}
-use Rattle.phrases.specs.Tellings.{told}
 use Rattle.phrases.specs.Voices.{Speech}
 use Rattle.speaking.specs.Changes.{label_said, toggles_said, flags_said, change_said, SaysChange}
 use Rattle.speaking.specs.Dialogs.{WasInside, WasOutside, Enters, ShowsDialog, SaysDialog, SaysEntered, SaysFocus, SaysMoved}
 use Rattle.speaking.specs.Events.{SaysAdded, SaysUpdated}
 use Rattle.speaking.specs.Said.{said_if}
 use Rattle.speaking.specs.Groups.{is_group, group_around, was_in_group, group_named, group_said}
+use Rattle.speaking.specs.Headers.{column_header, row_header, was_header, header_said, headers_said}
 use Rattle.speaking.specs.Laws.{AreAlike, added, updated, moved, removed, BeginsAlike, SaysAlike}
-use Rattle.speaking.specs.Above.{above_of}
+use Rattle.speaking.specs.declared.news.News.{News}
+use Rattle.speaking.specs.Above.{above_of, region_of}
 use Rattle.speaking.specs.Holders.{speaks_for_runs, holder_answer, speaks_itself}
 use Rattle.speaking.specs.Lines.{caret_said}
 use Rattle.speaking.specs.LiveTexts.{is_live, is_told, own_text, unless_blank, told_text, TellsNew, TellsChange}
+use Rattle.speaking.specs.News.{Notes}
 use Rattle.speaking.specs.NodeTexts.{number_said, value_said, placeholder_said, description_said, shown, instead, state_said, listed_answer, place_from, place_said, is_edited, is_said_by_line, ShowsFocus}
+use Rattle.speaking.proofs.HeadersAlike.{column_is, row_is}
 use Rattle.speaking.proofs.LinesAlike.{caret_is}
 use Rattle.speaking.proofs.Plain.{both_true, not_true, left_false, right_false, plain_node}
 use Rattle.speaking.proofs.Same.{same, one_of, there}
@@ -158,7 +161,7 @@ module _ (p : FullNodeId) (w v : World) (alike : AreAlike p w v) where
 
   -- ---- live regions
 
-  live_is : (id : FullNodeId) → live w id ≡ live v id
+  pub live_is : (id : FullNodeId) → live w id ≡ live v id
   live_is id = one_of p w v alike (λ u. live u id) (λ u i. unwrap_or (inherited_same u (λ d. d.live) (λ d. refl) i id) Off)
 
   hidden_is : (id : FullNodeId) → is_hidden w id ≡ is_hidden v id
@@ -214,13 +217,20 @@ module _ (p : FullNodeId) (w v : World) (alike : AreAlike p w v) where
       told_by (is_told (above_of w id) d) (is_told (above_of v id) e) (unless_blank (own_text (above_of w id) d)) (unless_blank (own_text (above_of v id) e)) (told_is id d e s)
       (λ is. ap unless_blank (own_is id d e h k is))
 
-  pub tells_new : (id : FullNodeId) (x y : Speech) → TellsNew (seen_in w id) x y → TellsNew (seen_in v id) x y
-  tells_new id x y h =
+  pub region_is : (id : FullNodeId) → region_of w id ≡ region_of v id
+  region_is id =
+      one_of p w v alike (λ u. region_of u id) (λ u i. find (says_same u (λ d. is_some d.live) (λ d. refl) i) (id ∷ map (λ (q : Place). q.0) (above_is u i id)))
+
+  pub tells_new : (id : FullNodeId) (m n : News) → TellsNew (seen_in w id) m n → TellsNew (seen_in v id) m n
+  tells_new id m n h =
       let e = there p w v alike id h.node h.has in
+      let text = told_text_is id h.node e.0 h.has e.1 (sym e.2) in
       record {
         node = e.0;
         has = e.1;
-        tells = h.tells ∙ (λ i. told (live_is id i) (news None (told_text_is id h.node e.0 h.has e.1 (sym e.2) i)) x);
+        notes =
+            subst (λ t. Notes id (region_of v id) (news None t) m n) text
+            (subst (λ r. Notes id r (news None (told_text (above_of w id) h.node)) m n) (region_is id) h.notes);
       }
 
   -- ---- groups
@@ -281,6 +291,22 @@ group_one : (p : FullNodeId) (o q w v : World) → AreAlike p o q → AreAlike p
 group_one p o q w v old new from id x i =
     option_map_or (λ group. if was_in_one p o q old from group i then x else group_named_is p w v new group x i) (group_is p w v new id i) x
 
+module _ (header : World → FullNodeId → Option FullNodeId) (one : (p : FullNodeId) (w v : World) → AreAlike p w v → (id : FullNodeId) → header w id ≡ header v id) where
+  was_header_one : (p : FullNodeId) (o q : World) → AreAlike p o q → (from : Option FullNodeId) (h : FullNodeId) → was_header header (option_map (seen_in o) from) h ≡ was_header header (option_map (seen_in q) from) h
+  was_header_one p o q alike None h = refl
+  was_header_one p o q alike (Some id) h = λ i. option_map_or (is_same h) (one p o q alike id i) false
+
+  header_one : (p : FullNodeId) (o q w v : World) → AreAlike p o q → AreAlike p w v → (from : Option FullNodeId) (id : FullNodeId) (x : Speech) →
+      header_said header (option_map (seen_in o) from) (seen_in w id) x ≡ header_said header (option_map (seen_in q) from) (seen_in v id) x
+  header_one p o q w v old new from id x i =
+      option_map_or (λ h. if was_header_one p o q old from h i then x else group_named_is p w v new h x i) (one p w v new id i) x
+
+headers_one : (p : FullNodeId) (o q w v : World) → AreAlike p o q → AreAlike p w v → (from : Option FullNodeId) (id : FullNodeId) (x : Speech) →
+    headers_said (option_map (seen_in o) from) (seen_in w id) x ≡ headers_said (option_map (seen_in q) from) (seen_in v id) x
+headers_one p o q w v old new from id x =
+    header_one column_header column_is p o q w v old new from id (header_said row_header (option_map (seen_in o) from) (seen_in w id) x)
+    ∙ ap (header_said column_header (option_map (seen_in q) from) (seen_in v id)) (header_one row_header row_is p o q w v old new from id x)
+
 says_moved : (p : FullNodeId) (o q w v : World) → AreAlike p o q → AreAlike p w v → (from to : Option FullNodeId) (x y : Speech) →
     SaysMoved (option_map (seen_in o) from) (option_map (seen_in w) to) x y → SaysMoved (option_map (seen_in q) from) (option_map (seen_in v) to) x y
 says_moved p o q w v old new from None x y h = h
@@ -289,7 +315,10 @@ says_moved p o q w v old new from (Some id) x y h = record {
   enters = enters o q w v (same p o q old) (same p w v new) from id h.entered h.enters;
   between = h.between;
   dialog = says_entered p w v new h.entered x h.between h.dialog;
-  focus = subst (λ x. SaysFocus (seen_in v id) x y) (group_one p o q w v old new from id h.between) (says_focus p w v new id (group_said (option_map (seen_in o) from) (seen_in w id) h.between) y h.focus);
+  focus =
+      let grouped = group_said (option_map (seen_in o) from) (seen_in w id) h.between in
+      subst (λ x. SaysFocus (seen_in v id) x y) (headers_one p o q w v old new from id grouped ∙ ap (headers_said (option_map (seen_in q) from) (seen_in v id)) (group_one p o q w v old new from id h.between))
+      (says_focus p w v new id (headers_said (option_map (seen_in o) from) (seen_in w id) grouped) y h.focus);
 }
 
 pub begins_alike : BeginsAlike
@@ -297,27 +326,36 @@ begins_alike p w v s t alike h = record {
   focus = h.focus;
   is = bare.focus (same p w v alike) h.focus h.is;
   says = λ e. says_moved p w v w v alike alike None h.focus s.voice t.voice (h.says e);
+  news = h.news;
   text = h.text;
 }
 
 -- ---- events
 
-says_added : (p : FullNodeId) (w v : World) (id : FullNodeId) (x y : Speech) → AreAlike p w v → SaysAdded (seen_in w id) x y → SaysAdded (seen_in v id) x y
-says_added p w v id x y alike h =
+says_added : (p : FullNodeId) (w v : World) (id : FullNodeId) (m n : News) → AreAlike p w v → SaysAdded (seen_in w id) m n → SaysAdded (seen_in v id) m n
+says_added p w v id m n alike h =
     let turned = bare.turned (same p w v alike) in
     record {
       focus = λ f. h.focus (focused_node turned id f);
-      other = λ f. tells_new p w v alike id x y (h.other (λ g. f (focused_node (same p w v alike) id g)));
+      other = λ f. tells_new p w v alike id m n (h.other (λ g. f (focused_node (same p w v alike) id g)));
     }
 
 module _ (p : FullNodeId) (o q w v : World) (old : AreAlike p o q) (new : AreAlike p w v) (id : FullNodeId) where
-  tells_change : (x y : Speech) → TellsChange (seen_in o id) (seen_in w id) x y → TellsChange (seen_in q id) (seen_in v id) x y
-  tells_change x y h =
+  tells_change : (m n : News) → TellsChange (seen_in o id) (seen_in w id) m n → TellsChange (seen_in q id) (seen_in v id) m n
+  tells_change m n h =
       let a = there p o q old id h.before h.had in
       let b = there p w v new id h.after h.has in
       let before = told_text_is p o q old id h.before a.0 h.had a.1 (sym a.2) in
       let after = told_text_is p w v new id h.after b.0 h.has b.1 (sym b.2) in
-      record { before = a.0; had = a.1; after = b.0; has = b.1; tells = h.tells ∙ (λ i. told (live_is p w v new id i) (news (before i) (after i)) x) }
+      record {
+        before = a.0;
+        had = a.1;
+        after = b.0;
+        has = b.1;
+        notes =
+            subst (λ t. Notes id (region_of v id) t m n) (λ i. news (before i) (after i))
+            (subst (λ r. Notes id r (news (told_text (above_of o id) h.before) (told_text (above_of w id) h.after)) m n) (region_is p w v new id) h.notes);
+      }
 
   module _ (d e f g : NodeData) (s : without_text d ≡ without_text f) (t : without_text e ≡ without_text g) where
     label_is : (x : Speech) → label_said (seen_in o id) (seen_in w id) x ≡ label_said (seen_in q id) (seen_in v id) x
@@ -335,18 +373,18 @@ module _ (p : FullNodeId) (o q w v : World) (old : AreAlike p o q) (new : AreAli
       let b = there p w v new id h.after h.has in
       record { before = a.0; had = a.1; after = b.0; has = b.1; said = h.said ∙ change_is h.before h.after a.0 b.0 (sym a.2) (sym b.2) x }
 
-  says_updated : (x y : Speech) → SaysUpdated (seen_in o id) (seen_in w id) x y → SaysUpdated (seen_in q id) (seen_in v id) x y
-  says_updated x y h =
+  says_updated : (x y : Speech) (m n : News) → SaysUpdated (seen_in o id) (seen_in w id) x y m n → SaysUpdated (seen_in q id) (seen_in v id) x y m n
+  says_updated x y m n h =
       let before = bare.turned (same p o q old) in
       let after = bare.turned (same p w v new) in
       record {
-        stayed = λ f g. says_change x y (h.stayed (focused_node before id f) (focused_node after id g));
+        stayed = λ f g. let k = h.stayed (focused_node before id f) (focused_node after id g) in (says_change x y k.0, k.1);
         come = λ f g. h.come (λ k. f (focused_node (same p o q old) id k)) (focused_node after id g);
-        other = λ g. tells_change x y (h.other (λ k. g (focused_node (same p w v new) id k)));
+        other = λ g. let k = h.other (λ k. g (focused_node (same p w v new) id k)) in (k.0, tells_change m n k.1);
       }
 
 pub says_alike : SaysAlike
-says_alike p e f x y (added w v id alike) h = says_added p w v id x y alike h
-says_alike p e f x y (updated o q w v id old new) h = says_updated p o q w v old new id x y h
-says_alike p e f x y (moved o q w v from to old new) h = says_moved p o q w v old new from to x y h
-says_alike p e f x y (removed o q id alike) h = h
+says_alike p e f x y m n (added w v id alike) h = (h.0, says_added p w v id m n alike h.1)
+says_alike p e f x y m n (updated o q w v id old new) h = says_updated p o q w v old new id x y m n h
+says_alike p e f x y m n (moved o q w v from to old new) h = (says_moved p o q w v old new from to x y h.0, h.1)
+says_alike p e f x y m n (removed o q id alike) h = h

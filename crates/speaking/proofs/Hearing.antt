@@ -18,7 +18,7 @@ hears_nothing s e silent = record {
 }
 
 pub hears_event : (s : Speaker) (e : Event) (t : Speaker) → s.is_silent ≡ false → t.text ≡ s.text →
-    ((old new : World) → IsOfStep old new e → KnowsRightly old new s → t.is_silent ≡ false → Says e s.voice t.voice × KnowsRightly old new t) → Hears s e t
+    ((old new : World) → IsOfStep old new e → KnowsRightly old new s → t.is_silent ≡ false → Says e s.voice t.voice s.news t.news × KnowsRightly old new t) → Hears s e t
 hears_event s e t loud text says = record {
   silent = λ k. absurd (let clash : false ≡ true = subst IsTrue loud k in cc);
   says = says;

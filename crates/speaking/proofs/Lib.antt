@@ -1,9 +1,14 @@
 pub mod Alike
+pub mod FirstShown
+pub mod HeadersAlike
 pub mod Hearing
 pub mod LinesAlike
+pub mod NoNews
 pub mod Plain
+pub mod RegionsAlike
 pub mod Same
 pub mod Steps
 pub mod TextsAlike
 pub mod Typing
+pub mod Viewed
 pub mod Ways

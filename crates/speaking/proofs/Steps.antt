@@ -1,5 +1,5 @@
 -- What a node says together with those above it follows from what its parent does.
-use Rattle.std.proofs.Common.{◌≡◌, Bool, true, false, not, ◌||◌, cond, List, [], ◌∷◌, Option, Some, None, find, filter_map, slice_get, unwrap_or, is_none, if◌then◌else◌, refl, sym, ap, ◌∙◌}
+use Rattle.std.proofs.Common.{◌≡◌, Bool, true, false, not, ◌||◌, cond, List, [], ◌∷◌, Option, Some, None, find, filter_map, slice_get, unwrap_or, is_none, is_some, if◌then◌else◌, refl, sym, ap, ◌∙◌}
 use Rattle.std.specs.BTreeMap.{BTreeMap, get, is_at}
 use Rattle.std.specs.List.{cons_option, list_any}
 use Rattle.std.specs.Option.{option_map_or, option_and_then}
@@ -21,19 +21,20 @@ use Rattle.model.specs.World.{World, HasData}
 use Rattle.model.proofs.Forest.PlaceOf.{same_from_test}
 use Rattle.hidden_texts.specs.Hidden.{is_in_password}
 use Rattle.speaking.specs.declared.above.Above.{Above}
-use Rattle.speaking.specs.Above.{above_of, AreRight}
+use Rattle.speaking.specs.Above.{above_of, region_of, region_or, AreRight}
 use Rattle.speaking.specs.Holders.{speaks_for_runs, holder_answer, speaks_itself}
 
 -- ---- one step
 
 -- of a node with these data, below nodes of which this is known
-abbrev pub said_below : NodeData → Bool → Bool → Above → Above
-said_below d secret held a = record {
+abbrev pub said_below : FullNodeId → NodeData → Bool → Bool → Above → Above
+said_below id d secret held a = record {
   live = unwrap_or d.live a.live;
   is_hidden = d.hidden || a.is_hidden;
   is_busy = d.busy || a.is_busy;
   is_in_password = secret || a.is_in_password;
   is_held = held || a.is_held;
+  region = region_or id d a.region;
 }
 
 nearest_live : (o : Option Live) (rest : List Live) → unwrap_or (slice_get (cons_option o rest) 0) Off ≡ unwrap_or o (unwrap_or (slice_get rest 0) Off)
@@ -60,7 +61,7 @@ module _ (w : World) (id : FullNodeId) (d : NodeData) (has : HasData w id d) whe
   root_any test none = sym (ap (λ up. list_any (says test w) (id ∷ up)) none ∙ ap (λ b. b || false) (says_of test) ∙ or_false (test d))
 
   pub root_says : ancestors w id ≡ [] →
-      record { live = unwrap_or d.live Off; is_hidden = d.hidden; is_busy = d.busy; is_in_password = false; is_held = false } ≡ above_of w id
+      record { live = unwrap_or d.live Off; is_hidden = d.hidden; is_busy = d.busy; is_in_password = false; is_held = false; region = region_or id d None } ≡ above_of w id
   root_says none =
       let lives : unwrap_or d.live Off ≡ live w id =
       sym (nearest_live d.live [])
@@ -70,13 +71,16 @@ module _ (w : World) (id : FullNodeId) (d : NodeData) (has : HasData w id d) whe
       let busy : d.busy ≡ says_upward (λ e. e.busy) w id = root_any (λ e. e.busy) none in
       let secret : false ≡ is_in_password w id = sym (ap (list_any (is_password w)) none) in
       let held : false ≡ not (speaks_itself w id) = sym (ap (λ up. not (is_none (find (λ a. is_included (holder_answer w a)) up))) none) in
-      λ i. record { live = lives i; is_hidden = hides i; is_busy = busy i; is_in_password = secret i; is_held = held i }
+      let region : region_or id d None ≡ region_of w id =
+      sym (ap (λ b. cond b (Some id) None) (says_of (λ e. is_some e.live)))
+      ∙ sym (ap (λ up. find (says (λ e. is_some e.live) w) (id ∷ up)) none) in
+      λ i. record { live = lives i; is_hidden = hides i; is_busy = busy i; is_in_password = secret i; is_held = held i; region = region i }
 
   module _ (q : FullNodeId) (e : NodeData) (above : HasData w q e) (up : ancestors w id ≡ q ∷ ancestors w q) where
     child_any : (test : NodeData → Bool) → (test d || says_upward test w q) ≡ says_upward test w id
     child_any test = sym (ap (λ xs. list_any (says test w) (id ∷ xs)) up ∙ ap (λ b. b || list_any (says test w) (q ∷ ancestors w q)) (says_of test))
 
-    pub child_says : said_below d (is_password_input e.role) (speaks_for_runs e) (above_of w q) ≡ above_of w id
+    pub child_says : said_below id d (is_password_input e.role) (speaks_for_runs e) (above_of w q) ≡ above_of w id
     child_says =
         let lives : unwrap_or d.live (live w q) ≡ live w id =
         sym (nearest_live d.live (filter_map (field_at (λ x. x.live) w) (q ∷ ancestors w q)))
@@ -90,7 +94,10 @@ module _ (w : World) (id : FullNodeId) (d : NodeData) (has : HasData w id d) whe
         sym (ap (λ xs. not (is_none (find (λ a. is_included (holder_answer w a)) xs))) up
         ∙ held_above (says speaks_for_runs w q) q (find (λ a. is_included (holder_answer w a)) (ancestors w q))
         ∙ ap (λ b. b || not (speaks_itself w q)) (ap (λ o. option_map_or speaks_for_runs o false) above)) in
-        λ i. record { live = lives i; is_hidden = hides i; is_busy = busy i; is_in_password = secret i; is_held = held i }
+        let region : region_or id d (region_of w q) ≡ region_of w id =
+        sym (ap (λ b. cond b (Some id) (region_of w q)) (says_of (λ x. is_some x.live)))
+        ∙ sym (ap (λ xs. find (says (λ x. is_some x.live) w) (id ∷ xs)) up) in
+        λ i. record { live = lives i; is_hidden = hides i; is_busy = busy i; is_in_password = secret i; is_held = held i; region = region i }
 
 -- ---- what is known
 

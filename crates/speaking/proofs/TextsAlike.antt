@@ -1,18 +1,20 @@
 -- In two worlds that differ in what is typed into a password alone, the same is said at the end of a step.
-use Rattle.std.proofs.Common.{◌≡◌, ℕ, true, false, not, ◌&&◌, Option, Some, None, is_none, sym, subst, ◌∙◌}
+use Rattle.std.proofs.Common.{◌≡◌, ℕ, true, false, not, ◌&&◌, Option, Some, None, is_none, ap, sym, subst, ◌∙◌}
 use Rattle.schema.specs.NodeData.{NodeData}
 use Rattle.model.specs.declared.FullNodeId.{FullNodeId}
 use Rattle.model.specs.RoleClasses.{is_text_input}
 use Rattle.model.specs.World.{World}
 use Rattle.hidden_texts.specs.Hidden.{hides_text}
-use Rattle.phrases.specs.Voices.{Speech}
+use Rattle.phrases.specs.Voices.{Speech, all_said}
 use Rattle.speaking.specs.declared.edits.FocusedText.{FocusedText}
+use Rattle.speaking.specs.declared.news.News.{News}
 use Rattle.speaking.specs.Edits.{SaysLine, SaysText, IsReadOf, SaysMoves, held_of, SaysTextOf, SaysEdited, SaysOf, IsEdited, SaysFocused, SaysEnd}
 use Rattle.speaking.specs.Laws.{AreAlike, SettlesAlike}
 use Rattle.speaking.specs.NodeTexts.{is_edited}
 use Rattle.speaking.proofs.Alike.{edited_is}
 use Rattle.speaking.proofs.LinesAlike.{secrets_one, many_is, line_is, edited_text_is, caret_is, selected_is}
 use Rattle.speaking.proofs.Plain.{both_true, not_true}
+use Rattle.speaking.proofs.RegionsAlike.{news_one}
 use Rattle.speaking.proofs.Same.{there, back}
 
 -- ---- a node whose text isn't hidden
@@ -67,8 +69,12 @@ module _ (p : FullNodeId) (w v : World) (alike : AreAlike p w v) where
   says_focused focus held now x y h =
       record { node = h.node; edited = edited_node focus h.node h.edited; says = says_of focus h.node held now x y h.edited h.says }
 
-  says_end : (focus : Option FullNodeId) (held now : Option FocusedText) (x y : Speech) → SaysEnd w focus held now x y → SaysEnd v focus held now x y
-  says_end focus held now x y h = record { between = h.between; text = says_focused focus held now x h.between h.text; waited = h.waited }
+  says_end : (focus : Option FullNodeId) (n : News) (held now : Option FocusedText) (x y : Speech) → SaysEnd w focus n held now x y → SaysEnd v focus n held now x y
+  says_end focus n held now x y h = record {
+    between = h.between;
+    text = says_focused focus held now x h.between h.text;
+    waited = h.waited ∙ ap all_said (news_one p w v alike n h.between);
+  }
 
 pub settles_alike : SettlesAlike
-settles_alike p w v focus s t alike h = record { silent = h.silent; says = λ e. says_end p w v alike focus s.text t.text s.voice t.voice (h.says e) }
+settles_alike p w v focus s t alike h = record { silent = h.silent; says = λ e. let k = h.says e in (says_end p w v alike focus s.news s.text t.text s.voice t.voice k.0, k.1) }

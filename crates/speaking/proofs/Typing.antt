@@ -1,15 +1,13 @@
 -- What is typed into a password is no change that is said.
-use Rattle.std.proofs.Common.{◌≡◌, Bool, true, false, ◌||◌, bytes_eq, codes, ℕ, List, length, ◌==◌, Option, Some, None, refl, sym, ap, ◌∙◌, if◌then◌else◌}
+use Rattle.std.proofs.Common.{◌≡◌, Bool, true, false, ◌||◌, bytes_eq, codes, ℕ, List, length, ◌==◌, Option, Some, None, refl, sym, ap, subst, ◌∙◌, if◌then◌else◌}
 use Rattle.std.proofs.lemmas.Option.{same_Some}
 use Rattle.std.proofs.lemmas.Slice.Eq.{bytes_eq-Decides}
 use Rattle.schema.specs.NodeData.{NodeData}
-use Rattle.schema.specs.declared.values.Live.{Live}
 use Rattle.schema.specs.declared.values.Toggled.{Toggled}
 use Rattle.schema.specs.declared.values.Toggled.TheVariants.{False, True, Mixed}
 use Rattle.model.specs.declared.FullNodeId.{FullNodeId}
 use Rattle.model.specs.Events.{seen_in}
 use Rattle.model.specs.Outline.{without_text}
-use Rattle.model.specs.Views.{live}
 use Rattle.model.specs.World.{World, HasData}
 use Rattle.hidden_texts.specs.Shown.{shown_label}
 use Rattle.hidden_texts.proofs.ShownAlike.{label_shown}
@@ -17,13 +15,14 @@ use Rattle.phrases.specs.declared.states.State.{State}
 use Rattle.phrases.specs.News.{news}
 use Rattle.phrases.specs.Sayings.{label_line, value_line, description_line, state_line}
 use Rattle.phrases.specs.States.{new_word, same_flag, same_toggle, flag_word, toggled_word, expanded_word, selected_word}
-use Rattle.phrases.specs.Tellings.{told}
 use Rattle.phrases.specs.Voices.{Speech}
 use Rattle.speaking.specs.Changes.{label_said, value_change, description_change, toggles_said, flags_said, change_said}
 use Rattle.speaking.specs.Said.{said_if}
 use Rattle.speaking.specs.Laws.{AreAlike, TypingSaysNothing, TypingIsNoChange}
-use Rattle.speaking.specs.Above.{above_of}
+use Rattle.speaking.specs.declared.news.News.{News}
+use Rattle.speaking.specs.Above.{above_of, region_of}
 use Rattle.speaking.specs.LiveTexts.{told_text}
+use Rattle.speaking.specs.News.{Notes}
 use Rattle.speaking.specs.NodeTexts.{value_said, description_said, state_said, is_edited}
 use Rattle.speaking.proofs.Same.{there}
 use Rattle.speaking.proofs.Alike.{value_is, description_is, told_text_is}
@@ -70,8 +69,9 @@ no_flags s v =
     ∙ ap (λ o. said_if state_line o (said_if state_line enabled v)) (no_word (codes "read-only") (codes "editable") s.is_read_only)
     ∙ ap (λ o. said_if state_line o v) (no_word (codes "disabled") (codes "enabled") s.is_disabled)
 
-not_told : (how : Live) (v : Speech) → told how None v ≡ v
-not_told how v = refl
+not_noted : (id : FullNodeId) (region : Option FullNodeId) (m n : News) → Notes id region None m n → n ≡ m
+not_noted id None m n h = h
+not_noted id (Some region) m n h = h
 
 -- ---- of a node in two worlds
 
@@ -107,13 +107,14 @@ module _ (p : FullNodeId) (o w : World) (id : FullNodeId) (alike : AreAlike p o 
       (λ i. flags_said (state_said (s i)) (state_said e) (toggles_said (state_said (s i)) (state_said e) described))
       ∙ no_flags (state_said e) toggled ∙ no_toggles (state_said e) described ∙ same_description d e s valued ∙ same_value d e s named ∙ same_label v
 
-  typing_says_nothing : (v u : Speech) → TypingSaysNothing p o w id v u
-  typing_says_nothing v u = record {
+  typing_says_nothing : (v u : Speech) (m n : News) → TypingSaysNothing p o w id v u m n
+  typing_says_nothing v u m n = record {
     change = λ h. h.said ∙ nothing_changed h.before h.after (alike_data h.before h.after h.had h.has) v;
     region = λ h.
         let texts = told_text_is p o w alike id h.before h.after h.had h.has (alike_data h.before h.after h.had h.has) in
-        h.tells ∙ ap (λ t. told (live w id) t v) (ap (λ x. news x (told_text (above_of w id) h.after)) texts ∙ no_news (told_text (above_of w id) h.after));
+        not_noted id (region_of w id) m n
+        (subst (λ t. Notes id (region_of w id) t m n) (ap (λ x. news x (told_text (above_of w id) h.after)) texts ∙ no_news (told_text (above_of w id) h.after)) h.notes);
   }
 
 pub typing_is_no_change : TypingIsNoChange
-typing_is_no_change p o w id v u alike = typing_says_nothing p o w id alike v u
+typing_is_no_change p o w id v u m n alike = typing_says_nothing p o w id alike v u m n

@@ -1,10 +1,11 @@
 -- What a node says together with those above it, and what is known of that while a step is told.
-use Rattle.std.specs.Prelude.{◌≡◌, not, map, List, ◌++◌, Option, Some}
+use Rattle.std.specs.Prelude.{◌≡◌, not, map, List, ◌++◌, find, is_some, Option, Some, if◌then◌else◌}
 use Rattle.std.specs.BTreeMap.{BTreeMap, get}
+use Rattle.schema.specs.NodeData.{NodeData}
 use Rattle.model.specs.declared.FullNodeId.{FullNodeId}
 use Rattle.model.specs.Filters.{is_hidden}
 use Rattle.model.specs.FullIds.{full_cmp}
-use Rattle.model.specs.Upward.{says_upward, upward}
+use Rattle.model.specs.Upward.{says, says_upward, upward}
 use Rattle.model.specs.Views.{live}
 use Rattle.model.specs.World.{World}
 use Rattle.views.specs.declared.node.node_ref.NodeRef.{NodeRef}
@@ -16,7 +17,15 @@ use Rattle.speaking.specs.declared.above.Climbed.{Climbed}
 use Rattle.speaking.specs.declared.above.LookUps.{LookUps}
 use Rattle.speaking.specs.Holders.{speaks_itself}
 
--- how its changes are announced; whether it is hidden, in a busy part, in a password, and below a node that is announced in place of its runs
+-- the live region in which a node is: the nearest node from it upwards that has a setting of how changes are announced
+abbrev pub region_of : World → FullNodeId → Option FullNodeId
+region_of w id = find (says (λ d. is_some d.live) w) (upward w id)
+
+-- a node with these data is its own region if it has such a setting, and is otherwise in this one
+abbrev pub region_or : FullNodeId → NodeData → Option FullNodeId → Option FullNodeId
+region_or id d otherwise = if is_some d.live then Some id else otherwise
+
+-- how its changes are announced; whether it is hidden, in a busy part, in a password, and below a node that is announced in place of its runs; and its region
 abbrev pub above_of : World → FullNodeId → Above
 above_of w id = record {
   live = live w id;
@@ -24,6 +33,7 @@ above_of w id = record {
   is_busy = says_upward (λ d. d.busy) w id;
   is_in_password = is_in_password w id;
   is_held = not (speaks_itself w id);
+  region = region_of w id;
 }
 
 -- what is known of a node

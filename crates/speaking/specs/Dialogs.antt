@@ -1,4 +1,4 @@
--- What is said of a moved focus: the dialog and the group that it enters, and the node.
+-- What is said of a moved focus: the dialog and the group that it enters, the headers of its cell, and the node.
 use Rattle.std.specs.Prelude.{◌≡◌, ◌≢◌, ⊤, ◌⊎◌, Option, Some, None, option_copied}
 use Rattle.schema.specs.NodeData.{NodeData}
 use Rattle.model.specs.declared.FullNodeId.{FullNodeId}
@@ -13,8 +13,9 @@ use Rattle.phrases.specs.declared.sayings.Saying.TheVariants.{Focused, InDialog}
 use Rattle.phrases.specs.News.{news}
 use Rattle.phrases.specs.Roles.{role_word}
 use Rattle.phrases.specs.Sayings.{saying}
-use Rattle.phrases.specs.Voices.{Speech, said_too}
+use Rattle.phrases.specs.Voices.{Speech, said_later}
 use Rattle.speaking.specs.Groups.{group_said}
+use Rattle.speaking.specs.Headers.{headers_said}
 use Rattle.speaking.specs.NodeTexts.{ShowsFocus}
 
 -- the old focus was in the dialog
@@ -44,7 +45,7 @@ pub record SaysDialog (w : World) (id : FullNodeId) (v u : Speech) : Type 0 wher
   pub has : HasData w id node
   pub dialog : Dialog
   pub shows : ShowsDialog w id node dialog
-  pub said : u ≡ said_too v (saying (InDialog dialog))
+  pub said : u ≡ said_later v (saying (InDialog dialog))
 
 -- a line says the node
 pub record SaysFocus (new : Seen) (v u : Speech) : Type 0 where
@@ -52,19 +53,19 @@ pub record SaysFocus (new : Seen) (v u : Speech) : Type 0 where
   pub has : HasData new.world new.id node
   pub focus : Focus
   pub shows : ShowsFocus new.world new.id node focus
-  pub said : u ≡ said_too v (saying (Focused focus))
+  pub said : u ≡ said_later v (saying (Focused focus))
 
 abbrev pub SaysEntered : World → Option FullNodeId → Speech → Speech → Type 0
 SaysEntered w None v u = u ≡ v
 SaysEntered w (Some dialog) v u = SaysDialog w dialog v u
 
--- the dialog first, then the group, and then the focus
+-- the dialog first, then the group, the headers, and then the focus
 pub record SaysMove (old : Option Seen) (new : Seen) (v u : Speech) : Type 0 where
   pub entered : Option FullNodeId
   pub enters : Enters old new entered
   pub between : Speech
   pub dialog : SaysEntered new.world entered v between
-  pub focus : SaysFocus new (group_said old new between) u
+  pub focus : SaysFocus new (headers_said old new (group_said old new between)) u
 
 -- nothing is said if there is no focus any more
 abbrev pub SaysMoved : Option Seen → Option Seen → Speech → Speech → Type 0

@@ -17,11 +17,14 @@ use Rattle.phrases.specs.declared.sayings.Saying.TheVariants.{Changed}
 use Rattle.phrases.specs.Differences.{IsDifference}
 use Rattle.phrases.specs.Sayings.{saying, caret_line, selected_line, unselected_line}
 use Rattle.phrases.specs.States.{same_flag}
-use Rattle.phrases.specs.Voices.{Speech, said_too, all_said}
+use Rattle.phrases.specs.Voices.{Speech, said_later, all_said}
 use Rattle.speaking.specs.declared.edits.FocusedText.{FocusedText}
+use Rattle.speaking.specs.declared.news.News.{News}
 use Rattle.speaking.specs.declared.speaker.Speaker.{Speaker}
 use Rattle.speaking.specs.Lines.{caret_said, text_of_line}
+use Rattle.speaking.specs.News.{no_news}
 use Rattle.speaking.specs.NodeTexts.{is_edited}
+use Rattle.speaking.specs.Regions.{news_said}
 
 -- the text of the runs, or else the value as it may be shown
 abbrev pub runs_or_value : World → FullNodeId → List ℕ
@@ -37,7 +40,7 @@ selected_text w id = if is_password w id then [] else unwrap_or (option_map (tex
 
 -- what is said of a selection that was `old` and is `new`
 abbrev pub selection_said : List ℕ → List ℕ → Speech → Speech
-selection_said old new v = if bytes_eq old new then v else said_too v (if length new == 0 then unselected_line old else selected_line new)
+selection_said old new v = if bytes_eq old new then v else said_later v (if length new == 0 then unselected_line old else selected_line new)
 
 -- a line of a text, without the newline at its end
 abbrev pub IsWithoutNewline : List ℕ → List ℕ → Type 0
@@ -45,7 +48,7 @@ IsWithoutNewline text line = (text ≡ line ++ 10 ∷ []) ⊎ ((text ≡ line) �
 
 abbrev pub SaysText : Option (List ℕ) → Speech → Speech → Type 0
 SaysText None v u = u ≡ v
-SaysText (Some text) v u = (line : List ℕ) × IsWithoutNewline text line × (u ≡ said_too v (caret_line line))
+SaysText (Some text) v u = (line : List ℕ) × IsWithoutNewline text line × (u ≡ said_later v (caret_line line))
 
 abbrev pub SaysLine : World → FullNodeId → Option ℕ → Speech → Speech → Type 0
 SaysLine w id None v u = u ≡ v
@@ -73,7 +76,7 @@ pub record SaysMoves (w : World) (id : FullNodeId) (before now : FocusedText) (v
 -- a text that was focused before: what was removed and typed, or else where the caret and the selection moved
 pub record SaysEdit (w : World) (id : FullNodeId) (before now : FocusedText) (v u : Speech) : Type 0 where
   pub typed : string_bytes before.text ≢ string_bytes now.text →
-      (c : Change) × IsDifference (string_bytes before.text) (string_bytes now.text) c.removed.now c.typed.now × (u ≡ said_too v (saying (Changed c)))
+      (c : Change) × IsDifference (string_bytes before.text) (string_bytes now.text) c.removed.now c.typed.now × (u ≡ said_later v (saying (Changed c)))
   pub same : string_bytes before.text ≡ string_bytes now.text → SaysMoves w id before now v u
 
 -- a newly focused text: the line of the caret, if it can have several
@@ -108,14 +111,14 @@ pub record SaysFocused (w : World) (focus : Option FullNodeId) (held now : Optio
   pub edited : IsEdited w focus node
   pub says : SaysOf w node held now v u
 
--- that, and then the postponed lines
-pub record SaysEnd (w : World) (focus : Option FullNodeId) (held now : Option FocusedText) (v u : Speech) : Type 0 where
+-- that, and what is new in live regions; what is assertive is said first, and what is polite last
+pub record SaysEnd (w : World) (focus : Option FullNodeId) (n : News) (held now : Option FocusedText) (v u : Speech) : Type 0 where
   pub between : Speech
   pub text : SaysFocused w focus held now v between
-  pub waited : u ≡ all_said between
+  pub waited : u ≡ all_said (news_said w n between)
 
 -- What is said at the end of a step, if this node is focused. A speaker whose allocation fails falls silent, and one that is
--- silent does nothing.
+-- silent does nothing. Nothing is new after it.
 pub record Settles (w : World) (focus : Option FullNodeId) (s t : Speaker) : Type 0 where
   pub silent : IsTrue s.is_silent → t ≡ s
-  pub says : t.is_silent ≡ false → SaysEnd w focus s.text t.text s.voice t.voice
+  pub says : t.is_silent ≡ false → SaysEnd w focus s.news s.text t.text s.voice t.voice × (t.news ≡ no_news)

@@ -5,6 +5,7 @@ use Rattle.model.specs.World.{World}
 use Rattle.model.specs.Events.{Seen, seen_in, Event, NodeAdded, NodeUpdated, FocusMoved, NodeRemoved}
 use Rattle.model.specs.Focus.{IsFocus, IsFocusedNode}
 use Rattle.phrases.specs.Voices.{Speech}
+use Rattle.speaking.specs.declared.news.News.{News}
 use Rattle.speaking.specs.declared.speaker.Speaker.{Speaker}
 use Rattle.speaking.specs.Above.{IsReady}
 use Rattle.speaking.specs.Changes.{SaysChange}
@@ -14,22 +15,23 @@ use Rattle.speaking.specs.LiveTexts.{TellsNew, TellsChange}
 abbrev pub HasFocus : Seen → Type 0
 HasFocus n = IsFocusedNode n.world n.id
 
--- a new node is announced unless it is focused; then the move of the focus is said
-pub record SaysAdded (new : Seen) (v u : Speech) : Type 0 where
-  pub focus : HasFocus new → u ≡ v
-  pub other : ¬ (HasFocus new) → TellsNew new v u
+-- a new node is noted unless it is focused; then the move of the focus is said
+pub record SaysAdded (new : Seen) (m n : News) : Type 0 where
+  pub focus : HasFocus new → n ≡ m
+  pub other : ¬ (HasFocus new) → TellsNew new m n
 
--- of the focused node the changes are said, unless the focus has just moved there; any other node is announced
-pub record SaysUpdated (old new : Seen) (v u : Speech) : Type 0 where
-  pub stayed : HasFocus old → HasFocus new → SaysChange old new v u
-  pub come : ¬ (HasFocus old) → HasFocus new → u ≡ v
-  pub other : ¬ (HasFocus new) → TellsChange old new v u
+-- of the focused node the changes are said, unless the focus has just moved there; any other node is noted
+pub record SaysUpdated (old new : Seen) (v u : Speech) (m n : News) : Type 0 where
+  pub stayed : HasFocus old → HasFocus new → SaysChange old new v u × (n ≡ m)
+  pub come : ¬ (HasFocus old) → HasFocus new → (u ≡ v) × (n ≡ m)
+  pub other : ¬ (HasFocus new) → (u ≡ v) × TellsChange old new m n
 
-abbrev pub Says : Event → Speech → Speech → Type 0
-Says (NodeAdded new) v u = SaysAdded new v u
-Says (NodeUpdated old new) v u = SaysUpdated old new v u
-Says (FocusMoved old new) v u = SaysMoved old new v u
-Says (NodeRemoved old) v u = u ≡ v
+-- what is said of an event, and what is noted as new in live regions
+abbrev pub Says : Event → Speech → Speech → News → News → Type 0
+Says (NodeAdded new) v u m n = (u ≡ v) × SaysAdded new m n
+Says (NodeUpdated old new) v u m n = SaysUpdated old new v u m n
+Says (FocusMoved old new) v u m n = SaysMoved old new v u × (n ≡ m)
+Says (NodeRemoved old) v u m n = (u ≡ v) × (n ≡ m)
 
 -- what it has looked up in these worlds is right
 abbrev pub KnowsRightly : World → World → Speaker → Type 0
@@ -47,13 +49,13 @@ IsOfStep old new (NodeRemoved o) = ⊤
 pub record Hears (s : Speaker) (e : Event) (t : Speaker) : Type 0 where
   pub silent : IsTrue s.is_silent → t ≡ s
   pub says : (old new : World) → IsOfStep old new e → KnowsRightly old new s → t.is_silent ≡ false →
-      Says e s.voice t.voice × KnowsRightly old new t
+      Says e s.voice t.voice s.news t.news × KnowsRightly old new t
   pub text : t.text ≡ s.text
 
 -- the same of a speaker in a step
 pub record Speaks (s : Speaker) (e : Event) (t : Speaker) : Type 0 where
   pub silent : IsTrue s.is_silent → t ≡ s
-  pub says : t.is_silent ≡ false → Says e s.voice t.voice
+  pub says : t.is_silent ≡ false → Says e s.voice t.voice s.news t.news
   pub text : t.text ≡ s.text
 
 -- of a new tree the focus is said
@@ -61,10 +63,12 @@ pub record Begins (w : World) (s t : Speaker) : Type 0 where
   pub focus : Option FullNodeId
   pub is : IsFocus w focus
   pub says : t.is_silent ≡ false → SaysMoved None (option_map (seen_in w) focus) s.voice t.voice
+  pub news : t.news ≡ s.news
   pub text : t.text ≡ s.text
 
 -- but for what it has looked up it is the same
 pub record IsStillSaying (s t : Speaker) : Type 0 where
   pub voice : t.voice ≡ s.voice
+  pub news : t.news ≡ s.news
   pub text : t.text ≡ s.text
   pub silent : t.is_silent ≡ s.is_silent

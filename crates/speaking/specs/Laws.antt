@@ -7,6 +7,7 @@ use Rattle.model.specs.Values.{is_without_text}
 use Rattle.model.specs.World.{World}
 use Rattle.hidden_texts.specs.Alike.{DifferInPassword}
 use Rattle.phrases.specs.Voices.{Speech}
+use Rattle.speaking.specs.declared.news.News.{News}
 use Rattle.speaking.specs.declared.speaker.Speaker.{Speaker}
 use Rattle.speaking.specs.Changes.{SaysChange}
 use Rattle.speaking.specs.Edits.{Settles}
@@ -34,19 +35,20 @@ pub data AreAlikeEvents (p : FullNodeId) : Event → Event → Type 0 where
 abbrev pub BeginsAlike : Type 0
 BeginsAlike = (p : FullNodeId) (w v : World) (s t : Speaker) → AreAlike p w v → Begins w s t → Begins v s t
 
--- the same is said of such events
+-- the same is said of such events, and the same noted as new
 abbrev pub SaysAlike : Type 0
-SaysAlike = (p : FullNodeId) (e f : Event) (v u : Speech) → AreAlikeEvents p e f → Says e v u → Says f v u
+SaysAlike = (p : FullNodeId) (e f : Event) (v u : Speech) (m n : News) → AreAlikeEvents p e f → Says e v u m n → Says f v u m n
 
 -- the same is said at the end of a step
 abbrev pub SettlesAlike : Type 0
 SettlesAlike =
     (p : FullNodeId) (w v : World) (focus : Option FullNodeId) (s t : Speaker) → AreAlike p w v → Settles w focus s t → Settles v focus s t
 
--- what is typed into the password is no change that is said, neither of the focused node nor in a live region
-pub record TypingSaysNothing (p : FullNodeId) (o w : World) (id : FullNodeId) (v u : Speech) : Type 0 where
+-- what is typed into the password is no change: of the focused node none that is said, and in a live region none that is noted
+pub record TypingSaysNothing (p : FullNodeId) (o w : World) (id : FullNodeId) (v u : Speech) (m n : News) : Type 0 where
   pub change : SaysChange (seen_in o id) (seen_in w id) v u → u ≡ v
-  pub region : TellsChange (seen_in o id) (seen_in w id) v u → u ≡ v
+  pub region : TellsChange (seen_in o id) (seen_in w id) m n → n ≡ m
 
 abbrev pub TypingIsNoChange : Type 0
-TypingIsNoChange = (p : FullNodeId) (o w : World) (id : FullNodeId) (v u : Speech) → AreAlike p o w → TypingSaysNothing p o w id v u
+TypingIsNoChange =
+    (p : FullNodeId) (o w : World) (id : FullNodeId) (v u : Speech) (m n : News) → AreAlike p o w → TypingSaysNothing p o w id v u m n

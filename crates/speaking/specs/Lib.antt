@@ -4,10 +4,13 @@ pub mod Dialogs
 pub mod Edits
 pub mod Events
 pub mod Groups
+pub mod Headers
 pub mod Holders
 pub mod Laws
 pub mod Lines
 pub mod LiveTexts
+pub mod News
 pub mod NodeTexts
+pub mod Regions
 pub mod Said
 pub mod Speakers

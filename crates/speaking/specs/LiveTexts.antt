@@ -1,5 +1,5 @@
 -- What is announced of nodes in live regions.
-use Rattle.std.specs.Prelude.{◌≡◌, ℕ, List, Bool, true, false, not, ◌&&◌, ◌||◌, ◌==◌, Option, Some, None, if◌then◌else◌}
+use Rattle.std.specs.Prelude.{ℕ, List, Bool, true, false, not, ◌&&◌, ◌||◌, ◌==◌, Option, Some, None, if◌then◌else◌}
 use Rattle.std.specs.List.{list_any}
 use Rattle.std.specs.Option.{option_or}
 use Rattle.schema.specs.NodeData.{NodeData}
@@ -11,10 +11,10 @@ use Rattle.model.specs.Events.{Seen}
 use Rattle.model.specs.RoleClasses.{is_text_input}
 use Rattle.model.specs.World.{HasData}
 use Rattle.phrases.specs.News.{news}
-use Rattle.phrases.specs.Tellings.{told}
-use Rattle.phrases.specs.Voices.{Speech}
 use Rattle.speaking.specs.declared.above.Above.{Above}
+use Rattle.speaking.specs.declared.news.News.{News}
 use Rattle.speaking.specs.Above.{above_of}
+use Rattle.speaking.specs.News.{Notes}
 
 abbrev pub is_live : Live → Bool
 is_live Off = false
@@ -44,18 +44,18 @@ unless_blank (Some text) = if says_something text then Some text else None
 abbrev pub told_text : Above → NodeData → Option (List ℕ)
 told_text a d = if is_told a d then unless_blank (own_text a d) else None
 
--- a new node's text is announced
-pub record TellsNew (new : Seen) (v u : Speech) : Type 0 where
+-- a new node's text is noted
+pub record TellsNew (new : Seen) (m n : News) : Type 0 where
   pub node : NodeData
   pub has : HasData new.world new.id node
-  pub tells : let a = above_of new.world new.id in u ≡ told a.live (news None (told_text a node)) v
+  pub notes : let a = above_of new.world new.id in Notes new.id a.region (news None (told_text a node)) m n
 
--- a changed node's text is announced if it differs
-pub record TellsChange (old new : Seen) (v u : Speech) : Type 0 where
+-- a changed node's text is noted if it differs
+pub record TellsChange (old new : Seen) (m n : News) : Type 0 where
   pub before : NodeData
   pub had : HasData old.world old.id before
   pub after : NodeData
   pub has : HasData new.world new.id after
-  pub tells :
+  pub notes :
       let a = above_of new.world new.id in
-      u ≡ told a.live (news (told_text (above_of old.world old.id) before) (told_text a after)) v
+      Notes new.id a.region (news (told_text (above_of old.world old.id) before) (told_text a after)) m n

@@ -4,7 +4,7 @@ ghost use Rattle.std.specs.Option.{unwrap_or};
 ghost use Rattle.model.specs.Lists.{ancestors};
 ghost use Rattle.model.specs.World.{World};
 ghost use Rattle.views.specs.Nodes.{world_at, id_at, data_at};
-ghost use Rattle.speaking.specs.Above.{above_of, AreRight, IsReady, IsWay};
+ghost use Rattle.speaking.specs.Above.{above_of, region_or, AreRight, IsReady, IsWay};
 ghost use Rattle.speaking.specs.Holders.{speaks_for_runs};
 
 use accesskit_consumer::{FullNodeId, NodeRef};
@@ -24,6 +24,8 @@ pub(crate) struct Above {
     pub(crate) is_in_password: bool,
     /// Whether a node above it is announced in place of its runs.
     pub(crate) is_held: bool,
+    /// The live region in which it is.
+    pub(crate) region: Option<FullNodeId>,
 }
 
 /// What is known of the nodes before a step and after it.
@@ -62,6 +64,16 @@ fn live_or(node: NodeRef, otherwise: Live) -> Live
     }
 }
 
+/// The node, if it has a setting of its own of how changes are announced, or else this region.
+fn region_or(node: NodeRef, otherwise: Option<FullNodeId>) -> Option<FullNodeId>
+    ensures { result ≡ region_or (id_at node.entry) (data_at node.entry) otherwise }
+{
+    match node.data().live() {
+        Some(_) => Some(node.id()),
+        None => otherwise,
+    }
+}
+
 /// What a node says above which is nothing.
 fn of_root(node: NodeRef) -> Above
     ensures { let w = world_at node.entry in let id = id_at node.entry in
@@ -73,6 +85,7 @@ fn of_root(node: NodeRef) -> Above
         is_busy: node.is_busy(),
         is_in_password: false,
         is_held: false,
+        region: region_or(node, None),
     }
 }
 
@@ -94,6 +107,7 @@ fn of_child(node: NodeRef, parent: NodeRef, above: Above) -> Above
         is_busy: either(node.is_busy(), above.is_busy),
         is_in_password: either(parent.is_password_input(), above.is_in_password),
         is_held: either(speaks_for_runs(parent), above.is_held),
+        region: region_or(node, above.region),
     }
 }
 

@@ -20,7 +20,7 @@ fn say_label(alloc: Global, voice: &mut Voice, old: NodeRef, new: NodeRef) -> Re
     let before = shown_label(alloc, &old)?;
     let now = shown_label(alloc, &new)?;
     match news(before.as_deref(), now.as_deref()) {
-        Some(label) => voice.say(Saying::Named(label)),
+        Some(label) => voice.say_later(Saying::Named(label)),
         None => Ok(()),
     }
 }
@@ -36,7 +36,7 @@ fn say_value(alloc: Global, voice: &mut Voice, old: NodeRef, new: NodeRef) -> Re
     let before = value_said(alloc, old)?;
     let now = value_said(alloc, new)?;
     match news(before.as_deref(), now.as_deref()) {
-        Some(value) => voice.say(Saying::Valued(value)),
+        Some(value) => voice.say_later(Saying::Valued(value)),
         None => Ok(()),
     }
 }
@@ -47,7 +47,7 @@ fn say_description(voice: &mut Voice, old: NodeRef, new: NodeRef) -> Result<(), 
         OnOk result (voice.new ≡ description_change (seen_node o) (data_at o) (seen_node n) (data_at n) voice.old) }
 {
     match news(description_said(old), description_said(new)) {
-        Some(description) => voice.say(Saying::Described(description)),
+        Some(description) => voice.say_later(Saying::Described(description)),
         None => Ok(()),
     }
 }
@@ -57,7 +57,7 @@ fn say_word(voice: &mut Voice, word: Option<&str>) -> Result<(), AllocError>
     ensures { OnOk result (voice.new ≡ said_if state_line (option_copied word.entry) voice.old) }
 {
     match word {
-        Some(word) => voice.say(Saying::Is(word)),
+        Some(word) => voice.say_later(Saying::Is(word)),
         None => Ok(()),
     }
 }

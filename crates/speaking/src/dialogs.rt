@@ -1,12 +1,15 @@
-//! Speech for a moved focus: the dialog and the group that it enters, and the node.
+//! Speech for a moved focus: the dialog and the group that it enters, the headers of its cell, and the node.
 ghost use Rattle.std.specs.Prelude.{◌≡◌, ◌↔◌, true, false, IsTrue, IfSome, OnOk, option_map, option_copied};
 ghost use Rattle.model.specs.Focus.{IsActiveDialog};
 ghost use Rattle.hidden_texts.specs.Shown.{shown_label};
 ghost use Rattle.views.specs.Nodes.{world_at, id_at, data_at, seen_node, seen_through};
+ghost use Rattle.speaking.specs.Groups.{group_said};
+ghost use Rattle.speaking.specs.Headers.{headers_said};
 ghost use Rattle.speaking.specs.Dialogs.{WasInside, WasOutside, Enters, ShowsDialog, SaysDialog, SaysEntered, SaysMove, SaysMoved};
 
 use crate::focus::say_focus;
 use crate::groups::say_group;
+use crate::headers::say_headers;
 use accesskit_consumer::{FullNodeId, NodeRef};
 use hidden_texts::{hides_label, shown_label};
 use phrases::{Dialog, Saying, Voice, news, role_word};
@@ -76,7 +79,7 @@ fn say_dialog(alloc: Global, voice: &mut Voice, node: NodeRef) -> Result<(), All
     ensures { OnOk result (SaysDialog (world_at node.entry) (id_at node.entry) voice.old voice.new) }
 {
     let label = shown_label(alloc, &node)?;
-    voice.say(Saying::InDialog(dialog_of(node, label.as_deref())))
+    voice.say_later(Saying::InDialog(dialog_of(node, label.as_deref())))
 }
 
 /// Says the dialog that was entered, if there is one.
@@ -96,7 +99,21 @@ fn say_entered(
     }
 }
 
-/// Says the new focus: the dialog and the group that it has entered, and the node.
+/// Says the group that the new focus has entered, and the headers of its cell.
+fn say_around(
+    alloc: Global,
+    voice: &mut Voice,
+    old: Option<&NodeRef>,
+    new: NodeRef,
+) -> Result<(), AllocError>
+    ensures { let o = seen_through old.entry in let n = seen_node new.entry in
+        OnOk result (voice.new ≡ headers_said o n (group_said o n voice.old)) }
+{
+    say_group(alloc, voice, old, new)?;
+    say_headers(alloc, voice, old, new)
+}
+
+/// Says the new focus: the dialog and the group that it has entered, the headers of its cell, and the node.
 fn say_come(
     alloc: Global,
     voice: &mut Voice,
@@ -106,7 +123,7 @@ fn say_come(
     ensures { OnOk result (SaysMove (seen_through old.entry) (seen_node new.entry) voice.old voice.new) }
 {
     say_entered(alloc, voice, entered(old, new), new)?;
-    say_group(alloc, voice, old, new)?;
+    say_around(alloc, voice, old, new)?;
     say_focus(alloc, voice, new)
 }
 

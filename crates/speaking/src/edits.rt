@@ -9,7 +9,9 @@ ghost use Rattle.speaking.specs.Lines.{caret_index, caret_said, line_of_runs, te
 ghost use Rattle.speaking.specs.Edits.{runs_or_value, edited_text, selected_text, selection_said, IsWithoutNewline, SaysText, SaysLine, SaysCaret, SaysMoves, IsReadOf, SaysEdit, SaysArrival, held_of, SaysTextOf, SaysEdited, IsEdited, SaysFocused, SaysEnd};
 
 use crate::dialogs::is_same;
+use crate::news::News;
 use crate::reading::is_edited;
+use crate::regions::say_news;
 use accesskit_consumer::text::{NodeText, Text, TextSelections};
 use accesskit_consumer::{FullNodeId, NodeRef, StateRef};
 use hidden_texts::shown_value;
@@ -138,7 +140,7 @@ fn say_text(voice: &mut Voice, text: Option<&str>) -> Result<(), AllocError>
     ensures { OnOk result (SaysText (option_copied text.entry) voice.old voice.new) }
 {
     match text {
-        Some(text) => voice.say(Saying::OnLine(without_newline(text))),
+        Some(text) => voice.say_later(Saying::OnLine(without_newline(text))),
         None => Ok(()),
     }
 }
@@ -204,9 +206,9 @@ fn say_selection(voice: &mut Voice, before: &str, now: &str) -> Result<(), Alloc
         return Ok(());
     }
     if now.is_empty() {
-        return voice.say(Saying::Unselected(before));
+        return voice.say_later(Saying::Unselected(before));
     }
-    voice.say(Saying::Selected(now))
+    voice.say_later(Saying::Selected(now))
 }
 
 /// Says the line that the caret has moved to, and the selection if it is new.
@@ -236,7 +238,7 @@ fn say_edit(
         OnOk result (SaysEdit (world_at n) (id_at n) before.now now.now voice.old voice.new) }
 {
     match edit(before.text.as_str(), now.text.as_str()) {
-        Some(change) => voice.say(Saying::Changed(change)),
+        Some(change) => voice.say_later(Saying::Changed(change)),
         None => say_moves(alloc, voice, node, before, now),
     }
 }
@@ -328,7 +330,7 @@ fn say_focused(
     Ok(Some(say_edited(alloc, voice, held, node)?))
 }
 
-/// Says what changed in the focused text, then the postponed lines, and returns the text.
+/// Says what changed in the focused text, and what is new in live regions, and returns the text.
 ///
 /// # Errors
 ///
@@ -337,13 +339,15 @@ pub(crate) fn say_end(
     alloc: Global,
     voice: &mut Voice,
     held: Option<FocusedText>,
+    noted: &News,
     state: StateRef,
     focus: Option<FullNodeId>,
 ) -> Result<Option<FocusedText>, AllocError>
     ensures { let w = world_of state.entry in
-        IfOk result (λ now. SaysEnd w focus held now voice.old voice.new) }
+        IfOk result (λ now. SaysEnd w focus noted.now held now voice.old voice.new) }
 {
     let now = say_focused(alloc, voice, held, state, focus)?;
+    say_news(alloc, voice, state, noted)?;
     voice.say_waiting()?;
     Ok(now)
 }

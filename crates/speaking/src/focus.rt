@@ -85,5 +85,5 @@ pub(crate) fn say_focus(alloc: Global, voice: &mut Voice, node: NodeRef) -> Resu
     ensures { OnOk result (SaysFocus (seen_node node.entry) voice.old voice.new) }
 {
     let texts = texts_of(alloc, node)?;
-    voice.say(Saying::Focused(focus_of(node, &texts)))
+    voice.say_later(Saying::Focused(focus_of(node, &texts)))
 }

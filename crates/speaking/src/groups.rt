@@ -53,8 +53,8 @@ fn was_in_group(old: Option<&NodeRef<'_>>, group: NodeRef) -> bool
     }
 }
 
-/// Says a group, if it has a name.
-fn say_named(alloc: Global, voice: &mut Voice, group: NodeRef) -> Result<(), AllocError>
+/// Says a group or a header, if it has a name.
+pub(crate) fn say_named(alloc: Global, voice: &mut Voice, group: NodeRef) -> Result<(), AllocError>
     ensures { OnOk result (voice.new ≡ group_named (world_at group.entry) (id_at group.entry) voice.old) }
 {
     let label = shown_label(alloc, &group)?;
@@ -62,7 +62,7 @@ fn say_named(alloc: Global, voice: &mut Voice, group: NodeRef) -> Result<(), All
         return Ok(());
     };
     let role = role_word(group.role());
-    voice.say(Saying::InGroup(Group { role, label }))
+    voice.say_later(Saying::InGroup(Group { role, label }))
 }
 
 /// Says the nearest group above the new focus, unless the old focus was in it.

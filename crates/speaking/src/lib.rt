@@ -8,9 +8,12 @@ mod edits;
 mod focus;
 mod groups;
 mod handler;
+mod headers;
 pub mod laws;
 mod live;
+mod news;
 mod reading;
+mod regions;
 mod speaker;
 
 pub use speaker::Speaker;

@@ -1,4 +1,4 @@
-//! Live regions, whose changes are announced wherever the focus is.
+//! The texts of live regions, whose changes are announced wherever the focus is.
 ghost use Rattle.std.specs.Prelude.{◌≡◌, OnOk, option_copied};
 ghost use Rattle.std.specs.Option.{option_or};
 ghost use Rattle.schema.specs.Roles.{same_role};
@@ -8,8 +8,9 @@ ghost use Rattle.speaking.specs.Above.{AreRight, IsReady};
 ghost use Rattle.speaking.specs.LiveTexts.{is_live, is_told, own_text, is_space, says_something, unless_blank, told_text, TellsNew, TellsChange};
 
 use crate::above::{Above, LookUps, look_up};
+use crate::news::News;
 use accesskit_consumer::NodeRef;
-use phrases::{Voice, news};
+use phrases::news;
 use schema::{Live, Role};
 use std::alloc::{AllocError, Global};
 
@@ -66,7 +67,7 @@ fn own_text<'a>(node: NodeRef<'a>, above: Above) -> Option<&'a str>
 }
 
 /// Whether a byte is a space, a tab or part of a line end.
-fn is_space(byte: u8) -> bool
+pub(crate) fn is_space(byte: u8) -> bool
     ensures { result ≡ is_space byte }
 {
     matches!(byte, b' ' | b'\t' | b'\n' | b'\r')
@@ -90,7 +91,7 @@ fn unless_blank<'a>(text: Option<&'a str>) -> Option<&'a str>
 }
 
 /// The text to announce for a node, if its changes are announced.
-fn told_text<'a>(node: NodeRef<'a>, above: Above) -> Option<&'a str>
+pub(crate) fn told_text<'a>(node: NodeRef<'a>, above: Above) -> Option<&'a str>
     ensures { option_copied result ≡ told_text above (data_at node.entry) }
 {
     if !is_told(node, above) {
@@ -99,44 +100,44 @@ fn told_text<'a>(node: NodeRef<'a>, above: Above) -> Option<&'a str>
     unless_blank(own_text(node, above))
 }
 
-/// Announces a new node in a live region.
+/// Notes a new node in a live region.
 ///
 /// # Errors
 ///
 /// Returns `AllocError` if memory runs out.
 pub(crate) fn tell_new(
     alloc: Global,
-    voice: &mut Voice,
+    noted: &mut News,
     looks: &mut LookUps,
     node: NodeRef,
 ) -> Result<(), AllocError>
-    ensures tells { AreRight (world_at node.entry) looks.old.after → OnOk result (TellsNew (seen_node node.entry) voice.old voice.new) }
+    ensures tells { AreRight (world_at node.entry) looks.old.after → OnOk result (TellsNew (seen_node node.entry) noted.old noted.new) }
     ensures known { AreRight (world_at node.entry) looks.old.after → OnOk result (AreRight (world_at node.entry) looks.new.after) }
     ensures before { looks.new.before ≡ looks.old.before }
 {
     let above = look_up(alloc, &mut looks.after, node)?;
-    voice.tell(above.live, news(None, told_text(node, above)))
+    noted.note(node.id(), above.region, news(None, told_text(node, above)))
 }
 
-/// Announces a node in a live region whose text has changed.
+/// Notes a node in a live region whose text has changed.
 ///
 /// # Errors
 ///
 /// Returns `AllocError` if memory runs out.
 pub(crate) fn tell_change(
     alloc: Global,
-    voice: &mut Voice,
+    noted: &mut News,
     looks: &mut LookUps,
     old: NodeRef,
     new: NodeRef,
 ) -> Result<(), AllocError>
     ensures tells { let o = old.entry in let n = new.entry in
-        IsReady (world_at o) (world_at n) looks.old → OnOk result (TellsChange (seen_node o) (seen_node n) voice.old voice.new) }
+        IsReady (world_at o) (world_at n) looks.old → OnOk result (TellsChange (seen_node o) (seen_node n) noted.old noted.new) }
     ensures known { let o = world_at old.entry in let n = world_at new.entry in
         IsReady o n looks.old → OnOk result (IsReady o n looks.new) }
 {
     let before = look_up(alloc, &mut looks.before, old)?;
     let after = look_up(alloc, &mut looks.after, new)?;
     let said = news(told_text(old, before), told_text(new, after));
-    voice.tell(after.live, said)
+    noted.note(new.id(), after.region, said)
 }

@@ -4,17 +4,19 @@ ghost use Rattle.model.specs.World.{World};
 ghost use Rattle.views.specs.ShownWorlds.{world_of};
 ghost use Rattle.speaking.specs.Edits.{Settles};
 ghost use Rattle.speaking.specs.Events.{Begins, IsStillSaying, KnowsRightly};
-ghost use Rattle.speaking.specs.Speakers.{said_by, waiting_in, text_held_by, fell_silent};
+ghost use Rattle.speaking.specs.News.{no_news};
+ghost use Rattle.speaking.specs.Speakers.{said_by, waiting_in, text_held_by, news_of, fell_silent};
 
 use crate::above::LookUps;
 use crate::dialogs::say_move;
 use crate::edits::{FocusedText, say_end};
+use crate::news::News;
 use accesskit_consumer::{FullNodeId, StateRef};
 use phrases::Voice;
 use std::alloc::Global;
 
-/// Says the changes of a tree, as a handler of it. [`Speaker::settle`] ends a step, and [`Speaker::said`] returns the
-/// lines said since they were last cleared.
+/// Says the changes of a tree, as a handler of it. [`Speaker::settle`] ends a step and says what is to be said of it, and
+/// [`Speaker::said`] returns the lines said since they were last cleared.
 #[derive(Drop)]
 pub struct Speaker {
     pub(crate) alloc: Global,
@@ -23,6 +25,8 @@ pub struct Speaker {
     pub(crate) is_silent: bool,
     /// The focused text as it was last said.
     pub(crate) text: Option<FocusedText>,
+    /// What is new in live regions, to be said at the end of the step.
+    pub(crate) news: News,
     /// What nodes of a step say together with those above them.
     pub(crate) looks: LookUps,
 }
@@ -33,6 +37,7 @@ impl Speaker {
         ensures said { said_by result ≡ [] }
         ensures waiting { waiting_in result ≡ [] }
         ensures text { text_held_by result ≡ None }
+        ensures news { news_of result ≡ no_news }
         ensures silent { fell_silent result ≡ false }
     {
         Speaker {
@@ -40,6 +45,7 @@ impl Speaker {
             voice: Voice::new(alloc),
             is_silent: false,
             text: None,
+            news: News::new(alloc),
             looks: LookUps::new(alloc),
         }
     }
@@ -62,8 +68,9 @@ impl Speaker {
         self.looks = LookUps::new(self.alloc);
     }
 
-    /// Ends a step, after which the node with this id is focused: says what changed in the focused text, now that all
-    /// events were reported, and then the postponed lines. If memory runs out, the speaker falls silent.
+    /// Ends a step, after which the node with this id is focused. Now that all events were reported, all is said: assertive live regions
+    /// first, then what the events said of the focus and what changed in the focused text, and then polite live regions, those in the
+    /// order of the document. If memory runs out, the speaker falls silent.
     pub fn settle(&mut self, state: StateRef, focus: Option<FullNodeId>)
         ensures { Settles (world_of state.entry) focus self.old self.new }
     {
@@ -71,8 +78,11 @@ impl Speaker {
             return;
         }
         let held = self.text.take();
-        match say_end(self.alloc, &mut self.voice, held, state, focus) {
-            Ok(text) => self.text = text,
+        match say_end(self.alloc, &mut self.voice, held, &self.news, state, focus) {
+            Ok(text) => {
+                self.text = text;
+                self.news = News::new(self.alloc);
+            }
             Err(_) => self.is_silent = true,
         }
     }
@@ -96,6 +106,7 @@ impl Speaker {
         ensures said { said_by self.new ≡ [] }
         ensures waiting { waiting_in self.new ≡ waiting_in self.old }
         ensures text { text_held_by self.new ≡ text_held_by self.old }
+        ensures news { news_of self.new ≡ news_of self.old }
         ensures silent { fell_silent self.new ≡ fell_silent self.old }
     {
         self.voice.clear_said();

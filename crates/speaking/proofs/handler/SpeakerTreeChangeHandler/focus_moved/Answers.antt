@@ -11,4 +11,4 @@ pub returns : goal.returns
 returns c =
     let said = c.say_move-said in
     hears_event c.args.self.now (FocusMoved (seen_through c.args.old_node) (seen_through c.args.new_node)) _ c.if-self.false refl (λ old new of knows loud.
-    (without_error said.result (sym c.is_err-self.ensures.value ∙ loud) said.ensures, knows))
+    ((without_error said.result (sym c.is_err-self.ensures.value ∙ loud) said.ensures, refl), knows))

@@ -12,11 +12,11 @@ returns-then-self c = hears_nothing c.args.self.now (NodeAdded (seen_node c.args
 pub returns : goal.returns
 returns c =
     let s = c.args.self.now in
-    let said = c.say_added-said in
+    let said = c.note_added-noted in
     hears_event s (NodeAdded (seen_node c.args.node.now)) _ c.if-self.false refl (λ old new of knows loud.
     let right = subst (λ (w : World). AreRight w s.looks.after) (sym of) knows.1 in
     let done = sym c.is_err-self.ensures.value ∙ loud in (
-      without_error said.result done (said.ensures.says right),
+      (refl, without_error said.result done (said.ensures.says right)),
       (
         subst (AreRight old) (sym said.ensures.before) knows.0,
         subst (λ (w : World). AreRight w said.new.looks.after) of (without_error said.result done (said.ensures.known right)),
