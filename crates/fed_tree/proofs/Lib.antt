@@ -3,3 +3,4 @@ pub mod Commands
 pub mod Fed
 pub mod Found
 pub mod Keeping
+pub mod Places

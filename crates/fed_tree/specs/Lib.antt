@@ -4,4 +4,6 @@ pub mod Events
 pub mod Fed
 pub mod FedCodes
 pub mod Feeding
+pub mod Flags
 pub mod Reads
+pub mod Texts

@@ -4,9 +4,14 @@
 
 mod events;
 mod feeding;
+mod flags;
 mod reading;
 mod reads;
+mod shown;
 mod stage;
+mod text_places;
 
 pub use events::{Event, EventKind};
 pub use feeding::{FedTree, FeedError};
+pub use flags::Flag;
+pub use text_places::TextPlace;

@@ -40,7 +40,7 @@ impl FedTree {
 
     /// The node with this id, if the tree has it.
     #[tactic(auto, using(crate::proofs::Found::is_shown, crate::proofs::Found::is_missing))]
-    fn node(&self, id: FullNodeId) -> Option<NodeRef<'_>>
+    pub(crate) fn node(&self, id: FullNodeId) -> Option<NodeRef<'_>>
         ensures { IsFound self.now.world id result }
     {
         let tree = self.stage.tree.as_ref()?;
