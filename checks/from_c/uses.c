@@ -1,10 +1,11 @@
 /* What the calls answer where nothing is as it should be, and what becomes of a tree when each growth of memory fails in turn.
- * malloc and realloc are those below: linked with -Wl,--wrap=malloc,--wrap=realloc. Prints `N passed, M failed`. */
+ * malloc and realloc are those below: linked with -Wl,--wrap=malloc,--wrap=realloc. Its word is the path of reads.script. Prints `N passed, M failed`. */
 #include "accesskit_proved.h"
 #include <stdio.h>
 #include <stdlib.h>
 #include <string.h>
 
+static const char *script;
 static int passed, failed;
 static long until_failure = -1; /* growths before the one that fails; below 0 none does */
 
@@ -134,6 +135,111 @@ static void rooms(void) {
     ak_tree_close(&tree);
 }
 
+/* The script of reads.script, which the examples in Python and Rust read too. */
+static void feed_reads(ak_tree *tree) {
+    static char lines[4000];
+    ak_stop stop;
+    FILE *file = fopen(script, "rb");
+    size_t length = file ? fread(lines, 1, sizeof lines, file) : 0;
+    if (file) fclose(file);
+    CHECK(ak_tree_open(tree) == AK_DONE && length > 0 && feed_bytes(tree, lines, length, &stop) == AK_DONE);
+}
+
+static bool has_flag(ak_tree *tree, uint64_t node, uint8_t flag) {
+    bool is_set = false;
+    CHECK(ak_node_flag(tree, node, 0, flag, &is_set) == AK_DONE);
+    return is_set;
+}
+
+static uint64_t hit(ak_tree *tree, int64_t x, int64_t y, uint8_t filter) {
+    ak_id id = {0, 0};
+    return ak_node_hit(tree, 1, 0, x, y, filter, &id) == AK_DONE ? id.node : 0;
+}
+
+static void shown(void) {
+    ak_tree tree = AK_TREE_CLOSED;
+    ak_bounds box = {7, 7, 7, 7};
+    ak_id id = {7, 7}, ids[4];
+    bool is_set = true;
+    uint8_t answer = 7;
+    size_t count = 7;
+    CHECK(ak_node_bounds(&tree, 2, 0, &box) == AK_CLOSED && ak_node_flag(&tree, 7, 0, AK_DISABLED, &is_set) == AK_CLOSED);
+    CHECK(ak_node_filter(&tree, 2, 0, AK_COMMON, &answer) == AK_CLOSED && ak_node_hit(&tree, 1, 0, 20, 20, AK_COMMON, &id) == AK_CLOSED);
+    CHECK(ak_node_filtered_parent(&tree, 8, 0, AK_COMMON, &id) == AK_CLOSED && ak_node_filtered_children(&tree, 1, 0, AK_COMMON, ids, 4, &count) == AK_CLOSED);
+    feed_reads(&tree);
+    CHECK(ak_node_bounds(&tree, 6, 0, &box) == AK_NOTHING && ak_node_bounds(&tree, 99, 0, &box) == AK_NOTHING);
+    CHECK(ak_node_flag(&tree, 99, 0, AK_HIDDEN, &is_set) == AK_NOTHING && ak_node_flag(&tree, 2, 0, AK_INVOCABLE + 1, &is_set) == AK_NOTHING);
+    CHECK(ak_node_flag(&tree, 2, 0, 255, &is_set) == AK_NOTHING && ak_node_filter(&tree, 2, 0, AK_COMMON_WITH_ROOT + 1, &answer) == AK_NOTHING);
+    CHECK(ak_node_hit(&tree, 1, 0, 20, 20, 255, &id) == AK_NOTHING && ak_node_hit(&tree, 1, 0, INT64_MIN, INT64_MAX, AK_ALL, &id) == AK_NOTHING);
+    CHECK(ak_node_filtered_parent(&tree, 1, 0, AK_ALL, &id) == AK_NOTHING && ak_node_filtered_children(&tree, 1, 0, 9, ids, 4, &count) == AK_NOTHING);
+    CHECK(box.x0 == 7 && box.y1 == 7 && is_set && answer == 7 && count == 7 && id.node == 7 && id.tree == 7);
+    CHECK(ak_node_bounds(&tree, 3, 0, &box) == AK_DONE && box.x0 == 300 && box.y0 == 200 && box.x1 == 500 && box.y1 == 400);
+    CHECK(has_flag(&tree, 7, AK_HIDDEN) && !has_flag(&tree, 8, AK_HIDDEN) && has_flag(&tree, 8, AK_DISABLED) && !has_flag(&tree, 2, AK_DISABLED));
+    CHECK(has_flag(&tree, 2, AK_FOCUSABLE) && !has_flag(&tree, 8, AK_FOCUSABLE) && has_flag(&tree, 2, AK_INVOCABLE) && !has_flag(&tree, 2, AK_GRAFT));
+    CHECK(has_flag(&tree, 3, AK_SUPPORTS_TEXT_RANGES) && has_flag(&tree, 3, AK_TEXT_INPUT) && !has_flag(&tree, 3, AK_READ_ONLY));
+    CHECK(has_flag(&tree, 8, AK_SUPPORTS_TOGGLE) && !has_flag(&tree, 8, AK_SUPPORTS_INCREMENT) && has_flag(&tree, 2, AK_CLICKABLE));
+    CHECK(hit(&tree, 20, 20, AK_COMMON) == 2 && hit(&tree, 310, 210, AK_COMMON) == 3 && hit(&tree, 600, 600, AK_ALL) == 1 && hit(&tree, 1000, 0, AK_ALL) == 0);
+    CHECK(ak_node_filter(&tree, 6, 0, AK_COMMON, &answer) == AK_DONE && answer == AK_EXCLUDE_NODE);
+    CHECK(ak_node_filter(&tree, 6, 0, AK_ALL, &answer) == AK_DONE && answer == AK_INCLUDE);
+    CHECK(ak_node_filter(&tree, 7, 0, AK_COMMON_WITH_ROOT, &answer) == AK_DONE && answer == AK_EXCLUDE_SUBTREE);
+    CHECK(ak_node_filtered_children(&tree, 1, 0, AK_COMMON, ids, 4, &count) == AK_DONE && count == 3 && ids[1].node == 3 && ids[2].node == 8);
+    CHECK(ak_node_filtered_children(&tree, 1, 0, AK_COMMON, NULL, 0, &count) == AK_DONE && count == 3);
+    CHECK(ak_node_filtered_parent(&tree, 8, 0, AK_COMMON, &id) == AK_DONE && id.node == 1 && id.tree == 0);
+    CHECK(ak_node_filtered_parent(&tree, 8, 0, AK_ALL, &id) == AK_DONE && id.node == 6);
+    ak_tree_close(&tree);
+}
+
+static bool is_at(const ak_position *position, uint64_t run, size_t character, size_t index, bool is_end) {
+    return position->run == run && position->character == character && position->index == index && position->is_end == is_end && position->line == 0;
+}
+
+static void texts(void) {
+    ak_tree tree = AK_TREE_CLOSED;
+    ak_position at = {7, 7, 7, 7, 7, true};
+    uint8_t text[8] = {0};
+    size_t length = 7;
+    CHECK(ak_text_position(&tree, 3, 0, 0, false, &at) == AK_CLOSED && ak_text_move(&tree, 3, 0, 0, false, AK_DOCUMENT_END, &at) == AK_CLOSED);
+    CHECK(ak_text_selection_anchor(&tree, 3, 0, &at) == AK_CLOSED && ak_text_selection_focus(&tree, 3, 0, &at) == AK_CLOSED);
+    CHECK(ak_text_between(&tree, 3, 0, 0, 1, text, 8, &length) == AK_CLOSED && length == 7);
+    feed_reads(&tree);
+    CHECK(ak_text_position(&tree, 3, 0, 7, false, &at) == AK_NOTHING && ak_text_position(&tree, 3, 0, SIZE_MAX, true, &at) == AK_NOTHING);
+    CHECK(ak_text_position(&tree, 2, 0, 0, false, &at) == AK_NOTHING && ak_text_move(&tree, 99, 0, 0, false, AK_DOCUMENT_END, &at) == AK_NOTHING);
+    CHECK(ak_text_move(&tree, 3, 0, 0, false, AK_DOCUMENT_START + 1, &at) == AK_NOTHING && ak_text_move(&tree, 3, 0, 0, false, 255, &at) == AK_NOTHING);
+    CHECK(ak_text_move(&tree, 3, 0, 6, false, AK_FORWARD_TO_CHARACTER_END, &at) == AK_NOTHING);
+    CHECK(ak_text_move(&tree, 3, 0, 0, false, AK_BACKWARD_TO_CHARACTER_START, &at) == AK_NOTHING && is_at(&at, 7, 7, 7, true) == false && at.run == 7);
+    CHECK(ak_text_between(&tree, 3, 0, 0, 7, text, 8, &length) == AK_NOTHING && ak_text_between(&tree, 3, 0, SIZE_MAX, 0, text, 8, &length) == AK_NOTHING);
+    CHECK(length == 7 && text[0] == 0);
+    CHECK(ak_text_selection_anchor(&tree, 2, 0, &at) == AK_NOTHING && ak_text_selection_focus(&tree, 99, 0, &at) == AK_NOTHING && at.run == 7);
+    CHECK(ak_text_selection_anchor(&tree, 3, 0, &at) == AK_DONE && is_at(&at, 4, 1, 1, false));
+    CHECK(ak_text_selection_focus(&tree, 3, 0, &at) == AK_DONE && is_at(&at, 5, 1, 5, false) && at.utf16_index == 5);
+    CHECK(ak_text_position(&tree, 3, 0, 4, false, &at) == AK_DONE && is_at(&at, 5, 0, 4, false));
+    CHECK(ak_text_position(&tree, 3, 0, 4, true, &at) == AK_DONE && is_at(&at, 4, 4, 4, true));
+    CHECK(ak_text_move(&tree, 3, 0, 0, false, AK_FORWARD_TO_WORD_START, &at) == AK_DONE && is_at(&at, 4, 3, 3, false) && at.utf16_index == 3);
+    CHECK(ak_text_move(&tree, 3, 0, at.index, at.is_end, AK_FORWARD_TO_WORD_END, &at) == AK_DONE && is_at(&at, 4, 4, 4, true));
+    CHECK(ak_text_move(&tree, 3, 0, at.index, at.is_end, AK_FORWARD_TO_CHARACTER_START, &at) == AK_DONE && is_at(&at, 5, 1, 5, false));
+    CHECK(ak_text_move(&tree, 3, 0, at.index, at.is_end, AK_FORWARD_TO_LINE_END, &at) == AK_DONE && is_at(&at, 5, 2, 6, false) && at.utf16_index == 7);
+    for (size_t room = 0; room <= sizeof text; room++) {
+        memset(text, '-', sizeof text);
+        CHECK(ak_text_between(&tree, 3, 0, 1, 5, text, room, &length) == AK_DONE && length == 4 && memcmp(text, "b cd", room < 4 ? room : 4) == 0);
+        for (size_t i = room < 4 ? room : 4; i < sizeof text; i++) CHECK(text[i] == '-');
+    }
+    CHECK(ak_text_between(&tree, 3, 0, 5, 4, text, 8, &length) == AK_DONE && length == 0);
+    for (long growth = 0; growth < 20; growth++) {
+        ak_id ids[4] = {{9, 9}};
+        memset(text, 0, sizeof text);
+        until_failure = growth;
+        length = 9;
+        uint8_t answer = ak_text_between(&tree, 3, 0, 4, 6, text, 8, &length);
+        CHECK(answer == AK_DONE ? length == 5 && text[0] == 'd' : answer == AK_NO_MEMORY && length == 9 && text[0] == 0);
+        until_failure = growth;
+        length = 9;
+        answer = ak_node_filtered_children(&tree, 1, 0, AK_COMMON, ids, 4, &length);
+        CHECK(answer == AK_DONE ? length == 3 : answer == AK_NO_MEMORY && length == 9 && ids[0].node == 9);
+    }
+    until_failure = -1;
+    ak_tree_close(&tree);
+}
+
 /* Each growth of a feed fails in turn: either nothing is carried out, or as much as is answered. */
 static void growths(void) {
     char before[4000], between[4000], after[4000], told[4000];
@@ -184,10 +290,14 @@ static void growths(void) {
     ak_tree_close(&tree);
 }
 
-int main(void) {
+int main(int count, char **words) {
+    if (count != 2) return 2;
+    script = words[1];
     closed_handles();
     bad_lines();
     rooms();
+    shown();
+    texts();
     growths();
     printf("%d passed, %d failed\n", passed, failed);
     return failed != 0;

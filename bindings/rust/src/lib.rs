@@ -35,6 +35,24 @@ mod raw {
         pub node: u64,
         pub rule: u8,
     }
+    #[repr(C)]
+    #[derive(Clone, Copy, Debug, Default, PartialEq, Eq)]
+    pub struct Bounds {
+        pub x0: i64,
+        pub y0: i64,
+        pub x1: i64,
+        pub y1: i64,
+    }
+    #[repr(C)]
+    #[derive(Clone, Copy, Debug, Default, PartialEq, Eq)]
+    pub struct Position {
+        pub run: u64,
+        pub character: usize,
+        pub index: usize,
+        pub utf16_index: usize,
+        pub line: usize,
+        pub is_end: bool,
+    }
     extern "C" {
         pub fn ak_tree_open(tree: &mut Tree) -> u8;
         pub fn ak_tree_close(tree: &mut Tree);
@@ -49,7 +67,100 @@ mod raw {
         pub fn ak_node_label(tree: &mut Tree, node: u64, tree_index: u32, buffer: *mut u8, room: usize, length: &mut usize) -> u8;
         pub fn ak_node_value(tree: &mut Tree, node: u64, tree_index: u32, buffer: *mut u8, room: usize, length: &mut usize) -> u8;
         pub fn ak_node_text(tree: &mut Tree, node: u64, tree_index: u32, buffer: *mut u8, room: usize, length: &mut usize) -> u8;
+        pub fn ak_node_bounds(tree: &mut Tree, node: u64, tree_index: u32, bounds: &mut Bounds) -> u8;
+        pub fn ak_node_flag(tree: &mut Tree, node: u64, tree_index: u32, flag: u8, is_set: &mut bool) -> u8;
+        pub fn ak_node_filter(tree: &mut Tree, node: u64, tree_index: u32, filter: u8, answer: &mut u8) -> u8;
+        pub fn ak_node_hit(tree: &mut Tree, node: u64, tree_index: u32, x: i64, y: i64, filter: u8, hit: &mut Id) -> u8;
+        pub fn ak_node_filtered_parent(tree: &mut Tree, node: u64, tree_index: u32, filter: u8, parent: &mut Id) -> u8;
+        pub fn ak_node_filtered_children(tree: &mut Tree, node: u64, tree_index: u32, filter: u8, buffer: *mut Id, room: usize, count: &mut usize) -> u8;
+        pub fn ak_text_position(tree: &mut Tree, node: u64, tree_index: u32, index: usize, is_end: bool, position: &mut Position) -> u8;
+        pub fn ak_text_move(tree: &mut Tree, node: u64, tree_index: u32, index: usize, is_end: bool, movement: u8, position: &mut Position) -> u8;
+        pub fn ak_text_selection_anchor(tree: &mut Tree, node: u64, tree_index: u32, anchor: &mut Position) -> u8;
+        pub fn ak_text_selection_focus(tree: &mut Tree, node: u64, tree_index: u32, focus: &mut Position) -> u8;
+        pub fn ak_text_between(tree: &mut Tree, node: u64, tree_index: u32, from: usize, to: usize, buffer: *mut u8, room: usize, length: &mut usize) -> u8;
     }
+}
+
+/// A rectangle, in units of 1/64 pixel. An edge beyond 64 bits is the nearest number within them.
+pub use raw::Bounds;
+
+/// A position in the text of a node: its run, and how many of the run's characters are before it; how many scalars, and how many UTF-16
+/// code units, of the text are before it; the number of its line, from 0. Where two runs meet, `is_end` is the end of the first.
+pub use raw::Position;
+
+/// A question about a node that is answered by yes or no: the library's call of that name, as `is_hidden` or `supports_toggle`. From
+/// `Focusable` on the common filter counts.
+#[derive(Clone, Copy, Debug, PartialEq, Eq)]
+pub enum Flag {
+    Hidden,
+    Disabled,
+    Busy,
+    Modal,
+    Required,
+    Multiselectable,
+    LiveAtomic,
+    TouchTransparent,
+    ClipsChildren,
+    Italic,
+    ReadOnly,
+    ReadOnlySupported,
+    TextInput,
+    Multiline,
+    PasswordInput,
+    Dialog,
+    ItemLike,
+    Graft,
+    Selectable,
+    SupportsToggle,
+    SupportsExpandCollapse,
+    SupportsUrl,
+    SupportsTextRanges,
+    Focusable,
+    Clickable,
+    SupportsIncrement,
+    SupportsDecrement,
+    Invocable,
+}
+
+/// A filter by its name in the library; `All` includes every node.
+#[derive(Clone, Copy, Debug, PartialEq, Eq)]
+pub enum Filter {
+    All,
+    Common,
+    CommonWithRoot,
+}
+
+/// A filter's answer for a node.
+#[derive(Clone, Copy, Debug, PartialEq, Eq)]
+pub enum FilterResult {
+    Include,
+    ExcludeNode,
+    ExcludeSubtree,
+}
+
+/// A movement of the caret.
+#[derive(Clone, Copy, Debug, PartialEq, Eq)]
+pub enum Move {
+    ForwardToCharacterStart,
+    ForwardToCharacterEnd,
+    BackwardToCharacterStart,
+    ForwardToFormatStart,
+    ForwardToFormatEnd,
+    BackwardToFormatStart,
+    ForwardToWordStart,
+    ForwardToWordEnd,
+    BackwardToWordStart,
+    ForwardToLineStart,
+    ForwardToLineEnd,
+    BackwardToLineStart,
+    ForwardToParagraphStart,
+    ForwardToParagraphEnd,
+    BackwardToParagraphStart,
+    ForwardToPageStart,
+    ForwardToPageEnd,
+    DocumentEnd,
+    BackwardToPageStart,
+    DocumentStart,
 }
 
 /// A node's id: the index of its tree, and its id there.
@@ -147,17 +258,80 @@ impl Tree {
         self.id(|tree, id| unsafe { raw::ak_node_parent(tree, of.node, of.tree, id) })
     }
 
+    /// One value, if there is one.
+    fn one<T: Default>(&mut self, call: impl Fn(&mut raw::Tree, &mut T) -> u8) -> Option<T> {
+        let mut found = T::default();
+        (call(&mut self.raw, &mut found) == DONE).then_some(found)
+    }
+
     fn id(&mut self, call: impl Fn(&mut raw::Tree, &mut raw::Id) -> u8) -> Option<Id> {
-        let mut id = raw::Id::default();
-        (call(&mut self.raw, &mut id) == DONE).then_some(Id { tree: id.tree, node: id.node })
+        self.one(call).map(|id: raw::Id| Id { tree: id.tree, node: id.node })
     }
 
     pub fn children(&mut self, of: Id) -> Result<Option<Vec<Id>>, Error> {
-        let call = |tree: &mut raw::Tree, buffer: &mut [raw::Id], count: &mut usize| unsafe {
-            raw::ak_node_children(tree, of.node, of.tree, buffer.as_mut_ptr(), buffer.len(), count)
-        };
+        self.ids(|tree, buffer, count| unsafe { raw::ak_node_children(tree, of.node, of.tree, buffer.as_mut_ptr(), buffer.len(), count) })
+    }
+
+    fn ids(&mut self, call: impl Fn(&mut raw::Tree, &mut [raw::Id], &mut usize) -> u8) -> Result<Option<Vec<Id>>, Error> {
         let found = self.list(call)?;
         Ok(found.map(|ids| ids.iter().map(|id| Id { tree: id.tree, node: id.node }).collect()))
+    }
+
+    /// The node's rectangle after all translations.
+    pub fn bounds(&mut self, of: Id) -> Option<Bounds> {
+        self.one(|tree, bounds| unsafe { raw::ak_node_bounds(tree, of.node, of.tree, bounds) })
+    }
+
+    pub fn flag(&mut self, of: Id, flag: Flag) -> Option<bool> {
+        self.one(|tree, is_set| unsafe { raw::ak_node_flag(tree, of.node, of.tree, flag as u8, is_set) })
+    }
+
+    pub fn filter(&mut self, of: Id, filter: Filter) -> Option<FilterResult> {
+        let answer = self.one(|tree, answer| unsafe { raw::ak_node_filter(tree, of.node, of.tree, filter as u8, answer) })?;
+        [FilterResult::Include, FilterResult::ExcludeNode, FilterResult::ExcludeSubtree].get(usize::from(answer)).copied()
+    }
+
+    /// The node at a point in the coordinates of a node, among this one and those below it.
+    pub fn hit(&mut self, within: Id, x: i64, y: i64, filter: Filter) -> Option<Id> {
+        self.id(|tree, id| unsafe { raw::ak_node_hit(tree, within.node, within.tree, x, y, filter as u8, id) })
+    }
+
+    pub fn filtered_parent(&mut self, of: Id, filter: Filter) -> Option<Id> {
+        self.id(|tree, id| unsafe { raw::ak_node_filtered_parent(tree, of.node, of.tree, filter as u8, id) })
+    }
+
+    pub fn filtered_children(&mut self, of: Id, filter: Filter) -> Result<Option<Vec<Id>>, Error> {
+        self.ids(|tree, buffer, count| unsafe {
+            raw::ak_node_filtered_children(tree, of.node, of.tree, filter as u8, buffer.as_mut_ptr(), buffer.len(), count)
+        })
+    }
+
+    /// The position in the node's text before which it has so many scalars: where two runs meet, the end of the first, or the start of
+    /// the second.
+    pub fn text_position(&mut self, of: Id, index: usize, is_end: bool) -> Option<Position> {
+        self.one(|tree, position| unsafe { raw::ak_text_position(tree, of.node, of.tree, index, is_end, position) })
+    }
+
+    /// Where a movement of the caret from there ends.
+    pub fn text_move(&mut self, of: Id, index: usize, is_end: bool, by: Move) -> Option<Position> {
+        self.one(|tree, position| unsafe { raw::ak_text_move(tree, of.node, of.tree, index, is_end, by as u8, position) })
+    }
+
+    /// The fixed end of the selection in the node's text.
+    pub fn text_selection_anchor(&mut self, of: Id) -> Option<Position> {
+        self.one(|tree, position| unsafe { raw::ak_text_selection_anchor(tree, of.node, of.tree, position) })
+    }
+
+    /// The moving end of the selection in the node's text, where the caret is.
+    pub fn text_selection_focus(&mut self, of: Id) -> Option<Position> {
+        self.one(|tree, position| unsafe { raw::ak_text_selection_focus(tree, of.node, of.tree, position) })
+    }
+
+    /// The node's text from one index up to another, which count its scalars.
+    pub fn text_between(&mut self, of: Id, from: usize, to: usize) -> Result<Option<String>, Error> {
+        self.text_in(|tree, buffer, length| unsafe {
+            raw::ak_text_between(tree, of.node, of.tree, from, to, buffer.as_mut_ptr(), buffer.len(), length)
+        })
     }
 
     /// The name of the node's role.
@@ -179,7 +353,11 @@ impl Tree {
     }
 
     fn text_by(&mut self, call: TextCall, of: Id) -> Result<Option<String>, Error> {
-        let bytes = self.list(|tree, buffer, length| unsafe { call(tree, of.node, of.tree, buffer.as_mut_ptr(), buffer.len(), length) })?;
+        self.text_in(|tree, buffer, length| unsafe { call(tree, of.node, of.tree, buffer.as_mut_ptr(), buffer.len(), length) })
+    }
+
+    fn text_in(&mut self, call: impl Fn(&mut raw::Tree, &mut [u8], &mut usize) -> u8) -> Result<Option<String>, Error> {
+        let bytes = self.list(call)?;
         Ok(bytes.and_then(|bytes| String::from_utf8(bytes).ok()))
     }
 

@@ -1,5 +1,6 @@
 pub mod Answers
 pub mod Held
+pub mod Numbers
 pub mod Questions
 pub mod Records
 pub mod Stops

@@ -6,16 +6,27 @@ mod buffers;
 mod events;
 mod feed;
 mod handle;
+mod node_texts;
 mod nodes;
+mod numbers;
 mod opened;
 mod records;
+mod shown;
 mod tree;
 
 pub use events::{ak_tree_event, ak_tree_event_count};
 pub use feed::ak_tree_feed;
 pub use handle::Handle;
+pub use node_texts::{
+    ak_text_between, ak_text_move, ak_text_position, ak_text_selection_anchor,
+    ak_text_selection_focus,
+};
 pub use nodes::{
     ak_node_children, ak_node_label, ak_node_parent, ak_node_role, ak_node_text, ak_node_value,
 };
-pub use records::{AkEvent, AkId, AkStop};
+pub use records::{AkBounds, AkEvent, AkId, AkPosition, AkStop};
+pub use shown::{
+    ak_node_bounds, ak_node_filter, ak_node_filtered_children, ak_node_filtered_parent,
+    ak_node_flag, ak_node_hit,
+};
 pub use tree::{ak_tree_close, ak_tree_focus, ak_tree_open, ak_tree_root};

@@ -55,6 +55,34 @@ pub struct AkStop {
     pub rule: u8,
 }
 
+/// A node's rectangle after all translations, in units of 1/64 pixel. An edge beyond 64 bits is the nearest number within them.
+#[repr(C)]
+#[derive(Clone, Copy)]
+pub struct AkBounds {
+    pub x0: i64,
+    pub y0: i64,
+    pub x1: i64,
+    pub y1: i64,
+}
+
+/// A position in the text of a node, by all its names.
+#[repr(C)]
+#[derive(Clone, Copy)]
+pub struct AkPosition {
+    /// The id of its run in the node's tree.
+    pub run: u64,
+    /// How many of the run's characters are before it.
+    pub character: usize,
+    /// How many scalars of the text are before it.
+    pub index: usize,
+    /// How many UTF-16 code units of the text are before it.
+    pub utf16_index: usize,
+    /// The number of its line, counted from 0.
+    pub line: usize,
+    /// Whether it is the end of a run that another follows. With `index` it names the position.
+    pub is_end: bool,
+}
+
 /// The id, as C sees it.
 pub(crate) fn id_of(id: FullNodeId) -> AkId
     ensures { result ≡ id_of id }
@@ -75,15 +103,22 @@ pub(crate) fn node_id(node: u64, tree: u32) -> FullNodeId
     }
 }
 
-/// Writes an id, if one was found.
-pub(crate) fn give_id(found: Option<FullNodeId>, id: &mut AkId) -> u8
-    ensures { Gives (option_map id_of found) result id.old id.new }
+/// Writes what was found, if it was.
+pub(crate) fn give<T: Copy>(found: Option<T>, place: &mut T) -> u8
+    ensures { Gives found result place.old place.new }
 {
     match found {
         Some(found) => {
-            *id = id_of(found);
+            *place = found;
             DONE
         }
         None => NOTHING,
     }
+}
+
+/// Writes an id, if one was found.
+pub(crate) fn give_id(found: Option<FullNodeId>, id: &mut AkId) -> u8
+    ensures { Gives (option_map id_of found) result id.old id.new }
+{
+    give(found.map(id_of), id)
 }

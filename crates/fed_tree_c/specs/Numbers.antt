@@ -1,0 +1,81 @@
+-- What C says by numbers.
+use Rattle.std.specs.Prelude.{ℕ, Bool, List, [], ◌∷◌, if◌then◌else◌}
+use Rattle.model.specs.declared.filters.FilterResult.{FilterResult}
+use Rattle.model.specs.declared.filters.FilterResult.TheVariants as answer
+use Rattle.model.specs.declared.queries.At.{At}
+use Rattle.model.specs.declared.queries.Move.{Move}
+use Rattle.model.specs.declared.queries.Move.TheVariants as move
+use Rattle.model.specs.declared.queries.NamedFilter.{NamedFilter}
+use Rattle.model.specs.declared.queries.NamedFilter.TheVariants as filter
+use Rattle.model.specs.declared.queries.Side.TheVariants.{Start, End}
+use Rattle.fed_tree.specs.declared.flags.Flag.{Flag}
+use Rattle.fed_tree.specs.declared.flags.Flag.TheVariants as flag
+
+-- each of these has its place in the list as its number, counted from 0
+abbrev pub all_flags : List Flag
+all_flags =
+    flag.Hidden
+    ∷ flag.Disabled
+    ∷ flag.Busy
+    ∷ flag.Modal
+    ∷ flag.Required
+    ∷ flag.Multiselectable
+    ∷ flag.LiveAtomic
+    ∷ flag.TouchTransparent
+    ∷ flag.ClipsChildren
+    ∷ flag.Italic
+    ∷ flag.ReadOnly
+    ∷ flag.ReadOnlySupported
+    ∷ flag.TextInput
+    ∷ flag.Multiline
+    ∷ flag.PasswordInput
+    ∷ flag.Dialog
+    ∷ flag.ItemLike
+    ∷ flag.Graft
+    ∷ flag.Selectable
+    ∷ flag.SupportsToggle
+    ∷ flag.SupportsExpandCollapse
+    ∷ flag.SupportsUrl
+    ∷ flag.SupportsTextRanges
+    ∷ flag.Focusable
+    ∷ flag.Clickable
+    ∷ flag.SupportsIncrement
+    ∷ flag.SupportsDecrement
+    ∷ flag.Invocable
+    ∷ []
+
+abbrev pub all_filters : List NamedFilter
+all_filters = filter.All ∷ filter.Common ∷ filter.CommonWithRoot ∷ []
+
+abbrev pub all_moves : List Move
+all_moves =
+    move.ForwardToCharacterStart
+    ∷ move.ForwardToCharacterEnd
+    ∷ move.BackwardToCharacterStart
+    ∷ move.ForwardToFormatStart
+    ∷ move.ForwardToFormatEnd
+    ∷ move.BackwardToFormatStart
+    ∷ move.ForwardToWordStart
+    ∷ move.ForwardToWordEnd
+    ∷ move.BackwardToWordStart
+    ∷ move.ForwardToLineStart
+    ∷ move.ForwardToLineEnd
+    ∷ move.BackwardToLineStart
+    ∷ move.ForwardToParagraphStart
+    ∷ move.ForwardToParagraphEnd
+    ∷ move.BackwardToParagraphStart
+    ∷ move.ForwardToPageStart
+    ∷ move.ForwardToPageEnd
+    ∷ move.DocumentEnd
+    ∷ move.BackwardToPageStart
+    ∷ move.DocumentStart
+    ∷ []
+
+abbrev pub answer_number : FilterResult → ℕ
+answer_number answer.Include = 0
+answer_number answer.ExcludeNode = 1
+answer_number answer.ExcludeSubtree = 2
+
+-- an index in a text, and whether the end of the run before it is meant where two runs meet
+abbrev pub at_index : ℕ → Bool → At
+at_index index is_end = record { index = index; side = if is_end then End else Start }
