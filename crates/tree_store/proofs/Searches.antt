@@ -4,6 +4,7 @@ use Rattle.std.specs.List.Sorted.{IsStrictlySortedBy, IsBinarySearchResult, IsSo
 use Rattle.std.specs.Map.{keys_of}
 use Rattle.std.specs.Ordering.{is_lt, ordering_reverse}
 use Rattle.std.specs.declared.cmp.Ordering.TheVariants.{Less, Equal}
+use Rattle.std.specs.Cmp.{tied_itself}
 use Rattle.std.proofs.lemmas.Cmp.{eq_by_cmp_equiv}
 use Rattle.std.proofs.lemmas.List.{get_or-map}
 use Rattle.std.proofs.lemmas.List.Sorted.{searchable_from_sorted}
@@ -20,6 +21,9 @@ module _ (es : NodeChanges) (sorted : IsStrictlySortedBy full_cmp (map (λ e. e.
   found i d in_range same =
       lookup_from_place (eq_by_cmp_equiv full_total) es i id (get_or es i d).1 (IsDistinct-from_sorted full_cmp (keys_of es) sorted)
       (slice_get-get_or es i d in_range ∙ ap (λ k. Some (k, (get_or es i d).1)) (exact_full (get_or es i d).0 id same))
+
+  pub found_here : (i : ℕ) (d : FullNodeId × NodeChange) → i < length es → (get_or es i d).0 ≡ id → change_at es id ≡ Some (get_or es i d).1
+  found_here i d in_range same = found i d in_range (ap (λ k. full_cmp k id) same ∙ tied_itself full_total id)
 
   pub below_by : (i j : ℕ) (d : FullNodeId × NodeChange) → i < j → j < length es → full_cmp (get_or es i d).0 (get_or es j d).0 ≡ Less
   below_by i j d less in_range =

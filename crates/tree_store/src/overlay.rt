@@ -1,5 +1,5 @@
 //! An update's changes laid over a state.
-ghost use Rattle.std.specs.Prelude.{◌≡◌, ◌==◌, ◌<◌, ◌^◌, ℕ, List, map, drop, option_copied, option_map, option_and_then, slice_get, Some, None, IsSome, cond};
+ghost use Rattle.std.specs.Prelude.{◌≡◌, ◌==◌, ◌<◌, ◌^◌, ℕ, List, map, drop, option_copied, option_map, option_and_then, slice_get, Some, None, IsSome, IfSome, IsTrue, ◌↔◌, cond};
 ghost use Rattle.std.specs.FinMap.{len};
 ghost use Rattle.std.specs.List.Sorted.{IsStrictlySortedBy};
 ghost use Rattle.schema.specs.UpdateData.{update_data, info_data};
@@ -22,7 +22,7 @@ ghost use Rattle.tree_store.specs.Overlays.{laid_over, replacing, root_recorded,
 use crate::store::Store;
 use model::{FullNodeId, Place};
 use schema::{Node, NodeId, TreeId, TreeInfo, TreeUpdate};
-use tree_changes::{Decision, NodeChange, TreeRecord};
+use tree_changes::{Decision, NodeChange, NodeRecord, TreeRecord};
 
 /// A decision on an update, with the update that holds the data.
 #[derive(Clone, Copy)]
@@ -38,6 +38,53 @@ pub(crate) fn change_of(changes: &[(FullNodeId, NodeChange)], id: FullNodeId) ->
 {
     match changes.binary_search_by_key(&id, |entry| entry.0) {
         Ok(found) => Some(changes[found].1),
+        Err(_) => None,
+    }
+}
+
+fn is_same(a: FullNodeId, b: FullNodeId) -> bool
+    ensures { IsTrue result ↔ (a ≡ b) }
+{
+    a == b
+}
+
+/// The change of the node, if the entry at an index is its.
+fn change_here(
+    changes: &[(FullNodeId, NodeChange)],
+    id: FullNodeId,
+    index: usize,
+) -> Option<NodeChange>
+    requires { IsStrictlySortedBy full_cmp (map (λ e. e.0) changes.now) }
+    ensures { IfSome result (λ change. change_at changes.now id ≡ Some change) }
+{
+    if index >= changes.len() {
+        return None;
+    }
+    if is_same(changes[index].0, id) {
+        return Some(changes[index].1);
+    }
+    None
+}
+
+/// The change of a node, as by `change_of`. The entry at `near` is tried first, and `near` is set to the one after it, so
+/// that looking up ascending ids needs no search.
+fn change_near(
+    changes: &[(FullNodeId, NodeChange)],
+    id: FullNodeId,
+    near: &mut usize,
+) -> Option<NodeChange>
+    requires { IsStrictlySortedBy full_cmp (map (λ e. e.0) changes.now) }
+    ensures { result ≡ change_at changes.now id }
+{
+    if let Some(change) = change_here(changes, id, *near) {
+        *near = near.saturating_add(1);
+        return Some(change);
+    }
+    match changes.binary_search_by_key(&id, |entry| entry.0) {
+        Ok(found) => {
+            *near = found.saturating_add(1);
+            Some(changes[found].1)
+        }
         Err(_) => None,
     }
 }
@@ -76,6 +123,23 @@ pub(crate) fn changed_place(change: NodeChange) -> Option<Place>
         NodeChange::Put { place, .. } => place,
         NodeChange::Gone => None,
     }
+}
+
+/// The place and data of a node after a change.
+fn record_after<'b>(
+    base: &'b Store,
+    nodes: &'b [(NodeId, Node)],
+    id: FullNodeId,
+    change: NodeChange,
+) -> Option<NodeRecord<'b>>
+    ensures data { option_map (λ r. r.node.now) result ≡ changed_data nodes.now change (data_of base.now.world id) }
+    ensures place { IfSome result (λ r. r.place ≡ place_in change) }
+{
+    let node = changed_node(base, nodes, id, change)?;
+    Some(NodeRecord {
+        place: changed_place(change),
+        node,
+    })
 }
 
 /// The changed record of a tree id, if it changes.
@@ -158,6 +222,31 @@ impl<'a> Overlay<'a> {
         match self.change(id) {
             Some(change) => changed_node(base, self.update.nodes.as_slice(), id, change),
             None => base.get(id),
+        }
+    }
+
+    fn change_by(self, id: FullNodeId, near: &mut usize) -> Option<NodeChange>
+        requires { IsStrictlySortedBy full_cmp (map (λ e. e.0) self.decision.now.nodes.items) }
+        ensures { result ≡ change_at self.entry.decision.now.nodes.items id }
+    {
+        change_near(self.decision.nodes.as_slice(), id, near)
+    }
+
+    /// A node's place and data. Its change is looked for at `near` first, and `near` is set to the one after it, so that
+    /// looking up ascending ids needs no search.
+    pub fn record_near(
+        self,
+        base: &'a Store,
+        id: FullNodeId,
+        near: &mut usize,
+    ) -> Option<NodeRecord<'a>>
+        requires { IsLaidOver base.now.world self }
+        ensures data { option_map (λ r. r.node.now) result ≡ data_of (laid_over base.now.world self.entry) id }
+        ensures place { IfSome result (λ r. IsPlaceOf (laid_over base.now.world self.entry) id r.place) }
+    {
+        match self.change_by(id, near) {
+            Some(change) => record_after(base, self.update.nodes.as_slice(), id, change),
+            None => base.record(id),
         }
     }
 

@@ -38,7 +38,7 @@ fn tell_in_both<H: TreeChangeHandler>(
         return;
     }
     if new.has_node(id) {
-        tell(old, new, PlanEvent::Updated(id), handler);
+        tell(old, new, PlanEvent::Updated(id), handler, &mut 0);
     }
 }
 
@@ -56,5 +56,6 @@ pub(crate) fn tell_focus<H: TreeChangeHandler>(old: StateRef, new: StateRef, han
     }
     tell_in_both(old, new, before, handler);
     tell_in_both(old, new, after, handler);
-    tell(old, new, PlanEvent::FocusMoved(before, after), handler);
+    let moved = PlanEvent::FocusMoved(before, after);
+    tell(old, new, moved, handler, &mut 0);
 }

@@ -29,6 +29,10 @@ module _ (w : World) (o p : Option Overlay) (host : Bool) (is : o ≡ p) where
   pub place_shown : (id : FullNodeId) (found : Option Place) → IsPlaceOf (laid_world w p) id found → found ≡ place_of (with_host (laid_world w o) host) id
   place_shown id found h = place_known (with_host (laid_world w o) host) id found (subst (λ x. IsPlaceOf (with_host (laid_world w x) host) id found) (sym is) h)
 
+  pub placed_shown : (id : FullNodeId) (found : Option NodeRecord) → IfSome found (λ r. IsPlaceOf (laid_world w p) id r.place) → IfSome found (λ r. r.place ≡ place_of (with_host (laid_world w o) host) id)
+  placed_shown id None h = h
+  placed_shown id (Some r) h = place_shown id r.place h
+
   pub record_shown : (id : FullNodeId) (found : Option NodeRecord) → IfSome found (λ r. IsNodeRecord (laid_world w p) id r) → IfSome found (λ r. r.place ≡ place_of (with_host (laid_world w o) host) id)
   record_shown id None h = h
   record_shown id (Some r) h = place_shown id r.place h.place

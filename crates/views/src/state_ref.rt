@@ -83,6 +83,7 @@ impl<'a> StateRef<'a> {
     }
 
     /// The data of a node.
+    #[inline(always)]
     pub(crate) fn data(self, id: FullNodeId) -> Option<&'a Node>
         ensures { option_copied result ≡ data_of (world_of self.entry) id }
     {
@@ -104,18 +105,22 @@ impl<'a> StateRef<'a> {
     }
 
     /// A node's place and data.
+    #[inline(always)]
     pub(crate) fn node_record(self, id: FullNodeId) -> Option<NodeRecord<'a>>
         ensures data { option_map (λ r. r.node.now) result ≡ data_of (world_of self.entry) id }
         ensures place { IfSome result (λ r. r.place ≡ place_of (world_of self.entry) id) }
     {
+        self.record_near(id, &mut 0)
+    }
+
+    /// A node's place and data. If there are changes of an update, the one at `near` is tried first.
+    #[inline(always)]
+    fn record_near(self, id: FullNodeId, near: &mut usize) -> Option<NodeRecord<'a>>
+        ensures data { option_map (λ r. r.node.now) result ≡ data_of (world_of self.entry) id }
+        ensures place { IfSome result (λ r. r.place ≡ place_of (world_of self.entry) id) }
+    {
         match self.overlay {
-            Some(overlay) => {
-                let node = overlay.data(self.base, id)?;
-                Some(NodeRecord {
-                    place: overlay.place(self.base, id),
-                    node,
-                })
-            }
+            Some(overlay) => overlay.record_near(self.base, id, near),
             None => self.base.record(id),
         }
     }
@@ -188,6 +193,7 @@ impl<'a> StateRef<'a> {
     }
 
     /// The view of a node that is in the state.
+    #[inline(always)]
     pub(crate) fn node(self, id: FullNodeId) -> NodeRef<'a>
         requires { IsNode (world_of self) id }
         ensures { IsView (world_of self.entry) id result }
@@ -240,8 +246,17 @@ impl<'a> StateRef<'a> {
         ensures { let w = world_of self.now in
             ShowsThe w (λ it. (it ≡ id) × IsNode w it) result }
     {
+        self.node_near(id, &mut 0)
+    }
+
+    /// The node with this id, as by [`StateRef::node_by_id`]. While an update's changes are reported, the change at `near` is
+    /// tried first, and `near` is set to the one after it, so that looking up ascending ids needs no search.
+    pub fn node_near(&self, id: FullNodeId, near: &mut usize) -> Option<NodeRef<'a>>
+        ensures { let w = world_of self.now in
+            ShowsThe w (λ it. (it ≡ id) × IsNode w it) result }
+    {
         let state = *self;
-        let found = state.node_record(id)?;
+        let found = state.record_near(id, near)?;
         Some(NodeRef {
             state,
             id,

@@ -92,6 +92,7 @@ impl<'a> NodeRef<'a> {
     }
 
     /// The parent.
+    #[inline(always)]
     pub fn parent(&self) -> Option<NodeRef<'a>>
         ensures world { IfSome result (λ parent. world_at parent ≡ world_at self.now) }
         ensures node { option_map id_at result ≡ option_map (λ p. p.0) (place_of (world_at self.now) (id_at self.now)) }
@@ -101,6 +102,7 @@ impl<'a> NodeRef<'a> {
     }
 
     /// The parent, and the node's index among its children.
+    #[inline(always)]
     pub fn parent_and_index(self) -> Option<(NodeRef<'a>, usize)>
         ensures world { IfSome result (λ it. world_at it.0 ≡ world_at self.entry) }
         ensures place { option_map (λ it. (id_at it.0, it.1)) result ≡ place_of (world_at self.entry) (id_at self.entry) }

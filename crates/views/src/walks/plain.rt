@@ -167,6 +167,7 @@ pub struct Children<'a> {
 }
 
 impl<'a> Children<'a> {
+    #[inline(always)]
     pub(crate) fn new(node: NodeRef<'a>) -> Children<'a>
         ensures { let w = world_at node.entry in
             children_left result ≡ map (node_in w) (children_of w (id_at node.entry)) }

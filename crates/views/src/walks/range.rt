@@ -30,6 +30,7 @@ impl<'a> ChildRange<'a> {
     ghost use Rattle.views.specs.PlainWalks.{node_of, range_world, range_left, range_nodes};
 
     /// All children of a node.
+    #[inline(always)]
     pub(crate) fn all(node: NodeRef<'a>) -> ChildRange<'a>
         ensures world { range_world result ≡ world_at node.entry }
         ensures all { range_left result ≡ children (world_at node.entry) (id_at node.entry) }
@@ -113,6 +114,7 @@ impl<'a> ChildRange<'a> {
     }
 
     /// Takes the first child that is left.
+    #[inline(always)]
     pub(crate) fn take_first(&mut self) -> Option<FullNodeId>
         ensures steps { YieldsFirst range_left self.old result self.new }
         ensures world { range_world self.new ≡ range_world self.old }
@@ -128,6 +130,7 @@ impl<'a> ChildRange<'a> {
     }
 
     /// Takes the last child that is left.
+    #[inline(always)]
     pub(crate) fn take_last(&mut self) -> Option<FullNodeId>
         ensures steps { YieldsLast range_left self.old result self.new }
         ensures world { range_world self.new ≡ range_world self.old }
@@ -143,6 +146,7 @@ impl<'a> ChildRange<'a> {
     }
 
     /// Takes the first child that is left, as a view.
+    #[inline(always)]
     pub(crate) fn take_first_node(&mut self) -> Option<NodeRef<'a>>
         ensures { YieldsFirstBy node_of range_nodes self.old result self.new }
     {
@@ -152,6 +156,7 @@ impl<'a> ChildRange<'a> {
     }
 
     /// Takes the last child that is left, as a view.
+    #[inline(always)]
     pub(crate) fn take_last_node(&mut self) -> Option<NodeRef<'a>>
         ensures { YieldsLastBy node_of range_nodes self.old result self.new }
     {

@@ -51,6 +51,7 @@ impl<'a> NodeRef<'a> {
     }
 
     /// The children.
+    #[inline(always)]
     pub fn children(&self) -> Children<'a>
         ensures { let w = world_at self.now in
             children_left result ≡ map (node_in w) (children_of w (id_at self.now)) }
