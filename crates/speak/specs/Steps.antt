@@ -16,7 +16,8 @@ use Rattle.session.specs.declared.commands.Reply.{Reply}
 use Rattle.speaking.specs.declared.speaker.Speaker.{Speaker}
 use Rattle.speaking.specs.Edits.{Settles}
 use Rattle.speaking.specs.Events.{Begins, IsStillSaying, Speaks}
-use Rattle.speaking.specs.Speakers.{said_by, waiting_in, text_held_by, fell_silent}
+use Rattle.speaking.specs.News.{no_news}
+use Rattle.speaking.specs.Speakers.{said_by, waiting_in, text_held_by, news_of, fell_silent}
 use Rattle.speak.specs.Numbers.{heading_after, heading_of, heading_text}
 use Rattle.speak.specs.declared.numbering.Heading.{Heading}
 use Rattle.speak.specs.declared.numbering.Numbering.{Numbering}
@@ -26,6 +27,7 @@ pub record IsBegun (w : World) (t : Speaker) : Type 0 where
   pub before : Speaker
   pub said : said_by before ≡ []
   pub waiting : waiting_in before ≡ []
+  pub news : news_of before ≡ no_news
   pub speaks : fell_silent before ≡ false
   pub begins : Begins w before t
 
@@ -56,6 +58,7 @@ pub record IsTaken (s t : Speaker) : Type 0 where
   pub said : said_by t ≡ []
   pub waiting : waiting_in t ≡ waiting_in s
   pub text : text_held_by t ≡ text_held_by s
+  pub news : news_of t ≡ news_of s
   pub silent : fell_silent t ≡ fell_silent s
 
 -- A step ends in this world: exactly what the speaker has said since the last one, to the step's end, is written, under its heading.
