@@ -5,7 +5,7 @@ use Rattle.std.specs.Option.{option_and_then, option_map_or}
 use Rattle.std.specs.List.{cons_option}
 use Rattle.std.proofs.lemmas.Result.{on_ok_weaker, on_err_weaker}
 use Rattle.schema.specs.NodeData.{NodeData}
-use Rattle.schema.specs.TextCalls.{TextCall, WithCharacter}
+use Rattle.schema.specs.TextCalls.{TextCall}
 use Rattle.model.specs.declared.FullNodeId.{FullNodeId}
 use Rattle.model.specs.World.{World}
 use Rattle.model.specs.FlatText.{needs_masking}

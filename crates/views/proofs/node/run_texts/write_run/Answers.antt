@@ -1,7 +1,5 @@
 use Rattle.std.proofs.Common.{sym, ◌∙◌, ap}
-use Rattle.std.specs.Prelude.{if◌then◌else◌}
 use Rattle.schema.specs.TextCalls.{WithText}
-use Rattle.model.specs.TextRuns.{run_value, said_count}
 use Rattle.views.specs.Runs.{sent_of}
 use Rattle.views.specs.ValueCalls.{text_calls, run_calls}
 use Rattle.views.specs.Writes.{bullet_calls}

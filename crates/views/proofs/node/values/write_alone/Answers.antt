@@ -1,4 +1,4 @@
-use Rattle.std.proofs.Common.{◌==◌, List, ℕ, Bool, sym, ◌∙◌, ap, length}
+use Rattle.std.proofs.Common.{sym, ◌∙◌, ap, length}
 use Rattle.std.specs.Prelude.{if◌then◌else◌, chars}
 use Rattle.schema.specs.TextCalls.{WithText}
 use Rattle.views.specs.ValueCalls.{text_calls}
