@@ -5,6 +5,7 @@ import re
 from html.parser import HTMLParser
 
 from model.worlds import ROOT, accepted, differences, effective_focus, faults, focus, is_focused, root_named, told_of_update
+from model.worlds import children as children_of
 from model.scripts import BadLine, Play, role_shown, told_by
 from model.speech import EXPANDED, SELECTED, SWITCHED
 from model.texts import BULLET, HOLDS_TEXT, is_read_only, is_text, label_of, labelled_by, runs_of, value_of
@@ -141,12 +142,11 @@ def row(world, id, number, marks):
 
 
 def drawn(world, id, number, marks):
-    """The box of a node, and what stands in it."""
-    box, is_out = bounding_box(world, id), is_left_out(world, id)
-    text = None if is_out else caption(world, id)
-    look = "x" if is_out else "" if common_filter(world, id) == INCLUDED else "t", marks.get(id, "")[:1]
+    """The box of a node that isn't left out, and what stands in it."""
+    box = bounding_box(world, id)
+    look = "" if common_filter(world, id) == INCLUDED else "t", marks.get(id, "")[:1]
     classes = " ".join(filter(None, look)) or "n"
-    return f"#s{number}-{id[0]}-{id[1]}", classes, box[:2] + (max(box[2] - box[0], 1), max(box[3] - box[1], 1)), text
+    return f"#s{number}-{id[0]}-{id[1]}", classes, box[:2] + (max(box[2] - box[0], 1), max(box[3] - box[1], 1)), caption(world, id)
 
 
 # ---- what has become of a state
@@ -179,12 +179,27 @@ def event_told(old, new, event):
     return told
 
 
-def tree_shown(world, number, marks):
-    """The outline, the boxes and the ring of a world."""
+def tree_shown(world, number, marks, last):
+    """The outline, the boxes and the ring of a world, and which rows lead to an earlier state, where `last` has what was shown of
+    each node before; and what is shown of each node now."""
     ids = preorder(world, root_named(world, ROOT))
-    boxes = [drawn(world, id, number, marks) for id in ids if bounding_box(world, id)]
+    boxes = [drawn(world, id, number, marks) for id in ids if bounding_box(world, id) and not is_left_out(world, id)]
     ring = bounding_box(world, focus(world)) if focus(world) else None
-    return [row(world, id, number, marks) for id in ids], boxes, ring
+    rows = [row(world, id, number, marks) for id in ids]
+    now = {id: (without_mark(shown), children_of(world, id)) for id, shown in zip(ids, rows)}
+    same = set()
+    for id in reversed(ids):
+        if id not in marks and now[id] == last.get(id) and same.issuperset(now[id][1]):
+            same.add(id)
+    folded = {child for id in same for child in now[id][1]}
+    leading = [shown["anchor"] for id, shown in zip(ids, rows) if id in same - folded]
+    return (rows, boxes, ring, leading), now
+
+
+def without_mark(shown):
+    """What a row says but for what an update did to its node, and for where it stands."""
+    marks = [mark for mark in shown["marks"] if mark not in ("added", "updated")]
+    return {key: marks if key == "marks" else said for key, said in shown.items() if key not in ("anchor", "depth")}
 
 
 class Pages(Play):
@@ -193,14 +208,14 @@ class Pages(Play):
     def __init__(self, without=None):
         super().__init__()
         self.states, self.updates, self.without = [], 0, without
-        self.reports = []
+        self.reports, self.last = [], {}
 
     def show(self, cause, old, told, refused=None):
         """The next state."""
         state = {"cause": cause, "refused": refused, "events": [event_told(old, self.world, event) for event in told]}
         if refused is None and (told or not old.known):
             marks = {event[1]: event[0] for event in told if event[0] in ("added", "updated")}
-            state["tree"] = tree_shown(self.world, len(self.states) + 1, marks)
+            state["tree"], self.last = tree_shown(self.world, len(self.states) + 1, marks, self.last)
         self.reports += [f"update {self.updates}: {' | '.join(sorted(refused))}\n"] if refused else []
         self.states.append(state)
 
@@ -341,7 +356,8 @@ def items_of(outline, within=0):
 
 
 def row_read(item, line):
-    """What a row of an outline says."""
+    """What a row of an outline says, and to which row of an earlier state it leads, if it does."""
+    leads = first(elements(line, "a"))
     return {
         "anchor": item[1]["id"],
         "depth": int(item[1]["aria-level"]) - 1,
@@ -351,17 +367,70 @@ def row_read(item, line):
         "words": [text_in(part) for part in elements(line, "i")],
         "marks": [text_in(part) for part in elements(line, "em")],
         "id": text_in(first(elements(line, "small"))),
-    }
+    }, leads and leads[1]["href"][1:]
+
+
+class Rows:
+    """The rows of all states of a page, and what is drawn in them."""
+
+    def __init__(self, top):
+        self.places, self.drawn = {}, {}
+        for outline in (part for part in elements(top, "ul") if part[1].get("class") == "outline"):
+            rows = [row_read(item, line) for item, line in items_of(outline)]
+            self.places.update({row["anchor"]: (rows, index) for index, (row, leads) in enumerate(rows)})
+        self.drawn = {part[1]["id"]: part for part in elements(top, "g")}
+
+    def all_of(self, outline):
+        """The rows of a state's outline, as if each was written out there, and the anchors of those that lead elsewhere."""
+        rows = [row_read(item, line) for item, line in items_of(outline)]
+        shown = [row for own, leads in rows for row in (self.led_to(own, leads) if leads else [own])]
+        return shown, [own["anchor"] for own, leads in rows if leads]
+
+    def led_to(self, own, leads):
+        """The row of an earlier state, with those below it, as it stands in a later one."""
+        assert leads in self.places, f"{leads} leads nowhere"
+        rows, index = self.places[leads]
+        top, further = rows[index]
+        assert without_mark(top) == without_mark(own) and own["marks"] == without_mark(own)["marks"], f"{own['anchor']} is not {leads}"
+        below = []
+        for row, next in rows[index + 1 :]:
+            if row["depth"] <= top["depth"]:
+                break
+            below += self.led_to(row, next) if next else [row]
+        if further:
+            return self.led_to(own, further)
+        state = own["anchor"].partition("-")[0]
+        deeper = own["depth"] - top["depth"]
+
+        def placed(row):
+            anchor = f"{state}-{row['anchor'].partition('-')[2]}"
+            return {**row, **without_mark(row), "anchor": anchor, "depth": row["depth"] + deeper}
+
+        return [own, *map(placed, below)]
+
+    def links_in(self, top):
+        """The boxes in an element, with those that are drawn again from an earlier state."""
+        for part in top[2]:
+            if isinstance(part, str):
+                continue
+            if part[0] == "use":
+                assert part[1]["href"][1:] in self.drawn, f"{part[1]['href']} is not drawn"
+                yield from self.links_in((None, None, [self.drawn[part[1]["href"][1:]]]))
+            elif part[0] == "a" and "tabindex" in part[1]:
+                yield part
+            else:
+                yield from self.links_in(part)
 
 
 def rect_read(rect):
     return tuple(int(rect[1][name]) for name in ("x", "y", "width", "height"))
 
 
-def box_read(link):
-    """A box of a picture."""
+def box_read(link, state):
+    """A box of a picture, which leads to a row of this state or of an earlier one."""
     rect, text = first(elements(link, "rect")), first(elements(link, "text"))
-    return link[1]["href"], rect[1]["class"], rect_read(rect), text and text_in(text)
+    leads = f"#{state}-{link[1]['href'].partition('-')[2]}"
+    return leads, rect[1]["class"], rect_read(rect), text and text_in(text)
 
 
 def parts_of_event(item):
@@ -396,8 +465,8 @@ def parts_of_event(item):
     return told + names + texts
 
 
-def state_read(section):
-    """What a state's section says."""
+def state_read(section, rows):
+    """What a state's section says, where `rows` has the rows of all states."""
     refused = of_class(section, "p", "refused")
     details = first(part for part in children(section, "details") if part[1].get("class") == "events")
     state = {
@@ -407,10 +476,12 @@ def state_read(section):
     }
     outline = first(elements(section, "ul"))
     if outline:
-        links = [link for link in elements(section, "a") if link[1].get("tabindex")]
+        figure = first(elements(section, "figure"))
         ring = first(rect for rect in elements(section, "rect") if rect[1]["class"] == "ring")
-        boxes = [box_read(link) for link in links]
-        state["tree"] = [row_read(item, line) for item, line in items_of(outline)], boxes, ring and rect_read(ring)
+        number = section[1]["id"].replace("state-", "s")
+        boxes = [box_read(link, number) for link in rows.links_in(figure)] if figure else []
+        shown, leading = rows.all_of(outline)
+        state["tree"] = shown, boxes, ring and rect_read(ring), leading
     return state
 
 
@@ -432,6 +503,8 @@ def difference_of_states(told, read):
     for mine, other in zip(told.get("tree", ())[:2], read.get("tree", ())[:2]):
         if mine != other:
             return str([pair for pair in zip(mine, other) if pair[0] != pair[1]][:1] or (len(mine), len(other)))
+    if told.get("tree", ())[3:] != read.get("tree", ())[3:]:
+        return f"these lead to an earlier state: {read['tree'][3]} and not {told['tree'][3]}"
     rings = told.get("tree", (0, 0, None))[2], read.get("tree", (0, 0, None))[2]
     if (rings[0] is None) != (rings[1] is None) or rings[0] is not None and not is_around(rings[1], rings[0]):
         return f"the ring is {rings[1]} around {rings[0]}"
@@ -446,7 +519,8 @@ def difference_of_page(script, page, without=None):
         return str(fault)
     told, bad = states_of(script, without)
     try:
-        read = [state_read(section) for section in elements(top, "section")]
+        rows = Rows(top)
+        read = [state_read(section, rows) for section in elements(top, "section")]
     except AssertionError as fault:
         return str(fault)
     for number, (one, other) in enumerate(zip(told, read), 1):

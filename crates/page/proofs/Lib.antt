@@ -1,9 +1,12 @@
 pub mod Carrying
 pub mod Ended
+pub mod FactsKnown
+pub mod Failing
 pub mod Focused
 pub mod Hiding
 pub mod Items
 pub mod LeftOut
+pub mod Opened
 pub mod Reporting
 pub mod SaidAlike
 pub mod Told

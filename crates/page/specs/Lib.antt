@@ -1,5 +1,7 @@
+pub mod Again
 pub mod Differences
 pub mod Endings
+pub mod Found
 pub mod Known
 pub mod Laws
 pub mod Named

@@ -1,9 +1,11 @@
 -- The nodes of a state as a page shows them.
-use Rattle.std.specs.Prelude.{◌≡◌, List, [], ◌∷◌, map, All, Option, Some, None}
+use Rattle.std.specs.Prelude.{◌≡◌, Bool, false, List, [], ◌∷◌, map, All, Option, Some, None, if◌then◌else◌}
+use Rattle.schema.specs.declared.geometry.WideRect.{WideRect}
 use Rattle.model.specs.declared.FullNodeId.{FullNodeId}
 use Rattle.model.specs.World.{World, root_of}
 use Rattle.model.specs.Filters.{is_hidden, common_filter}
 use Rattle.model.specs.Geometry.{bounding_box}
+use Rattle.model.specs.TextRuns.{is_password}
 use Rattle.views.specs.declared.node.node_ref.NodeRef.{NodeRef}
 use Rattle.views.specs.Nodes.{world_at, id_at}
 use Rattle.views.specs.Descendants.{descendants}
@@ -21,6 +23,17 @@ pub record IsPlace (place : Place) : Type 0 where
   pub hidden : place.is_hidden ≡ is_hidden (world_at place.node) (id_at place.node)
   pub texts : place.hidden ≡ hidden_at (world_at place.node) (id_at place.node)
   pub box : place.rect ≡ bounding_box (world_at place.node) (id_at place.node)
+
+-- the box that a picture draws
+abbrev pub box_drawn : Place → Option WideRect
+box_drawn place = if place.is_left_out then None else place.rect
+
+abbrev pub is_password_at : NodeRef → Bool
+is_password_at n = is_password (world_at n) (id_at n)
+
+-- unless there may be one, the world has no password
+abbrev pub IsOpenUnless : Bool → World → Type 0
+IsOpenUnless has w = has ≡ false → (id : FullNodeId) → is_password w id ≡ false
 
 -- views of these nodes of the world, in their order
 pub record AreNodes (w : World) (ids : List FullNodeId) (nodes : List NodeRef) : Type 0 where

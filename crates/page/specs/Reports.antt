@@ -1,6 +1,5 @@
 -- What a page tells of each event, and what is kept of it.
-use Rattle.std.specs.Prelude.{◌≡◌, ℕ, List, [], ◌++◌, codes, Option, Some, None, Ok, if◌then◌else◌}
-use Rattle.std.specs.Borrow.{Bor}
+use Rattle.std.specs.Prelude.{◌≡◌, ℕ, List, [], ◌++◌, codes, Option, Some, None, IfSome, Ok, if◌then◌else◌}
 use Rattle.std.specs.BTreeMap.{BTreeMap, Updates, IsEmpty}
 use Rattle.std.specs.Io.KnownBytes.{Appends}
 use Rattle.html.specs.Escaped.{element_text}
@@ -11,13 +10,14 @@ use Rattle.model.specs.World.{World}
 use Rattle.session.specs.Replied.{IsStep}
 use Rattle.session.specs.declared.commands.Command.{Command}
 use Rattle.session.specs.declared.commands.Reply.{Reply}
-use Rattle.views.specs.declared.node.node_ref.NodeRef.{NodeRef}
-use Rattle.views.specs.Nodes.{seen_node, seen_through}
+use Rattle.views.specs.Nodes.{seen_node}
+use Rattle.page.specs.declared.found.View.{View}
 use Rattle.page.specs.declared.marks.Mark.{Mark}
 use Rattle.page.specs.declared.marks.Mark.TheVariants.{Added, Updated}
 use Rattle.page.specs.declared.marks.Tally.{Tally}
 use Rattle.page.specs.declared.sections.Outcome.{Outcome}
 use Rattle.page.specs.Differences.{TellsDifferences}
+use Rattle.page.specs.Found.{IsRight, view_seen}
 use Rattle.page.specs.Named.{name_text, linked_text}
 use Rattle.page.specs.Said.{arrow}
 use Rattle.page.specs.States.{counted, is_quiet, outcome_of}
@@ -52,24 +52,25 @@ abbrev pub item_ended : List ℕ
 item_ended = codes "</li>\n"
 
 -- the focus before and after it has moved, if there is one
-abbrev pub old_focus : Option (Bor NodeRef) → List ℕ
+abbrev pub old_focus : Option View → List ℕ
 old_focus None = codes "<i>none</i>"
-old_focus (Some n) = name_text n.now
+old_focus (Some v) = name_text v
 
-abbrev pub new_focus : ℕ → Option (Bor NodeRef) → List ℕ
+abbrev pub new_focus : ℕ → Option View → List ℕ
 new_focus state None = codes "<i>none</i>"
-new_focus state (Some n) = linked_text state n.now
+new_focus state (Some v) = linked_text state v
 
 -- a node was added: its name is told, and it is marked
 pub record ReportsAdded (state : ℕ) (s : Report) (new : Seen) (t : Report) : Type 0 where
-  pub node : NodeRef
-  pub seen : seen_node node ≡ new
+  pub node : View
+  pub seen : seen_node node.node ≡ new
+  pub right : IsRight node
   pub told : Appends s.written t.written (item_begun s.tally (codes "a") (codes "added") ++ linked_text state node ++ item_ended)
   pub tally : t.tally ≡ record s.tally { added = counted s.tally.added }
   pub marks : Updates full_cmp s.marks t.marks new.id (Some Added)
 
 -- the name of a node that was updated, and how it differs
-pub record TellsUpdated (state : ℕ) (tally : Tally) (old new : NodeRef) (before after : Bytes) : Type 0 where
+pub record TellsUpdated (state : ℕ) (tally : Tally) (old new : View) (before after : Bytes) : Type 0 where
   pub named : Bytes
   pub names : Appends before named (item_begun tally (codes "u") (codes "updated") ++ linked_text state new)
   pub compared : Bytes
@@ -78,28 +79,33 @@ pub record TellsUpdated (state : ℕ) (tally : Tally) (old new : NodeRef) (befor
 
 -- a node was updated: that is told, and it is marked
 pub record ReportsUpdated (state : ℕ) (s : Report) (old new : Seen) (t : Report) : Type 0 where
-  pub node : NodeRef
-  pub before : NodeRef
-  pub seen : seen_node node ≡ new
-  pub seen_before : seen_node before ≡ old
+  pub node : View
+  pub before : View
+  pub seen : seen_node node.node ≡ new
+  pub seen_before : seen_node before.node ≡ old
+  pub right : IsRight node
+  pub right_before : IsRight before
   pub told : TellsUpdated state s.tally before node s.written t.written
   pub tally : t.tally ≡ record s.tally { updated = counted s.tally.updated }
   pub marks : Updates full_cmp s.marks t.marks new.id (Some Updated)
 
 -- the focus has moved: from where and to where is told
 pub record ReportsFocus (state : ℕ) (s : Report) (old new : Option Seen) (t : Report) : Type 0 where
-  pub node : Option (Bor NodeRef)
-  pub before : Option (Bor NodeRef)
-  pub seen : seen_through node ≡ new
-  pub seen_before : seen_through before ≡ old
+  pub node : Option View
+  pub before : Option View
+  pub seen : view_seen node ≡ new
+  pub seen_before : view_seen before ≡ old
+  pub right : IfSome node IsRight
+  pub right_before : IfSome before IsRight
   pub told : Appends s.written t.written (item_begun s.tally (codes "f") (codes "focus") ++ old_focus before ++ arrow ++ new_focus state node ++ item_ended)
   pub tally : t.tally ≡ record s.tally { moved = counted s.tally.moved }
   pub marks : t.marks ≡ s.marks
 
 -- a node was removed: its name is told
 pub record ReportsRemoved (s : Report) (old : Seen) (t : Report) : Type 0 where
-  pub node : NodeRef
-  pub seen : seen_node node ≡ old
+  pub node : View
+  pub seen : seen_node node.node ≡ old
+  pub right : IsRight node
   pub told : Appends s.written t.written (item_begun s.tally (codes "r") (codes "removed") ++ name_text node ++ item_ended)
   pub tally : t.tally ≡ record s.tally { removed = counted s.tally.removed }
   pub marks : t.marks ≡ s.marks

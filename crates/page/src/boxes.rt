@@ -1,6 +1,6 @@
 //! The rectangles of a picture, computed. `picture` writes them.
 
-use crate::places::Place;
+use crate::places::{Place, drawn_rect};
 use accesskit_consumer::FilterResult;
 use schema::WideRect;
 
@@ -80,25 +80,24 @@ fn near(number: i128) -> i64 {
     }
 }
 
-/// The extents of the nodes' boxes.
+/// The extents of the boxes that are drawn.
 #[derive(Clone, Copy, Debug, PartialEq, Eq)]
 struct Extent {
-    /// The extent of the boxes of nodes that the common filter includes, and of which it excludes no ancestor with its
-    /// subtree.
+    /// The extent of the boxes of nodes that the common filter includes.
     shown: Option<Frame>,
-    /// The extent of all boxes.
+    /// The extent of all that are drawn.
     all: Option<Frame>,
 }
 
 impl Extent {
     /// The extent with another node's box.
     fn with(self, place: Place) -> Extent {
-        let Some(rect) = place.rect else {
+        let Some(rect) = drawn_rect(&place) else {
             return self;
         };
         let frame = Frame::of(rect);
         let shown = match place.answer {
-            FilterResult::Include if !place.is_left_out => Some(around(self.shown, frame)),
+            FilterResult::Include => Some(around(self.shown, frame)),
             _ => self.shown,
         };
         Extent {
@@ -125,7 +124,7 @@ fn around(frame: Option<Frame>, other: Frame) -> Frame {
     }
 }
 
-/// The frame of a picture of these nodes, if one of them has a box.
+/// The frame of a picture of these nodes, if it draws a box.
 pub(crate) fn picture_frame(places: &[Place]) -> Option<Frame> {
     let mut extent = Extent {
         shown: None,

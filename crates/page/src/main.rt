@@ -1,9 +1,12 @@
 //! The program `page`: reads a script, and writes an HTML page with each of its states as an outline and a picture.
 #![tactic(auto)]
 
+mod again;
 mod boxes;
 mod carried;
 mod faults;
+mod found;
+mod looks;
 mod manual;
 mod marks;
 mod names;

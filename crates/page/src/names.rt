@@ -6,7 +6,7 @@ ghost use Rattle.page.specs.Named.{role_bold, name_text, link_begun, linked_id, 
 ghost use Rattle.page.specs.Written.{anchor_text, small_id, word_text};
 
 use crate::faults::Fault;
-use crate::secrets::hidden_of;
+use crate::found::View;
 use crate::words::{caption, hidden_label_word};
 use accesskit_consumer::{FullNodeId, NodeRef};
 use html::write_element;
@@ -15,12 +15,12 @@ use std::alloc::Global;
 use std::io::{self, Write};
 
 /// Writes the node's role, its label or else its value, and its id.
-pub(crate) fn write_name<O: Write>(alloc: Global, node: &NodeRef, out: &mut O) -> Result<(), Fault>
-    ensures { OnOk result (Appends (O.contents out.old) (O.contents out.new) (name_text node.now)) }
+pub(crate) fn write_name<O: Write>(alloc: Global, view: View, out: &mut O) -> Result<(), Fault>
+    ensures { OnOk result (Appends (O.contents out.old) (O.contents out.new) (name_text view.entry)) }
 {
-    write_role_and_text(alloc, node, out)?;
+    write_role_and_text(alloc, view, out)?;
     out.write_all(b" ")?;
-    write_id(node.id(), out)?;
+    write_id(view.node.id(), out)?;
     Ok(())
 }
 
@@ -28,14 +28,14 @@ pub(crate) fn write_name<O: Write>(alloc: Global, node: &NodeRef, out: &mut O) -
 pub(crate) fn write_linked_name<O: Write>(
     alloc: Global,
     state: u64,
-    node: &NodeRef,
+    view: View,
     out: &mut O,
 ) -> Result<(), Fault>
-    ensures { OnOk result (Appends (O.contents out.old) (O.contents out.new) (linked_text state node.now)) }
+    ensures { OnOk result (Appends (O.contents out.old) (O.contents out.new) (linked_text state view.entry)) }
 {
-    write_role_and_text(alloc, node, out)?;
+    write_role_and_text(alloc, view, out)?;
     out.write_all(b" ")?;
-    write_linked_id(state, node.id(), out)?;
+    write_linked_id(state, view.node.id(), out)?;
     Ok(())
 }
 
@@ -58,12 +58,12 @@ fn begin_link<O: Write>(state: u64, id: FullNodeId, out: &mut O) -> io::Result<(
 }
 
 /// Writes the node's role, its label or else its value, if it has one, and that its label is hidden, if it is.
-fn write_role_and_text<O: Write>(alloc: Global, node: &NodeRef, out: &mut O) -> Result<(), Fault>
-    ensures { OnOk result (Appends (O.contents out.old) (O.contents out.new) (role_and_text node.now)) }
+fn write_role_and_text<O: Write>(alloc: Global, view: View, out: &mut O) -> Result<(), Fault>
+    ensures { OnOk result (Appends (O.contents out.old) (O.contents out.new) (role_and_text view.entry)) }
 {
-    write_role(node, out)?;
-    let hidden = hidden_of(node);
-    let text = caption(alloc, node, hidden)?;
+    write_role(&view.node, out)?;
+    let hidden = view.facts.hidden;
+    let text = caption(alloc, &view.node, hidden)?;
     write_word("q", "l", text.as_deref(), out)?;
     write_word("i", "w", hidden_label_word(hidden.label), out)?;
     Ok(())

@@ -4,38 +4,72 @@ ghost use Rattle.std.specs.Io.KnownBytes.{Appends};
 ghost use Rattle.views.specs.Nodes.{world_at, id_at};
 ghost use Rattle.page.specs.Said.{label_texts, row_texts, value_texts};
 
+use crate::again::{Way, Ways};
 use crate::faults::Fault;
+use crate::looks::Look;
 use crate::marks::Mark;
 use crate::names::{write_anchor, write_id, write_role, write_word};
 use crate::places::Place;
 use crate::words::{hidden_label_word, hidden_value_word, shown_label, shown_value, state_words};
 use accesskit_consumer::NodeRef;
+use html::write_element;
 use std::alloc::Global;
 use std::io::{self, Write};
 
 /// The greatest number of lists in one another. Browsers keep no more than some hundred elements in one another.
-const MOST_LISTS: usize = 100;
+pub(crate) const MOST_LISTS: usize = 100;
 
 /// The number of lists in one another that are indented.
 const INDENTED: usize = 24;
 
-/// Writes each node as a list item, in order. The item of a node with children folds, and has the items of those below it.
+/// Writes each node as a list item, in order. The item of a node with children folds, and has the items of those below it. A
+/// node that was shown, with all below it, in an earlier state has one item alone, which leads to that state.
 pub(crate) fn write_outline<O: Write>(
-    alloc: Global,
     number: u64,
     places: &[Place],
+    looks: &[Look],
+    ways: &[Ways],
     out: &mut O,
-) -> Result<(), Fault> {
+) -> io::Result<()> {
     out.write_all(b"<ul class=\"outline\">\n")?;
     let mut lists = 0;
-    for place in places {
-        let within = place.depth.min(MOST_LISTS);
-        end_lists(within, lists, out)?;
-        lists = write_row(alloc, number, place, within, out)?;
+    let count = places.len().min(looks.len()).min(ways.len());
+    for index in 0..count {
+        lists = write_item(
+            number,
+            &places[index],
+            &looks[index],
+            ways[index].row,
+            lists,
+            out,
+        )?;
     }
     end_lists(0, lists, out)?;
-    out.write_all(b"</ul>\n")?;
-    Ok(())
+    out.write_all(b"</ul>\n")
+}
+
+/// Writes a node's item after one that is within so many lists. Returns the number of lists.
+fn write_item<O: Write>(
+    number: u64,
+    place: &Place,
+    look: &Look,
+    way: Way,
+    lists: usize,
+    out: &mut O,
+) -> io::Result<usize> {
+    let within = place.depth.min(MOST_LISTS);
+    match way {
+        Way::Folded(_) => Ok(lists),
+        Way::Again(state) => {
+            end_lists(within, lists, out)?;
+            write_again(number, place, look, state, out)?;
+            Ok(within)
+        }
+        Way::Whole => {
+            end_lists(within, lists, out)?;
+            write_row(number, place, look, within, out)
+        }
+    }
 }
 
 /// Ends lists until only so many are left.
@@ -46,19 +80,34 @@ fn end_lists<O: Write>(left: usize, lists: usize, out: &mut O) -> io::Result<()>
     Ok(())
 }
 
-/// Writes a row within so many lists: the role, label, value and state of its node, its marks, and its id. If the node has
-/// children, it begins a list of them. Returns the number of lists.
-fn write_row<O: Write>(
-    alloc: Global,
+/// Writes the item of a node that is, with all below it, as in an earlier state, with a link to its item there.
+fn write_again<O: Write>(
     number: u64,
     place: &Place,
+    look: &Look,
+    state: u64,
+    out: &mut O,
+) -> io::Result<()> {
+    begin_row(number, place, false, out)?;
+    out.write_all(&look.row)?;
+    out.write_all(b" <a href=\"#")?;
+    write_anchor(state, place.node.id(), out)?;
+    write!(out, "\">as in state {state}</a></li>\n")
+}
+
+/// Writes a row within so many lists: its node's mark, and what is shown of it. If the node has children, it begins a list of
+/// them. Returns the number of lists.
+fn write_row<O: Write>(
+    number: u64,
+    place: &Place,
+    look: &Look,
     within: usize,
     out: &mut O,
-) -> Result<usize, Fault> {
-    let is_folding = within < MOST_LISTS && place.node.child_ids().next().is_some();
+) -> io::Result<usize> {
+    let is_folding = within < MOST_LISTS && !look.children.is_empty();
     begin_row(number, place, is_folding, out)?;
-    write_texts(alloc, place, out)?;
-    end_row(place, out)?;
+    write_mark(place.mark, out)?;
+    out.write_all(&look.row)?;
     if !is_folding {
         out.write_all(b"</li>\n")?;
         return Ok(within);
@@ -75,7 +124,7 @@ fn begun_list(within: usize) -> &'static str {
     }
 }
 
-/// Begins a row's item with its node's role.
+/// Begins a row's item.
 fn begin_row<O: Write>(
     number: u64,
     place: &Place,
@@ -84,8 +133,7 @@ fn begin_row<O: Write>(
 ) -> io::Result<()> {
     out.write_all(b"<li id=\"")?;
     write_anchor(number, place.node.id(), out)?;
-    write_level(row_class(place), place.depth, is_folding, out)?;
-    write_role(&place.node, out)
+    write_level(row_class(place), place.depth, is_folding, out)
 }
 
 /// Ends the tag of a row's item with its classes and its level, which counts from 1, and begins its line if it folds.
@@ -105,6 +153,15 @@ fn write_level<O: Write>(
     }
 }
 
+/// Writes what an update did to a node, if it did anything.
+fn write_mark<O: Write>(mark: Option<Mark>, out: &mut O) -> io::Result<()> {
+    let Some(mark) = mark else {
+        return Ok(());
+    };
+    write_element("em", mark.class(), mark.word(), out)?;
+    out.write_all(b" ")
+}
+
 /// The classes of a row.
 fn row_class(place: &Place) -> &'static str {
     match (place.is_left_out, place.mark) {
@@ -114,6 +171,23 @@ fn row_class(place: &Place) -> &'static str {
         (true, Some(Mark::Added)) => "x a",
         (true, Some(Mark::Updated)) => "x u",
     }
+}
+
+/// Writes a row without its mark and links: the role, label, value and state of its node, whether it is focused or isn't
+/// shown, and its id.
+pub(crate) fn write_row_text<O: Write>(
+    alloc: Global,
+    place: &Place,
+    out: &mut O,
+) -> Result<(), Fault> {
+    write_role(&place.node, out)?;
+    write_texts(alloc, place, out)?;
+    write_words(&state_words(&place.node), out)?;
+    write_word("em", "f", focus_word(&place.node), out)?;
+    write_word("em", "h", left_out_word(place), out)?;
+    out.write_all(b" ")?;
+    write_id(place.node.id(), out)?;
+    Ok(())
 }
 
 /// Writes a node's label and value, if it has them, and in place of each that is hidden, that it is.
@@ -144,29 +218,12 @@ fn write_value<O: Write>(alloc: Global, place: &Place, out: &mut O) -> Result<()
     Ok(())
 }
 
-/// Ends a row: writes the words of its node's state, its marks and its id.
-fn end_row<O: Write>(place: &Place, out: &mut O) -> io::Result<()> {
-    write_words(&state_words(&place.node), out)?;
-    write_marks(place, out)?;
-    out.write_all(b" ")?;
-    write_id(place.node.id(), out)
-}
-
 /// Writes each word, if it is set.
 fn write_words<O: Write>(words: &[Option<&'static str>], out: &mut O) -> io::Result<()> {
     for word in words {
         write_word("i", "w", *word, out)?;
     }
     Ok(())
-}
-
-/// Writes the marks of a node: that it was added or updated, that it is focused, or that it isn't shown.
-fn write_marks<O: Write>(place: &Place, out: &mut O) -> io::Result<()> {
-    if let Some(mark) = place.mark {
-        write_word("em", mark.class(), Some(mark.word()), out)?;
-    }
-    write_word("em", "f", focus_word(&place.node), out)?;
-    write_word("em", "h", left_out_word(place), out)
 }
 
 /// The word for a node that the common filter excludes with a subtree.

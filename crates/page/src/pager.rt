@@ -24,10 +24,12 @@ ghost use Rattle.page.specs.Shown.{
 ghost use Rattle.page.specs.States.{next_number, updates_after};
 ghost use Rattle.page.specs.declared.sections.Outcome.TheVariants.{Begun, Refused};
 
+use crate::again::{Kept, kept_of, ways_of};
 use crate::faults::Fault;
+use crate::looks::looks_of;
 use crate::marks::{Marks, Tally};
 use crate::outline::write_outline;
-use crate::picture::write_picture;
+use crate::picture::{frame_of, write_picture};
 use crate::places::places;
 use crate::reported::{Reported, report_step};
 use crate::sections::{
@@ -38,6 +40,7 @@ use accesskit_consumer::{StateRef, UpdateError};
 use atree_script::{Played, Player, Program, Stop, end_run, play};
 use session::{Command, Query, Session};
 use std::alloc::Global;
+use std::collections::BTreeMap;
 use std::io::{BufRead, Write};
 
 /// The program that writes a page of a script. It has no arguments.
@@ -86,6 +89,7 @@ fn show_script<R: BufRead, O: Write, E: Write>(
         errors: &mut *errors,
         updates: 0,
         states: Vec::new(alloc),
+        kept: BTreeMap::new(alloc),
     };
     let played = play_shown(alloc, input, &mut pager);
     let Pager {
@@ -94,7 +98,9 @@ fn show_script<R: BufRead, O: Write, E: Write>(
         errors: reported,
         updates: _,
         states,
+        kept,
     } = pager;
+    drop(kept);
     // These do nothing. The proof reads from them what the outputs have.
     let _ = &*written;
     let _ = &*reported;
@@ -147,6 +153,8 @@ struct Pager<'a, 'b, O, E> {
     updates: u64,
     /// A summary of each state so far.
     states: Vec<Summary>,
+    /// What is shown of each node of the last state.
+    kept: Kept,
 }
 
 impl<'a, 'b, O: Write, E: Write> Player for Pager<'a, 'b, O, E> {
@@ -241,6 +249,7 @@ impl<'a, 'b, O: Write, E: Write> Pager<'a, 'b, O, E> {
             Outcome::Begun,
             state,
             &marks,
+            &mut self.kept,
             self.output,
         )
     }
@@ -285,6 +294,7 @@ impl<'a, 'b, O: Write, E: Write> Pager<'a, 'b, O, E> {
             it.outcome,
             state,
             &it.marks,
+            &mut self.kept,
             self.output,
         )?;
         Ok(it.outcome)
@@ -346,28 +356,37 @@ fn write_tree<O: Write>(
     outcome: Outcome,
     state: StateRef,
     marks: &Marks,
+    kept: &mut Kept,
     output: &mut O,
 ) -> Result<(), Fault>
     ensures { OnOk result (WritesTree outcome (O.contents output.old) (O.contents output.new)) }
 {
     match outcome {
-        Outcome::Begun | Outcome::Changed => write_state(alloc, number, state, marks, output),
+        Outcome::Begun | Outcome::Changed => {
+            write_state(alloc, number, state, marks, kept, output)
+        }
         Outcome::Same | Outcome::Refused(_) => Ok(()),
     }
 }
 
-/// Writes the outline of a state, and its picture beside it.
+/// Writes the outline of a state, and its picture beside it, and keeps what is shown.
 fn write_state<O: Write>(
     alloc: Global,
     number: u64,
     state: StateRef,
     marks: &Marks,
+    kept: &mut Kept,
     output: &mut O,
 ) -> Result<(), Fault> {
     let places = places(alloc, state, marks)?;
+    let frame = frame_of(&places);
+    let looks = looks_of(alloc, frame, &places)?;
+    let ways = ways_of(alloc, kept, &places, &looks)?;
     output.write_all(b"<div class=\"state\">\n")?;
-    write_outline(alloc, number, &places, output)?;
-    write_picture(alloc, number, &places, state.focus(), output)?;
+    write_outline(number, &places, &looks, &ways, output)?;
+    let focus = state.focus();
+    write_picture(number, frame, &places, &looks, &ways, focus, output)?;
     output.write_all(b"</div>\n")?;
+    *kept = kept_of(alloc, number, &places, looks, &ways)?;
     Ok(())
 }

@@ -1,51 +1,144 @@
 //! Drawing the boxes of a state.
 
+use crate::again::{Way, Ways};
 use crate::boxes::{Frame, picture_frame};
 use crate::faults::Fault;
+use crate::looks::Look;
 use crate::marks::Mark;
 use crate::names::write_anchor;
+use crate::outline::MOST_LISTS;
 use crate::places::Place;
 use crate::words::caption;
-use accesskit_consumer::{FilterResult, NodeRef};
+use accesskit_consumer::{FilterResult, FullNodeId, NodeRef};
 use html::write_escaped;
 use std::alloc::Global;
 use std::io::{self, Write};
 
-/// Draws the box of each node that has one, in order, and a ring around the focus. So a box is below those of later
-/// nodes, as in a hit test.
+/// The frame of a picture of these nodes, if one of them has a box and is not left out.
+pub(crate) fn frame_of(places: &[Place]) -> Option<Frame> {
+    let shown = picture_frame(places)?;
+    Some(shown.widened((shown.longer_side() / 40).saturating_add(1)))
+}
+
+/// Draws the box of each node that has one, unless it is hidden or clipped, in order, and a ring around the focus. So a box is
+/// below those of later nodes, as in a hit test. The boxes of a node and of all below it are a group, and where an earlier
+/// state drew the same ones, its group is drawn again.
 pub(crate) fn write_picture<O: Write>(
-    alloc: Global,
     number: u64,
+    frame: Option<Frame>,
     places: &[Place],
+    looks: &[Look],
+    ways: &[Ways],
     focus: Option<NodeRef>,
     out: &mut O,
-) -> Result<(), Fault> {
-    let Some(shown) = picture_frame(places) else {
-        out.write_all(b"<p class=\"note\">No node has a box.</p>\n")?;
-        return Ok(());
+) -> io::Result<()> {
+    let Some(frame) = frame else {
+        return out.write_all(b"<p class=\"note\">No box is shown.</p>\n");
     };
-    let frame = shown.widened((shown.longer_side() / 40).saturating_add(1));
     begin_picture(number, frame, out)?;
-    write_boxes(alloc, number, frame, places, out)?;
+    let mut groups = 0;
+    let count = places.len().min(looks.len()).min(ways.len());
+    for index in 0..count {
+        groups = write_part(
+            number,
+            &places[index],
+            &looks[index],
+            ways[index],
+            groups,
+            out,
+        )?;
+    }
+    end_groups(0, groups, out)?;
     write_ring(focus, frame, out)?;
-    out.write_all(b"</svg></figure>\n")?;
+    out.write_all(b"</svg></figure>\n")
+}
+
+/// Draws a node's box after one that is within so many groups, and begins its group if it has children. Returns the number of
+/// groups.
+fn write_part<O: Write>(
+    number: u64,
+    place: &Place,
+    look: &Look,
+    ways: Ways,
+    groups: usize,
+    out: &mut O,
+) -> io::Result<usize> {
+    let within = place.depth.min(MOST_LISTS);
+    let is_empty = look.drawn.is_empty() && look.children.is_empty();
+    match ways.drawn {
+        Way::Folded(_) => Ok(groups),
+        _ if is_empty => Ok(groups),
+        Way::Again(state) => {
+            end_groups(within, groups, out)?;
+            write_use(state, place.node.id(), out)?;
+            Ok(within)
+        }
+        Way::Whole => {
+            end_groups(within, groups, out)?;
+            write_group(number, place, look, ways.row, within, out)
+        }
+    }
+}
+
+/// Ends groups until only so many are left.
+fn end_groups<O: Write>(left: usize, groups: usize, out: &mut O) -> io::Result<()> {
+    for _ in left..groups {
+        out.write_all(b"</g>\n")?;
+    }
     Ok(())
 }
 
-/// Draws the box of each node that has one.
-fn write_boxes<O: Write>(
-    alloc: Global,
+/// Draws again what a state has drawn of a node and all below it.
+fn write_use<O: Write>(state: u64, id: FullNodeId, out: &mut O) -> io::Result<()> {
+    out.write_all(b"<use href=\"#b")?;
+    write_anchor(state, id, out)?;
+    out.write_all(b"\"/>\n")
+}
+
+/// Draws a node's box within so many groups, and begins its own one. Returns the number of groups.
+fn write_group<O: Write>(
     number: u64,
-    frame: Frame,
-    places: &[Place],
+    place: &Place,
+    look: &Look,
+    row: Way,
+    within: usize,
     out: &mut O,
-) -> Result<(), Fault> {
-    for place in places {
-        if let Some(rect) = place.rect {
-            write_box(alloc, number, frame, Frame::of(rect), place, out)?;
-        }
+) -> io::Result<usize> {
+    let id = place.node.id();
+    let is_group = within < MOST_LISTS;
+    if is_group {
+        out.write_all(b"<g id=\"b")?;
+        write_anchor(number, id, out)?;
+        out.write_all(b"\">")?;
     }
-    Ok(())
+    if !look.drawn.is_empty() {
+        begin_link(row_state(number, row), id, out)?;
+        out.write_all(&look.drawn)?;
+        out.write_all(b"</a>")?;
+    }
+    if is_group && look.children.is_empty() {
+        out.write_all(b"</g>")?;
+    }
+    out.write_all(b"\n")?;
+    if is_group && !look.children.is_empty() {
+        return Ok(within.saturating_add(1));
+    }
+    Ok(within)
+}
+
+/// The state with the row to which a box in the state with this number leads.
+fn row_state(number: u64, row: Way) -> u64 {
+    match row {
+        Way::Whole | Way::Again(_) => number,
+        Way::Folded(state) => state,
+    }
+}
+
+/// Begins a link of a picture to a node's row.
+fn begin_link<O: Write>(state: u64, id: FullNodeId, out: &mut O) -> io::Result<()> {
+    out.write_all(b"<a tabindex=\"-1\" href=\"#")?;
+    write_anchor(state, id, out)?;
+    out.write_all(b"\">")
 }
 
 /// Begins a picture that shows this frame.
@@ -60,47 +153,23 @@ fn begin_picture<O: Write>(number: u64, frame: Frame, out: &mut O) -> io::Result
     )
 }
 
-/// Draws a node's box as a link to its row of the outline, with the node's label or value in it: of a node with children
-/// at the top.
-fn write_box<O: Write>(
+/// Draws a node's box, with the node's label or value in it: of a node with children at the top.
+pub(crate) fn write_drawn<O: Write>(
     alloc: Global,
-    number: u64,
     frame: Frame,
     rect: Frame,
     place: &Place,
     out: &mut O,
 ) -> Result<(), Fault> {
-    begin_box(number, rect, place, out)?;
-    if !place.is_left_out {
-        write_caption(alloc, frame, rect, place, out)?;
-    }
-    out.write_all(b"</a>\n")?;
-    Ok(())
-}
-
-/// Begins the link, and draws the box.
-fn begin_box<O: Write>(number: u64, rect: Frame, place: &Place, out: &mut O) -> io::Result<()> {
-    out.write_all(b"<a tabindex=\"-1\" href=\"#")?;
-    write_anchor(number, place.node.id(), out)?;
-    out.write_all(b"\">")?;
-    write_rect(box_class(place), rect, out)
+    write_rect(box_class(place), rect, out)?;
+    write_caption(alloc, frame, rect, place, out)
 }
 
 /// The classes of a box.
 fn box_class(place: &Place) -> &'static str {
     match place.answer {
-        _ if place.is_left_out => left_out_class(place.mark),
         FilterResult::Include => included_class(place.mark),
         _ => transparent_class(place.mark),
-    }
-}
-
-/// The classes of the box of a node that is excluded with a subtree.
-fn left_out_class(mark: Option<Mark>) -> &'static str {
-    match mark {
-        None => "x",
-        Some(Mark::Added) => "x a",
-        Some(Mark::Updated) => "x u",
     }
 }
 

@@ -6,11 +6,11 @@ ghost use Rattle.views.specs.PlainWalks.{node_in, node_of};
 ghost use Rattle.views.specs.Descendants.{descendants};
 ghost use Rattle.views.specs.ShownWorlds.{world_of};
 ghost use Rattle.page.specs.Known.{IsStep, IsStepAbove};
-ghost use Rattle.page.specs.Places.{node_at, IsPlace, AreNodes, from_node, shown_nodes};
+ghost use Rattle.page.specs.Places.{box_drawn, node_at, IsOpenUnless, IsPlace, AreNodes, from_node, shown_nodes};
 
 use crate::carried::{Step, known_of};
 use crate::marks::{Mark, Marks};
-use crate::secrets::{Hidden, hidden_below};
+use crate::secrets::{Hidden, has_password, hidden_where};
 use accesskit_consumer::{FilterResult, NodeRef, StateRef};
 use schema::WideRect;
 use std::alloc::{AllocError, Global};
@@ -45,8 +45,10 @@ pub(crate) fn places<'a>(
         IfOk result (λ places. AreNodes w (shown_nodes w) (map node_at places.items)) }
     ensures each { IfOk result (λ places. All IsPlace places.items) }
 {
+    state.know();
     let nodes = nodes_from(alloc, state.root())?;
-    places_of(alloc, state, &nodes, marks)
+    let has_one = has_password(&nodes);
+    places_of(alloc, state, &nodes, has_one, marks)
 }
 
 /// A node and all below it, a parent before its children.
@@ -68,21 +70,23 @@ fn nodes_below<'a>(alloc: Global, top: NodeRef<'a>) -> Result<Vec<NodeRef<'a>>, 
     Ok(nodes)
 }
 
-/// Each of these nodes of the state with its properties, each after its parent.
+/// Each of these nodes of the state with its properties, each after its parent. It is known whether the state has a password.
 fn places_of<'a>(
     alloc: Global,
     state: StateRef<'a>,
     nodes: &[NodeRef<'a>],
+    has_password: bool,
     marks: &Marks,
 ) -> Result<Vec<Place<'a>>, AllocError>
-    requires { All (λ node. world_at node ≡ world_of state) nodes.now }
+    requires open { IsOpenUnless has_password (world_of state) }
+    requires nodes { All (λ node. world_at node ≡ world_of state) nodes.now }
     ensures nodes { IfOk result (λ places. map node_at places.items ≡ nodes.now) }
     ensures each { IfOk result (λ places. All IsPlace places.items) }
 {
     let mut path = Vec::new(alloc);
     let mut places = Vec::new(alloc);
     for node in nodes {
-        places.push(next_place(*node, marks, &mut path)?)?;
+        places.push(next_place(*node, has_password, marks, &mut path)?)?;
     }
     Ok(places)
 }
@@ -90,10 +94,12 @@ fn places_of<'a>(
 /// The next node with its properties. The path has the previous node and its ancestors.
 fn next_place<'a>(
     node: NodeRef<'a>,
+    has_password: bool,
     marks: &Marks,
     path: &mut Vec<Step>,
 ) -> Result<Place<'a>, AllocError>
-    requires { All (IsStep (world_at node)) path.old.items }
+    requires open { IsOpenUnless has_password (world_at node) }
+    requires path { All (IsStep (world_at node)) path.old.items }
     ensures path { All (IsStep (world_at node.entry)) path.new.items }
     ensures place { IfOk result IsPlace }
     ensures node { IfOk result (λ place. node_at place ≡ node.entry) }
@@ -105,7 +111,7 @@ fn next_place<'a>(
         known: known_of(node, above),
     };
     path.push(step)?;
-    Ok(place_at(node, depth, step, marks))
+    Ok(place_at(node, has_password, depth, step, marks))
 }
 
 /// The last step of the path that is the node's parent, if there is one; the path then ends there.
@@ -126,7 +132,14 @@ fn step_above(node: NodeRef, path: &mut Vec<Step>) -> Option<Step>
 }
 
 /// A node with these properties.
-fn place_at<'a>(node: NodeRef<'a>, depth: usize, step: Step, marks: &Marks) -> Place<'a>
+fn place_at<'a>(
+    node: NodeRef<'a>,
+    has_password: bool,
+    depth: usize,
+    step: Step,
+    marks: &Marks,
+) -> Place<'a>
+    requires open { IsOpenUnless has_password (world_at node) }
     requires step { IsStep (world_at node) step }
     requires id { step.id ≡ id_at node }
     ensures place { IsPlace result }
@@ -137,9 +150,19 @@ fn place_at<'a>(node: NodeRef<'a>, depth: usize, step: Step, marks: &Marks) -> P
         depth,
         answer: step.known.answer,
         is_hidden: step.known.is_hidden,
-        hidden: hidden_below(&node, step.known.is_in_password),
+        hidden: hidden_where(&node, has_password, step.known.is_in_password),
         rect: step.known.rect,
         is_left_out: step.known.is_left_out,
         mark: marks.get(&step.id).copied(),
     }
+}
+
+/// The box that a picture draws for a node: none if the node, or one above it, is hidden or clipped with all below it.
+pub(crate) fn drawn_rect(place: &Place) -> Option<WideRect>
+    ensures { result ≡ box_drawn place.now }
+{
+    if place.is_left_out {
+        return None;
+    }
+    place.rect
 }

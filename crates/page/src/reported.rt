@@ -1,18 +1,20 @@
 //! Writing each event of an update as it is reported.
-ghost use Rattle.std.specs.Prelude.{◌≡◌, ◌↔◌, ◌++◌, codes, IsTrue, List, None, IfNone, IfOk, OnOk, map, option_copied};
+ghost use Rattle.std.specs.Prelude.{◌≡◌, ◌↔◌, ◌++◌, codes, IsTrue, List, None, IfNone, IfOk, Ok, OnOk, map, option_copied};
 ghost use Rattle.std.specs.Io.KnownBytes.{Appends};
 ghost use Rattle.model.specs.Events.{Event, Told};
+ghost use Rattle.model.specs.World.{World};
 ghost use Rattle.session.specs.Replied.{IsStep};
-ghost use Rattle.views.specs.Nodes.{seen_node, seen_through};
+ghost use Rattle.views.specs.Nodes.{seen_node, seen_through, world_at};
 ghost use Rattle.page.specs.Differences.{box_change, box_or_none, TellsBox, TellsDifferences, TellsStates, TellsWords};
+ghost use Rattle.page.specs.Found.{AreReady, AreRightIf, IsOfStep, IsSeenIn};
 ghost use Rattle.page.specs.Named.{name_text, linked_text};
 ghost use Rattle.page.specs.Reports.{item_begun, item_ended, list_begun, list_ended, new_focus, old_focus, report_of, Reports, ReportsAdded, ReportsFocus, ReportsRemoved, ReportsStep, ReportsUpdated, TellsUpdated};
 ghost use Rattle.page.specs.Said.{TellsChange, arrow, change_text, text_or_none};
 
 use crate::faults::Fault;
+use crate::found::{Found, View, view_if, view_of};
 use crate::marks::{Mark, Marks, Tally};
 use crate::names::{write_linked_name, write_name};
-use crate::secrets::hidden_of;
 use crate::sections::{Outcome, outcome_of};
 use crate::words::{shown_label, shown_value, state_words};
 use accesskit_consumer::{NodeRef, TreeChangeHandler};
@@ -48,6 +50,8 @@ pub(crate) fn report_step<O: Write>(
         out: &mut *out,
         tally: Tally::none(),
         marks: Marks::new(alloc),
+        before: None,
+        after: None,
         fault: None,
     };
     let reply = step_reported(session, command, &mut reporter);
@@ -57,8 +61,12 @@ pub(crate) fn report_step<O: Write>(
         out: written,
         tally,
         marks,
+        before,
+        after,
         fault,
     } = reporter;
+    drop(before);
+    drop(after);
     // This does nothing. The proof reads from it what the output has.
     let _ = &*written;
     if let Some(fault) = fault {
@@ -83,7 +91,9 @@ fn step_reported<O: Write>(
     ensures step { let before = report_of (O.contents reporter.old.out.now) reporter.old.tally reporter.old.marks in
         let after = report_of (O.contents reporter.new.out.now) reporter.new.tally reporter.new.marks in
         (events : List Event) × IsStep session.old command session.new events result
-        × IfNone reporter.new.fault ((reporter.old.fault ≡ None) × Told (Reports reporter.old.state) before events after) }
+        × IfNone reporter.new.fault ((reporter.old.fault ≡ None)
+        × (AreReady session.old session.new reporter.old.before reporter.old.after →
+        Told (Reports reporter.old.state) before events after)) }
 {
     session.step(command, reporter)
 }
@@ -123,14 +133,14 @@ fn write_added<O: Write>(
     alloc: Global,
     state: u64,
     tally: Tally,
-    node: &NodeRef,
+    view: View,
     out: &mut O,
 ) -> Result<(), Fault>
-    ensures { let text = item_begun tally (codes "a") (codes "added") ++ linked_text state node.now ++ item_ended in
+    ensures { let text = item_begun tally (codes "a") (codes "added") ++ linked_text state view.entry ++ item_ended in
         OnOk result (Appends (O.contents out.old) (O.contents out.new) text) }
 {
     begin_item(tally, "a", "added", out)?;
-    write_linked_name(alloc, state, node, out)?;
+    write_linked_name(alloc, state, view, out)?;
     out.write_all(b"</li>\n")?;
     Ok(())
 }
@@ -140,11 +150,11 @@ fn write_updated<O: Write>(
     alloc: Global,
     state: u64,
     tally: Tally,
-    old: &NodeRef,
-    new: &NodeRef,
+    old: View,
+    new: View,
     out: &mut O,
 ) -> Result<(), Fault>
-    ensures { OnOk result (TellsUpdated state tally old.now new.now (O.contents out.old) (O.contents out.new)) }
+    ensures { OnOk result (TellsUpdated state tally old.entry new.entry (O.contents out.old) (O.contents out.new)) }
 {
     begin_item(tally, "u", "updated", out)?;
     write_linked_name(alloc, state, new, out)?;
@@ -158,8 +168,8 @@ fn write_focus<O: Write>(
     alloc: Global,
     state: u64,
     tally: Tally,
-    old: Option<&NodeRef>,
-    new: Option<&NodeRef>,
+    old: Option<View>,
+    new: Option<View>,
     out: &mut O,
 ) -> Result<(), Fault>
     ensures { let text = item_begun tally (codes "f") (codes "focus") ++ old_focus old.entry ++ arrow ++ new_focus state new.entry ++ item_ended in
@@ -174,11 +184,11 @@ fn write_focus<O: Write>(
 }
 
 /// Writes which node had the focus.
-fn write_old_focus<O: Write>(alloc: Global, old: Option<&NodeRef>, out: &mut O) -> Result<(), Fault>
+fn write_old_focus<O: Write>(alloc: Global, old: Option<View>, out: &mut O) -> Result<(), Fault>
     ensures { OnOk result (Appends (O.contents out.old) (O.contents out.new) (old_focus old.entry)) }
 {
     match old {
-        Some(node) => write_name(alloc, node, out),
+        Some(view) => write_name(alloc, view, out),
         None => {
             out.write_all(b"<i>none</i>")?;
             Ok(())
@@ -190,13 +200,13 @@ fn write_old_focus<O: Write>(alloc: Global, old: Option<&NodeRef>, out: &mut O) 
 fn write_new_focus<O: Write>(
     alloc: Global,
     state: u64,
-    new: Option<&NodeRef>,
+    new: Option<View>,
     out: &mut O,
 ) -> Result<(), Fault>
     ensures { OnOk result (Appends (O.contents out.old) (O.contents out.new) (new_focus state new.entry)) }
 {
     match new {
-        Some(node) => write_linked_name(alloc, state, node, out),
+        Some(view) => write_linked_name(alloc, state, view, out),
         None => {
             out.write_all(b"<i>none</i>")?;
             Ok(())
@@ -208,14 +218,14 @@ fn write_new_focus<O: Write>(
 fn write_removed<O: Write>(
     alloc: Global,
     tally: Tally,
-    node: &NodeRef,
+    view: View,
     out: &mut O,
 ) -> Result<(), Fault>
-    ensures { let text = item_begun tally (codes "r") (codes "removed") ++ name_text node.now ++ item_ended in
+    ensures { let text = item_begun tally (codes "r") (codes "removed") ++ name_text view.entry ++ item_ended in
         OnOk result (Appends (O.contents out.old) (O.contents out.new) text) }
 {
     begin_item(tally, "r", "removed", out)?;
-    write_name(alloc, node, out)?;
+    write_name(alloc, view, out)?;
     out.write_all(b"</li>\n")?;
     Ok(())
 }
@@ -229,6 +239,10 @@ struct Reporter<'a, O> {
     out: &'a mut O,
     tally: Tally,
     marks: Marks,
+    /// What was found out about the nodes of the state before, if anything.
+    before: Option<Found>,
+    /// And about those of the state after.
+    after: Option<Found>,
     fault: Option<Fault>,
 }
 
@@ -239,9 +253,13 @@ impl<'a, O: Write> Reporter<'a, O> {
         ensures kept { (self.new.state ≡ self.old.state) × (self.new.fault ≡ self.old.fault) }
         ensures told { let before = report_of (O.contents self.old.out.now) self.old.tally self.old.marks in
             let after = report_of (O.contents self.new.out.now) self.new.tally self.new.marks in
-            OnOk result (ReportsAdded self.old.state before (seen_node node.now) after) }
+            AreRightIf (world_at node.now) self.old.after → OnOk result (ReportsAdded self.old.state before (seen_node node.now) after) }
+        ensures found { let w = world_at node.now in
+            AreRightIf w self.old.after → OnOk result (AreRightIf w self.new.after) }
+        ensures others { self.new.before ≡ self.old.before }
     {
-        write_added(self.alloc, self.state, self.tally, node, self.out)?;
+        let view = view_of(self.alloc, &mut self.after, node)?;
+        write_added(self.alloc, self.state, self.tally, view, self.out)?;
         self.tally.added = self.tally.added.saturating_add(1);
         self.marks.insert(node.id(), Mark::Added)?;
         Ok(())
@@ -253,9 +271,14 @@ impl<'a, O: Write> Reporter<'a, O> {
         ensures kept { (self.new.state ≡ self.old.state) × (self.new.fault ≡ self.old.fault) }
         ensures told { let before = report_of (O.contents self.old.out.now) self.old.tally self.old.marks in
             let after = report_of (O.contents self.new.out.now) self.new.tally self.new.marks in
+            AreReady (world_at old.now) (world_at new.now) self.old.before self.old.after →
             OnOk result (ReportsUpdated self.old.state before (seen_node old.now) (seen_node new.now) after) }
+        ensures found { let o = world_at old.now in let n = world_at new.now in
+            AreReady o n self.old.before self.old.after → OnOk result (AreReady o n self.new.before self.new.after) }
     {
-        write_updated(self.alloc, self.state, self.tally, old, new, self.out)?;
+        let earlier = view_of(self.alloc, &mut self.before, old)?;
+        let later = view_of(self.alloc, &mut self.after, new)?;
+        write_updated(self.alloc, self.state, self.tally, earlier, later, self.out)?;
         self.tally.updated = self.tally.updated.saturating_add(1);
         self.marks.insert(new.id(), Mark::Updated)?;
         Ok(())
@@ -267,9 +290,14 @@ impl<'a, O: Write> Reporter<'a, O> {
         ensures kept { (self.new.state ≡ self.old.state) × (self.new.fault ≡ self.old.fault) }
         ensures told { let before = report_of (O.contents self.old.out.now) self.old.tally self.old.marks in
             let after = report_of (O.contents self.new.out.now) self.new.tally self.new.marks in
+            (o n : World) → IsSeenIn o old.entry → IsSeenIn n new.entry → AreReady o n self.old.before self.old.after →
             OnOk result (ReportsFocus self.old.state before (seen_through old.entry) (seen_through new.entry) after) }
+        ensures found { (o n : World) → IsSeenIn o old.entry → IsSeenIn n new.entry → AreReady o n self.old.before self.old.after →
+            OnOk result (AreReady o n self.new.before self.new.after) }
     {
-        write_focus(self.alloc, self.state, self.tally, old, new, self.out)?;
+        let earlier = view_if(self.alloc, &mut self.before, old)?;
+        let later = view_if(self.alloc, &mut self.after, new)?;
+        write_focus(self.alloc, self.state, self.tally, earlier, later, self.out)?;
         self.tally.moved = self.tally.moved.saturating_add(1);
         Ok(())
     }
@@ -280,71 +308,85 @@ impl<'a, O: Write> Reporter<'a, O> {
         ensures kept { (self.new.state ≡ self.old.state) × (self.new.fault ≡ self.old.fault) }
         ensures told { let before = report_of (O.contents self.old.out.now) self.old.tally self.old.marks in
             let after = report_of (O.contents self.new.out.now) self.new.tally self.new.marks in
-            OnOk result (ReportsRemoved before (seen_node node.now) after) }
+            AreRightIf (world_at node.now) self.old.before → OnOk result (ReportsRemoved before (seen_node node.now) after) }
+        ensures found { let w = world_at node.now in
+            AreRightIf w self.old.before → OnOk result (AreRightIf w self.new.before) }
+        ensures others { self.new.after ≡ self.old.after }
     {
-        write_removed(self.alloc, self.tally, node, self.out)?;
+        let view = view_of(self.alloc, &mut self.before, node)?;
+        write_removed(self.alloc, self.tally, view, self.out)?;
         self.tally.removed = self.tally.removed.saturating_add(1);
         Ok(())
+    }
+}
+
+/// What went wrong, if anything did.
+fn fault_of(told: Result<(), Fault>) -> Option<Fault>
+    ensures { IfNone result (told ≡ Ok tt) }
+{
+    match told {
+        Ok(()) => None,
+        Err(fault) => Some(fault),
     }
 }
 
 impl<'a, O: Write> TreeChangeHandler for Reporter<'a, O> {
     ghost steps = { λ s e t. (t.out.ghost_name ≡ s.out.ghost_name) × (t.state ≡ s.state)
         × IfNone t.fault ((s.fault ≡ None)
-        × Reports s.state (report_of (O.contents s.out.now) s.tally s.marks) e (report_of (O.contents t.out.now) t.tally t.marks)) };
+        × ((old new : World) → IsOfStep old new e → AreReady old new s.before s.after →
+        Reports s.state (report_of (O.contents s.out.now) s.tally s.marks) e (report_of (O.contents t.out.now) t.tally t.marks)
+        × AreReady old new t.before t.after)) };
 
     fn node_added(&mut self, node: &NodeRef) {
-        if self.fault.is_none() {
-            if let Err(fault) = self.tell_added(node) {
-                self.fault = Some(fault);
-            }
+        if self.fault.is_some() {
+            return;
         }
+        let told = self.tell_added(node);
+        self.fault = fault_of(told);
     }
 
     fn node_updated(&mut self, old_node: &NodeRef, new_node: &NodeRef) {
-        if self.fault.is_none() {
-            if let Err(fault) = self.tell_updated(old_node, new_node) {
-                self.fault = Some(fault);
-            }
+        if self.fault.is_some() {
+            return;
         }
+        let told = self.tell_updated(old_node, new_node);
+        self.fault = fault_of(told);
     }
 
     fn focus_moved(&mut self, old_node: Option<&NodeRef>, new_node: Option<&NodeRef>) {
-        if self.fault.is_none() {
-            if let Err(fault) = self.tell_focus(old_node, new_node) {
-                self.fault = Some(fault);
-            }
+        if self.fault.is_some() {
+            return;
         }
+        let told = self.tell_focus(old_node, new_node);
+        self.fault = fault_of(told);
     }
 
     fn node_removed(&mut self, node: &NodeRef) {
-        if self.fault.is_none() {
-            if let Err(fault) = self.tell_removed(node) {
-                self.fault = Some(fault);
-            }
+        if self.fault.is_some() {
+            return;
         }
+        let told = self.tell_removed(node);
+        self.fault = fault_of(told);
     }
 }
 
 /// Writes how two states of a node differ, as far as a page shows it.
 fn write_differences<O: Write>(
     alloc: Global,
-    old: &NodeRef,
-    new: &NodeRef,
+    old: View,
+    new: View,
     out: &mut O,
 ) -> Result<(), Fault>
-    ensures { OnOk result (TellsDifferences old.now new.now (O.contents out.old) (O.contents out.new)) }
+    ensures { OnOk result (TellsDifferences old.entry new.entry (O.contents out.old) (O.contents out.new)) }
 {
-    let was_hidden = hidden_of(old);
-    let is_hidden = hidden_of(new);
-    let label = shown_label(alloc, old, was_hidden.label)?;
-    let new_label = shown_label(alloc, new, is_hidden.label)?;
+    let label = shown_label(alloc, &old.node, old.facts.hidden.label)?;
+    let new_label = shown_label(alloc, &new.node, new.facts.hidden.label)?;
     write_difference("label", label.as_deref(), new_label.as_deref(), out)?;
-    let value = shown_value(alloc, old, was_hidden.value)?;
-    let new_value = shown_value(alloc, new, is_hidden.value)?;
+    let value = shown_value(alloc, &old.node, old.facts.hidden.value)?;
+    let new_value = shown_value(alloc, &new.node, new.facts.hidden.value)?;
     write_difference("value", value.as_deref(), new_value.as_deref(), out)?;
-    write_state_difference(old, new, out)?;
-    write_box_difference(old, new, out)?;
+    write_state_difference(&old.node, &new.node, out)?;
+    write_box_difference(old.facts.rect, new.facts.rect, out)?;
     Ok(())
 }
 
@@ -373,15 +415,17 @@ fn write_word_differences<O: Write>(
 }
 
 /// Writes the boxes of two states of a node, if they differ.
-fn write_box_difference<O: Write>(old: &NodeRef, new: &NodeRef, out: &mut O) -> io::Result<()>
-    ensures { OnOk result (TellsBox old.now new.now (O.contents out.old) (O.contents out.new)) }
+fn write_box_difference<O: Write>(
+    old: Option<WideRect>,
+    new: Option<WideRect>,
+    out: &mut O,
+) -> io::Result<()>
+    ensures { OnOk result (TellsBox old new (O.contents out.old) (O.contents out.new)) }
 {
-    let was = old.bounding_box();
-    let is = new.bounding_box();
-    if is_same_box(was, is) {
+    if is_same_box(old, new) {
         return Ok(());
     }
-    write_box_change(was, is, out)
+    write_box_change(old, new, out)
 }
 
 /// Writes that a box was the one and is the other.

@@ -1,10 +1,12 @@
 //! What of a node's texts may show what is typed into a password.
-ghost use Rattle.std.specs.Prelude.{◌≡◌, [], false};
+ghost use Rattle.std.specs.Prelude.{◌≡◌, ◌||◌, [], false};
+ghost use Rattle.std.specs.List.{list_any};
 ghost use Rattle.model.specs.RoleClasses.{holds_text, is_document as is_document_role};
 ghost use Rattle.hidden_texts.specs.Hidden.{is_in_password as stands_in_password, hides_label, hides_value};
 ghost use Rattle.views.specs.LabelWalks.{labels_left};
 ghost use Rattle.views.specs.Nodes.{world_at, id_at, data_at};
 ghost use Rattle.page.specs.Laws.{TextsMayBeShown, TypingSaysTheSame};
+ghost use Rattle.page.specs.Places.{IsOpenUnless, is_password_at};
 ghost use Rattle.page.specs.Said.{hidden_at};
 
 use accesskit_consumer::NodeRef;
@@ -26,8 +28,42 @@ pub(crate) fn hidden_of(node: &NodeRef) -> Hidden
     hidden_below(node, is_in_password(node))
 }
 
+/// Whether one of these nodes is a password input.
+pub(crate) fn has_password(nodes: &[NodeRef<'_>]) -> bool
+    ensures { result ≡ list_any is_password_at nodes.now }
+{
+    let mut has_one = false;
+    for node in nodes {
+        has_one = either(has_one, node.is_password_input());
+    }
+    has_one
+}
+
+/// Whether one of these holds.
+fn either(one: bool, other: bool) -> bool
+    ensures { result ≡ (one || other) }
+{
+    one || other
+}
+
+/// The same of a node of which it is known whether an ancestor is a password input, and whether its state has any: where it
+/// has none, nothing is hidden.
+pub(crate) fn hidden_where(node: &NodeRef, has_password: bool, is_in_password: bool) -> Hidden
+    requires open { IsOpenUnless has_password (world_at node.now) }
+    requires within { is_in_password ≡ stands_in_password (world_at node.now) (id_at node.now) }
+    ensures { result ≡ hidden_at (world_at node.now) (id_at node.now) }
+{
+    if has_password {
+        return hidden_below(node, is_in_password);
+    }
+    Hidden {
+        label: false,
+        value: false,
+    }
+}
+
 /// The same of a node of which it is known whether an ancestor is a password input.
-pub(crate) fn hidden_below(node: &NodeRef, is_in_password: bool) -> Hidden
+fn hidden_below(node: &NodeRef, is_in_password: bool) -> Hidden
     requires { is_in_password ≡ stands_in_password (world_at node.now) (id_at node.now) }
     ensures { result ≡ hidden_at (world_at node.now) (id_at node.now) }
 {

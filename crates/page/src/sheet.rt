@@ -47,7 +47,7 @@ pub(crate) static SHEET: [&str; 48] = [
     "figcaption{color:var(--dim);font-size:.9rem}",
     "figure>svg{display:block;width:100%;height:auto;max-height:60vh;background:var(--panel);border:1px solid var(--line);border-radius:.4rem}",
     "rect{fill:var(--box);stroke:var(--edge);stroke-width:1;vector-effect:non-scaling-stroke;fill-opacity:.85}",
-    "rect.t{fill:none;stroke-dasharray:2 3}rect.x{fill:none;stroke-dasharray:4 4;opacity:.45}rect.a{fill:var(--abg);stroke:var(--a);stroke-width:2.5}rect.u{fill:var(--ubg);stroke:var(--u);stroke-width:2.5;stroke-dasharray:9 3}rect.ring{fill:none;stroke:var(--f);stroke-width:4}",
+    "rect.t{fill:none;stroke-dasharray:2 3}rect.a{fill:var(--abg);stroke:var(--a);stroke-width:2.5}rect.u{fill:var(--ubg);stroke:var(--u);stroke-width:2.5;stroke-dasharray:9 3}rect.ring{fill:none;stroke:var(--f);stroke-width:4}",
     "text{fill:var(--fg);text-anchor:middle;dominant-baseline:central}text.l{text-anchor:start}",
     "@media(min-width:60rem){.state{grid-template-columns:minmax(0,1fr) minmax(0,1fr)}figure{order:0;position:sticky;top:1rem;align-self:start}figure>svg,.outline{max-height:82vh}.outline{overflow:auto}}@media print{.outline{max-height:none}}@media(min-width:90rem){body{display:grid;grid-template-columns:17rem minmax(0,1fr);grid-template-areas:'h h' 'n m'}body>header{grid-area:h}main{grid-area:m;min-width:0;border-left:1px solid var(--line)}nav{grid-area:n;position:sticky;top:0;align-self:start;max-height:100vh;overflow:auto}}",
 ];

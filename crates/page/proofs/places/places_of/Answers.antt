@@ -13,7 +13,7 @@ loop-node-preserved c =
     let x = c.node-item.result in let i = c.loop-node.node-index in let nodes = c.args.nodes.now in
     let w = world_of c.args.state in let within = c.loop-node-test.true in
     let old = c.loop-node.places.items in let place = c.in_ok-next_place.field-0 in let made = c.in_ok-next_place.ensures in
-    let same : world_at x ≡ w = subst (λ n. world_at n ≡ w) (sym c.node-item.is) (All-get_or (λ n. world_at n ≡ w) nodes i x within c.requires) in
+    let same : world_at x ≡ w = subst (λ n. world_at n ≡ w) (sym c.node-item.is) (All-get_or (λ n. world_at n ≡ w) nodes i x within c.requires.nodes) in
     record {
       path = subst (λ v. All (IsStep v) c.next_place.new.path.items) same c.next_place.ensures.path;
       nodes =

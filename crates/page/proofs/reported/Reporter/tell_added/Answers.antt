@@ -1,4 +1,4 @@
-use Rattle.std.proofs.Common.{ℕ, Some, refl, ap, subst}
+use Rattle.std.proofs.Common.{ℕ, Some, ap, subst}
 use Rattle.std.specs.BTreeMap.{Updates}
 use Rattle.model.specs.declared.FullNodeId.{FullNodeId}
 use Rattle.model.specs.FullIds.{full_cmp}
@@ -7,12 +7,17 @@ use Rattle.page.specs.declared.marks.Tally.{Tally}
 use Rattle.page.proofs.reported.Reporter.tell_added.Goals as goal
 
 pub returns-clause-told : goal.returns-clause-told
-returns-clause-told g c =
+returns-clause-told g c = λ ready.
     let tally : Tally = c.args.self.now.tally in
+    let seen = c.in_ok-view.ensures ready in
     record {
-      node = c.args.node.now;
-      seen = refl;
+      node = c.in_ok-view.view;
+      seen = seen.0.0;
+      right = seen.0.1;
       told = c.in_ok-write_added.ensures;
       tally = ap (λ (n : ℕ). record tally { added = n }) c.saturating_add-self.ensures;
       marks = subst (λ (id : FullNodeId). Updates full_cmp c.args.self.now.marks c.insert.new.self id (Some Added)) c.id.ensures c.in_ok-insert.ensures.updates;
     }
+
+pub returns-clause-found : goal.returns-clause-found
+returns-clause-found g c = λ ready. (c.in_ok-view.ensures ready).1

@@ -1,0 +1,17 @@
+use Rattle.std.proofs.Common.{refl, sym, ◌∙◌}
+use Rattle.page.proofs.Failing.{done, none_is, stays, told_rightly}
+use Rattle.page.proofs.reported.ReporterTreeChangeHandler.focus_moved.Goals as goal
+
+pub returns-then-is_some : goal.returns-then-is_some
+returns-then-is_some g c = (refl, refl, stays _ c.args.self.now.fault (sym c.is_some.ensures ∙ c.if-is_some.true))
+
+pub returns : goal.returns
+returns g c =
+    let s = c.args.self.now in
+    let told = c.tell_focus-told in
+    let none = none_is s.fault (sym c.is_some.ensures ∙ c.if-is_some.false) in (
+      told.ensures.output,
+      told.ensures.kept.0,
+      told_rightly told.result c.fault_of-self.result c.fault_of-self.ensures none (λ e old new of ready.
+          (done told.result e (told.ensures.told old new of.0 of.1 ready), done told.result e (told.ensures.found old new of.0 of.1 ready))),
+    )

@@ -1,0 +1,21 @@
+use Rattle.std.proofs.Common.{refl, sym, subst, ◌∙◌}
+use Rattle.page.specs.Found.{AreRightIf}
+use Rattle.page.proofs.Failing.{done, none_is, stays, told_rightly}
+use Rattle.page.proofs.reported.ReporterTreeChangeHandler.node_added.Goals as goal
+
+pub returns-then-is_some : goal.returns-then-is_some
+returns-then-is_some g c = (refl, refl, stays _ c.args.self.now.fault (sym c.is_some.ensures ∙ c.if-is_some.true))
+
+pub returns : goal.returns
+returns g c =
+    let s = c.args.self.now in
+    let told = c.tell_added-told in
+    let none = none_is s.fault (sym c.is_some.ensures ∙ c.if-is_some.false) in (
+      told.ensures.output,
+      told.ensures.kept.0,
+      told_rightly told.result c.fault_of-self.result c.fault_of-self.ensures none (λ e old new of ready.
+          let right = subst (λ w. AreRightIf w s.after) (sym of) ready.1 in (
+            done told.result e (told.ensures.told right),
+            (subst (AreRightIf old) (sym told.ensures.others) ready.0, subst (λ w. AreRightIf w told.new.self.after) of (done told.result e (told.ensures.found right))),
+          )),
+    )
