@@ -13,10 +13,10 @@ use self::names::{write_name, write_path};
 use accesskit_consumer::node::NodeRef;
 use atree_script::{ShownId, Stop, write_sides, write_text};
 use hidden_texts::{hides_value, is_in_password, shown_value};
+use model::is_same;
 use schema::WideRect;
 use std::alloc::Global;
 use std::io::{self, Write};
-use views::node::same::is_same;
 
 /// Prints a node below the top: its id, value, path and bounds, and the node at its centre.
 pub(crate) fn report<O: Write>(

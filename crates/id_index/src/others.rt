@@ -1,5 +1,5 @@
 //! Entries in a list, which a trie finds by their ids.
-ghost use Rattle.std.specs.Prelude.{◌≡◌, ◌<◌, ◌≤◌, ◌+◌, [], length, cond, option_copied, is_some, Some, None, IsSome, IfSome, IfOk, OnOk, OnErr, IsTrue, ◌↔◌};
+ghost use Rattle.std.specs.Prelude.{◌≡◌, ◌<◌, ◌≤◌, ◌+◌, [], length, cond, option_copied, is_some, Some, None, IsSome, IfSome, IfOk, OnOk, OnErr};
 ghost use Rattle.std.specs.Option.{option_copied_mut};
 ghost use Rattle.std.specs.Borrow.{sem};
 ghost use Rattle.std.specs.BTreeMap.{is_at};
@@ -12,7 +12,7 @@ ghost use Rattle.id_index.specs.Lends.{lends_value, lends_other};
 
 use crate::room::make_room;
 use crate::trie::Trie;
-use model::FullNodeId;
+use model::{FullNodeId, is_same};
 use std::alloc::{AllocError, Global};
 use std::marker::Model;
 use std::mem;
@@ -179,12 +179,6 @@ fn id_of<V>(entries: &[(FullNodeId, V)], number: usize) -> Option<FullNodeId>
 {
     let entry = entries.get(number)?;
     Some(entry.0)
-}
-
-fn is_same(a: FullNodeId, b: FullNodeId) -> bool
-    ensures { IsTrue result ↔ (a ≡ b) }
-{
-    a == b
 }
 
 #[tactic(auto, using(crate::proofs::Led::below_kept, crate::proofs::Led::below_set, crate::proofs::Led::below_split))]

@@ -3,7 +3,7 @@
 #![tactic(auto)]
 
 ghost use Rattle.model.specs.FullIds.{full_number};
-ghost use Rattle.std.specs.Prelude.{◌≡◌};
+ghost use Rattle.std.specs.Prelude.{◌≡◌, ◌↔◌, IsTrue};
 
 mod events;
 pub mod filters;
@@ -19,6 +19,13 @@ use schema::NodeId;
 pub struct FullNodeId {
     pub tree: u32,
     pub node: NodeId,
+}
+
+/// Whether the ids name one node.
+pub fn is_same(a: FullNodeId, b: FullNodeId) -> bool
+    ensures { IsTrue result ↔ (a ≡ b) }
+{
+    a == b
 }
 
 /// A place: a parent's id, and an index among its children.

@@ -1,5 +1,5 @@
 //! Speech for a moved focus: the dialog and the group that it enters, the headers of its cell, and the node.
-ghost use Rattle.std.specs.Prelude.{◌≡◌, ◌↔◌, true, false, IsTrue, IfSome, OnOk, option_map, option_copied};
+ghost use Rattle.std.specs.Prelude.{◌≡◌, true, false, IfSome, OnOk, option_map, option_copied};
 ghost use Rattle.model.specs.Focus.{IsActiveDialog};
 ghost use Rattle.hidden_texts.specs.Shown.{shown_label};
 ghost use Rattle.views.specs.Nodes.{world_at, id_at, data_at, seen_node, seen_through};
@@ -12,15 +12,9 @@ use crate::groups::say_group;
 use crate::headers::say_headers;
 use accesskit_consumer::{FullNodeId, NodeRef};
 use hidden_texts::{hides_label, shown_label};
+use model::is_same;
 use phrases::{Dialog, Saying, Voice, news, role_word};
 use std::alloc::{AllocError, Global};
-
-/// Whether the ids name one node.
-pub(crate) fn is_same(a: FullNodeId, b: FullNodeId) -> bool
-    ensures { IsTrue result ↔ (a ≡ b) }
-{
-    a == b
-}
 
 /// The active dialog in the state of a node.
 fn dialog_around<'a>(node: NodeRef<'a>) -> Option<NodeRef<'a>>

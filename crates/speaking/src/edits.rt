@@ -8,13 +8,13 @@ ghost use Rattle.views.specs.Nodes.{world_at, id_at};
 ghost use Rattle.speaking.specs.Lines.{caret_index, caret_said, line_of_runs, text_of_line};
 ghost use Rattle.speaking.specs.Edits.{runs_or_value, edited_text, selected_text, selection_said, IsWithoutNewline, SaysText, SaysLine, SaysCaret, SaysMoves, IsReadOf, SaysEdit, SaysArrival, held_of, SaysTextOf, SaysEdited, IsEdited, SaysFocused, SaysEnd};
 
-use crate::dialogs::is_same;
 use crate::news::News;
 use crate::reading::is_edited;
 use crate::regions::say_news;
 use accesskit_consumer::text::{NodeText, Text, TextSelections};
 use accesskit_consumer::{FullNodeId, NodeRef, StateRef};
 use hidden_texts::shown_value;
+use model::is_same;
 use phrases::{Saying, Voice, edit};
 use std::alloc::{AllocError, Global};
 

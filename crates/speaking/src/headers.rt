@@ -5,10 +5,10 @@ ghost use Rattle.model.specs.Frontier.{filtered_children};
 ghost use Rattle.views.specs.Nodes.{world_at, id_at, data_at, seen_node, seen_through};
 ghost use Rattle.speaking.specs.Headers.{is_said_as, is_cell, is_row, is_of_rows, cell_answer, table_answer, row_answer, cell_around, place_in_row, child_at, if_header, first_row, header_of_column, header_of_row, column_header, row_header, was_header, header_said, headers_said};
 
-use crate::dialogs::is_same;
 use crate::groups::say_named;
 use accesskit_consumer::filters::FilterResult;
 use accesskit_consumer::{FullNodeId, NodeRef};
+use model::is_same;
 use phrases::{Voice, role_word};
 use schema::Role;
 use std::alloc::{AllocError, Global};

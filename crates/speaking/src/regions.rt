@@ -11,10 +11,10 @@ ghost use Rattle.speaking.specs.Above.{above_of, region_of, AreRight};
 ghost use Rattle.speaking.specs.Regions.{AreViews, is_gap, needs_space, spaced, with_part, is_in, is_part, part_at, with_node, sentence, region_said, said_at, news_said};
 
 use crate::above::{Above, look_up};
-use crate::dialogs::is_same;
 use crate::live::{is_space, told_text};
 use crate::news::News;
 use accesskit_consumer::{FullNodeId, NodeRef, StateRef};
+use model::is_same;
 use phrases::{Voice, news};
 use std::alloc::{AllocError, Global};
 use std::collections::BTreeMap;

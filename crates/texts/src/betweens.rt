@@ -10,7 +10,7 @@ ghost use Rattle.texts.specs.Betweens.{if_one_root, between_names};
 use crate::named::run_named;
 use crate::position::TextPosition;
 use crate::range::TextRange;
-use views::node::same::is_same;
+use model::is_same;
 
 impl<'a> TextRange<'a> {
     /// The range between two positions with the same root, in either order; `None` if their roots differ.

@@ -6,7 +6,7 @@ ghost use Rattle.texts.specs.SameRanges.{ends_of, same_text_range, same_text_ran
 use crate::edges::Edge;
 use crate::position::TextPosition;
 use crate::range::TextRange;
-use views::node::same::is_same;
+use model::is_same;
 
 impl Edge<'_> {
     /// Whether both are at the same index of the same run.

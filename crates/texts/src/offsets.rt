@@ -8,8 +8,8 @@ ghost use Rattle.texts.specs.RunNumbers.{number_in};
 ghost use Rattle.texts.specs.Positions.{root_at, position_text, flat_position};
 
 use crate::position::TextPosition;
+use model::is_same;
 use std::cmp::Ordering;
-use views::node::same::is_same;
 use views::runs::Run;
 
 /// Whether a run comes before another one of its root, in the same state.

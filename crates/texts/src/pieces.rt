@@ -7,8 +7,7 @@ ghost use Rattle.texts.specs.TextRanges.{text_in, range_at};
 ghost use Rattle.texts.specs.Pieces.{IsLastPassed, IsNextPiece, IsUpTo, piece_data, pieces_past};
 
 use crate::range::TextRange;
-use model::FullNodeId;
-use views::node::same::is_same;
+use model::{FullNodeId, is_same};
 use views::runs::Run;
 
 /// A part of a run: its characters from one index to before another.

@@ -8,8 +8,8 @@ ghost use Rattle.texts.specs.TextRanges.{IsRangeOf, world_in, root_in, text_in, 
 
 use crate::position::TextPosition;
 use crate::range::TextRange;
+use model::is_same;
 use views::NodeRef;
-use views::node::same::is_same;
 use views::runs::Run;
 
 impl<'a> TextRange<'a> {

@@ -9,8 +9,8 @@ ghost use Rattle.texts.specs.RangeCuts.{located, parts_of, characters_left, word
 
 use crate::position::TextPosition;
 use crate::range::TextRange;
+use model::is_same;
 use std::iter::FusedIterator;
-use views::node::same::is_same;
 
 impl<'a> TextRange<'a> {
     /// Whether a position past the start of the range, on its start side, is before the end.

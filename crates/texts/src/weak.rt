@@ -12,10 +12,9 @@ ghost use Rattle.texts.specs.WeakRanges.{IsNodeFound, IsInView, kept_of, same_we
 use crate::named::position_named;
 use crate::position::TextPosition;
 use crate::range::TextRange;
-use model::FullNodeId;
+use model::{FullNodeId, is_same};
 use std::alloc::{AllocError, Global};
 use std::marker::Model;
-use views::node::same::is_same;
 use views::{NodeRef, StateRef};
 
 /// A range of a text without its state: it can be kept, compared, and looked up in a later state.

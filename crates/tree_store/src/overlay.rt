@@ -1,5 +1,5 @@
 //! An update's changes laid over a state.
-ghost use Rattle.std.specs.Prelude.{◌≡◌, ◌==◌, ◌<◌, ◌^◌, ℕ, List, map, drop, option_copied, option_map, option_and_then, slice_get, Some, None, IsSome, IfSome, IsTrue, ◌↔◌, cond};
+ghost use Rattle.std.specs.Prelude.{◌≡◌, ◌==◌, ◌<◌, ◌^◌, ℕ, List, map, drop, option_copied, option_map, option_and_then, slice_get, Some, None, IsSome, IfSome, cond};
 ghost use Rattle.std.specs.FinMap.{len};
 ghost use Rattle.std.specs.List.Sorted.{IsStrictlySortedBy};
 ghost use Rattle.schema.specs.UpdateData.{update_data, info_data};
@@ -20,7 +20,7 @@ ghost use Rattle.tree_store.specs.Commits.{HasSlots};
 ghost use Rattle.tree_store.specs.Overlays.{laid_over, replacing, root_recorded, IsLaidOver, IsRecordAfter};
 
 use crate::store::Store;
-use model::{FullNodeId, Place};
+use model::{FullNodeId, Place, is_same};
 use schema::{Node, NodeId, TreeId, TreeInfo, TreeUpdate};
 use tree_changes::{Decision, NodeChange, NodeRecord, TreeRecord};
 
@@ -40,12 +40,6 @@ pub(crate) fn change_of(changes: &[(FullNodeId, NodeChange)], id: FullNodeId) ->
         Ok(found) => Some(changes[found].1),
         Err(_) => None,
     }
-}
-
-fn is_same(a: FullNodeId, b: FullNodeId) -> bool
-    ensures { IsTrue result ↔ (a ≡ b) }
-{
-    a == b
 }
 
 /// The change of the node, if the entry at an index is its.

@@ -13,11 +13,10 @@ ghost use Rattle.views.specs.FocusedOne.{IsFocusedOne, is_passed, clipped_from};
 use crate::StateRef;
 use crate::node::NodeRef;
 use crate::node::geometry::meets;
-use crate::node::same::is_same;
 use crate::walks::filter::Filter;
 use crate::walks::siblings::{first_following, first_preceding};
-use model::FullNodeId;
 pub use model::filters::FilterResult;
+use model::{FullNodeId, is_same};
 use schema::{Node, Role, WideRect};
 
 /// The id of the node that is focused, if there is one.

@@ -10,7 +10,6 @@ mod node_reads;
 mod node_ref;
 mod roles;
 pub mod run_texts;
-pub mod same;
 mod upward;
 mod values;
 

@@ -10,14 +10,13 @@ ghost use Rattle.views.specs.Nodes.{world_at, id_at};
 ghost use Rattle.views.specs.RunPlaces.{IsRunPlace, IsRunPlace-prop};
 
 use crate::node::NodeRef;
-use crate::node::same::is_same;
 use crate::walks::ends::{following, preceding};
 use crate::walks::filter::Filter;
 use crate::walks::searches::{next_shown, previous_shown};
 use crate::walks::spot::{Member, Spot};
 pub use defects::{RunDefect, TextDefect};
-use model::FullNodeId;
 use model::filters::FilterResult;
+use model::{FullNodeId, is_same};
 use schema::{Node, Role, WideTranslation};
 
 /// The filter that includes the runs of a root. It looks into all other nodes, but not into runs.

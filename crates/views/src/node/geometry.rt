@@ -6,8 +6,7 @@ ghost use Rattle.views.specs.Nodes.{world_at, id_at, data_at};
 ghost use Rattle.views.specs.Reach.{is_top, transform_to_top, IsInReach};
 
 use crate::node::NodeRef;
-use crate::node::same::is_same;
-use model::FullNodeId;
+use model::{FullNodeId, is_same};
 use schema::{Rect, Translation, WideRect, WideTranslation};
 
 impl NodeRef<'_> {

@@ -9,8 +9,8 @@ ghost use Rattle.views.specs.Nodes.{world_at, id_at, data_at};
 ghost use Rattle.views.specs.FilterValues.{IsBy};
 
 use crate::node::NodeRef;
-use crate::node::same::is_same;
 use model::filters::FilterResult;
+use model::is_same;
 
 /// Whether a node with this answer is included.
 pub(crate) fn is_included(answer: FilterResult) -> bool

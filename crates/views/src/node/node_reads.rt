@@ -8,8 +8,7 @@ ghost use Rattle.views.specs.Nodes.{world_at, id_at, data_at, ShowsThe};
 
 use crate::StateRef;
 use crate::node::NodeRef;
-use crate::node::same::is_same;
-use model::FullNodeId;
+use model::{FullNodeId, is_same};
 use schema::{Node, NodeId, Role, TreeId};
 
 impl<'a> NodeRef<'a> {

@@ -8,9 +8,8 @@ ghost use Rattle.views.specs.Spots.{IsMember, IsSpot};
 
 use crate::StateRef;
 use crate::node::NodeRef;
-use crate::node::same::is_same;
 use crate::walks::spot::{Member, Spot};
-use model::FullNodeId;
+use model::{FullNodeId, is_same};
 use std::alloc::{AllocError, Global};
 
 impl<'a> StateRef<'a> {

@@ -15,13 +15,12 @@ ghost use Rattle.views.specs.Descents.{earlier_in, earlier_at, later_in, SpansAl
 
 use crate::StateRef;
 use crate::node::kin::is_included;
-use crate::node::same::is_same;
 use crate::walks::ends::Ends;
 use crate::walks::filter::Filter;
 use crate::walks::hits::is_cut;
 use crate::walks::searches::next_shown;
 use crate::walks::spot::{Member, Spot};
-use model::FullNodeId;
+use model::{FullNodeId, is_same};
 
 /// What is shown next below `top` after a node: the first below the node, or else after it.
 pub(crate) fn next_descendant<'a, F: Filter>(

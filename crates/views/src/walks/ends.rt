@@ -12,12 +12,11 @@ ghost use Rattle.views.specs.Follows.{Follows};
 ghost use Rattle.views.specs.Courses.{AreEnds, SpansEnds, between_ends, work_of_ends};
 
 use crate::StateRef;
-use crate::node::same::is_same;
 use crate::walks::filter::Filter;
 use crate::walks::searches::{next_shown, previous_shown};
 use crate::walks::spot::{Member, Spot};
-use model::FullNodeId;
 use model::filters::FilterResult;
+use model::{FullNodeId, is_same};
 
 /// The next nodes of a walk from either end.
 #[derive(Clone, Copy)]

@@ -15,10 +15,10 @@ ghost use Rattle.views.specs.SeenPoints.{IsNear, wide_of, is_bare_miss};
 
 use crate::node::NodeRef;
 use crate::node::kin::is_included;
-use crate::node::same::is_same;
 use crate::walks::filter::{ByRef, Filter};
 use crate::walks::spot::Member;
 use model::filters::FilterResult;
+use model::is_same;
 use schema::{Point, Rect, Translation};
 
 /// A point in a node's coordinates, in wide numbers.

@@ -11,11 +11,10 @@ ghost use Rattle.views.specs.Spots.{IsMember, IsSpot, place_at};
 ghost use Rattle.views.specs.Follows.{Follows};
 
 use crate::StateRef;
-use crate::node::same::is_same;
 use crate::walks::filter::Filter;
 use crate::walks::spot::{Member, Spot};
-use model::FullNodeId;
 use model::filters::FilterResult;
+use model::{FullNodeId, is_same};
 
 /// The first item below `top` from a place on.
 pub(crate) fn next_shown<'a, F: Filter>(

@@ -12,14 +12,13 @@ ghost use Rattle.views.specs.Follows.{Follows};
 ghost use Rattle.views.specs.RoleSets.{of_role};
 
 use crate::node::NodeRef;
-use crate::node::same::is_same;
 use crate::walks::course::Course;
 use crate::walks::ends::cover;
 use crate::walks::filter::{ByRef, Filter};
 use crate::walks::items::is_item;
 use crate::walks::spot::Member;
-use model::FullNodeId;
 use model::filters::FilterResult;
+use model::{FullNodeId, is_same};
 use schema::Role;
 
 /// The node whose filtered children are a node's set, if the node has a set.
