@@ -1,20 +1,15 @@
 -- What is read of the texts of nodes.
-use Rattle.std.specs.Prelude.{ℕ, ◌==◌, List, Option, None, option_map, option_and_then, if◌then◌else◌}
+use Rattle.std.specs.Prelude.{◌==◌, Option, option_map, option_and_then, if◌then◌else◌}
 use Rattle.model.specs.declared.FullNodeId.{FullNodeId}
 use Rattle.model.specs.declared.queries.At.{At}
 use Rattle.model.specs.declared.queries.Move.{Move}
 use Rattle.model.specs.declared.queries.Side.{Side}
 use Rattle.model.specs.declared.queries.Side.TheVariants.{Start, End}
 use Rattle.model.specs.World.{World}
-use Rattle.model.specs.TextRuns.{supports_text_ranges}
 use Rattle.model.specs.FlatText.{FlatText, Position, flat_text, biased_to_start}
 use Rattle.model.specs.Moves.{to_global_usv_index, to_global_utf16_index, to_line_index}
-use Rattle.model.specs.Queries.{position_at, moved, raw_of, text_between}
+use Rattle.model.specs.Queries.{position_at, moved, raw_of}
 use Rattle.fed_tree.specs.declared.text_places.TextPlace.{TextPlace}
-
--- what the text of the node says, if it has one
-abbrev pub in_text : {A : Type 0} → (FlatText → Option A) → World → FullNodeId → Option A
-in_text says w id = if supports_text_ranges w id then says (flat_text w id) else None
 
 -- At the end of a run that another follows it is the end of the first of these: its start side is the start of the other, which has
 -- another index, since no run but the last is empty.
@@ -41,10 +36,6 @@ place_at at t = option_and_then (place_of t) (position_at t at)
 -- where a movement from it ends; a movement by a character needs one
 abbrev pub place_after : At → Move → FlatText → Option TextPlace
 place_after at move t = option_and_then (place_of t) (option_and_then (λ p. moved t p move) (position_at t at))
-
--- the text from one position up to another
-abbrev pub text_from : At → At → FlatText → Option (List ℕ)
-text_from from to t = option_and_then (λ p. option_map (text_between t p) (position_at t to)) (position_at t from)
 
 -- a position in the text of the node, if one was found
 abbrev pub place_found : World → FullNodeId → Option Position → Option TextPlace

@@ -7,14 +7,13 @@ ghost use Rattle.model.specs.Labels.{label_of};
 ghost use Rattle.model.specs.Values.{value_of};
 ghost use Rattle.model.specs.Queries.{text_in_runs};
 ghost use Rattle.schema.specs.RoleNames.{role_text};
-ghost use Rattle.views.specs.Nodes.{world_at, id_at};
 ghost use Rattle.fed_tree.specs.Reads.{IsFound, read_of};
 
 use crate::feeding::FedTree;
 use model::FullNodeId;
 use schema::Role;
+use session::{child_ids, text_in_runs};
 use std::alloc::{AllocError, Global};
-use texts::TextRoot;
 use trees::Tree;
 use views::NodeRef;
 
@@ -91,10 +90,7 @@ impl FedTree {
         ensures { IfOk result (λ ids. option_map (λ found. found.items) ids ≡ read_of self.now.world id (λ w node. Some (children w id))) }
     {
         match self.node(id) {
-            Some(node) => {
-                let ids: Vec<FullNodeId> = node.child_ids().collect(self.alloc)?;
-                Ok(Some(ids))
-            }
+            Some(node) => Ok(Some(child_ids(self.alloc, node)?)),
             None => Ok(None),
         }
     }
@@ -139,7 +135,7 @@ impl FedTree {
         ensures { IfOk result (λ text. option_map string_bytes text ≡ read_of self.now.world id (λ w node. text_in_runs w id)) }
     {
         match self.node(id) {
-            Some(node) => whole_text(self.alloc, node),
+            Some(node) => text_in_runs(self.alloc, node),
             None => Ok(None),
         }
     }
@@ -151,14 +147,4 @@ fn focus_of(tree: &Tree) -> Option<FullNodeId>
 {
     let node = tree.state().focus()?;
     Some(node.id())
-}
-
-/// The whole text of the node's runs, if they make one.
-fn whole_text(alloc: Global, node: NodeRef<'_>) -> Result<Option<String>, AllocError>
-    ensures { IfOk result (λ text. option_map string_bytes text ≡ text_in_runs (world_at node.entry) (id_at node.entry)) }
-{
-    if !node.supports_text_ranges() {
-        return Ok(None);
-    }
-    Ok(Some(node.document_range().text(alloc)?))
 }

@@ -1,11 +1,9 @@
 //! Where nodes lie, and which of them filters show.
-ghost use Rattle.std.specs.Prelude.{◌≡◌, List, map, IfOk, Some, option_map};
-ghost use Rattle.std.specs.Iterator.{IsFinite, Drains};
+ghost use Rattle.std.specs.Prelude.{◌≡◌, IfOk, Some, option_map};
 ghost use Rattle.model.specs.Frontier.{filtered_children};
 ghost use Rattle.model.specs.Covers.{filtered_parent};
 ghost use Rattle.model.specs.Filters.{filter_named};
 ghost use Rattle.model.specs.Geometry.{bounding_box, hit};
-ghost use Rattle.views.specs.declared.node.node_ref.NodeRef.{NodeRef as ANode};
 ghost use Rattle.views.specs.Nodes.{world_at, id_at};
 ghost use Rattle.fed_tree.specs.Reads.{read_of};
 
@@ -13,9 +11,9 @@ use crate::feeding::FedTree;
 use model::filters::FilterResult;
 use model::{FullNodeId, NamedFilter};
 use schema::{Point, WideRect};
+use session::{answer_by, filtered_ids, hit_id};
 use std::alloc::{AllocError, Global};
 use views::NodeRef;
-use views::filters::{common_filter, common_filter_with_root_exception};
 
 impl FedTree {
     /// The node's rectangle after all translations, in units of 1/64 pixel; `None` if it wasn't sent with a rectangle, or if the
@@ -75,26 +73,6 @@ impl FedTree {
     }
 }
 
-/// The answer of the filter with this name for a node.
-fn answer_by(filter: NamedFilter, node: &NodeRef<'_>) -> FilterResult
-    ensures { result ≡ filter_named filter (world_at node.now) (id_at node.now) }
-{
-    match filter {
-        NamedFilter::All => FilterResult::Include,
-        NamedFilter::Common => common_filter(node),
-        NamedFilter::CommonWithRoot => common_filter_with_root_exception(node),
-    }
-}
-
-/// The id of the node hit at the point.
-fn hit_id(node: NodeRef<'_>, point: Point, filter: NamedFilter) -> Option<FullNodeId>
-    ensures { let w = world_at node.entry in
-        result ≡ hit (filter_named filter w) w (id_at node.entry) point }
-{
-    let found = node.node_at_point(point, &move |seen: &NodeRef<'_>| answer_by(filter, seen))?;
-    Some(found.id())
-}
-
 /// The id of the nearest ancestor that the filter includes.
 fn filtered_parent_id(node: NodeRef<'_>, filter: NamedFilter) -> Option<FullNodeId>
     ensures { let w = world_at node.entry in
@@ -102,33 +80,4 @@ fn filtered_parent_id(node: NodeRef<'_>, filter: NamedFilter) -> Option<FullNode
 {
     let found = node.filtered_parent(&move |seen: &NodeRef<'_>| answer_by(filter, seen))?;
     Some(found.id())
-}
-
-/// Collects the ids of the nodes of a walk, in order.
-fn ids_of<'a, W: Iterator<Item = NodeRef<'a>> + Drop>(
-    alloc: Global,
-    walk: W,
-) -> Result<Vec<FullNodeId>, AllocError>
-    requires can { W.can_next walk }
-    requires ends { IsFinite (W.remaining walk) }
-    ensures { IfOk result (λ ids. (nodes : List ANode) × Drains W.next_gives walk nodes × (ids.items ≡ map id_at nodes)) }
-{
-    let mut ids = Vec::new(alloc);
-    for node in walk {
-        ids.push(node.id())?;
-    }
-    Ok(ids)
-}
-
-/// The ids of the nodes that the filter shows in place of the node's children.
-fn filtered_ids(
-    alloc: Global,
-    node: NodeRef<'_>,
-    filter: NamedFilter,
-) -> Result<Vec<FullNodeId>, AllocError>
-    ensures { let w = world_at node.entry in
-        IfOk result (λ ids. ids.items ≡ filtered_children (filter_named filter w) w (id_at node.entry)) }
-{
-    let shown = move |seen: &NodeRef<'_>| answer_by(filter, seen);
-    ids_of(alloc, node.filtered_children(shown))
 }

@@ -1,15 +1,16 @@
 //! Positions in the texts of nodes, movements of the caret, and parts of a text.
-ghost use Rattle.std.specs.Prelude.{◌≡◌, true, Some, IsSome, IfOk, IfSome, option_and_then, option_map, string_bytes};
-ghost use Rattle.model.specs.TextRuns.{supports_text_ranges};
+ghost use Rattle.std.specs.Prelude.{◌≡◌, Some, IfOk, option_and_then, option_map, string_bytes};
 ghost use Rattle.model.specs.Ranges.{selection_anchor, selection_focus};
-ghost use Rattle.model.specs.Queries.{position_at, moved as position_after, text_between as between};
+ghost use Rattle.model.specs.Queries.{moved as position_after};
 ghost use Rattle.views.specs.Nodes.{world_at, id_at};
-ghost use Rattle.texts.specs.Positions.{root_at, node_text, position_text, flat_position};
+ghost use Rattle.session.specs.Texts.{in_text, text_from};
+ghost use Rattle.texts.specs.Positions.{position_text, flat_position};
 ghost use Rattle.fed_tree.specs.Reads.{read_of};
-ghost use Rattle.fed_tree.specs.Texts.{in_text, side_of, place_of, place_at, place_after, place_found, text_from};
+ghost use Rattle.fed_tree.specs.Texts.{side_of, place_of, place_at, place_after, place_found};
 
 use crate::feeding::FedTree;
 use model::{At, FullNodeId, Move, Side};
+use session::{moved, position_of, text_in};
 use std::alloc::{AllocError, Global};
 use texts::{TextIndexes, TextPosition, TextSelections};
 use views::NodeRef;
@@ -87,67 +88,6 @@ impl FedTree {
     }
 }
 
-/// The position with this index in the node's text, on this side.
-fn position_within<'a>(node: NodeRef<'a>, at: At) -> Option<TextPosition<'a>>
-    requires { supports_text_ranges (world_at node) (id_at node) ≡ true }
-    ensures at { option_map flat_position result ≡ position_at (node_text node.entry) at }
-    ensures same { IfSome result (λ p. root_at p ≡ node.entry) }
-{
-    let Some(start) = node.text_position_from_global_usv_index(at.index) else {
-        return None;
-    };
-    match at.side {
-        Side::Start => Some(start),
-        Side::End => Some(start.biased_to_end()),
-    }
-}
-
-/// That position, if the node has a text.
-fn position_of<'a>(node: NodeRef<'a>, at: At) -> Option<TextPosition<'a>>
-    ensures at { let found = in_text (λ t. position_at t at) (world_at node.entry) (id_at node.entry) in
-        option_map flat_position result ≡ found }
-    ensures text { IsSome result → supports_text_ranges (world_at node.entry) (id_at node.entry) ≡ true }
-    ensures same { IfSome result (λ p. root_at p ≡ node.entry) }
-{
-    if !node.supports_text_ranges() {
-        return None;
-    }
-    position_within(node, at)
-}
-
-/// Where a movement of the caret ends; `None` for a movement by a character past an end of the text.
-fn moved<'a>(position: TextPosition<'a>, by: Move) -> Option<TextPosition<'a>>
-    ensures at { let p = position.entry in
-        option_map flat_position result ≡ position_after (position_text p) (flat_position p) by }
-    ensures same { IfSome result (λ p. root_at p ≡ root_at position.entry) }
-{
-    match by {
-        Move::ForwardToCharacterStart | Move::ForwardToCharacterEnd
-            if !position.has_character_after() => None,
-        Move::BackwardToCharacterStart if !position.has_character_before() => None,
-        Move::ForwardToCharacterStart => Some(position.forward_to_character_start()),
-        Move::ForwardToCharacterEnd => Some(position.forward_to_character_end()),
-        Move::BackwardToCharacterStart => Some(position.backward_to_character_start()),
-        Move::ForwardToFormatStart => Some(position.forward_to_format_start()),
-        Move::ForwardToFormatEnd => Some(position.forward_to_format_end()),
-        Move::BackwardToFormatStart => Some(position.backward_to_format_start()),
-        Move::ForwardToWordStart => Some(position.forward_to_word_start()),
-        Move::ForwardToWordEnd => Some(position.forward_to_word_end()),
-        Move::BackwardToWordStart => Some(position.backward_to_word_start()),
-        Move::ForwardToLineStart => Some(position.forward_to_line_start()),
-        Move::ForwardToLineEnd => Some(position.forward_to_line_end()),
-        Move::BackwardToLineStart => Some(position.backward_to_line_start()),
-        Move::ForwardToParagraphStart => Some(position.forward_to_paragraph_start()),
-        Move::ForwardToParagraphEnd => Some(position.forward_to_paragraph_end()),
-        Move::BackwardToParagraphStart => Some(position.backward_to_paragraph_start()),
-        Move::ForwardToPageStart => Some(position.forward_to_page_start()),
-        Move::ForwardToPageEnd => Some(position.forward_to_page_end()),
-        Move::DocumentEnd => Some(position.document_end()),
-        Move::BackwardToPageStart => Some(position.backward_to_page_start()),
-        Move::DocumentStart => Some(position.document_start()),
-    }
-}
-
 /// The side of the place where two runs meet, if the position is there.
 fn side_of(position: TextPosition<'_>) -> Side
     ensures { result ≡ side_of (position_text position.entry) (flat_position position.entry) }
@@ -215,36 +155,4 @@ fn place_moved(node: NodeRef<'_>, at: At, by: Move) -> Option<TextPlace>
 {
     let position = position_of(node, at)?;
     place_from(position, by)
-}
-
-/// The text from one position up to another.
-#[tactic(auto, using(crate::proofs::Places::between_two))]
-fn text_between<'a>(
-    alloc: Global,
-    from: TextPosition<'a>,
-    to: TextPosition<'a>,
-) -> Result<String, AllocError>
-    requires world { world_at (root_at to) ≡ world_at (root_at from) }
-    requires root { id_at (root_at to) ≡ id_at (root_at from) }
-    ensures { let p = from.entry in
-        IfOk result (λ text. string_bytes text ≡ between (position_text p) (flat_position p) (flat_position to.entry)) }
-{
-    let mut range = from.to_degenerate_range();
-    range.set_end(to);
-    range.text(alloc)
-}
-
-/// The text from one position in the node's text up to another.
-fn text_in(alloc: Global, node: NodeRef<'_>, from: At, to: At) -> Result<Option<String>, AllocError>
-    ensures { let said = in_text (text_from from to) (world_at node.entry) (id_at node.entry) in
-        IfOk result (λ text. option_map string_bytes text ≡ said) }
-{
-    let Some(start) = position_of(node, from) else {
-        return Ok(None);
-    };
-    let Some(end) = position_within(node, to) else {
-        return Ok(None);
-    };
-    let text = text_between(alloc, start, end)?;
-    Ok(Some(text))
 }

@@ -17,7 +17,8 @@ use Rattle.model.specs.declared.queries.Side.TheVariants.{Start}
 use Rattle.fed_tree.specs.Fed.{Fed}
 use Rattle.fed_tree.specs.Flags.{says}
 use Rattle.fed_tree.specs.Reads.{read_of}
-use Rattle.fed_tree.specs.Texts.{in_text, place_at, place_after, place_found, text_from}
+use Rattle.session.specs.Texts.{in_text, text_from}
+use Rattle.fed_tree.specs.Texts.{place_at, place_after, place_found}
 use Rattle.fed_tree_c.specs.Numbers.{all_flags, all_filters, all_moves, answer_number, at_index}
 use Rattle.fed_tree_c.specs.Records.{bounds_of, event_of, id_of, position_of}
 use Rattle.fed_tree_c.specs.declared.records.AkBounds.{AkBounds}

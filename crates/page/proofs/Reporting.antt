@@ -1,5 +1,5 @@
 -- What a reporter has told of events.
-use Rattle.std.proofs.Common.{◌≡◌, ℕ, List, [], ◌∷◌, map, Option, Some, None, Result, Ok, Err, refl, sym, ap, ◌∙◌, subst}
+use Rattle.std.proofs.Common.{◌≡◌, ℕ, List, [], ◌∷◌, map, Option, Some, None, Result, refl, sym, ap, ◌∙◌, subst}
 use Rattle.std.specs.BTreeMap.{BTreeMap}
 use Rattle.std.specs.Prelude.{IfNone, IfSome, option_map}
 use Rattle.std.specs.declared.alloc.AllocError.{AllocError}
@@ -9,34 +9,14 @@ use Rattle.model.specs.declared.FullNodeId.{FullNodeId}
 use Rattle.model.specs.declared.events.PlanEvent.{PlanEvent}
 use Rattle.model.specs.declared.events.PlanEvent.TheVariants.{Added, Updated, FocusMoved, Removed}
 use Rattle.model.specs.Events.{Event, Told, seen_in}
-use Rattle.model.specs.Run.{CommandData, ToUpdate, ToHostFocus, ToQuery, ReplyData, Accepted, Refused, OutOfMemory, Answered, Does}
 use Rattle.model.specs.World.{World}
 use Rattle.session.specs.declared.commands.Command.{Command}
 use Rattle.session.specs.declared.commands.Reply.{Reply}
-use Rattle.session.specs.Replied.{command_said, reply_said, IsStep}
+use Rattle.session.proofs.StepEvents.{step_differences}
+use Rattle.session.specs.Replied.{IsStep}
 use Rattle.page.specs.declared.found.Facts.{Facts}
 use Rattle.page.specs.Found.{AreReady, IsOfStep}
 use Rattle.page.specs.Reports.{Report, Reports}
-
--- ---- the events of a step are its differences
-
-abbrev AreEvents : World → World → List Event → Type 0
-AreEvents old new told = (differences : List PlanEvent) × (told ≡ map (event old new) differences)
-
-does_differences : (old : World) (c : CommandData) (new : World) (told : List Event) (reply : ReplyData) → Does old c new told reply → AreEvents old new told
-does_differences old (ToUpdate u) new told Accepted h = (h.1, h.3)
-does_differences old (ToUpdate u) new told (Refused fault) h = ([], h.2)
-does_differences old (ToUpdate u) new told OutOfMemory h = ([], h.1)
-does_differences old (ToUpdate u) new told (Answered answer) h = absurd h
-does_differences old (ToHostFocus focused) new told Accepted h = (h.1, h.3)
-does_differences old (ToHostFocus focused) new told (Refused fault) h = absurd h
-does_differences old (ToHostFocus focused) new told OutOfMemory h = absurd h
-does_differences old (ToHostFocus focused) new told (Answered answer) h = absurd h
-does_differences old (ToQuery query) new told reply h = ([], h.1)
-
-step_differences : (old : World) (c : Command) (new : World) (told : List Event) (reply : Result Reply AllocError) → IsStep old c new told reply → AreEvents old new told
-step_differences old c new told (Ok reply) h = does_differences old (command_said c) new told (reply_said reply) h
-step_differences old c new told (Err wanting) h = ([], h.1)
 
 seen_there : (w : World) (id : Option FullNodeId) → IfSome (option_map (seen_in w) id) (λ n. n.world ≡ w)
 seen_there w None = tt

@@ -1,3 +1,4 @@
 pub mod Naming
 pub mod Running
 pub mod Betweens
+pub mod StepEvents

@@ -41,8 +41,9 @@ fn focus_id(state: StateRef) -> Option<FullNodeId>
     state.focus().map(|node| node.id())
 }
 
-/// The id of the node hit at the point.
-fn hit_id(node: NodeRef, point: Point, filter: NamedFilter) -> Option<FullNodeId>
+/// The id of the node hit at a point, given in the coordinates of the node and in units of 1/64 pixel: the last one in pre-order, among
+/// the node and those below it, that the filter includes and whose rectangle contains the point.
+pub fn hit_id(node: NodeRef, point: Point, filter: NamedFilter) -> Option<FullNodeId>
     ensures { let w = world_at node.entry in
         result ≡ hit (filter_named filter w) w (id_at node.entry) point }
 {

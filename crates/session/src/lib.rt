@@ -8,6 +8,10 @@ mod session;
 mod text_answers;
 mod walked;
 
+pub use answers::hit_id;
 pub use commands::{Command, Reply, RunStopped};
 pub use model::{At, Move, NamedFilter, NodeName, Query, Side};
+pub use named::answer_by;
 pub use session::Session;
+pub use text_answers::{moved, position_of, text_in, text_in_runs};
+pub use walked::{child_ids, filtered_ids};

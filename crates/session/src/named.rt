@@ -8,7 +8,7 @@ use accesskit_consumer::filters::{FilterResult, common_filter, common_filter_wit
 use model::NamedFilter;
 
 /// The answer of the filter with this name for a node.
-pub(crate) fn answer_by(filter: NamedFilter, node: &NodeRef<'_>) -> FilterResult
+pub fn answer_by(filter: NamedFilter, node: &NodeRef<'_>) -> FilterResult
     ensures { result ≡ filter_named filter (world_at node.now) (id_at node.now) }
 {
     match filter {

@@ -6,7 +6,7 @@ ghost use Rattle.model.specs.Queries.{position_at, moved as place_after, raw_of,
 ghost use Rattle.views.specs.Nodes.{world_at, id_at};
 ghost use Rattle.texts.specs.Positions.{root_at, node_text, position_text, flat_position};
 ghost use Rattle.session.specs.Replied.{IsAnswerAt};
-ghost use Rattle.session.specs.Texts.{position_in};
+ghost use Rattle.session.specs.Texts.{in_text, position_in, text_from};
 
 use crate::commands::Reply;
 use accesskit_consumer::text::TextPosition;
@@ -29,8 +29,8 @@ fn position_within<'a>(node: NodeRef<'a>, at: At) -> Option<TextPosition<'a>>
     }
 }
 
-/// That position, if the node has a text.
-fn position_of<'a>(node: NodeRef<'a>, at: At) -> Option<TextPosition<'a>>
+/// The position with this index in the node's text, on this side; `None` past the end of the text, or if the node has no text.
+pub fn position_of<'a>(node: NodeRef<'a>, at: At) -> Option<TextPosition<'a>>
     ensures at { option_map flat_position result ≡ position_in (world_at node.entry) (id_at node.entry) at }
     ensures text { IsSome result → supports_text_ranges (world_at node.entry) (id_at node.entry) ≡ true }
     ensures same { IfSome result (λ p. root_at p ≡ node.entry) }
@@ -42,7 +42,7 @@ fn position_of<'a>(node: NodeRef<'a>, at: At) -> Option<TextPosition<'a>>
 }
 
 /// Where a caret movement ends; `None` for a movement by a character past an end of the text.
-fn moved<'a>(position: TextPosition<'a>, by: Move) -> Option<TextPosition<'a>>
+pub fn moved<'a>(position: TextPosition<'a>, by: Move) -> Option<TextPosition<'a>>
     ensures at { let p = position.entry in
         option_map flat_position result ≡ place_after (position_text p) (flat_position p) by }
     ensures same { IfSome result (λ p. root_at p ≡ root_at position.entry) }
@@ -116,7 +116,11 @@ pub(crate) fn indexes(node: NodeRef, at: At) -> Reply
 }
 
 /// The text of the node's runs, if they make one.
-pub(crate) fn text_in_runs(alloc: Global, node: NodeRef) -> Result<Option<String>, AllocError>
+///
+/// # Errors
+///
+/// Returns `AllocError` if memory runs out.
+pub fn text_in_runs(alloc: Global, node: NodeRef) -> Result<Option<String>, AllocError>
     ensures { IfOk result (λ text. option_map string_bytes text ≡ text_if_any (world_at node.entry) (id_at node.entry)) }
 {
     if !node.supports_text_ranges() {
@@ -142,6 +146,31 @@ fn text_between<'a>(
     range.text(alloc)
 }
 
+/// The text from one position in the node's text up to another; `None` if one of them is past the end of the text, or if the node
+/// has no text.
+///
+/// # Errors
+///
+/// Returns `AllocError` if memory runs out.
+pub fn text_in(
+    alloc: Global,
+    node: NodeRef<'_>,
+    from: At,
+    to: At,
+) -> Result<Option<String>, AllocError>
+    ensures { let said = in_text (text_from from to) (world_at node.entry) (id_at node.entry) in
+        IfOk result (λ text. option_map string_bytes text ≡ said) }
+{
+    let Some(start) = position_of(node, from) else {
+        return Ok(None);
+    };
+    let Some(end) = position_within(node, to) else {
+        return Ok(None);
+    };
+    let text = text_between(alloc, start, end)?;
+    Ok(Some(text))
+}
+
 /// The text from one position in the node's text to another.
 pub(crate) fn range_text(
     alloc: Global,
@@ -152,12 +181,8 @@ pub(crate) fn range_text(
     ensures { let w = world_at node.entry in
         IfOk result (IsAnswerAt w (id_at node.entry) (λ name. ToRangeText name from to)) }
 {
-    let Some(start) = position_of(node, from) else {
-        return Ok(Reply::NotText);
-    };
-    let Some(end) = position_within(node, to) else {
-        return Ok(Reply::NotText);
-    };
-    let text = text_between(alloc, start, end)?;
-    Ok(Reply::Text(Some(text)))
+    match text_in(alloc, node, from, to)? {
+        Some(text) => Ok(Reply::Text(Some(text))),
+        None => Ok(Reply::NotText),
+    }
 }

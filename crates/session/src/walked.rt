@@ -14,7 +14,12 @@ use accesskit_consumer::NodeRef;
 use model::{FullNodeId, NamedFilter};
 use std::alloc::{AllocError, Global};
 
-pub(crate) fn child_ids(alloc: Global, node: NodeRef) -> Result<Vec<FullNodeId>, AllocError>
+/// The ids of the node's children, in order.
+///
+/// # Errors
+///
+/// Returns `AllocError` if memory runs out.
+pub fn child_ids(alloc: Global, node: NodeRef) -> Result<Vec<FullNodeId>, AllocError>
     ensures { IfOk result (λ ids. ids.items ≡ children (world_at node.entry) (id_at node.entry)) }
 {
     let ids: Vec<FullNodeId> = node.child_ids().collect(alloc)?;
@@ -55,7 +60,12 @@ fn ids_of<'a, W: Iterator<Item = NodeRef<'a>> + Drop>(
     Ok(ids)
 }
 
-pub(crate) fn filtered_ids(
+/// The ids of the nodes that the filter shows in place of the node's children, in order.
+///
+/// # Errors
+///
+/// Returns `AllocError` if memory runs out.
+pub fn filtered_ids(
     alloc: Global,
     node: NodeRef,
     filter: NamedFilter,

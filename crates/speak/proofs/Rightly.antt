@@ -1,16 +1,16 @@
 -- A speaker that begins a step knows rightly what it looks up at the step's events.
-use Rattle.std.proofs.Common.{◌≡◌, Bool, true, false, List, [], ◌∷◌, map, Option, IsTrue, Result, Ok, Err, refl, sym, ap, subst, ◌∙◌}
+use Rattle.std.proofs.Common.{◌≡◌, Bool, true, false, List, [], ◌∷◌, map, Option, IsTrue, Result, refl, sym, ap, subst, ◌∙◌}
 use Rattle.std.specs.declared.alloc.AllocError.{AllocError}
 use Rattle.model.specs.Differences.{event}
 use Rattle.model.specs.declared.events.PlanEvent.{PlanEvent}
 use Rattle.model.specs.declared.events.PlanEvent.TheVariants.{Added, Updated, FocusMoved, Removed}
 use Rattle.model.specs.Events.{Event, Told}
 use Rattle.model.specs.Mirror.{Records, MirrorsWhileKept}
-use Rattle.model.specs.Run.{CommandData, ToUpdate, ToHostFocus, ToQuery, ReplyData, Accepted, Refused, OutOfMemory, Answered, Does}
 use Rattle.model.specs.World.{World}
 use Rattle.session.specs.declared.commands.Command.{Command}
 use Rattle.session.specs.declared.commands.Reply.{Reply}
-use Rattle.session.specs.Replied.{command_said, reply_said, IsStep}
+use Rattle.session.proofs.StepEvents.{step_differences}
+use Rattle.session.specs.Replied.{IsStep}
 use Rattle.speaking.specs.declared.speaker.Speaker.{Speaker}
 use Rattle.speaking.specs.Events.{IsOfStep, KnowsRightly, Speaks}
 use Rattle.speaking.specs.Events as speaking
@@ -19,25 +19,6 @@ use Rattle.speak.specs.Steps.{Hears}
 -- what both receive, if the speaker knows rightly
 abbrev pub HearBoth : Speaker × Option Records → Event → Speaker × Option Records → Type 0
 HearBoth s e t = speaking.Hears s.0 e t.0 × MirrorsWhileKept s.1 e t.1
-
--- the events of a step are its differences
-abbrev AreEvents : World → World → List Event → Type 0
-AreEvents old new told = (differences : List PlanEvent) × (told ≡ map (event old new) differences)
-
-does_differences : (old : World) (c : CommandData) (new : World) (told : List Event) (reply : ReplyData) → Does old c new told reply → AreEvents old new told
-does_differences old (ToUpdate u) new told Accepted h = (h.1, h.3)
-does_differences old (ToUpdate u) new told (Refused fault) h = ([], h.2)
-does_differences old (ToUpdate u) new told OutOfMemory h = ([], h.1)
-does_differences old (ToUpdate u) new told (Answered answer) h = absurd h
-does_differences old (ToHostFocus focused) new told Accepted h = (h.1, h.3)
-does_differences old (ToHostFocus focused) new told (Refused fault) h = absurd h
-does_differences old (ToHostFocus focused) new told OutOfMemory h = absurd h
-does_differences old (ToHostFocus focused) new told (Answered answer) h = absurd h
-does_differences old (ToQuery query) new told reply h = ([], h.1)
-
-step_differences : (old : World) (c : Command) (new : World) (told : List Event) (reply : Result Reply AllocError) → IsStep old c new told reply → AreEvents old new told
-step_differences old c new told (Ok reply) h = does_differences old (command_said c) new told (reply_said reply) h
-step_differences old c new told (Err wanting) h = ([], h.1)
 
 of_step : (old new : World) (d : PlanEvent) → IsOfStep old new (event old new d)
 of_step old new (Added id) = refl
