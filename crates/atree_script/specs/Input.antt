@@ -25,4 +25,5 @@ ReadsThese start commands number = IfSome start (λ from. (at : Place) × FoldsT
 -- where the bytes are known, these are all commands that are left, up to the end of the input or to what stops the reading
 abbrev pub ReadsAll : Option Place → List ScriptCommand → Result Unit Stop → ℕ → Type 0
 ReadsAll start commands ended number =
-    IfSome start (λ from. (at : Place) × (next : Place) × FoldsTo ReadsNext from commands at × ReadsTo at (no_command ended) next × (number ≡ next.number))
+    IfSome start (λ from. (at : Place) × (next : Place) × FoldsTo ReadsNext from commands at × ReadsTo at (no_command ended) next
+    × (number ≡ next.number))

@@ -23,18 +23,21 @@ stage_of p = record { world = p.session; host = p.is_host_focused }
 module _ {P : Type 0} (turns : P → Turn → Result Unit Stop → P → Type 0) where
   -- commands are read and played from here on
   abbrev pub PlaysFrom : Option Place → Playing → P → Result Unit Stop → ℕ → Playing → P → Type 0
-  PlaysFrom input old s ended number new t = (commands : List ScriptCommand) × Plays turns input (stage_of old, s) commands ended number (stage_of new, t)
+  PlaysFrom input old s ended number new t =
+      (commands : List ScriptCommand) × Plays turns input (stage_of old, s) commands ended number (stage_of new, t)
 
   -- a whole script is played, and this is the result, with the reader as it is after the last line
   pub record PlaysOut (input : Option (List ℕ)) (s : P) (played : Played) (t : P) : Type 0 where
     pub commands : List ScriptCommand
     pub host : Bool
-    pub plays : Plays turns (start_of input) (no_tree, s) commands played.ended played.number (record { world = played.session; host = host }, t)
+    pub plays : Plays turns (start_of input) (no_tree, s) commands played.ended played.number
+        (record { world = played.session; host = host }, t)
     pub numbered : number_of played.script ≡ played.number
 
 -- A script is run: each command of the input in turn, from no tree on, by a player whose output has these bytes. What it has
 -- written stands at the end, and why the run ended is reported.
-pub record RunsBy {P : Type 0} (turns : P → Turn → Result Unit Stop → P → Type 0) (written : P → Bytes) (start : P) (input after told_before told_after : Bytes) (status : ℕ) : Type 0 where
+pub record RunsBy {P : Type 0} (turns : P → Turn → Result Unit Stop → P → Type 0) (written : P → Bytes) (start : P)
+    (input after told_before told_after : Bytes) (status : ℕ) : Type 0 where
   pub commands : List ScriptCommand
   pub ended : Result Unit Stop
   pub number : ℕ
@@ -44,7 +47,8 @@ pub record RunsBy {P : Type 0} (turns : P → Turn → Result Unit Stop → P �
   pub tells : Tells told_before told_after (told_at_end number ended) (status_at_end ended) status
 
 -- The same, but a bad line is reported with its fault, of which the reader of the script knows.
-pub record RunsWithFaults {P : Type 0} (turns : P → Turn → Result Unit Stop → P → Type 0) (written : P → Bytes) (start : P) (input after told_before told_after : Bytes) (status : ℕ) : Type 0 where
+pub record RunsWithFaults {P : Type 0} (turns : P → Turn → Result Unit Stop → P → Type 0) (written : P → Bytes) (start : P)
+    (input after told_before told_after : Bytes) (status : ℕ) : Type 0 where
   pub commands : List ScriptCommand
   pub ended : Result Unit Stop
   pub script : ScriptReader

@@ -39,7 +39,8 @@ end_of (Ok reply) = end_of_reply reply
 end_of (Err wanting) = Err Memory
 
 -- the command takes a step of the session, whose events a handler receives
-pub record RunsTold {H : Type 0} (steps : H → Event → H → Type 0) (old : World) (c : Command) (new : World) (s t : H) (result : Result Unit Stop) : Type 0 where
+pub record RunsTold {H : Type 0} (steps : H → Event → H → Type 0) (old : World) (c : Command) (new : World) (s t : H)
+    (result : Result Unit Stop) : Type 0 where
   pub events : List Event
   pub reply : Result Reply AllocError
   pub step : IsStep old c new events reply
@@ -69,7 +70,8 @@ module _ {P : Type 0} (turns : P → Turn → Result Unit Stop → P → Type 0)
   abbrev pub SendsFirst : Bool → P → TreeUpdate → Result Unit Stop → Stage → P → Type 0
   SendsFirst host s u result new t =
       ((w : World) × Begins host (update_data u) w × (new ≡ record { world = Some w; host = host }) × turns s (Begun w) result t)
-      ⊎ ((why : UpdateError) × IsRefusal (empty_world host) (update_data u) why × (new ≡ record { world = None; host = host }) × turns s (FirstRefused why) result t)
+      ⊎ ((why : UpdateError) × IsRefusal (empty_world host) (update_data u) why × (new ≡ record { world = None; host = host })
+      × turns s (FirstRefused why) result t)
 
   -- a command is run on a tree
   abbrev pub RunsOn : Bool → P → Command → Result Unit Stop → Stage → P → World → Type 0
@@ -80,9 +82,11 @@ module _ {P : Type 0} (turns : P → Turn → Result Unit Stop → P → Type 0)
   CarriesOut old s (script.Update u) result new t =
       MatchOption old.world (SendsFirst old.host s u result new t) (RunsOn old.host s (command.Update u) result new t)
   CarriesOut old s (script.HostFocus host) result new t =
-      MatchOption old.world ((result ≡ Ok tt) × (new ≡ record { world = None; host = host }) × (t ≡ s)) (RunsOn host s (command.HostFocus host) result new t)
+      MatchOption old.world ((result ≡ Ok tt) × (new ≡ record { world = None; host = host }) × (t ≡ s))
+      (RunsOn host s (command.HostFocus host) result new t)
   CarriesOut old s script.Print result new t = (new ≡ old) × turns s (Printed old.world) result t
-  CarriesOut old s (script.Query q) result new t = (v : Option World) × (new ≡ record { world = v; host = old.host }) × turns s (Asked old.world q v) result t
+  CarriesOut old s (script.Query q) result new t =
+      (v : Option World) × (new ≡ record { world = v; host = old.host }) × turns s (Asked old.world q v) result t
 
   -- a command is carried out, and the script goes on
   abbrev pub GoesOn : Stage × P → ScriptCommand → Stage × P → Type 0
@@ -102,4 +106,5 @@ module _ {P : Type 0} (turns : P → Turn → Result Unit Stop → P → Type 0)
   -- Commands are read and carried out in turn: all that the input has, up to where the reading ends, or the last of them stops the script.
   abbrev pub Plays : Option Place → Stage × P → List ScriptCommand → Result Unit Stop → ℕ → Stage × P → Type 0
   Plays input start commands ended number end =
-      (FoldsTo GoesOn start commands end × ReadsAll input commands ended number) ⊎ (StopsAtLast start commands ended end × ReadsThese input commands number)
+      (FoldsTo GoesOn start commands end × ReadsAll input commands ended number)
+      ⊎ (StopsAtLast start commands ended end × ReadsThese input commands number)

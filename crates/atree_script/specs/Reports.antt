@@ -30,7 +30,8 @@ report_line number why = codes "update " ++ decimal number ++ codes ": " ++ refu
 -- it is written; an update that ran out of memory stops the script, and isn't reported here
 abbrev pub ReportsRefusal : ℕ → UpdateError → Result Unit Stop → Bytes → Bytes → Type 0
 ReportsRefusal number why result before after =
-    MatchResult (end_of_refusal why) (λ done. Writes (report_line number why) (Ok tt) result before after) (λ stop. (result ≡ Err stop) × (after ≡ before))
+    MatchResult (end_of_refusal why) (λ done. Writes (report_line number why) (Ok tt) result before after)
+    (λ stop. (result ≡ Err stop) × (after ≡ before))
 
 -- the refusal that a reply is
 abbrev pub refusal_of : Reply → Option UpdateError
@@ -44,7 +45,8 @@ ReportsReply number (Ok reply) result before after =
 ReportsReply number (Err wanting) result before after = (result ≡ Err Memory) × (after ≡ before)
 
 -- a command takes a step of the session, and a refusal is reported
-pub record ReportsStep (number : ℕ) (old : World) (c : Command) (new : World) (result : Result Unit Stop) (before after : Bytes) : Type 0 where
+pub record ReportsStep (number : ℕ) (old : World) (c : Command) (new : World) (result : Result Unit Stop)
+    (before after : Bytes) : Type 0 where
   pub events : List Event
   pub reply : Result Reply AllocError
   pub step : IsStep old c new events reply

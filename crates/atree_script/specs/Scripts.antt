@@ -54,4 +54,5 @@ Prints before (Printed w) result after = Writes (option_map_or tree_text w (code
 
 -- a script is run, and printed
 abbrev pub RunsScript : Bytes → Bytes → Bytes → Bytes → Bytes → ℕ → Type 0
-RunsScript input before after told_before told_after status = RunsBy Prints (λ printed. printed) before input after told_before told_after status
+RunsScript input before after told_before told_after status =
+    RunsBy Prints (λ printed. printed) before input after told_before told_after status

@@ -42,7 +42,8 @@ struct Reading<'a, E> {
 }
 
 impl<'a, E: Write> Player for Reading<'a, E> {
-    ghost turns = { λ s turn result t. (t.errors.ghost_name ≡ s.errors.ghost_name) × Reports (s.updates, E.contents s.errors.now) turn result (t.updates, E.contents t.errors.now) };
+    ghost turns = { λ s turn result t. (t.errors.ghost_name ≡ s.errors.ghost_name)
+        × Reports (s.updates, E.contents s.errors.now) turn result (t.updates, E.contents t.errors.now) };
 
     fn begin(&mut self, _session: &Session) -> Result<(), Stop> {
         self.updates = next_number(self.updates);

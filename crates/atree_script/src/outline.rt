@@ -45,7 +45,8 @@ fn print_node<O: Write>(node: NodeRef, out: &mut O) -> io::Result<()>
 /// Prints the node's id and role, and a star if it is focused.
 fn print_name<O: Write>(node: NodeRef, out: &mut O) -> io::Result<()>
     ensures { let w = world_at node.entry in let id = id_at node.entry in
-        OnOk result (Appends (O.contents out.old) (O.contents out.new) (named_line id (role_text (data_at node.entry).role) (focus_mark w id))) }
+        OnOk result (Appends (O.contents out.old) (O.contents out.new)
+        (named_line id (role_text (data_at node.entry).role) (focus_mark w id))) }
 {
     let id = ShownId(node.id());
     let role = node.role();

@@ -61,7 +61,8 @@ struct Writing<'a, O> {
 }
 
 impl<'a, O: Write> Player for Writing<'a, O> {
-    ghost turns = { λ s turn result t. (t.output.ghost_name ≡ s.output.ghost_name) × Prints (O.contents s.output.now) turn result (O.contents t.output.now) };
+    ghost turns = { λ s turn result t. (t.output.ghost_name ≡ s.output.ghost_name)
+        × Prints (O.contents s.output.now) turn result (O.contents t.output.now) };
 
     fn begin(&mut self, _session: &Session) -> Result<(), Stop> {
         self.output.write_all(b"ok\n")?;

@@ -19,7 +19,8 @@ sought_names = role_names ++ map (λ entry. entry.1) other_roles
 
 -- the word is told as one that names no role, with the nearest of these names if one is near; or memory ran out
 abbrev pub NamesNoRole : List ℕ → ArgumentError → Type 0
-NamesNoRole word error = (error ≡ Memory) ⊎ ((near : Option (List ℕ)) × IsNearestOf word sought_names near × IsUnknownWord kind.Role word near error)
+NamesNoRole word error =
+    (error ≡ Memory) ⊎ ((near : Option (List ℕ)) × IsNearestOf word sought_names near × IsUnknownWord kind.Role word near error)
 
 -- the role that is sought by this word; where there is none, that
 abbrev pub GivesRole : List ℕ → Result Role ArgumentError → Type 0

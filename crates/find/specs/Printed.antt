@@ -54,7 +54,8 @@ place_text w id hit = if is_within w id hit then codes "within" else codes "cove
 
 -- the node at the middle of another one's box: that node itself, one within it, or one that covers it
 abbrev pub hit_text : World → FullNodeId → FullNodeId → List ℕ
-hit_text w id hit = if is_same hit id then codes "itself\n" else place_text w id hit ++ codes " " ++ id_text hit ++ name_text w hit ++ codes "\n"
+hit_text w id hit =
+    if is_same hit id then codes "itself\n" else place_text w id hit ++ codes " " ++ id_text hit ++ name_text w hit ++ codes "\n"
 
 abbrev pub middle_line : World → FullNodeId → FullNodeId → WideRect → List ℕ
 middle_line w top id r = codes "  middle " ++ option_map_or (hit_text w id) (node_at_middle w top r) (codes "none\n")

@@ -54,7 +54,8 @@ fn write_nodes<O: Write>(
     output: &mut O,
 ) -> Result<(), Stop>
     requires { All (λ id. IsNode (world_at top) id) ids.now }
-    ensures { OnOk result (Appends (O.contents output.old) (O.contents output.new) (nodes_text (world_at top.entry) (id_at top.entry) ids.now)) }
+    ensures { OnOk result (Appends (O.contents output.old) (O.contents output.new)
+        (nodes_text (world_at top.entry) (id_at top.entry) ids.now)) }
 {
     if ids.is_empty() {
         output.write_all(b"none\n")?;

@@ -10,7 +10,8 @@ use Rattle.hidden_texts.specs.Hidden.{hides_label, hides_value}
 
 -- the value of a password: a bullet for each character of its text, also if all are the same, or else for each scalar of its own value
 abbrev pub password_value : World → FullNodeId → Option (List ℕ)
-password_value w id = if supports_text_ranges w id then Some (shown_text true w id) else option_map (λ v. bullets (length (chars v))) (own_value w id)
+password_value w id =
+    if supports_text_ranges w id then Some (shown_text true w id) else option_map (λ v. bullets (length (chars v))) (own_value w id)
 
 -- the value, bullets for a password, and nothing if it is hidden
 abbrev pub shown_value : World → FullNodeId → Option (List ℕ)

@@ -9,7 +9,9 @@ replacement = 239 ∷ 191 ∷ 189 ∷ []
 -- as it is
 abbrev pub escaped_byte : ℕ → List ℕ
 escaped_byte byte =
-    if byte == 60 then codes "&lt;" else if byte == 62 then codes "&gt;" else if byte == 38 then codes "&amp;" else if byte == 34 then codes "&quot;" else if byte == 39 then codes "&#39;" else if byte == 13 then codes "&#13;" else if byte == 0 then replacement else byte ∷ []
+    if byte == 60 then codes "&lt;" else if byte == 62 then codes "&gt;" else if byte == 38 then codes "&amp;"
+    else if byte == 34 then codes "&quot;" else if byte == 39 then codes "&#39;" else if byte == 13 then codes "&#13;"
+    else if byte == 0 then replacement else byte ∷ []
 
 -- what is written of a text
 abbrev pub escaped : List ℕ → List ℕ

@@ -6,7 +6,8 @@ use Rattle.html.specs.Escaped.{replacement, escaped}
 -- the text that follows begins with one of the six entities
 abbrev pub begins_entity : List ℕ → Bool
 begins_entity page =
-    starts_with nat_eq page (codes "&lt;") || starts_with nat_eq page (codes "&gt;") || starts_with nat_eq page (codes "&amp;") || starts_with nat_eq page (codes "&quot;") || starts_with nat_eq page (codes "&#39;") || starts_with nat_eq page (codes "&#13;")
+    starts_with nat_eq page (codes "&lt;") || starts_with nat_eq page (codes "&gt;") || starts_with nat_eq page (codes "&amp;")
+    || starts_with nat_eq page (codes "&quot;") || starts_with nat_eq page (codes "&#39;") || starts_with nat_eq page (codes "&#13;")
 
 -- a byte that is none of <, >, " and '
 abbrev pub IsNoMarkup : ℕ → Type 0

@@ -25,4 +25,5 @@ pub record OfControls : Type 0 where
   pub not_selected : is_selectable (record (empty_node Button) { toggled = Some Mixed }) ≡ false
 
 abbrev pub FocusedIsFocusable : Type 0
-FocusedIsFocusable = (f : FullNodeId → FilterResult) (w : World) (id : FullNodeId) → is_focused_in_tree w id ≡ true → is_focusable f w id ≡ true
+FocusedIsFocusable =
+    (f : FullNodeId → FilterResult) (w : World) (id : FullNodeId) → is_focused_in_tree w id ≡ true → is_focusable f w id ≡ true

@@ -77,7 +77,8 @@ abbrev pub searched_in : (FullNodeId → FilterResult) → World → List FullNo
 searched_in f w = option_map_or (searched_from f w) (root_of w 0) []
 
 -- the nodes are read in this world, and by each f that the filter follows they are these
-pub record AreShown (answers : NodeRef → FilterResult → Type 0) (w : World) (ids : (FullNodeId → FilterResult) → List FullNodeId) (nodes : List NodeRef) : Type 0 where
+pub record AreShown (answers : NodeRef → FilterResult → Type 0) (w : World) (ids : (FullNodeId → FilterResult) → List FullNodeId)
+    (nodes : List NodeRef) : Type 0 where
   pub world : All (λ n. world_at n ≡ w) nodes
   pub list : (f : FullNodeId → FilterResult) → Follows answers w f → map id_at nodes ≡ ids f
 
@@ -91,6 +92,8 @@ abbrev pub IsSought : Wanted → (NodeRef → Bool → Type 0) → NodeRef → B
 IsSought wanted answers n is = (p : FullNodeId → Bool) → Meets answers (world_at n) p → is ≡ is_sought wanted p (world_at n) (id_at n)
 
 -- the nodes that a query finds among what is searched, by each f that its filter follows and each p that its condition meets
-pub record AreFound (wanted : Wanted) (shows : NodeRef → FilterResult → Type 0) (answers : NodeRef → Bool → Type 0) (w : World) (searched : (FullNodeId → FilterResult) → List FullNodeId) (found : List NodeRef) : Type 0 where
+pub record AreFound (wanted : Wanted) (shows : NodeRef → FilterResult → Type 0) (answers : NodeRef → Bool → Type 0) (w : World)
+    (searched : (FullNodeId → FilterResult) → List FullNodeId) (found : List NodeRef) : Type 0 where
   pub world : All (λ n. world_at n ≡ w) found
-  pub list : (f : FullNodeId → FilterResult) → Follows shows w f → (p : FullNodeId → Bool) → Meets answers w p → map id_at found ≡ filter (is_sought wanted p w) (searched f)
+  pub list : (f : FullNodeId → FilterResult) → Follows shows w f → (p : FullNodeId → Bool) → Meets answers w p
+      → map id_at found ≡ filter (is_sought wanted p w) (searched f)

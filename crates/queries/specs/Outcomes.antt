@@ -27,12 +27,15 @@ abbrev pub IsOptional : Wanted → (List NodeRef → Type 0) → Result (Option 
 IsOptional wanted Found (Ok None) = Found []
 IsOptional wanted Found (Ok (Some n)) = Found (n ∷ [])
 IsOptional wanted Found (Err (NotFound sought near)) = ⊥
-IsOptional wanted Found (Err (Several sought ids)) = Tells wanted sought × ((found : List NodeRef) × Found found × (1 < length found) × (ids.items ≡ map id_at found))
+IsOptional wanted Found (Err (Several sought ids)) =
+    Tells wanted sought × ((found : List NodeRef) × Found found × (1 < length found) × (ids.items ≡ map id_at found))
 IsOptional wanted Found (Err Memory) = ⊤
 
 -- the same where one has to be found; of nodes of which Searched says that they are all that was searched
 abbrev pub IsOne : Wanted → (List NodeRef → Type 0) → (List NodeRef → Type 0) → Result NodeRef QueryError → Type 0
 IsOne wanted Searched Found (Ok n) = Found (n ∷ [])
-IsOne wanted Searched Found (Err (NotFound sought near)) = Tells wanted sought × Found [] × ((nodes : List NodeRef) × Searched nodes × IsNear wanted.role nodes near)
-IsOne wanted Searched Found (Err (Several sought ids)) = Tells wanted sought × ((found : List NodeRef) × Found found × (1 < length found) × (ids.items ≡ map id_at found))
+IsOne wanted Searched Found (Err (NotFound sought near)) =
+    Tells wanted sought × Found [] × ((nodes : List NodeRef) × Searched nodes × IsNear wanted.role nodes near)
+IsOne wanted Searched Found (Err (Several sought ids)) =
+    Tells wanted sought × ((found : List NodeRef) × Found found × (1 < length found) × (ids.items ≡ map id_at found))
 IsOne wanted Searched Found (Err Memory) = ⊤

@@ -14,7 +14,9 @@ use Rattle.read.specs.NoText.{no_text_line}
 
 -- the text of a node, unless it is hidden or there is none; then why
 abbrev pub told_of : World → FullNodeId → List ℕ
-told_of w id = if hides_text w id then codes "text hidden\n" else (if supports_text_ranges w id then read_text w id else no_text_line (text_defect w id))
+told_of w id =
+    if hides_text w id then codes "text hidden\n"
+    else (if supports_text_ranges w id then read_text w id else no_text_line (text_defect w id))
 
 -- the text of a node by its name
 abbrev pub asked_text : World → NodeId × TreeId → List ℕ

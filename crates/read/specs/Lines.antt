@@ -89,7 +89,8 @@ abbrev pub selected_span : World → FullNodeId → Option Range → Option Posi
 selected_span w id None a f = (0, 0)
 selected_span w id (Some r) None f = (0, 0)
 selected_span w id (Some r) (Some a) None = (0, 0)
-selected_span w id (Some r) (Some a) (Some f) = (min (shown_index w id a) (shown_index w id f), max (shown_index w id a) (shown_index w id f))
+selected_span w id (Some r) (Some a) (Some f) =
+    (min (shown_index w id a) (shown_index w id f), max (shown_index w id a) (shown_index w id f))
 
 abbrev pub selection_text : World → FullNodeId → List ℕ
 selection_text w id = selection_line w id (selection w id) (selection_anchor w id) (selection_focus w id)

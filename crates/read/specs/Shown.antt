@@ -12,7 +12,8 @@ use Rattle.texts.specs.RangeCuts.{Located, located_in}
 
 -- the text of a range; in a password a bullet for each of its characters, also if all are the same
 abbrev pub shown_text : Located → List ℕ
-shown_text l = if is_password l.0 l.1.0 then bullets (length (character_ranges (flat_text l.0 l.1.0) l.1.1)) else text_of (flat_text l.0 l.1.0) l.1.1
+shown_text l =
+    if is_password l.0 l.1.0 then bullets (length (character_ranges (flat_text l.0 l.1.0) l.1.1)) else text_of (flat_text l.0 l.1.0) l.1.1
 
 -- its parts, in the same text
 abbrev pub parts_at : (FlatText → Range → List Range) → Located → List Located

@@ -118,7 +118,8 @@ fn tell_line<O: Write>(
 ) -> Result<usize, Stop>
     ensures same { lines_root lines.new ≡ lines_root lines.old }
     ensures printed { let root = lines_root lines.old in
-        OnOk result (Appends (O.contents out.old) (O.contents out.new) (numbered_text (world_at root) (id_at root) (span_of selected) at number)) }
+        OnOk result (Appends (O.contents out.old) (O.contents out.new)
+        (numbered_text (world_at root) (id_at root) (span_of selected) at number)) }
     ensures after { let root = lines_root lines.old in
         IfOk result (λ after. after ≡ index_past (world_at root) (id_at root) at number) }
 {
@@ -174,7 +175,8 @@ fn tell_word<O: Write>(
     selected: Selected,
     out: &mut O,
 ) -> Result<usize, Stop>
-    ensures printed { OnOk result (Appends (O.contents out.old) (O.contents out.new) (word_text (span_of selected) at (located word.entry))) }
+    ensures printed { OnOk result (Appends (O.contents out.old) (O.contents out.new)
+        (word_text (span_of selected) at (located word.entry))) }
     ensures after { IfOk result (λ after. after ≡ index_after at (located word.entry)) }
 {
     out.write_all(b"  word ")?;
@@ -207,7 +209,8 @@ fn tell_marks<O: Write>(
     selected: Selected,
     out: &mut O,
 ) -> Result<(), Stop>
-    ensures { OnOk result (Appends (O.contents out.old) (O.contents out.new) (marks (span_of selected) at (characters_left characters.entry))) }
+    ensures { OnOk result (Appends (O.contents out.old) (O.contents out.new)
+        (marks (span_of selected) at (characters_left characters.entry))) }
 {
     let mut left = characters;
     let mut index = at;

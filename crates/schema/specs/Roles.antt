@@ -83,7 +83,29 @@ role_number Tree = 71
 role_number (Other n) = 72 + n
 
 role_from : ℕ → Role
-role_from n = cond (nat_lt n 72) (cond (nat_lt n 36) (cond (nat_lt n 18) (cond (nat_lt n 9) (cond (nat_lt n 4) (cond (nat_lt n 2) (cond (nat_lt n 1) Unknown Window) (cond (nat_lt n 3) ScrollView Paragraph)) (cond (nat_lt n 6) (cond (nat_lt n 5) GenericContainer TextRun) (cond (nat_lt n 7) Label (cond (nat_lt n 8) Image Document)))) (cond (nat_lt n 13) (cond (nat_lt n 11) (cond (nat_lt n 10) Terminal TextInput) (cond (nat_lt n 12) MultilineTextInput SearchInput)) (cond (nat_lt n 15) (cond (nat_lt n 14) DateInput DateTimeInput) (cond (nat_lt n 16) WeekInput (cond (nat_lt n 17) MonthInput TimeInput))))) (cond (nat_lt n 27) (cond (nat_lt n 22) (cond (nat_lt n 20) (cond (nat_lt n 19) EmailInput NumberInput) (cond (nat_lt n 21) PasswordInput PhoneNumberInput)) (cond (nat_lt n 24) (cond (nat_lt n 23) UrlInput EditableComboBox) (cond (nat_lt n 25) SpinButton (cond (nat_lt n 26) ListBox TabList)))) (cond (nat_lt n 31) (cond (nat_lt n 29) (cond (nat_lt n 28) AlertDialog Dialog) (cond (nat_lt n 30) ComboBox DisclosureTriangle)) (cond (nat_lt n 33) (cond (nat_lt n 32) TreeItem Button) (cond (nat_lt n 34) CheckBox (cond (nat_lt n 35) DefaultButton Link)))))) (cond (nat_lt n 54) (cond (nat_lt n 45) (cond (nat_lt n 40) (cond (nat_lt n 38) (cond (nat_lt n 37) MenuItem MenuItemCheckBox) (cond (nat_lt n 39) MenuItemRadio RadioButton)) (cond (nat_lt n 42) (cond (nat_lt n 41) DocBackLink DocBiblioRef) (cond (nat_lt n 43) DocGlossRef (cond (nat_lt n 44) DocNoteRef ColorWell)))) (cond (nat_lt n 49) (cond (nat_lt n 47) (cond (nat_lt n 46) Grid MenuListPopup) (cond (nat_lt n 48) RadioGroup Slider)) (cond (nat_lt n 51) (cond (nat_lt n 50) Switch TreeGrid) (cond (nat_lt n 52) Article (cond (nat_lt n 53) Definition DescriptionList))))) (cond (nat_lt n 63) (cond (nat_lt n 58) (cond (nat_lt n 56) (cond (nat_lt n 55) GraphicsDocument List) (cond (nat_lt n 57) ListItem PdfRoot)) (cond (nat_lt n 60) (cond (nat_lt n 59) ProgressIndicator RootWebArea) (cond (nat_lt n 61) Term (cond (nat_lt n 62) Timer Toolbar)))) (cond (nat_lt n 67) (cond (nat_lt n 65) (cond (nat_lt n 64) Tooltip Comment) (cond (nat_lt n 66) Tab ListBoxOption)) (cond (nat_lt n 69) (cond (nat_lt n 68) MenuListOption ListGrid) (cond (nat_lt n 70) Menu (cond (nat_lt n 71) MenuBar Tree))))))) (Other (n - 72))
+role_from n =
+    cond (nat_lt n 72) (cond (nat_lt n 36) (cond (nat_lt n 18) (cond (nat_lt n 9)
+    (cond (nat_lt n 4) (cond (nat_lt n 2) (cond (nat_lt n 1) Unknown Window) (cond (nat_lt n 3) ScrollView Paragraph))
+    (cond (nat_lt n 6) (cond (nat_lt n 5) GenericContainer TextRun) (cond (nat_lt n 7) Label (cond (nat_lt n 8) Image Document))))
+    (cond (nat_lt n 13) (cond (nat_lt n 11) (cond (nat_lt n 10) Terminal TextInput) (cond (nat_lt n 12) MultilineTextInput SearchInput))
+    (cond (nat_lt n 15) (cond (nat_lt n 14) DateInput DateTimeInput) (cond (nat_lt n 16) WeekInput
+    (cond (nat_lt n 17) MonthInput TimeInput))))) (cond (nat_lt n 27) (cond (nat_lt n 22)
+    (cond (nat_lt n 20) (cond (nat_lt n 19) EmailInput NumberInput) (cond (nat_lt n 21) PasswordInput PhoneNumberInput))
+    (cond (nat_lt n 24) (cond (nat_lt n 23) UrlInput EditableComboBox)
+    (cond (nat_lt n 25) SpinButton (cond (nat_lt n 26) ListBox TabList))))
+    (cond (nat_lt n 31) (cond (nat_lt n 29) (cond (nat_lt n 28) AlertDialog Dialog) (cond (nat_lt n 30) ComboBox DisclosureTriangle))
+    (cond (nat_lt n 33) (cond (nat_lt n 32) TreeItem Button) (cond (nat_lt n 34) CheckBox (cond (nat_lt n 35) DefaultButton Link))))))
+    (cond (nat_lt n 54) (cond (nat_lt n 45) (cond (nat_lt n 40) (cond (nat_lt n 38) (cond (nat_lt n 37) MenuItem MenuItemCheckBox)
+    (cond (nat_lt n 39) MenuItemRadio RadioButton)) (cond (nat_lt n 42) (cond (nat_lt n 41) DocBackLink DocBiblioRef)
+    (cond (nat_lt n 43) DocGlossRef (cond (nat_lt n 44) DocNoteRef ColorWell))))
+    (cond (nat_lt n 49) (cond (nat_lt n 47) (cond (nat_lt n 46) Grid MenuListPopup) (cond (nat_lt n 48) RadioGroup Slider))
+    (cond (nat_lt n 51) (cond (nat_lt n 50) Switch TreeGrid) (cond (nat_lt n 52) Article (cond (nat_lt n 53) Definition DescriptionList)))))
+    (cond (nat_lt n 63) (cond (nat_lt n 58) (cond (nat_lt n 56) (cond (nat_lt n 55) GraphicsDocument List)
+    (cond (nat_lt n 57) ListItem PdfRoot)) (cond (nat_lt n 60) (cond (nat_lt n 59) ProgressIndicator RootWebArea)
+    (cond (nat_lt n 61) Term (cond (nat_lt n 62) Timer Toolbar)))) (cond (nat_lt n 67)
+    (cond (nat_lt n 65) (cond (nat_lt n 64) Tooltip Comment) (cond (nat_lt n 66) Tab ListBoxOption))
+    (cond (nat_lt n 69) (cond (nat_lt n 68) MenuListOption ListGrid) (cond (nat_lt n 70) Menu (cond (nat_lt n 71) MenuBar Tree)))))))
+    (Other (n - 72))
 
 not_below : (n : ℕ) → nat_lt (72 + n) 72 ≡ false
 not_below n = grind (arith, nat_tests)
@@ -170,12 +192,14 @@ same_role a b = role_number a == role_number b
 
 pub same_role-decides : (a b : Role) → Decides (same_role a b) (a ≡ b)
 same_role-decides a b =
-    Decides-like (same_role a b) (λ e. sym (back a) ∙ ap role_from e ∙ back b) (λ e. ap role_number e) (Decides-eqb (role_number a) (role_number b))
+    Decides-like (same_role a b) (λ e. sym (back a) ∙ ap role_from e ∙ back b) (λ e. ap role_number e)
+    (Decides-eqb (role_number a) (role_number b))
 
 pub same_role_equivalence : IsEquivalence same_role
 same_role_equivalence = record {
   refl = λ x. (same_role-decides x x).1 refl;
-  symm = λ x y. same_from_decides (same_role x y) (same_role y x) (same_role-decides x y) (Decides-like (same_role y x) sym sym (same_role-decides y x));
+  symm = λ x y. same_from_decides (same_role x y) (same_role y x) (same_role-decides x y)
+      (Decides-like (same_role y x) sym sym (same_role-decides y x));
   congr = λ x y z e. ap (λ w. same_role w z) ((same_role-decides x y).0 e);
 }
 

@@ -22,7 +22,8 @@ miscounted words = if list_any is_like_a_file words then File else Count
 -- unless there is no memory for it
 abbrev pub IsUnknownWord : ArgumentKind → List ℕ → Option (List ℕ) → ArgumentError → Type 0
 IsUnknownWord kind word near File = is_like_a_file word ≡ true
-IsUnknownWord kind word near (Unknown it) = (is_like_a_file word ≡ false) × (it.kind ≡ kind) × (string_bytes it.word ≡ word) × (option_copied it.near ≡ near)
+IsUnknownWord kind word near (Unknown it) =
+    (is_like_a_file word ≡ false) × (it.kind ≡ kind) × (string_bytes it.word ≡ word) × (option_copied it.near ≡ near)
 IsUnknownWord kind word near Memory = is_like_a_file word ≡ false
 IsUnknownWord kind word near _ = ⊥
 
@@ -49,7 +50,8 @@ pub record IsNoOption (options : List (List ℕ)) (word : List ℕ) (error : Arg
   pub unknown : bytes_eq word (codes "--help") ≡ false → IsUnknownOption options word error
 
 -- what is read from words, of which the first may be an option, by a program with these options that reads other words so
-abbrev pub ReadsWords : {A : Type 0} → (List (List ℕ) → Result A ArgumentError → Type 0) → List (List ℕ) → List (List ℕ) → Result A ArgumentError → Type 0
+abbrev pub ReadsWords : {A : Type 0} → (List (List ℕ) → Result A ArgumentError → Type 0) → List (List ℕ) → List (List ℕ)
+    → Result A ArgumentError → Type 0
 ReadsWords reads options [] result = reads [] result
 ReadsWords reads options (first ∷ more) result =
     MatchBool (is_option first) (IsErrAnd result (IsNoOption options first)) (reads (first ∷ more) result)

@@ -70,11 +70,13 @@ TellsError manual error out out' err err' status = Tells err err' (wrong_text ma
 
 -- What is answered to words, by a program that reads them so: it runs with what they mean, and nothing is told; or the reason why not
 -- is told, and the result is the exit status.
-abbrev pub Answers : {A : Type 0} → (List (List ℕ) → Result A ArgumentError → Type 0) → Manual → List (List ℕ) → Result A ℕ → Bytes → Bytes → Bytes → Bytes → Type 0
+abbrev pub Answers : {A : Type 0} → (List (List ℕ) → Result A ArgumentError → Type 0) → Manual → List (List ℕ) → Result A ℕ → Bytes → Bytes
+    → Bytes → Bytes → Type 0
 Answers reads manual words result out out' err err' =
     MatchResult result
     (λ asked. ReadsWords reads (options manual) words (Ok asked) × (out' ≡ out) × (err' ≡ err))
-    (λ status. (error : ArgumentError) × ReadsWords reads (options manual) words (Err error) × TellsError manual error out out' err err' status)
+    (λ status. (error : ArgumentError) × ReadsWords reads (options manual) words (Err error)
+    × TellsError manual error out out' err err' status)
 
 -- the words after the option, if there is one and it is the first
 abbrev pub after_option : Option (List ℕ) → List (List ℕ) → Option (List (List ℕ))

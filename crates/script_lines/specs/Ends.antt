@@ -39,7 +39,8 @@ Tells before after text status result = ((result ≡ status) × Appends before a
 -- a message about the last line of this reader is reported, about a fault that explains the line, with the status of a bad line
 abbrev pub TellsOfLine : ScriptReader → Option (List ℕ) → Option (List ℕ) → Type 0
 TellsOfLine script before after =
-    (fault : LineFault) × (near : Option (List ℕ)) × Explains (is_some script.begun) (last_line script) fault × Suggests (last_line script) fault near
+    (fault : LineFault) × (near : Option (List ℕ)) × Explains (is_some script.begun) (last_line script) fault
+    × Suggests (last_line script) fault near
     × Appends before after (fault_line (number_of script) (last_line script) fault near)
 
 -- that, or the status is that of an error of a stream

@@ -126,7 +126,8 @@ AreFree (field ∷ others) head = IsHeadField field × IsFree field head × AreF
 -- all fields of an update's head
 abbrev pub info_head : NodeId → Option InfoData → HeadData
 info_head focus None = record { focus = Some focus; root = None; toolkit = None; version = None }
-info_head focus (Some info) = record { focus = Some focus; root = Some info.root; toolkit = info.toolkit_name; version = info.toolkit_version }
+info_head focus (Some info) =
+    record { focus = Some focus; root = Some info.root; toolkit = info.toolkit_name; version = info.toolkit_version }
 
 abbrev pub head_of : UpdateData → HeadData
 head_of u = info_head u.focus u.info

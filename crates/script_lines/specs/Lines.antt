@@ -14,7 +14,9 @@ use Rattle.script_lines.specs.Questions.{question_line}
 
 -- of the tree info
 abbrev pub info_text : InfoData → List ℕ
-info_text info = codes " root=" ++ decimal info.root.0 ++ word_field (codes "toolkit") (option_map quoted info.toolkit_name) ++ word_field (codes "version") (option_map quoted info.toolkit_version)
+info_text info =
+    codes " root=" ++ decimal info.root.0 ++ word_field (codes "toolkit") (option_map quoted info.toolkit_name)
+    ++ word_field (codes "version") (option_map quoted info.toolkit_version)
 
 abbrev pub info_or_nothing : Option InfoData → List ℕ
 info_or_nothing None = []

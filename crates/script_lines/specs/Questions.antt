@@ -30,7 +30,8 @@ abbrev pub indexes_line : NodeId × TreeId → At → List ℕ
 indexes_line name at = codes "indexes " ++ name_text name ++ codes " " ++ at_text at ++ codes "\n"
 
 abbrev pub between_line : NodeId × TreeId → At → At → List ℕ
-between_line name start finish = codes "between " ++ name_text name ++ codes " " ++ at_text start ++ codes " " ++ at_text finish ++ codes "\n"
+between_line name start finish =
+    codes "between " ++ name_text name ++ codes " " ++ at_text start ++ codes " " ++ at_text finish ++ codes "\n"
 
 -- the word that a query begins with
 abbrev pub question_word : Query → List ℕ

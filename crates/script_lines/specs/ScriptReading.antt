@@ -43,7 +43,8 @@ EndsInside at number = (at.left ≡ []) × (at.begun ≢ None) × (number ≡ at
 -- the next line isn't UTF-8, is none of a script, or is out of place
 abbrev pub IsBadNext : Place → ℕ → Type 0
 IsBadNext at number = (at.left ≢ []) × (number ≡ next_number at.number)
-    × (ReadsLine (take_through 10 at.left) (Err BadLine) ⊎ ((line : Line) × ReadsLine (take_through 10 at.left) (Ok line) × (taken at.begun line ≡ None)))
+    × (ReadsLine (take_through 10 at.left) (Err BadLine) ⊎ ((line : Line) × ReadsLine (take_through 10 at.left) (Ok line)
+    × (taken at.begun line ≡ None)))
 
 -- it reads up to the end of the next command, to the end of the input, or to a bad line, which it has by its number;
 -- a fault of the input and want of memory may stop it anywhere

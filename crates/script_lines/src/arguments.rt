@@ -179,7 +179,8 @@ fn answer_option<O: Write, E: Write>(
 
 /// The words after the option, if there is one and it is the first.
 fn after_option<'a>(option: Option<&str>, words: &'a [String]) -> Option<&'a [String]>
-    ensures { option_map (λ others. map string_bytes others.now) result ≡ after_option (option_copied option.entry) (map string_bytes words.now) }
+    ensures { option_map (λ others. map string_bytes others.now) result
+        ≡ after_option (option_copied option.entry) (map string_bytes words.now) }
 {
     let option = option?;
     match words {

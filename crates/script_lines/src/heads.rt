@@ -115,7 +115,13 @@ fn tree_info(
     toolkit_version: Option<String>,
 ) -> Result<Option<TreeInfo>, Stop>
     ensures reads { (focus : NodeId) (info : Option InfoData) →
-        record { focus = Some focus; root = root; toolkit = option_map string_bytes toolkit_name; version = option_map string_bytes toolkit_version } ≡ info_head focus info → IsOkAnd result (λ tree. option_map info_data tree ≡ info) }
+        record {
+          focus = Some focus;
+          root = root;
+          toolkit = option_map string_bytes toolkit_name;
+          version = option_map string_bytes toolkit_version;
+        } ≡ info_head focus info
+        → IsOkAnd result (λ tree. option_map info_data tree ≡ info) }
 {
     match root {
         Some(root) => Ok(Some(TreeInfo {

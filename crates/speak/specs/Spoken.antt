@@ -34,7 +34,8 @@ SaysNothing s t = (t.told ≡ s.told) × (t.written ≡ s.written)
 -- a new speaker says the focus of the tree, which is written, and has a mirror of the tree
 abbrev pub BeginsAloud : World → Aloud → Result Unit Stop → Aloud → Type 0
 BeginsAloud w s result t =
-    (begun : Speaker) × (told : Speaker) × (mirror : Option Records) × IsBegun w begun × IsSomeAnd mirror (AreRecordsOf w) × (t.told ≡ Some (told, mirror))
+    (begun : Speaker) × (told : Speaker) × (mirror : Option Records) × IsBegun w begun × IsSomeAnd mirror (AreRecordsOf w)
+    × (t.told ≡ Some (told, mirror))
     × SaysAtEnd (first_heading t.numbering) w mirror begun told result s.written t.written
 
 -- there is a speaker since the tree was made, and what it says of a step is written
@@ -48,7 +49,8 @@ StepsAloud old c new s result t =
 -- nothing. No tree begins where there is no memory for its mirror.
 abbrev pub Utters : Aloud → Turn → Result Unit Stop → Aloud → Type 0
 Utters s (Begun w) result t =
-    (t.numbering ≡ after_one s.numbering) × (t.reported ≡ s.reported) × (((result ≡ Err Memory) × SaysNothing s t) ⊎ BeginsAloud w s result t)
+    (t.numbering ≡ after_one s.numbering) × (t.reported ≡ s.reported) ×
+    (((result ≡ Err Memory) × SaysNothing s t) ⊎ BeginsAloud w s result t)
 Utters s (FirstRefused why) result t =
     (t.numbering ≡ after_one s.numbering) × SaysNothing s t × ReportsRefusal t.numbering.updates why result s.reported t.reported
 Utters s (Ran old c new) result t = (t.numbering ≡ after_command s.numbering c) × StepsAloud old c new s result t

@@ -37,7 +37,8 @@ Hears s e t = Speaks s.0 e t.0 × MirrorsWhileKept s.1 e t.1
 
 -- The command takes a step of the session, both receive its events in order, and no others, and this is the reply. Before, the speaker
 -- forgets what it looked up in other worlds.
-pub record StepsHeard (old : World) (c : Command) (new : World) (s t : Speaker × Option Records) (reply : Result Reply AllocError) : Type 0 where
+pub record StepsHeard (old : World) (c : Command) (new : World) (s t : Speaker × Option Records)
+    (reply : Result Reply AllocError) : Type 0 where
   pub start : Speaker
   pub same : IsStillSaying s.0 start
   pub events : List Event
@@ -63,7 +64,8 @@ pub record IsTaken (s t : Speaker) : Type 0 where
 
 -- A step ends in this world: exactly what the speaker has said since the last one, to the step's end, is written, under its heading.
 -- Where memory has run out the run then stops.
-pub record SaysAtEnd (heading : Option Heading) (w : World) (m : Option Records) (s t : Speaker) (result : Result Unit Stop) (before after : Bytes) : Type 0 where
+pub record SaysAtEnd (heading : Option Heading) (w : World) (m : Option Records) (s t : Speaker) (result : Result Unit Stop)
+    (before after : Bytes) : Type 0 where
   pub settled : Speaker
   pub ended : Result Unit Stop
   pub ends : Ends w (option_map (λ r. r.focus) m) s settled ended
@@ -71,12 +73,14 @@ pub record SaysAtEnd (heading : Option Heading) (w : World) (m : Option Records)
   pub taken : OnOk result (IsTaken settled t)
 
 -- a step that stops the run says nothing; after another one what is said of it is written
-abbrev pub SaysAfter : Option Heading → World → Result Unit Stop → Speaker × Option Records → Speaker × Option Records → Result Unit Stop → Bytes → Bytes → Type 0
+abbrev pub SaysAfter : Option Heading → World → Result Unit Stop → Speaker × Option Records → Speaker × Option Records → Result Unit Stop
+    → Bytes → Bytes → Type 0
 SaysAfter heading w (Err stop) s t result before after = (t ≡ s) × (result ≡ Err stop) × (after ≡ before)
 SaysAfter heading w (Ok done) s t result before after = SaysAtEnd heading w s.1 s.0 t.0 result before after × (t.1 ≡ s.1)
 
 -- both receive the events of a step, a refused update is reported, and what is said of the step is written
-pub record SpokenStep (n : Numbering) (old : World) (c : Command) (new : World) (s t : Speaker × Option Records) (result : Result Unit Stop) (before after told_before told_after : Bytes) : Type 0 where
+pub record SpokenStep (n : Numbering) (old : World) (c : Command) (new : World) (s t : Speaker × Option Records) (result : Result Unit Stop)
+    (before after told_before told_after : Bytes) : Type 0 where
   pub between : Speaker × Option Records
   pub reply : Result Reply AllocError
   pub heard : StepsHeard old c new s between reply

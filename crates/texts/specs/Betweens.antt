@@ -13,4 +13,5 @@ if_one_root p q range = if is_same (id_at (root_at p)) (id_at (root_at q)) then 
 
 -- in the text of the first, between it and the position that has the name of the second there
 abbrev pub between_names : TextPosition → TextPosition → Raw → Option Range
-between_names p q raw = if_one_root p q (option_map (range_between (position_text p) (flat_position p)) (position_named (position_text p) raw))
+between_names p q raw =
+    if_one_root p q (option_map (range_between (position_text p) (flat_position p)) (position_named (position_text p) raw))

@@ -12,7 +12,8 @@ measures m = record { positions = m.positions.now; widths = m.widths.now; are_al
 
 -- the run as its text shows it
 abbrev pub shown_in : Run → ShownRun
-shown_in r = shown_run (run_world r) (root_id r) (is_password (run_world r) (root_id r)) (needs_masking (run_world r) (root_id r)) (sent_of r)
+shown_in r =
+    shown_run (run_world r) (root_id r) (is_password (run_world r) (root_id r)) (needs_masking (run_world r) (root_id r)) (sent_of r)
 
 -- a number of a run's metrics, and a difference of two of them
 abbrev pub IsMetricStep : ℤ → Type 0

@@ -17,7 +17,9 @@ use Rattle.texts.specs.TextRanges.{world_in, text_in, range_at}
 
 -- two runs of the range have different values of it
 abbrev pub SomeDiffer : Look → TextRange → Type 0
-SomeDiffer what r = (run other : FullNodeId) × Contains (passed_runs (text_in r) (range_at r)) run × Contains (passed_runs (text_in r) (range_at r)) other × ¬ (AreSame what (world_in r) run other)
+SomeDiffer what r =
+    (run other : FullNodeId) × Contains (passed_runs (text_in r) (range_at r)) run × Contains (passed_runs (text_in r) (range_at r)) other
+    × ¬ (AreSame what (world_in r) run other)
 
 -- all runs of the range have the same value of it as this node
 pub record IsSample (what : Look) (r : TextRange) (node : NodeRef) : Type 0 where

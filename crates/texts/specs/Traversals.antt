@@ -19,7 +19,8 @@ abbrev pub IsEnough : Bool → List ℕ → ℕ → Type 0
 IsEnough masked text n = masked ≡ true → (count : ℕ) × (text ≡ bullets count) × (n ≤ count)
 
 -- a call with a view of this run in this world, and this text
-pub record IsCallWith {F T : Type 0} (g : Mut F (Bor NodeRef × (Bor (List ℕ) × Unit {0})) (Option T)) (w : World) (passed : Option FullNodeId × List ℕ) (f : F) (answer : Option T) (f' : F) : Type 0 where
+pub record IsCallWith {F T : Type 0} (g : Mut F (Bor NodeRef × (Bor (List ℕ) × Unit {0})) (Option T)) (w : World)
+    (passed : Option FullNodeId × List ℕ) (f : F) (answer : Option T) (f' : F) : Type 0 where
   pub view : Bor NodeRef
   pub text : Bor (List ℕ)
   pub world : world_at view.now ≡ w
@@ -33,6 +34,8 @@ EndsOr rest (Some x) h answer last = (answer ≡ Some x) × (last ≡ h)
 EndsOr rest None h answer last = rest
 
 -- the function is called with these, one after another, until it returns something, which is the result
-abbrev pub PassesAll : {F T : Type 0} → Mut F (Bor NodeRef × (Bor (List ℕ) × Unit {0})) (Option T) → World → List (Option FullNodeId × List ℕ) → F → Option T → F → Type 0
+abbrev pub PassesAll : {F T : Type 0} → Mut F (Bor NodeRef × (Bor (List ℕ) × Unit {0})) (Option T) → World
+    → List (Option FullNodeId × List ℕ) → F → Option T → F → Type 0
 PassesAll g w [] f answer last = (answer ≡ None) × (last ≡ f)
-PassesAll {F} {T} g w (x ∷ xs) f answer last = (a : Option T) × (h : F) × IsCallWith g w x f a h × EndsOr (PassesAll g w xs h answer last) a h answer last
+PassesAll {F} {T} g w (x ∷ xs) f answer last =
+    (a : Option T) × (h : F) × IsCallWith g w x f a h × EndsOr (PassesAll g w xs h answer last) a h answer last

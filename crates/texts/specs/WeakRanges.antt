@@ -26,7 +26,9 @@ abbrev pub IsInView : {S : Type 0} → (S → StateRef → Type 0) → S → (Wo
 IsInView converts state IsSo = (view : StateRef) × converts state view × IsSo (world_of view)
 
 abbrev pub coded_raw : Coded TextPosition
-coded_raw = code_by (ℕ × ℕ) (coded× coded_ℕ coded_ℕ) (λ a. (a.node.0, a.character_index)) (λ p. record { node = record { 0 = p.0 }; character_index = p.1 }) (λ _. refl)
+coded_raw =
+    code_by (ℕ × ℕ) (coded× coded_ℕ coded_ℕ) (λ a. (a.node.0, a.character_index))
+    (λ p. record { node = record { 0 = p.0 }; character_index = p.1 }) (λ _. refl)
 
 abbrev pub coded_comparable : Coded (List ℕ × ℕ)
 coded_comparable = coded× (coded_list coded_ℕ) coded_ℕ

@@ -40,7 +40,12 @@ impl Model for Store {
 
     ghost coded = { coded_store };
 
-    ghost view = { λ a. record { world = world_shown a; slots = slots_shown a.tables.nodes; names = keys_of a.tables.names.entries; room = nat_lt (vec_len a.tables.known) (vec_capacity a.tables.known) } };
+    ghost view = { λ a. record {
+      world = world_shown a;
+      slots = slots_shown a.tables.nodes;
+      names = keys_of a.tables.names.entries;
+      room = nat_lt (vec_len a.tables.known) (vec_capacity a.tables.known);
+    } };
 
     ghost invariant = { λ a. IsStored a (world_shown a) };
 }

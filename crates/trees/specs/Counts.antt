@@ -9,11 +9,13 @@ use Rattle.tree_changes.specs.LookUps.{IsRaisedAtLeast}
 
 -- two are counted for each event of the accepted update
 abbrev pub CountsEvents : World → UpdateData → World → ℕ → ℕ → Type 0
-CountsEvents old u new before after = (told : List Event) → Does old (ToUpdate u) new told Accepted → IsRaisedAtLeast before (2 * length told) after
+CountsEvents old u new before after =
+    (told : List Event) → Does old (ToUpdate u) new told Accepted → IsRaisedAtLeast before (2 * length told) after
 
 -- and one for each of its nodes
 abbrev pub CountsLookUps : World → UpdateData → World → ℕ → ℕ → Type 0
-CountsLookUps old u new before after = (told : List Event) → Does old (ToUpdate u) new told Accepted → IsRaisedAtLeast before (length u.nodes + 2 * length told) after
+CountsLookUps old u new before after =
+    (told : List Event) → Does old (ToUpdate u) new told Accepted → IsRaisedAtLeast before (length u.nodes + 2 * length told) after
 
 -- the events and the changes of a decision
 abbrev pub change_count : Decision → ℕ

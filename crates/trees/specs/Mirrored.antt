@@ -22,8 +22,11 @@ abbrev pub records_kept : KeptRecords → Records
 records_kept k = record { nodes = nodes_kept k.nodes.entries; focus = k.focus }
 
 abbrev coded_mirrored : Coded Mirrored
-coded_mirrored = code_by (Option Place × NodeData) (coded× (coded_option (coded× coded_full coded_ℕ)) node_row.coded) (λ m. (m.place, m.node)) (λ p. record { place = p.0; node = p.1 }) (λ _. refl)
+coded_mirrored =
+    code_by (Option Place × NodeData) (coded× (coded_option (coded× coded_full coded_ℕ)) node_row.coded) (λ m. (m.place, m.node))
+    (λ p. record { place = p.0; node = p.1 }) (λ _. refl)
 
 abbrev pub coded_records : Coded Records
 coded_records =
-    code_by (FinMap full_cmp Mirrored × Option FullNodeId) (coded× (code coded_full coded_mirrored) (coded_option coded_full)) (λ r. (r.nodes, r.focus)) (λ p. record { nodes = p.0; focus = p.1 }) (λ _. refl)
+    code_by (FinMap full_cmp Mirrored × Option FullNodeId) (coded× (code coded_full coded_mirrored) (coded_option coded_full))
+    (λ r. (r.nodes, r.focus)) (λ p. record { nodes = p.0; focus = p.1 }) (λ _. refl)

@@ -22,4 +22,5 @@ abbrev pub defect_from : ℕ → Bool → ℕ → SentRun → List SentRun → O
 defect_from tree password size a [] =
     option_or (at_run a (own_defect tree password a)) (option_or (size_defect size a) (at_run a (onward_defect a None)))
 defect_from tree password size a (b ∷ runs) =
-    option_or (at_run a (own_defect tree password a)) (option_or (size_defect size a) (option_or (defect_between a b) (defect_from tree password (size + length (run_value a)) b runs)))
+    option_or (at_run a (own_defect tree password a)) (option_or (size_defect size a)
+    (option_or (defect_between a b) (defect_from tree password (size + length (run_value a)) b runs)))

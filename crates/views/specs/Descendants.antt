@@ -29,7 +29,8 @@ filtered_descendants f w id = shown_nodes f (below w id)
 -- it is each filtered child, and then what is shown below that
 abbrev pub ShownBelowIsOfFilteredChildren : Type 0
 ShownBelowIsOfFilteredChildren =
-    (f : FullNodeId → FilterResult) (w : World) → IsFormed w → (id : FullNodeId) → filtered_descendants f w id ≡ flat_map (λ c. c ∷ filtered_descendants f w c) (filtered_children f w id)
+    (f : FullNodeId → FilterResult) (w : World) → IsFormed w → (id : FullNodeId)
+    → filtered_descendants f w id ≡ flat_map (λ c. c ∷ filtered_descendants f w c) (filtered_children f w id)
 
 -- a filter that includes each node shows all of it
 abbrev pub AllIncludedAreDescendants : Type 0

@@ -22,7 +22,8 @@ abbrev pub own_part : (FullNodeId → FilterResult) → FullNodeId → List Full
 own_part f id = cond (is_included (f id)) (id ∷ []) []
 
 module _ (f : FullNodeId → FilterResult) (w : World) (top : FullNodeId) where
-  -- what is shown below top before a node, of which these are the places from it up: unless the parent is top, before the parent and the parent itself, and then what is shown of the parent's earlier children
+  -- what is shown below top before a node, of which these are the places from it up: unless the parent is top, before the parent
+  -- and the parent itself, and then what is shown of the parent's earlier children
   abbrev pub earlier : List Place → List FullNodeId
   earlier [] = []
   earlier (p ∷ up) = cond (is_same top p.0) [] (earlier up ++ own_part f p.0) ++ shown_nodes f (plant (below w) (take p.1 (children w p.0)))
@@ -41,7 +42,8 @@ module _ (f : FullNodeId → FilterResult) (w : World) (top : FullNodeId) where
 
   -- before a place
   abbrev pub earlier_at : Place → List FullNodeId
-  earlier_at p = cond (is_same top p.0) [] (earlier (above w p.0) ++ own_part f p.0) ++ shown_nodes f (plant (below w) (take p.1 (children w p.0)))
+  earlier_at p =
+      cond (is_same top p.0) [] (earlier (above w p.0) ++ own_part f p.0) ++ shown_nodes f (plant (below w) (take p.1 (children w p.0)))
 
   -- the node is one of those that are shown
   abbrev pub IsAmong : FullNodeId → Type 0
@@ -55,7 +57,8 @@ pub record SpansAll (f : FullNodeId → FilterResult) (w : World) (top front bac
 
 -- what is shown from the front to the back
 abbrev pub all_between : (FullNodeId → FilterResult) → World → FullNodeId → FullNodeId → FullNodeId → List FullNodeId
-all_between f w top front back = slice_range (filtered_descendants f w top) (length (earlier_in f w top front)) (length (earlier_in f w top back) + 1)
+all_between f w top front back =
+    slice_range (filtered_descendants f w top) (length (earlier_in f w top front)) (length (earlier_in f w top back) + 1)
 
 abbrev pub SpansAllEnds : (FullNodeId → FilterResult) → World → FullNodeId → Ends → Type 0
 SpansAllEnds f w top e = SpansAll f w top e.front.member.id e.back.member.id
@@ -96,20 +99,24 @@ descent_work c = work_inside_if (walked_world c) c.top c.ends
 -- by each f that the filter follows, the call takes the first of what is left
 pub record TakesFirst (answers : NodeRef → FilterResult → Type 0) (s : Course) (r : Option NodeRef) (t : Course) : Type 0 where
   pub goes : WalksOn s r t
-  pub list : (f : FullNodeId → FilterResult) → Follows answers (walked_world s) f → IsOnDescent f s → IsOnDescent f t × YieldsFirstBy id_at (descent_left f) s r t
+  pub list : (f : FullNodeId → FilterResult) → Follows answers (walked_world s) f → IsOnDescent f s → IsOnDescent f t
+      × YieldsFirstBy id_at (descent_left f) s r t
 
 -- or the last
 pub record TakesLast (answers : NodeRef → FilterResult → Type 0) (s : Course) (r : Option NodeRef) (t : Course) : Type 0 where
   pub goes : WalksOn s r t
-  pub list : (f : FullNodeId → FilterResult) → Follows answers (walked_world s) f → IsOnDescent f s → IsOnDescent f t × YieldsLastBy id_at (descent_left f) s r t
+  pub list : (f : FullNodeId → FilterResult) → Follows answers (walked_world s) f → IsOnDescent f s → IsOnDescent f t
+      × YieldsLastBy id_at (descent_left f) s r t
 
 -- the walk is in this world, and by each f that the filter follows it has these ids left
-pub record BeginsDescent (answers : NodeRef → FilterResult → Type 0) (w : World) (ids : (FullNodeId → FilterResult) → List FullNodeId) (c : Course) : Type 0 where
+pub record BeginsDescent (answers : NodeRef → FilterResult → Type 0) (w : World) (ids : (FullNodeId → FilterResult) → List FullNodeId)
+    (c : Course) : Type 0 where
   pub world : walked_world c ≡ w
   pub list : (f : FullNodeId → FilterResult) → Follows answers w f → IsOnDescent f c × (descent_left f c ≡ ids f)
 
 IsAmong-prop : (f : FullNodeId → FilterResult) (w : World) (top id : FullNodeId) → IsProp (IsAmong f w top id)
-IsAmong-prop f w top id = Coded-set (coded_list coded_full) (earlier_in f w top id ++ id ∷ later_in f w top id) (filtered_descendants f w top)
+IsAmong-prop f w top id =
+    Coded-set (coded_list coded_full) (earlier_in f w top id ++ id ∷ later_in f w top id) (filtered_descendants f w top)
 
 -- it has one proof at most, so a walk can keep it
 SpansAllIf-prop : (f : FullNodeId → FilterResult) (w : World) (top : FullNodeId) (o : Option Ends) → IsProp (SpansAllIf f w top o)

@@ -27,44 +27,63 @@ pub record WalkOf (S F : Type 0) : Type 1 where
   pub left : (FullNodeId → FilterResult) → S → List FullNodeId
 
 -- the walk is in this world, and by each f that the filter follows it has these ids left
-pub record BeginsWalk {S F : Type 0} (answers : NodeRef → FilterResult → Type 0) (walk : WalkOf S F) (w : World) (ids : (FullNodeId → FilterResult) → List FullNodeId) (s : S) : Type 0 where
+pub record BeginsWalk {S F : Type 0} (answers : NodeRef → FilterResult → Type 0) (walk : WalkOf S F) (w : World)
+    (ids : (FullNodeId → FilterResult) → List FullNodeId) (s : S) : Type 0 where
   pub world : walked_world (walk.course s) ≡ w
   pub list : (f : FullNodeId → FilterResult) → Follows answers w f → walk.OnCourse f s × (walk.left f s ≡ ids f)
 
 -- the filter stays; the walk stays in its world, each item is a node of that, and at its end the walk stays there;
 -- and by each f that the filter follows the call returns the first of what is left
-pub record GivesFirst {S F : Type 0} (answers : F → NodeRef → FilterResult → Type 0) (walk : WalkOf S F) (s : S) (r : Option NodeRef) (t : S) : Type 0 where
+pub record GivesFirst {S F : Type 0} (answers : F → NodeRef → FilterResult → Type 0) (walk : WalkOf S F) (s : S) (r : Option NodeRef)
+    (t : S) : Type 0 where
   pub filter : walk.filter t ≡ walk.filter s
   pub goes : WalksOn (walk.course s) r (walk.course t)
   pub list : (f : FullNodeId → FilterResult) → Follows (answers (walk.filter s)) (walked_world (walk.course s)) f → walk.OnCourse f s →
       walk.OnCourse f t × YieldsFirstBy id_at (walk.left f) s r t
 
 -- and the same of the last
-pub record GivesLast {S F : Type 0} (answers : F → NodeRef → FilterResult → Type 0) (walk : WalkOf S F) (s : S) (r : Option NodeRef) (t : S) : Type 0 where
+pub record GivesLast {S F : Type 0} (answers : F → NodeRef → FilterResult → Type 0) (walk : WalkOf S F) (s : S) (r : Option NodeRef)
+    (t : S) : Type 0 where
   pub filter : walk.filter t ≡ walk.filter s
   pub goes : WalksOn (walk.course s) r (walk.course t)
   pub list : (f : FullNodeId → FilterResult) → Follows (answers (walk.filter s)) (walked_world (walk.course s)) f → walk.OnCourse f s →
       walk.OnCourse f t × YieldsLastBy id_at (walk.left f) s r t
 
 -- however calls at both ends are mixed, by each f that the filter follows they take what is left
-abbrev pub MixturesTakeShown : {S F : Type 0} → (S → Option NodeRef → S → Type 0) → (S → Option NodeRef → S → Type 0) → (F → NodeRef → FilterResult → Type 0) → WalkOf S F → Type 0
+abbrev pub MixturesTakeShown : {S F : Type 0} → (S → Option NodeRef → S → Type 0) → (S → Option NodeRef → S → Type 0)
+    → (F → NodeRef → FilterResult → Type 0) → WalkOf S F → Type 0
 MixturesTakeShown {S} next next_back answers walk =
-    (s t : S) (calls : List (Call NodeRef)) → AreCalls next next_back s calls t → (f : FullNodeId → FilterResult) → Follows (answers (walk.filter s)) (walked_world (walk.course s)) f → walk.OnCourse f s →
+    (s t : S) (calls : List (Call NodeRef)) → AreCalls next next_back s calls t → (f : FullNodeId → FilterResult)
+    → Follows (answers (walk.filter s)) (walked_world (walk.course s)) f → walk.OnCourse f s →
     AreTaken (walk.left f s) (map (call_seen id_at) calls) (walk.left f t)
 
 abbrev pub children_walk : {F : Type 0} → WalkOf (FilteredChildren F) F
-children_walk = record { filter = λ s. s.filter; course = λ s. s.course; OnCourse = λ f s. IsOnCourse f s.course; left = λ f s. ids_left f s.course }
+children_walk =
+    record { filter = λ s. s.filter; course = λ s. s.course; OnCourse = λ f s. IsOnCourse f s.course; left = λ f s. ids_left f s.course }
 
 abbrev pub following_walk : {F : Type 0} → WalkOf (FollowingFilteredSiblings F) F
-following_walk = record { filter = λ s. s.filter; course = λ s. s.course; OnCourse = λ f s. IsOnCourse f s.course; left = λ f s. ids_left f s.course }
+following_walk =
+    record { filter = λ s. s.filter; course = λ s. s.course; OnCourse = λ f s. IsOnCourse f s.course; left = λ f s. ids_left f s.course }
 
 -- nearest first
 abbrev pub preceding_walk : {F : Type 0} → WalkOf (PrecedingFilteredSiblings F) F
-preceding_walk = record { filter = λ s. s.filter; course = λ s. s.course; OnCourse = λ f s. IsOnCourse f s.course; left = λ f s. reverse (ids_left f s.course) }
+preceding_walk =
+    record {
+      filter = λ s. s.filter;
+      course = λ s. s.course;
+      OnCourse = λ f s. IsOnCourse f s.course;
+      left = λ f s. reverse (ids_left f s.course);
+    }
 
 -- over all depths
 abbrev pub descendants_walk : {F : Type 0} → WalkOf (FilteredDescendants F) F
-descendants_walk = record { filter = λ s. s.filter; course = λ s. s.course; OnCourse = λ f s. IsOnDescent f s.course; left = λ f s. descent_left f s.course }
+descendants_walk =
+    record {
+      filter = λ s. s.filter;
+      course = λ s. s.course;
+      OnCourse = λ f s. IsOnDescent f s.course;
+      left = λ f s. descent_left f s.course;
+    }
 
 -- of the items, by the answer of f for a node that is one
 abbrev pub items_walk : {F : Type 0} → WalkOf (Items F) F

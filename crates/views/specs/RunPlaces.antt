@@ -27,5 +27,7 @@ pub IsRunPlace-prop : (w : World) (root : FullNodeId) (s : Spot) → IsProp (IsR
 IsRunPlace-prop w root s a b = λ i. record {
   spot = IsSpot-prop w s a.spot b.spot i;
   below = Coded-set coded_bool (is_below w root s.member.id) true a.below b.below i;
-  among = Coded-set (coded_list coded_full) (runs_before w root s.member.id ++ s.member.id ∷ runs_after w root s.member.id) (run_ids w root) a.among b.among i;
+  among =
+      Coded-set (coded_list coded_full) (runs_before w root s.member.id ++ s.member.id ∷ runs_after w root s.member.id)
+      (run_ids w root) a.among b.among i;
 }

@@ -30,4 +30,6 @@ IsSound-prop w (Some o) a b = squash₁ a b
 
 pub HasRoom-prop : (k : StoreView) (o : Option Overlay) → IsProp (HasRoom k o)
 HasRoom-prop k None a b = refl
-HasRoom-prop k (Some o) a b = Π_prop (λ id. Coded-set coded_bool (contains k.slots id) (is_some (data_of k.world id) || is_some (change_at o.decision.now.nodes.items id))) a b
+HasRoom-prop k (Some o) a b =
+    Π_prop (λ id. Coded-set coded_bool (contains k.slots id) (is_some (data_of k.world id)
+    || is_some (change_at o.decision.now.nodes.items id))) a b

@@ -22,7 +22,8 @@ pub record PlacedRun : Type 0 where
 -- each of these runs, where this one stands before them, and so many bytes
 abbrev pub placed_from : Option SentRun → ℕ → List SentRun → List PlacedRun
 placed_from before size [] = []
-placed_from before size (r ∷ runs) = record { before = before; size = size; run = r; after = slice_get runs 0 } ∷ placed_from (Some r) (size + length (run_value r)) runs
+placed_from before size (r ∷ runs) =
+    record { before = before; size = size; run = r; after = slice_get runs 0 } ∷ placed_from (Some r) (size + length (run_value r)) runs
 
 -- the first of these that there is
 abbrev pub first_of : {X : Type 0} → List (Option X) → Option X
@@ -41,10 +42,13 @@ link_defect elsewhere unanswered (Some node) neighbour answer =
 
 -- what is wrong with the link of a run to the one before it, and to the one after it
 abbrev pub back_defect : Option SentRun → SentRun → Option RunDefect
-back_defect before r = link_defect (λ node. PreviousLink node) PreviousUnanswered r.node.previous_on_line before (option_and_then (λ b. b.node.next_on_line) before)
+back_defect before r =
+    link_defect (λ node. PreviousLink node) PreviousUnanswered r.node.previous_on_line before
+    (option_and_then (λ b. b.node.next_on_line) before)
 
 abbrev pub onward_defect : SentRun → Option SentRun → Option RunDefect
-onward_defect r after = link_defect (λ node. NextLink node) NextUnanswered r.node.next_on_line after (option_and_then (λ b. b.node.previous_on_line) after)
+onward_defect r after =
+    link_defect (λ node. NextLink node) NextUnanswered r.node.next_on_line after (option_and_then (λ b. b.node.previous_on_line) after)
 
 -- what is wrong with a run itself: its positions and widths, if given, are enough for the characters
 abbrev pub metrics_defect : Bool → SentRun → Option RunDefect
@@ -79,7 +83,8 @@ first_defect tree password runs = first_of (map (λ (p : PlacedRun). at_run p.ru
 -- none without runs; else the role, or the first run that breaks a rule
 abbrev pub defect_of_runs : World → FullNodeId → List SentRun → Option TextDefect
 defect_of_runs w root [] = None
-defect_of_runs w root (r ∷ runs) = if says (λ d. holds_text d.role) w root then first_defect root.tree (is_password w root) (r ∷ runs) else Some Role
+defect_of_runs w root (r ∷ runs) =
+    if says (λ d. holds_text d.role) w root then first_defect root.tree (is_password w root) (r ∷ runs) else Some Role
 
 unfoldable pub text_defect : World → FullNodeId → Option TextDefect
 text_defect w root = defect_of_runs w root (sent_runs w root)

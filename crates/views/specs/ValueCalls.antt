@@ -36,7 +36,8 @@ alone_calls v = if are_alike (λ a b. a == b) (chars v) then text_calls v else b
 -- an own value
 abbrev pub own_value_calls : World → FullNodeId → List ℕ → List TextCall
 own_value_calls w id v =
-    if is_password w id then (if supports_text_ranges w id then (if needs_masking w id then document_calls w id else text_calls v) else alone_calls v) else text_calls v
+    if is_password w id then (if supports_text_ranges w id then (if needs_masking w id then document_calls w id else text_calls v)
+    else alone_calls v) else text_calls v
 
 -- the own value, or else the text of the runs; no call, where there is no value
 unfoldable pub value_calls : World → FullNodeId → List TextCall

@@ -30,7 +30,8 @@ abbrev pub IsOver : Course → Type 0
 IsOver c = c.ends ≡ None
 
 -- the walk is in this world, and by each f that the filter follows it has these ids left
-pub record HasIdsLeft (answers : NodeRef → FilterResult → Type 0) (w : World) (ids : (FullNodeId → FilterResult) → List FullNodeId) (c : Course) : Type 0 where
+pub record HasIdsLeft (answers : NodeRef → FilterResult → Type 0) (w : World) (ids : (FullNodeId → FilterResult) → List FullNodeId)
+    (c : Course) : Type 0 where
   pub world : walked_world c ≡ w
   pub list : (f : FullNodeId → FilterResult) → Follows answers w f → IsOnCourse f c × (ids_left f c ≡ ids f)
 
@@ -44,9 +45,11 @@ pub record WalksOn (s : Course) (r : Option NodeRef) (t : Course) : Type 0 where
 -- by each f that the filter follows, the call takes the first of what is left
 pub record TakesFront (answers : NodeRef → FilterResult → Type 0) (s : Course) (r : Option NodeRef) (t : Course) : Type 0 where
   pub goes : WalksOn s r t
-  pub list : (f : FullNodeId → FilterResult) → Follows answers (walked_world s) f → IsOnCourse f s → IsOnCourse f t × YieldsFirstBy id_at (ids_left f) s r t
+  pub list : (f : FullNodeId → FilterResult) → Follows answers (walked_world s) f → IsOnCourse f s → IsOnCourse f t
+      × YieldsFirstBy id_at (ids_left f) s r t
 
 -- or the last
 pub record TakesBack (answers : NodeRef → FilterResult → Type 0) (s : Course) (r : Option NodeRef) (t : Course) : Type 0 where
   pub goes : WalksOn s r t
-  pub list : (f : FullNodeId → FilterResult) → Follows answers (walked_world s) f → IsOnCourse f s → IsOnCourse f t × YieldsLastBy id_at (ids_left f) s r t
+  pub list : (f : FullNodeId → FilterResult) → Follows answers (walked_world s) f → IsOnCourse f s → IsOnCourse f t
+      × YieldsLastBy id_at (ids_left f) s r t

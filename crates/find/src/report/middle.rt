@@ -42,7 +42,8 @@ fn seen_from(own: Translation, point: Point) -> Option<Point>
 
 /// The same, said by the numbers.
 fn moved_back(own: Translation, point: Point) -> Option<Point>
-    ensures { SomeIff result (FitsSigned w64 (point.x -ℤ own.x) × FitsSigned w64 (point.y -ℤ own.y)) (record { x = point.x -ℤ own.x; y = point.y -ℤ own.y }) }
+    ensures { SomeIff result (FitsSigned w64 (point.x -ℤ own.x) × FitsSigned w64 (point.y -ℤ own.y))
+        (record { x = point.x -ℤ own.x; y = point.y -ℤ own.y }) }
 {
     let x = difference(point.x, own.x)?;
     let y = difference(point.y, own.y)?;
