@@ -1,4 +1,4 @@
-//! Tests of sessions: their replies, and runs with a mirror beside them.
+//! Tests of sessions: runs with a mirror beside them.
 #![tactic(auto)]
 
 #[cfg(test)]

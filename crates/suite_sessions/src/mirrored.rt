@@ -6,13 +6,11 @@ use crate::sent::{
 use accesskit_consumer::node::{FullNodeId, NodeRef};
 use accesskit_consumer::tree::{Mirror, MirrorRecord, StateRef};
 use model::Place;
-use schema::{NodeId, TreeId};
-use session::{At, Command, Query, Reply, Session, Side};
+use session::{Command, Reply, Session};
 use sketches::Sent;
-use sketches::ids::id;
 use sketches::placed::{Placed, has_focus, has_places};
-use sketches::recorder::{Id, Recorder, Told};
-use std::alloc::{AllocError, Global};
+use sketches::recorder::Id;
+use std::alloc::Global;
 use std::collections::BTreeMap;
 use std::test::Fail;
 
@@ -195,57 +193,5 @@ fn mirror_follows_each_update(rt: HostRuntime) -> Result<(), Fail> {
             );
         }
     }
-    Ok(())
-}
-
-/// What is asked and sent of a window that loses its button.
-fn window_commands(alloc: Global) -> Result<Vec<Command>, AllocError> {
-    let (window, button) = ((NodeId(0), TreeId::root()), (NodeId(1), TreeId::root()));
-    let (index, side) = (0, Side::Start);
-    Ok(vec![in alloc;
-        Command::Query(Query::Children(window)),
-        Command::Update(DROPPED.update(alloc)?),
-        Command::Query(Query::Label(button)),
-        Command::HostFocus(true),
-        Command::Query(Query::Focus),
-        Command::Query(Query::Indexes(window, At { index, side })),
-    ]?)
-}
-
-/// What is replied.
-fn window_replies(alloc: Global) -> Result<Vec<Reply>, AllocError> {
-    Ok(vec![in alloc;
-        Reply::Ids(vec![in alloc; id(0, 1)]?),
-        Reply::Accepted,
-        Reply::NoNode,
-        Reply::Accepted,
-        Reply::Node(Some(id(0, 0))),
-        Reply::NotText,
-    ]?)
-}
-
-/// What is told.
-const WINDOW_TOLD: [Told; 4] = [
-    Told::Updated(0, 0),
-    Told::Removed(0, 1),
-    Told::Updated(0, 0),
-    Told::FocusMoved(None, Some((0, 0))),
-];
-
-/// What the run of a window replies, and what it tells.
-fn window_run(alloc: Global) -> Result<(Vec<Reply>, Recorder), Fail> {
-    let mut session = session(alloc, PLAIN, false)?;
-    let mut recorder = Recorder::new(alloc);
-    match session.run(window_commands(alloc)?, &mut recorder) {
-        Ok(replies) => Ok((replies, recorder)),
-        Err(_) => Err("the run stopped".into()),
-    }
-}
-
-#[test]
-fn commands_are_replied_to_in_order(rt: HostRuntime) -> Result<(), Fail> {
-    let (replies, recorder) = window_run(rt.alloc())?;
-    assert!(rt; replies.as_slice() == window_replies(rt.alloc())?.as_slice());
-    assert!(rt; recorder.told.as_slice() == WINDOW_TOLD.as_slice());
     Ok(())
 }
