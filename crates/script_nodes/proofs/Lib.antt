@@ -7,5 +7,7 @@ pub mod FieldsLeftOut
 pub mod NodeLoop
 pub mod GivenValues
 pub mod FieldNames
+pub mod FieldNumbers
 pub mod NodeLines
 pub mod NodeFits
+pub mod Utf8

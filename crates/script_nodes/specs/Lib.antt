@@ -3,3 +3,4 @@ pub mod NodeText
 pub mod NodeReading
 pub mod ActionLists
 pub mod FieldReading
+pub mod Given

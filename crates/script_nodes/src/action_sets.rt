@@ -8,11 +8,11 @@ use schema::{Action, Node};
 use std::alloc::{AllocError, Global};
 
 /// The number of actions.
-const ACTIONS: u16 = 260;
+pub(crate) const ACTIONS: u16 = 260;
 
 /// The action with this number, from 0: those with names, then the others.
 #[tactic(auto, unfolding(crate::specs::ActionLists::action_numbered))]
-fn action_numbered(number: u16) -> Action
+pub(crate) fn action_numbered(number: u16) -> Action
     requires { number < 260 }
     ensures { result ≡ action_numbered number }
 {

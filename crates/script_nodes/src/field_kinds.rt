@@ -1,10 +1,11 @@
 //! The fields of a node by the kinds of their values, and their names in a line.
 
-ghost use Rattle.std.specs.Prelude.{MatchOption, map, ◌≡◌, ◌≢◌};
+ghost use Rattle.std.specs.Prelude.{MatchOption, map, slice_get, ◌≡◌, ◌≢◌};
 ghost use Rattle.script_nodes.specs.declared.field_kinds.Field.{Field};
 ghost use Rattle.script_nodes.specs.FieldKinds.{field_name};
 ghost use Rattle.script_nodes.specs.NodeText.{all_fields};
 
+use crate::choices::numbered;
 use script_words::names::named;
 
 /// A list of nodes.
@@ -364,4 +365,14 @@ pub fn field_named(name: &str) -> Option<Field>
     ensures { MatchOption result ((field : Field) → name.now ≢ field_name field) (λ field. name.now ≡ field_name field) }
 {
     named(named_fields(), name)
+}
+
+/// The field with this number: its place in the order in which fields are written, counted from 0.
+pub fn field_numbered(number: u8) -> Option<Field>
+    ensures { result ≡ slice_get all_fields number }
+{
+    match numbered(named_fields(), number) {
+        Some((_, field)) => Some(field),
+        None => None,
+    }
 }

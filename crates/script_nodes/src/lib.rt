@@ -1,7 +1,9 @@
-//! The line of a node in a script: reads its fields by the kinds of their values, and writes them in one order.
+//! The line of a node in a script: reads its fields by the kinds of their values, and writes them in one order. Also sets a field to
+//! a value that isn't text.
 #![tactic(auto)]
 
 mod action_sets;
+mod choices;
 mod field_kinds;
 mod fields;
 mod fits;
@@ -9,12 +11,15 @@ mod kind_values;
 mod node_fields;
 mod node_lines;
 mod node_writer;
+mod setting;
 mod single_values;
 
 pub use field_kinds::{
     ActionsField, BoolField, ColorField, CountField, DecorationField, Field, FlagField, IdField,
-    IdsField, NumberField, NumbersField, TextField, UnitsField, field_named, node_field_names,
+    IdsField, NumberField, NumbersField, TextField, UnitsField, field_named, field_numbered,
+    node_field_names,
 };
 pub use fits::{action_set_gains, new_node_has_action_sets, node_fits};
 pub use node_lines::node_line;
 pub use node_writer::write_node;
+pub use setting::{FieldValue, set_field};

@@ -1,6 +1,6 @@
 //! Gets and sets the fields of a node, by the kinds of their values. It reads no line.
 
-ghost use Rattle.std.specs.Prelude.{◌≡◌, IfOk, OnOk, Some, true, false, option_copied};
+ghost use Rattle.std.specs.Prelude.{◌≡◌, IfOk, OnErr, OnOk, Some, true, false, option_copied};
 ghost use Rattle.script_nodes.specs.FieldKinds.{ids_at, with_ids, id_at, with_id, text_at, with_text, flag_at, with_flag, numbers_at, with_numbers, units_at, with_units, bool_at, with_bool, color_at, with_color, decoration_at, with_decoration, number_at, with_number, count_at, with_count, actions_at, with_actions_field};
 ghost use Rattle.script_nodes.specs.ActionLists.{actions_in, with_actions};
 
@@ -29,7 +29,8 @@ impl IdsField {
 
     /// Sets the field.
     pub(crate) fn set(self, value: &[NodeId], node: &mut Node) -> Result<(), AllocError>
-        ensures { OnOk result (node.new ≡ with_ids self value.now node.old) }
+        ensures ok { OnOk result (node.new ≡ with_ids self value.now node.old) }
+        ensures err { OnErr result (node.new ≡ node.old) }
     {
         match self {
             IdsField::Children => node.set_children(value),
@@ -89,7 +90,8 @@ impl TextField {
 
     /// Sets the field.
     pub(crate) fn set(self, value: &str, node: &mut Node) -> Result<(), AllocError>
-        ensures { OnOk result (node.new ≡ with_text self (Some value.now) node.old) }
+        ensures ok { OnOk result (node.new ≡ with_text self (Some value.now) node.old) }
+        ensures err { OnErr result (node.new ≡ node.old) }
     {
         match self {
             TextField::Label => node.set_label(value),
@@ -164,7 +166,8 @@ impl NumbersField {
 
     /// Sets the field.
     pub(crate) fn set(self, value: &[u16], node: &mut Node) -> Result<(), AllocError>
-        ensures { OnOk result (node.new ≡ with_numbers self value.now node.old) }
+        ensures ok { OnOk result (node.new ≡ with_numbers self value.now node.old) }
+        ensures err { OnErr result (node.new ≡ node.old) }
     {
         match self {
             NumbersField::CharacterLengths => node.set_character_lengths(value),
@@ -186,7 +189,8 @@ impl UnitsField {
 
     /// Sets the field.
     pub(crate) fn set(self, value: &[i32], node: &mut Node) -> Result<(), AllocError>
-        ensures { OnOk result (node.new ≡ with_units self (Some value.now) node.old) }
+        ensures ok { OnOk result (node.new ≡ with_units self (Some value.now) node.old) }
+        ensures err { OnErr result (node.new ≡ node.old) }
     {
         match self {
             UnitsField::CharacterPositions => node.set_character_positions(value),
