@@ -4,9 +4,11 @@ nothing of how a page is written is known here but its elements and their classe
 import re
 from html.parser import HTMLParser
 
-from model.worlds import ROOT, accepted, differences, effective_focus, faults, focus, is_focused, root_named, told_of_update
+from model.record import ORDER, given
+from model.worlds import ROOT, accepted, differences, effective_focus, faults, focus, is_focused, places, root_named
 from model.worlds import children as children_of
-from model.scripts import BadLine, Play, role_shown, told_by
+from model.worlds import told_of_update
+from model.scripts import NODE_FIELDS, BadLine, Play, field_word, role_shown, told_by
 from model.speech import EXPANDED, SELECTED, SWITCHED
 from model.texts import BULLET, HOLDS_TEXT, is_read_only, is_text, label_of, labelled_by, runs_of, value_of
 from model.views import CUT_OFF, INCLUDED, ancestors, bounding_box, common_filter, preorder, upward
@@ -162,6 +164,47 @@ def box_text(box):
     return ",".join(map(str, box)) if box else "none"
 
 
+# What is told of the characters of a text.
+MEASURED = ("chars", "words", "character_positions", "character_widths")
+
+
+def hides_field(world, id, name):
+    """Whether a field may show what is typed into a password: a text of a node in one, or what is measured of characters there, and
+    of the password itself."""
+    if is_in_password(world, id):
+        return NODE_FIELDS[name] is str or name in MEASURED
+    return is_password(world, id) and name in MEASURED
+
+
+def shown_field(world, id, name):
+    """The label and the value as they are shown, and any other field as a script has it; of a flag, whether it is set."""
+    if name == "label":
+        return shown_label(world, id)
+    if name == "value":
+        return shown_value(world, id)
+    if hides_field(world, id, name):
+        return None
+    value = getattr(world.nodes[id], name)
+    if NODE_FIELDS[name] is bool:
+        return "yes" if value else "no"
+    written = field_word(name, given(name, value))
+    return written[0].partition("=")[2] if written else None
+
+
+def place_shown(world, id):
+    """Its parent, and its index among the parent's children."""
+    place = places(world).get(id)
+    return place and f"{id_text(place[0])}/{place[1]}"
+
+
+def fields_told(old, new, id):
+    """Each field of two states of a node that differs: its name, what was shown of it, and what is."""
+    for name, shown in (("role", lambda world, id: role_shown(world.nodes[id].role)), ("place", place_shown)):
+        yield name, shown(old, id), shown(new, id)
+    for name in ORDER:
+        yield name, shown_field(old, id, name), shown_field(new, id, name)
+
+
 def event_told(old, new, event):
     """What is told of an event."""
     kind, id, *_ = event
@@ -169,11 +212,7 @@ def event_told(old, new, event):
         return [kind, named(old, id), named(new, event[2])]
     told = [kind, named(old if kind == "removed" else new, id)]
     if kind == "updated":
-        for what, shown in (("label", shown_label), ("value", shown_value)):
-            texts = shown(old, id), shown(new, id)
-            told += [[what, *texts]] if texts[0] != texts[1] else []
-        states = zip(words_of_state(old.nodes[id]), words_of_state(new.nodes[id]))
-        told += [["state", was or None, now or None] for was, now in states if (was or None) != (now or None)]
+        told += [[name, was, now] for name, was, now in fields_told(old, new, id) if was != now]
         boxes = box_text(bounding_box(old, id)), box_text(bounding_box(new, id))
         told += [f"; box {boxes[0]} → {boxes[1]}"] if boxes[0] != boxes[1] else []
     return told
@@ -439,8 +478,8 @@ def parts_of_event(item):
     told, names, texts = [text_in(kind)], [], []
     for part in rest:
         if isinstance(part, str):
-            match = re.match(r"; (label|value|state) $", part)
-            if match:
+            match = re.match(r"; (\w+) $", part)
+            if match and match.group(1) != "box":
                 texts.append([match.group(1)])
             elif part.startswith("; box "):
                 texts.append(part)
@@ -450,8 +489,8 @@ def parts_of_event(item):
         name, text = part[0], text_in(part)
         if texts and isinstance(texts[-1], str):
             texts[-1] += text
-        elif texts and isinstance(texts[-1], list) and len(texts[-1]) < 3 and name in ("q", "i"):
-            texts[-1].append(text if name == "q" else None)
+        elif texts and isinstance(texts[-1], list) and len(texts[-1]) < 3:
+            texts[-1].append(None if name == "i" else text)
         elif name == "b":
             names.append([text, None, None, False])
         elif name == "q":

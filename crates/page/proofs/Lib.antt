@@ -2,6 +2,8 @@ pub mod Carrying
 pub mod Ended
 pub mod FactsKnown
 pub mod Failing
+pub mod FieldsAlike
+pub mod FieldsTold
 pub mod Focused
 pub mod Hiding
 pub mod Items
@@ -11,4 +13,3 @@ pub mod Reporting
 pub mod SaidAlike
 pub mod Told
 pub mod Viewed
-pub mod WordsTold

@@ -13,6 +13,7 @@ use Rattle.hidden_texts.specs.Laws.{HidesAlike, ShowsAlike}
 use Rattle.hidden_texts.specs.Shown.{password_value, shown_value}
 use Rattle.hidden_texts.proofs.HiddenAlike.{typing_hides_the_same}
 use Rattle.hidden_texts.proofs.ShownAlike.{typing_shows_the_same}
+use Rattle.page.proofs.FieldsAlike.{fields_alike}
 use Rattle.page.specs.Laws.{SaysAlike, TextsMayBeShown, TypingSaysTheSame}
 use Rattle.page.specs.Said.{hidden_label_word, hidden_value_word, node_value}
 use Rattle.page.specs.Written.{word_text}
@@ -43,4 +44,5 @@ typing_says_the_same p w v formed alike id =
       word = λ i. hidden_label_word (hides.label i);
       label = shows.label;
       value = value;
+      field = λ f plain. fields_alike p w v formed alike f plain id;
     }

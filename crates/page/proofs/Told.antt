@@ -1,5 +1,5 @@
 -- What is told of two states of a node.
-use Rattle.std.proofs.Common.{◌≡◌, ℕ, List, Option, Some, None, inr, refl, ap, subst}
+use Rattle.std.proofs.Common.{◌≡◌, ℕ, List, Option, Some, None, inr, refl, ap}
 use Rattle.std.specs.Prelude.{Bool, ◌&&◌}
 use Rattle.std.specs.Bool.{Decides}
 use Rattle.std.specs.Io.KnownBytes.{Appends}
@@ -8,12 +8,7 @@ use Rattle.std.specs.Ordering.{int_eq}
 use Rattle.std.proofs.lemmas.Bool.Decides.{Decides-int_eq, Decides-like, Decides-and}
 use Rattle.std.proofs.lemmas.Option.{same_Some}
 use Rattle.schema.specs.declared.geometry.WideRect.{WideRect}
-use Rattle.page.specs.Said.{TellsChange, TellsIfOther}
-
--- of equal texts the same is told
-pub told_of_same : (what : List ℕ) (a b c d before after : Option (List ℕ)) → a ≡ c → b ≡ d → TellsChange what a b before after → TellsChange what c d before after
-told_of_same what a b c d before after same same_too told =
-    subst (λ (x : Option (List ℕ)). TellsChange what x d before after) same (subst (λ (y : Option (List ℕ)). TellsChange what a y before after) same_too told)
+use Rattle.page.specs.Said.{TellsIfOther}
 
 -- what differs is told
 pub told_if_other : {A : Type 0} (old new : A) (what : List ℕ) (before after : Option (List ℕ)) → (old ≡ new → ⊥) → Appends before after what → TellsIfOther old new what before after

@@ -5,6 +5,7 @@ use Rattle.std.specs.BTreeMap.{BTreeMap, get}
 use Rattle.model.specs.declared.FullNodeId.{FullNodeId}
 use Rattle.model.specs.Events.{Event, NodeAdded, NodeUpdated, FocusMoved, NodeRemoved, Seen}
 use Rattle.model.specs.FullIds.{full_cmp}
+use Rattle.hidden_texts.specs.Hidden.{is_in_password}
 use Rattle.model.specs.Geometry.{bounding_box}
 use Rattle.model.specs.World.{World}
 use Rattle.views.specs.declared.node.node_ref.NodeRef.{NodeRef}
@@ -15,9 +16,9 @@ use Rattle.page.specs.declared.places.Place.{Place}
 use Rattle.page.specs.Places.{IsPlace}
 use Rattle.page.specs.Said.{hidden_at}
 
--- which of a node's texts are hidden, and its box
+-- which of a node's texts are hidden, whether it is in a password, and its box
 abbrev pub facts_at : World → FullNodeId → Facts
-facts_at w id = record { hidden = hidden_at w id; rect = bounding_box w id }
+facts_at w id = record { hidden = hidden_at w id; is_in_password = is_in_password w id; rect = bounding_box w id }
 
 -- all facts that are known are right in this world
 abbrev pub AreRight : World → BTreeMap FullNodeId Facts → Type 0

@@ -1,5 +1,5 @@
 -- Properties of a node that are computed from its parent's.
-use Rattle.std.specs.Prelude.{◌≡◌, ◌+ℤ◌, Bool, true, false, Option, Some, None, IfSome, option_map, option_and_then, find, if◌then◌else◌}
+use Rattle.std.specs.Prelude.{◌≡◌, ◌<◌, ◌+ℤ◌, ℕ, List, length, get_or, Bool, true, false, Option, Some, None, IfSome, option_map, option_and_then, find, if◌then◌else◌}
 use Rattle.std.specs.List.{list_any}
 use Rattle.schema.specs.declared.geometry.Translation.{Translation}
 use Rattle.schema.specs.declared.geometry.WideTranslation.{WideTranslation}
@@ -70,3 +70,7 @@ IsStep w step = IsKnown w step.id step.known
 -- the step is to the node's parent, if there is one
 abbrev pub IsStepAbove : World → FullNodeId → Option Step → Type 0
 IsStepAbove w id above = IfSome above (λ step. (Some step.id ≡ option_map (λ p. p.0) (place_of w id)) × IsStep w step)
+
+-- the path has a step to this node at this index
+abbrev pub IsAt : List Step → ℕ → FullNodeId → Type 0
+IsAt path last id = (last < length path) × ((d : Step) → (get_or path last d).id ≡ id)

@@ -1,5 +1,6 @@
 -- The nodes of a state as a page shows them.
 use Rattle.std.specs.Prelude.{◌≡◌, Bool, false, List, [], ◌∷◌, map, All, Option, Some, None, if◌then◌else◌}
+use Rattle.hidden_texts.specs.Hidden.{is_in_password}
 use Rattle.schema.specs.declared.geometry.WideRect.{WideRect}
 use Rattle.model.specs.declared.FullNodeId.{FullNodeId}
 use Rattle.model.specs.World.{World, root_of}
@@ -22,6 +23,7 @@ pub record IsPlace (place : Place) : Type 0 where
   pub left_out : place.is_left_out ≡ is_left_out (world_at place.node) (id_at place.node)
   pub hidden : place.is_hidden ≡ is_hidden (world_at place.node) (id_at place.node)
   pub texts : place.hidden ≡ hidden_at (world_at place.node) (id_at place.node)
+  pub within : place.is_in_password ≡ is_in_password (world_at place.node) (id_at place.node)
   pub box : place.rect ≡ bounding_box (world_at place.node) (id_at place.node)
 
 -- the box that a picture draws

@@ -13,7 +13,6 @@ use Rattle.model.specs.Views.{is_read_only}
 use Rattle.phrases.specs.States.{switched_word, expanded_word, selected_word, where_it_is}
 use Rattle.hidden_texts.specs.Hidden.{hides_label, hides_value}
 use Rattle.hidden_texts.specs.Shown.{shown_value}
-use Rattle.html.specs.Escaped.{element_text}
 use Rattle.page.specs.Written.{word_text}
 use Rattle.page.specs.declared.secrets.Hidden.{Hidden}
 
@@ -70,19 +69,6 @@ state_words d =
 abbrev pub arrow : List ℕ
 arrow = 32 ∷ 226 ∷ 134 ∷ 146 ∷ 32 ∷ []
 
--- a text in quotes, or that there is none
-abbrev pub text_or_none : Option (List ℕ) → List ℕ
-text_or_none None = codes "<i>none</i>"
-text_or_none (Some text) = element_text (codes "q") (codes "l") text
-
--- that a text was the one and is the other
-abbrev pub change_text : List ℕ → Option (List ℕ) → Option (List ℕ) → List ℕ
-change_text what old new = codes "; " ++ what ++ codes " " ++ text_or_none old ++ arrow ++ text_or_none new
-
 -- this is written where the old and the new differ, and else nothing
 abbrev pub TellsIfOther : {A : Type 0} → A → A → List ℕ → Option (List ℕ) → Option (List ℕ) → Type 0
 TellsIfOther old new told before after = ((old ≡ new) × Appends before after []) ⊎ ((old ≢ new) × Appends before after told)
-
--- likewise that a text was the one and is the other
-abbrev pub TellsChange : List ℕ → Option (List ℕ) → Option (List ℕ) → Option (List ℕ) → Option (List ℕ) → Type 0
-TellsChange what old new before after = TellsIfOther old new (change_text what old new) before after

@@ -16,7 +16,7 @@ pub(crate) struct Last {
     pub look: Look,
     /// The state in which its row was last written out.
     pub row: u64,
-    /// The state in which its box was last drawn, if it can be drawn again from there: it had no mark, and a group of its own.
+    /// The state in which its box was last drawn, if it can be drawn again from there: it had no mark, and it began a group.
     pub drawn: Option<u64>,
 }
 
@@ -204,7 +204,7 @@ fn same_row(look: &Look, last: &Last, mark: Option<Mark>) -> Option<u64>
     Some(last.row)
 }
 
-/// The state in which the same box was drawn for the node, if it has no mark, and had none there.
+/// The state in which the same box was drawn for the node, if it has no mark now and had no mark there.
 fn same_box(look: &Look, last: &Last, mark: Option<Mark>) -> Option<u64>
     ensures { IfSome result (λ state. HasSameBox look.now last.now mark state) }
 {

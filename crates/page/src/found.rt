@@ -9,6 +9,7 @@ use crate::marks::Marks;
 use crate::places::{Place, places};
 use crate::secrets::{Hidden, hidden_of};
 use accesskit_consumer::{FullNodeId, NodeRef, StateRef};
+use hidden_texts::is_in_password;
 use schema::WideRect;
 use std::alloc::{AllocError, Global};
 use std::collections::BTreeMap;
@@ -18,6 +19,8 @@ use std::collections::BTreeMap;
 pub(crate) struct Facts {
     /// Which of its texts are hidden.
     pub hidden: Hidden,
+    /// Whether an ancestor is a password input.
+    pub is_in_password: bool,
     /// Its box, if it has one.
     pub rect: Option<WideRect>,
 }
@@ -114,6 +117,7 @@ fn facts_at(place: &Place) -> Facts
 {
     Facts {
         hidden: place.hidden,
+        is_in_password: place.is_in_password,
         rect: place.rect,
     }
 }
@@ -134,6 +138,7 @@ fn asked_of(node: &NodeRef) -> Facts
 {
     Facts {
         hidden: hidden_of(node),
+        is_in_password: is_in_password(node),
         rect: node.bounding_box(),
     }
 }

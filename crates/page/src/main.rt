@@ -4,6 +4,7 @@
 mod again;
 mod boxes;
 mod carried;
+mod differences;
 mod faults;
 mod found;
 mod looks;

@@ -95,7 +95,7 @@ fn write_use<O: Write>(state: u64, id: FullNodeId, out: &mut O) -> io::Result<()
     out.write_all(b"\"/>\n")
 }
 
-/// Draws a node's box within so many groups, and begins its own one. Returns the number of groups.
+/// Draws a node's box within so many groups, and begins a group for it. Returns the number of groups.
 fn write_group<O: Write>(
     number: u64,
     place: &Place,

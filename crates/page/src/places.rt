@@ -1,17 +1,17 @@
 //! The nodes of a state, in the order in which a page shows them.
-ghost use Rattle.std.specs.Prelude.{◌≡◌, All, IfOk, map};
+ghost use Rattle.std.specs.Prelude.{◌≡◌, All, IfOk, IfSome, map};
 ghost use Rattle.model.specs.World.{World};
 ghost use Rattle.views.specs.Nodes.{world_at, id_at};
 ghost use Rattle.views.specs.PlainWalks.{node_in, node_of};
 ghost use Rattle.views.specs.Descendants.{descendants};
 ghost use Rattle.views.specs.ShownWorlds.{world_of};
-ghost use Rattle.page.specs.Known.{IsStep, IsStepAbove};
+ghost use Rattle.page.specs.Known.{IsAt, IsStep, IsStepAbove};
 ghost use Rattle.page.specs.Places.{box_drawn, node_at, IsOpenUnless, IsPlace, AreNodes, from_node, shown_nodes};
 
 use crate::carried::{Step, known_of};
 use crate::marks::{Mark, Marks};
 use crate::secrets::{Hidden, has_password, hidden_where};
-use accesskit_consumer::{FilterResult, NodeRef, StateRef};
+use accesskit_consumer::{FilterResult, FullNodeId, NodeRef, StateRef};
 use schema::WideRect;
 use std::alloc::{AllocError, Global};
 
@@ -27,6 +27,8 @@ pub(crate) struct Place<'a> {
     pub is_hidden: bool,
     /// Which of its texts are hidden.
     pub hidden: Hidden,
+    /// Whether an ancestor is a password input.
+    pub is_in_password: bool,
     /// Its box, if it has one.
     pub rect: Option<WideRect>,
     /// Whether the common filter excludes it, or an ancestor, with its subtree.
@@ -121,12 +123,22 @@ fn step_above(node: NodeRef, path: &mut Vec<Step>) -> Option<Step>
     ensures step { IsStepAbove (world_at node.entry) (id_at node.entry) result }
 {
     let parent = node.parent_id()?;
-    for _ in 0..path.len() {
-        let step = *path.last()?;
-        if step.id == parent {
-            return Some(step);
+    let last = last_step_to(parent, path)?;
+    let step = path[last];
+    path.truncate(last + 1);
+    Some(step)
+}
+
+/// The index of the last step that is to this node, if there is one.
+fn last_step_to(id: FullNodeId, path: &[Step]) -> Option<usize>
+    ensures { IfSome result (λ last. IsAt path.now last id) }
+{
+    let count = path.len();
+    for later in 0..count {
+        let index = count - 1 - later;
+        if path[index].id == id {
+            return Some(index);
         }
-        path.pop();
     }
     None
 }
@@ -151,6 +163,7 @@ fn place_at<'a>(
         answer: step.known.answer,
         is_hidden: step.known.is_hidden,
         hidden: hidden_where(&node, has_password, step.known.is_in_password),
+        is_in_password: step.known.is_in_password,
         rect: step.known.rect,
         is_left_out: step.known.is_left_out,
         mark: marks.get(&step.id).copied(),

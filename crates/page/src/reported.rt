@@ -1,26 +1,23 @@
 //! Writing each event of an update as it is reported.
-ghost use Rattle.std.specs.Prelude.{◌≡◌, ◌↔◌, ◌++◌, codes, IsTrue, List, None, IfNone, IfOk, Ok, OnOk, map, option_copied};
+ghost use Rattle.std.specs.Prelude.{◌≡◌, ◌++◌, codes, List, None, IfNone, IfOk, Ok, OnOk};
 ghost use Rattle.std.specs.Io.KnownBytes.{Appends};
 ghost use Rattle.model.specs.Events.{Event, Told};
 ghost use Rattle.model.specs.World.{World};
 ghost use Rattle.session.specs.Replied.{IsStep};
 ghost use Rattle.views.specs.Nodes.{seen_node, seen_through, world_at};
-ghost use Rattle.page.specs.Differences.{box_change, box_or_none, TellsBox, TellsDifferences, TellsStates, TellsWords};
 ghost use Rattle.page.specs.Found.{AreReady, AreRightIf, IsOfStep, IsSeenIn};
 ghost use Rattle.page.specs.Named.{name_text, linked_text};
 ghost use Rattle.page.specs.Reports.{item_begun, item_ended, list_begun, list_ended, new_focus, old_focus, report_of, Reports, ReportsAdded, ReportsFocus, ReportsRemoved, ReportsStep, ReportsUpdated, TellsUpdated};
-ghost use Rattle.page.specs.Said.{TellsChange, arrow, change_text, text_or_none};
+ghost use Rattle.page.specs.Said.{arrow};
 
+use crate::differences::write_differences;
 use crate::faults::Fault;
 use crate::found::{Found, View, view_if, view_of};
 use crate::marks::{Mark, Marks, Tally};
 use crate::names::{write_linked_name, write_name};
 use crate::sections::{Outcome, outcome_of};
-use crate::words::{shown_label, shown_value, state_words};
 use accesskit_consumer::{NodeRef, TreeChangeHandler};
-use atree_script::write_sides;
 use html::write_element;
-use schema::WideRect;
 use session::{Command, Reply, Session};
 use std::alloc::{AllocError, Global};
 use std::io::{self, Write};
@@ -367,134 +364,5 @@ impl<'a, O: Write> TreeChangeHandler for Reporter<'a, O> {
         }
         let told = self.tell_removed(node);
         self.fault = fault_of(told);
-    }
-}
-
-/// Writes how two states of a node differ, as far as a page shows it.
-fn write_differences<O: Write>(
-    alloc: Global,
-    old: View,
-    new: View,
-    out: &mut O,
-) -> Result<(), Fault>
-    ensures { OnOk result (TellsDifferences old.entry new.entry (O.contents out.old) (O.contents out.new)) }
-{
-    let label = shown_label(alloc, &old.node, old.facts.hidden.label)?;
-    let new_label = shown_label(alloc, &new.node, new.facts.hidden.label)?;
-    write_difference("label", label.as_deref(), new_label.as_deref(), out)?;
-    let value = shown_value(alloc, &old.node, old.facts.hidden.value)?;
-    let new_value = shown_value(alloc, &new.node, new.facts.hidden.value)?;
-    write_difference("value", value.as_deref(), new_value.as_deref(), out)?;
-    write_state_difference(&old.node, &new.node, out)?;
-    write_box_difference(old.facts.rect, new.facts.rect, out)?;
-    Ok(())
-}
-
-/// Writes each word of two states of a node that differs.
-fn write_state_difference<O: Write>(old: &NodeRef, new: &NodeRef, out: &mut O) -> io::Result<()>
-    ensures { OnOk result (TellsStates old.now new.now (O.contents out.old) (O.contents out.new)) }
-{
-    let was = state_words(old);
-    let is = state_words(new);
-    write_word_differences(&was, &is, out)
-}
-
-/// Writes each of these words and those that differs: the old one and the new one.
-fn write_word_differences<O: Write>(
-    old: &[Option<&'static str>],
-    new: &[Option<&'static str>],
-    out: &mut O,
-) -> io::Result<()>
-    ensures { OnOk result (TellsWords (map option_copied old.now) (map option_copied new.now) (O.contents out.old) (O.contents out.new)) }
-{
-    let count = old.len().min(new.len());
-    for index in 0..count {
-        write_difference("state", old[index], new[index], out)?;
-    }
-    Ok(())
-}
-
-/// Writes the boxes of two states of a node, if they differ.
-fn write_box_difference<O: Write>(
-    old: Option<WideRect>,
-    new: Option<WideRect>,
-    out: &mut O,
-) -> io::Result<()>
-    ensures { OnOk result (TellsBox old new (O.contents out.old) (O.contents out.new)) }
-{
-    if is_same_box(old, new) {
-        return Ok(());
-    }
-    write_box_change(old, new, out)
-}
-
-/// Writes that a box was the one and is the other.
-fn write_box_change<O: Write>(
-    old: Option<WideRect>,
-    new: Option<WideRect>,
-    out: &mut O,
-) -> io::Result<()>
-    ensures { OnOk result (Appends (O.contents out.old) (O.contents out.new) (box_change old new)) }
-{
-    out.write_all(b"; box ")?;
-    write_box_or_none(old, out)?;
-    out.write_all(" → ".as_bytes())?;
-    write_box_or_none(new, out)
-}
-
-/// Writes a box's left, top, right and bottom, or that there isn't one.
-fn write_box_or_none<O: Write>(rect: Option<WideRect>, out: &mut O) -> io::Result<()>
-    ensures { OnOk result (Appends (O.contents out.old) (O.contents out.new) (box_or_none rect)) }
-{
-    match rect {
-        Some(rect) => write_sides(rect, out),
-        None => out.write_all(b"<i>none</i>"),
-    }
-}
-
-/// Whether two boxes are equal, or there is neither.
-fn is_same_box(a: Option<WideRect>, b: Option<WideRect>) -> bool
-    ensures { IsTrue result ↔ (a ≡ b) }
-{
-    a == b
-}
-
-/// Writes two texts, if they differ.
-fn write_difference<O: Write>(
-    what: &str,
-    old: Option<&str>,
-    new: Option<&str>,
-    out: &mut O,
-) -> io::Result<()>
-    ensures { OnOk result (TellsChange what.now (option_copied old.entry) (option_copied new.entry) (O.contents out.old) (O.contents out.new)) }
-{
-    if old == new {
-        return Ok(());
-    }
-    write_change(what, old, new, out)
-}
-
-/// Writes that a text was the one and is the other.
-fn write_change<O: Write>(
-    what: &str,
-    old: Option<&str>,
-    new: Option<&str>,
-    out: &mut O,
-) -> io::Result<()>
-    ensures { OnOk result (Appends (O.contents out.old) (O.contents out.new) (change_text what.now (option_copied old.entry) (option_copied new.entry))) }
-{
-    write!(out, "; {what} ")?;
-    write_text_or_none(old, out)?;
-    out.write_all(" → ".as_bytes())?;
-    write_text_or_none(new, out)
-}
-
-/// Writes a text in quotes, or that there isn't one.
-fn write_text_or_none<O: Write>(text: Option<&str>, out: &mut O) -> io::Result<()>
-    ensures { OnOk result (Appends (O.contents out.old) (O.contents out.new) (text_or_none (option_copied text.entry))) }
-{
-    match text {
-        Some(text) => write_element("q", "l", text, out),
-        None => out.write_all(b"<i>none</i>"),
     }
 }

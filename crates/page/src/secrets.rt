@@ -47,7 +47,7 @@ fn either(one: bool, other: bool) -> bool
 }
 
 /// The same of a node of which it is known whether an ancestor is a password input, and whether its state has any: where it
-/// has none, nothing is hidden.
+/// has no password, nothing is hidden.
 pub(crate) fn hidden_where(node: &NodeRef, has_password: bool, is_in_password: bool) -> Hidden
     requires open { IsOpenUnless has_password (world_at node.now) }
     requires within { is_in_password ≡ stands_in_password (world_at node.now) (id_at node.now) }

@@ -24,6 +24,8 @@ ghost use Rattle.page.specs.States.{
   some_text,
   state_begun,
   state_link,
+  state_link_begun,
+  state_word,
   stop_begun,
   stop_text,
   tally_text,
@@ -332,7 +334,21 @@ fn write_item<O: Write>(number: usize, it: &Summary, out: &mut O) -> io::Result<
 fn begin_item<O: Write>(number: usize, out: &mut O) -> io::Result<()>
     ensures { OnOk result (Appends (O.contents out.old) (O.contents out.new) (state_link number)) }
 {
-    write!(out, "<li><a href=\"#state-{number}\">")?;
+    begin_state_link(number, out)?;
+    write_state_word(number, out)
+}
+
+/// Begins an item, and a link to a state in it.
+fn begin_state_link<O: Write>(number: usize, out: &mut O) -> io::Result<()>
+    ensures { OnOk result (Appends (O.contents out.old) (O.contents out.new) (state_link_begun number)) }
+{
+    write!(out, "<li><a href=\"#state-{number}\">")
+}
+
+/// Writes the text of a link to a state, ends it, and begins small letters.
+fn write_state_word<O: Write>(number: usize, out: &mut O) -> io::Result<()>
+    ensures { OnOk result (Appends (O.contents out.old) (O.contents out.new) (state_word number)) }
+{
     write!(out, "State {number}</a> <small>")
 }
 

@@ -28,7 +28,7 @@ pub(crate) static SHEET: [&str; 48] = [
     "em.r{color:var(--r);background:var(--rbg)}",
     "em.f{color:var(--f);background:var(--fbg)}",
     "em.h{color:var(--dim);border:1px dashed var(--dim)}",
-    "q{quotes:'\\201c' '\\201d'}",
+    "q{quotes:'\\201c' '\\201d'}code{font-size:.9em}",
     "q.v{color:var(--dim)}",
     "q.v::before{content:'= ' open-quote}",
     "i.w{font-style:italic}",

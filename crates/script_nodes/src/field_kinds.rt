@@ -268,7 +268,7 @@ static FIELD_NAMES: [(&str, Field); 74] = [
 ];
 
 /// Each field with its name, in the order in which fields are written.
-pub(crate) fn named_fields() -> &'static [(&'static str, Field)]
+pub fn named_fields() -> &'static [(&'static str, Field)]
     ensures names { map (λ entry. entry.0.now) result.now ≡ map (λ entry. field_name entry.1) result.now }
     ensures fields { map (λ entry. entry.1) result.now ≡ all_fields }
 {

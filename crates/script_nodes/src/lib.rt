@@ -17,9 +17,9 @@ mod single_values;
 pub use field_kinds::{
     ActionsField, BoolField, ColorField, CountField, DecorationField, Field, FlagField, IdField,
     IdsField, NumberField, NumbersField, TextField, UnitsField, field_named, field_numbered,
-    node_field_names,
+    named_fields, node_field_names,
 };
 pub use fits::{action_set_gains, new_node_has_action_sets, node_fits};
 pub use node_lines::node_line;
-pub use node_writer::write_node;
+pub use node_writer::{write_field, write_node};
 pub use setting::{FieldValue, set_field};

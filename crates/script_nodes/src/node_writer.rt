@@ -50,8 +50,12 @@ fn write_fields<O: Write>(alloc: Global, node: &Node, out: &mut O) -> Result<(),
     Ok(())
 }
 
-/// Writes a field of this name, if it is in the state.
-fn write_field<O: Write>(
+/// Writes a space and a field, which has this name, as it stands on a node's line, if it is set.
+///
+/// # Errors
+///
+/// Returns `Stop` if the output has an error, or if memory runs out.
+pub fn write_field<O: Write>(
     alloc: Global,
     node: &Node,
     name: &str,

@@ -6,4 +6,4 @@ use Rattle.page.proofs.sections.begin_item.Goals as goal
 pub returns : goal.returns
 returns g c =
     let number = c.args.number in
-    on_ok_weaker c.write-2.result (Appends-trans _ _ _ (state_link_begun number) (state_word number) c.in_ok-write.ensures.bytes) c.write-2.ensures.bytes
+    on_ok_weaker c.write_state_word.result (Appends-trans _ _ _ (state_link_begun number) (state_word number) c.in_ok-begin_state_link.ensures) c.write_state_word.ensures

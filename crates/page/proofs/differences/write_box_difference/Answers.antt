@@ -2,7 +2,7 @@ use Rattle.std.proofs.Common.{◌≡◌, true, false}
 use Rattle.std.proofs.lemmas.Result.{on_ok_weaker}
 use Rattle.page.specs.Differences.{box_change}
 use Rattle.page.proofs.Told.{told_if_other}
-use Rattle.page.proofs.reported.write_box_difference.Goals as goal
+use Rattle.page.proofs.differences.write_box_difference.Goals as goal
 
 pub returns : goal.returns
 returns g c =

@@ -1,0 +1,14 @@
+use Rattle.script_nodes.proofs.FieldNames.{has_its_name}
+use Rattle.page.proofs.FieldsTold.{field_more, fields_told}
+use Rattle.page.proofs.differences.write_field_differences.Goals as goal
+
+pub write_field_difference-requires : goal.write_field_difference-requires
+write_field_difference-requires g c = has_its_name c.named_fields-name-items.result.now c.named_fields-name-items.ensures.names c.loop-name.name-index _ c.loop-name-test.true
+
+pub loop-name-preserved : goal.loop-name-preserved
+loop-name-preserved g c =
+    field_more c.args.old.now c.args.new.now c.named_fields-name-items.result.now c.loop-name.name-index _ _ _ _ c.loop-name-test.true c.loop-name.invariant c.in_ok-write_field_difference.ensures
+
+pub returns : goal.returns
+returns g c =
+    fields_told c.args.old.now c.args.new.now c.named_fields-name-items.result.now c.loop-name.name-index _ _ c.loop-name-test.false c.named_fields-name-items.ensures.fields c.loop-name.invariant
