@@ -5,7 +5,7 @@ use Rattle.phrases.specs.declared.differences.Change.{Change}
 use Rattle.phrases.specs.declared.sayings.Dialog.{Dialog}
 use Rattle.phrases.specs.declared.sayings.Group.{Group}
 use Rattle.phrases.specs.declared.sayings.Saying.{Saying}
-use Rattle.phrases.specs.declared.sayings.Saying.TheVariants.{Focused, InDialog, InGroup, Told, Named, Valued, Described, Is, Changed, OnLine, Selected, Unselected}
+use Rattle.phrases.specs.declared.sayings.Saying.TheVariants.{Focused, InDialog, InGroup, Told, Named, Valued, Described, Is, Changed, OnLine, AtCharacter, AtWord, Selected, Unselected}
 use Rattle.phrases.specs.Quoted.{quoted}
 use Rattle.phrases.specs.Focus.{focus_text}
 use Rattle.phrases.specs.States.{after_comma, where_it_is, live_word}
@@ -57,6 +57,13 @@ state_line word = codes "state: " ++ word ++ codes "\n"
 abbrev pub caret_line : List ℕ → List ℕ
 caret_line line = codes "line: " ++ quoted line ++ codes "\n"
 
+-- a line of the character or the word that the caret has come to
+abbrev pub character_line : List ℕ → List ℕ
+character_line text = codes "character: " ++ quoted text ++ codes "\n"
+
+abbrev pub word_line : List ℕ → List ℕ
+word_line text = codes "word: " ++ quoted text ++ codes "\n"
+
 -- a line of the text that is selected, and of the one that was
 abbrev pub selected_line : List ℕ → List ℕ
 selected_line text = codes "text: selected " ++ quoted text ++ codes "\n"
@@ -76,5 +83,7 @@ saying (Described description) = description_line description.now
 saying (Is word) = state_line word.now
 saying (Changed change) = codes "text: " ++ change_text change ++ codes "\n"
 saying (OnLine line) = caret_line line.now
+saying (AtCharacter text) = character_line text.now
+saying (AtWord text) = word_line text.now
 saying (Selected text) = selected_line text.now
 saying (Unselected text) = unselected_line text.now

@@ -125,6 +125,10 @@ pub enum Saying<'a> {
     Changed(Change<'a>),
     /// The line that the caret has moved to.
     OnLine(&'a str),
+    /// The character that the caret has come to.
+    AtCharacter(&'a str),
+    /// The word that the caret has come to.
+    AtWord(&'a str),
     /// A text that is selected now.
     Selected(&'a str),
     /// A text that was selected, where nothing is now.
@@ -163,6 +167,14 @@ impl fmt::Display for Saying<'_> {
             Saying::OnLine(line) => {
                 let line = Quoted(line);
                 writeln!(f, "line: {line}")
+            }
+            Saying::AtCharacter(text) => {
+                let text = Quoted(text);
+                writeln!(f, "character: {text}")
+            }
+            Saying::AtWord(text) => {
+                let text = Quoted(text);
+                writeln!(f, "word: {text}")
             }
             Saying::Selected(text) => {
                 let text = Quoted(text);

@@ -1,5 +1,6 @@
 pub mod Alike
 pub mod FirstShown
+pub mod FoundPlaces
 pub mod HeadersAlike
 pub mod Hearing
 pub mod LinesAlike

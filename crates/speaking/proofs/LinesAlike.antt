@@ -1,15 +1,16 @@
 -- In two worlds that differ in what is typed into a password alone, a text that isn't hidden is the same.
-use Rattle.std.proofs.Common.{◌≡◌, ◌≢◌, ℕ, Bool, true, false, not, ◌&&◌, nat_lt, bytes_eq, List, [], ◌∷◌, map, length, Option, None, unwrap_or, option_map, option_and_then, is_some, refl, sym, ap, ◌∙◌, if◌then◌else◌}
+use Rattle.std.proofs.Common.{◌≡◌, ◌≢◌, ℕ, Bool, true, false, not, ◌&&◌, ◌||◌, ◌==◌, nat_lt, bytes_eq, List, [], ◌∷◌, map, length, Option, Some, None, unwrap_or, option_map, option_and_then, is_some, refl, sym, ap, ◌∙◌, if◌then◌else◌}
 use Rattle.std.specs.Prelude.{Contains}
 use Rattle.std.specs.List.{flat_map}
+use Rattle.std.specs.Option.{option_map_or}
 use Rattle.schema.specs.NodeData.{empty_node}
 use Rattle.schema.specs.declared.Role.TheVariants.{TextRun}
 use Rattle.schema.specs.declared.values.TextSelection.{TextSelection}
 use Rattle.model.specs.declared.FullNodeId.{FullNodeId}
-use Rattle.model.specs.FlatText.{FlatText, are_alike, flat_text, needs_masking, shown_run, shown_character, metrics_of}
+use Rattle.model.specs.FlatText.{FlatText, Position, are_alike, flat_text, needs_masking, shown_run, shown_character, metrics_of}
 use Rattle.model.specs.Geometry.{transform, transform_within}
-use Rattle.model.specs.Moves.{to_line_index}
-use Rattle.model.specs.Ranges.{text_of, document_range, range_between, nearest_named, selection}
+use Rattle.model.specs.Moves.{to_line_index, to_global_usv_index}
+use Rattle.model.specs.Ranges.{text_of, document_range, range_between, nearest_named, selection, selection_focus}
 use Rattle.model.specs.RoleClasses.{holds_text, is_multiline}
 use Rattle.model.specs.Styles.{style_of}
 use Rattle.model.specs.TextRuns.{SentRun, is_password, run_ids, has_runs, sent_run, sent_runs, sent_characters, ends_with_newline, lie_in_tree, are_cut, have_rising_words, are_empty_last, are_linked_in_order, have_size, are_measured, supports_text_ranges}
@@ -25,9 +26,11 @@ use Rattle.hidden_texts.proofs.HiddenAlike.{passwords_one, data_one, is_other}
 use Rattle.hidden_texts.proofs.Outlined.{some_runs, text_holders_same, with_runs}
 use Rattle.hidden_texts.proofs.ShownAlike.{value_shown}
 use Rattle.texts.specs.FoundRanges.{range_of_line}
+use Rattle.phrases.specs.Voices.{Speech}
+use Rattle.speaking.specs.Carets.{scalars_before, caret_place, reached_said, said_at_caret, within_said}
 use Rattle.speaking.specs.Laws.{AreAlike}
 use Rattle.speaking.specs.Edits.{edited_text, selected_text}
-use Rattle.speaking.specs.Lines.{caret_index, caret_said, text_of_line}
+use Rattle.speaking.specs.Lines.{caret_said, text_of_line}
 use Rattle.speaking.proofs.Plain.{and_false, left_false, right_false}
 use Rattle.speaking.proofs.Same.{one_of}
 
@@ -175,25 +178,64 @@ module _ (p : FullNodeId) (w v : World) (alike : AreAlike p w v) (id : FullNodeI
   none_selected : (u : World) → supports_text_ranges u id ≡ false → selected_in u ≡ []
   none_selected u none = ap (λ b. selected_from (flat_text u id) (if b then option_and_then (λ d. d.text_selection) (data_of u id) else None)) none
 
-  -- the caret: its place as it was sent
-  caret_by : (secret s : Bool) → is_password w id ≡ secret → supports_text_ranges w id ≡ s → caret_said w id ≡ caret_said v id
-  caret_by true s e h = ap (λ b. if b then None else caret_index w id) e ∙ sym (ap (λ b. if b then None else caret_index v id) (sym secrets_one ∙ e))
-  caret_by false false e h =
-      let text = plain_text e in
-      ap (λ b. if b then None else caret_index w id) e
-      ∙ no_caret w h ∙ sym (no_caret v (sym text.0 ∙ h))
-      ∙ sym (ap (λ b. if b then None else caret_index v id) (sym secrets_one ∙ e))
-    where
-      no_caret : (u : World) → supports_text_ranges u id ≡ false → caret_index u id ≡ None
-      no_caret u none = ap (λ b. option_map (to_line_index (flat_text u id)) (option_and_then (λ s. nearest_named (flat_text u id) s.focus) (if b then option_and_then (λ d. d.text_selection) (data_of u id) else None))) none
-  caret_by false true e h =
+  -- the caret: its place as it was sent, and what is read there
+  abbrev read_at_caret : {A : Type 0} → (FlatText → Position → A) → World → Option A
+  read_at_caret of u = option_map (of (flat_text u id)) (selection_focus u id)
+
+  no_caret : {A : Type 0} (of : FlatText → Position → A) (u : World) → supports_text_ranges u id ≡ false → read_at_caret of u ≡ None
+  no_caret of u none =
+      let named : Option TextSelection → Option Position = option_and_then (λ s. nearest_named (flat_text u id) s.focus) in
+      ap (λ b. option_map (of (flat_text u id)) (named (if b then option_and_then (λ d. d.text_selection) (data_of u id) else None))) none
+
+  at_plain_caret : {A : Type 0} (of : FlatText → Position → A) (s : Bool) → is_password w id ≡ false → supports_text_ranges w id ≡ s →
+      read_at_caret of w ≡ read_at_caret of v
+  at_plain_caret of false e h = let text = plain_text e in no_caret of w h ∙ sym (no_caret of v (sym text.0 ∙ h))
+  at_plain_caret of true e h =
       let text = plain_text e in
       let facts : data_of w id ≡ data_of v id = data_one p w v alike.formed alike.typed id (is_other p w v alike.formed alike.typed id e) out in
-      λ i. if secrets_one i then None else
-      option_map (to_line_index (text.1 h i)) (option_and_then (λ s. nearest_named (text.1 h i) s.focus) (if text.0 i then option_and_then (λ d. d.text_selection) (facts i) else None))
+      λ i. option_map (of (text.1 h i))
+      (option_and_then (λ s. nearest_named (text.1 h i) s.focus) (if text.0 i then option_and_then (λ d. d.text_selection) (facts i) else None))
+
+  at_caret : {A : Type 0} (of : FlatText → Position → A) (secret : Bool) → is_password w id ≡ secret →
+      (if is_password w id then None else read_at_caret of w) ≡ (if is_password v id then None else read_at_caret of v)
+  at_caret of true e =
+      ap (λ b. if b then None else read_at_caret of w) e
+      ∙ sym (ap (λ b. if b then None else read_at_caret of v) (sym secrets_one ∙ e))
+  at_caret of false e =
+      ap (λ b. if b then None else read_at_caret of w) e
+      ∙ at_plain_caret of (supports_text_ranges w id) e refl
+      ∙ sym (ap (λ b. if b then None else read_at_caret of v) (sym secrets_one ∙ e))
 
   pub caret_is : caret_said w id ≡ caret_said v id
-  caret_is = caret_by (is_password w id) (supports_text_ranges w id) refl refl
+  caret_is = at_caret to_line_index (is_password w id) refl
+
+  pub caret_place_is : caret_place w id ≡ caret_place v id
+  caret_place_is = at_caret to_global_usv_index (is_password w id) refl
+
+  -- what the caret has come to
+  said_by : (k : ℕ) (x : Speech) → is_password w id ≡ false → said_at_caret w id k x ≡ said_at_caret v id k x
+  said_by k x e =
+      from_option w
+      ∙ ap (λ o. unwrap_or o x) (at_plain_caret (λ t p. reached_said t k x p) (supports_text_ranges w id) e refl)
+      ∙ sym (from_option v)
+    where
+      either : (f : Position → Speech) (o : Option Position) → option_map_or f o x ≡ unwrap_or (option_map f o) x
+      either f None = refl
+      either f (Some q) = refl
+
+      from_option : (u : World) → said_at_caret u id k x ≡ unwrap_or (read_at_caret (λ t p. reached_said t k x p) u) x
+      from_option u = either (reached_said (flat_text u id) k x) (selection_focus u id)
+
+  pub within_is : (selected : List ℕ) (before now : Option ℕ) (x : Speech) → now ≡ caret_place w id →
+      within_said w id selected before now x ≡ within_said v id selected before now x
+  within_is selected None now x h = refl
+  within_is selected (Some k) None x h = refl
+  within_is selected (Some k) (Some l) x h = go (is_password w id) refl
+    where
+      go : (secret : Bool) → is_password w id ≡ secret →
+          within_said w id selected (Some k) (Some l) x ≡ within_said v id selected (Some k) (Some l) x
+      go true e = absurd (let clash : Some l ≡ None = h ∙ ap (λ b. if b then None else scalars_before w id) e in cc)
+      go false e = ap (λ y. if k == l || not (length selected == 0) then x else y) (said_by k x e)
 
   -- the selection: its places as they were sent
   selected_by : (secret s : Bool) → is_password w id ≡ secret → supports_text_ranges w id ≡ s → selected_text w id ≡ selected_text v id

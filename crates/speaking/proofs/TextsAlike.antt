@@ -1,5 +1,6 @@
 -- In two worlds that differ in what is typed into a password alone, the same is said at the end of a step.
 use Rattle.std.proofs.Common.{◌≡◌, ℕ, true, false, not, ◌&&◌, Option, Some, None, is_none, ap, sym, subst, ◌∙◌}
+use Rattle.std.specs.String.{string_bytes}
 use Rattle.schema.specs.NodeData.{NodeData}
 use Rattle.model.specs.declared.FullNodeId.{FullNodeId}
 use Rattle.model.specs.RoleClasses.{is_text_input}
@@ -12,7 +13,7 @@ use Rattle.speaking.specs.Edits.{SaysLine, SaysText, IsReadOf, SaysMoves, held_o
 use Rattle.speaking.specs.Laws.{AreAlike, SettlesAlike}
 use Rattle.speaking.specs.NodeTexts.{is_edited}
 use Rattle.speaking.proofs.Alike.{edited_is}
-use Rattle.speaking.proofs.LinesAlike.{secrets_one, many_is, line_is, edited_text_is, caret_is, selected_is}
+use Rattle.speaking.proofs.LinesAlike.{secrets_one, many_is, line_is, edited_text_is, caret_is, caret_place_is, within_is, selected_is}
 use Rattle.speaking.proofs.Plain.{both_true, not_true}
 use Rattle.speaking.proofs.RegionsAlike.{news_one}
 use Rattle.speaking.proofs.Same.{there, back}
@@ -25,24 +26,37 @@ module _ (p : FullNodeId) (w v : World) (alike : AreAlike p w v) (id : FullNodeI
   says_line (Some k) x y h = subst (λ o. SaysText o x y) (line_is p w v alike id open' k) h
 
   is_read : (t : FocusedText) → IsReadOf w id t → IsReadOf v id t
-  is_read t h = record { node = h.node; kind = h.kind ∙ secrets_one p w v alike id open'; text = h.text ∙ edited_text_is p w v alike id open'; line = h.line ∙ caret_is p w v alike id open'; selected = h.selected ∙ selected_is p w v alike id open' }
+  is_read t h = record {
+    node = h.node;
+    kind = h.kind ∙ secrets_one p w v alike id open';
+    text = h.text ∙ edited_text_is p w v alike id open';
+    line = h.line ∙ caret_is p w v alike id open';
+    caret = h.caret ∙ caret_place_is p w v alike id open';
+    selected = h.selected ∙ selected_is p w v alike id open';
+  }
 
-  says_moves : (before t : FocusedText) (x y : Speech) → SaysMoves w id before t x y → SaysMoves v id before t x y
-  says_moves before t x y h = record {
+  says_moves : (before t : FocusedText) (x y : Speech) → IsReadOf w id t → SaysMoves w id before t x y → SaysMoves v id before t x y
+  says_moves before t x y read h = record {
     between = h.between;
-    caret = record { moved = λ far. says_line t.line x h.between (h.caret.moved far); stayed = h.caret.stayed };
+    caret = record {
+      moved = λ far. says_line t.line x h.between (h.caret.moved far);
+      stayed = λ e. h.caret.stayed e ∙ within_is p w v alike id open' (string_bytes t.selected) before.caret t.caret x read.caret;
+    };
     selection = h.selection;
   }
 
-  says_text_of : (held : Option FocusedText) (t : FocusedText) (x y : Speech) → SaysTextOf w id held t x y → SaysTextOf v id held t x y
-  says_text_of None t x y h = (λ e. says_line t.line x y (h.0 (many_is p w v alike id open' ∙ e)), λ e. h.1 (many_is p w v alike id open' ∙ e))
-  says_text_of (Some before) t x y h = record {
+  says_text_of : (held : Option FocusedText) (t : FocusedText) (x y : Speech) → IsReadOf w id t →
+      SaysTextOf w id held t x y → SaysTextOf v id held t x y
+  says_text_of None t x y read h =
+      let many = many_is p w v alike id open' in
+      (λ e. says_line t.line x y (h.0 (many ∙ e)), λ e. h.1 (many ∙ e))
+  says_text_of (Some before) t x y read h = record {
     typed = h.typed;
-    same = λ e. says_moves before t x y (h.same e);
+    same = λ e. says_moves before t x y read (h.same e);
   }
 
   says_edited : (held : Option FocusedText) (t : FocusedText) (x y : Speech) → SaysEdited w id held t x y → SaysEdited v id held t x y
-  says_edited held t x y h = (is_read t h.0, says_text_of (held_of id t.is_password held) t x y h.1)
+  says_edited held t x y h = (is_read t h.0, says_text_of (held_of id t.is_password held) t x y h.0 h.1)
 
 -- ---- the focused text
 

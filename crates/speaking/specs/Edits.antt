@@ -21,6 +21,7 @@ use Rattle.phrases.specs.Voices.{Speech, said_later, all_said}
 use Rattle.speaking.specs.declared.edits.FocusedText.{FocusedText}
 use Rattle.speaking.specs.declared.news.News.{News}
 use Rattle.speaking.specs.declared.speaker.Speaker.{Speaker}
+use Rattle.speaking.specs.Carets.{caret_place, within_said}
 use Rattle.speaking.specs.Lines.{caret_said, text_of_line}
 use Rattle.speaking.specs.News.{no_news}
 use Rattle.speaking.specs.NodeTexts.{is_edited}
@@ -60,17 +61,18 @@ pub record IsReadOf (w : World) (id : FullNodeId) (t : FocusedText) : Type 0 whe
   pub kind : t.is_password ≡ is_password w id
   pub text : string_bytes t.text ≡ edited_text w id
   pub line : t.line ≡ caret_said w id
+  pub caret : t.caret ≡ caret_place w id
   pub selected : string_bytes t.selected ≡ selected_text w id
 
--- the line of the caret, if it moved to another line
-pub record SaysCaret (w : World) (id : FullNodeId) (before now : Option ℕ) (v u : Speech) : Type 0 where
-  pub moved : before ≢ now → SaysLine w id now v u
-  pub stayed : before ≡ now → u ≡ v
+-- the line of the caret, if it moved to another line, and otherwise what it has come to in the line
+pub record SaysCaret (w : World) (id : FullNodeId) (before now : FocusedText) (v u : Speech) : Type 0 where
+  pub moved : before.line ≢ now.line → SaysLine w id now.line v u
+  pub stayed : before.line ≡ now.line → u ≡ within_said w id (string_bytes now.selected) before.caret now.caret v
 
 -- that, and the selection if it is new
 pub record SaysMoves (w : World) (id : FullNodeId) (before now : FocusedText) (v u : Speech) : Type 0 where
   pub between : Speech
-  pub caret : SaysCaret w id before.line now.line v between
+  pub caret : SaysCaret w id before now v between
   pub selection : u ≡ selection_said (string_bytes before.selected) (string_bytes now.selected) between
 
 -- a text that was focused before: what was removed and typed, or else where the caret and the selection moved

@@ -1,4 +1,5 @@
 pub mod Above
+pub mod Carets
 pub mod Changes
 pub mod Dialogs
 pub mod Edits

@@ -8,6 +8,7 @@ ghost use Rattle.views.specs.Nodes.{world_at, id_at};
 ghost use Rattle.speaking.specs.Lines.{caret_index, caret_said, line_of_runs, text_of_line};
 ghost use Rattle.speaking.specs.Edits.{runs_or_value, edited_text, selected_text, selection_said, IsWithoutNewline, SaysText, SaysLine, SaysCaret, SaysMoves, IsReadOf, SaysEdit, SaysArrival, held_of, SaysTextOf, SaysEdited, IsEdited, SaysFocused, SaysEnd};
 
+use crate::carets::{caret_place, say_within};
 use crate::news::News;
 use crate::reading::is_edited;
 use crate::regions::say_news;
@@ -27,6 +28,8 @@ pub(crate) struct FocusedText {
     text: String,
     /// The line of the caret, counted from 0; `None` in a password.
     line: Option<usize>,
+    /// The number of scalars before the caret; `None` in a password.
+    caret: Option<usize>,
     /// The selected text; empty if nothing is selected, and in a password.
     selected: String,
 }
@@ -170,6 +173,7 @@ fn read(alloc: Global, node: NodeRef) -> Result<FocusedText, AllocError>
         is_password: node.is_password_input(),
         text: edited_text(alloc, node)?,
         line: caret_said(node),
+        caret: caret_place(node),
         selected: selected_text(alloc, node)?,
     })
 }
@@ -181,21 +185,22 @@ fn is_same_line(before: Option<usize>, now: Option<usize>) -> bool
     before == now
 }
 
-/// Says the line of the caret, if it moved to another line.
+/// Says the line of the caret if it moved to another line, and otherwise what it has come to in the line.
 fn say_caret(
     alloc: Global,
     voice: &mut Voice,
     node: NodeRef,
-    before: Option<usize>,
-    now: Option<usize>,
+    before: &FocusedText,
+    now: &FocusedText,
 ) -> Result<(), AllocError>
     ensures { let n = node.entry in
-        OnOk result (SaysCaret (world_at n) (id_at n) before now voice.old voice.new) }
+        OnOk result (SaysCaret (world_at n) (id_at n) before.now now.now voice.old voice.new) }
 {
-    if is_same_line(before, now) {
-        return Ok(());
+    if is_same_line(before.line, now.line) {
+        let selected = now.selected.as_str();
+        return say_within(alloc, voice, node, selected, before.caret, now.caret);
     }
-    say_line(alloc, voice, node, now)
+    say_line(alloc, voice, node, now.line)
 }
 
 /// Says what is selected, or what no longer is, if that is new.
@@ -211,7 +216,7 @@ fn say_selection(voice: &mut Voice, before: &str, now: &str) -> Result<(), Alloc
     voice.say_later(Saying::Selected(now))
 }
 
-/// Says the line that the caret has moved to, and the selection if it is new.
+/// Says what the caret has moved to, and the selection if it is new.
 fn say_moves(
     alloc: Global,
     voice: &mut Voice,
@@ -222,7 +227,7 @@ fn say_moves(
     ensures { let n = node.entry in
         OnOk result (SaysMoves (world_at n) (id_at n) before.now now.now voice.old voice.new) }
 {
-    say_caret(alloc, voice, node, before.line, now.line)?;
+    say_caret(alloc, voice, node, before, now)?;
     say_selection(voice, before.selected.as_str(), now.selected.as_str())
 }
 

@@ -2,6 +2,7 @@
 #![tactic(auto)]
 
 mod above;
+mod carets;
 mod changes;
 mod dialogs;
 mod edits;
