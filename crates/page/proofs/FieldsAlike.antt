@@ -146,19 +146,23 @@ unmeasured_blindly f plain d = go (is_measured f) refl
     go true e = refl
     go false e = sent_blindly f plain e d
 
-secret_is : (f : Field) (o : Option NodeData) → option_map_or (λ (d : NodeData). is_password_input d.role) o false ≡ true → option_and_then (λ d. other_field false d f) o ≡ option_and_then (unmeasured f) o
+secret_is : (f : Field) (o : Option NodeData) → option_map_or (λ (d : NodeData). is_password_input d.role) o false ≡ true →
+    option_and_then (λ d. other_field false d f) o ≡ option_and_then (unmeasured f) o
 secret_is f None e = refl
 secret_is f (Some d) e = ap (λ s. if s && is_measured f then None else sent_value d f) e
 
-module _ (p : FullNodeId) (w v : World) (formed : IsFormed w) (alike : DifferInPassword p w v) (f : Field) (plain : is_value f ≡ false) (id : FullNodeId) where
+module _ (p : FullNodeId) (w v : World) (formed : IsFormed w) (alike : DifferInPassword p w v) (f : Field) (plain : is_value f ≡ false)
+    (id : FullNodeId) where
   same : (of : NodeData → Option (List ℕ)) → IsBlind of → field_at of w id ≡ field_at of v id
   same of blind i = one p w v formed alike (field_at of) (λ u. given_same u of blind) i id
 
   at_node : (u : World) (b : Bool) → is_in_password u id ≡ b → node_field u id f ≡ field_at (λ d. other_field b d f) u id
   at_node u b e = ap (λ s. field_at (λ d. other_field s d f) u id) e
 
-  apart : (s : Bool) → is_password w id ≡ s → is_in_password w id ≡ false → field_at (λ d. other_field false d f) w id ≡ field_at (λ d. other_field false d f) v id
-  apart false e out = ap (option_and_then (λ d. other_field false d f)) (data_one p w v formed alike id (is_other p w v formed alike id e) out)
+  apart : (s : Bool) → is_password w id ≡ s → is_in_password w id ≡ false →
+      field_at (λ d. other_field false d f) w id ≡ field_at (λ d. other_field false d f) v id
+  apart false e out =
+      ap (option_and_then (λ d. other_field false d f)) (data_one p w v formed alike id (is_other p w v formed alike id e) out)
   apart true e out =
       secret_is f (data_of w id) e ∙ same (unmeasured f) (unmeasured_blindly f plain)
       ∙ sym (secret_is f (data_of v id) ((λ i. sym (passwords_one p w v formed alike) i id) ∙ e))

@@ -22,7 +22,8 @@ after_some name v =
     let long : length xs ≡ length name + 2 = omega (arith, length-append (codes " " ++ name) (codes "="), length-append (codes " ") name) in
     let whole : length (xs ++ v) ≡ length name + 2 + length v = omega (arith, long, length-append xs v) in
     let enough : nat_lt (length (xs ++ v)) (length name + 2) ≡ false = grind (arith, whole) in
-    ap (λ b. if b then None else Some (drop (length name + 2) (xs ++ v))) enough ∙ ap (λ k. Some (drop k (xs ++ v))) (sym long) ∙ ap Some (drop-append_seam xs v)
+    ap (λ b. if b then None else Some (drop (length name + 2) (xs ++ v))) enough
+    ∙ ap (λ k. Some (drop k (xs ++ v))) (sym long) ∙ ap Some (drop-append_seam xs v)
 
 after_none : (name : ℕ) → value_after name [] ≡ None
 after_none name = let short : nat_lt 0 (name + 2) ≡ true = grind arith in ap (λ b. if b then None else Some (drop (name + 2) [])) short
@@ -104,8 +105,10 @@ if_ok_same r of x y e h = subst (λ z. IfOk r (λ a. of a ≡ z)) e h
 -- ---- what is told
 
 -- of equal texts the same is told
-pub told_of_same : (what name element of : List ℕ) (a b c d before after : Option (List ℕ)) → what ≡ name → element ≡ of → a ≡ c → b ≡ d → TellsText what element a b before after → TellsText name of c d before after
-told_of_same what name element of a b c d before after one two same same_too told = subst (λ (X : Type 0). X) (λ i. TellsText (one i) (two i) (same i) (same_too i) before after) told
+pub told_of_same : (what name element of : List ℕ) (a b c d before after : Option (List ℕ)) → what ≡ name → element ≡ of → a ≡ c → b ≡ d →
+    TellsText what element a b before after → TellsText name of c d before after
+told_of_same what name element of a b c d before after one two same same_too told =
+    subst (λ (X : Type 0). X) (λ i. TellsText (one i) (two i) (same i) (same_too i) before after) told
 
 module _ (old new : View) (table : List (Bor (List ℕ) × Field)) where
   -- the first fields of the table
@@ -113,7 +116,8 @@ module _ (old new : View) (table : List (Bor (List ℕ) × Field)) where
   TellsSoFar i before after = FoldsTo (TellsField old new) before (take i (map (λ e. e.1) table)) after
 
   -- one more
-  pub field_more : (i : ℕ) (d : Bor (List ℕ) × Field) (before so_far after : Option (List ℕ)) → i < length table → TellsSoFar i before so_far → TellsField old new so_far (get_or table i d).1 after → TellsSoFar (i + 1) before after
+  pub field_more : (i : ℕ) (d : Bor (List ℕ) × Field) (before so_far after : Option (List ℕ)) → i < length table →
+      TellsSoFar i before so_far → TellsField old new so_far (get_or table i d).1 after → TellsSoFar (i + 1) before after
   field_more i d before so_far after low told more =
       let within : i < length (map (λ e. e.1) table) = omega (arith, length-map table (λ e. e.1)) in
       subst (λ fields. FoldsTo (TellsField old new) before fields after) (sym (take_more (map (λ e. e.1) table) i d.1 within))
@@ -121,7 +125,8 @@ module _ (old new : View) (table : List (Bor (List ℕ) × Field)) where
       (subst (λ f. TellsField old new so_far f after) (sym (get_or-map (λ e. e.1) table i d d.1 low)) more))
 
   -- all
-  pub fields_told : (i : ℕ) (before after : Option (List ℕ)) → length table ≤ i → map (λ e. e.1) table ≡ all_fields → TellsSoFar i before after → TellsFields old new before after
+  pub fields_told : (i : ℕ) (before after : Option (List ℕ)) → length table ≤ i → map (λ e. e.1) table ≡ all_fields →
+      TellsSoFar i before after → TellsFields old new before after
   fields_told i before after whole all told =
       let long : length (map (λ e. e.1) table) ≤ i = omega (arith, length-map table (λ e. e.1)) in
       subst (λ fields. FoldsTo (TellsField old new) before fields after) (take_all i (map (λ e. e.1) table) long ∙ all) told

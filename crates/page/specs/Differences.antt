@@ -83,7 +83,8 @@ other_field is_within d f = if hides_field is_within d f then None else sent_val
 
 -- the label and the value as a page shows them, and any other field as a script has it, unless it is hidden
 abbrev pub field_shown : View → Field → Option (List ℕ)
-field_shown v f = if is_label f then label_of_state v else if is_value f then value_of_state v else other_field v.facts.is_in_password (data_at v.node) f
+field_shown v f =
+    if is_label f then label_of_state v else if is_value f then value_of_state v else other_field v.facts.is_in_password (data_at v.node) f
 
 -- ---- what is told of a field
 
@@ -120,12 +121,14 @@ abbrev pub role_change : Role → Role → List ℕ
 role_change old new = codes "; role " ++ role_bold old ++ arrow ++ role_bold new
 
 abbrev pub TellsRole : NodeRef → NodeRef → Bytes → Bytes → Type 0
-TellsRole old new before after = TellsIfOther (data_at old).role (data_at new).role (role_change (data_at old).role (data_at new).role) before after
+TellsRole old new before after =
+    TellsIfOther (data_at old).role (data_at new).role (role_change (data_at old).role (data_at new).role) before after
 
 -- a parent and an index among its children, from 0, or that there is none
 abbrev pub place_or_none : Option (FullNodeId × ℕ) → List ℕ
 place_or_none None = codes "<i>none</i>"
-place_or_none (Some place) = codes "<code>" ++ decimal place.0.tree ++ codes ":" ++ decimal place.0.node.0 ++ codes "/" ++ decimal place.1 ++ codes "</code>"
+place_or_none (Some place) =
+    codes "<code>" ++ decimal place.0.tree ++ codes ":" ++ decimal place.0.node.0 ++ codes "/" ++ decimal place.1 ++ codes "</code>"
 
 abbrev pub place_change : Option (FullNodeId × ℕ) → Option (FullNodeId × ℕ) → List ℕ
 place_change old new = codes "; place " ++ place_or_none old ++ arrow ++ place_or_none new

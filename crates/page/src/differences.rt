@@ -215,14 +215,14 @@ fn other_field(
     sent_value(alloc, name, field, view.node.data())
 }
 
-/// Whether the field is the label, which is told as the page shows it.
+/// Whether the field is the label, which is written as the page shows it.
 fn is_label(field: Field) -> bool
     ensures { result ≡ is_label field }
 {
     matches!(field, Field::Text(TextField::Label))
 }
 
-/// Whether the field is the value, which is told as the page shows it.
+/// Whether the field is the value, which is written as the page shows it.
 fn is_value(field: Field) -> bool
     ensures { result ≡ is_value field }
 {
@@ -328,11 +328,7 @@ fn flag_word(written: &[u8]) -> &'static str
 }
 
 /// The value of a field that is written so in a node's line, after its name.
-fn value_after(
-    alloc: Global,
-    name: &str,
-    written: &[u8],
-) -> Result<Option<Vec<u8>>, AllocError>
+fn value_after(alloc: Global, name: &str, written: &[u8]) -> Result<Option<Vec<u8>>, AllocError>
     ensures { IfOk result (λ value. option_map (λ bytes. bytes.items) value ≡ value_after (length name.now) written.now) }
 {
     // After a space, the name, and a sign.
@@ -362,7 +358,8 @@ fn write_difference<O: Write>(
     new: Option<&[u8]>,
     out: &mut O,
 ) -> io::Result<()>
-    ensures { OnOk result (TellsText what.now element.now (option_copied old.entry) (option_copied new.entry) (O.contents out.old) (O.contents out.new)) }
+    ensures { let was = option_copied old.entry in let is = option_copied new.entry in
+        OnOk result (TellsText what.now element.now was is (O.contents out.old) (O.contents out.new)) }
 {
     if are_same_texts(old, new) {
         return Ok(());
@@ -390,7 +387,8 @@ fn write_change<O: Write>(
     new: Option<&[u8]>,
     out: &mut O,
 ) -> io::Result<()>
-    ensures { OnOk result (Appends (O.contents out.old) (O.contents out.new) (change_text what.now element.now (option_copied old.entry) (option_copied new.entry))) }
+    ensures { let text = change_text what.now element.now (option_copied old.entry) (option_copied new.entry) in
+        OnOk result (Appends (O.contents out.old) (O.contents out.new) text) }
 {
     write!(out, "; {what} ")?;
     write_text_or_none(element, old, out)?;

@@ -50,7 +50,7 @@ fn write_fields<O: Write>(alloc: Global, node: &Node, out: &mut O) -> Result<(),
     Ok(())
 }
 
-/// Writes a space and a field, which has this name, as it stands on a node's line, if it is set.
+/// Writes a space and a field, which has this name, as on a node's line, if it is set.
 ///
 /// # Errors
 ///

@@ -12,6 +12,10 @@ returns g c =
     let before = g.O.Write.contents c.args.out.now in
     let after = g.O.Write.contents c.write_role_change.new.out in
     let other : was ≡ is → ⊥ =
-    λ same. let equal : c.eq.result ≡ true = c.eq.ensures.exact.1 (c.role.ensures ∙ same ∙ sym c.role-2.ensures) in let unequal : c.eq.result ≡ false = c.if-eq.false in cc
+    λ same.
+    let equal : c.eq.result ≡ true = c.eq.ensures.exact.1 (c.role.ensures ∙ same ∙ sym c.role-2.ensures) in
+    let unequal : c.eq.result ≡ false = c.if-eq.false in cc
     in
-    on_ok_weaker c.write_role_change.result (λ written. told_if_other was is (role_change was is) before after other written) c.write_role_change.ensures
+    on_ok_weaker c.write_role_change.result
+    (λ written. told_if_other was is (role_change was is) before after other written)
+    c.write_role_change.ensures
