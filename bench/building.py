@@ -7,6 +7,7 @@ import subprocess
 
 HERE = os.path.dirname(os.path.abspath(__file__))
 ATREE = os.path.join(HERE, "..", "crates", "atree")
+SPEAK = os.path.join(HERE, "..", "crates", "speak")
 
 # The crate of the works is there for as long as it is built: the gate doesn't know it.
 MADE = os.path.join(HERE, "made")
@@ -57,3 +58,8 @@ def build_bare(folder):
 def build_atree():
     """The path of the program that reads scripts."""
     return proved(ATREE, "atree")
+
+
+def build_speak():
+    """The path of the program that says what changes."""
+    return proved(SPEAK, "speak")

@@ -10,6 +10,7 @@ WORK_HEADS = ["work", "here", "Rust, by default", "Rust, one module", "ratio to 
 LOAD_HEADS = ["load", "ids", "here", "Rust, by default", "Rust, one module", "ratio to that", "memory work alone", "to reach", "reached"]
 SIZE_HEADS = ["load", "ids", "here", "growth", "Rust's", "ratios", "to reach", "reached"]
 GROWTH_HEADS = ["work", "sizes", "here", "growth", "Rust's", "to reach", "reached"]
+SPOKEN_HEADS = ["what `speak` reads", "sizes", "here", "greatest growth", "to reach", "reached"]
 HOSTILE_HEADS = ["work", *SENT_IDS, *HOSTILE_IDS, "worst, to spread", "to reach", "reached"]
 
 
@@ -25,8 +26,8 @@ class Bench:
     `crates` are the Rust crate's programs as cargo builds them and as one module, or none; `kept` has what was measured of them
     last."""
 
-    def __init__(self, works, atree, bare, crates, kept):
-        self.works, self.atree, self.bare, self.crates, self.kept = works, atree, bare, crates, kept
+    def __init__(self, works, atree, bare, speak, crates, kept):
+        self.works, self.atree, self.bare, self.speak, self.crates, self.kept = works, atree, bare, speak, crates, kept
         self.lost = []
 
     def programs_of(self, work):
@@ -170,4 +171,24 @@ class Bench:
             three_digits(worst),
             f"{hostile.ratio:.2f}",
             self.is_reached(hostile.work, worst, hostile.ratio, hostile.is_reached),
+        ]
+
+    def spoken(self, run):
+        """The instructions of `speak` on a script, of which it has to say what is to be said."""
+        counted = self.speak.count(run)
+        if counted.printed != script_of(run)[1].strip():
+            raise SystemExit(f"{run}: said something else")
+        return counted.instructions
+
+    def spoken_row(self, spoken):
+        """The cells of a script that is spoken."""
+        here = [self.spoken(run) - self.spoken(less) for run, less in spoken.runs()]
+        growth = max(later / earlier for earlier, later in zip(here, here[1:]))
+        return [
+            spoken.work,
+            ", ".join(sized(size) for size in spoken.sizes),
+            ", ".join(told(figure, "instructions") for figure in here),
+            f"{growth:.2f}",
+            f"{spoken.ratio:.2f}" if spoken.ratio else "-",
+            self.is_reached(spoken.work, growth, spoken.ratio, spoken.is_reached),
         ]

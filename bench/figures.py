@@ -144,6 +144,23 @@ class Hostile:
 
 
 @dataclass
+class Spoken:
+    """A row of the table of what `speak` does: a script at several sizes, without what another script costs. What is to be reached is
+    the greatest figure over the one before it."""
+
+    work: str
+    script: str
+    less: str
+    sizes: list
+    ratio: float | None = None
+    is_reached: bool = False
+
+    def runs(self):
+        """The words of the scripts at each size, each with that of the one that it is without."""
+        return [(f"{self.script} {size}", f"{self.less} {size}") for size in self.sizes]
+
+
+@dataclass
 class Rows:
     """The rows of all tables."""
 
@@ -151,6 +168,7 @@ class Rows:
     growths: list
     loads: list
     hostile: list
+    spoken: list
 
     def measured(self):
         """All works that are measured."""
@@ -167,7 +185,7 @@ def load_rows():
     """The rows of all tables."""
     with open(FILE, encoding="utf-8") as file:
         rows = json.load(file)
-    kinds = {"works": Work, "growths": Growth, "loads": Load, "hostile": Hostile}
+    kinds = {"works": Work, "growths": Growth, "loads": Load, "hostile": Hostile, "spoken": Spoken}
     return Rows(**{name: [kind(**row) for row in rows[name]] for name, kind in kinds.items()})
 
 

@@ -9,6 +9,8 @@ import tempfile
 from collections import namedtuple
 from concurrent.futures import ThreadPoolExecutor
 
+from scripts import script_of
+
 # How many runs are counted side by side. What is counted doesn't depend on it.
 SIDE_BY_SIDE = len(os.sched_getaffinity(0))
 
@@ -51,10 +53,16 @@ class Program:
         self.kept = os.path.join(COUNTED, checksum(self.path))
         self.counted = kept_counts(self.kept)
 
+    def given(self, words):
+        """The arguments and the input of the run that these words name."""
+        return words.split(), ""
+
     def count(self, words):
         """What a run with these words gives, which is counted once."""
         if words not in self.counted:
-            ran = subprocess.run([*CACHEGRIND, self.path, *words.split()], capture_output=True, text=True, check=True)
+            arguments, script = self.given(words)
+            command = [*CACHEGRIND, self.path, *arguments]
+            ran = subprocess.run(command, input=script, capture_output=True, text=True, check=True)
             counted = re.search(r"I +refs: +([\d,]+)", ran.stderr).group(1)
             self.counted[words] = Counted(int(counted.replace(",", "")), ran.stdout.strip())
             self.keep(words)
@@ -82,6 +90,13 @@ class Program:
     def seconds(self, words):
         """The least seconds of a few runs."""
         return min(self.spend(words).seconds for _ in range(RUNS))
+
+
+class Reader(Program):
+    """A program that reads a script, which the words of a run name."""
+
+    def given(self, words):
+        return [], script_of(words)[0]
 
 
 def count_ahead(runs):

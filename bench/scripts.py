@@ -1,4 +1,4 @@
-"""Scripts for `atree`, and their expected output; and scripts of deep trees for `page`."""
+"""Scripts for `atree` and `speak`, and their expected output; and scripts of deep trees for `page`."""
 
 
 def flat(count):
@@ -61,7 +61,92 @@ def documents(count):
 # Scripts of which `deep_pages.py` makes pages.
 DEEP = {"relabelled": relabelled, "labelled_below": labelled_below, "documents": documents}
 
-SCRIPTS = {"flat": (flat, flat_printed), "chain": (chain, chain_printed)}
+
+def chain_lines(ids, word, live):
+    """The nodes of a chain, each the only child of the one before, with labels. `live` says how many of them are live regions."""
+    for place, id in enumerate(ids):
+        children = f" children={ids[place + 1]}" if place + 1 < len(ids) else ""
+        region = " live=polite" if place < live else ""
+        yield f'node {id} GenericContainer{children} label="{word} {place}"{region}\n'
+
+
+def sent_chain(ids, live=1):
+    """One update sends a chain of these nodes below the root, in a live region. Of it the focus is said, and nothing else."""
+    yield f'host on\nupdate root focus=0 root=0\nnode 0 Window label="chain" children={ids[0]}\n'
+    yield from chain_lines(ids, "old", live)
+    yield "end\n"
+
+
+def relabelled_chain(ids, live=1):
+    """The same, and another update gives each node of the chain another label."""
+    yield from sent_chain(ids, live)
+    yield "update root focus=0\n"
+    yield from chain_lines(ids, "new", live)
+    yield "end\n"
+
+
+def said_of_sent(_ids):
+    """The focus, when the host gets it."""
+    yield 'focus: window "chain"\n'
+
+
+def said_of_relabelled(ids):
+    """That, and a line of all labels, since the chain is one live region."""
+    yield from said_of_sent(ids)
+    yield f"live (polite): \"{' '.join(f'new {place}' for place in range(len(ids)))}\"\n"
+
+
+def said_of_regions(ids):
+    """That, and a line for each node, since each is a live region of its own."""
+    yield from said_of_sent(ids)
+    yield from (f'live (polite): "new {place}"\n' for place in range(len(ids)))
+
+
+# How often the focus moves below a chain.
+FOCUS_MOVES = 20
+
+
+def deep_buttons(count, moves):
+    """One update sends a chain of so many groups, with two buttons in the last one, and then the focus moves to one of them and to the
+    other, in turn."""
+    yield 'host on\nupdate root focus=0 root=0\nnode 0 Window label="groups" children=1\n'
+    for id in range(1, count + 1):
+        children = id + 1 if id < count else f"{count + 1},{count + 2}"
+        yield f'node {id} Other(325) children={children} label="group {id}"\n'
+    yield f'node {count + 1} Button label="one"\nnode {count + 2} Button label="other"\nend\n'
+    yield from (f"update root focus={count + 1 + move % 2}\nend\n" for move in range(moves))
+
+
+def said_of_buttons(count, moves):
+    """The focus, and at the first move the group around the buttons too."""
+    yield 'focus: window "groups"\n'
+    for move in range(moves):
+        yield f'group: "group {count}"\n' if move == 0 else ""
+        yield f'focus: button "{["one", "other"][move % 2]}"\n'
+
+
+def downward(count):
+    """Ids of so many nodes, which rise from the root on."""
+    return range(1, count + 1)
+
+
+def upward(count):
+    """Ids of so many nodes, which rise from the deepest node on."""
+    return range(count, 0, -1)
+
+
+SCRIPTS = {
+    "flat": (flat, flat_printed),
+    "chain": (chain, chain_printed),
+    "sent": (lambda count: sent_chain(downward(count)), said_of_sent),
+    "relabelled": (lambda count: relabelled_chain(downward(count)), lambda count: said_of_relabelled(downward(count))),
+    "sent-upward": (lambda count: sent_chain(upward(count)), said_of_sent),
+    "relabelled-upward": (lambda count: relabelled_chain(upward(count)), lambda count: said_of_relabelled(upward(count))),
+    "sent-regions": (lambda count: sent_chain(downward(count), count), said_of_sent),
+    "relabelled-regions": (lambda count: relabelled_chain(downward(count), count), lambda count: said_of_regions(downward(count))),
+    "groups": (lambda count: deep_buttons(count, 0), lambda count: said_of_buttons(count, 0)),
+    "focus-in-groups": (lambda count: deep_buttons(count, FOCUS_MOVES), lambda count: said_of_buttons(count, FOCUS_MOVES)),
+}
 
 
 def script_of(words):
