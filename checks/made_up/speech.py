@@ -1,10 +1,14 @@
-"""Random windows whose changes are spoken: controls, fields with and without runs, live regions, and a dialog that opens and closes."""
+"""Random windows whose changes are spoken: controls, fields with and without runs, carets that move, live regions, and a dialog that
+opens and closes."""
+
+import re
 
 from model.scripts import text_line
 
 WORDS = ["", "a", "ab", "abc", "b", "x y", "\u00e4\u00f6", "no \"end\"", "two"]
 CONTROLS = "Button DefaultButton Switch CheckBox RadioButton Slider Tab MenuItemCheckBox Link".split()
 FIELDS = "TextInput SearchInput PasswordInput SpinButton EditableComboBox".split()
+RUN_TEXTS = [*WORDS, "one two three", "a e\u0301 \U0001f44d"]
 FLAGS = "disabled read_only required hidden busy".split()
 WINDOW, CONTROL, FIELD, TEXT, HINT, REGION, SAID, LIST, DIALOG, BUTTON, SECRET = range(11)
 RUNS = (30, 31, 32)
@@ -41,27 +45,45 @@ def live(dice):
 
 
 def run_line(dice, number, is_last):
-    """A run, with a newline at its end where it isn't the last one."""
-    text = dice.choice(WORDS) + ("" if is_last or dice.one_in(3) else "\n")
-    lengths = ",".join(str(len(character.encode())) for character in text)
-    return " ".join([f"node {number} TextRun value={text_line(text)}", *([f"chars={lengths}"] if text else [])])
+    """A run, with a newline at its end where it isn't the last one, and often with the starts of words."""
+    text = dice.choice(RUN_TEXTS) + ("" if is_last or dice.one_in(3) else "\n")
+    characters = re.findall(".[\u0300-\u036f]*", text, re.DOTALL)
+    lengths = ",".join(str(len(character.encode())) for character in characters)
+    starts = ",".join(str(index) for index in range(len(characters)) if index == 0 or characters[index - 1] == " ")
+    words = with_one_in(dice, 2, f"words={starts}") if text else []
+    return " ".join([f"node {number} TextRun value={text_line(text)}", *([f"chars={lengths}"] if text else []), *words])
+
+
+def place(dice, runs):
+    """A place in these runs."""
+    return f"{dice.choice(runs)}:{dice.randrange(6)}"
 
 
 def selection(dice, runs):
     """A selection in these runs, often."""
-    ends = [f"{dice.choice(runs)}:{dice.randrange(3)}" for _ in range(2)]
-    return [] if dice.one_in(4) else ["selection=" + ",".join(ends)]
+    return [] if dice.one_in(4) else [f"selection={place(dice, runs)},{place(dice, runs)}"]
+
+
+def caret(dice, runs):
+    """A caret in these runs, or now and then a selection."""
+    focus = place(dice, runs)
+    return selection(dice, runs) if dice.one_in(5) else [f"selection={focus},{focus}"]
 
 
 class Window:
     """What is in the window, by the numbers of its nodes: a line for each."""
 
     def __init__(self, dice):
-        self.dice, self.has_dialog, self.runs = dice, False, RUNS[:1]
+        self.dice, self.has_dialog, self.runs, self.text_role = dice, False, RUNS[:1], "TextInput"
 
     def node(self, number, role, *words):
         """A node's line."""
         return " ".join([f"node {number} {role}", *(word for some in words for word in some)])
+
+    def line_of_text(self, selected):
+        """The line of the text, with its runs as they are."""
+        given = ["children=" + ",".join(map(str, self.runs))]
+        return self.node(TEXT, self.text_role, given, selected, of_words(self.dice, "label"))
 
     def lines_of(self, number):
         """The lines of a node, made up anew, with those of what stands in it."""
@@ -73,9 +95,8 @@ class Window:
             return [self.node(WINDOW, "Window", ["children=" + ",".join(map(str, shown))]), *dialog]
         if number == TEXT:
             self.runs = RUNS[: dice.randrange(1, 4)]
-            given = ["children=" + ",".join(map(str, self.runs))]
-            text = self.node(TEXT, dice.choice(["MultilineTextInput", "TextInput"]), given, selection(dice, self.runs), of_words(dice, "label"))
-            return [text, *(run_line(dice, run, run == self.runs[-1]) for run in self.runs)]
+            self.text_role = dice.choice(["MultilineTextInput", "TextInput"])
+            return [self.line_of_text(selection(dice, self.runs)), *(run_line(dice, run, run == self.runs[-1]) for run in self.runs)]
         if number == REGION:
             region = self.node(REGION, "GenericContainer", [f"children={SAID}"], live(dice), flags(dice))
             return [region, *self.lines_of(SAID)]
@@ -106,6 +127,12 @@ class Window:
         return self.dice.choice(shown + [DIALOG, BUTTON, SECRET, SECRET] * self.has_dialog)
 
 
+def move_caret(maker, window):
+    """The caret of the text moves, some times, and nothing else changes."""
+    for _ in range(maker.dice.randrange(1, 4)):
+        send(maker, [window.line_of_text(caret(maker.dice, window.runs))], TEXT)
+
+
 def send(maker, lines, focus, head=""):
     """Adds an update's lines."""
     for line in (f"update root focus={focus}{head}", *lines, "end"):
@@ -129,3 +156,5 @@ def make_speech(maker):
         if dice.one_in(2) or focus in (DIALOG, BUTTON, SECRET):
             focus = window.any_focus()
         send(maker, lines, focus)
+        if focus == TEXT:
+            move_caret(maker, window)
