@@ -18,8 +18,9 @@ static char *first_lines(unsigned long nodes, size_t *length) {
     return lines;
 }
 
-static const char *const works[] = {"none", "count", "root", "parent", "flag", "label", "bounds", "filter", "move", "hit", "relabel"};
-enum { NONE, COUNT, ROOT, PARENT, FLAG, LABEL, BOUNDS, FILTER, MOVE, HIT, RELABEL, WORKS };
+static const char *const works[] = {"none", "count", "root", "parent", "flag", "label",
+                                    "bounds", "filter", "move", "hit", "relabel", "build"};
+enum { NONE, COUNT, ROOT, PARENT, FLAG, LABEL, BOUNDS, FILTER, MOVE, HIT, RELABEL, BUILD, WORKS };
 
 static unsigned long relabelled(ak_tree *tree, uint64_t turn) {
     static const char *const lines[] = {"update root focus=1\nnode 7 Button label=\"Button 0\" bounds=0,320,640,384\nend\n",
@@ -27,6 +28,18 @@ static unsigned long relabelled(ak_tree *tree, uint64_t turn) {
     ak_stop stop;
     size_t count = 0;
     if (ak_tree_feed(tree, (const uint8_t *)lines[turn & 1], strlen(lines[turn & 1]), &stop) != AK_DONE) exit(1);
+    return ak_tree_event_count(tree, &count) == AK_DONE ? count : 0;
+}
+
+/* The same by calls. */
+static unsigned long built(ak_tree *tree, uint64_t turn) {
+    const uint8_t *label = (const uint8_t *)(turn & 1 ? "Button 1" : "Button 0");
+    ak_stop stop;
+    size_t count = 0;
+    bool is_begun = ak_update_begin(tree, NULL, 0, 1) == AK_DONE && ak_update_node(tree, 7, AK_ROLE_BUTTON) == AK_DONE;
+    bool is_labelled = is_begun && ak_update_text(tree, AK_FIELD_LABEL, label, 8) == AK_DONE;
+    bool is_whole = is_labelled && ak_update_rect(tree, AK_FIELD_BOUNDS, 0, 320, 640, 384) == AK_DONE;
+    if (!is_whole || ak_update_send(tree, &stop) != AK_DONE) exit(1);
     return ak_tree_event_count(tree, &count) == AK_DONE ? count : 0;
 }
 
@@ -48,6 +61,7 @@ static unsigned long called(ak_tree *tree, int work, uint64_t node, uint64_t tur
     case MOVE: return ak_text_move(tree, node, 0, 0, false, AK_DOCUMENT_END, &position) == AK_DONE;
     case HIT: return ak_node_hit(tree, 1, 0, 320, 64 * (int64_t)(node - 2) + 32, AK_COMMON, &id) == AK_DONE && id.node == node;
     case RELABEL: return relabelled(tree, turn);
+    case BUILD: return built(tree, turn);
     default: return 0;
     }
 }

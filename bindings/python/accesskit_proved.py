@@ -1,7 +1,8 @@
 """The proved accessibility tree in a Python process, by the shared library that `./build --library` leaves in lib/.
 
-A tree is fed with the lines of a script (docs/SCRIPT.md) and read by the ids of its nodes. It is for one thread at a time. It needs
-nothing beyond the standard library. docs/FROM_C.md says what is proved of the library; these declarations of its calls are not.
+A tree is fed with the lines of a script (docs/SCRIPT.md), or sent updates that are built call by call, and read by the ids of its nodes.
+It is for one thread at a time. It needs nothing beyond the standard library. docs/FROM_C.md says what is proved of the library; these
+declarations of its calls are not.
 """
 
 import ctypes
@@ -29,7 +30,45 @@ MOVES = tuple(
     " backward_to_line_start forward_to_paragraph_start forward_to_paragraph_end backward_to_paragraph_start forward_to_page_start"
     " forward_to_page_end document_end backward_to_page_start document_start".split()
 )
-DONE, NO_MEMORY, CLOSED, NOTHING, BAD_LINE, REFUSED = range(6)
+# What updates that are built call by call say: fields by the kinds of their values, roles, actions, and the values of the fields that
+# have few, each by its place as its number. The names are those of a script; docs/SCRIPT.md explains them.
+FIELDS = dict(
+    word.split(":")
+    for word in (
+        "children:ids labelled:ids controls:ids tree:tree active:id label:text value:text description:text placeholder:text"
+        " role_description:text url:text author_id:text html_id:text class_name:text braille_label:text braille_role_description:text"
+        " column_index_text:text row_index_text:text font_family:text language:text hidden:flag clips:flag disabled:flag read_only:flag"
+        " required:flag modal:flag busy:flag multiselectable:flag italic:flag live_atomic:flag touch_transparent:flag bounds:rect"
+        " move:translation selection:selection chars:numbers words:numbers character_positions:units character_widths:units prev:id"
+        " next:id toggled:choice expanded:bool selected:bool live:choice orientation:choice sort_direction:choice aria_current:choice"
+        " has_popup:choice font_size:count font_weight:count background_color:color foreground_color:color overline:decoration"
+        " strikethrough:decoration underline:decoration text_direction:choice text_align:choice vertical_offset:choice number:number"
+        " min:number max:number step:number jump:number level:count set_size:count position:count scroll_x:number scroll_x_min:number"
+        " scroll_x_max:number scroll_y:number scroll_y_min:number scroll_y_max:number actions:action child_actions:action"
+    ).split()
+)
+ROLES = tuple(
+    "Unknown Window ScrollView Paragraph GenericContainer TextRun Label Image Document Terminal TextInput MultilineTextInput"
+    " SearchInput DateInput DateTimeInput WeekInput MonthInput TimeInput EmailInput NumberInput PasswordInput PhoneNumberInput"
+    " UrlInput EditableComboBox SpinButton ListBox TabList AlertDialog Dialog ComboBox DisclosureTriangle TreeItem Button CheckBox"
+    " DefaultButton Link MenuItem MenuItemCheckBox MenuItemRadio RadioButton DocBackLink DocBiblioRef DocGlossRef DocNoteRef ColorWell"
+    " Grid MenuListPopup RadioGroup Slider Switch TreeGrid Article Definition DescriptionList GraphicsDocument List ListItem PdfRoot"
+    " ProgressIndicator RootWebArea Term Timer Toolbar Tooltip Comment Tab ListBoxOption MenuListOption ListGrid Menu MenuBar Tree".split()
+)
+ACTIONS = ("Click", "Focus", "Increment", "Decrement")
+CHOICES = {
+    "toggled": ("true", "false", "mixed"),
+    "live": ("off", "polite", "assertive"),
+    "orientation": ("horizontal", "vertical"),
+    "sort_direction": ("ascending", "descending", "other"),
+    "aria_current": ("false", "true", "page", "step", "location", "date", "time"),
+    "has_popup": ("menu", "listbox", "tree", "grid", "dialog"),
+    "text_direction": ("left_to_right", "right_to_left", "top_to_bottom", "bottom_to_top"),
+    "text_align": ("left", "right", "center", "justify"),
+    "vertical_offset": ("subscript", "superscript"),
+    "style": ("solid", "dotted", "dashed", "double", "wavy"),
+}
+DONE, NO_MEMORY, CLOSED, NOTHING, BAD_LINE, REFUSED, OUT_OF_PLACE = range(7)
 
 
 class _Tree(ctypes.Structure):
@@ -82,7 +121,7 @@ class Tree:
 
     def __init__(self, library):
         self._calls = ctypes.CDLL(library)
-        for name in ("open", "feed", "event_count", "event", "root", "focus"):
+        for name in ("open", "feed", "event_count", "event", "root", "focus", "host_focus"):
             getattr(self._calls, f"ak_tree_{name}").restype = ctypes.c_uint8
         self._calls.ak_tree_close.restype = None
         for name in ("parent", "children", "role", "label", "value", "text"):
@@ -91,6 +130,8 @@ class Tree:
             getattr(self._calls, f"ak_node_{name}").restype = ctypes.c_uint8
         for name in ("position", "move", "selection_anchor", "selection_focus", "between"):
             getattr(self._calls, f"ak_text_{name}").restype = ctypes.c_uint8
+        for name in ("begin", "root", "toolkit_name", "toolkit_version", "node", "send", *FIELDS.values()):
+            getattr(self._calls, f"ak_update_{name}").restype = ctypes.c_uint8
         self._tree = _Tree(None, False)
         self._has(self._calls.ak_tree_open(ctypes.byref(self._tree)))
 
@@ -125,8 +166,17 @@ class Tree:
             raise Refused(stop)
         self._has(status)
 
+    def update(self, focus, root=None, tree=None, toolkit=None, version=None):
+        """Begins an update of a tree: of the root tree, or of the one with this `uuid.UUID`. One that was begun before is forgotten. The
+        toolkit's name and version only go with the tree's root."""
+        return Update(self, focus, root, tree, toolkit, version)
+
+    def set_host_focus(self, is_focused):
+        """Says whether the host window has the focus."""
+        self._has(self._calls.ak_tree_host_focus(ctypes.byref(self._tree), ctypes.c_bool(is_focused)))
+
     def events(self):
-        """What the last lines changed, in order."""
+        """What the last lines, the last update or the last change of the host's focus has changed, in order."""
         count, event, events = ctypes.c_size_t(), _Event(), []
         if not self._has(self._calls.ak_tree_event_count(ctypes.byref(self._tree), ctypes.byref(count))):
             raise MemoryError
@@ -236,6 +286,99 @@ class Tree:
     def text_between(self, id, start, end):
         """The node's text from one index up to another, which count its scalars."""
         return self._text(self._calls.ak_text_between, id, ctypes.c_size_t(start), ctypes.c_size_t(end))
+
+
+class Update:
+    """An update that is built: node by node, and then sent. What raises an error has changed nothing, but for a node whose fields it was
+    setting, which has those before the one that failed."""
+
+    def __init__(self, tree, focus, root, name, toolkit, version):
+        self._tree = tree
+        self._says("begin", *_bytes(b"" if name is None else name.bytes), ctypes.c_uint64(focus))
+        if root is not None:
+            self._says("root", ctypes.c_uint64(root))
+        if toolkit is not None:
+            self._says("toolkit_name", *_bytes(toolkit.encode()))
+        if version is not None:
+            self._says("toolkit_version", *_bytes(version.encode()))
+
+    def _says(self, name, *said):
+        status = getattr(self._tree._calls, f"ak_update_{name}")(ctypes.byref(self._tree._tree), *said)
+        if status == OUT_OF_PLACE:
+            raise ValueError("out of place")
+        if not self._tree._has(status):
+            raise ValueError("no such value")
+
+    def node(self, id, role, **fields):
+        """A node, with fields by their names in a script: `node(1, "Button", label="Send", bounds=(0, 0, 64, 64), disabled=True)`. A role
+        or an action without a name is a number. A flag is True; a line above, through or below text is `("wavy", 255, 0, 0, 255)`, a
+        selection the run and the character of both of its ends, `(4, 1, 5, 0)`, a grafted tree a `uuid.UUID`."""
+        number = len(ROLES) + role if isinstance(role, int) else ROLES.index(role)
+        self._says("node", ctypes.c_uint64(id), ctypes.c_uint32(number))
+        for name, value in fields.items():
+            self._set(name, value)
+        return self
+
+    def _set(self, name, value):
+        kind, field = FIELDS[name], ctypes.c_uint8(list(FIELDS).index(name))
+        if kind == "action":
+            for action in value:
+                number = len(ACTIONS) + action if isinstance(action, int) else ACTIONS.index(action)
+                self._says("action", field, ctypes.c_uint16(number))
+        elif kind == "choice":
+            self._says("choice", field, _number(CHOICES[name], value))
+        elif kind != "flag":
+            self._says(kind, field, *_VALUES[kind](value))
+        elif value:
+            self._says("flag", field)
+
+    def send(self):
+        """Carries the update out. The events are then those of this update."""
+        stop = _Stop()
+        status = self._tree._calls.ak_update_send(ctypes.byref(self._tree._tree), ctypes.byref(stop))
+        if status == OUT_OF_PLACE:
+            raise ValueError("out of place")
+        if status == REFUSED:
+            raise Refused(stop)
+        self._tree._has(status)
+
+
+def _fits(of, value):
+    """The value as this type of C, in whose range it has to be."""
+    if of(value).value != value:
+        raise ValueError("no such value")
+    return of(value)
+
+
+def _items(of, values):
+    return (of * len(values))(*(_fits(of, value) for value in values)), ctypes.c_size_t(len(values))
+
+
+def _bytes(data):
+    return data, ctypes.c_size_t(len(data))
+
+
+def _each(of, values):
+    return [_fits(of, value) for value in values]
+
+
+# The arguments of the calls, by the kinds of fields.
+_VALUES = {
+    "ids": lambda value: _items(ctypes.c_uint64, value),
+    "id": lambda value: [_fits(ctypes.c_uint64, value)],
+    "text": lambda value: _bytes(value.encode()),
+    "bool": lambda value: [ctypes.c_bool(value)],
+    "number": lambda value: [_fits(ctypes.c_int64, value)],
+    "count": lambda value: [_fits(ctypes.c_size_t, value)],
+    "numbers": lambda value: _items(ctypes.c_uint16, value),
+    "units": lambda value: _items(ctypes.c_int32, value),
+    "tree": lambda value: _bytes(value.bytes),
+    "rect": lambda value: _each(ctypes.c_int32, value),
+    "translation": lambda value: _each(ctypes.c_int32, value),
+    "color": lambda value: _each(ctypes.c_uint8, value),
+    "decoration": lambda value: [_number(CHOICES["style"], value[0]), *_each(ctypes.c_uint8, value[1:])],
+    "selection": lambda value: [_fits(of, it) for of, it in zip((ctypes.c_uint64, ctypes.c_size_t) * 2, value)],
+}
 
 
 def _node(id):

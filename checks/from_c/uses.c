@@ -240,6 +240,139 @@ static void texts(void) {
     ak_tree_close(&tree);
 }
 
+static uint8_t label(ak_tree *tree, const char *text) { return ak_update_text(tree, AK_FIELD_LABEL, (const uint8_t *)text, strlen(text)); }
+
+/* How often a call had no memory, and was made again. */
+static int wants;
+#define SAY(call)                            \
+    do {                                     \
+        uint8_t said = (call);               \
+        if (said == AK_NO_MEMORY) {          \
+            wants++;                         \
+            until_failure = -1;              \
+            said = (call);                   \
+        }                                    \
+        CHECK(said == AK_DONE);              \
+    } while (0)
+
+/* The updates of `first` and `second` by calls, up to where they are sent. */
+static void build_first(ak_tree *tree) {
+    SAY(ak_update_begin(tree, NULL, 0, 2));
+    SAY(ak_update_root(tree, 1));
+    SAY(ak_update_node(tree, 1, AK_ROLE_WINDOW));
+    SAY(label(tree, "Mail"));
+    SAY(ak_update_ids(tree, AK_FIELD_CHILDREN, (uint64_t[]){2, 3, 4}, 3));
+    SAY(ak_update_node(tree, 2, AK_ROLE_BUTTON));
+    SAY(label(tree, "Send"));
+    SAY(ak_update_node(tree, 3, AK_ROLE_CHECK_BOX));
+    SAY(label(tree, "Receipt"));
+    SAY(ak_update_node(tree, 4, AK_ROLE_SLIDER));
+    SAY(ak_update_text(tree, AK_FIELD_VALUE, (const uint8_t *)"five", 4));
+}
+static void build_second(ak_tree *tree) {
+    SAY(ak_update_begin(tree, NULL, 0, 3));
+    SAY(ak_update_node(tree, 1, AK_ROLE_WINDOW));
+    SAY(label(tree, "Mail"));
+    SAY(ak_update_ids(tree, AK_FIELD_CHILDREN, (uint64_t[]){3, 4, 5}, 3));
+    SAY(ak_update_node(tree, 5, AK_ROLE_BUTTON));
+    SAY(label(tree, "More"));
+}
+
+static size_t events_of(ak_tree *tree) {
+    size_t count = 999;
+    CHECK(ak_tree_event_count(tree, &count) == AK_DONE);
+    return count;
+}
+
+/* By calls and by lines the same. */
+static void updates(void) {
+    static const uint8_t uuid[16] = {1};
+    char fed[4000], built[4000];
+    ak_tree tree = AK_TREE_CLOSED, other = AK_TREE_CLOSED;
+    ak_stop stop = {7, 7, 7, 7};
+    ak_event event;
+    CHECK(ak_update_begin(&tree, NULL, 0, 1) == AK_CLOSED && ak_update_root(&tree, 1) == AK_CLOSED && ak_update_node(&tree, 1, 0) == AK_CLOSED);
+    CHECK(ak_update_begin(&tree, uuid, 3, 1) == AK_CLOSED && ak_update_node(&tree, 1, UINT32_MAX) == AK_CLOSED && label(&tree, "\xff") == AK_CLOSED);
+    CHECK(ak_update_ids(&tree, 0, NULL, 0) == AK_CLOSED && ak_update_flag(&tree, 255) == AK_CLOSED && ak_tree_host_focus(&tree, true) == AK_CLOSED);
+    CHECK(ak_update_send(&tree, &stop) == AK_CLOSED && stop.line == 7 && stop.rule == 7);
+    CHECK(ak_tree_open(&tree) == AK_DONE && ak_tree_open(&other) == AK_DONE);
+    CHECK(ak_update_root(&tree, 1) == AK_OUT_OF_PLACE && ak_update_node(&tree, 1, AK_ROLE_WINDOW) == AK_OUT_OF_PLACE && label(&tree, "x") == AK_OUT_OF_PLACE);
+    CHECK(ak_update_toolkit_name(&tree, uuid, 0) == AK_OUT_OF_PLACE && ak_update_send(&tree, &stop) == AK_OUT_OF_PLACE && stop.line == 7);
+    CHECK(ak_update_begin(&tree, uuid, 15, 1) == AK_NOTHING && ak_update_root(&tree, 1) == AK_OUT_OF_PLACE);
+    CHECK(ak_update_begin(&tree, NULL, 0, 9) == AK_DONE && label(&tree, "x") == AK_OUT_OF_PLACE && ak_update_flag(&tree, 255) == AK_OUT_OF_PLACE);
+    CHECK(ak_update_toolkit_version(&tree, uuid, 0) == AK_OUT_OF_PLACE && ak_update_root(&tree, 1) == AK_DONE);
+    CHECK(ak_update_toolkit_name(&tree, (const uint8_t *)"\xff", 1) == AK_NOTHING && ak_update_toolkit_name(&tree, NULL, 0) == AK_DONE);
+    CHECK(ak_update_node(&tree, 1, AK_ROLE_OTHER + 65536) == AK_NOTHING && ak_update_node(&tree, 1, UINT32_MAX) == AK_NOTHING && label(&tree, "x") == AK_OUT_OF_PLACE);
+    CHECK(ak_update_node(&tree, 1, AK_ROLE_OTHER + 65535) == AK_DONE && label(&tree, "\xc3") == AK_NOTHING && ak_update_flag(&tree, AK_FIELD_LABEL) == AK_NOTHING);
+    CHECK(ak_update_flag(&tree, AK_FIELD_CHILD_ACTIONS + 1) == AK_NOTHING && ak_update_choice(&tree, AK_FIELD_TOGGLED, AK_TOGGLED_MIXED + 1) == AK_NOTHING);
+    CHECK(ak_update_action(&tree, AK_FIELD_ACTIONS, AK_ACTION_OTHER + 256) == AK_NOTHING && ak_update_tree(&tree, AK_FIELD_TREE, uuid, 0) == AK_NOTHING);
+    CHECK(ak_update_count(&tree, AK_FIELD_FONT_WEIGHT, 65536) == AK_NOTHING && ak_update_decoration(&tree, AK_FIELD_OVERLINE, 5, 1, 2, 3, 4) == AK_NOTHING);
+    CHECK(ak_update_send(&tree, &stop) == AK_REFUSED && stop.rule == AK_FOCUS_MISSING && stop.node == 9 && stop.done == 0 && stop.line == 0);
+    CHECK(ak_update_send(&tree, &stop) == AK_OUT_OF_PLACE && ak_tree_host_focus(&tree, true) == AK_DONE && events_of(&tree) == 0);
+    CHECK(ak_update_begin(&tree, uuid, 16, 1) == AK_DONE && ak_update_node(&tree, 1, 0) == AK_DONE);
+    build_first(&tree);
+    CHECK(ak_update_send(&tree, &stop) == AK_DONE && stop.done == 0 && events_of(&tree) == 0 && feed(&other, first, &stop) == AK_DONE);
+    tell(&tree, built, sizeof built);
+    tell(&other, fed, sizeof fed);
+    CHECK(strcmp(built, fed) == 0 && feed(&tree, strchr(first, 'u'), &stop) == AK_DONE && events_of(&tree) == 0);
+    build_second(&tree);
+    CHECK(ak_update_ids(&tree, AK_FIELD_CONTROLS, (uint64_t[]){1}, 1) == AK_DONE && ak_update_ids(&tree, AK_FIELD_CONTROLS, NULL, 0) == AK_DONE);
+    CHECK(label(&tree, "Other") == AK_DONE && feed(&tree, "host off\nhost on\n", &stop) == AK_DONE && label(&tree, "More") == AK_DONE);
+    CHECK(ak_update_send(&tree, &stop) == AK_DONE && feed(&other, second, &stop) == AK_DONE && ak_tree_host_focus(&other, true) == AK_DONE);
+    CHECK(events_of(&other) == 2 && ak_tree_event(&other, 1, &event) == AK_DONE && event.kind == AK_FOCUS_MOVED && event.new_node == 3 && !event.has_old);
+    tell(&tree, built, sizeof built);
+    tell(&other, fed, sizeof fed);
+    CHECK(strcmp(built, fed) == 0);
+    build_second(&tree);
+    ak_tree_close(&tree);
+    ak_tree_close(&other);
+    CHECK(ak_update_send(&tree, &stop) == AK_CLOSED && ak_tree_open(&tree) == AK_DONE && ak_update_send(&tree, &stop) == AK_OUT_OF_PLACE);
+    ak_tree_close(&tree);
+}
+
+/* Each growth of an update by calls fails in turn. A call that had no memory is made again, and nothing is lost; of one that is sent
+ * nothing is carried out, or the events are lost. */
+static void growths_of_calls(void) {
+    char before[4000], after[4000], told[4000];
+    ak_tree tree = AK_TREE_CLOSED;
+    ak_stop stop;
+    size_t count;
+    bool has_failed = true, has_wanted = false, was_unsent = false, was_lost = false;
+    for (long growth = -1; has_failed; growth++) {
+        until_failure = -1;
+        CHECK(ak_tree_open(&tree) == AK_DONE && feed(&tree, first, &stop) == AK_DONE);
+        tell(&tree, before, sizeof before);
+        wants = 0;
+        until_failure = growth;
+        build_second(&tree);
+        uint8_t answer = ak_update_send(&tree, &stop);
+        has_failed = growth < 0 || until_failure < 0;
+        until_failure = -1;
+        tell(&tree, told, sizeof told);
+        if (growth < 0) strcpy(after, told);
+        has_wanted = has_wanted || wants > 0;
+        if (answer == AK_DONE) CHECK(strcmp(told, after) == 0 && events_of(&tree) > 0);
+        else if (stop.done == 1) {
+            was_lost = true;
+            CHECK(answer == AK_NO_MEMORY && strcmp(told, after) == 0 && ak_tree_event_count(&tree, &count) == AK_NOTHING);
+        } else {
+            was_unsent = true;
+            CHECK(answer == AK_NO_MEMORY && strcmp(told, before) == 0 && events_of(&tree) == 0 && ak_update_send(&tree, &stop) == AK_OUT_OF_PLACE);
+            build_second(&tree);
+            CHECK(ak_update_send(&tree, &stop) == AK_DONE);
+            tell(&tree, told, sizeof told);
+            CHECK(strcmp(told, after) == 0);
+        }
+        until_failure = 0;
+        answer = ak_tree_host_focus(&tree, false);
+        until_failure = -1;
+        ak_id id;
+        CHECK(answer == AK_NO_MEMORY && ak_tree_event_count(&tree, &count) == AK_NOTHING && ak_tree_focus(&tree, &id) == AK_NOTHING);
+        ak_tree_close(&tree);
+    }
+    CHECK(has_wanted && was_unsent && was_lost);
+}
+
 /* Each growth of a feed fails in turn: either nothing is carried out, or as much as is answered. */
 static void growths(void) {
     char before[4000], between[4000], after[4000], told[4000];
@@ -298,7 +431,9 @@ int main(int count, char **words) {
     rooms();
     shown();
     texts();
+    updates();
     growths();
+    growths_of_calls();
     printf("%d passed, %d failed\n", passed, failed);
     return failed != 0;
 }

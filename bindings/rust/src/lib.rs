@@ -1,8 +1,12 @@
 //! The proved accessibility tree in a Rust process: safe types over the calls of `accesskit_proved.h`.
 //!
-//! A [`Tree`] is fed with the lines of a script (docs/SCRIPT.md) and read by the ids of its nodes. docs/FROM_C.md says what is proved of
-//! the library. The declarations below are not: `checks/header` compares them with the library's.
+//! A [`Tree`] is fed with the lines of a script (docs/SCRIPT.md), or sent updates that are built call by call, and read by the ids of its
+//! nodes. docs/FROM_C.md says what is proved of the library. The declarations below are not: `checks/header` compares them with the
+//! library's.
 use std::marker::PhantomData;
+
+mod updates;
+pub use updates::*;
 
 mod raw {
     #[repr(C)]
@@ -57,6 +61,30 @@ mod raw {
         pub fn ak_tree_open(tree: &mut Tree) -> u8;
         pub fn ak_tree_close(tree: &mut Tree);
         pub fn ak_tree_feed(tree: &mut Tree, lines: *const u8, length: usize, stop: &mut Stop) -> u8;
+        pub fn ak_tree_host_focus(tree: &mut Tree, is_focused: bool) -> u8;
+        pub fn ak_update_begin(tree: &mut Tree, tree_id: *const u8, length: usize, focus: u64) -> u8;
+        pub fn ak_update_root(tree: &mut Tree, root: u64) -> u8;
+        pub fn ak_update_toolkit_name(tree: &mut Tree, text: *const u8, length: usize) -> u8;
+        pub fn ak_update_toolkit_version(tree: &mut Tree, text: *const u8, length: usize) -> u8;
+        pub fn ak_update_node(tree: &mut Tree, node: u64, role: u32) -> u8;
+        pub fn ak_update_ids(tree: &mut Tree, field: u8, ids: *const u64, count: usize) -> u8;
+        pub fn ak_update_id(tree: &mut Tree, field: u8, id: u64) -> u8;
+        pub fn ak_update_text(tree: &mut Tree, field: u8, text: *const u8, length: usize) -> u8;
+        pub fn ak_update_flag(tree: &mut Tree, field: u8) -> u8;
+        pub fn ak_update_bool(tree: &mut Tree, field: u8, is_so: bool) -> u8;
+        pub fn ak_update_choice(tree: &mut Tree, field: u8, choice: u8) -> u8;
+        pub fn ak_update_number(tree: &mut Tree, field: u8, number: i64) -> u8;
+        pub fn ak_update_count(tree: &mut Tree, field: u8, count: usize) -> u8;
+        pub fn ak_update_numbers(tree: &mut Tree, field: u8, numbers: *const u16, count: usize) -> u8;
+        pub fn ak_update_units(tree: &mut Tree, field: u8, units: *const i32, count: usize) -> u8;
+        pub fn ak_update_action(tree: &mut Tree, field: u8, action: u16) -> u8;
+        pub fn ak_update_tree(tree: &mut Tree, field: u8, tree_id: *const u8, length: usize) -> u8;
+        pub fn ak_update_rect(tree: &mut Tree, field: u8, x0: i32, y0: i32, x1: i32, y1: i32) -> u8;
+        pub fn ak_update_translation(tree: &mut Tree, field: u8, x: i32, y: i32) -> u8;
+        pub fn ak_update_selection(tree: &mut Tree, field: u8, anchor: u64, anchor_character: usize, focus: u64, focus_character: usize) -> u8;
+        pub fn ak_update_color(tree: &mut Tree, field: u8, red: u8, green: u8, blue: u8, alpha: u8) -> u8;
+        pub fn ak_update_decoration(tree: &mut Tree, field: u8, style: u8, red: u8, green: u8, blue: u8, alpha: u8) -> u8;
+        pub fn ak_update_send(tree: &mut Tree, stop: &mut Stop) -> u8;
         pub fn ak_tree_event_count(tree: &mut Tree, count: &mut usize) -> u8;
         pub fn ak_tree_event(tree: &mut Tree, index: usize, event: &mut Event) -> u8;
         pub fn ak_tree_root(tree: &mut Tree, root: &mut Id) -> u8;
@@ -179,7 +207,7 @@ pub enum Event {
     FocusMoved { old: Option<Id>, new: Option<Id> },
 }
 
-/// Why not all lines were carried out, or a question has no answer.
+/// Why not all lines were carried out, an update wasn't, or a question has no answer.
 #[derive(Clone, Copy, Debug, PartialEq, Eq)]
 pub enum Error {
     /// Memory ran out, after so many commands.
@@ -188,6 +216,10 @@ pub enum Error {
     BadLine(u64),
     /// An update was refused, after so many commands: it breaks the rule with this number, at this node.
     Refused { done: u64, rule: u8, node: u64 },
+    /// Of an update that is built: the field has no such value. Nothing has changed.
+    NoSuch,
+    /// A field was said before a node was begun, or a toolkit before the root. Nothing has changed.
+    OutOfPlace,
 }
 
 /// A tree, which has nothing until it is fed. It is neither `Send` nor `Sync`, and what reads it takes `&mut self`, as the library does.
@@ -220,7 +252,8 @@ impl Tree {
         }
     }
 
-    /// What the last lines changed, in order; `None` if memory for an event ran out.
+    /// What the last lines, the last update or the last change of the host's focus has changed, in order; `None` if memory for an event
+    /// ran out.
     pub fn events(&mut self) -> Option<Vec<Event>> {
         let mut count = 0;
         if unsafe { raw::ak_tree_event_count(&mut self.raw, &mut count) } != DONE {
@@ -383,6 +416,7 @@ type TextCall = unsafe extern "C" fn(&mut raw::Tree, u64, u32, *mut u8, usize, &
 
 const DONE: u8 = 0;
 const NO_MEMORY: u8 = 1;
+const NOTHING: u8 = 3;
 const BAD_LINE: u8 = 4;
 const REFUSED: u8 = 5;
 

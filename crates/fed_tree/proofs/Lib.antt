@@ -1,6 +1,9 @@
+pub mod Building
 pub mod Carrying
+pub mod CarryingOne
 pub mod Commands
 pub mod Fed
 pub mod Found
 pub mod Keeping
+pub mod LastNode
 pub mod Places

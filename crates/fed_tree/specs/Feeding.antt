@@ -87,9 +87,10 @@ stage_of fed = record { tree = fed.world; is_host_focused = fed.host }
 abbrev pub without_events : Fed → Fed
 without_events fed = record fed { events = Some [] }
 
--- the commands that the lines say are carried out, as far as it went
+-- the commands that the lines say are carried out, as far as it went; an update that is begun stays so
 abbrev pub CarriesOutLines : Fed → List ℕ → Result Unit FeedError → Fed → Type 0
-CarriesOutLines old lines result new = (commands : List ScriptCommand) × Say lines commands × CarriesOutAll (stage_of old) commands result (stage_of new) new.events
+CarriesOutLines old lines result new =
+    (commands : List ScriptCommand) × Say lines commands × CarriesOutAll (stage_of old) commands result (stage_of new) new.events × (new.begun ≡ old.begun)
 
 -- All lines are read first: where one is bad nothing is carried out, and where there is no memory to read them neither.
 abbrev pub Feeds : Fed → List ℕ → Result Unit FeedError → Fed → Type 0

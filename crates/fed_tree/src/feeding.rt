@@ -5,6 +5,7 @@ ghost use Rattle.fed_tree.specs.Feeding.{CarriesOutAll, Feeds};
 use crate::events::{Event, Events};
 use crate::reading::{Unread, read_commands};
 use crate::stage::Stage;
+use schema::TreeUpdate;
 use script_lines::ScriptCommand;
 use std::alloc::Global;
 use std::marker::Model;
@@ -24,15 +25,19 @@ pub enum FeedError {
     Memory { done: usize },
 }
 
-/// A tree, once there is one, with what the last lines that it was fed changed.
+/// A tree, once there is one, with what the last lines that it was fed changed, or the update that it was sent last; and an update
+/// that is begun.
 #[derive(Drop)]
 pub struct FedTree {
     pub(crate) alloc: Global,
     pub(crate) stage: Stage,
-    events: Events,
+    pub(crate) events: Events,
+    pub(crate) begun: Option<TreeUpdate>,
 }
 
 impl Model for FedTree {
+    ghost use Rattle.std.specs.Prelude.{option_map};
+    ghost use Rattle.schema.specs.UpdateData.{update_data};
     ghost use Rattle.fed_tree.specs.Fed.{Fed};
     ghost use Rattle.fed_tree.specs.FedCodes.{coded_fed};
 
@@ -40,13 +45,18 @@ impl Model for FedTree {
 
     ghost coded = { coded_fed };
 
-    ghost view = { λ a. record { world = a.stage.tree; host = a.stage.is_host_focused; events = a.events } };
+    ghost view = { λ a. record {
+      world = a.stage.tree;
+      host = a.stage.is_host_focused;
+      events = a.events;
+      begun = option_map update_data a.begun;
+    } };
 }
 
 impl FedTree {
     /// Without a tree yet. The host hasn't the focus.
     pub fn new(alloc: Global) -> FedTree
-        ensures { result ≡ record { world = None; host = false; events = Some [] } }
+        ensures { result ≡ record { world = None; host = false; events = Some []; begun = None } }
     {
         FedTree {
             alloc,
@@ -55,11 +65,13 @@ impl FedTree {
                 is_host_focused: false,
             },
             events: Events::new(alloc),
+            begun: None,
         }
     }
 
     /// Carries out the updates and the changes of the host's focus that the lines say; `print` and questions do nothing. All
-    /// lines are read before the first command is carried out. The events of earlier lines are forgotten.
+    /// lines are read before the first command is carried out. The events of earlier lines are forgotten. An update that is begun
+    /// stays so.
     ///
     /// # Errors
     ///

@@ -1,5 +1,5 @@
-//! A tree that is fed the lines of a script, keeps what they changed as plain records, and is read by the ids of its nodes. Other
-//! languages call it.
+//! A tree that is fed the lines of a script, or sent updates that are built call by call, keeps what they changed as plain records, and
+//! is read by the ids of its nodes. Other languages call it.
 #![tactic(auto)]
 
 mod events;
@@ -10,8 +10,10 @@ mod reads;
 mod shown;
 mod stage;
 mod text_places;
+mod updating;
 
 pub use events::{Event, EventKind};
 pub use feeding::{FedTree, FeedError};
 pub use flags::Flag;
 pub use text_places::TextPlace;
+pub use updating::BuildError;

@@ -1,4 +1,6 @@
 pub mod Asked
+pub mod Built
 pub mod Heap
+pub mod RoleNumbers
 pub mod Walking
 pub mod Words

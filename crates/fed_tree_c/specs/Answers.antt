@@ -20,6 +20,9 @@ BAD_LINE = 4
 abbrev pub REFUSED : ℕ
 REFUSED = 5
 
+abbrev pub OUT_OF_PLACE : ℕ
+OUT_OF_PLACE = 6
+
 -- nothing is written where there is nothing
 abbrev pub Gives : {A : Type 0} → Option A → ℕ → A → A → Type 0
 Gives None status old new = (status ≡ NOTHING) × (new ≡ old)

@@ -4,3 +4,4 @@ pub mod Numbers
 pub mod Questions
 pub mod Records
 pub mod Stops
+pub mod Updates

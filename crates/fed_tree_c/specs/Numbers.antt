@@ -1,5 +1,7 @@
 -- What C says by numbers.
-use Rattle.std.specs.Prelude.{ℕ, Bool, List, [], ◌∷◌, if◌then◌else◌}
+use Rattle.std.specs.Prelude.{◌≡◌, ◌≢◌, ℕ, Bool, List, [], ◌∷◌, Option, Some, None, if◌then◌else◌}
+use Rattle.schema.specs.Roles.{role_number}
+use Rattle.schema.specs.declared.Role.{Role}
 use Rattle.model.specs.declared.filters.FilterResult.{FilterResult}
 use Rattle.model.specs.declared.filters.FilterResult.TheVariants as answer
 use Rattle.model.specs.declared.queries.At.{At}
@@ -8,6 +10,7 @@ use Rattle.model.specs.declared.queries.Move.TheVariants as move
 use Rattle.model.specs.declared.queries.NamedFilter.{NamedFilter}
 use Rattle.model.specs.declared.queries.NamedFilter.TheVariants as filter
 use Rattle.model.specs.declared.queries.Side.TheVariants.{Start, End}
+use Rattle.script_words.specs.Reading.{IsRole}
 use Rattle.fed_tree.specs.declared.flags.Flag.{Flag}
 use Rattle.fed_tree.specs.declared.flags.Flag.TheVariants as flag
 
@@ -79,3 +82,8 @@ answer_number answer.ExcludeSubtree = 2
 -- an index in a text, and whether the end of the run before it is meant where two runs meet
 abbrev pub at_index : ℕ → Bool → At
 at_index index is_end = record { index = index; side = if is_end then End else Start }
+
+-- the role with this number, if there is one
+abbrev pub IsRoleNumbered : ℕ → Option Role → Type 0
+IsRoleNumbered number None = (role : Role) → IsRole role → role_number role ≢ number
+IsRoleNumbered number (Some role) = IsRole role × (role_number role ≡ number)

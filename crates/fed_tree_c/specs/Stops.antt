@@ -11,7 +11,7 @@ use Rattle.fed_tree_c.specs.declared.records.AkStop.{AkStop}
 
 -- a tree that was fed nothing
 abbrev pub nothing_yet : Fed
-nothing_yet = record { world = None; host = false; events = Some [] }
+nothing_yet = record { world = None; host = false; events = Some []; begun = None }
 
 -- a handle is opened on such a tree, whatever it held; or memory ran out, and it holds what it held
 abbrev pub Opens : Option Fed → ℕ → Option Fed → Type 0

@@ -48,7 +48,7 @@ fn node_named(why: UpdateError) -> u64
 }
 
 /// The number of the answer to lines that were fed.
-fn status_of(fed: &Result<(), FeedError>) -> u8
+pub(crate) fn status_of(fed: &Result<(), FeedError>) -> u8
     ensures { result ≡ status_of fed.now }
 {
     match fed {
@@ -60,7 +60,7 @@ fn status_of(fed: &Result<(), FeedError>) -> u8
 }
 
 /// Where and why lines weren't carried out to their end.
-fn stop_of(fed: &Result<(), FeedError>) -> AkStop
+pub(crate) fn stop_of(fed: &Result<(), FeedError>) -> AkStop
     ensures { result ≡ stop_of fed.now }
 {
     match fed {

@@ -1,10 +1,11 @@
 //! What C says by numbers: flags, filters, movements, and the answers of filters.
-ghost use Rattle.std.specs.Prelude.{◌≡◌, slice_get};
-ghost use Rattle.fed_tree_c.specs.Numbers.{all_flags, all_filters, all_moves, answer_number, at_index};
+ghost use Rattle.std.specs.Prelude.{◌≡◌, ◌≤◌, slice_get};
+ghost use Rattle.fed_tree_c.specs.Numbers.{IsRoleNumbered, all_flags, all_filters, all_moves, answer_number, at_index};
 
 use fed_tree::Flag;
 use model::filters::FilterResult;
 use model::{At, Move, NamedFilter, Side};
+use schema::{Role, named_roles};
 
 /// The flags in the order of their numbers.
 static FLAGS: [Flag; 28] = [
@@ -90,11 +91,18 @@ fn moves() -> &'static [Move]
     &MOVES
 }
 
+/// What is at this place in a table.
+fn at_place<T: Copy>(table: &[T], place: usize) -> Option<T>
+    ensures { result ≡ slice_get table.now place }
+{
+    table.get(place).copied()
+}
+
 /// What has this number in a table.
 fn numbered<T: Copy>(table: &[T], number: u8) -> Option<T>
     ensures { result ≡ slice_get table.now number }
 {
-    table.get(usize::from(number)).copied()
+    at_place(table, usize::from(number))
 }
 
 /// The flag with this number.
@@ -116,6 +124,30 @@ pub(crate) fn move_numbered(number: u8) -> Option<Move>
     ensures { result ≡ slice_get all_moves number }
 {
     numbered(moves(), number)
+}
+
+/// How many roles have names.
+const NAMED_ROLES: u32 = 72;
+
+/// The role with this number: its place among the roles with names, or behind these the number of another.
+pub(crate) fn role_numbered(number: u32) -> Option<Role>
+    ensures { IsRoleNumbered number result }
+{
+    match at_place(named_roles(), number as usize) {
+        Some((_, role)) => Some(role),
+        None => other_role(number),
+    }
+}
+
+/// The role without a name that has this number.
+fn other_role(number: u32) -> Option<Role>
+    requires { 72 ≤ number }
+    ensures { IsRoleNumbered number result }
+{
+    match u16::try_from(number - NAMED_ROLES) {
+        Ok(number) => Some(Role::Other(number)),
+        Err(_) => None,
+    }
 }
 
 /// The number of a filter's answer.

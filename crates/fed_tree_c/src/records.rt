@@ -18,6 +18,8 @@ pub(crate) const NOTHING: u8 = 3;
 pub(crate) const BAD_LINE: u8 = 4;
 /// An update was refused.
 pub(crate) const REFUSED: u8 = 5;
+/// No update is begun, or none of its nodes.
+pub(crate) const OUT_OF_PLACE: u8 = 6;
 
 /// A node's id: its id in its tree, and the index of the tree.
 #[repr(C)]

@@ -1,0 +1,113 @@
+"""Sends updates that are built call by call, beside the same ones by lines: `updates.py LIBRARY SCRIPT` prints updates.told.
+
+Where both say the same, the second of them changes nothing and has no events. A field that a line lacks is noticed by an event, or by a
+refusal, so each field was compared.
+"""
+
+import re
+import sys
+from uuid import UUID
+from accesskit_proved import FIELDS, Id, Refused, Tree
+
+INSIDE = UUID(int=7)
+FLAGS = "hidden clips disabled read_only required modal busy multiselectable italic live_atomic touch_transparent".split()
+TEXTS = dict(label='To: "all"\n', value="v", description="d", placeholder="p", role_description="rd", url="u", author_id="a", html_id="h")
+TEXTS |= dict(class_name="c", braille_label="bl", braille_role_description="br", column_index_text="B", row_index_text="2", font_family="f", language="fr")
+CHOICES = dict(toggled="mixed", live="assertive", orientation="vertical", sort_direction="other", aria_current="time", has_popup="dialog")
+CHOICES |= dict(text_direction="bottom_to_top", text_align="justify", vertical_offset="superscript")
+NUMBERS = dict(number=-(2**63), min=-1, max=2**63 - 1, step=2, jump=3, scroll_x=1, scroll_x_min=-2, scroll_x_max=3, scroll_y=4, scroll_y_min=-5, scroll_y_max=6)
+COUNTS = dict(level=2**64 - 1, set_size=5, position=4, font_size=2**32 - 1, font_weight=65535)
+LOOKS = dict(background_color=(1, 2, 3, 4), foreground_color=(255, 0, 128, 7), overline=("solid", 0, 0, 0, 255))
+LOOKS |= dict(strikethrough=("double", 9, 8, 7, 6), underline=("wavy", 255, 0, 0, 255))
+OTHERS = dict(children=[3, 6], labelled=[1], controls=[4, 5], active=5, bounds=(-1, 2, 2**31 - 1, -(2**31)), move=(3, -4), selection=(3, 1, 6, 2))
+OTHERS |= dict(expanded=True, selected=False, actions=["Click", "Decrement", 255], child_actions=["Focus", 0])
+
+
+def build(tree):
+    """The updates of updates.script by calls; the events of both."""
+    update = tree.update(2, root=1, toolkit="Kit", version="1.2")
+    update.node(1, "Window", label="Mail", children=[2, 4, 5])
+    update.node(2, "TextInput", **TEXTS, **dict.fromkeys(FLAGS, True), **CHOICES, **NUMBERS, **COUNTS, **LOOKS, **OTHERS)
+    update.node(3, "TextRun", value="aéb", chars=[1, 2, 1], words=[0, 65535], character_positions=[-5, 0, 2**31 - 1], character_widths=[], next=6)
+    update.node(6, "TextRun", value="cd", chars=[1, 1], words=[0], prev=3)
+    update.node(4, 328, tree=INSIDE)
+    update.node(5, "Button", label="")
+    update.send()
+    events = tree.events()
+    tree.update(1, root=1, tree=INSIDE).node(1, "Document", label="Inside").send()
+    return events + tree.events()
+
+
+def feed(tree, lines):
+    tree.feed(lines)
+    return tree.events()
+
+
+def without_a_field(lines):
+    """Each way to leave out one field of a node, by its name."""
+    for field in re.finditer(r' (\w+)(=("(\\.|[^"])*"|[^ \n]+))?(?=[ \n])', lines):
+        if not lines[: field.start()].rpartition("\n")[2].startswith("node ") or field[1] not in FIELDS:
+            continue
+        yield field[1], lines[: field.start()] + lines[field.end() :]
+
+
+def noticed(library, script):
+    """The fields of which a lack in the lines is noticed, by a tree that was built by calls."""
+    names = set()
+    for name, lines in without_a_field(script):
+        with Tree(library) as tree:
+            build(tree)
+            try:
+                if feed(tree, lines):
+                    names.add(name)
+            except Refused:
+                names.add(name)
+    return names
+
+
+def named(id):
+    return "none" if id is None else f"{id.tree}:{id.node}"
+
+
+def told(events):
+    words = [f"focus {named(it.old)} {named(it.new)}" if it.kind == "focus" else f"{it.kind} {named(it.new or it.old)}" for it in events]
+    return ", ".join(words)
+
+
+def refused(call):
+    try:
+        call()
+    except ValueError as error:
+        return str(error)
+    return "done"
+
+
+def main(library, path):
+    with open(path, encoding="utf-8") as file:
+        script = file.read()
+    with Tree(library) as built, Tree(library) as fed:
+        build(built)
+        print(f"built, then fed: {len(feed(built, script))} events")
+        feed(fed, script)
+        print(f"fed, then built: {len(build(fed))} events")
+        print(f"fields: {len(FIELDS)}")
+        print(f"fields whose lack is noticed: {len(noticed(library, script) & set(FIELDS))}")
+        print(f"root and focus: {named(built.root())}, {named(built.focus())}")
+        built.update(2).node(5, "Button", label="More").send()
+        print("relabelled by calls:", told(built.events()))
+        print("relabelled by lines:", told(feed(fed, 'update root focus=2\nnode 5 Button label="More"\nend\n')))
+        print("refused:", refused(built.update(9).send))
+        update = built.update(2).node(5, "Button", label="To")
+        print("a field of another kind:", refused(lambda: update._says("flag", 5)))
+        print("a size of 33 bits:", refused(lambda: update._set("font_size", 2**32)))
+        print("a field before a node:", refused(lambda: built.update(2)._set("label", "x")))
+        print("a toolkit before a root:", refused(lambda: built.update(2, toolkit="x")))
+        built.update(2).node(5, "Button", label="Fro").node(5, "Button")
+        built.update(2).node(5, "Button", label="To").send()
+        print("label:", built.label(Id(0, 5)))
+        built.set_host_focus(True)
+        print("host has the focus:", told(built.events()))
+
+
+if __name__ == "__main__":
+    main(*sys.argv[1:])

@@ -1,0 +1,172 @@
+//! Sends updates that are built call by call, beside the same ones by lines: `updates SCRIPT` prints updates.told but for the two lines
+//! about the lack of fields, which updates.py prints.
+use accesskit_proved::{
+    Action, AriaCurrent, Color, Error, Event, Field, HasPopup, Id, Live, Orientation, Place, Role, SortDirection, Style, TextAlign, TextDirection, Toggled,
+    Tree, TreeName, Update, VerticalOffset,
+};
+
+const INSIDE: [u8; 16] = [0, 0, 0, 0, 0, 0, 0, 0, 0, 0, 0, 0, 0, 0, 0, 7];
+const FLAGS: [Field; 11] = [
+    Field::Hidden,
+    Field::Clips,
+    Field::Disabled,
+    Field::ReadOnly,
+    Field::Required,
+    Field::Modal,
+    Field::Busy,
+    Field::Multiselectable,
+    Field::Italic,
+    Field::LiveAtomic,
+    Field::TouchTransparent,
+];
+const TEXTS: [(Field, &str); 15] = [
+    (Field::Label, "To: \"all\"\n"),
+    (Field::Value, "v"),
+    (Field::Description, "d"),
+    (Field::Placeholder, "p"),
+    (Field::RoleDescription, "rd"),
+    (Field::Url, "u"),
+    (Field::AuthorId, "a"),
+    (Field::HtmlId, "h"),
+    (Field::ClassName, "c"),
+    (Field::BrailleLabel, "bl"),
+    (Field::BrailleRoleDescription, "br"),
+    (Field::ColumnIndexText, "B"),
+    (Field::RowIndexText, "2"),
+    (Field::FontFamily, "f"),
+    (Field::Language, "fr"),
+];
+const NUMBERS: [(Field, i64); 11] = [
+    (Field::Number, i64::MIN),
+    (Field::Min, -1),
+    (Field::Max, i64::MAX),
+    (Field::Step, 2),
+    (Field::Jump, 3),
+    (Field::ScrollX, 1),
+    (Field::ScrollXMin, -2),
+    (Field::ScrollXMax, 3),
+    (Field::ScrollY, 4),
+    (Field::ScrollYMin, -5),
+    (Field::ScrollYMax, 6),
+];
+const COUNTS: [(Field, usize); 5] =
+    [(Field::Level, usize::MAX), (Field::SetSize, 5), (Field::Position, 4), (Field::FontSize, u32::MAX as usize), (Field::FontWeight, 65535)];
+
+fn color(red: u8, green: u8, blue: u8, alpha: u8) -> Color {
+    Color { red, green, blue, alpha }
+}
+
+/// A node with every field that any node may have.
+fn full(update: &mut Update) -> Result<(), Error> {
+    update.node(2, Role::TEXT_INPUT)?;
+    update.ids(Field::Children, &[3, 6])?.ids(Field::Labelled, &[1])?.ids(Field::Controls, &[4, 5])?.id(Field::Active, 5)?;
+    TEXTS.iter().try_for_each(|(field, text)| update.text(*field, text).map(|_| ()))?;
+    FLAGS.iter().try_for_each(|field| update.flag(*field).map(|_| ()))?;
+    NUMBERS.iter().try_for_each(|(field, number)| update.number(*field, *number).map(|_| ()))?;
+    COUNTS.iter().try_for_each(|(field, count)| update.count(*field, *count).map(|_| ()))?;
+    update.bounds(-1, 2, i32::MAX, i32::MIN)?.shift(3, -4)?;
+    update.selection(Place { run: 3, character: 1 }, Place { run: 6, character: 2 })?;
+    update.bool(Field::Expanded, true)?.bool(Field::Selected, false)?.choose(Toggled::Mixed)?.choose(Live::Assertive)?;
+    update.choose(Orientation::Vertical)?.choose(SortDirection::Other)?.choose(AriaCurrent::Time)?.choose(HasPopup::Dialog)?;
+    update.choose(TextDirection::BottomToTop)?.choose(TextAlign::Justify)?.choose(VerticalOffset::Superscript)?;
+    update.color(Field::BackgroundColor, color(1, 2, 3, 4))?.color(Field::ForegroundColor, color(255, 0, 128, 7))?;
+    update.decoration(Field::Overline, Style::Solid, color(0, 0, 0, 255))?;
+    update.decoration(Field::Strikethrough, Style::Double, color(9, 8, 7, 6))?;
+    update.decoration(Field::Underline, Style::Wavy, color(255, 0, 0, 255))?;
+    update.action(Field::Actions, Action::CLICK)?.action(Field::Actions, Action::DECREMENT)?.action(Field::Actions, Action::other(255))?;
+    update.action(Field::ChildActions, Action::FOCUS)?.action(Field::ChildActions, Action::other(0))?;
+    Ok(())
+}
+
+/// The updates of updates.script by calls; the events of both.
+fn build(tree: &mut Tree) -> Result<Vec<Event>, Error> {
+    tree.update(TreeName::Root, 2, |update| {
+        update.root(1)?.toolkit_name("Kit")?.toolkit_version("1.2")?;
+        update.node(1, Role::WINDOW)?.text(Field::Label, "Mail")?.ids(Field::Children, &[2, 4, 5])?;
+        full(update)?;
+        update.node(3, Role::TEXT_RUN)?.text(Field::Value, "aéb")?.numbers(Field::Chars, &[1, 2, 1])?.numbers(Field::Words, &[0, 65535])?;
+        update.units(Field::CharacterPositions, &[-5, 0, i32::MAX])?.units(Field::CharacterWidths, &[])?.id(Field::Next, 6)?;
+        update.node(6, Role::TEXT_RUN)?.text(Field::Value, "cd")?.numbers(Field::Chars, &[1, 1])?.numbers(Field::Words, &[0])?.id(Field::Prev, 3)?;
+        update.node(4, Role::other(328))?.graft(&INSIDE)?;
+        update.node(5, Role::BUTTON)?.text(Field::Label, "")?;
+        Ok(())
+    })?;
+    let mut events = tree.events().unwrap_or_default();
+    tree.update(TreeName::Uuid(INSIDE), 1, |update| {
+        update.root(1)?.node(1, Role::DOCUMENT)?.text(Field::Label, "Inside")?;
+        Ok(())
+    })?;
+    events.extend(tree.events().unwrap_or_default());
+    Ok(events)
+}
+
+fn feed(tree: &mut Tree, lines: &str) -> Result<Vec<Event>, Error> {
+    tree.feed(lines)?;
+    Ok(tree.events().unwrap_or_default())
+}
+
+fn named(id: Option<Id>) -> String {
+    id.map_or("none".into(), |id| format!("{}:{}", id.tree, id.node))
+}
+
+fn told(events: Option<Vec<Event>>) -> String {
+    let words = events.unwrap_or_default().into_iter().map(|event| match event {
+        Event::Added(id) => format!("added {}", named(Some(id))),
+        Event::Updated(id) => format!("updated {}", named(Some(id))),
+        Event::Removed(id) => format!("removed {}", named(Some(id))),
+        Event::FocusMoved { old, new } => format!("focus {} {}", named(old), named(new)),
+    });
+    words.collect::<Vec<_>>().join(", ")
+}
+
+fn refused(answer: Result<(), Error>) -> String {
+    match answer {
+        Ok(()) => "done".into(),
+        Err(Error::NoSuch) => "no such value".into(),
+        Err(Error::OutOfPlace) => "out of place".into(),
+        Err(Error::Refused { rule, node, .. }) => format!("rule {rule}, node {node}"),
+        Err(other) => format!("{other:?}"),
+    }
+}
+
+/// A node with another label.
+fn relabel(tree: &mut Tree, label: &str) -> Result<(), Error> {
+    tree.update(TreeName::Root, 2, |update| update.node(5, Role::BUTTON)?.text(Field::Label, label).map(|_| ()))
+}
+
+fn refusals(tree: &mut Tree) {
+    println!("refused: {}", refused(tree.update(TreeName::Root, 9, |_| Ok(()))));
+    let other = tree.update(TreeName::Root, 2, |update| update.node(5, Role::BUTTON)?.flag(Field::Label).map(|_| ()));
+    println!("a field of another kind: {}", refused(other));
+    let large = tree.update(TreeName::Root, 2, |update| update.node(5, Role::BUTTON)?.count(Field::FontSize, 1 << 32).map(|_| ()));
+    println!("a size of 33 bits: {}", refused(large));
+    let early = tree.update(TreeName::Root, 2, |update| update.text(Field::Label, "x").map(|_| ()));
+    println!("a field before a node: {}", refused(early));
+    let early = tree.update(TreeName::Root, 2, |update| update.toolkit_name("x").map(|_| ()));
+    println!("a toolkit before a root: {}", refused(early));
+}
+
+fn all(script: &str) -> Result<(), Error> {
+    let (mut built, mut fed) = (Tree::new()?, Tree::new()?);
+    build(&mut built)?;
+    println!("built, then fed: {} events", feed(&mut built, script)?.len());
+    feed(&mut fed, script)?;
+    println!("fed, then built: {} events", build(&mut fed)?.len());
+    println!("root and focus: {}, {}", named(built.root()), named(built.focus()));
+    relabel(&mut built, "More")?;
+    println!("relabelled by calls: {}", told(built.events()));
+    fed.feed("update root focus=2\nnode 5 Button label=\"More\"\nend\n")?;
+    println!("relabelled by lines: {}", told(fed.events()));
+    refusals(&mut built);
+    relabel(&mut built, "To")?;
+    println!("label: {}", built.label(Id { tree: 0, node: 5 })?.unwrap_or_default());
+    built.set_host_focus(true)?;
+    println!("host has the focus: {}", told(built.events()));
+    Ok(())
+}
+
+fn main() -> Result<(), Box<dyn std::error::Error>> {
+    let script = std::env::args().nth(1).ok_or("updates SCRIPT")?;
+    all(&std::fs::read_to_string(script)?).map_err(|error| format!("{error:?}"))?;
+    Ok(())
+}
