@@ -1,15 +1,16 @@
 """Sends updates that are built call by call, beside the same ones by lines: `updates.py LIBRARY SCRIPT` prints updates.told.
 
-Where both say the same, the second of them changes nothing and has no events. A field that a line lacks is noticed by an event, or by a
-refusal, so each field was compared.
+Where both say the same, the second of them changes nothing. It has one event: an update of another tree than the root tree reports the
+root that it names. A field that a line lacks is noticed by another event, or by a refusal, so each field was compared.
 """
 
 import re
 import sys
 from uuid import UUID
-from accesskit_proved import FIELDS, Id, Refused, Tree
+from accesskit_proved import FIELDS, Event, Id, Refused, Tree
 
 INSIDE = UUID(int=7)
+UNCHANGED = [Event("updated", Id(1, 1), Id(1, 1))]
 FLAGS = "hidden clips disabled read_only required modal busy multiselectable italic live_atomic touch_transparent".split()
 TEXTS = dict(label='To: "all"\n', value="v", description="d", placeholder="p", role_description="rd", url="u", author_id="a", html_id="h")
 TEXTS |= dict(class_name="c", braille_label="bl", braille_role_description="br", column_index_text="B", row_index_text="2", font_family="f", language="fr")
@@ -58,7 +59,7 @@ def noticed(library, script):
         with Tree(library) as tree:
             build(tree)
             try:
-                if feed(tree, lines):
+                if feed(tree, lines) != UNCHANGED:
                     names.add(name)
             except Refused:
                 names.add(name)
@@ -87,9 +88,9 @@ def main(library, path):
         script = file.read()
     with Tree(library) as built, Tree(library) as fed:
         build(built)
-        print(f"built, then fed: {len(feed(built, script))} events")
+        print("built, then fed:", told(feed(built, script)))
         feed(fed, script)
-        print(f"fed, then built: {len(build(fed))} events")
+        print("fed, then built:", told(build(fed)))
         print(f"fields: {len(FIELDS)}")
         print(f"fields whose lack is noticed: {len(noticed(library, script) & set(FIELDS))}")
         print(f"root and focus: {named(built.root())}, {named(built.focus())}")

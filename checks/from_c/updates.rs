@@ -1,5 +1,5 @@
 //! Sends updates that are built call by call, beside the same ones by lines: `updates SCRIPT` prints updates.told but for the two lines
-//! about the lack of fields, which updates.py prints.
+//! about the lack of fields, which updates.py prints, and which says why there is an event where both say the same.
 use accesskit_proved::{
     Action, AriaCurrent, Color, Error, Event, Field, HasPopup, Id, Live, Orientation, Place, Role, SortDirection, Style, TextAlign, TextDirection, Toggled,
     Tree, TreeName, Update, VerticalOffset,
@@ -149,9 +149,9 @@ fn refusals(tree: &mut Tree) {
 fn all(script: &str) -> Result<(), Error> {
     let (mut built, mut fed) = (Tree::new()?, Tree::new()?);
     build(&mut built)?;
-    println!("built, then fed: {} events", feed(&mut built, script)?.len());
+    println!("built, then fed: {}", told(Some(feed(&mut built, script)?)));
     feed(&mut fed, script)?;
-    println!("fed, then built: {} events", build(&mut fed)?.len());
+    println!("fed, then built: {}", told(Some(build(&mut fed)?)));
     println!("root and focus: {}, {}", named(built.root()), named(built.focus()));
     relabel(&mut built, "More")?;
     println!("relabelled by calls: {}", told(built.events()));

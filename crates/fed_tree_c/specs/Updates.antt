@@ -5,6 +5,7 @@ use Rattle.schema.specs.TreeIds.{root_tree_id}
 use Rattle.schema.specs.declared.NodeId.{NodeId}
 use Rattle.schema.specs.declared.Role.{Role}
 use Rattle.schema.specs.declared.TreeId.{TreeId}
+use Rattle.schema.specs.declared.values.TextPosition.{TextPosition}
 use Rattle.fed_tree.specs.Begun.{Builds, Sends, SetsHostFocus, WantsMemory, bare_update, with_new_node}
 use Rattle.fed_tree.specs.Fed.{Fed}
 use Rattle.fed_tree.specs.declared.feeding.FeedError.{FeedError}
@@ -17,6 +18,10 @@ use Rattle.fed_tree_c.specs.declared.records.AkStop.{AkStop}
 
 abbrev pub node_numbered : ℕ → NodeId
 node_numbered number = record { 0 = number }
+
+-- so many characters of a run are before it
+abbrev pub place_numbered : ℕ → ℕ → TextPosition
+place_numbered run character = record { node = node_numbered run; character_index = character }
 
 -- the tree that these bytes name: none of them the root tree, and sixteen that with this id
 abbrev pub tree_said : List ℕ → Option TreeId
@@ -39,7 +44,8 @@ build_status (Err build.Memory) = NO_MEMORY
 abbrev pub BuildsHeld : (UpdateData → Result UpdateData BuildError) → Option Fed → ℕ → Option Fed → Type 0
 BuildsHeld change None status new = (status ≡ CLOSED) × (new ≡ None)
 BuildsHeld change (Some old) status new =
-    (fed : Fed) × (result : Result Unit BuildError) × (WantsMemory old result fed ⊎ Builds change old result fed) × (status ≡ build_status result) × (new ≡ Some fed)
+    (fed : Fed) × (result : Result Unit BuildError) × (WantsMemory old result fed ⊎ Builds change old result fed)
+    × (status ≡ build_status result) × (new ≡ Some fed)
 
 -- there is no such thing, and nothing has changed
 abbrev pub LeavesHeld : Option Fed → ℕ → Option Fed → Type 0
@@ -56,10 +62,12 @@ abbrev pub SendsHeld : Option Fed → ℕ → Option Fed → AkStop → AkStop �
 SendsHeld None status new old_stop new_stop = (status ≡ CLOSED) × (new ≡ None) × (new_stop ≡ old_stop)
 SendsHeld (Some old) status new old_stop new_stop =
     (fed : Fed) × (sent : Option (Result Unit FeedError)) × (new ≡ Some fed) × Sends old sent fed
-    × MatchOption sent ((status ≡ OUT_OF_PLACE) × (new_stop ≡ old_stop)) (λ result. (status ≡ status_of result) × (new_stop ≡ stop_of result))
+    × MatchOption sent ((status ≡ OUT_OF_PLACE) × (new_stop ≡ old_stop))
+    (λ result. (status ≡ status_of result) × (new_stop ≡ stop_of result))
 
 -- the host's focus is set
 abbrev pub SetsHostFocusHeld : Option Fed → Bool → ℕ → Option Fed → Type 0
 SetsHostFocusHeld None focused status new = (status ≡ CLOSED) × (new ≡ None)
 SetsHostFocusHeld (Some old) focused status new =
-    (fed : Fed) × (result : Result Unit FeedError) × (new ≡ Some fed) × SetsHostFocus old focused result fed × (status ≡ status_of result)
+    (fed : Fed) × (result : Result Unit FeedError) × (new ≡ Some fed) × SetsHostFocus old focused result fed
+    × (status ≡ status_of result)

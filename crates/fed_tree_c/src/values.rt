@@ -2,7 +2,7 @@
 ghost use Rattle.std.specs.Prelude.{◌≡◌, ◌⊎◌, IfOk, map};
 ghost use Rattle.script_nodes.specs.Given.{AsAction, AsBool, AsChoice, AsColor, AsCount, AsDecoration, AsFlag, AsId, AsIds, AsNumber, AsNumbers, AsRect, AsSelection, AsText, AsTranslation, AsTree, AsUnits, given};
 ghost use Rattle.fed_tree.specs.Begun.{Builds, WantsMemory, with_value};
-ghost use Rattle.fed_tree_c.specs.Updates.{BuildsHeld, node_numbered};
+ghost use Rattle.fed_tree_c.specs.Updates.{BuildsHeld, node_numbered, place_numbered};
 
 use crate::handle::Handle;
 use crate::records::CLOSED;
@@ -39,7 +39,8 @@ fn node_ids(alloc: Global, numbers: &[u64]) -> Result<Vec<NodeId>, AllocError>
 
 /// Sets a list of nodes.
 fn set_ids(alloc: Global, fed: &mut FedTree, field: u8, numbers: &[u64]) -> Result<(), BuildError>
-    ensures { WantsMemory fed.old result fed.new ⊎ Builds (with_value field (AsIds (map node_numbered numbers.now))) fed.old result fed.new }
+    ensures { WantsMemory fed.old result fed.new
+        ⊎ Builds (with_value field (AsIds (map node_numbered numbers.now))) fed.old result fed.new }
 {
     let Ok(ids) = node_ids(alloc, numbers) else {
         return Err(BuildError::Memory);
@@ -166,7 +167,8 @@ pub extern "C" fn ak_update_rect(
     x1: i32,
     y1: i32,
 ) -> u8
-    ensures { BuildsHeld (with_value field (AsRect (record { x0 = x0; y0 = y0; x1 = x1; y1 = y1 }))) tree.old.block.fed result tree.new.block.fed }
+    ensures { BuildsHeld (with_value field (AsRect (record { x0 = x0; y0 = y0; x1 = x1; y1 = y1 })))
+        tree.old.block.fed result tree.new.block.fed }
 {
     let rect = Rect { x0, y0, x1, y1 };
     set_value(alloc, tree, field, FieldValue::Rect(rect))
@@ -198,7 +200,9 @@ pub extern "C" fn ak_update_selection(
     focus: u64,
     focus_character: usize,
 ) -> u8
-    ensures { BuildsHeld (with_value field (AsSelection (record { anchor = record { node = node_numbered anchor; character_index = anchor_character }; focus = record { node = node_numbered focus; character_index = focus_character } }))) tree.old.block.fed result tree.new.block.fed }
+    ensures { BuildsHeld (with_value field (AsSelection
+        (record { anchor = place_numbered anchor anchor_character; focus = place_numbered focus focus_character })))
+        tree.old.block.fed result tree.new.block.fed }
 {
     let selection = TextSelection {
         anchor: TextPosition {
@@ -224,7 +228,8 @@ pub extern "C" fn ak_update_color(
     blue: u8,
     alpha: u8,
 ) -> u8
-    ensures { BuildsHeld (with_value field (AsColor (record { red = red; green = green; blue = blue; alpha = alpha }))) tree.old.block.fed result tree.new.block.fed }
+    ensures { BuildsHeld (with_value field (AsColor (record { red = red; green = green; blue = blue; alpha = alpha })))
+        tree.old.block.fed result tree.new.block.fed }
 {
     let color = Color {
         red,
@@ -247,7 +252,8 @@ pub extern "C" fn ak_update_decoration(
     blue: u8,
     alpha: u8,
 ) -> u8
-    ensures { BuildsHeld (with_value field (AsDecoration style (record { red = red; green = green; blue = blue; alpha = alpha }))) tree.old.block.fed result tree.new.block.fed }
+    ensures { BuildsHeld (with_value field (AsDecoration style (record { red = red; green = green; blue = blue; alpha = alpha })))
+        tree.old.block.fed result tree.new.block.fed }
 {
     let color = Color {
         red,
