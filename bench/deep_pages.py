@@ -1,26 +1,30 @@
-"""How the time for a page grows with the depth of a tree: seconds of the processor for each of two sizes, and their quotient.
+"""How the work for a page grows with the depth of a tree: the instructions for chains of several lengths, and the quotient of each
+two. It needs valgrind.
 
-python3 bench/deep_pages.py PROGRAM [COUNT]    of chains of COUNT nodes, and of twice as many, by this `page`
+python3 bench/deep_pages.py PROGRAM    by this `page`, for example crates/page/out/page
 """
 
-import resource
+import re
 import subprocess
 import sys
 
 from scripts import DEEP
 
-
-def seconds(program, script):
-    """How long the program works on a script."""
-    before = resource.getrusage(resource.RUSAGE_CHILDREN).ru_utime
-    subprocess.run([program], input=script.encode(), stdout=subprocess.DEVNULL, check=True)
-    return resource.getrusage(resource.RUSAGE_CHILDREN).ru_utime - before
+LENGTHS = {"relabelled": (2000, 4000, 8000), "labelled_below": (2000, 4000, 8000), "documents": (500, 1000, 2000)}
 
 
-def main(program, count=2000):
-    for name, make in DEEP.items():
-        one, other = (seconds(program, "".join(make(size))) for size in (int(count), 2 * int(count)))
-        print(f"{name} {count}: {one:.2f} s, {other:.2f} s, {other / one:.2f}", flush=True)
+def instructions(program, script):
+    """How many instructions the program runs for a script."""
+    counted = ["valgrind", "--tool=cachegrind", "--cache-sim=no", "--cachegrind-out-file=/dev/null", program]
+    ran = subprocess.run(counted, input=script.encode(), capture_output=True, check=True)
+    return int(re.search(rb"I +refs: +([\d,]+)", ran.stderr)[1].replace(b",", b""))
+
+
+def main(program):
+    for name, lengths in LENGTHS.items():
+        counts = [instructions(program, "".join(DEEP[name](length))) for length in lengths]
+        growths = [f"{after / before:.2f}" for before, after in zip(counts, counts[1:])]
+        print(f"{name}: {counts} for {lengths}, {' and '.join(growths)} times as many", flush=True)
 
 
 if __name__ == "__main__":
