@@ -1,5 +1,5 @@
 -- One command that is carried out alone, and how that ends.
-use Rattle.std.proofs.Common.{◌≡◌, List, [], ◌∷◌, Option, Some, Result, Ok, Err, refl}
+use Rattle.std.proofs.Common.{◌≡◌, List, [], ◌∷◌, Option, Some, Ok, Err, refl}
 use Rattle.std.specs.Prelude.{IsSome}
 use Rattle.model.specs.Events.{Told}
 use Rattle.model.specs.Events.{Event as ModelEvent}

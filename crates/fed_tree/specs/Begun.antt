@@ -1,6 +1,6 @@
 -- An update that is begun: what a call makes of it, and what is carried out where it is sent.
 use Rattle.std.specs.Bool.{⊤}
-use Rattle.std.specs.Prelude.{◌≡◌, ◌⊎◌, ◌-◌, ℕ, Bool, false, List, [], ◌∷◌, length, slice_get, slice_set, Option, Some, None, MatchResult, option_and_then, Result, Ok, Err, if◌then◌else◌}
+use Rattle.std.specs.Prelude.{◌≡◌, ◌-◌, ℕ, Bool, false, List, [], ◌∷◌, length, slice_get, slice_set, Option, Some, None, MatchResult, option_and_then, Result, Ok, Err, if◌then◌else◌}
 use Rattle.std.specs.Option.{option_map_or}
 use Rattle.std.specs.Str.{is_utf8}
 use Rattle.schema.specs.NodeData.{NodeData, empty_node}

@@ -1,6 +1,5 @@
 -- What an export answers of an update that is begun, from what the tree answers.
 use Rattle.std.proofs.Common.{◌≡◌, ◌⊎◌, ℕ, Bool, Option, Some, None, Result, inr, subst}
-use Rattle.std.specs.Prelude.{MatchOption}
 use Rattle.schema.specs.UpdateData.{UpdateData}
 use Rattle.fed_tree.specs.Begun.{Builds, Sends, SetsHostFocus, WantsMemory}
 use Rattle.fed_tree.specs.Fed.{Fed}

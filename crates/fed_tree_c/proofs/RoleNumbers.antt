@@ -1,5 +1,5 @@
 -- Roles by their numbers.
-use Rattle.std.proofs.Common.{◌≡◌, ◌≢◌, ◌⊎◌, ℕ, ◌+◌, ◌-◌, ◌<◌, ◌≤◌, ◌^◌, List, map, length, get_or, Option, Some, None, option_map, Bor, inl, inr, sym, ap, ◌∙◌, arith, eq-eqb}
+use Rattle.std.proofs.Common.{◌≡◌, ◌⊎◌, ℕ, ◌-◌, ◌<◌, ◌≤◌, ◌^◌, List, map, length, get_or, Some, None, option_map, Bor, inl, inr, sym, ap, ◌∙◌, arith, eq-eqb}
 use Rattle.std.proofs.lemmas.List.FromFn.{get_or-range_with_len, length-range_with_len}
 use Rattle.std.proofs.lemmas.List.{length-map}
 use Rattle.std.proofs.lemmas.Option.{none-some, slice_get-map, slice_get_cases, slice_get_within, get_or_from_slice_get}
@@ -7,7 +7,6 @@ use Rattle.std.specs.List.{range_with_len, slice_get}
 use Rattle.schema.specs.Roles.{role_number, same_role-decides}
 use Rattle.schema.specs.declared.Role.{Role}
 use Rattle.schema.specs.declared.Role.TheVariants.{Other}
-use Rattle.script_words.specs.Reading.{IsRole}
 use Rattle.fed_tree_c.specs.Numbers.{IsRoleNumbered}
 
 -- two roles of one number are one

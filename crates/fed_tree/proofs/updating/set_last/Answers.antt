@@ -1,4 +1,4 @@
-use Rattle.std.proofs.Common.{◌≡◌, Bool, Option, None, inr, refl, subst, rules}
+use Rattle.std.proofs.Common.{◌≡◌, Bool, None, inr, refl, subst, rules}
 use Rattle.std.specs.List.{slice_get}
 use Rattle.schema.specs.UpdateData.{update_data}
 use Rattle.script_nodes.specs.Given.{Becomes, given, with_given}
