@@ -1,5 +1,5 @@
 -- Fields by their numbers.
-use Rattle.std.proofs.Common.{◌≡◌, ℕ, List, map, Option, option_map, Bor, sym, ap, ◌∙◌}
+use Rattle.std.proofs.Common.{◌≡◌, ℕ, List, map, option_map, Bor, sym, ap, ◌∙◌}
 use Rattle.std.proofs.lemmas.Option.{slice_get-map}
 use Rattle.std.specs.List.{slice_get}
 use Rattle.script_nodes.specs.declared.field_kinds.Field.{Field}

@@ -1,9 +1,8 @@
 //! Setting a field of a node to a value that isn't text of a line.
 
-ghost use Rattle.std.specs.Prelude.{◌≡◌, ◌^◌, ◌==◌, nat_lt, IfOk, MatchOption, Some, None, if◌then◌else◌, is_some};
+ghost use Rattle.std.specs.Prelude.{◌^◌, nat_lt, Some, None, if◌then◌else◌};
 ghost use Rattle.std.specs.Str.{is_utf8};
 ghost use Rattle.schema.specs.Actions.{with_action};
-ghost use Rattle.schema.specs.NodeData.{NodeData};
 ghost use Rattle.script_nodes.specs.ActionLists.{action_numbered};
 ghost use Rattle.script_nodes.specs.FieldKinds.{actions_at, with_actions_field, with_text};
 ghost use Rattle.script_nodes.specs.Given.{Becomes, Sets, given, given_action, given_bool, given_color, given_count, given_decoration, given_flag, given_id, given_ids, given_number, given_numbers, given_rect, given_selection, given_text, given_translation, given_tree, given_units, with_given};
