@@ -1,5 +1,5 @@
 -- What an event names of a node's fields doesn't depend on what is typed into a password.
-use Rattle.std.proofs.Common.{◌≡◌, ◌≢◌, ℕ, Bool, true, false, ◌&&◌, ◌||◌, List, Option, Some, None, if◌then◌else◌, refl, sym, ap, ◌∙◌}
+use Rattle.std.proofs.Common.{◌≡◌, ℕ, Bool, true, false, ◌&&◌, List, Option, Some, None, if◌then◌else◌, refl, sym, ap, ◌∙◌}
 use Rattle.std.specs.Option.{option_and_then, option_map_or}
 use Rattle.schema.specs.NodeData.{NodeData}
 use Rattle.model.specs.declared.FullNodeId.{FullNodeId}
@@ -27,7 +27,7 @@ use Rattle.script_nodes.specs.declared.field_kinds.CountField.TheVariants as cou
 use Rattle.script_nodes.specs.declared.field_kinds.ActionsField.TheVariants as actions
 use Rattle.script_nodes.specs.declared.field_kinds.Field.{Field}
 use Rattle.script_nodes.specs.declared.field_kinds.Field.TheVariants as field
-use Rattle.page.specs.Differences.{is_measured, is_text, is_value, other_field, sent_value}
+use Rattle.page.specs.Differences.{is_measured, is_value, other_field, sent_value}
 use Rattle.page.specs.Laws.{node_field}
 
 -- no field but the value and what is measured of characters reads either
