@@ -9,7 +9,8 @@ use Rattle.fed_tree.specs.declared.events.EventKind.TheVariants as kind
 abbrev pub record_of : ModelEvent → Event
 record_of (NodeAdded new) = record { kind = kind.Added; old = None; new = Some new.id }
 record_of (NodeUpdated old new) = record { kind = kind.Updated; old = Some old.id; new = Some new.id }
-record_of (FocusMoved old new) = record { kind = kind.FocusMoved; old = option_map (λ seen. seen.id) old; new = option_map (λ seen. seen.id) new }
+record_of (FocusMoved old new) =
+    record { kind = kind.FocusMoved; old = option_map (λ seen. seen.id) old; new = option_map (λ seen. seen.id) new }
 record_of (NodeRemoved old) = record { kind = kind.Removed; old = Some old.id; new = None }
 
 -- an event more is kept; once one is lost none are kept

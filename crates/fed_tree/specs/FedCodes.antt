@@ -16,7 +16,8 @@ use Rattle.fed_tree.specs.declared.events.Event.{Event}
 
 abbrev pub coded_info : Coded InfoData
 coded_info =
-    code_by (NodeId × (Option (List ℕ) × Option (List ℕ))) (coded× id_row.coded (coded× coded_text coded_text)) (λ t. (t.root, (t.toolkit_name, t.toolkit_version)))
+    code_by (NodeId × (Option (List ℕ) × Option (List ℕ))) (coded× id_row.coded (coded× coded_text coded_text))
+    (λ t. (t.root, (t.toolkit_name, t.toolkit_version)))
     (λ p. record { root = p.0; toolkit_name = p.1.0; toolkit_version = p.1.1 })
     (λ _. refl)
 

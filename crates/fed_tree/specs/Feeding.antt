@@ -37,7 +37,9 @@ Say lines commands = (at : Place) × (end : Place) × BeginWith lines commands a
 
 -- after some commands there is a bad line, with this number
 abbrev pub HasBadLine : List ℕ → ℕ → Type 0
-HasBadLine lines number = (before : List ScriptCommand) × (at : Place) × (bad : Place) × BeginWith lines before at × ReadsTo at (Err BadLine) bad × (number ≡ bad.number)
+HasBadLine lines number =
+    (before : List ScriptCommand) × (at : Place) × (bad : Place) × BeginWith lines before at × ReadsTo at (Err BadLine) bad
+    × (number ≡ bad.number)
 
 abbrev pub ReadsCommands : List ℕ → Result (Vec ScriptCommand) Unread → Type 0
 ReadsCommands lines (Ok commands) = Say lines commands.items
@@ -67,11 +69,14 @@ IsRefusedNext commands done stage why =
 abbrev pub EndsAs : List ScriptCommand → List ScriptCommand → Result Unit FeedError → Stage → Option (List Event) → Type 0
 EndsAs commands done (Ok ended) stage events = (done ≡ commands) × IsSome events
 EndsAs commands done (Err (feed.BadLine number)) stage events = ⊥
-EndsAs commands done (Err (feed.Refused count why)) stage events = (count ≡ length done) × IsSome events × IsRefusedNext commands done stage why
-EndsAs commands done (Err (feed.Memory count)) stage events = (count ≡ length done) × ((others : List ScriptCommand) × (commands ≡ done ++ others))
+EndsAs commands done (Err (feed.Refused count why)) stage events =
+    (count ≡ length done) × IsSome events × IsRefusedNext commands done stage why
+EndsAs commands done (Err (feed.Memory count)) stage events =
+    (count ≡ length done) × ((others : List ScriptCommand) × (commands ≡ done ++ others))
 
 -- of these commands some are carried out, with these events, and then it ended so
-pub record CarriesOutAll (old : Stage) (commands : List ScriptCommand) (result : Result Unit FeedError) (new : Stage) (events : Option (List Event)) : Type 0 where
+pub record CarriesOutAll (old : Stage) (commands : List ScriptCommand) (result : Result Unit FeedError) (new : Stage)
+    (events : Option (List Event)) : Type 0 where
   pub done : List ScriptCommand
   pub told : List ModelEvent
   pub runs : CarryOut old done new told
@@ -90,11 +95,13 @@ without_events fed = record fed { events = Some [] }
 -- the commands that the lines say are carried out, as far as it went; an update that is begun stays so
 abbrev pub CarriesOutLines : Fed → List ℕ → Result Unit FeedError → Fed → Type 0
 CarriesOutLines old lines result new =
-    (commands : List ScriptCommand) × Say lines commands × CarriesOutAll (stage_of old) commands result (stage_of new) new.events × (new.begun ≡ old.begun)
+    (commands : List ScriptCommand) × Say lines commands × CarriesOutAll (stage_of old) commands result (stage_of new) new.events
+    × (new.begun ≡ old.begun)
 
 -- All lines are read first: where one is bad nothing is carried out, and where there is no memory to read them neither.
 abbrev pub Feeds : Fed → List ℕ → Result Unit FeedError → Fed → Type 0
 Feeds old lines (Ok done) new = CarriesOutLines old lines (Ok done) new
 Feeds old lines (Err (feed.BadLine number)) new = HasBadLine lines number × (new ≡ without_events old)
 Feeds old lines (Err (feed.Refused count why)) new = CarriesOutLines old lines (Err (feed.Refused count why)) new
-Feeds old lines (Err (feed.Memory count)) new = ((count ≡ 0) × (new ≡ without_events old)) ⊎ CarriesOutLines old lines (Err (feed.Memory count)) new
+Feeds old lines (Err (feed.Memory count)) new =
+    ((count ≡ 0) × (new ≡ without_events old)) ⊎ CarriesOutLines old lines (Err (feed.Memory count)) new

@@ -49,7 +49,8 @@ impl Stage {
         update: TreeUpdate,
         handler: &mut H,
     ) -> Result<(), UpdateError>
-        ensures { (told : List ModelEvent) × Updates self.old (update_data update) result self.new told × Told H.steps handler.old told handler.new }
+        ensures { (told : List ModelEvent) × Updates self.old (update_data update) result self.new told
+            × Told H.steps handler.old told handler.new }
     {
         match &mut self.tree {
             Some(tree) => tree.update_and_process_changes(update, handler),

@@ -70,7 +70,8 @@ flag_in number id fed = option_and_then (λ flag. read_of fed.world id (λ w nod
 
 abbrev pub answer_in : ℕ → FullNodeId → Fed → Option ℕ
 answer_in number id fed =
-    option_and_then (λ filter. read_of fed.world id (λ w node. Some (answer_number (filter_named filter w id)))) (slice_get all_filters number)
+    option_and_then (λ filter. read_of fed.world id (λ w node. Some (answer_number (filter_named filter w id))))
+    (slice_get all_filters number)
 
 abbrev pub hit_in : ℕ → ℤ → ℤ → FullNodeId → Fed → Option AkId
 hit_in number x y id fed =
@@ -81,12 +82,14 @@ hit_in number x y id fed =
 abbrev pub filtered_parent_in : ℕ → FullNodeId → Fed → Option AkId
 filtered_parent_in number id fed =
     option_map id_of
-    (option_and_then (λ filter. read_of fed.world id (λ w node. filtered_parent (filter_named filter w) w id)) (slice_get all_filters number))
+    (option_and_then (λ filter. read_of fed.world id (λ w node. filtered_parent (filter_named filter w) w id))
+    (slice_get all_filters number))
 
 abbrev pub filtered_children_in : ℕ → FullNodeId → Fed → Option (List AkId)
 filtered_children_in number id fed =
     option_map (map id_of)
-    (option_and_then (λ filter. read_of fed.world id (λ w node. Some (filtered_children (filter_named filter w) w id))) (slice_get all_filters number))
+    (option_and_then (λ filter. read_of fed.world id (λ w node. Some (filtered_children (filter_named filter w) w id)))
+    (slice_get all_filters number))
 
 -- ---- in the text of a node
 
@@ -97,7 +100,8 @@ position_in index is_end id fed = option_map position_of (read_of fed.world id (
 abbrev pub position_after : ℕ → ℕ → Bool → FullNodeId → Fed → Option AkPosition
 position_after number index is_end id fed =
     option_map position_of
-    (option_and_then (λ move. read_of fed.world id (λ w node. in_text (place_after (at_index index is_end) move) w id)) (slice_get all_moves number))
+    (option_and_then (λ move. read_of fed.world id (λ w node. in_text (place_after (at_index index is_end) move) w id))
+    (slice_get all_moves number))
 
 abbrev pub selection_anchor_in : FullNodeId → Fed → Option AkPosition
 selection_anchor_in id fed = option_map position_of (read_of fed.world id (λ w node. place_found w id (selection_anchor w id)))

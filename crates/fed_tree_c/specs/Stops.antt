@@ -69,4 +69,5 @@ stop_of (Err (feed.Memory done)) = record { line = 0; done = done; node = 0; rul
 abbrev pub FeedsHeld : Option Fed → List ℕ → Option Fed → ℕ → AkStop → AkStop → Type 0
 FeedsHeld None lines new status old_stop new_stop = (new ≡ None) × (status ≡ CLOSED) × (new_stop ≡ old_stop)
 FeedsHeld (Some old) lines new status old_stop new_stop =
-    (fed : Fed) × (result : Result Unit FeedError) × (new ≡ Some fed) × Feeds old lines result fed × (status ≡ status_of result) × (new_stop ≡ stop_of result)
+    (fed : Fed) × (result : Result Unit FeedError) × (new ≡ Some fed) × Feeds old lines result fed × (status ≡ status_of result)
+    × (new_stop ≡ stop_of result)

@@ -97,7 +97,8 @@ pub record ReportsFocus (state : ℕ) (s : Report) (old new : Option Seen) (t : 
   pub seen_before : view_seen before ≡ old
   pub right : IfSome node IsRight
   pub right_before : IfSome before IsRight
-  pub told : Appends s.written t.written (item_begun s.tally (codes "f") (codes "focus") ++ old_focus before ++ arrow ++ new_focus state node ++ item_ended)
+  pub told : Appends s.written t.written (item_begun s.tally (codes "f") (codes "focus") ++ old_focus before ++ arrow
+      ++ new_focus state node ++ item_ended)
   pub tally : t.tally ≡ record s.tally { moved = counted s.tally.moved }
   pub marks : t.marks ≡ s.marks
 
@@ -124,7 +125,8 @@ abbrev pub no_events : Bytes → Marked → Report
 no_events before marks = report_of before no_tally marks
 
 -- A command takes a step of the session: its events are told in order, and no others, and this is what came of it.
-pub record ReportsStep (state : ℕ) (old : World) (c : Command) (new : World) (before : Bytes) (outcome : Outcome) (tally : Tally) (marks : Marked) (after : Bytes) : Type 0 where
+pub record ReportsStep (state : ℕ) (old : World) (c : Command) (new : World) (before : Bytes) (outcome : Outcome) (tally : Tally)
+    (marks : Marked) (after : Bytes) : Type 0 where
   pub events : List Event
   pub reply : Reply
   pub step : IsStep old c new events (Ok reply)

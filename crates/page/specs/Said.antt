@@ -50,10 +50,12 @@ hidden_value_word is_hidden = where_it_is is_hidden (codes "value hidden")
 
 -- the texts of a node's row in the outline: its label and its value, or that they are hidden
 abbrev pub label_texts : Bool → World → FullNodeId → List ℕ
-label_texts is_hidden w id = word_text (codes "q") (codes "l") (label_shown is_hidden w id) ++ word_text (codes "i") (codes "w") (hidden_label_word is_hidden)
+label_texts is_hidden w id =
+    word_text (codes "q") (codes "l") (label_shown is_hidden w id) ++ word_text (codes "i") (codes "w") (hidden_label_word is_hidden)
 
 abbrev pub value_texts : Bool → World → FullNodeId → List ℕ
-value_texts is_hidden w id = word_text (codes "q") (codes "v") (value_shown is_hidden w id) ++ word_text (codes "i") (codes "w") (hidden_value_word is_hidden)
+value_texts is_hidden w id =
+    word_text (codes "q") (codes "v") (value_shown is_hidden w id) ++ word_text (codes "i") (codes "w") (hidden_value_word is_hidden)
 
 abbrev pub row_texts : Hidden → World → FullNodeId → List ℕ
 row_texts hidden w id = label_texts hidden.label w id ++ value_texts hidden.value w id

@@ -129,7 +129,8 @@ Shows s (Printed w) result t = (t ≡ s) × (result ≡ Ok tt)
 
 -- the page ends as the script did, and lists its states; or the output has an error
 abbrev pub EndsPage : List Summary → Ending → Result Unit Stop → Bytes → Bytes → Type 0
-EndsPage states ending result before after = Writes (page_end states ending.ended ending.line ending.message.items) ending.ended result before after
+EndsPage states ending result before after =
+    Writes (page_end states ending.ended ending.line ending.message.items) ending.ended result before after
 
 -- a script is run after the head of its page, and its states are shown in turn
 pub record PagesFrom (input head after told_before told_after : Bytes) (status : ℕ) : Type 0 where
@@ -147,4 +148,5 @@ pub record PagesFrom (input head after told_before told_after : Bytes) (status :
 
 -- a script is run, and shown as a page; or the output has an error before its first state
 abbrev pub ShowsScript : Bytes → Bytes → Bytes → Bytes → Bytes → ℕ → Type 0
-ShowsScript input before after told_before told_after status = (status ≡ 3) ⊎ ((head : Bytes) × PagesFrom input head after told_before told_after status)
+ShowsScript input before after told_before told_after status =
+    (status ≡ 3) ⊎ ((head : Bytes) × PagesFrom input head after told_before told_after status)

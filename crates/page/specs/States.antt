@@ -56,7 +56,8 @@ cause_text HostOff = codes "The host window loses the focus"
 -- links from a state to the one after it, if there is one, and to the one before it
 abbrev pub next_link : ℕ → List ℕ
 next_link number =
-    if nat_lt 1 number then codes "<a class=\"next\" rel=\"next\" href=\"#state-" ++ decimal number ++ codes "\">Next</a></section>\n" else []
+    if nat_lt 1 number then codes "<a class=\"next\" rel=\"next\" href=\"#state-" ++ decimal number ++ codes "\">Next</a></section>\n"
+    else []
 
 abbrev pub previous_link : ℕ → List ℕ
 previous_link before =
@@ -90,7 +91,8 @@ outcome_of _ tally = outcome_of_events tally
 
 -- that nothing has changed since the state with this number
 abbrev pub same_text : ℕ → List ℕ
-same_text before = codes "<p class=\"note\">Nothing has changed since <a href=\"#state-" ++ decimal before ++ codes "\">the state before</a>.</p>\n"
+same_text before =
+    codes "<p class=\"note\">Nothing has changed since <a href=\"#state-" ++ decimal before ++ codes "\">the state before</a>.</p>\n"
 
 abbrev pub outcome_text : ℕ → Outcome → List ℕ
 outcome_text number Begun = codes "<p class=\"note\">The tree begins.</p>\n"
@@ -137,7 +139,8 @@ count_text class what count = if count == 0 then [] else some_text class what co
 
 abbrev pub tally_text : Tally → List ℕ
 tally_text tally =
-    count_text (codes "a") (codes "added") tally.added ++ count_text (codes "u") (codes "updated") tally.updated ++ count_text (codes "r") (codes "removed") tally.removed
+    count_text (codes "a") (codes "added") tally.added ++ count_text (codes "u") (codes "updated") tally.updated
+    ++ count_text (codes "r") (codes "removed") tally.removed
     ++ count_text (codes "f") (codes "focus") tally.moved
 
 -- what came of a state, in short

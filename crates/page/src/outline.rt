@@ -192,7 +192,8 @@ pub(crate) fn write_row_text<O: Write>(
 
 /// Writes a node's label and value, if it has them, and in place of each that is hidden, that it is.
 fn write_texts<O: Write>(alloc: Global, place: &Place, out: &mut O) -> Result<(), Fault>
-    ensures { OnOk result (Appends (O.contents out.old) (O.contents out.new) (row_texts place.now.hidden (world_at place.now.node) (id_at place.now.node))) }
+    ensures { OnOk result (Appends (O.contents out.old) (O.contents out.new)
+        (row_texts place.now.hidden (world_at place.now.node) (id_at place.now.node))) }
 {
     write_label(alloc, place, out)?;
     write_value(alloc, place, out)
@@ -200,7 +201,8 @@ fn write_texts<O: Write>(alloc: Global, place: &Place, out: &mut O) -> Result<()
 
 /// Writes a node's label, if it has one, and that it is hidden, if it is.
 fn write_label<O: Write>(alloc: Global, place: &Place, out: &mut O) -> Result<(), Fault>
-    ensures { OnOk result (Appends (O.contents out.old) (O.contents out.new) (label_texts place.now.hidden.label (world_at place.now.node) (id_at place.now.node))) }
+    ensures { OnOk result (Appends (O.contents out.old) (O.contents out.new)
+        (label_texts place.now.hidden.label (world_at place.now.node) (id_at place.now.node))) }
 {
     let label = shown_label(alloc, &place.node, place.hidden.label)?;
     write_word("q", "l", label.as_deref(), out)?;
@@ -210,7 +212,8 @@ fn write_label<O: Write>(alloc: Global, place: &Place, out: &mut O) -> Result<()
 
 /// Writes a node's value, if it has one, and that it is hidden, if it is.
 fn write_value<O: Write>(alloc: Global, place: &Place, out: &mut O) -> Result<(), Fault>
-    ensures { OnOk result (Appends (O.contents out.old) (O.contents out.new) (value_texts place.now.hidden.value (world_at place.now.node) (id_at place.now.node))) }
+    ensures { OnOk result (Appends (O.contents out.old) (O.contents out.new)
+        (value_texts place.now.hidden.value (world_at place.now.node) (id_at place.now.node))) }
 {
     let value = shown_value(alloc, &place.node, place.hidden.value)?;
     write_word("q", "v", value.as_deref(), out)?;

@@ -63,7 +63,8 @@ impl Program for Page {
     ) -> u8
         ensures bound { result ≤ 4 }
         ensures not_one { result ≢ 1 }
-        ensures shows { ShowsScript (R.remaining input.old) (O.contents output.old) (O.contents output.new) (E.contents errors.old) (E.contents errors.new) result }
+        ensures shows { ShowsScript (R.remaining input.old) (O.contents output.old) (O.contents output.new)
+            (E.contents errors.old) (E.contents errors.new) result }
     {
         match write_head(output) {
             Ok(()) => show_script(alloc, input, output, errors),
@@ -81,7 +82,8 @@ fn show_script<R: BufRead, O: Write, E: Write>(
 ) -> u8
     ensures bound { result ≤ 4 }
     ensures not_one { result ≢ 1 }
-    ensures shows { PagesFrom (R.remaining input.old) (O.contents output.old) (O.contents output.new) (E.contents errors.old) (E.contents errors.new) result }
+    ensures shows { PagesFrom (R.remaining input.old) (O.contents output.old) (O.contents output.new)
+        (E.contents errors.old) (E.contents errors.new) result }
 {
     let mut pager = Pager {
         alloc,

@@ -169,7 +169,8 @@ fn write_focus<O: Write>(
     new: Option<View>,
     out: &mut O,
 ) -> Result<(), Fault>
-    ensures { let text = item_begun tally (codes "f") (codes "focus") ++ old_focus old.entry ++ arrow ++ new_focus state new.entry ++ item_ended in
+    ensures { let text = item_begun tally (codes "f") (codes "focus") ++ old_focus old.entry ++ arrow
+        ++ new_focus state new.entry ++ item_ended in
         OnOk result (Appends (O.contents out.old) (O.contents out.new) text) }
 {
     begin_item(tally, "f", "focus", out)?;

@@ -238,7 +238,8 @@ pub(crate) fn write_end<O: Write>(
     ending: &Ending,
     out: &mut O,
 ) -> io::Result<()>
-    ensures { OnOk result (Appends (O.contents out.old) (O.contents out.new) (page_end states.now ending.now.ended ending.now.line ending.now.message.items)) }
+    ensures { OnOk result (Appends (O.contents out.old) (O.contents out.new)
+        (page_end states.now ending.now.ended ending.now.line ending.now.message.items)) }
 {
     end_section(states, out)?;
     write_stop(ending.ended, ending.line, &ending.message, out)?;

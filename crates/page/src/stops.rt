@@ -94,7 +94,8 @@ pub(crate) fn end_told<O: Write, E: Write>(
 ) -> u8
     ensures bound { result ≤ 4 }
     ensures not_one { result ≢ 1 }
-    ensures told { Tells (E.contents errors.old) (E.contents errors.new) (told_text ended ending.now.line ending.now.message.items) (status_at_end ended) result }
+    ensures told { Tells (E.contents errors.old) (E.contents errors.new)
+        (told_text ended ending.now.line ending.now.message.items) (status_at_end ended) result }
     ensures printed { Keeps (O.contents output.old) (O.contents output.new) }
 {
     match ended {

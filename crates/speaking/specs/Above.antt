@@ -25,7 +25,8 @@ region_of w id = find (says (λ d. is_some d.live) w) (upward w id)
 abbrev pub region_or : FullNodeId → NodeData → Option FullNodeId → Option FullNodeId
 region_or id d otherwise = if is_some d.live then Some id else otherwise
 
--- how its changes are announced; whether it is hidden, in a busy part, in a password, and below a node that is announced in place of its runs; and its region
+-- how its changes are announced; whether it is hidden, in a busy part, in a password, and below a node that is announced in place
+-- of its runs; and its region
 abbrev pub above_of : World → FullNodeId → Above
 above_of w id = record {
   live = live w id;

@@ -31,7 +31,9 @@ WasOutside (Some old) dialog = (before : Option FullNodeId) × IsActiveDialog ol
 -- the dialog that is entered is the active one, unless that has the focus itself or the old focus was in it too
 abbrev pub Enters : Option Seen → Seen → Option FullNodeId → Type 0
 Enters old new (Some dialog) = IsActiveDialog new.world (Some dialog) × (dialog ≢ new.id) × WasOutside old dialog
-Enters old new None = IsActiveDialog new.world None ⊎ ((dialog : FullNodeId) × IsActiveDialog new.world (Some dialog) × ((dialog ≡ new.id) ⊎ WasInside old dialog))
+Enters old new None =
+    IsActiveDialog new.world None ⊎ ((dialog : FullNodeId) × IsActiveDialog new.world (Some dialog)
+    × ((dialog ≡ new.id) ⊎ WasInside old dialog))
 
 pub record ShowsDialog (w : World) (id : FullNodeId) (d : NodeData) (g : Dialog) : Type 0 where
   pub role : g.role.now ≡ role_word d.role

@@ -78,12 +78,14 @@ pub record SaysMoves (w : World) (id : FullNodeId) (before now : FocusedText) (v
 -- a text that was focused before: what was removed and typed, or else where the caret and the selection moved
 pub record SaysEdit (w : World) (id : FullNodeId) (before now : FocusedText) (v u : Speech) : Type 0 where
   pub typed : string_bytes before.text ≢ string_bytes now.text →
-      (c : Change) × IsDifference (string_bytes before.text) (string_bytes now.text) c.removed.now c.typed.now × (u ≡ said_later v (saying (Changed c)))
+      (c : Change) × IsDifference (string_bytes before.text) (string_bytes now.text) c.removed.now c.typed.now
+      × (u ≡ said_later v (saying (Changed c)))
   pub same : string_bytes before.text ≡ string_bytes now.text → SaysMoves w id before now v u
 
 -- a newly focused text: the line of the caret, if it can have several
 abbrev pub SaysArrival : World → FullNodeId → FocusedText → Speech → Speech → Type 0
-SaysArrival w id now v u = (says (λ d. is_multiline d.role) w id ≡ true → SaysLine w id now.line v u) × (says (λ d. is_multiline d.role) w id ≡ false → u ≡ v)
+SaysArrival w id now v u =
+    (says (λ d. is_multiline d.role) w id ≡ true → SaysLine w id now.line v u) × (says (λ d. is_multiline d.role) w id ≡ false → u ≡ v)
 
 -- what was last said of a text, if it is the node's, and was a password then if it is one now
 abbrev pub held_of : FullNodeId → Bool → Option FocusedText → Option FocusedText

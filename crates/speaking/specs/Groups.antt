@@ -39,8 +39,10 @@ was_in_group (Some old) group = is_within old.world group old.id
 
 -- the role and the name of a group, if it has one
 abbrev pub group_named : World → FullNodeId → Speech → Speech
-group_named w group v = said_if (group_line (option_map_or (λ d. role_word d.role) (data_of w group) [])) (news None (shown_label w group)) v
+group_named w group v =
+    said_if (group_line (option_map_or (λ d. role_word d.role) (data_of w group) [])) (news None (shown_label w group)) v
 
 -- the nearest group is said by its name, if the old focus wasn't in it
 abbrev pub group_said : Option Seen → Seen → Speech → Speech
-group_said old new v = option_map_or (λ group. if was_in_group old group then v else group_named new.world group v) (group_around new.world new.id) v
+group_said old new v =
+    option_map_or (λ group. if was_in_group old group then v else group_named new.world group v) (group_around new.world new.id) v

@@ -86,7 +86,8 @@ was_header header old h = option_map_or (is_same h) (option_and_then (λ o. head
 
 -- a header is said by its name, unless it was the old focus's too
 abbrev pub header_said : (World → FullNodeId → Option FullNodeId) → Option Seen → Seen → Speech → Speech
-header_said header old new v = option_map_or (λ h. if was_header header old h then v else group_named new.world h v) (header new.world new.id) v
+header_said header old new v =
+    option_map_or (λ h. if was_header header old h then v else group_named new.world h v) (header new.world new.id) v
 
 -- that of the row, and then that of the column
 abbrev pub headers_said : Option Seen → Seen → Speech → Speech

@@ -26,7 +26,8 @@ fn say_updated(
     new: NodeRef,
 ) -> Result<(), AllocError>
     ensures says { let o = old.entry in let n = new.entry in
-        IsReady (world_at o) (world_at n) looks.old → OnOk result (SaysUpdated (seen_node o) (seen_node n) voice.old voice.new noted.old noted.new) }
+        IsReady (world_at o) (world_at n) looks.old
+        → OnOk result (SaysUpdated (seen_node o) (seen_node n) voice.old voice.new noted.old noted.new) }
     ensures known { let o = world_at old.entry in let n = world_at new.entry in
         IsReady o n looks.old → OnOk result (IsReady o n looks.new) }
 {

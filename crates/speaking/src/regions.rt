@@ -122,7 +122,8 @@ fn add_node(
 ) -> Result<(), AllocError>
     requires { world_at region ≡ world_at node }
     ensures text { let w = world_at node.entry in
-        AreRight w known.old → OnOk result (string_bytes text.new ≡ with_node w noted.now (id_at region.entry) (string_bytes text.old) (id_at node.entry)) }
+        AreRight w known.old → OnOk result (string_bytes text.new
+        ≡ with_node w noted.now (id_at region.entry) (string_bytes text.old) (id_at node.entry)) }
     ensures known { let w = world_at node.entry in AreRight w known.old → OnOk result (AreRight w known.new) }
 {
     let above = look_up(alloc, known, node)?;
