@@ -177,9 +177,11 @@ uint8_t ak_node_label(ak_tree *tree, uint64_t node, uint32_t tree_index, uint8_t
 uint8_t ak_node_value(ak_tree *tree, uint64_t node, uint32_t tree_index, uint8_t *buffer, size_t room, size_t *length);
 uint8_t ak_node_text(ak_tree *tree, uint64_t node, uint32_t tree_index, uint8_t *buffer, size_t room, size_t *length);
 
-/* Where a node lies, what it is, and what a filter shows. AK_NOTHING: the tree hasn't the node; it has no box; no flag or filter has this
- * number; nothing is hit; no ancestor is included. A point is in the node's coordinates and in units of 1/64 pixel; what is hit is the node
- * or one below it. The filtered children are the nodes that the filter shows in place of the children. */
+/* Where a node lies, what it is, and what a filter shows. A role's number is one of AK_ROLE. AK_NOTHING: the tree hasn't the node; it
+ * has no box; no flag or filter has this number; nothing is hit; no ancestor is included. A point is in the node's coordinates and in
+ * units of 1/64 pixel; what is hit is the node or one below it. The filtered children are the nodes that the filter shows in place of
+ * the children. */
+uint8_t ak_node_role_number(ak_tree *tree, uint64_t node, uint32_t tree_index, uint32_t *number);
 uint8_t ak_node_bounds(ak_tree *tree, uint64_t node, uint32_t tree_index, ak_bounds *bounds);
 uint8_t ak_node_flag(ak_tree *tree, uint64_t node, uint32_t tree_index, uint8_t flag, bool *is_set);
 uint8_t ak_node_filter(ak_tree *tree, uint64_t node, uint32_t tree_index, uint8_t filter, uint8_t *answer);

@@ -126,7 +126,7 @@ class Tree:
         self._calls.ak_tree_close.restype = None
         for name in ("parent", "children", "role", "label", "value", "text"):
             getattr(self._calls, f"ak_node_{name}").restype = ctypes.c_uint8
-        for name in ("bounds", "flag", "filter", "hit", "filtered_parent", "filtered_children"):
+        for name in ("role_number", "bounds", "flag", "filter", "hit", "filtered_parent", "filtered_children"):
             getattr(self._calls, f"ak_node_{name}").restype = ctypes.c_uint8
         for name in ("position", "move", "selection_anchor", "selection_focus", "between"):
             getattr(self._calls, f"ak_text_{name}").restype = ctypes.c_uint8
@@ -228,6 +228,11 @@ class Tree:
 
     def role(self, id):
         return self._text(self._calls.ak_node_role, id)
+
+    def role_number(self, id):
+        """The number of the node's role: its place in ROLES, or how many those are and the number of another role."""
+        found = self._one(self._calls.ak_node_role_number, ctypes.c_uint32(), *_node(id))
+        return None if found is None else found.value
 
     def label(self, id):
         return self._text(self._calls.ak_node_label, id)

@@ -1,5 +1,5 @@
 //! Reads a tree by the calls of the crate for Rust that the adapter doesn't use: `reads SCRIPT` prints reads.told.
-use accesskit_proved::{Error, Filter, FilterResult, Flag, Id, Move, Position, Tree};
+use accesskit_proved::{Error, Filter, FilterResult, Flag, Id, Move, Position, Role, Tree};
 
 fn node(node: u64) -> Id {
     Id { tree: 0, node }
@@ -34,6 +34,10 @@ fn answer(answer: Option<FilterResult>) -> &'static str {
 }
 
 fn shown(tree: &mut Tree) -> Result<(), Error> {
+    let role = |is: bool| if is { "as named" } else { "another" };
+    println!("role 2: {}", role(tree.numbered_role(node(2)) == Some(Role::BUTTON)));
+    println!("role 8: {}", role(tree.numbered_role(node(8)) == Some(Role::CHECK_BOX)));
+    println!("role 99: {}", if tree.numbered_role(node(99)).is_none() { "none" } else { "some" });
     for it in [2, 3, 6] {
         let bounds = tree.bounds(node(it)).map_or("none".into(), |it| format!("{} {} {} {}", it.x0, it.y0, it.x1, it.y1));
         println!("bounds {it}: {bounds}");

@@ -162,9 +162,11 @@ static void shown(void) {
     ak_id id = {7, 7}, ids[4];
     bool is_set = true;
     uint8_t answer = 7;
+    uint32_t number = 7;
     size_t count = 7;
     CHECK(ak_node_bounds(&tree, 2, 0, &box) == AK_CLOSED && ak_node_flag(&tree, 7, 0, AK_DISABLED, &is_set) == AK_CLOSED);
     CHECK(ak_node_filter(&tree, 2, 0, AK_COMMON, &answer) == AK_CLOSED && ak_node_hit(&tree, 1, 0, 20, 20, AK_COMMON, &id) == AK_CLOSED);
+    CHECK(ak_node_role_number(&tree, 2, 0, &number) == AK_CLOSED);
     CHECK(ak_node_filtered_parent(&tree, 8, 0, AK_COMMON, &id) == AK_CLOSED && ak_node_filtered_children(&tree, 1, 0, AK_COMMON, ids, 4, &count) == AK_CLOSED);
     feed_reads(&tree);
     CHECK(ak_node_bounds(&tree, 6, 0, &box) == AK_NOTHING && ak_node_bounds(&tree, 99, 0, &box) == AK_NOTHING);
@@ -172,7 +174,10 @@ static void shown(void) {
     CHECK(ak_node_flag(&tree, 2, 0, 255, &is_set) == AK_NOTHING && ak_node_filter(&tree, 2, 0, AK_COMMON_WITH_ROOT + 1, &answer) == AK_NOTHING);
     CHECK(ak_node_hit(&tree, 1, 0, 20, 20, 255, &id) == AK_NOTHING && ak_node_hit(&tree, 1, 0, INT64_MIN, INT64_MAX, AK_ALL, &id) == AK_NOTHING);
     CHECK(ak_node_filtered_parent(&tree, 1, 0, AK_ALL, &id) == AK_NOTHING && ak_node_filtered_children(&tree, 1, 0, 9, ids, 4, &count) == AK_NOTHING);
-    CHECK(box.x0 == 7 && box.y1 == 7 && is_set && answer == 7 && count == 7 && id.node == 7 && id.tree == 7);
+    CHECK(ak_node_role_number(&tree, 99, 0, &number) == AK_NOTHING && ak_node_role_number(&tree, 2, 1, &number) == AK_NOTHING);
+    CHECK(box.x0 == 7 && box.y1 == 7 && is_set && answer == 7 && count == 7 && id.node == 7 && id.tree == 7 && number == 7);
+    CHECK(ak_node_role_number(&tree, 2, 0, &number) == AK_DONE && number == AK_ROLE_BUTTON);
+    CHECK(ak_node_role_number(&tree, 8, 0, &number) == AK_DONE && number == AK_ROLE_CHECK_BOX);
     CHECK(ak_node_bounds(&tree, 3, 0, &box) == AK_DONE && box.x0 == 300 && box.y0 == 200 && box.x1 == 500 && box.y1 == 400);
     CHECK(has_flag(&tree, 7, AK_HIDDEN) && !has_flag(&tree, 8, AK_HIDDEN) && has_flag(&tree, 8, AK_DISABLED) && !has_flag(&tree, 2, AK_DISABLED));
     CHECK(has_flag(&tree, 2, AK_FOCUSABLE) && !has_flag(&tree, 8, AK_FOCUSABLE) && has_flag(&tree, 2, AK_INVOCABLE) && !has_flag(&tree, 2, AK_GRAFT));

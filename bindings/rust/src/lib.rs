@@ -95,6 +95,7 @@ mod raw {
         pub fn ak_node_label(tree: &mut Tree, node: u64, tree_index: u32, buffer: *mut u8, room: usize, length: &mut usize) -> u8;
         pub fn ak_node_value(tree: &mut Tree, node: u64, tree_index: u32, buffer: *mut u8, room: usize, length: &mut usize) -> u8;
         pub fn ak_node_text(tree: &mut Tree, node: u64, tree_index: u32, buffer: *mut u8, room: usize, length: &mut usize) -> u8;
+        pub fn ak_node_role_number(tree: &mut Tree, node: u64, tree_index: u32, number: &mut u32) -> u8;
         pub fn ak_node_bounds(tree: &mut Tree, node: u64, tree_index: u32, bounds: &mut Bounds) -> u8;
         pub fn ak_node_flag(tree: &mut Tree, node: u64, tree_index: u32, flag: u8, is_set: &mut bool) -> u8;
         pub fn ak_node_filter(tree: &mut Tree, node: u64, tree_index: u32, filter: u8, answer: &mut u8) -> u8;
@@ -365,6 +366,11 @@ impl Tree {
         self.text_in(|tree, buffer, length| unsafe {
             raw::ak_text_between(tree, of.node, of.tree, from, to, buffer.as_mut_ptr(), buffer.len(), length)
         })
+    }
+
+    /// The node's role by its number, to compare with those of [`Role`].
+    pub fn numbered_role(&mut self, of: Id) -> Option<Role> {
+        self.one(|tree, number| unsafe { raw::ak_node_role_number(tree, of.node, of.tree, number) }).map(Role::numbered)
     }
 
     /// The name of the node's role.

@@ -175,6 +175,10 @@ impl Role {
     pub const MENU_BAR: Role = Role(70);
     pub const TREE: Role = Role(71);
 
+    pub(crate) fn numbered(number: u32) -> Role {
+        Role(number)
+    }
+
     /// A role without a name, by its number: that of a heading is 328.
     pub const fn other(number: u16) -> Role {
         Role(72 + number as u32)

@@ -1,6 +1,7 @@
 -- What is asked of a tree.
 use Rattle.std.specs.Prelude.{◌≡◌, ℕ, ℤ, Bool, List, length, slice_get, Option, Some, None, MatchOption, map, option_map, option_and_then}
 use Rattle.schema.specs.RoleNames.{role_text}
+use Rattle.schema.specs.Roles.{role_number}
 use Rattle.model.specs.World.{children, root_of}
 use Rattle.model.specs.Forest.{place_of}
 use Rattle.model.specs.Focus.{IsFocus}
@@ -58,6 +59,9 @@ abbrev pub event_count : Fed → Option ℕ
 event_count fed = option_map length fed.events
 
 -- ---- where a node lies, and what it is
+
+abbrev pub role_number_in : FullNodeId → Fed → Option ℕ
+role_number_in id fed = read_of fed.world id (λ w node. Some (role_number node.role))
 
 abbrev pub bounds_in : FullNodeId → Fed → Option AkBounds
 bounds_in id fed = option_map bounds_of (read_of fed.world id (λ w node. bounding_box w id))

@@ -6,7 +6,7 @@ ghost use Rattle.model.specs.Frontier.{filtered_children};
 ghost use Rattle.fed_tree.specs.Reads.{read_of};
 ghost use Rattle.fed_tree_c.specs.Answers.{Answers, AnswersList};
 ghost use Rattle.fed_tree_c.specs.Numbers.{all_filters};
-ghost use Rattle.fed_tree_c.specs.Questions.{answer_in, bounds_in, filtered_children_in, filtered_parent_in, flag_in, hit_in};
+ghost use Rattle.fed_tree_c.specs.Questions.{answer_in, bounds_in, filtered_children_in, filtered_parent_in, flag_in, hit_in, role_number_in};
 ghost use Rattle.fed_tree_c.specs.Records.{bounds_of, id_of, node_id};
 
 use crate::buffers::give_ids;
@@ -47,6 +47,14 @@ fn bounds_in(fed: &FedTree, id: FullNodeId) -> Option<AkBounds>
 {
     let bounds = fed.bounding_box(id)?;
     Some(bounds_of(bounds))
+}
+
+/// The number of the node's role.
+fn role_number_in(fed: &FedTree, id: FullNodeId) -> Option<u32>
+    ensures { result ≡ role_number_in id fed.now }
+{
+    let role = fed.role(id)?;
+    Some(role.number())
 }
 
 /// The answer to the flag with this number.
@@ -98,6 +106,27 @@ fn filtered_children_in(
         Some(filter) => fed.filtered_children(id, filter),
         None => Ok(None),
     }
+}
+
+/// The number of the node's role.
+#[unsafe(no_mangle)]
+pub extern "C" fn ak_node_role_number(
+    alloc: Global,
+    tree: &mut Handle,
+    node: u64,
+    tree_index: u32,
+    number: &mut u32,
+) -> u8
+    ensures kept { tree.new.block.fed ≡ tree.old.block.fed }
+    ensures answer { Answers tree.old.block.fed (role_number_in (node_id node tree_index)) result number.old number.new }
+{
+    let taken = tree.take(alloc);
+    let status = match &taken {
+        Some(fed) => give(role_number_in(fed, node_id(node, tree_index)), number),
+        None => CLOSED,
+    };
+    tree.put(alloc, taken);
+    status
 }
 
 /// The node's rectangle after all translations, in units of 1/64 pixel.

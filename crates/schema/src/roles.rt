@@ -123,8 +123,8 @@ impl fmt::Display for Role {
 }
 
 impl Role {
-    /// The role's number in the list of roles; that of `Other(n)` is 72 + n.
-    fn number(self) -> u32
+    /// The role's number, counted from 0: its place among [`named_roles`]; that of `Other(n)` is 72 + n.
+    pub fn number(self) -> u32
         ensures { result ≡ role_number self }
     {
         match self {
