@@ -97,7 +97,7 @@ def said_of_relabelled(ids):
 
 
 def said_of_regions(ids):
-    """That, and a line for each node, since each is a live region of its own."""
+    """That, and a line for each node, since each is a live region."""
     yield from said_of_sent(ids)
     yield from (f'live (polite): "new {place}"\n' for place in range(len(ids)))
 
