@@ -26,9 +26,6 @@ some_is_none : {A : Type 0} (o : Option A) → IsSome o → o ≡ None → ⊥
 some_is_none None h e = cc
 some_is_none (Some x) h e = cc
 
-pub none_there : {A : Type 0} (o : Option A) → IsSome o → None ≡ o → ⊥
-none_there o h e = some_is_none o h (sym e)
-
 root_same : (t : Option PresentTree) → option_map (λ x. x.root) t ≡ option_map (λ x. x.root) (option_map tree_of t)
 root_same None = refl
 root_same (Some t) = refl

@@ -1,18 +1,17 @@
 -- What is read of a world with an update's changes over it.
-use Rattle.std.proofs.Common.{◌≡◌, ℕ, map, Option, Some, None, false, refl, sym, ap, subst, ◌∙◌}
+use Rattle.std.proofs.Common.{◌≡◌, ℕ, map, Option, Some, None, refl, sym, ap, subst, ◌∙◌}
 use mathlib.Core.Logic.{∥∥₁_elim, ∥∥₁_map}
-use Rattle.std.specs.Prelude.{IsSome, IfSome, is_some, option_and_then}
+use Rattle.std.specs.Prelude.{IsSome, IfSome, option_and_then}
 use Rattle.std.specs.Option.{option_map}
 use Rattle.std.specs.Coded.{Coded-set, coded_option, coded×, coded_ℕ, ×_prop, Π_prop, →_prop}
 use Rattle.std.specs.FinMap.{get}
 use Rattle.std.specs.List.Sorted.{IsStrictlySortedBy, IsStrictlySortedBy-prop}
-use Rattle.schema.specs.NodeData.{NodeData}
 use Rattle.schema.specs.declared.NodeId.{NodeId}
 use Rattle.schema.specs.declared.TreeId.{TreeId}
 use Rattle.model.specs.declared.FullNodeId.{FullNodeId}
 use Rattle.model.specs.FullIds.{full_cmp, coded_full}
 use Rattle.model.proofs.Worlds.Names.{index_of-known}
-use Rattle.model.specs.World.{ROOT_NAME, World, Tree, Place, IsNode, data_of, child_at, index_of, root_of, root_named, in_tree}
+use Rattle.model.specs.World.{ROOT_NAME, World, Tree, Place, data_of, child_at, index_of, root_of, root_named, in_tree}
 use Rattle.model.specs.Focus.{IsEffectiveFocus}
 use Rattle.model.specs.FocusFound.{effective_focus}
 use Rattle.model.specs.State.{IsState}
@@ -20,24 +19,15 @@ use Rattle.model.specs.Update.{UpdateData}
 use Rattle.model.proofs.Update.UpdateLeavesState.{update_leaves_state}
 use Rattle.model.proofs.Focus.FocusIsFound.{focus_is_found}
 use Rattle.model.proofs.State.StatesKept.{state_kept}
-use Rattle.tree_changes.specs.declared.look_ups.NodeRecord.{NodeRecord}
 use Rattle.tree_changes.specs.declared.look_ups.TreeRecord.{TreeRecord}
 use Rattle.tree_changes.specs.declared.decision.NodeChange.{NodeChange}
 use Rattle.tree_changes.specs.declared.decision.Decision.{Decision}
 use Rattle.tree_changes.specs.Changes.{change_at, place_in, overlaid_world, tree_after}
-use Rattle.tree_changes.specs.LookUps.{IsPlaceOf, IsNodeRecord, IsTreeRecord, tree_named}
+use Rattle.tree_changes.specs.LookUps.{IsPlaceOf, IsTreeRecord, tree_named}
 use Rattle.tree_changes.specs.Decisions.{IsDecision}
+use Rattle.tree_store.specs.declared.records.Kept.{Kept}
 use Rattle.tree_store.specs.Overlays.{root_recorded}
 use Rattle.tree_changes.proofs.Overlays.{effect, get-put_all}
-
--- the data of a record that is found
-pub data_found : (w : World) (id : FullNodeId) (found : Option NodeRecord) → is_some found ≡ is_some (data_of w id) → IfSome found (λ r. IsNodeRecord w id r) → option_map (λ r. r.node.now) found ≡ data_of w id
-data_found w id None there h = none_by (data_of w id) there
-  where
-    none_by : (o : Option NodeData) → false ≡ is_some o → None ≡ o
-    none_by None e = refl
-    none_by (Some d) e = cc
-data_found w id (Some r) there h = sym h.node
 
 -- that a node stands at a place is an equation
 pub place_is_prop : (w : World) (id : FullNodeId) (place : Option Place) → IsProp (IsPlaceOf w id place)
@@ -78,16 +68,13 @@ module _ (w : World) (u : UpdateData) (d : Decision) where
     place_kept id place e is =
         ∥∥₁_elim t (place_is_prop (overlaid_world w u d) id place) (λ k p. ((λ at. k.others id p e ((is p).0 at)), (λ at. (is p).1 (k.others_back id p e at))))
 
-    pub placed_changed : (id : FullNodeId) (c : NodeChange) (found : Option NodeRecord) → change_at d.nodes.items id ≡ Some c → IfSome found (λ r. r.place ≡ place_in c) → IfSome found (λ r. IsPlaceOf (overlaid_world w u d) id r.place)
+    pub placed_changed : (id : FullNodeId) (c : NodeChange) (found : Option Kept) → change_at d.nodes.items id ≡ Some c → IfSome found (λ r. r.place.now ≡ place_in c) → IfSome found (λ r. IsPlaceOf (overlaid_world w u d) id r.place.now)
     placed_changed id c None e h = h
     placed_changed id c (Some r) e h = subst (IsPlaceOf (overlaid_world w u d) id) (sym h) (place_changed id c e)
 
-    pub placed_kept : (id : FullNodeId) (found : Option NodeRecord) → change_at d.nodes.items id ≡ None → IfSome found (λ r. IsNodeRecord w id r) → IfSome found (λ r. IsPlaceOf (overlaid_world w u d) id r.place)
+    pub placed_kept : (id : FullNodeId) (found : Option Kept) → change_at d.nodes.items id ≡ None → IfSome found (λ r. IsPlaceOf w id r.place.now) → IfSome found (λ r. IsPlaceOf (overlaid_world w u d) id r.place.now)
     placed_kept id None e h = h
-    placed_kept id (Some r) e h = place_kept id r.place e h.place
-
-    pub node_below : (id : FullNodeId) → change_at d.nodes.items id ≡ None → IsNode (overlaid_world w u d) id → IsNode w id
-    node_below id e there = subst (λ o. IsSome o) (sym (data_by id None (sym e))) there
+    placed_kept id (Some r) e h = place_kept id r.place.now e h
 
     pub focus_laid : IsState w → IsEffectiveFocus (overlaid_world w u d) d.focus
     focus_laid s =

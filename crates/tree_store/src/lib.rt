@@ -15,6 +15,6 @@ mod store_look_ups;
 
 pub use copies::MirrorRecord;
 pub use overlay::Overlay;
-pub use records::PresentTree;
+pub use records::{Kept, PresentTree};
 pub use store::Store;
 pub use store_look_ups::{NoRecords, StoreLookUps};

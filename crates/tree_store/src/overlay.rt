@@ -5,7 +5,7 @@ ghost use Rattle.std.specs.List.Sorted.{IsStrictlySortedBy};
 ghost use Rattle.schema.specs.UpdateData.{update_data, info_data};
 ghost use Rattle.model.specs.declared.FullNodeId.{FullNodeId};
 ghost use Rattle.model.specs.FullIds.{full_cmp};
-ghost use Rattle.model.specs.World.{World, IsNode, data_of, index_of, root_of, root_named};
+ghost use Rattle.model.specs.World.{World, data_of, index_of, root_of, root_named};
 ghost use Rattle.model.specs.Focus.{IsEffectiveFocus};
 ghost use Rattle.model.specs.Forest.{IsFormed};
 ghost use Rattle.model.specs.State.{IsState};
@@ -19,10 +19,11 @@ ghost use Rattle.model.specs.Update.{index_for};
 ghost use Rattle.tree_store.specs.Commits.{HasSlots};
 ghost use Rattle.tree_store.specs.Overlays.{laid_over, replacing, root_recorded, IsLaidOver, IsRecordAfter};
 
+use crate::records::Kept;
 use crate::store::Store;
-use model::{FullNodeId, Place, is_same};
+use model::{FullNodeId, is_same};
 use schema::{Node, NodeId, TreeId, TreeInfo, TreeUpdate};
-use tree_changes::{Decision, NodeChange, NodeRecord, TreeRecord};
+use tree_changes::{Decision, NodeChange, TreeRecord};
 
 /// A decision on an update, with the update that holds the data.
 #[derive(Clone, Copy)]
@@ -47,28 +48,28 @@ fn change_here(
     changes: &[(FullNodeId, NodeChange)],
     id: FullNodeId,
     index: usize,
-) -> Option<NodeChange>
+) -> Option<&NodeChange>
     requires { IsStrictlySortedBy full_cmp (map (λ e. e.0) changes.now) }
-    ensures { IfSome result (λ change. change_at changes.now id ≡ Some change) }
+    ensures { IfSome result (λ change. change_at changes.now id ≡ Some change.now) }
 {
     if index >= changes.len() {
         return None;
     }
     if is_same(changes[index].0, id) {
-        return Some(changes[index].1);
+        return Some(&changes[index].1);
     }
     None
 }
 
-/// The change of a node, as by `change_of`. The entry at `near` is tried first, and `near` is set to the one after it, so
-/// that looking up ascending ids needs no search.
-fn change_near(
-    changes: &[(FullNodeId, NodeChange)],
+/// The change of a node, as by `change_of`, where it is kept. The entry at `near` is tried first, and `near` is set to the
+/// one after it, so that looking up ascending ids needs no search.
+fn change_near<'b>(
+    changes: &'b [(FullNodeId, NodeChange)],
     id: FullNodeId,
     near: &mut usize,
-) -> Option<NodeChange>
+) -> Option<&'b NodeChange>
     requires { IsStrictlySortedBy full_cmp (map (λ e. e.0) changes.now) }
-    ensures { result ≡ change_at changes.now id }
+    ensures { option_copied result ≡ change_at changes.now id }
 {
     if let Some(change) = change_here(changes, id, *near) {
         *near = near.saturating_add(1);
@@ -77,7 +78,7 @@ fn change_near(
     match changes.binary_search_by_key(&id, |entry| entry.0) {
         Ok(found) => {
             *near = found.saturating_add(1);
-            Some(changes[found].1)
+            Some(&changes[found].1)
         }
         Err(_) => None,
     }
@@ -109,31 +110,24 @@ pub(crate) fn changed_node<'b>(
     }
 }
 
-/// The place after a change.
-pub(crate) fn changed_place(change: NodeChange) -> Option<Place>
-    ensures { result ≡ place_in change }
-{
-    match change {
-        NodeChange::Put { place, .. } => place,
-        NodeChange::Gone => None,
-    }
-}
-
-/// The place and data of a node after a change.
-fn record_after<'b>(
+/// The place and data of a node after a change. The place is where the change has it.
+fn kept_after<'b>(
     base: &'b Store,
     nodes: &'b [(NodeId, Node)],
     id: FullNodeId,
-    change: NodeChange,
-) -> Option<NodeRecord<'b>>
-    ensures data { option_map (λ r. r.node.now) result ≡ changed_data nodes.now change (data_of base.now.world id) }
-    ensures place { IfSome result (λ r. r.place ≡ place_in change) }
+    change: &'b NodeChange,
+) -> Option<Kept<'b>>
+    ensures data { option_map (λ r. r.node.now) result ≡ changed_data nodes.now change.now (data_of base.now.world id) }
+    ensures place { IfSome result (λ r. r.place.now ≡ place_in change.now) }
 {
-    let node = changed_node(base, nodes, id, change)?;
-    Some(NodeRecord {
-        place: changed_place(change),
-        node,
-    })
+    let NodeChange::Put { place, entry } = change else {
+        return None;
+    };
+    let node = match entry {
+        Some(entry) => entry_node(nodes, *entry)?,
+        None => base.get(id)?,
+    };
+    Some(Kept { place, node })
 }
 
 /// The changed record of a tree id, if it changes.
@@ -219,40 +213,23 @@ impl<'a> Overlay<'a> {
         }
     }
 
-    fn change_by(self, id: FullNodeId, near: &mut usize) -> Option<NodeChange>
+    fn change_by(self, id: FullNodeId, near: &mut usize) -> Option<&'a NodeChange>
         requires { IsStrictlySortedBy full_cmp (map (λ e. e.0) self.decision.now.nodes.items) }
-        ensures { result ≡ change_at self.entry.decision.now.nodes.items id }
+        ensures { option_copied result ≡ change_at self.entry.decision.now.nodes.items id }
     {
         change_near(self.decision.nodes.as_slice(), id, near)
     }
 
-    /// A node's place and data. Its change is looked for at `near` first, and `near` is set to the one after it, so that
-    /// looking up ascending ids needs no search.
-    pub fn record_near(
-        self,
-        base: &'a Store,
-        id: FullNodeId,
-        near: &mut usize,
-    ) -> Option<NodeRecord<'a>>
+    /// A node's place and data, where they are kept or where its change has them. Its change is looked for at `near` first,
+    /// and `near` is set to the one after it, so that looking up ascending ids needs no search.
+    pub fn kept_near(self, base: &'a Store, id: FullNodeId, near: &mut usize) -> Option<Kept<'a>>
         requires { IsLaidOver base.now.world self }
         ensures data { option_map (λ r. r.node.now) result ≡ data_of (laid_over base.now.world self.entry) id }
-        ensures place { IfSome result (λ r. IsPlaceOf (laid_over base.now.world self.entry) id r.place) }
+        ensures place { IfSome result (λ r. IsPlaceOf (laid_over base.now.world self.entry) id r.place.now) }
     {
         match self.change_by(id, near) {
-            Some(change) => record_after(base, self.update.nodes.as_slice(), id, change),
-            None => base.record(id),
-        }
-    }
-
-    /// The place of a node, if the node is in the state.
-    pub fn place(self, base: &Store, id: FullNodeId) -> Option<Place>
-        requires laid { IsLaidOver base.now.world self }
-        requires there { IsNode (laid_over base.now.world self) id }
-        ensures { IsPlaceOf (laid_over base.now.world self.entry) id result }
-    {
-        match self.change(id) {
-            Some(change) => changed_place(change),
-            None => base.place(id),
+            Some(change) => kept_after(base, self.update.nodes.as_slice(), id, change),
+            None => base.kept(id),
         }
     }
 

@@ -44,3 +44,10 @@ pub(crate) struct Tables {
     pub(crate) names: BTreeMap<TreeId, NameRecord>,
     pub(crate) toolkit: ToolkitTexts,
 }
+
+/// A node's place and data, where they are kept or where a change has them.
+#[derive(Clone, Copy)]
+pub struct Kept<'a> {
+    pub place: &'a Option<Place>,
+    pub node: &'a Node,
+}

@@ -2,7 +2,7 @@
 ghost use Rattle.std.specs.Prelude.{◌≡◌, ◌<◌, ◌^◌, ◌||◌, not, ℕ, Some, IsSome, IfSome, is_some, length, option_copied, option_map, slice_get};
 ghost use Rattle.std.specs.FinMap.{get as tree_at, len as nodes_len};
 ghost use Rattle.std.specs.FinSet.{len as slots_len};
-ghost use Rattle.model.specs.World.{World, IsNode, data_of, index_of, root_of, root_named};
+ghost use Rattle.model.specs.World.{World, data_of, index_of, root_of, root_named};
 ghost use Rattle.model.specs.Focus.{IsEffectiveFocus};
 ghost use Rattle.model.specs.Forest.{IsFormed};
 ghost use Rattle.model.specs.State.{IsState};
@@ -13,8 +13,8 @@ ghost use Rattle.tree_store.specs.NameRecords.{record_of};
 use crate::names::{
     focus_in, graft_in, index_in, known_name, name_record, present_tree, root_in, tree_in,
 };
-use crate::records::{PresentTree, Tables};
-use model::{FullNodeId, Place};
+use crate::records::{Kept, PresentTree, Tables};
+use model::FullNodeId;
 use schema::{Node, TreeId};
 use std::marker::Model;
 use tree_changes::{NodeRecord, TreeRecord};
@@ -75,17 +75,6 @@ impl Store {
         Some(&record.node)
     }
 
-    /// The place of a node, if the node is in the state.
-    pub fn place(&self, id: FullNodeId) -> Option<Place>
-        requires { IsNode self.now.world id }
-        ensures { IsPlaceOf self.now.world id result }
-    {
-        match self.tables.nodes.record(id) {
-            Some(record) => record.place,
-            None => unreachable!(),
-        }
-    }
-
     /// A node's place and data.
     pub fn record(&self, id: FullNodeId) -> Option<NodeRecord<'_>>
         ensures found { is_some result ≡ is_some (data_of self.now.world id) }
@@ -94,6 +83,18 @@ impl Store {
         let record = self.tables.nodes.record(id)?;
         Some(NodeRecord {
             place: record.place,
+            node: &record.node,
+        })
+    }
+
+    /// A node's place and data, where they are kept.
+    pub fn kept(&self, id: FullNodeId) -> Option<Kept<'_>>
+        ensures data { option_map (λ r. r.node.now) result ≡ data_of self.now.world id }
+        ensures place { IfSome result (λ r. IsPlaceOf self.now.world id r.place.now) }
+    {
+        let record = self.tables.nodes.record(id)?;
+        Some(Kept {
+            place: &record.place,
             node: &record.node,
         })
     }

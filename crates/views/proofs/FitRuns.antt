@@ -37,7 +37,7 @@ same_tests false false f g = refl
 
 -- what was sent of a run is what it shows
 pub sent_known : (r : Run) → sent_run (run_world r) (run_id r) ≡ sent_of r
-sent_known r = ap (λ o. let s : SentRun = record { id = run_id r; node = unwrap_or o (empty_node TextRun) } in s) r.known.spot.member
+sent_known r = ap (λ o. let s : SentRun = record { id = run_id r; node = unwrap_or o (empty_node TextRun) } in s) r.known.spot.member.known
 
 pub sents_next : (r s : Run) → IsAfter r s → sents_after r ≡ sent_of s ∷ sents_after s
 sents_next r s after =

@@ -8,9 +8,9 @@ use Rattle.model.specs.Forest.{IsFormed, place_of}
 use Rattle.model.specs.State.{IsState, with_host}
 use Rattle.model.proofs.State.HostFocus.{host_leaves_state, chain_before}
 use Rattle.model.proofs.Forest.Rooted.{state_formed}
-use Rattle.tree_changes.specs.LookUps.{IsPlaceOf, IsNodeRecord}
-use Rattle.tree_changes.specs.declared.look_ups.NodeRecord.{NodeRecord}
+use Rattle.tree_changes.specs.LookUps.{IsPlaceOf}
 use Rattle.tree_store.specs.declared.overlay.Overlay.{Overlay}
+use Rattle.tree_store.specs.declared.records.Kept.{Kept}
 use Rattle.views.specs.Sound.{laid_world}
 use Rattle.views.proofs.Showing.{place_known}
 
@@ -29,10 +29,6 @@ module _ (w : World) (o p : Option Overlay) (host : Bool) (is : o ≡ p) where
   pub place_shown : (id : FullNodeId) (found : Option Place) → IsPlaceOf (laid_world w p) id found → found ≡ place_of (with_host (laid_world w o) host) id
   place_shown id found h = place_known (with_host (laid_world w o) host) id found (subst (λ x. IsPlaceOf (with_host (laid_world w x) host) id found) (sym is) h)
 
-  pub placed_shown : (id : FullNodeId) (found : Option NodeRecord) → IfSome found (λ r. IsPlaceOf (laid_world w p) id r.place) → IfSome found (λ r. r.place ≡ place_of (with_host (laid_world w o) host) id)
-  placed_shown id None h = h
-  placed_shown id (Some r) h = place_shown id r.place h
-
-  pub record_shown : (id : FullNodeId) (found : Option NodeRecord) → IfSome found (λ r. IsNodeRecord (laid_world w p) id r) → IfSome found (λ r. r.place ≡ place_of (with_host (laid_world w o) host) id)
-  record_shown id None h = h
-  record_shown id (Some r) h = place_shown id r.place h.place
+  pub kept_shown : (id : FullNodeId) (found : Option Kept) → IfSome found (λ r. IsPlaceOf (laid_world w p) id r.place.now) → IfSome found (λ r. r.place.now ≡ place_of (with_host (laid_world w o) host) id)
+  kept_shown id None h = h
+  kept_shown id (Some r) h = place_shown id r.place.now h

@@ -1,16 +1,19 @@
 -- Nodes of a world at their places, as a walk keeps them.
-use Rattle.std.specs.Prelude.{Some}
+use Rattle.std.specs.Prelude.{◌≡◌, Some}
 use Rattle.std.specs.Coded.{Coded-set, coded_option}
 use Rattle.schema.specs.contracts.Node.{the_row as node_row}
 use Rattle.model.specs.declared.FullNodeId.{FullNodeId}
 use Rattle.model.specs.FullIds.{coded_full}
 use Rattle.model.specs.World.{World, Place, HasData, StandsAt, data_of, child_at}
+use Rattle.model.specs.Forest.{place_of}
+use Rattle.views.specs.Places.{coded_place}
 use Rattle.views.specs.declared.walks.spot.Member.{Member}
 use Rattle.views.specs.declared.walks.spot.Spot.{Spot}
 
--- the node has this data
-abbrev pub IsMember : World → Member → Type 0
-IsMember w m = HasData w m.id m.node.now
+-- the node has this data and this place
+pub record IsMember (w : World) (m : Member) : Type 0 where
+  pub known : HasData w m.id m.node.now
+  pub placed : m.place.now ≡ place_of w m.id
 
 abbrev pub place_at : Spot → Place
 place_at s = (s.parent.id, s.index)
@@ -22,7 +25,10 @@ pub record IsSpot (w : World) (s : Spot) : Type 0 where
   pub stands : StandsAt w (place_at s) s.member.id
 
 pub IsMember-prop : (w : World) (m : Member) → IsProp (IsMember w m)
-IsMember-prop w m = Coded-set (coded_option node_row.coded) (data_of w m.id) (Some m.node.now)
+IsMember-prop w m a b = λ i. record {
+  known = Coded-set (coded_option node_row.coded) (data_of w m.id) (Some m.node.now) a.known b.known i;
+  placed = Coded-set (coded_option coded_place) m.place.now (place_of w m.id) a.placed b.placed i;
+}
 
 StandsAt-prop : (w : World) (p : Place) (id : FullNodeId) → IsProp (StandsAt w p id)
 StandsAt-prop w p id = Coded-set (coded_option coded_full) (child_at w p) (Some id)

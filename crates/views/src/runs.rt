@@ -85,6 +85,7 @@ impl<'a> Run<'a> {
         let top = Member {
             id: root.id,
             node: root.node,
+            place: root.place,
         };
         match next_shown(state, root.id, top, 0, &RunFilter { root: root.id }) {
             Some(spot) => Some(Run { root, spot }),
@@ -102,6 +103,7 @@ impl<'a> Run<'a> {
         let top = Member {
             id: root.id,
             node: root.node,
+            place: root.place,
         };
         let count = state.child_count(top);
         match previous_shown(state, root.id, top, count, &RunFilter { root: root.id }) {

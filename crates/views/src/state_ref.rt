@@ -2,10 +2,9 @@
 ghost use Rattle.views.specs.Sound.{IsSound, IsSound-prop, HasRoom, HasRoom-prop};
 
 use crate::node::NodeRef;
-use model::{FullNodeId, Place};
+use model::FullNodeId;
 use schema::{Node, NodeId, TreeId};
-use tree_changes::NodeRecord;
-use tree_store::{Overlay, Store};
+use tree_store::{Kept, Overlay, Store};
 
 /// A read-only view of a state: the stored state, with the changes of an update laid over it if there are any.
 #[derive(Clone, Copy)]
@@ -93,35 +92,24 @@ impl<'a> StateRef<'a> {
         }
     }
 
-    /// The place of a node: its parent, and its index among the parent's children.
-    pub(crate) fn place(self, id: FullNodeId) -> Option<Place>
-        requires { IsNode (world_of self) id }
-        ensures { result ≡ place_of (world_of self.entry) id }
-    {
-        match self.overlay {
-            Some(overlay) => overlay.place(self.base, id),
-            None => self.base.place(id),
-        }
-    }
-
     /// A node's place and data.
     #[inline(always)]
-    pub(crate) fn node_record(self, id: FullNodeId) -> Option<NodeRecord<'a>>
+    pub(crate) fn kept(self, id: FullNodeId) -> Option<Kept<'a>>
         ensures data { option_map (λ r. r.node.now) result ≡ data_of (world_of self.entry) id }
-        ensures place { IfSome result (λ r. r.place ≡ place_of (world_of self.entry) id) }
+        ensures place { IfSome result (λ r. r.place.now ≡ place_of (world_of self.entry) id) }
     {
-        self.record_near(id, &mut 0)
+        self.kept_near(id, &mut 0)
     }
 
     /// A node's place and data. If there are changes of an update, the one at `near` is tried first.
     #[inline(always)]
-    fn record_near(self, id: FullNodeId, near: &mut usize) -> Option<NodeRecord<'a>>
+    fn kept_near(self, id: FullNodeId, near: &mut usize) -> Option<Kept<'a>>
         ensures data { option_map (λ r. r.node.now) result ≡ data_of (world_of self.entry) id }
-        ensures place { IfSome result (λ r. r.place ≡ place_of (world_of self.entry) id) }
+        ensures place { IfSome result (λ r. r.place.now ≡ place_of (world_of self.entry) id) }
     {
         match self.overlay {
-            Some(overlay) => overlay.record_near(self.base, id, near),
-            None => self.base.record(id),
+            Some(overlay) => overlay.kept_near(self.base, id, near),
+            None => self.base.kept(id),
         }
     }
 
@@ -198,7 +186,7 @@ impl<'a> StateRef<'a> {
         requires { IsNode (world_of self) id }
         ensures { IsView (world_of self.entry) id result }
     {
-        let found = self.node_record(id).unwrap();
+        let found = self.kept(id).unwrap();
         NodeRef {
             state: self,
             id,
@@ -256,7 +244,7 @@ impl<'a> StateRef<'a> {
             ShowsThe w (λ it. (it ≡ id) × IsNode w it) result }
     {
         let state = *self;
-        let found = state.record_near(id, near)?;
+        let found = state.kept_near(id, near)?;
         Some(NodeRef {
             state,
             id,

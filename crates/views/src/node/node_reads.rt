@@ -87,7 +87,7 @@ impl<'a> NodeRef<'a> {
     pub fn parent_id(&self) -> Option<FullNodeId>
         ensures { result ≡ option_map (λ p. p.0) (place_of (world_at self.now) (id_at self.now)) }
     {
-        self.place.map(|(parent, _)| parent)
+        (*self.place).map(|(parent, _)| parent)
     }
 
     /// The parent.
@@ -106,7 +106,7 @@ impl<'a> NodeRef<'a> {
         ensures world { IfSome result (λ it. world_at it.0 ≡ world_at self.entry) }
         ensures place { option_map (λ it. (id_at it.0, it.1)) result ≡ place_of (world_at self.entry) (id_at self.entry) }
     {
-        match self.place {
+        match *self.place {
             Some((parent, index)) => Some((self.state.node(parent), index)),
             None => None,
         }

@@ -17,7 +17,7 @@ pub struct NodeRef<'a> {
     pub(crate) state: StateRef<'a>,
     pub(crate) id: FullNodeId,
     pub(crate) node: &'a Node,
-    pub(crate) place: Option<Place>,
+    pub(crate) place: &'a Option<Place>,
     ghost known: { data_of (world_of state) id ≡ Some node.now } by { Coded-set (coded_option node_row.coded) (data_of (world_of state) id) (Some node.now) },
-    ghost placed: { place ≡ place_of (world_of state) id } by { Coded-set (coded_option coded_place) place (place_of (world_of state) id) },
+    ghost placed: { place.now ≡ place_of (world_of state) id } by { Coded-set (coded_option coded_place) place.now (place_of (world_of state) id) },
 }

@@ -40,6 +40,7 @@ impl<'a> Course<'a> {
         let top = Member {
             id: node.id,
             node: node.node,
+            place: node.place,
         };
         Course {
             state: node.state,
@@ -58,6 +59,7 @@ impl<'a> Course<'a> {
         let member = Member {
             id: node.id,
             node: node.node,
+            place: node.place,
         };
         match following_ends(node.state, member, filter) {
             Some((top, ends)) => Course {
@@ -83,6 +85,7 @@ impl<'a> Course<'a> {
         let member = Member {
             id: node.id,
             node: node.node,
+            place: node.place,
         };
         match preceding_ends(node.state, member, filter) {
             Some((top, ends)) => Course {
@@ -134,6 +137,7 @@ impl<'a> Course<'a> {
         let top = Member {
             id: node.id,
             node: node.node,
+            place: node.place,
         };
         Course {
             state: node.state,

@@ -44,6 +44,7 @@ fn deepest_first_item<'a, F: Filter>(node: NodeRef<'a>, filter: &F) -> Option<No
     let member = Member {
         id: node.id,
         node: node.node,
+        place: node.place,
     };
     let Some(item) = first_item(state, member, filter) else {
         return None;
@@ -83,6 +84,7 @@ fn deepest_last_item<'a, F: Filter>(node: NodeRef<'a>, filter: &F) -> Option<Nod
     let member = Member {
         id: node.id,
         node: node.node,
+        place: node.place,
     };
     let Some(item) = last_item(state, member, filter) else {
         return None;

@@ -42,6 +42,7 @@ impl<'a> NodeRef<'a> {
         let member = Member {
             id: self.id,
             node: self.node,
+            place: self.place,
         };
         let Some(child) = state.child(member, 0) else {
             return None;
@@ -65,6 +66,7 @@ impl<'a> NodeRef<'a> {
         let member = Member {
             id: self.id,
             node: self.node,
+            place: self.place,
         };
         let Some(child) = state.last_child(member) else {
             return None;
@@ -89,6 +91,7 @@ impl<'a> NodeRef<'a> {
         let mut current = Member {
             id: self.id,
             node: self.node,
+            place: self.place,
         };
         let mut path = Vec::new(alloc);
         while let Some(spot) = state.spot(current) {
@@ -118,6 +121,7 @@ impl<'a> NodeRef<'a> {
         let mut current = Member {
             id: self.id,
             node: self.node,
+            place: self.place,
         };
         let mut path = Vec::new(alloc);
         while !is_same(ancestor, current.id) {

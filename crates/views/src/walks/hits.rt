@@ -198,6 +198,7 @@ fn hit_below<'a, F: Filter>(top: NodeRef<'a>, at: SeenPoint, filter: &F) -> Opti
     let mut parent = Member {
         id: top.id,
         node: top.node,
+        place: top.place,
     };
     let mut index = state.child_count(parent);
     let mut seen = at;
@@ -210,7 +211,7 @@ fn hit_below<'a, F: Filter>(top: NodeRef<'a>, at: SeenPoint, filter: &F) -> Opti
                 state,
                 id: child.member.id,
                 node: child.member.node,
-                place: Some((child.parent.id, child.index)),
+                place: child.member.place,
             };
             let below = into_child(seen, node);
             let count = state.child_count(child.member);
@@ -226,7 +227,7 @@ fn hit_below<'a, F: Filter>(top: NodeRef<'a>, at: SeenPoint, filter: &F) -> Opti
                 state,
                 id: parent.id,
                 node: parent.node,
-                place: state.place(parent.id),
+                place: parent.place,
             };
             if is_hit_itself(node, seen, filter) {
                 return Some(node);

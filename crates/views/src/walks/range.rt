@@ -38,6 +38,7 @@ impl<'a> ChildRange<'a> {
         let parent = Member {
             id: node.id,
             node: node.node,
+            place: node.place,
         };
         ChildRange {
             state: node.state,
@@ -55,6 +56,7 @@ impl<'a> ChildRange<'a> {
         let parent = Member {
             id: node.id,
             node: node.node,
+            place: node.place,
         };
         ChildRange {
             state: node.state,
@@ -73,6 +75,7 @@ impl<'a> ChildRange<'a> {
         let member = Member {
             id: node.id,
             node: node.node,
+            place: node.place,
         };
         match node.state.spot(member) {
             Some(spot) => ChildRange {
@@ -94,6 +97,7 @@ impl<'a> ChildRange<'a> {
         let member = Member {
             id: node.id,
             node: node.node,
+            place: node.place,
         };
         match node.state.spot(member) {
             Some(spot) => ChildRange {

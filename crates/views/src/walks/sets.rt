@@ -42,6 +42,7 @@ fn set_top<'a, F: Filter>(node: NodeRef<'a>, filter: &F) -> Option<Member<'a>>
     let member = Member {
         id: node.id,
         node: node.node,
+        place: node.place,
     };
     cover(node.state, member, filter)
 }

@@ -24,6 +24,7 @@ pub(crate) fn first_following<'a, F: Filter>(node: NodeRef<'a>, filter: &F) -> O
     let member = Member {
         id: node.id,
         node: node.node,
+        place: node.place,
     };
     let Some(spot) = state.spot(member) else {
         return None;
@@ -48,6 +49,7 @@ pub(crate) fn first_preceding<'a, F: Filter>(node: NodeRef<'a>, filter: &F) -> O
     let member = Member {
         id: node.id,
         node: node.node,
+        place: node.place,
     };
     let Some(spot) = state.spot(member) else {
         return None;

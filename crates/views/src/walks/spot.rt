@@ -8,7 +8,7 @@ ghost use Rattle.views.specs.Spots.{IsMember, IsSpot, place_at};
 
 use crate::StateRef;
 use crate::node::NodeRef;
-use model::FullNodeId;
+use model::{FullNodeId, Place};
 use schema::Node;
 
 /// A node without its state.
@@ -16,6 +16,7 @@ use schema::Node;
 pub struct Member<'a> {
     pub id: FullNodeId,
     pub node: &'a Node,
+    pub place: &'a Option<Place>,
 }
 
 /// A node, its parent, and its index among the parent's children.
@@ -34,8 +35,12 @@ impl<'a> StateRef<'a> {
         ensures is { result.id ≡ id }
         ensures known { IsMember (world_of self.entry) result }
     {
-        let node = self.data(id).unwrap();
-        Member { id, node }
+        let kept = self.kept(id).unwrap();
+        Member {
+            id,
+            node: kept.node,
+            place: kept.place,
+        }
     }
 
     /// The view of a node.
@@ -48,7 +53,7 @@ impl<'a> StateRef<'a> {
             state: self,
             id: member.id,
             node: member.node,
-            place: self.place(member.id),
+            place: member.place,
         }
     }
 
@@ -110,7 +115,7 @@ impl<'a> StateRef<'a> {
             IfSome result (λ s. IsSpot w s × (s.member.id ≡ member.entry.id)) }
         ensures fits { IfSome result (λ s. s.index + 1 < 2 ^ 64) }
     {
-        let (parent, index) = self.place(member.id)?;
+        let (parent, index) = (*member.place)?;
         let parent = self.member(parent);
         let _count = self.child_count(parent);
         Some(Spot {
@@ -128,12 +133,11 @@ impl<'a> Spot<'a> {
         ensures world { world_at result ≡ world_of state.entry }
         ensures id { id_at result ≡ self.entry.member.id }
     {
-        state.know();
         NodeRef {
             state,
             id: self.member.id,
             node: self.member.node,
-            place: Some((self.parent.id, self.index)),
+            place: self.member.place,
         }
     }
 }

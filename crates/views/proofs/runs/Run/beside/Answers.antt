@@ -15,6 +15,6 @@ returns-in-TextRun c =
     let there = c.in_ok-spot.ensures.there in
     let past : c.in_ok-index.index ≡ c.args.self.spot.index + 1 = omega (arith, c.in_ok-index.ensures) in
     let stands : StandsAt w (next_place p) s.member.id = subst (λ k. StandsAt w (p.0, k) s.member.id) past (sym c.in_ok-spot.ensures.none) in
-    let is = run_by_role w s.member.id s.member.node.now there.0.member (sym c.in-TextRun.ensures) in
+    let is = run_by_role w s.member.id s.member.node.now there.0.member.known (sym c.in-TextRun.ensures) in
     let found = beside_is_next w c.know.ensures.formed (id_at c.args.self.root) p c.args.self.spot.member.id s.member.id known.spot.stands stands is known.below in
     record { there = there.0; below = found.0; after = found.1 }

@@ -23,7 +23,7 @@ loop-index-init g c =
     let w = world_of c.args.top.state in
     let all : work_until w c.args.top.id (c.args.top.id, c.child_count-index.result) ≡ work_until w c.args.top.id (c.args.top.id, length (children w c.args.top.id)) = ap (λ i. work_until w c.args.top.id (c.args.top.id, i)) c.child_count-index.ensures in
     record {
-      known = c.args.top.known;
+      known = record { known = c.args.top.known; placed = c.args.top.placed };
       spent = omega (arith, all);
       across = farther 0 (work_until w c.args.top.id (c.args.top.id, length (children w c.args.top.id)) - work_until w c.args.top.id (c.args.top.id, c.child_count-index.result)) c.args.at.x (omega arith) c.requires.across;
       along = farther 0 (work_until w c.args.top.id (c.args.top.id, length (children w c.args.top.id)) - work_until w c.args.top.id (c.args.top.id, c.child_count-index.result)) c.args.at.y (omega arith) c.requires.along;
@@ -178,6 +178,3 @@ out_of_child-seen-requires-clause-along g c =
     let w = world_of c.args.top.state in
     let bound = search_work c.know.ensures.state c.root_id-root.result c.root_id-root.ensures c.args.top.id (ap is_some c.args.top.known) (length (children w c.args.top.id)) refl in
     farther (work_until w c.args.top.id (c.args.top.id, length (children w c.args.top.id)) - work_until w c.args.top.id (c.loop-index.parent.id, c.loop-index.index)) (2 ^ 90) c.loop-index.seen.y (omega (arith, bound, c.know_count.ensures)) c.loop-index.invariant.along
-
-pub invariant_of-node-clause-placed : goal.invariant_of-node-clause-placed
-invariant_of-node-clause-placed g c = sym (c.know.ensures.formed.placed (place_at c.in-Some.child) c.in-Some.child.member.id c.in-Some.ensures.there.0.stands)
