@@ -8,8 +8,8 @@ use Rattle.std.specs.Map.Iter.{deref}
 use Rattle.std.proofs.lemmas.List.{map-append, take_more, take_all}
 use Rattle.std.proofs.lemmas.List.Elements.{Contains-push_cases}
 use Rattle.std.proofs.lemmas.Map.Entries.{length-keys_of}
-use Rattle.rows.proofs.Places.{key_at}
-use Rattle.rows.proofs.Settled.{contains_from_row_at, row_at_pushed}
+use Rattle.values_by_id.proofs.Places.{key_at}
+use Rattle.values_by_id.proofs.Settled.{contains_from_row_at, row_at_pushed}
 use Rattle.model.proofs.Update.RulesOrFault.{no_some}
 use Rattle.std.specs.Map.{keys_of, lookup}
 use Rattle.std.specs.BTreeMap.{is_at, keys}

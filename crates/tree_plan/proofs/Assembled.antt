@@ -38,7 +38,7 @@ use Rattle.tree_changes.specs.LookUps.{IsTreeRecord, tree_named}
 use Rattle.tree_changes.specs.Changes.{change_at, put_all, put_trees, tree_from, if_kept, tree_after, tree_change, overlaid_world}
 use Rattle.tree_changes.specs.Decisions.{IsChangeOf, Differs, TreeDiffers, listed_nodes, names_of, IsDecision}
 use Rattle.tree_changes.proofs.Overlays.{effect, get-put_all, get-put_trees, tree_at, tree_at_same, tree_at_some, find_index, tree_change_in}
-use Rattle.rows.specs.Rows.{Ascends}
+use Rattle.values_by_id.specs.Rows.{Ascends}
 use Rattle.tree_plan.specs.declared.verdicts.Verdict.{Verdict}
 use Rattle.tree_plan.specs.declared.verdicts.Verdict.TheVariants.{Added, Renewed, Moved, Told, Removed}
 use Rattle.tree_plan.specs.declared.writing.Group.{Group}

@@ -14,8 +14,8 @@ use Rattle.std.proofs.lemmas.Option.{same_Some, slice_get-get_or, slice_get_with
 use Rattle.model.specs.declared.FullNodeId.{FullNodeId}
 use Rattle.model.specs.FullIds.{full_cmp, exact_full, full_total}
 use Rattle.model.proofs.Members.{contains_none, contains_cases}
-use Rattle.rows.specs.Rows.{Ascends}
-use Rattle.rows.proofs.Settled.{contains_from_row_at}
+use Rattle.values_by_id.specs.Rows.{Ascends}
+use Rattle.values_by_id.proofs.Settled.{contains_from_row_at}
 use Rattle.tree_plan.specs.Passes.{at, has}
 
 -- f has v at c, and is g elsewhere

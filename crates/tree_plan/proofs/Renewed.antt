@@ -5,7 +5,7 @@ use Rattle.std.specs.Map.{keys_of}
 use Rattle.std.specs.BTreeMap.{is_at}
 use Rattle.std.specs.List.Sorted.{IsStrictlySortedBy}
 use Rattle.std.proofs.lemmas.Option.{slice_get-map, slice_get_within}
-use Rattle.rows.specs.Rows.{Ascends, row_at}
+use Rattle.values_by_id.specs.Rows.{Ascends, row_at}
 use Rattle.schema.specs.NodeData.{NodeData}
 use Rattle.schema.specs.declared.NodeId.{NodeId}
 use Rattle.model.specs.declared.FullNodeId.{FullNodeId}

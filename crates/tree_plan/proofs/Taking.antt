@@ -7,7 +7,7 @@ use Rattle.std.proofs.lemmas.List.{length-map, map-append, take_more}
 use Rattle.std.proofs.lemmas.List.Sorted.{length_permutation}
 use Rattle.std.proofs.lemmas.Map.Entries.{length-keys_of}
 use Rattle.std.proofs.lemmas.Option.{same_Some, slice_get-map, slice_get_within, get_or_from_slice_get}
-use Rattle.rows.specs.Rows.{IsTwice}
+use Rattle.values_by_id.specs.Rows.{IsTwice}
 use Rattle.schema.specs.declared.NodeId.{NodeId}
 use Rattle.schema.specs.NodeData.{NodeData}
 use Rattle.model.specs.declared.FullNodeId.{FullNodeId}

@@ -1,7 +1,7 @@
 -- What is written is the decision, and its lists are short.
 use Rattle.std.proofs.Common.{◌≡◌, ◌≢◌, ◌+◌, ◌*◌, ◌≤◌, Bool, true, false, List, [], ◌++◌, map, length, IsTrue, inl, inr, refl, sym, ap, ◌∙◌, subst, arith, length-append}
 use Rattle.std.specs.Prelude.{AllPairs}
-use Rattle.rows.specs.Rows.{Ascends}
+use Rattle.values_by_id.specs.Rows.{Ascends}
 use Rattle.std.specs.List.Sorted.{IsStrictlySortedBy}
 use Rattle.model.specs.declared.FullNodeId.{FullNodeId}
 use Rattle.model.specs.FullIds.{full_cmp}

@@ -2,7 +2,7 @@
 use Rattle.std.specs.Prelude.{◌≡◌, ◌≢◌, ℕ, ◌<◌, ◌≤◌, List, [], ◌++◌, length, map, slice_get, AllPairs, Contains, Option, Some, None, IsSome, Bool, IsTrue, ⊤, ◌⊎◌, ◌↔◌, if◌then◌else◌}
 use Rattle.std.specs.Option.{option_map, option_to_list}
 use Rattle.std.specs.BTreeMap.{is_at}
-use Rattle.rows.specs.Rows.{IsTwice}
+use Rattle.values_by_id.specs.Rows.{IsTwice}
 use Rattle.schema.specs.NodeData.{NodeData}
 use Rattle.schema.specs.declared.NodeId.{NodeId}
 use Rattle.schema.specs.declared.TreeId.{TreeId}

@@ -1,7 +1,7 @@
 -- An update that gives nodes of a tree other data, and changes nothing else.
 use Rattle.std.specs.Prelude.{◌≡◌, ◌≢◌, ℕ, ◌<◌, ◌≤◌, [], ◌∷◌, ◌++◌, length, slice_get, Contains, Option, Some, None, ◌⊎◌}
 use Rattle.std.specs.Map.{keys_of}
-use Rattle.rows.specs.Rows.{IsTwice}
+use Rattle.values_by_id.specs.Rows.{IsTwice}
 use Rattle.schema.specs.NodeData.{NodeData}
 use Rattle.schema.specs.declared.NodeId.{NodeId}
 use Rattle.model.specs.declared.FullNodeId.{FullNodeId}

@@ -12,7 +12,7 @@ ghost use Rattle.tree_plan.specs.Comparisons.{AreEntriesTaken, IsNamedTwice, Gat
 use crate::opening::is_root_tree;
 use crate::passes::{Arrival, Compared, Comparing, Named, Opened};
 use model::{FullNodeId, Place};
-use rows::{RowList, SortedRows};
+use values_by_id::{RowList, SortedRows};
 use schema::{Node, NodeId, TreeId, TreeUpdate};
 use std::alloc::Global;
 use std::collections::BTreeMap;

@@ -1,6 +1,6 @@
 //! The results of the passes.
 use model::{FullNodeId, Place};
-use rows::{RowList, SortedRows};
+use values_by_id::{RowList, SortedRows};
 use schema::{NodeId, TreeId, TreeUpdate};
 use std::collections::{BTreeMap, BTreeSet};
 use tree_changes::TreeRecord;

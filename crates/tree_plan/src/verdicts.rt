@@ -1,7 +1,7 @@
 //! The verdicts on the nodes that an update touches.
 ghost use Rattle.std.specs.Prelude.{◌≡◌, ◌↔◌, ◌⊎◌, ◌∷◌, [], option_map, IfOk, IfErr, OnOk, IsTrue, IsSome, Some, None, false};
 ghost use Rattle.std.specs.BTreeMap.{keys};
-ghost use Rattle.rows.specs.Rows.{Ascends};
+ghost use Rattle.values_by_id.specs.Rows.{Ascends};
 ghost use Rattle.std.specs.Map.{keys_of};
 ghost use Rattle.std.specs.List.Sorted.{IsStrictlySortedBy};
 ghost use Rattle.model.specs.FullIds.{full_cmp};
@@ -13,7 +13,7 @@ ghost use Rattle.tree_changes.specs.declared.error.UpdateError.TheVariants.{Memo
 use crate::passes::{Compared, Named, Opened, Removed};
 use crate::regrafting::Regrafted;
 use model::{FullNodeId, Place};
-use rows::{RowList, SortedRows};
+use values_by_id::{RowList, SortedRows};
 use std::alloc::Global;
 use tree_changes::UpdateError;
 

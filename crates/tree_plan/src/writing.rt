@@ -1,7 +1,7 @@
 //! The decision, from what the passes found: its changes, and its events in order.
 ghost use Rattle.std.specs.Prelude.{◌≡◌, ◌++◌, [], List, IfOk, IfErr, OnOk, IsTrue, ◌↔◌, Some, None, option_to_list, if◌then◌else◌};
 ghost use Rattle.std.specs.List.{flat_map};
-ghost use Rattle.rows.specs.Rows.{Ascends};
+ghost use Rattle.values_by_id.specs.Rows.{Ascends};
 ghost use Rattle.schema.specs.UpdateData.{update_data};
 ghost use Rattle.model.specs.declared.FullNodeId.{FullNodeId};
 ghost use Rattle.model.specs.declared.events.PlanEvent.{PlanEvent};
@@ -18,7 +18,7 @@ ghost use Rattle.tree_plan.specs.Verdicts.{Transition, IsFound};
 use crate::passes::{Focused, Opened};
 use crate::verdicts::{Found, Verdict};
 use model::{FullNodeId, PlanEvent};
-use rows::SortedRows;
+use values_by_id::SortedRows;
 use schema::TreeUpdate;
 use std::alloc::Global;
 use tree_changes::{Decision, NodeChange, TreeRecord, UpdateError};

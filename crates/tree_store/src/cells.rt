@@ -11,7 +11,7 @@ ghost use Rattle.tree_store.specs.Cells.{no_slots, kept_in, number_of, slot_at, 
 ghost use Rattle.tree_store.specs.Commits.{record_moved_to, record_after};
 
 use crate::records::Record;
-use id_index::IdIndex;
+use values_by_id::IdIndex;
 use model::{FullNodeId, Place};
 use schema::{Node, NodeId, Role};
 use std::alloc::{AllocError, Global};

@@ -1,7 +1,0 @@
-use Rattle.std.proofs.Common.{sym, subst}
-use Rattle.id_index.specs.Found.{AreApart}
-use Rattle.id_index.proofs.Led.{apart_when_found}
-use Rattle.id_index.proofs.others.Others.tidy.Goals as goal
-
-pub trie_of-requires : goal.trie_of-requires
-trie_of-requires g c = subst (λ l. AreApart l) (sym c.as_slice.ensures.value) (apart_when_found c.self.inside.trie c.self.inside.entries.items c.self.invariant)

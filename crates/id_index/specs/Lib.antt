@@ -1,5 +1,0 @@
-pub mod Cells
-pub mod Lends
-pub mod Index
-pub mod Ways
-pub mod Found

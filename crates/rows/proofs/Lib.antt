@@ -1,4 +1,0 @@
-pub mod Changed
-pub mod Places
-pub mod Settled
-pub mod Twice

@@ -1,0 +1,9 @@
+pub mod Entries
+pub mod Kept
+pub mod Ways
+pub mod Led
+pub mod Digits
+pub mod Changed
+pub mod Places
+pub mod Settled
+pub mod Twice
