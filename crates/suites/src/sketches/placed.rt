@@ -1,7 +1,7 @@
 //! The places of a mirror's nodes.
 
-use crate::ids::id;
-use crate::recorder::{Id, pair};
+use crate::sketches::ids::id;
+use crate::sketches::recorder::{Id, pair};
 use trees::Mirror;
 
 /// A node, and its place: its parent, and its index there. A root has no place.

@@ -1,5 +1,4 @@
 //! What tests are made of: nodes, updates and texts as plain data, random updates, and a handler that records events.
-#![tactic(auto)]
 
 mod fields;
 mod growing;

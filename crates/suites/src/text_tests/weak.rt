@@ -1,16 +1,16 @@
 //! Ranges that are kept over an update.
 
-use crate::asking::Place::At;
-use crate::asking::Span::{Between, Selection};
-use crate::asking::{both_ends, range};
+use crate::text_tests::asking::Place::At;
+use crate::text_tests::asking::Span::{Between, Selection};
+use crate::text_tests::asking::{both_ends, range};
 use accesskit_consumer::WeakTextRange;
 use accesskit_consumer::node::NodeRef;
 use accesskit_consumer::tree::Tree;
 use schema::Role;
-use sketches::Has::{Children, Lengths, Value, Words};
-use sketches::recorder::Recorder;
-use sketches::small_texts::{LETTERS, LETTERS_IN_BYTES, NOTHING, OWN_VALUE, THIRD, Text};
-use sketches::{CHANGED, Sent, Sketch, Spot, nodes_of, planted, root_of};
+use crate::sketches::Has::{Children, Lengths, Value, Words};
+use crate::sketches::recorder::Recorder;
+use crate::sketches::small_texts::{LETTERS, LETTERS_IN_BYTES, NOTHING, OWN_VALUE, THIRD, Text};
+use crate::sketches::{CHANGED, Sent, Sketch, Spot, nodes_of, planted, root_of};
 use std::alloc::Global;
 use std::test::Fail;
 

@@ -1,15 +1,15 @@
 //! Runs of a session with a mirror beside them.
 
-use crate::sent::{
+use crate::session_tests::sent::{
     DOCUMENT, DROPPED, FOCUSED, GRAFTING, HOISTED, LABELLED, MOVED, PLAIN, SHELVES, session,
 };
 use accesskit_consumer::node::{FullNodeId, NodeRef};
 use accesskit_consumer::tree::{Mirror, MirrorRecord, StateRef};
 use model::Place;
 use session::{Command, Reply, Session};
-use sketches::Sent;
-use sketches::placed::{Placed, has_focus, has_places};
-use sketches::recorder::Id;
+use crate::sketches::Sent;
+use crate::sketches::placed::{Placed, has_focus, has_places};
+use crate::sketches::recorder::Id;
 use std::alloc::Global;
 use std::collections::BTreeMap;
 use std::test::Fail;

@@ -1,6 +1,6 @@
 //! What is sent of a node, as plain data.
 
-use crate::ids::{node_ids, tree_id};
+use crate::sketches::ids::{node_ids, tree_id};
 use schema::{Node, NodeId, Rect, Role, TextDirection, TextPosition, TextSelection, Translation};
 use std::alloc::{AllocError, Global};
 

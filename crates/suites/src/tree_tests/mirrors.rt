@@ -1,10 +1,10 @@
 //! A mirror that receives the events of each update, beside another handler, has the nodes at the places that the tree
 //! has.
 
-use sketches::Sent;
-use sketches::placed::{Placed, has_focus, has_places};
-use sketches::recorder::{Id, Recorder, Told};
-use sketches::updates::{
+use crate::sketches::Sent;
+use crate::sketches::placed::{Placed, has_focus, has_places};
+use crate::sketches::recorder::{Id, Recorder, Told};
+use crate::sketches::updates::{
     BUTTON_DROPPED, CHILD_AS_ROOT, CHILD_MOVED, DOCUMENT, FAMILY, FOCUS_ON_CHILD, GRAFT_RENAMED,
     INNER_DOCUMENT, INNER_MOVED, LABELLED, LABELLED_AGAIN, OUTER_DOCUMENT, PLAIN, WINDOW,
 };

@@ -2,8 +2,8 @@
 
 use schema::Role;
 use session::Session;
-use sketches::Has::{Children, Graft, Label};
-use sketches::{BROUGHT, CHANGED, Sent, Sketch};
+use crate::sketches::Has::{Children, Graft, Label};
+use crate::sketches::{BROUGHT, CHANGED, Sent, Sketch};
 use std::alloc::Global;
 use std::test::Fail;
 

@@ -9,7 +9,7 @@ use accesskit_consumer::node::NodeRef;
 use accesskit_consumer::text::{TextPosition, TextRange};
 use accesskit_consumer::{TextIndexes, TextPlaces, TextRoot, TextSelections};
 use schema::Point;
-use sketches::Spot;
+use crate::sketches::Spot;
 use std::test::Fail;
 
 /// A position, if it is there.

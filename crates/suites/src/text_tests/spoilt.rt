@@ -4,10 +4,10 @@ use accesskit_consumer::node::NodeRef;
 use accesskit_consumer::tree::Tree;
 use accesskit_consumer::{TextRoot, TextSelections};
 use schema::Role::{GenericContainer, TextInput, TextRun};
-use sketches::Has::{
+use crate::sketches::Has::{
     self, Children, Graft, Lengths, Next, Positions, Previous, Selection, Value, Widths, Words,
 };
-use sketches::{BROUGHT, Sent, Sketch, grown_by, planted, root_of};
+use crate::sketches::{BROUGHT, Sent, Sketch, grown_by, planted, root_of};
 use std::alloc::{AllocError, Global};
 use std::test::Fail;
 

@@ -2,11 +2,11 @@
 
 ghost use Rattle.std.specs.Prelude.{⊤};
 
-use sketches::ids::id;
-use sketches::recorder::Told::{Added, FocusMoved, Removed, Updated};
-use sketches::recorder::{Id, Told, id_of, pair};
-use sketches::updates::{CHILD_MOVED, FAMILY, INNER_DOCUMENT, INNER_MOVED, OUTER_DOCUMENT, WINDOW};
-use sketches::{Sent, grown_by};
+use crate::sketches::ids::id;
+use crate::sketches::recorder::Told::{Added, FocusMoved, Removed, Updated};
+use crate::sketches::recorder::{Id, Told, id_of, pair};
+use crate::sketches::updates::{CHILD_MOVED, FAMILY, INNER_DOCUMENT, INNER_MOVED, OUTER_DOCUMENT, WINDOW};
+use crate::sketches::{Sent, grown_by};
 use std::alloc::Global;
 use std::test::Fail;
 use trees::TreeChangeHandler;

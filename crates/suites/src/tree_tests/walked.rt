@@ -1,6 +1,6 @@
 //! Walks from nodes, taken by mixtures of calls from both ends, as the ids that are given.
 
-use sketches::ids::{id, id_of};
+use crate::sketches::ids::{id, id_of};
 use std::alloc::{AllocError, Global};
 use std::cell::Cell;
 use views::filters::common_filter;

@@ -1,8 +1,8 @@
 //! Small trees as plain data.
 
-use crate::fields::{Has, node_of};
-use crate::ids::{id, tree_id};
-use crate::recorder::Recorder;
+use crate::sketches::fields::{Has, node_of};
+use crate::sketches::ids::{id, tree_id};
+use crate::sketches::recorder::Recorder;
 use schema::{Node, NodeId, Role, TreeInfo, TreeUpdate};
 use std::alloc::{AllocError, Global};
 use std::test::Fail;

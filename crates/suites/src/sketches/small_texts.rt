@@ -1,10 +1,10 @@
 //! Small texts.
 
-use crate::Has::{
+use crate::sketches::Has::{
     Bounds, Children, Direction, FontSize, LabelledBy, Lengths, Letters, LettersInBytes, Move,
     Positions, Selection, Value, Widths, Words, WordsInBytes,
 };
-use crate::Sketch;
+use crate::sketches::Sketch;
 use schema::{Role, TextDirection};
 
 /// What is shown of four characters of a password.

@@ -1,7 +1,7 @@
 //! Updates of small interfaces.
 
-use crate::Has::{Children, Graft, Label};
-use crate::{BROUGHT, CHANGED, Sent, Sketch};
+use crate::sketches::Has::{Children, Graft, Label};
+use crate::sketches::{BROUGHT, CHANGED, Sent, Sketch};
 use schema::Role::GenericContainer;
 
 const WITH_CHILD: Sketch = Sketch(0, GenericContainer, &[Children(&[1])]);
