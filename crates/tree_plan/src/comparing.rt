@@ -12,11 +12,11 @@ ghost use Rattle.tree_plan.specs.Comparisons.{AreEntriesTaken, IsNamedTwice, Gat
 use crate::opening::is_root_tree;
 use crate::passes::{Arrival, Compared, Comparing, Named, Opened};
 use model::{FullNodeId, Place};
-use values_by_id::{RowList, SortedRows};
 use schema::{Node, NodeId, TreeId, TreeUpdate};
 use std::alloc::Global;
 use std::collections::BTreeMap;
 use tree_changes::{LookUps, UpdateError};
+use values_by_id::{RowList, SortedRows};
 
 /// A node of the tree with this index.
 pub(crate) fn full_id(index: u32, node: NodeId) -> FullNodeId

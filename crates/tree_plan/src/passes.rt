@@ -1,9 +1,9 @@
 //! The results of the passes.
 use model::{FullNodeId, Place};
-use values_by_id::{RowList, SortedRows};
 use schema::{NodeId, TreeId, TreeUpdate};
 use std::collections::{BTreeMap, BTreeSet};
 use tree_changes::TreeRecord;
+use values_by_id::{RowList, SortedRows};
 
 /// The update's tree: its old record (empty if there isn't one), and its index and root afterwards.
 #[derive(Clone, Copy)]

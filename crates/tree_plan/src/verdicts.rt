@@ -13,9 +13,9 @@ ghost use Rattle.tree_changes.specs.declared.error.UpdateError.TheVariants.{Memo
 use crate::passes::{Compared, Named, Opened, Removed};
 use crate::regrafting::Regrafted;
 use model::{FullNodeId, Place};
-use values_by_id::{RowList, SortedRows};
 use std::alloc::Global;
 use tree_changes::UpdateError;
+use values_by_id::{RowList, SortedRows};
 
 /// The verdict on a node that changes, or is reported without a change.
 #[derive(Clone, Copy)]

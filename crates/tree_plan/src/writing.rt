@@ -18,10 +18,10 @@ ghost use Rattle.tree_plan.specs.Verdicts.{Transition, IsFound};
 use crate::passes::{Focused, Opened};
 use crate::verdicts::{Found, Verdict};
 use model::{FullNodeId, PlanEvent};
-use values_by_id::SortedRows;
 use schema::TreeUpdate;
 use std::alloc::Global;
 use tree_changes::{Decision, NodeChange, TreeRecord, UpdateError};
+use values_by_id::SortedRows;
 
 /// The groups in which nodes are reported.
 #[derive(Clone, Copy, PartialEq, Eq)]

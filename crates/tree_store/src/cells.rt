@@ -11,12 +11,12 @@ ghost use Rattle.tree_store.specs.Cells.{no_slots, kept_in, number_of, slot_at, 
 ghost use Rattle.tree_store.specs.Commits.{record_moved_to, record_after};
 
 use crate::records::Record;
-use values_by_id::IdIndex;
 use model::{FullNodeId, Place};
 use schema::{Node, NodeId, Role};
 use std::alloc::{AllocError, Global};
 use std::marker::Model;
 use std::mem;
+use values_by_id::IdIndex;
 
 /// The maximum number of cells. Each has a number of 32 bits, and the greatest such number is left for no cell.
 const MOST: usize = u32::MAX as usize;

@@ -3,13 +3,13 @@
 use crate::session_tests::sent::{
     DOCUMENT, DROPPED, FOCUSED, GRAFTING, HOISTED, LABELLED, MOVED, PLAIN, SHELVES, session,
 };
+use crate::sketches::Sent;
+use crate::sketches::placed::{Placed, has_focus, has_places};
+use crate::sketches::recorder::Id;
 use accesskit_consumer::node::{FullNodeId, NodeRef};
 use accesskit_consumer::tree::{Mirror, MirrorRecord, StateRef};
 use model::Place;
 use session::{Command, Reply, Session};
-use crate::sketches::Sent;
-use crate::sketches::placed::{Placed, has_focus, has_places};
-use crate::sketches::recorder::Id;
 use std::alloc::Global;
 use std::collections::BTreeMap;
 use std::test::Fail;

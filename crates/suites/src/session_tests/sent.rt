@@ -1,9 +1,9 @@
 //! Updates of small interfaces, as plain data.
 
-use schema::Role;
-use session::Session;
 use crate::sketches::Has::{Children, Graft, Label};
 use crate::sketches::{BROUGHT, CHANGED, Sent, Sketch};
+use schema::Role;
+use session::Session;
 use std::alloc::Global;
 use std::test::Fail;
 

@@ -5,11 +5,11 @@ ghost use Rattle.views.specs.Nodes.{world_at, id_at};
 ghost use Rattle.texts.specs.Positions.{root_at};
 ghost use Rattle.texts.specs.TextRanges.{world_in, root_in};
 
+use crate::sketches::Spot;
 use accesskit_consumer::node::NodeRef;
 use accesskit_consumer::text::{TextPosition, TextRange};
 use accesskit_consumer::{TextIndexes, TextPlaces, TextRoot, TextSelections};
 use schema::Point;
-use crate::sketches::Spot;
 use std::test::Fail;
 
 /// A position, if it is there.

@@ -1,14 +1,14 @@
 //! Two positions, which may come from two texts or from two states: how they compare, and the range of both.
 
+use crate::sketches::Has::{Children, Lengths, Value};
+use crate::sketches::small_texts::{EMPTY_LAST, LETTERS, MEETING, PARAGRAPHS, Text, WIDE};
+use crate::sketches::{Sketch, Spot, planted, shown};
 use crate::text_tests::asking::Place::{self, Anchor, At, DocumentEnd, DocumentStart, EndSideOf};
 use crate::text_tests::asking::{both_ends, placed};
 use accesskit_consumer::node::NodeRef;
 use accesskit_consumer::text::{TextPosition, TextRange};
 use accesskit_consumer::tree::Tree;
 use schema::Role;
-use crate::sketches::Has::{Children, Lengths, Value};
-use crate::sketches::small_texts::{EMPTY_LAST, LETTERS, MEETING, PARAGRAPHS, Text, WIDE};
-use crate::sketches::{Sketch, Spot, planted, shown};
 use std::alloc::Global;
 use std::cmp::Ordering::{self, Equal, Greater, Less};
 use std::test::Fail;

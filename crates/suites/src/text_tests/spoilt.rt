@@ -1,13 +1,13 @@
 //! Runs that make no text.
 
-use accesskit_consumer::node::NodeRef;
-use accesskit_consumer::tree::Tree;
-use accesskit_consumer::{TextRoot, TextSelections};
-use schema::Role::{GenericContainer, TextInput, TextRun};
 use crate::sketches::Has::{
     self, Children, Graft, Lengths, Next, Positions, Previous, Selection, Value, Widths, Words,
 };
 use crate::sketches::{BROUGHT, Sent, Sketch, grown_by, planted, root_of};
+use accesskit_consumer::node::NodeRef;
+use accesskit_consumer::tree::Tree;
+use accesskit_consumer::{TextRoot, TextSelections};
+use schema::Role::{GenericContainer, TextInput, TextRun};
 use std::alloc::{AllocError, Global};
 use std::test::Fail;
 

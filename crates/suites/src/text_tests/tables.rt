@@ -1,14 +1,5 @@
 //! Small texts, worked out by hand: a table of questions and answers.
 
-use crate::text_tests::asking::Place::{
-    self, Anchor, At, DocumentEnd, DocumentStart, EndSideOf, Focus, Near, Unit,
-};
-use crate::text_tests::asking::Span::{self, Between, Document, Line, Selection, WithEnd, WithStart};
-use crate::text_tests::asking::{both_ends, found, named, placed, range, ranged};
-use accesskit_consumer::node::NodeRef;
-use accesskit_consumer::text::TextRangePropertyValue::Single;
-use accesskit_consumer::text::{TextPosition, TextRange};
-use schema::{Role, WideRect};
 use crate::sketches::Has::{Children, Lengths, Next, Previous, Value, Words};
 use crate::sketches::small_texts::{
     BULLETS, ELSEWHERE, EMPTY_LAST, LEFTWARD, LETTERS, MEETING, MORE_LETTERS, NOTHING, OTHER_RUNS,
@@ -16,6 +7,17 @@ use crate::sketches::small_texts::{
     WIDE_SECRET,
 };
 use crate::sketches::{Sketch, Spot, planted, root_of};
+use crate::text_tests::asking::Place::{
+    self, Anchor, At, DocumentEnd, DocumentStart, EndSideOf, Focus, Near, Unit,
+};
+use crate::text_tests::asking::Span::{
+    self, Between, Document, Line, Selection, WithEnd, WithStart,
+};
+use crate::text_tests::asking::{both_ends, found, named, placed, range, ranged};
+use accesskit_consumer::node::NodeRef;
+use accesskit_consumer::text::TextRangePropertyValue::Single;
+use accesskit_consumer::text::{TextPosition, TextRange};
+use schema::{Role, WideRect};
 use std::alloc::{AllocError, Global};
 use std::test::Fail;
 

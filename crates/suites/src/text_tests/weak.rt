@@ -1,5 +1,9 @@
 //! Ranges that are kept over an update.
 
+use crate::sketches::Has::{Children, Lengths, Value, Words};
+use crate::sketches::recorder::Recorder;
+use crate::sketches::small_texts::{LETTERS, LETTERS_IN_BYTES, NOTHING, OWN_VALUE, THIRD, Text};
+use crate::sketches::{CHANGED, Sent, Sketch, Spot, nodes_of, planted, root_of};
 use crate::text_tests::asking::Place::At;
 use crate::text_tests::asking::Span::{Between, Selection};
 use crate::text_tests::asking::{both_ends, range};
@@ -7,10 +11,6 @@ use accesskit_consumer::WeakTextRange;
 use accesskit_consumer::node::NodeRef;
 use accesskit_consumer::tree::Tree;
 use schema::Role;
-use crate::sketches::Has::{Children, Lengths, Value, Words};
-use crate::sketches::recorder::Recorder;
-use crate::sketches::small_texts::{LETTERS, LETTERS_IN_BYTES, NOTHING, OWN_VALUE, THIRD, Text};
-use crate::sketches::{CHANGED, Sent, Sketch, Spot, nodes_of, planted, root_of};
 use std::alloc::Global;
 use std::test::Fail;
 

@@ -3,16 +3,16 @@
 ghost use Rattle.std.specs.Prelude.{◌≡◌, ◌+◌, ◌^◌, ◌<◌};
 ghost use Rattle.std.specs.String.{string_bytes};
 
+use crate::sketches::small_texts::{
+    ALIKE, BULLETS, LABELLED, MEETING, OWN_VALUE, SECRET, SECRET_WITHOUT_RUNS, Text,
+};
+use crate::sketches::{planted, root_of};
 use crate::text_tests::asking::Place::At;
 use crate::text_tests::asking::Span::{self, Between};
 use crate::text_tests::asking::range;
 use Writing::{Label, Value};
 use accesskit_consumer::node::NodeRef;
 use schema::{TextBuffer, TextFault, TextWrite};
-use crate::sketches::small_texts::{
-    ALIKE, BULLETS, LABELLED, MEETING, OWN_VALUE, SECRET, SECRET_WITHOUT_RUNS, Text,
-};
-use crate::sketches::{planted, root_of};
 use std::alloc::Global;
 use std::process::Abort;
 use std::test::Fail;

@@ -5,7 +5,9 @@ ghost use Rattle.std.specs.Prelude.{⊤};
 use crate::sketches::ids::id;
 use crate::sketches::recorder::Told::{Added, FocusMoved, Removed, Updated};
 use crate::sketches::recorder::{Id, Told, id_of, pair};
-use crate::sketches::updates::{CHILD_MOVED, FAMILY, INNER_DOCUMENT, INNER_MOVED, OUTER_DOCUMENT, WINDOW};
+use crate::sketches::updates::{
+    CHILD_MOVED, FAMILY, INNER_DOCUMENT, INNER_MOVED, OUTER_DOCUMENT, WINDOW,
+};
 use crate::sketches::{Sent, grown_by};
 use std::alloc::Global;
 use std::test::Fail;

@@ -1,10 +1,10 @@
 //! How many look-ups an update makes.
 
-use schema::{Node, NodeBuilder, NodeId, Role, TreeId, TreeUpdate};
 use crate::sketches::ids::id;
 use crate::sketches::recorder::{Recorder, Told};
 use crate::sketches::updates::{INNER_DOCUMENT, INNER_MOVED, OUTER_DOCUMENT, WINDOW};
 use crate::sketches::{Has, first_update, grown_by, node_of};
+use schema::{Node, NodeBuilder, NodeId, Role, TreeId, TreeUpdate};
 use std::alloc::{AllocError, Global};
 use std::test::Fail;
 use trees::{Steps, Tree};

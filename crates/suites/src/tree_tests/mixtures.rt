@@ -1,10 +1,10 @@
 //! Walks taken from both ends in any mixture, also by filters that note what they are asked, or change their mind.
 
+use crate::sketches::Has::{Children, Controls, LabelledBy};
+use crate::sketches::{Sketch, planted, shown};
 use crate::tree_tests::walked::Steady::{Common, Family};
 use crate::tree_tests::walked::{Given, Pick, Steady, Walk, listed, walked};
 use schema::Role::{CheckBox, GenericContainer, Label, ListItem, Window};
-use crate::sketches::Has::{Children, Controls, LabelledBy};
-use crate::sketches::{Sketch, planted, shown};
 use std::alloc::{AllocError, Global};
 use std::cell::Cell;
 use std::test::Fail;
