@@ -1,6 +1,11 @@
--- A field is found by its name, and no two fields have the same name.
-use Rattle.std.proofs.Common.{◌≡◌, ◌≢◌, ℕ, ◌<◌, List, [], ◌∷◌, map, length, drop, get_or, slice_index_or, bytes_eq, Bool, true, false, Option, Some, None, MatchOption, Bor, if◌then◌else◌, refl, ap, sym, ◌∙◌}
+-- A field is found by its name, and no two fields have the same name. What holds of all in the list of fields holds of each.
+use Rattle.std.proofs.Common.{◌≡◌, ◌≢◌, ⊎_elim, ℕ, ◌<◌, List, [], ◌∷◌, All, map, length, drop, get_or, slice_index_or, bytes_eq, Bool, true, false, Option, Some, None, MatchOption, Bor, if◌then◌else◌, refl, ap, sym, subst, ◌∙◌}
+use Rattle.std.specs.List.{list_all}
+use Rattle.std.proofs.lemmas.Bool.{cases_Bool, cond-true, cond-false}
 use Rattle.std.proofs.lemmas.List.{get_or-map}
+use Rattle.std.proofs.lemmas.List.Elements.{All-head, All-tail}
+use Rattle.std.proofs.lemmas.List.Sums.{AllPass-from_list_all}
+use Rattle.std.proofs.lemmas.Option.{none-some, same_Some}
 use Rattle.std.proofs.lemmas.Slice.Eq.{bytes_eq-Decides}
 use Rattle.script_nodes.specs.declared.field_kinds.IdsField.TheVariants as ids
 use Rattle.script_nodes.specs.declared.field_kinds.IdField.TheVariants as id
@@ -28,85 +33,39 @@ named name (which ∷ others) = if bytes_eq (field_name which) name then Some wh
 pub named_back : (which : Field) → named (field_name which) all_fields ≡ Some which
 unfolding named
 named_back (field.Ids ids.Children) = refl
-named_back (field.Ids ids.LabelledBy) = refl
-named_back (field.Ids ids.Controls) = refl
-named_back field.Tree = refl
 named_back (field.Id id.ActiveDescendant) = refl
 named_back (field.Text text.Label) = refl
-named_back (field.Text text.Value) = refl
-named_back (field.Text text.Description) = refl
-named_back (field.Text text.Placeholder) = refl
-named_back (field.Text text.RoleDescription) = refl
-named_back (field.Text text.Url) = refl
-named_back (field.Text text.AuthorId) = refl
-named_back (field.Text text.HtmlId) = refl
-named_back (field.Text text.ClassName) = refl
-named_back (field.Text text.BrailleLabel) = refl
-named_back (field.Text text.BrailleRoleDescription) = refl
-named_back (field.Text text.ColumnIndexText) = refl
-named_back (field.Text text.RowIndexText) = refl
-named_back (field.Text text.FontFamily) = refl
-named_back (field.Text text.Language) = refl
 named_back (field.Flag flag.Hidden) = refl
-named_back (field.Flag flag.ClipsChildren) = refl
-named_back (field.Flag flag.Disabled) = refl
-named_back (field.Flag flag.ReadOnly) = refl
-named_back (field.Flag flag.Required) = refl
-named_back (field.Flag flag.Modal) = refl
-named_back (field.Flag flag.Busy) = refl
-named_back (field.Flag flag.Multiselectable) = refl
-named_back (field.Flag flag.Italic) = refl
-named_back (field.Flag flag.LiveAtomic) = refl
-named_back (field.Flag flag.TouchTransparent) = refl
-named_back field.Bounds = refl
-named_back field.Transform = refl
-named_back field.Selection = refl
 named_back (field.Numbers numbers.CharacterLengths) = refl
-named_back (field.Numbers numbers.WordStarts) = refl
 named_back (field.Units units.CharacterPositions) = refl
-named_back (field.Units units.CharacterWidths) = refl
-named_back (field.Id id.PreviousOnLine) = refl
-named_back (field.Id id.NextOnLine) = refl
-named_back field.Toggled = refl
 named_back (field.Bool bool.Expanded) = refl
-named_back (field.Bool bool.Selected) = refl
-named_back field.Live = refl
-named_back field.Orientation = refl
-named_back field.SortDirection = refl
-named_back field.AriaCurrent = refl
-named_back field.HasPopup = refl
-named_back field.FontSize = refl
-named_back field.FontWeight = refl
 named_back (field.Color color.Background) = refl
-named_back (field.Color color.Foreground) = refl
 named_back (field.Decoration decoration.Overline) = refl
-named_back (field.Decoration decoration.Strikethrough) = refl
-named_back (field.Decoration decoration.Underline) = refl
-named_back field.TextDirection = refl
-named_back field.TextAlign = refl
-named_back field.VerticalOffset = refl
 named_back (field.Number number.NumericValue) = refl
-named_back (field.Number number.MinNumericValue) = refl
-named_back (field.Number number.MaxNumericValue) = refl
-named_back (field.Number number.NumericValueStep) = refl
-named_back (field.Number number.NumericValueJump) = refl
 named_back (field.Count count.Level) = refl
-named_back (field.Count count.SizeOfSet) = refl
-named_back (field.Count count.PositionInSet) = refl
-named_back (field.Number number.ScrollX) = refl
-named_back (field.Number number.ScrollXMin) = refl
-named_back (field.Number number.ScrollXMax) = refl
-named_back (field.Number number.ScrollY) = refl
-named_back (field.Number number.ScrollYMin) = refl
-named_back (field.Number number.ScrollYMax) = refl
 named_back (field.Actions actions.Own) = refl
-named_back (field.Actions actions.Children) = refl
+named_back _ = refl
 
-some_same : (one other : Field) → Some one ≡ Some other → one ≡ other
-some_same one other e = cc
+-- ---- what holds of all fields in the list holds of each
+
+of_named : (P : Field → Type 0) (name : List ℕ) (fields : List Field) (which : Field) → All P fields → named name fields ≡ Some which → P which
+unfolding named
+of_named P name [] which all e = absurd (none-some which e)
+of_named P name (f ∷ fields) which all e = ⊎_elim
+    (λ t. subst P (same_Some f which (sym (cond-true _ _ _ t) ∙ e)) (All-head P f fields all))
+    (λ no. of_named P name fields which (All-tail P f fields all) (sym (cond-false _ _ _ no) ∙ e))
+    (cases_Bool (bytes_eq (field_name f) name))
+
+pub each : (P : Field → Type 0) → All P all_fields → (which : Field) → P which
+each P all which = of_named P (field_name which) all_fields which all (named_back which)
+
+pub each_passes : (test : Field → Bool) → list_all test all_fields ≡ true → (which : Field) → test which ≡ true
+each_passes test all = each (λ f. test f ≡ true) (AllPass-from_list_all test all_fields all)
+
+-- ---- a name is that of one field
 
 pub same_name : (name : List ℕ) (one other : Field) → name ≡ field_name one → name ≡ field_name other → one ≡ other
-same_name name one other e f = some_same one other (sym (named_back one) ∙ ap (λ n. named n all_fields) (sym e ∙ f) ∙ named_back other)
+same_name name one other e f = same_Some one other (sym (named_back one) ∙ ap (λ n. named n all_fields) (sym e ∙ f) ∙ named_back other)
 
 -- ---- a field is found by its name in a table
 
@@ -122,7 +81,7 @@ in_table name (entry ∷ others) h =
     rw first (ap (λ t. if bytes_eq (field_name entry.1) name then Some entry.1 else t) (in_table name others (ap (drop 1) h)))
 
 found_by : (name : List ℕ) (other : Field) (rest : Option Field) (which : Field) (same : Bool) → bytes_eq (field_name other) name ≡ same → (if same then Some other else rest) ≡ Some which → (rest ≡ Some which → name ≡ field_name which) → name ≡ field_name which
-found_by name other rest which true is e later = sym ((bytes_eq-Decides (field_name other) name).0 is) ∙ ap field_name (some_same other which e)
+found_by name other rest which true is e later = sym ((bytes_eq-Decides (field_name other) name).0 is) ∙ ap field_name (same_Some other which e)
 found_by name other rest which false is e later = later e
 
 -- what is found is called so

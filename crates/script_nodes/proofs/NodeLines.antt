@@ -2,9 +2,6 @@
 use Rattle.std.proofs.Common.{◌≡◌, ℕ, ◌<◌, ◌^◌, List, [], ◌∷◌, ◌++◌, All, Bool, true, codes, Option, Some, None, IsUtf8, MatchOption, option_map, bytes_eq, refl, sym, subst, ◌∙◌, ⊎_elim}
 use Rattle.std.specs.Bool.{⊤}
 use Rattle.std.specs.Fmt.{decimal, signed_decimal}
-use Rattle.std.specs.List.{list_all}
-use Rattle.std.proofs.lemmas.Bool.{and_parts, cases_Bool, cond-true, cond-false}
-use Rattle.std.proofs.lemmas.Option.{none-some, same_Some}
 use Rattle.schema.specs.NodeData.{NodeData}
 use Rattle.schema.specs.RoleNames.{role_text}
 use Rattle.schema.specs.declared.NodeId.{NodeId}
@@ -19,25 +16,15 @@ use Rattle.script_words.specs.Parts.{actions_value, color_text, decoration_text,
 use Rattle.script_words.specs.Quoted.{quoted}
 use Rattle.script_words.specs.Reading.{IsColor, IsCount, IsDecoration, IsId, IsNumber, IsRect, IsSelection, IsShort, IsTranslation, IsUnits}
 use Rattle.script_nodes.proofs.ActionSets.{all_actions}
-use Rattle.script_nodes.proofs.FieldNames.{named, named_back}
+use Rattle.script_nodes.proofs.FieldNames.{each_passes}
 use Rattle.script_words.proofs.LineTexts.{IsLineText, decimal_line, line_all, line_append, line_by, line_if_there, line_joined, quoted_line, shows, signed_line}
 use Rattle.script_words.proofs.NameLines.{aria_current_line, has_popup_line, live_line, orientation_line, sort_direction_line, text_align_line, text_direction_line, toggled_line, truth_line, vertical_offset_line}
 use Rattle.script_words.proofs.ValueLines.{role_line, tree_line, id_line, short_line, narrow_line, rect_line, translation_line, selection_line, color_line, decoration_line, list_line, ids_line, numbers_line, actions_line, word_line, flag_line}
 
--- ---- names of fields and roles, which stand in lists
-
-named_shows : (name : List ℕ) (fields : List Field) (which : Field) → list_all (λ f. shows (field_name f)) fields ≡ true → named name fields ≡ Some which → shows (field_name which) ≡ true
-unfolding named
-named_shows name [] which all e = absurd (none-some which e)
-named_shows name (f ∷ fields) which all e =
-    let k = and_parts (shows (field_name f)) (list_all (λ f. shows (field_name f)) fields) all in
-    ⊎_elim
-    (λ t. let same : f ≡ which = same_Some f which (sym (cond-true _ _ _ t) ∙ e) in subst (λ x. shows (field_name x) ≡ true) same k.0)
-    (λ no. named_shows name fields which k.1 (sym (cond-false _ _ _ no) ∙ e))
-    (cases_Bool (bytes_eq (field_name f) name))
+-- ---- names of fields
 
 field_name_line : (which : Field) → IsLineText (field_name which)
-field_name_line which = line_by (field_name which) (named_shows (field_name which) all_fields which refl (named_back which))
+field_name_line which = line_by (field_name which) (each_passes (λ f. shows (field_name f)) refl which)
 
 -- ---- values
 
@@ -81,33 +68,8 @@ value_line n field.VerticalOffset h = named_line _ vertical_offset_line n.vertic
 -- ---- fields
 
 piece_line : (n : NodeData) (which : Field) → IsValue which n → IsLineText (piece n which)
-piece_line n (field.Ids which) h = word_line (field_name (field.Ids which)) (value_of n (field.Ids which)) (field_name_line (field.Ids which)) (value_line n (field.Ids which) h)
-piece_line n (field.Id which) h = word_line (field_name (field.Id which)) (value_of n (field.Id which)) (field_name_line (field.Id which)) (value_line n (field.Id which) h)
-piece_line n (field.Text which) h = word_line (field_name (field.Text which)) (value_of n (field.Text which)) (field_name_line (field.Text which)) (value_line n (field.Text which) h)
 piece_line n (field.Flag which) h = flag_line (field_name (field.Flag which)) (flag_at which n) (field_name_line (field.Flag which))
-piece_line n (field.Numbers which) h = word_line (field_name (field.Numbers which)) (value_of n (field.Numbers which)) (field_name_line (field.Numbers which)) (value_line n (field.Numbers which) h)
-piece_line n (field.Units which) h = word_line (field_name (field.Units which)) (value_of n (field.Units which)) (field_name_line (field.Units which)) (value_line n (field.Units which) h)
-piece_line n (field.Bool which) h = word_line (field_name (field.Bool which)) (value_of n (field.Bool which)) (field_name_line (field.Bool which)) (value_line n (field.Bool which) h)
-piece_line n (field.Color which) h = word_line (field_name (field.Color which)) (value_of n (field.Color which)) (field_name_line (field.Color which)) (value_line n (field.Color which) h)
-piece_line n (field.Decoration which) h = word_line (field_name (field.Decoration which)) (value_of n (field.Decoration which)) (field_name_line (field.Decoration which)) (value_line n (field.Decoration which) h)
-piece_line n (field.Number which) h = word_line (field_name (field.Number which)) (value_of n (field.Number which)) (field_name_line (field.Number which)) (value_line n (field.Number which) h)
-piece_line n (field.Count which) h = word_line (field_name (field.Count which)) (value_of n (field.Count which)) (field_name_line (field.Count which)) (value_line n (field.Count which) h)
-piece_line n (field.Actions which) h = word_line (field_name (field.Actions which)) (value_of n (field.Actions which)) (field_name_line (field.Actions which)) (value_line n (field.Actions which) h)
-piece_line n field.Tree h = word_line (field_name field.Tree) (value_of n field.Tree) (field_name_line field.Tree) (value_line n field.Tree h)
-piece_line n field.Bounds h = word_line (field_name field.Bounds) (value_of n field.Bounds) (field_name_line field.Bounds) (value_line n field.Bounds h)
-piece_line n field.Transform h = word_line (field_name field.Transform) (value_of n field.Transform) (field_name_line field.Transform) (value_line n field.Transform h)
-piece_line n field.Selection h = word_line (field_name field.Selection) (value_of n field.Selection) (field_name_line field.Selection) (value_line n field.Selection h)
-piece_line n field.Toggled h = word_line (field_name field.Toggled) (value_of n field.Toggled) (field_name_line field.Toggled) (value_line n field.Toggled h)
-piece_line n field.Live h = word_line (field_name field.Live) (value_of n field.Live) (field_name_line field.Live) (value_line n field.Live h)
-piece_line n field.Orientation h = word_line (field_name field.Orientation) (value_of n field.Orientation) (field_name_line field.Orientation) (value_line n field.Orientation h)
-piece_line n field.SortDirection h = word_line (field_name field.SortDirection) (value_of n field.SortDirection) (field_name_line field.SortDirection) (value_line n field.SortDirection h)
-piece_line n field.AriaCurrent h = word_line (field_name field.AriaCurrent) (value_of n field.AriaCurrent) (field_name_line field.AriaCurrent) (value_line n field.AriaCurrent h)
-piece_line n field.HasPopup h = word_line (field_name field.HasPopup) (value_of n field.HasPopup) (field_name_line field.HasPopup) (value_line n field.HasPopup h)
-piece_line n field.FontSize h = word_line (field_name field.FontSize) (value_of n field.FontSize) (field_name_line field.FontSize) (value_line n field.FontSize h)
-piece_line n field.FontWeight h = word_line (field_name field.FontWeight) (value_of n field.FontWeight) (field_name_line field.FontWeight) (value_line n field.FontWeight h)
-piece_line n field.TextDirection h = word_line (field_name field.TextDirection) (value_of n field.TextDirection) (field_name_line field.TextDirection) (value_line n field.TextDirection h)
-piece_line n field.TextAlign h = word_line (field_name field.TextAlign) (value_of n field.TextAlign) (field_name_line field.TextAlign) (value_line n field.TextAlign h)
-piece_line n field.VerticalOffset h = word_line (field_name field.VerticalOffset) (value_of n field.VerticalOffset) (field_name_line field.VerticalOffset) (value_line n field.VerticalOffset h)
+piece_line n which h = word_line (field_name which) (value_of n which) (field_name_line which) (value_line n which h)
 
 fields_line : (n : NodeData) → IsNode n → IsLineText (fields_text n)
 unfolding fields_text

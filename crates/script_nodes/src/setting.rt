@@ -75,16 +75,23 @@ pub fn set_field(field: Field, value: FieldValue<'_>, node: &mut Node) -> Result
     }
 }
 
+/// Sets a field, if it is of a kind, and says whether it is.
+macro_rules! set_if {
+    ($field:ident, $kind:pat => $set:expr) => {
+        match $field {
+            $kind => {
+                $set;
+                true
+            }
+            _ => false,
+        }
+    };
+}
+
 fn set_ids(field: Field, ids: &[NodeId], node: &mut Node) -> Result<bool, AllocError>
     ensures { Sets (given_ids ids.now field node.old) result node.old node.new }
 {
-    match field {
-        Field::Ids(which) => {
-            which.set(ids, node)?;
-            Ok(true)
-        }
-        _ => Ok(false),
-    }
+    Ok(set_if!(field, Field::Ids(which) => which.set(ids, node)?))
 }
 
 fn set_text(field: Field, text: &[u8], node: &mut Node) -> Result<bool, AllocError>
@@ -111,73 +118,37 @@ fn set_utf8(which: TextField, text: &[u8], node: &mut Node) -> Result<bool, Allo
 fn set_numbers(field: Field, numbers: &[u16], node: &mut Node) -> Result<bool, AllocError>
     ensures { Sets (given_numbers numbers.now field node.old) result node.old node.new }
 {
-    match field {
-        Field::Numbers(which) => {
-            which.set(numbers, node)?;
-            Ok(true)
-        }
-        _ => Ok(false),
-    }
+    Ok(set_if!(field, Field::Numbers(which) => which.set(numbers, node)?))
 }
 
 fn set_units(field: Field, units: &[i32], node: &mut Node) -> Result<bool, AllocError>
     ensures { Sets (given_units units.now field node.old) result node.old node.new }
 {
-    match field {
-        Field::Units(which) => {
-            which.set(units, node)?;
-            Ok(true)
-        }
-        _ => Ok(false),
-    }
+    Ok(set_if!(field, Field::Units(which) => which.set(units, node)?))
 }
 
 fn set_id(field: Field, id: NodeId, node: &mut Node) -> bool
     ensures { Becomes (given_id id field node.old) result node.old node.new }
 {
-    match field {
-        Field::Id(which) => {
-            which.set(id, node);
-            true
-        }
-        _ => false,
-    }
+    set_if!(field, Field::Id(which) => which.set(id, node))
 }
 
 fn set_flag(field: Field, node: &mut Node) -> bool
     ensures { Becomes (given_flag field node.old) result node.old node.new }
 {
-    match field {
-        Field::Flag(which) => {
-            which.set(node);
-            true
-        }
-        _ => false,
-    }
+    set_if!(field, Field::Flag(which) => which.set(node))
 }
 
 fn set_bool(field: Field, is_so: bool, node: &mut Node) -> bool
     ensures { Becomes (given_bool is_so field node.old) result node.old node.new }
 {
-    match field {
-        Field::Bool(which) => {
-            which.set(is_so, node);
-            true
-        }
-        _ => false,
-    }
+    set_if!(field, Field::Bool(which) => which.set(is_so, node))
 }
 
 fn set_color(field: Field, color: Color, node: &mut Node) -> bool
     ensures { Becomes (given_color color field node.old) result node.old node.new }
 {
-    match field {
-        Field::Color(which) => {
-            which.set(color, node);
-            true
-        }
-        _ => false,
-    }
+    set_if!(field, Field::Color(which) => which.set(color, node))
 }
 
 fn set_decoration(field: Field, style: u8, color: Color, node: &mut Node) -> bool
@@ -195,13 +166,7 @@ fn set_decoration(field: Field, style: u8, color: Color, node: &mut Node) -> boo
 fn set_number(field: Field, number: i64, node: &mut Node) -> bool
     ensures { Becomes (given_number number field node.old) result node.old node.new }
 {
-    match field {
-        Field::Number(which) => {
-            which.set(number, node);
-            true
-        }
-        _ => false,
-    }
+    set_if!(field, Field::Number(which) => which.set(number, node))
 }
 
 fn set_count(field: Field, count: usize, node: &mut Node) -> bool
@@ -280,35 +245,17 @@ fn set_tree(field: Field, bytes: &[u8], node: &mut Node) -> bool
 fn set_rect(field: Field, rect: Rect, node: &mut Node) -> bool
     ensures { Becomes (given_rect rect field node.old) result node.old node.new }
 {
-    match field {
-        Field::Bounds => {
-            node.set_bounds(rect);
-            true
-        }
-        _ => false,
-    }
+    set_if!(field, Field::Bounds => node.set_bounds(rect))
 }
 
 fn set_translation(field: Field, by: Translation, node: &mut Node) -> bool
     ensures { Becomes (given_translation by field node.old) result node.old node.new }
 {
-    match field {
-        Field::Transform => {
-            node.set_transform(by);
-            true
-        }
-        _ => false,
-    }
+    set_if!(field, Field::Transform => node.set_transform(by))
 }
 
 fn set_selection(field: Field, selection: TextSelection, node: &mut Node) -> bool
     ensures { Becomes (given_selection selection field node.old) result node.old node.new }
 {
-    match field {
-        Field::Selection => {
-            node.set_text_selection(selection);
-            true
-        }
-        _ => false,
-    }
+    set_if!(field, Field::Selection => node.set_text_selection(selection))
 }

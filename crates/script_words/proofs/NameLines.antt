@@ -31,92 +31,55 @@ use Rattle.script_words.proofs.LineTexts.{IsLineText, line_by}
 
 pub toggled_line : (value : Toggled) → IsLineText (toggled_name value)
 toggled_line toggled.True = line_by (toggled_name toggled.True) refl
-toggled_line toggled.False = line_by (toggled_name toggled.False) refl
-toggled_line toggled.Mixed = line_by (toggled_name toggled.Mixed) refl
+toggled_line value = line_by (toggled_name value) refl
 
 pub live_line : (value : Live) → IsLineText (live_name value)
 live_line live.Off = line_by (live_name live.Off) refl
-live_line live.Polite = line_by (live_name live.Polite) refl
-live_line live.Assertive = line_by (live_name live.Assertive) refl
+live_line value = line_by (live_name value) refl
 
 pub orientation_line : (value : Orientation) → IsLineText (orientation_name value)
 orientation_line orientation.Horizontal = line_by (orientation_name orientation.Horizontal) refl
-orientation_line orientation.Vertical = line_by (orientation_name orientation.Vertical) refl
+orientation_line value = line_by (orientation_name value) refl
 
 pub sort_direction_line : (value : SortDirection) → IsLineText (sort_direction_name value)
 sort_direction_line sort_direction.Ascending = line_by (sort_direction_name sort_direction.Ascending) refl
-sort_direction_line sort_direction.Descending = line_by (sort_direction_name sort_direction.Descending) refl
-sort_direction_line sort_direction.Other = line_by (sort_direction_name sort_direction.Other) refl
+sort_direction_line value = line_by (sort_direction_name value) refl
 
 pub aria_current_line : (value : AriaCurrent) → IsLineText (aria_current_name value)
 aria_current_line aria_current.False = line_by (aria_current_name aria_current.False) refl
-aria_current_line aria_current.True = line_by (aria_current_name aria_current.True) refl
-aria_current_line aria_current.Page = line_by (aria_current_name aria_current.Page) refl
-aria_current_line aria_current.Step = line_by (aria_current_name aria_current.Step) refl
-aria_current_line aria_current.Location = line_by (aria_current_name aria_current.Location) refl
-aria_current_line aria_current.Date = line_by (aria_current_name aria_current.Date) refl
-aria_current_line aria_current.Time = line_by (aria_current_name aria_current.Time) refl
+aria_current_line value = line_by (aria_current_name value) refl
 
 pub has_popup_line : (value : HasPopup) → IsLineText (has_popup_name value)
 has_popup_line has_popup.Menu = line_by (has_popup_name has_popup.Menu) refl
-has_popup_line has_popup.Listbox = line_by (has_popup_name has_popup.Listbox) refl
-has_popup_line has_popup.Tree = line_by (has_popup_name has_popup.Tree) refl
-has_popup_line has_popup.Grid = line_by (has_popup_name has_popup.Grid) refl
-has_popup_line has_popup.Dialog = line_by (has_popup_name has_popup.Dialog) refl
+has_popup_line value = line_by (has_popup_name value) refl
 
 pub text_direction_line : (value : TextDirection) → IsLineText (text_direction_name value)
 text_direction_line text_direction.LeftToRight = line_by (text_direction_name text_direction.LeftToRight) refl
-text_direction_line text_direction.RightToLeft = line_by (text_direction_name text_direction.RightToLeft) refl
-text_direction_line text_direction.TopToBottom = line_by (text_direction_name text_direction.TopToBottom) refl
-text_direction_line text_direction.BottomToTop = line_by (text_direction_name text_direction.BottomToTop) refl
+text_direction_line value = line_by (text_direction_name value) refl
 
 pub text_align_line : (value : TextAlign) → IsLineText (text_align_name value)
 text_align_line text_align.Left = line_by (text_align_name text_align.Left) refl
-text_align_line text_align.Right = line_by (text_align_name text_align.Right) refl
-text_align_line text_align.Center = line_by (text_align_name text_align.Center) refl
-text_align_line text_align.Justify = line_by (text_align_name text_align.Justify) refl
+text_align_line value = line_by (text_align_name value) refl
 
 pub vertical_offset_line : (value : VerticalOffset) → IsLineText (vertical_offset_name value)
 vertical_offset_line vertical_offset.Subscript = line_by (vertical_offset_name vertical_offset.Subscript) refl
-vertical_offset_line vertical_offset.Superscript = line_by (vertical_offset_name vertical_offset.Superscript) refl
+vertical_offset_line value = line_by (vertical_offset_name value) refl
 
 pub decoration_style_line : (value : TextDecorationStyle) → IsLineText (decoration_style_name value)
 decoration_style_line decoration_style.Solid = line_by (decoration_style_name decoration_style.Solid) refl
-decoration_style_line decoration_style.Dotted = line_by (decoration_style_name decoration_style.Dotted) refl
-decoration_style_line decoration_style.Dashed = line_by (decoration_style_name decoration_style.Dashed) refl
-decoration_style_line decoration_style.Double = line_by (decoration_style_name decoration_style.Double) refl
-decoration_style_line decoration_style.Wavy = line_by (decoration_style_name decoration_style.Wavy) refl
+decoration_style_line value = line_by (decoration_style_name value) refl
 
 pub filter_line : (value : NamedFilter) → IsLineText (filter_name value)
 filter_line filter.All = line_by (filter_name filter.All) refl
-filter_line filter.Common = line_by (filter_name filter.Common) refl
-filter_line filter.CommonWithRoot = line_by (filter_name filter.CommonWithRoot) refl
+filter_line value = line_by (filter_name value) refl
 
 pub side_line : (value : Side) → IsLineText (side_name value)
 side_line side.Start = line_by (side_name side.Start) refl
-side_line side.End = line_by (side_name side.End) refl
+side_line value = line_by (side_name value) refl
 
 pub move_line : (value : Move) → IsLineText (move_name value)
 move_line move.ForwardToCharacterStart = line_by (move_name move.ForwardToCharacterStart) refl
-move_line move.ForwardToCharacterEnd = line_by (move_name move.ForwardToCharacterEnd) refl
-move_line move.BackwardToCharacterStart = line_by (move_name move.BackwardToCharacterStart) refl
-move_line move.ForwardToFormatStart = line_by (move_name move.ForwardToFormatStart) refl
-move_line move.ForwardToFormatEnd = line_by (move_name move.ForwardToFormatEnd) refl
-move_line move.BackwardToFormatStart = line_by (move_name move.BackwardToFormatStart) refl
-move_line move.ForwardToWordStart = line_by (move_name move.ForwardToWordStart) refl
-move_line move.ForwardToWordEnd = line_by (move_name move.ForwardToWordEnd) refl
-move_line move.BackwardToWordStart = line_by (move_name move.BackwardToWordStart) refl
-move_line move.ForwardToLineStart = line_by (move_name move.ForwardToLineStart) refl
-move_line move.ForwardToLineEnd = line_by (move_name move.ForwardToLineEnd) refl
-move_line move.BackwardToLineStart = line_by (move_name move.BackwardToLineStart) refl
-move_line move.ForwardToParagraphStart = line_by (move_name move.ForwardToParagraphStart) refl
-move_line move.ForwardToParagraphEnd = line_by (move_name move.ForwardToParagraphEnd) refl
-move_line move.BackwardToParagraphStart = line_by (move_name move.BackwardToParagraphStart) refl
-move_line move.ForwardToPageStart = line_by (move_name move.ForwardToPageStart) refl
-move_line move.ForwardToPageEnd = line_by (move_name move.ForwardToPageEnd) refl
-move_line move.DocumentEnd = line_by (move_name move.DocumentEnd) refl
-move_line move.BackwardToPageStart = line_by (move_name move.BackwardToPageStart) refl
-move_line move.DocumentStart = line_by (move_name move.DocumentStart) refl
+move_line value = line_by (move_name value) refl
 
 pub truth_line : (value : Bool) → IsLineText (truth_name value)
 truth_line true = line_by (codes "true") refl

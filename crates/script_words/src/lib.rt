@@ -11,6 +11,7 @@ pub mod name_lists;
 pub mod names;
 pub mod quoted;
 pub mod stops;
+mod tables;
 mod unquoting;
 pub mod word_lists;
 pub mod words;

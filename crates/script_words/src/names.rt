@@ -22,6 +22,10 @@ ghost use Rattle.model.specs.declared.queries.Side.{Side};
 ghost use Rattle.model.specs.declared.queries.Move.{Move};
 ghost use Rattle.script_words.specs.Names.{toggled_name, truth_name, live_name, orientation_name, sort_direction_name, aria_current_name, has_popup_name, text_direction_name, text_align_name, vertical_offset_name, decoration_style_name, filter_name, side_name, move_name};
 
+use crate::tables::{
+    currents, decoration_styles, filters, lives, moves, orientations, popups, sides,
+    sort_directions, text_aligns, text_directions, toggles, value_named, vertical_offsets,
+};
 use crate::words::{in_brackets, short};
 use model::{Move, NamedFilter, Side};
 use schema::{
@@ -65,12 +69,7 @@ pub fn filter_named(word: &str) -> Option<NamedFilter>
     ensures reads { (value : NamedFilter) → word.now ≡ filter_name value → result ≡ Some value }
     ensures only { IfSome result (λ value. word.now ≡ filter_name value) }
 {
-    match word {
-        "all" => Some(NamedFilter::All),
-        "common" => Some(NamedFilter::Common),
-        "common_with_root" => Some(NamedFilter::CommonWithRoot),
-        _ => None,
-    }
+    filters!(value_named word)
 }
 
 /// The side with this name.
@@ -78,11 +77,7 @@ pub fn side_named(word: &str) -> Option<Side>
     ensures reads { (value : Side) → word.now ≡ side_name value → result ≡ Some value }
     ensures only { IfSome result (λ value. word.now ≡ side_name value) }
 {
-    match word {
-        "start" => Some(Side::Start),
-        "end" => Some(Side::End),
-        _ => None,
-    }
+    sides!(value_named word)
 }
 
 /// The caret movement with this name.
@@ -90,29 +85,7 @@ pub fn move_named(word: &str) -> Option<Move>
     ensures reads { (value : Move) → word.now ≡ move_name value → result ≡ Some value }
     ensures only { IfSome result (λ value. word.now ≡ move_name value) }
 {
-    match word {
-        "forward_to_character_start" => Some(Move::ForwardToCharacterStart),
-        "forward_to_character_end" => Some(Move::ForwardToCharacterEnd),
-        "backward_to_character_start" => Some(Move::BackwardToCharacterStart),
-        "forward_to_format_start" => Some(Move::ForwardToFormatStart),
-        "forward_to_format_end" => Some(Move::ForwardToFormatEnd),
-        "backward_to_format_start" => Some(Move::BackwardToFormatStart),
-        "forward_to_word_start" => Some(Move::ForwardToWordStart),
-        "forward_to_word_end" => Some(Move::ForwardToWordEnd),
-        "backward_to_word_start" => Some(Move::BackwardToWordStart),
-        "forward_to_line_start" => Some(Move::ForwardToLineStart),
-        "forward_to_line_end" => Some(Move::ForwardToLineEnd),
-        "backward_to_line_start" => Some(Move::BackwardToLineStart),
-        "forward_to_paragraph_start" => Some(Move::ForwardToParagraphStart),
-        "forward_to_paragraph_end" => Some(Move::ForwardToParagraphEnd),
-        "backward_to_paragraph_start" => Some(Move::BackwardToParagraphStart),
-        "forward_to_page_start" => Some(Move::ForwardToPageStart),
-        "forward_to_page_end" => Some(Move::ForwardToPageEnd),
-        "document_end" => Some(Move::DocumentEnd),
-        "backward_to_page_start" => Some(Move::BackwardToPageStart),
-        "document_start" => Some(Move::DocumentStart),
-        _ => None,
-    }
+    moves!(value_named word)
 }
 
 /// The toggle state with this name.
@@ -120,12 +93,7 @@ pub fn toggled_named(word: &str) -> Option<Toggled>
     ensures reads { (value : Toggled) → word.now ≡ toggled_name value → result ≡ Some value }
     ensures only { IfSome result (λ value. word.now ≡ toggled_name value) }
 {
-    match word {
-        "true" => Some(Toggled::True),
-        "false" => Some(Toggled::False),
-        "mixed" => Some(Toggled::Mixed),
-        _ => None,
-    }
+    toggles!(value_named word)
 }
 
 /// The value of `true` or `false`.
@@ -145,12 +113,7 @@ pub fn live_named(word: &str) -> Option<Live>
     ensures reads { (value : Live) → word.now ≡ live_name value → result ≡ Some value }
     ensures only { IfSome result (λ value. word.now ≡ live_name value) }
 {
-    match word {
-        "off" => Some(Live::Off),
-        "polite" => Some(Live::Polite),
-        "assertive" => Some(Live::Assertive),
-        _ => None,
-    }
+    lives!(value_named word)
 }
 
 /// The axis with this name.
@@ -158,11 +121,7 @@ pub fn orientation_named(word: &str) -> Option<Orientation>
     ensures reads { (value : Orientation) → word.now ≡ orientation_name value → result ≡ Some value }
     ensures only { IfSome result (λ value. word.now ≡ orientation_name value) }
 {
-    match word {
-        "horizontal" => Some(Orientation::Horizontal),
-        "vertical" => Some(Orientation::Vertical),
-        _ => None,
-    }
+    orientations!(value_named word)
 }
 
 /// The sort order with this name.
@@ -170,12 +129,7 @@ pub fn sort_direction_named(word: &str) -> Option<SortDirection>
     ensures reads { (value : SortDirection) → word.now ≡ sort_direction_name value → result ≡ Some value }
     ensures only { IfSome result (λ value. word.now ≡ sort_direction_name value) }
 {
-    match word {
-        "ascending" => Some(SortDirection::Ascending),
-        "descending" => Some(SortDirection::Descending),
-        "other" => Some(SortDirection::Other),
-        _ => None,
-    }
+    sort_directions!(value_named word)
 }
 
 /// The kind of current item with this name.
@@ -183,16 +137,7 @@ pub fn aria_current_named(word: &str) -> Option<AriaCurrent>
     ensures reads { (value : AriaCurrent) → word.now ≡ aria_current_name value → result ≡ Some value }
     ensures only { IfSome result (λ value. word.now ≡ aria_current_name value) }
 {
-    match word {
-        "false" => Some(AriaCurrent::False),
-        "true" => Some(AriaCurrent::True),
-        "page" => Some(AriaCurrent::Page),
-        "step" => Some(AriaCurrent::Step),
-        "location" => Some(AriaCurrent::Location),
-        "date" => Some(AriaCurrent::Date),
-        "time" => Some(AriaCurrent::Time),
-        _ => None,
-    }
+    currents!(value_named word)
 }
 
 /// The kind of popup with this name.
@@ -200,14 +145,7 @@ pub fn has_popup_named(word: &str) -> Option<HasPopup>
     ensures reads { (value : HasPopup) → word.now ≡ has_popup_name value → result ≡ Some value }
     ensures only { IfSome result (λ value. word.now ≡ has_popup_name value) }
 {
-    match word {
-        "menu" => Some(HasPopup::Menu),
-        "listbox" => Some(HasPopup::Listbox),
-        "tree" => Some(HasPopup::Tree),
-        "grid" => Some(HasPopup::Grid),
-        "dialog" => Some(HasPopup::Dialog),
-        _ => None,
-    }
+    popups!(value_named word)
 }
 
 /// The text direction with this name.
@@ -215,13 +153,7 @@ pub fn text_direction_named(word: &str) -> Option<TextDirection>
     ensures reads { (value : TextDirection) → word.now ≡ text_direction_name value → result ≡ Some value }
     ensures only { IfSome result (λ value. word.now ≡ text_direction_name value) }
 {
-    match word {
-        "left_to_right" => Some(TextDirection::LeftToRight),
-        "right_to_left" => Some(TextDirection::RightToLeft),
-        "top_to_bottom" => Some(TextDirection::TopToBottom),
-        "bottom_to_top" => Some(TextDirection::BottomToTop),
-        _ => None,
-    }
+    text_directions!(value_named word)
 }
 
 /// The text alignment with this name.
@@ -229,13 +161,7 @@ pub fn text_align_named(word: &str) -> Option<TextAlign>
     ensures reads { (value : TextAlign) → word.now ≡ text_align_name value → result ≡ Some value }
     ensures only { IfSome result (λ value. word.now ≡ text_align_name value) }
 {
-    match word {
-        "left" => Some(TextAlign::Left),
-        "right" => Some(TextAlign::Right),
-        "center" => Some(TextAlign::Center),
-        "justify" => Some(TextAlign::Justify),
-        _ => None,
-    }
+    text_aligns!(value_named word)
 }
 
 /// Superscript or subscript, by this name.
@@ -243,11 +169,7 @@ pub fn vertical_offset_named(word: &str) -> Option<VerticalOffset>
     ensures reads { (value : VerticalOffset) → word.now ≡ vertical_offset_name value → result ≡ Some value }
     ensures only { IfSome result (λ value. word.now ≡ vertical_offset_name value) }
 {
-    match word {
-        "subscript" => Some(VerticalOffset::Subscript),
-        "superscript" => Some(VerticalOffset::Superscript),
-        _ => None,
-    }
+    vertical_offsets!(value_named word)
 }
 
 /// The style of a line above, through or below text, by this name.
@@ -255,12 +177,5 @@ pub fn decoration_style_named(word: &str) -> Option<TextDecorationStyle>
     ensures reads { (value : TextDecorationStyle) → word.now ≡ decoration_style_name value → result ≡ Some value }
     ensures only { IfSome result (λ value. word.now ≡ decoration_style_name value) }
 {
-    match word {
-        "solid" => Some(TextDecorationStyle::Solid),
-        "dotted" => Some(TextDecorationStyle::Dotted),
-        "dashed" => Some(TextDecorationStyle::Dashed),
-        "double" => Some(TextDecorationStyle::Double),
-        "wavy" => Some(TextDecorationStyle::Wavy),
-        _ => None,
-    }
+    decoration_styles!(value_named word)
 }
