@@ -1,5 +1,5 @@
 -- Texts that stand on one line: no newline is in them, no carriage return at their end, and they are UTF-8.
-use Rattle.std.proofs.Common.{◌≡◌, ◌≢◌, ℕ, ◌<◌, ◌≤◌, ◌^◌, List, [], ◌∷◌, ◌++◌, All, Bool, true, false, nat_lt, ◌&&◌, ◌==◌, codes, flat_map, length, get_or, IsUtf8, Option, Some, None, MatchOption, option_map, ℤ, pos, negsuc, suc, FitsSigned, w64, inl, inr, arith, refl, sym, ap, ap₂, subst, ◌∙◌, append-nil, ltb-true, ne_eqb, if◌then◌else◌}
+use Rattle.std.proofs.Common.{◌≡◌, ◌≢◌, ℕ, ◌<◌, ◌≤◌, ◌^◌, List, [], ◌∷◌, ◌++◌, All, Bool, true, nat_lt, ◌&&◌, ◌==◌, codes, flat_map, length, get_or, IsUtf8, Option, Some, None, MatchOption, option_map, ℤ, pos, negsuc, suc, FitsSigned, w64, inl, inr, arith, refl, sym, ap, ap₂, subst, ◌∙◌, append-nil, ltb-true, ne_eqb}
 use Rattle.std.specs.Bool.{⊤}
 use Rattle.std.specs.Fmt.{decimal, signed_decimal}
 use Rattle.std.proofs.lemmas.Bool.{and_parts, cases_lt, cond_both, cond-false}

@@ -1,5 +1,5 @@
 -- Numbers as they are read.
-use Rattle.std.proofs.Common.{if◌then◌else◌, ◌≡◌, ◌≢◌, ℕ, ◌≤◌, ◌↔◌, ◌⊎◌, inl, inr, ⊎_elim, List, [], ◌∷◌, ◌++◌, codes, drop, slice_index_or, arith, ℤ, pos, negsuc, neg_ℤ, w64, Bool, true, false, true≢false, Option, Some, None, IfSome, Result, Ok, Err, ap, subst, sym, refl, ◌∙◌}
+use Rattle.std.proofs.Common.{if◌then◌else◌, ◌≡◌, ◌≢◌, ℕ, ◌≤◌, ◌↔◌, inl, inr, ⊎_elim, List, [], ◌∷◌, ◌++◌, codes, drop, slice_index_or, arith, ℤ, pos, negsuc, neg_ℤ, w64, Bool, true, false, true≢false, Option, Some, None, IfSome, Result, Ok, Err, ap, subst, sym, refl, ◌∙◌}
 use mir.Syntax.{w32}
 use mir.Val.{to_z, of_z}
 use Rattle.std.specs.Bool.{MatchBool}
