@@ -10,7 +10,7 @@ import sys
 
 from scripts import DEEP
 
-LENGTHS = {"relabelled": (2000, 4000, 8000), "labelled_below": (2000, 4000, 8000), "documents": (500, 1000, 2000)}
+LENGTHS = (2000, 4000, 8000)
 
 
 def instructions(program, script):
@@ -21,10 +21,10 @@ def instructions(program, script):
 
 
 def main(program):
-    for name, lengths in LENGTHS.items():
-        counts = [instructions(program, "".join(DEEP[name](length))) for length in lengths]
+    for name, shape in DEEP.items():
+        counts = [instructions(program, "".join(shape(length))) for length in LENGTHS]
         growths = [f"{after / before:.2f}" for before, after in zip(counts, counts[1:])]
-        print(f"{name}: {counts} for {lengths}, {' and '.join(growths)} times as many", flush=True)
+        print(f"{name}: {counts} for {LENGTHS}, {' and '.join(growths)} times as many", flush=True)
 
 
 if __name__ == "__main__":

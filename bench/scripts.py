@@ -50,16 +50,30 @@ def labelled_below(count):
     yield f'node {count - 1} Label value="one"\nend\nupdate root focus=0\nnode {count - 1} Label value="two"\nend\n'
 
 
-def documents(count):
-    """A chain of documents, with a run in the deepest, and another text."""
-    yield "update root focus=0 root=0\nnode 0 Window children=1\n"
-    for id in range(1, count - 1):
-        yield f"node {id} Document children={id + 1}\n"
-    yield f'node {count - 1} TextRun value="a" chars=1\nend\nupdate root focus=0\nnode {count - 1} TextRun value="b" chars=1\nend\n'
+def documents(count, last="TextRun", between="Document", beside="", upward=False):
+    """A chain of documents, each the only child of the one before, down to a node of another role, and another text of that. Every
+    second node of the chain may have another role, and a password may be beside the first."""
+    ids = range(count - 1, 0, -1) if upward else range(1, count)
+    yield f"update root focus=0 root=0\nnode 0 Window children={ids[0]}{f',{count}' if beside else ''}\n"
+    for place, id in enumerate(ids[:-1]):
+        yield f'node {id} {between if place % 2 else "Document"} children={ids[place + 1]}\n'
+    yield f'node {count} {beside} value="a"\n' if beside else ""
+    for text in "ab":
+        yield "update root focus=0\n" if text == "b" else ""
+        yield f'node {ids[-1]} {last} value="{text}"{" chars=1" if last == "TextRun" else ""}\nend\n'
 
 
 # Scripts of which `deep_pages.py` makes pages.
-DEEP = {"relabelled": relabelled, "labelled_below": labelled_below, "documents": documents}
+DEEP = {
+    "relabelled": relabelled,
+    "labelled_below": labelled_below,
+    "documents": documents,
+    "documents_upward": lambda count: documents(count, upward=True),
+    "documents_without_runs": lambda count: documents(count, last="Button"),
+    "documents_and_containers": lambda count: documents(count, between="GenericContainer"),
+    "documents_beside_a_password": lambda count: documents(count, beside="PasswordInput"),
+    "documents_around_a_password": lambda count: documents(count, last="PasswordInput"),
+}
 
 
 def chain_lines(ids, word, live):
