@@ -4,8 +4,10 @@ import random
 import uuid
 from collections import Counter, namedtuple
 
-from model.worlds import ROOT, children, node_named, places, root_of
-from model.scripts import NODE_FIELDS, Play, field_word
+from model import fields
+from model.fields import ROOT
+from model.worlds import children, node_named, places, root_of
+from model.scripts import Play, field_word
 from model.texts import (
     HOLDS_TEXT,
     LABELLED_FROM_WITHIN,
@@ -33,45 +35,48 @@ QUESTIONS_OF_FILTERS = ["filtered", "following_filtered", "preceding_filtered"]
 QUESTIONS_OF_TEXTS = ["text", "value", "indexes", "between", "move", "move", "move"]
 QUESTIONS = sorted({*QUESTIONS_OF_NODES, *QUESTIONS_OF_FILTERS, *QUESTIONS_OF_TEXTS})
 
-# What may be said of a control besides. Of a set's size and a position questions tell, of the others whether they changed.
-TRUTH = ["true", "false"]
+# Values of a field, by how it is read.
 NUMBERS = [0, 1, -1, 2**63 - 1, -(2**63)]
 COUNTS = [0, 1, 2, 2**64 - 1]
-CONTROLS = {
-    "toggled": [*TRUTH, "mixed"],
-    **dict.fromkeys(["expanded", "selected"], TRUTH),
-    "live": ["off", "polite", "assertive"],
-    "orientation": ["horizontal", "vertical"],
-    **dict.fromkeys(["number", "min", "max", "step"], NUMBERS),
-    **dict.fromkeys(["level", "set_size", "position"], COUNTS),
-    **dict.fromkeys(["description", "placeholder"], ["", "a", '\n"\\']),
-    "controls": [(0,), (1, 2**64 - 1)],
-    "selection": [((0, 0), (0, 1)), ((2**64 - 1, 2**64 - 1), (0, 0))],
-    **dict.fromkeys("disabled read_only required modal busy multiselectable italic live_atomic touch_transparent".split(), [True]),
-    **dict.fromkeys("role_description url author_id html_id class_name braille_label".split(), ["", "a b", '="']),
-    **dict.fromkeys("braille_role_description column_index_text row_index_text".split(), ["", "x", "\\"]),
-    **dict.fromkeys("jump scroll_x scroll_x_min scroll_x_max scroll_y scroll_y_min scroll_y_max".split(), NUMBERS),
-    **dict.fromkeys(["actions", "child_actions"], [frozenset(["Click"]), frozenset(["Other(255)", "Focus", "Decrement"])]),
-    **dict.fromkeys(["character_positions", "character_widths"], [(), (0,), (-(2**31), 2**31 - 1)]),
-    "sort_direction": ["ascending", "descending", "other"],
-    "aria_current": [*TRUTH, "page", "step", "location", "date", "time"],
-    "has_popup": ["menu", "listbox", "tree", "grid", "dialog"],
-    "text_direction": ["left_to_right", "right_to_left", "top_to_bottom", "bottom_to_top"],
-}
-
-# What may be said of how a text looks. A format begins where one of these changes.
 COLORS = [(0, 0, 0, 255), (255, 128, 0, 0)]
 LINES = [("solid", *COLORS[0]), ("wavy", *COLORS[1]), ("dotted", *COLORS[0])]
-LOOKS = {
-    **dict.fromkeys(["font_family", "language"], ["", "a", "b"]),
-    "font_size": [0, 1, 2**32 - 1],
-    "font_weight": [0, 1, 2**16 - 1],
-    **dict.fromkeys(["background_color", "foreground_color"], COLORS),
-    **dict.fromkeys(["overline", "strikethrough", "underline"], LINES),
-    "text_align": ["left", "right", "center", "justify"],
-    "vertical_offset": ["subscript", "superscript"],
+VALUES = {
+    bool: [True],
+    str: ["", "a", "b", "a b", "\\", '="', '\n"\\'],
+    fields.coordinate: NUMBERS,
+    fields.number: COUNTS,
+    fields.narrow: [0, 1, 2**32 - 1],
+    fields.short: [0, 1, 2**16 - 1],
+    fields.units: [(), (0,), (-(2**31), 2**31 - 1)],
+    fields.actions: [frozenset(["Click"]), frozenset(["Other(255)", "Focus", "Decrement"])],
+    fields.decoration: LINES,
 }
-CONTROLS.update(LOOKS)
+OTHER_VALUES = {
+    "controls": [(0,), (1, 2**64 - 1)],
+    "selection": [((0, 0), (0, 1)), ((2**64 - 1, 2**64 - 1), (0, 0))],
+    **dict.fromkeys(["background_color", "foreground_color"], COLORS),
+}
+
+
+def values_of(name):
+    """What may be said of a field."""
+    kind = fields.FIELDS[name]
+    return OTHER_VALUES.get(name) or VALUES.get(kind) or kind.words
+
+
+# What may be said of a control besides what makers of trees and texts say. Of a set's size and a position questions tell, of the others
+# whether they changed.
+ELSEWHERE = "children labelled tree active label value hidden clips bounds move chars words prev next".split()
+CONTROLS = {name: values_of(name) for name in fields.FIELDS if name not in ELSEWHERE}
+
+# What may be said of how a text looks. A format begins where one of these changes.
+LOOKS = {
+    name: CONTROLS[name]
+    for name in (
+        "font_family language font_size font_weight background_color foreground_color overline strikethrough underline text_align"
+        " vertical_offset"
+    ).split()
+}
 
 # A line that is said, how it ends, what the model says of it, and the worlds before and after it.
 Step = namedtuple("Step", "line end told old new")
@@ -189,10 +194,10 @@ def tree_word(name, dice):
     return dice.choice([name.upper(), name.replace("-", ""), "{" + name + "}", "urn:uuid:" + name])
 
 
-def field_words(fields, dice):
-    """Fields that are given, in any order."""
+def field_words(given, dice):
+    """The words of fields with these values, in any order."""
     words = []
-    for name, value in fields:
+    for name, value in given:
         if isinstance(value, frozenset):
             value = dice.sample(sorted(value), len(value))
         words += field_word(name, value)
@@ -205,10 +210,10 @@ def update_lines(update, dice):
     head = [("focus", update.focus), ("root", update.root)]
     yield " ".join(["update", tree_word(update.tree, dice), *field_words(head, dice)])
     for number, node in update.nodes:
-        fields = [(name, value) for name, value in zip(node._fields, node) if value is not None and value is not False]
-        fields = [(name, value) for name, value in fields if name not in ("role", "tree")]
-        fields.append(("tree", node.tree and tree_word(node.tree, dice)))
-        yield " ".join(["node", str(number), node.role, *field_words(fields, dice)])
+        given = [(name, value) for name, value in zip(node._fields, node) if value is not None and value is not False]
+        given = [(name, value) for name, value in given if name not in ("role", "tree")]
+        given.append(("tree", node.tree and tree_word(node.tree, dice)))
+        yield " ".join(["node", str(number), node.role, *field_words(given, dice)])
     yield "end"
 
 

@@ -1,8 +1,9 @@
 """Random sessions: updates, the host's focus and queries of all kinds; and pairs of them that differ in a password alone.
 """
 
-from model.worlds import ROOT, Node, Update, accepted, faults, node_named
-from model.scripts import id_line, tree_name
+from model.fields import ROOT, tree_name
+from model.worlds import Node, Update, accepted, faults, node_named
+from model.scripts import id_line
 from model.texts import is_text, needs_masking, runs_of
 from made_up.maker import CHARACTERS, QUESTIONS_OF_FILTERS, QUESTIONS_OF_NODES, QUESTIONS_OF_TEXTS, Maker, tree_of, words_of_question
 from made_up.texts import another_run, form, of_characters, run, text_runs

@@ -1,6 +1,7 @@
 """Random texts: fields with runs of all kinds, some of which make no text."""
 
-from model.worlds import ROOT, Node, Update
+from model.fields import ROOT
+from model.worlds import Node, Update
 from model.texts import broken_rules, runs_of
 from made_up.maker import CHARACTERS, tree_of
 

@@ -1,6 +1,7 @@
 """Random updates: most of them change the current tree, and some are invalid."""
 
-from model.worlds import ROOT, Node, Update, index_of, root_named
+from model.fields import ROOT
+from model.worlds import Node, Update, index_of, root_named
 from model.views import upward
 from made_up.maker import TREES, tree_of
 

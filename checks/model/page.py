@@ -4,11 +4,12 @@ nothing of how a page is written is known here but its elements and their classe
 import re
 from html.parser import HTMLParser
 
-from model.record import ORDER, given
-from model.worlds import ROOT, accepted, differences, effective_focus, faults, focus, is_focused, places, root_named
+from model.record import given
+from model.worlds import differences, effective_focus, faults, focus, is_focused, places, root_named
 from model.worlds import children as children_of
 from model.worlds import told_of_update
-from model.scripts import NODE_FIELDS, BadLine, Play, field_word, role_shown, told_by
+from model.fields import FIELDS, ROOT, BadLine
+from model.scripts import Play, field_word, role_shown, told_by
 from model.speech import EXPANDED, SELECTED, SWITCHED
 from model.texts import BULLET, HOLDS_TEXT, is_read_only, is_text, label_of, labelled_by, runs_of, value_of
 from model.views import CUT_OFF, INCLUDED, ancestors, bounding_box, common_filter, preorder, upward
@@ -172,7 +173,7 @@ def hides_field(world, id, name):
     """Whether a field may show what is typed into a password: a text of a node in one, or what is measured of characters there, and
     of the password itself."""
     if is_in_password(world, id):
-        return NODE_FIELDS[name] is str or name in MEASURED
+        return FIELDS[name] is str or name in MEASURED
     return is_password(world, id) and name in MEASURED
 
 
@@ -185,7 +186,7 @@ def shown_field(world, id, name):
     if hides_field(world, id, name):
         return None
     value = getattr(world.nodes[id], name)
-    if NODE_FIELDS[name] is bool:
+    if FIELDS[name] is bool:
         return "yes" if value else "no"
     written = field_word(name, given(name, value))
     return written[0].partition("=")[2] if written else None
@@ -201,7 +202,7 @@ def fields_told(old, new, id):
     """Each field of two states of a node that differs: its name, what was shown of it, and what is."""
     for name, shown in (("role", lambda world, id: role_shown(world.nodes[id].role)), ("place", place_shown)):
         yield name, shown(old, id), shown(new, id)
-    for name in ORDER:
+    for name in FIELDS:
         yield name, shown_field(old, id, name), shown_field(new, id, name)
 
 
@@ -241,6 +242,16 @@ def without_mark(shown):
     return {key: marks if key == "marks" else said for key, said in shown.items() if key not in ("anchor", "depth")}
 
 
+# What is cut off at both ends of a comment.
+SPACE = " \t\n\f\r"
+
+
+def title_by(lines):
+    """The title of a state, by the lines before its command that make none: what the comments after the last empty one say."""
+    block = lines[len(lines) - lines[::-1].index("") :] if "" in lines else lines
+    return " ".join(filter(None, (line.lstrip("#").strip(SPACE) for line in block)))
+
+
 class Pages(Play):
     """A script as far as it has run, with what a page shows of it."""
 
@@ -248,10 +259,20 @@ class Pages(Play):
         super().__init__()
         self.states, self.updates, self.without = [], 0, without
         self.reports, self.last = [], {}
+        # The empty lines and comments since the last command.
+        self.skipped = []
+
+    def line(self, line):
+        printed = super().line(line)
+        text = line.decode().removesuffix("\r")
+        if not self.open:
+            self.skipped = [*self.skipped, text] if text[:1] in ("", "#") else []
+        return printed
 
     def show(self, cause, old, told, refused=None):
         """The next state."""
         state = {"cause": cause, "refused": refused, "events": [event_told(old, self.world, event) for event in told]}
+        state["title"] = title_by(self.skipped)
         if refused is None and (told or not old.known):
             marks = {event[1]: event[0] for event in told if event[0] in ("added", "updated")}
             state["tree"], self.last = tree_shown(self.world, len(self.states) + 1, marks, self.last)
@@ -292,7 +313,10 @@ def as_read(shown):
 def states_of(script, without=None):
     """What a page shows of a script, which is bytes, and the number of its bad line, if it has one. The update that would make
     the state `without`, counted from 0, finds no memory."""
-    return as_read(pages_of(script, without).states), told_by(script)[1]
+    states = pages_of(script, without).states
+    for number, state in enumerate(states, 1):
+        state["title"] = f"State {number}: {state['title']}" if state["title"] else f"State {number}"
+    return as_read(states), told_by(script)[1]
 
 
 def reports_of(script, without=None):
@@ -509,6 +533,7 @@ def state_read(section, rows):
     refused = of_class(section, "p", "refused")
     details = first(part for part in children(section, "details") if part[1].get("class") == "events")
     state = {
+        "title": text_in(first(elements(section, "h2"))),
         "cause": of_class(section, "p", "cause"),
         "refused": refused and {refused[len("Refused: ") : -len(". Nothing has changed.")]},
         "events": [parts_of_event(item) for item in elements(details, "li")] if details else [],
@@ -532,6 +557,8 @@ def is_around(ring, box):
 
 def difference_of_states(told, read):
     """In what two states differ."""
+    if told["title"] != read["title"]:
+        return f"it is called {read['title']} and not {told['title']}"
     if (told["cause"], told["events"]) != (read["cause"], read["events"]):
         pairs = [pair for pair in zip(told["events"], read["events"]) if pair[0] != pair[1]]
         return f"events {pairs[:1]} {len(told['events'])} {len(read['events'])}"
@@ -568,6 +595,9 @@ def difference_of_page(script, page, without=None):
             return f"state {number}: {differs}"
     if len(told) != len(read):
         return f"{len(read)} states and not {len(told)}"
+    listed = [text_in(first(elements(item, "a"))) for item in elements(first(elements(top, "nav")), "li")]
+    if listed != [state["title"] for state in told]:
+        return f"it lists {listed}"
     notes = notes_at_end(top)
     wanted = rf"(The script stops at line {bad}, column [1-9][0-9]*: (?!bad line)[^\n]+\n)" if bad else ""
     if not re.fullmatch(wanted, "".join(notes)):

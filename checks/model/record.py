@@ -1,18 +1,8 @@
 """The model's output of the program `record`: each command of a script again, with the fields of a line in a fixed order."""
 
-from model.worlds import ROOT
-from model.scripts import QUESTIONS, UPDATE_FIELDS, BadLine, Play, Words, field_word, number, read_node, tree_name
+from model.fields import FIELDS, ROOT, BadLine, number, tree_name
+from model.scripts import QUESTIONS, UPDATE_FIELDS, Play, Words, field_word, read_node
 
-# A node's fields in the order in which they are written.
-ORDER = (
-    "children labelled controls tree active label value description placeholder role_description url author_id html_id"
-    " class_name braille_label braille_role_description column_index_text row_index_text font_family language hidden clips"
-    " disabled read_only required modal busy multiselectable italic live_atomic touch_transparent bounds move selection chars"
-    " words character_positions character_widths prev next toggled expanded selected live orientation sort_direction"
-    " aria_current has_popup font_size font_weight background_color foreground_color overline strikethrough underline"
-    " text_direction text_align vertical_offset number min max step jump level set_size position scroll_x scroll_x_min"
-    " scroll_x_max scroll_y scroll_y_min scroll_y_max actions child_actions"
-).split()
 NAMED_ACTIONS = ["Click", "Focus", "Increment", "Decrement"]
 
 # The questions that name a filter, which is `common` where none is given.
@@ -39,7 +29,7 @@ def given(name, value):
 def node_line(words):
     """A node's line."""
     id, node = read_node(words)
-    fields = [(name, given(name, getattr(node, name))) for name in ORDER]
+    fields = [(name, given(name, getattr(node, name))) for name in FIELDS]
     return ["node", str(id), node.role, *(word for name, value in fields for word in field_word(name, value))]
 
 

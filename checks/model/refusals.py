@@ -1,6 +1,7 @@
 """The model's words for a refused update, which the programs report on standard error (docs/SCRIPT.md#the-programs)."""
 
-from model.scripts import BadLine, Play
+from model.fields import BadLine
+from model.scripts import Play
 
 WORDS = {
     "MissingTreeInfo": "the first update has no tree info",

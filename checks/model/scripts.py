@@ -7,8 +7,8 @@ import os
 import re
 from copy import copy
 
+from model.fields import FIELDS, ROOT, BadLine, coordinate, need, number, one_of, short, tree_name, units
 from model.worlds import (
-    ROOT,
     Node,
     Update,
     World,
@@ -64,107 +64,7 @@ def role_shown(role):
     return NAME_OF_ROLE.get(role, role)
 
 
-class BadLine(Exception):
-    """A line that no script has, or that is out of place."""
-
-
 # ---- words
-
-
-def need(is_well):
-    """Stops at a bad line."""
-    if not is_well:
-        raise BadLine
-
-
-def number(word, least=0, end=2**64):
-    """A decimal number from the least one on, below the end."""
-    need(re.fullmatch("-?[0-9]+" if least < 0 else "[0-9]+", word))
-    need(least <= int(word) < end)
-    return int(word)
-
-
-def coordinate(word):
-    """A coordinate of a point, or a number of a value."""
-    return number(word, -(2**63), 2**63)
-
-
-def all_of(read, count=None):
-    """Reads words with one comma between them: so many of them."""
-
-    def read_all(word):
-        parts = word.split(",")
-        need(count is None or len(parts) == count)
-        return tuple(read(part) for part in parts)
-
-    return read_all
-
-
-def unit(word):
-    """A number of units."""
-    return number(word, -(2**31), 2**31)
-
-
-def short(word):
-    """A number of two bytes."""
-    return number(word, 0, 2**16)
-
-
-def units(word):
-    """Numbers of units, or `-` for none."""
-    return () if word == "-" else all_of(unit)(word)
-
-
-def byte(word):
-    """A number of one byte."""
-    return number(word, 0, 2**8)
-
-
-def narrow(word):
-    """A number of four bytes."""
-    return number(word, 0, 2**32)
-
-
-def decoration(word):
-    """A line at a text: its style, and a colour."""
-    style, _, color = word.partition(",")
-    need(style in ("solid", "dotted", "dashed", "double", "wavy"))
-    return (style, *all_of(byte, 4)(color))
-
-
-def action(word):
-    """An action by its name, or by its number."""
-    if word in ("Click", "Focus", "Increment", "Decrement"):
-        return word
-    other = re.fullmatch(r"Other\((.*)\)", word, re.S)
-    need(other)
-    return f"Other({byte(other.group(1))})"
-
-
-def actions(word):
-    """A set of actions."""
-    return frozenset(all_of(action)(word))
-
-
-def place(word):
-    """A place in a text run: its node and an index."""
-    parts = word.split(":")
-    need(len(parts) == 2)
-    return tuple(number(part) for part in parts)
-
-
-DIGITS = ["([0-9a-f]{%d})" % count for count in (8, 4, 4, 4, 12)]
-HYPHENATED = "-".join(DIGITS)
-UUID = re.compile(f"{''.join(DIGITS)}|{HYPHENATED}|{{{HYPHENATED}}}|urn:uuid:{HYPHENATED}", re.I | re.A)
-
-
-def tree_name(word):
-    """The name of the tree: `root`, or a UUID in any form."""
-    if word == "root":
-        return ROOT
-    found = UUID.fullmatch(word)
-    need(found)
-    return "-".join(part for part in found.groups() if part).lower()
 
 
 def role(word):
@@ -174,16 +74,6 @@ def role(word):
     other = re.fullmatch(r"Other\((.*)\)", word, re.S)
     need(other)
     return f"Other({short(other.group(1))})"
-
-
-def one_of(words):
-    """Reads one of these words."""
-
-    def read(word):
-        need(word in words)
-        return word
-
-    return read
 
 
 class Words:
@@ -231,84 +121,6 @@ class Words:
 
 UPDATE_FIELDS = {"focus": number, "root": number, "toolkit": str, "version": str}
 
-NODE_FIELDS = {
-    "children": all_of(number),
-    "tree": tree_name,
-    "label": str,
-    "value": str,
-    "labelled": all_of(number),
-    "active": number,
-    "hidden": bool,
-    "clips": bool,
-    "bounds": all_of(unit, 4),
-    "move": all_of(unit, 2),
-    "chars": all_of(short),
-    "words": all_of(short),
-    "prev": number,
-    "next": number,
-    "description": str,
-    "placeholder": str,
-    "controls": all_of(number),
-    "selection": all_of(place, 2),
-    "toggled": one_of(["true", "false", "mixed"]),
-    "expanded": one_of(["true", "false"]),
-    "selected": one_of(["true", "false"]),
-    "live": one_of(["off", "polite", "assertive"]),
-    "orientation": one_of(["horizontal", "vertical"]),
-    "number": coordinate,
-    "min": coordinate,
-    "max": coordinate,
-    "step": coordinate,
-    "level": number,
-    "set_size": number,
-    "position": number,
-    "disabled": bool,
-    "read_only": bool,
-    "required": bool,
-    "modal": bool,
-    "busy": bool,
-    "multiselectable": bool,
-    "italic": bool,
-    "live_atomic": bool,
-    "touch_transparent": bool,
-    "role_description": str,
-    "url": str,
-    "author_id": str,
-    "html_id": str,
-    "class_name": str,
-    "braille_label": str,
-    "braille_role_description": str,
-    "column_index_text": str,
-    "row_index_text": str,
-    "font_family": str,
-    "language": str,
-    "jump": coordinate,
-    "scroll_x": coordinate,
-    "scroll_x_min": coordinate,
-    "scroll_x_max": coordinate,
-    "scroll_y": coordinate,
-    "scroll_y_min": coordinate,
-    "scroll_y_max": coordinate,
-    "actions": actions,
-    "child_actions": actions,
-    "character_positions": units,
-    "character_widths": units,
-    "font_size": narrow,
-    "font_weight": short,
-    "background_color": all_of(byte, 4),
-    "foreground_color": all_of(byte, 4),
-    "overline": decoration,
-    "strikethrough": decoration,
-    "underline": decoration,
-    "sort_direction": one_of(["ascending", "descending", "other"]),
-    "aria_current": one_of(["false", "true", "page", "step", "location", "date", "time"]),
-    "has_popup": one_of(["menu", "listbox", "tree", "grid", "dialog"]),
-    "text_direction": one_of(["left_to_right", "right_to_left", "top_to_bottom", "bottom_to_top"]),
-    "text_align": one_of(["left", "right", "center", "justify"]),
-    "vertical_offset": one_of(["subscript", "superscript"]),
-}
-
-
 def read_update(words):
     """`update TREE focus=ID ..`, from `TREE` on. The toolkit's texts stand beside a root only."""
     tree = tree_name(words.word())
@@ -319,12 +131,12 @@ def read_update(words):
 
 def read_node(words):
     """`node ID ROLE ..`, from `ID` on: the number, and the node."""
-    return number(words.word()), Node(role(words.word()), **words.fields(NODE_FIELDS))
+    return number(words.word()), Node(role(words.word()), **words.fields(FIELDS))
 
 
 def field_word(name, value):
     """The word of a field with its value, in a list that is empty where the field is absent."""
-    kind = NODE_FIELDS.get(name, UPDATE_FIELDS.get(name))
+    kind = FIELDS.get(name, UPDATE_FIELDS.get(name))
     if value is None or value is False or value in ((), []) and kind is not units:
         return []
     if value is True:

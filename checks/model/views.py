@@ -3,7 +3,8 @@
 A filter is a function of a world and a node. It includes the node, excludes it alone, or cuts it off with its subtree.
 """
 
-from model.worlds import ROOT, children, is_focused, once, places, root_named
+from model.fields import ROOT
+from model.worlds import children, is_focused, once, places, root_named
 
 INCLUDED = "included"
 LEFT_OUT = "left out alone"

@@ -5,91 +5,14 @@ library but those definitions. An id is a pair: the index of a tree, and the num
 UUIDs. The toolkit's texts are left out: no output of a script shows them.
 """
 
-from collections import Counter, defaultdict
+from collections import Counter, defaultdict, namedtuple
 from functools import wraps
 from typing import NamedTuple, Optional
 
-ROOT = "00000000-0000-0000-0000-000000000000"
+from model.fields import FIELDS, ROOT, absent
 
-
-class Node(NamedTuple):
-    """What is said of a node."""
-
-    role: str
-    children: tuple = ()
-    tree: Optional[str] = None
-    label: Optional[str] = None
-    value: Optional[str] = None
-    labelled: tuple = ()
-    active: Optional[int] = None
-    hidden: bool = False
-    clips: bool = False
-    bounds: Optional[tuple] = None
-    move: Optional[tuple] = None
-    chars: tuple = ()
-    words: tuple = ()
-    prev: Optional[int] = None
-    next: Optional[int] = None
-    description: Optional[str] = None
-    placeholder: Optional[str] = None
-    controls: tuple = ()
-    selection: tuple = ()
-    toggled: Optional[str] = None
-    expanded: Optional[str] = None
-    selected: Optional[str] = None
-    live: Optional[str] = None
-    orientation: Optional[str] = None
-    number: Optional[int] = None
-    min: Optional[int] = None
-    max: Optional[int] = None
-    step: Optional[int] = None
-    level: Optional[int] = None
-    set_size: Optional[int] = None
-    position: Optional[int] = None
-    disabled: bool = False
-    read_only: bool = False
-    required: bool = False
-    modal: bool = False
-    busy: bool = False
-    multiselectable: bool = False
-    italic: bool = False
-    live_atomic: bool = False
-    touch_transparent: bool = False
-    role_description: Optional[str] = None
-    url: Optional[str] = None
-    author_id: Optional[str] = None
-    html_id: Optional[str] = None
-    class_name: Optional[str] = None
-    braille_label: Optional[str] = None
-    braille_role_description: Optional[str] = None
-    column_index_text: Optional[str] = None
-    row_index_text: Optional[str] = None
-    font_family: Optional[str] = None
-    language: Optional[str] = None
-    jump: Optional[int] = None
-    scroll_x: Optional[int] = None
-    scroll_x_min: Optional[int] = None
-    scroll_x_max: Optional[int] = None
-    scroll_y: Optional[int] = None
-    scroll_y_min: Optional[int] = None
-    scroll_y_max: Optional[int] = None
-    actions: frozenset = frozenset()
-    child_actions: frozenset = frozenset()
-    character_positions: Optional[tuple] = None
-    character_widths: Optional[tuple] = None
-    font_size: Optional[int] = None
-    font_weight: Optional[int] = None
-    background_color: Optional[tuple] = None
-    foreground_color: Optional[tuple] = None
-    overline: Optional[tuple] = None
-    strikethrough: Optional[tuple] = None
-    underline: Optional[tuple] = None
-    sort_direction: Optional[str] = None
-    aria_current: Optional[str] = None
-    has_popup: Optional[str] = None
-    text_direction: Optional[str] = None
-    text_align: Optional[str] = None
-    vertical_offset: Optional[str] = None
+# What is said of a node: its role, and its fields.
+Node = namedtuple("Node", ["role", *FIELDS], defaults=map(absent, FIELDS))
 
 
 class Tree(NamedTuple):

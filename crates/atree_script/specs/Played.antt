@@ -5,10 +5,9 @@ use Rattle.model.specs.World.{World}
 use Rattle.script_lines.specs.Ends.{Tells, TellsEnd, told_at_end, status_at_end}
 use Rattle.script_lines.specs.ScriptReading.{Place}
 use Rattle.script_lines.specs.Taking.{number_of}
-use Rattle.script_lines.specs.declared.reader.ScriptCommand.{ScriptCommand}
 use Rattle.script_lines.specs.declared.reader.ScriptReader.{ScriptReader}
 use Rattle.script_words.specs.declared.stops.Stop.{Stop}
-use Rattle.atree_script.specs.Input.{start_of}
+use Rattle.atree_script.specs.Input.{Commented, start_of}
 use Rattle.atree_script.specs.Playing.{Turn, Stage, no_tree, Plays}
 use Rattle.atree_script.specs.declared.playing.Played.{Played}
 use Rattle.atree_script.specs.declared.playing.Playing.{Playing}
@@ -24,11 +23,11 @@ module _ {P : Type 0} (turns : P → Turn → Result Unit Stop → P → Type 0)
   -- commands are read and played from here on
   abbrev pub PlaysFrom : Option Place → Playing → P → Result Unit Stop → ℕ → Playing → P → Type 0
   PlaysFrom input old s ended number new t =
-      (commands : List ScriptCommand) × Plays turns input (stage_of old, s) commands ended number (stage_of new, t)
+      (commands : List Commented) × Plays turns input (stage_of old, s) commands ended number (stage_of new, t)
 
   -- a whole script is played, and this is the result, with the reader as it is after the last line
   pub record PlaysOut (input : Option (List ℕ)) (s : P) (played : Played) (t : P) : Type 0 where
-    pub commands : List ScriptCommand
+    pub commands : List Commented
     pub host : Bool
     pub plays : Plays turns (start_of input) (no_tree, s) commands played.ended played.number
         (record { world = played.session; host = host }, t)
@@ -38,7 +37,7 @@ module _ {P : Type 0} (turns : P → Turn → Result Unit Stop → P → Type 0)
 -- written stands at the end, and why the run ended is reported.
 pub record RunsBy {P : Type 0} (turns : P → Turn → Result Unit Stop → P → Type 0) (written : P → Bytes) (start : P)
     (input after told_before told_after : Bytes) (status : ℕ) : Type 0 where
-  pub commands : List ScriptCommand
+  pub commands : List Commented
   pub ended : Result Unit Stop
   pub number : ℕ
   pub end : Stage × P
@@ -49,7 +48,7 @@ pub record RunsBy {P : Type 0} (turns : P → Turn → Result Unit Stop → P �
 -- The same, but a bad line is reported with its fault, of which the reader of the script knows.
 pub record RunsWithFaults {P : Type 0} (turns : P → Turn → Result Unit Stop → P → Type 0) (written : P → Bytes) (start : P)
     (input after told_before told_after : Bytes) (status : ℕ) : Type 0 where
-  pub commands : List ScriptCommand
+  pub commands : List Commented
   pub ended : Result Unit Stop
   pub script : ScriptReader
   pub end : Stage × P

@@ -22,7 +22,7 @@ use Rattle.session.specs.declared.commands.Command.{Command}
 use Rattle.session.specs.declared.commands.Command.TheVariants as command
 use Rattle.session.specs.declared.commands.Reply.{Reply}
 use Rattle.session.specs.declared.commands.Reply.TheVariants.{Refused}
-use Rattle.atree_script.specs.Input.{ReadsThese, ReadsAll}
+use Rattle.atree_script.specs.Input.{Commented, ReadsThese, ReadsAll}
 
 -- ---- a command stops the script if memory ran out
 
@@ -49,11 +49,11 @@ pub record RunsTold {H : Type 0} (steps : H → Event → H → Type 0) (old : W
 
 -- ---- turns
 
--- what a player is asked to do, with the world before and the world after
+-- what a player is asked to do, with the world before and the world after, and with the comment before what changes the tree
 pub data Turn : Type 0 where
-  Begun : (w : World) → Turn
-  FirstRefused : (why : UpdateError) → Turn
-  Ran : (old : World) (c : Command) (new : World) → Turn
+  Begun : (comment : List ℕ) (w : World) → Turn
+  FirstRefused : (comment : List ℕ) (why : UpdateError) → Turn
+  Ran : (comment : List ℕ) (old : World) (c : Command) (new : World) → Turn
   Asked : (old : Option World) (q : Query) (new : Option World) → Turn
   Printed : (w : Option World) → Turn
 
@@ -67,44 +67,45 @@ no_tree = record { world = None; host = false }
 
 module _ {P : Type 0} (turns : P → Turn → Result Unit Stop → P → Type 0) where
   -- a first update makes the tree, or is refused
-  abbrev pub SendsFirst : Bool → P → TreeUpdate → Result Unit Stop → Stage → P → Type 0
-  SendsFirst host s u result new t =
-      ((w : World) × Begins host (update_data u) w × (new ≡ record { world = Some w; host = host }) × turns s (Begun w) result t)
+  abbrev pub SendsFirst : Bool → P → List ℕ → TreeUpdate → Result Unit Stop → Stage → P → Type 0
+  SendsFirst host s comment u result new t =
+      ((w : World) × Begins host (update_data u) w × (new ≡ record { world = Some w; host = host }) × turns s (Begun comment w) result t)
       ⊎ ((why : UpdateError) × IsRefusal (empty_world host) (update_data u) why × (new ≡ record { world = None; host = host })
-      × turns s (FirstRefused why) result t)
+      × turns s (FirstRefused comment why) result t)
 
   -- a command is run on a tree
-  abbrev pub RunsOn : Bool → P → Command → Result Unit Stop → Stage → P → World → Type 0
-  RunsOn host s c result new t w = (v : World) × (new ≡ record { world = Some v; host = host }) × turns s (Ran w c v) result t
+  abbrev pub RunsOn : Bool → P → List ℕ → Command → Result Unit Stop → Stage → P → World → Type 0
+  RunsOn host s comment c result new t w =
+      (v : World) × (new ≡ record { world = Some v; host = host }) × turns s (Ran comment w c v) result t
 
-  -- what carrying out a command makes of the script and the player, and how that ended
-  abbrev pub CarriesOut : Stage → P → ScriptCommand → Result Unit Stop → Stage → P → Type 0
-  CarriesOut old s (script.Update u) result new t =
-      MatchOption old.world (SendsFirst old.host s u result new t) (RunsOn old.host s (command.Update u) result new t)
-  CarriesOut old s (script.HostFocus host) result new t =
+  -- what carrying out a command, with the comment before it, makes of the script and the player, and how that ended
+  abbrev pub CarriesOut : Stage → P → List ℕ → ScriptCommand → Result Unit Stop → Stage → P → Type 0
+  CarriesOut old s comment (script.Update u) result new t =
+      MatchOption old.world (SendsFirst old.host s comment u result new t) (RunsOn old.host s comment (command.Update u) result new t)
+  CarriesOut old s comment (script.HostFocus host) result new t =
       MatchOption old.world ((result ≡ Ok tt) × (new ≡ record { world = None; host = host }) × (t ≡ s))
-      (RunsOn host s (command.HostFocus host) result new t)
-  CarriesOut old s script.Print result new t = (new ≡ old) × turns s (Printed old.world) result t
-  CarriesOut old s (script.Query q) result new t =
+      (RunsOn host s comment (command.HostFocus host) result new t)
+  CarriesOut old s comment script.Print result new t = (new ≡ old) × turns s (Printed old.world) result t
+  CarriesOut old s comment (script.Query q) result new t =
       (v : Option World) × (new ≡ record { world = v; host = old.host }) × turns s (Asked old.world q v) result t
 
   -- a command is carried out, and the script goes on
-  abbrev pub GoesOn : Stage × P → ScriptCommand → Stage × P → Type 0
-  GoesOn a c b = CarriesOut a.0 a.1 c (Ok tt) b.0 b.1
+  abbrev pub GoesOn : Stage × P → Commented → Stage × P → Type 0
+  GoesOn a c b = CarriesOut a.0 a.1 c.comment c.command (Ok tt) b.0 b.1
 
   -- commands are carried out in turn, and the last of them stops the script
-  pub record StopsAtLast (start : Stage × P) (commands : List ScriptCommand) (ended : Result Unit Stop) (end : Stage × P) : Type 0 where
-    pub earlier : List ScriptCommand
-    pub last : ScriptCommand
+  pub record StopsAtLast (start : Stage × P) (commands : List Commented) (ended : Result Unit Stop) (end : Stage × P) : Type 0 where
+    pub earlier : List Commented
+    pub last : Commented
     pub whole : commands ≡ earlier ++ last ∷ []
     pub between : Stage × P
     pub before : FoldsTo GoesOn start earlier between
     pub stop : Stop
     pub stopped : ended ≡ Err stop
-    pub carried : CarriesOut between.0 between.1 last ended end.0 end.1
+    pub carried : CarriesOut between.0 between.1 last.comment last.command ended end.0 end.1
 
   -- Commands are read and carried out in turn: all that the input has, up to where the reading ends, or the last of them stops the script.
-  abbrev pub Plays : Option Place → Stage × P → List ScriptCommand → Result Unit Stop → ℕ → Stage × P → Type 0
+  abbrev pub Plays : Option Place → Stage × P → List Commented → Result Unit Stop → ℕ → Stage × P → Type 0
   Plays input start commands ended number end =
       (FoldsTo GoesOn start commands end × ReadsAll input commands ended number)
       ⊎ (StopsAtLast start commands ended end × ReadsThese input commands number)

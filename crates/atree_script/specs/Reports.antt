@@ -9,7 +9,6 @@ use Rattle.tree_changes.specs.declared.error.UpdateError.{UpdateError}
 use Rattle.script_lines.specs.Ends.{TellsStop}
 use Rattle.script_lines.specs.InputLines.{next_number}
 use Rattle.script_lines.specs.Taking.{number_of}
-use Rattle.script_lines.specs.declared.reader.ScriptCommand.{ScriptCommand}
 use Rattle.script_lines.specs.declared.reader.ScriptReader.{ScriptReader}
 use Rattle.script_words.specs.declared.stops.Stop.{Stop}
 use Rattle.script_words.specs.declared.stops.Stop.TheVariants.{Memory}
@@ -18,7 +17,7 @@ use Rattle.session.specs.declared.commands.Command.{Command}
 use Rattle.session.specs.declared.commands.Command.TheVariants as command
 use Rattle.session.specs.declared.commands.Reply.{Reply}
 use Rattle.session.specs.declared.commands.Reply.TheVariants.{Refused}
-use Rattle.atree_script.specs.Input.{start_of}
+use Rattle.atree_script.specs.Input.{Commented, start_of}
 use Rattle.atree_script.specs.Played.{Bytes}
 use Rattle.atree_script.specs.Playing.{Turn, Begun, FirstRefused, Ran, Asked, Printed, Stage, no_tree, Plays, end_of_refusal}
 use Rattle.atree_script.specs.Scripts.{Writes}
@@ -59,16 +58,16 @@ count_after number c = number
 
 -- what is reported of a turn, with the number of updates and the bytes reported so far: nothing of the tree, of questions and of `print`
 abbrev pub Reports : ℕ × Bytes → Turn → Result Unit Stop → ℕ × Bytes → Type 0
-Reports s (Begun w) result t = (t.0 ≡ next_number s.0) × (t.1 ≡ s.1) × (result ≡ Ok tt)
-Reports s (FirstRefused why) result t = (t.0 ≡ next_number s.0) × ReportsRefusal t.0 why result s.1 t.1
-Reports s (Ran old c new) result t = (t.0 ≡ count_after s.0 c) × ReportsStep t.0 old c new result s.1 t.1
+Reports s (Begun comment w) result t = (t.0 ≡ next_number s.0) × (t.1 ≡ s.1) × (result ≡ Ok tt)
+Reports s (FirstRefused comment why) result t = (t.0 ≡ next_number s.0) × ReportsRefusal t.0 why result s.1 t.1
+Reports s (Ran comment old c new) result t = (t.0 ≡ count_after s.0 c) × ReportsStep t.0 old c new result s.1 t.1
 Reports s (Asked old q new) result t = (new ≡ old) × (t ≡ s) × (result ≡ Ok tt)
 Reports s (Printed w) result t = (t ≡ s) × (result ≡ Ok tt)
 
 -- A script is read for its tree: each of its commands in turn, from no tree on, and each refused update is reported. It gives the tree's
 -- world, if there is a tree; or what stopped the reading is reported too, a bad line with its fault, and it gives the exit status.
 pub record ReadsTree (input before after : Bytes) (result : Result (Option World) ℕ) : Type 0 where
-  pub commands : List ScriptCommand
+  pub commands : List Commented
   pub ended : Result Unit Stop
   pub script : ScriptReader
   pub end : Stage × (ℕ × Bytes)

@@ -19,29 +19,29 @@ pub trait Player {
     /// How one call changes the player: the player before it, what it is asked to do, the result, and the player after it.
     ghost turns: { Self → Turn → Result Unit Stop → Self → Type 0 };
 
-    /// Called when the first accepted update has made the tree.
+    /// Called when the first accepted update has made the tree. The comment is that right before the update.
     ///
     /// # Errors
     ///
     /// Returns why the script stops there.
-    fn begin(&mut self, session: &Session) -> Result<(), Stop>
-        ensures { turns self.old (Begun session.now) result self.new };
+    fn begin(&mut self, comment: &[u8], session: &Session) -> Result<(), Stop>
+        ensures { turns self.old (Begun comment.now session.now) result self.new };
 
     /// Called when an update that would have made the tree was refused. The script goes on unless this stops it.
     ///
     /// # Errors
     ///
     /// Returns why the script stops there.
-    fn refuse(&mut self, refusal: UpdateError) -> Result<(), Stop>
-        ensures { turns self.old (FirstRefused refusal) result self.new };
+    fn refuse(&mut self, comment: &[u8], refusal: UpdateError) -> Result<(), Stop>
+        ensures { turns self.old (FirstRefused comment.now refusal) result self.new };
 
-    /// Runs an update or a change of the host's focus.
+    /// Runs an update or a change of the host's focus, which has this comment right before it.
     ///
     /// # Errors
     ///
     /// Returns why the script stops there.
-    fn run(&mut self, session: &mut Session, command: Command) -> Result<(), Stop>
-        ensures { turns self.old (Ran session.old command session.new) result self.new };
+    fn run(&mut self, comment: &[u8], session: &mut Session, command: Command) -> Result<(), Stop>
+        ensures { turns self.old (Ran comment.now session.old command session.new) result self.new };
 
     /// Answers a query, possibly before there is a tree.
     ///
@@ -156,19 +156,24 @@ impl Playing {
             let Some(command) = script.next_command(input)? else {
                 return Ok(());
             };
-            self.carry_out(command, player)?;
+            self.carry_out(script.comment(), command, player)?;
         }
         Err(Stop::ReadFault)
     }
 
-    /// Carries out a command.
-    fn carry_out<P: Player>(&mut self, command: ScriptCommand, player: &mut P) -> Result<(), Stop>
-        ensures { CarriesOut P.turns (stage_of self.old) player.old command result (stage_of self.new) player.new }
+    /// Carries out a command, which has this comment right before it.
+    fn carry_out<P: Player>(
+        &mut self,
+        comment: &[u8],
+        command: ScriptCommand,
+        player: &mut P,
+    ) -> Result<(), Stop>
+        ensures { CarriesOut P.turns (stage_of self.old) player.old comment.now command result (stage_of self.new) player.new }
     {
         match command {
-            ScriptCommand::Update(update) => self.send(update, player),
+            ScriptCommand::Update(update) => self.send(comment, update, player),
             ScriptCommand::HostFocus(is_host_focused) => {
-                self.set_host_focus(is_host_focused, player)
+                self.set_host_focus(comment, is_host_focused, player)
             }
             ScriptCommand::Print => player.print(&self.session),
             ScriptCommand::Query(query) => player.ask(&mut self.session, query),
@@ -176,42 +181,54 @@ impl Playing {
     }
 
     /// Sends an update: the first one makes the tree.
-    fn send<P: Player>(&mut self, update: TreeUpdate, player: &mut P) -> Result<(), Stop>
-        ensures { CarriesOut P.turns (stage_of self.old) player.old (script_.Update update) result (stage_of self.new) player.new }
+    fn send<P: Player>(
+        &mut self,
+        comment: &[u8],
+        update: TreeUpdate,
+        player: &mut P,
+    ) -> Result<(), Stop>
+        ensures { CarriesOut P.turns (stage_of self.old) player.old comment.now (script_.Update update) result
+            (stage_of self.new) player.new }
     {
         match &mut self.session {
-            Some(session) => player.run(session, Command::Update(update)),
-            None => self.send_first(update, player),
+            Some(session) => player.run(comment, session, Command::Update(update)),
+            None => self.send_first(comment, update, player),
         }
     }
 
     /// Sends the update that makes the tree.
-    fn send_first<P: Player>(&mut self, update: TreeUpdate, player: &mut P) -> Result<(), Stop>
+    fn send_first<P: Player>(
+        &mut self,
+        comment: &[u8],
+        update: TreeUpdate,
+        player: &mut P,
+    ) -> Result<(), Stop>
         requires { self.old.session ≡ None }
-        ensures { SendsFirst P.turns self.old.is_host_focused player.old update result (stage_of self.new) player.new }
+        ensures { SendsFirst P.turns self.old.is_host_focused player.old comment.now update result (stage_of self.new) player.new }
     {
         match Session::new(self.alloc, update, self.is_host_focused) {
             Ok(session) => {
-                let begun = player.begin(&session);
+                let begun = player.begin(comment, &session);
                 self.session = Some(session);
                 begun
             }
-            Err(refusal) => player.refuse(refusal),
+            Err(refusal) => player.refuse(comment, refusal),
         }
     }
 
     /// Sets the host's focus. Before there is a tree, it is kept for the tree.
     fn set_host_focus<P: Player>(
         &mut self,
+        comment: &[u8],
         is_host_focused: bool,
         player: &mut P,
     ) -> Result<(), Stop>
-        ensures { CarriesOut P.turns (stage_of self.old) player.old (script_.HostFocus is_host_focused) result
+        ensures { CarriesOut P.turns (stage_of self.old) player.old comment.now (script_.HostFocus is_host_focused) result
             (stage_of self.new) player.new }
     {
         self.is_host_focused = is_host_focused;
         match &mut self.session {
-            Some(session) => player.run(session, Command::HostFocus(is_host_focused)),
+            Some(session) => player.run(comment, session, Command::HostFocus(is_host_focused)),
             None => Ok(()),
         }
     }

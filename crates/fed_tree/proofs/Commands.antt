@@ -1,22 +1,22 @@
 -- How the commands of lines are read one after another.
-use Rattle.std.proofs.Common.{◌≡◌, ℕ, List, [], ◌∷◌, ◌++◌, Option, Some, None, Result, Ok, Err, sym, ap, ap₂, subst}
+use Rattle.std.proofs.Common.{◌≡◌, ℕ, List, [], ◌∷◌, ◌++◌, Option, Some, None, Result, Ok, Err, sym, ap, subst}
 use Rattle.std.proofs.lemmas.Fn.{FoldsTo-push}
 use Rattle.std.specs.Option.{unwrap_or}
 use Rattle.schema.specs.UpdateData.{UpdateData}
 use Rattle.script_lines.specs.ScriptReading.{IsPlace, Place, ReadsTo, place}
-use Rattle.script_lines.specs.Taking.{begun_of, number_of}
+use Rattle.script_lines.specs.Taking.{begun_of, comment_of, number_of}
 use Rattle.script_lines.specs.declared.reader.ScriptCommand.{ScriptCommand}
 use Rattle.script_lines.specs.declared.reader.ScriptReader.{ScriptReader}
 use Rattle.script_words.specs.declared.stops.Stop.{Stop}
 use Rattle.script_words.specs.declared.stops.Stop.TheVariants.{BadLine}
 use Rattle.fed_tree.specs.Feeding.{start, ReadsNext, BeginWith, Say, HasBadLine}
 
-abbrev at_bytes : List ℕ → Option UpdateData → ℕ → Place
-at_bytes bytes begun number = record { left = bytes; begun = begun; number = number }
+abbrev at_bytes : List ℕ → Option UpdateData → List ℕ → ℕ → Place
+at_bytes bytes begun comment number = record { left = bytes; begun = begun; comment = comment; number = number }
 
 -- a reader that has read nothing is before the first line
-pub at_start : (lines : List ℕ) (reader : ScriptReader) → begun_of reader ≡ None → number_of reader ≡ 0 → start lines ≡ place reader lines
-at_start lines reader begun number = sym (ap₂ (at_bytes lines) begun number)
+pub at_start : (lines : List ℕ) (reader : ScriptReader) → begun_of reader ≡ None → comment_of reader ≡ [] → number_of reader ≡ 0 → start lines ≡ place reader lines
+at_start lines reader begun comment number = sym (λ i. at_bytes lines (begun i) (comment i) (number i))
 
 -- what a reader answers, with these bytes before it, and those after it
 abbrev pub Answers : ScriptReader → List ℕ → Result (Option ScriptCommand) Stop → ScriptReader → List ℕ → Type 0
@@ -27,8 +27,8 @@ module _ (lines : List ℕ) (commands : List ScriptCommand) (reader : ScriptRead
   pub one_more : (command : ScriptCommand) (after : ScriptReader) (left : List ℕ) → Answers reader bytes (Ok (Some command)) after left → BeginWith lines (commands ++ command ∷ []) (place after left)
   one_more command after left answers =
       let next = answers.0 in
-      let same : place after left ≡ next =
-      ap₂ (λ (xs : List ℕ) (p : Option UpdateData × ℕ). at_bytes xs p.0 p.1) (ap (λ (o : Option (List ℕ)). unwrap_or o []) answers.2.1.1) (ap₂ (λ (b : Option UpdateData) (n : ℕ). (b, n)) answers.2.1.0 answers.2.0) in
+      let bytes_left = ap (λ (o : Option (List ℕ)). unwrap_or o []) answers.2.1.1 in
+      let same : place after left ≡ next = λ i. at_bytes (bytes_left i) (answers.2.1.0 i) (answers.2.1.2 i) (answers.2.0 i) in
       subst (λ (at : Place). BeginWith lines (commands ++ command ∷ []) at) (sym same) (FoldsTo-push ReadsNext (start lines) commands (place reader bytes) command next begins answers.1)
 
   -- the lines end

@@ -8,7 +8,7 @@ use Rattle.schema.specs.NodeData.{NodeData}
 use Rattle.schema.specs.UpdateData.{UpdateData}
 use Rattle.schema.specs.declared.NodeId.{NodeId}
 use Rattle.script_nodes.specs.Given.{Becomes, Given, with_given}
-use Rattle.script_nodes.specs.NodeText.{all_fields}
+use Rattle.script_nodes.specs.FieldKinds.{all_fields}
 use Rattle.script_nodes.specs.declared.field_kinds.Field.{Field}
 use Rattle.fed_tree.specs.Begun.{Changes, given_at, last_entry, with_last, with_value}
 use Rattle.fed_tree.specs.declared.updating.BuildError.{BuildError}

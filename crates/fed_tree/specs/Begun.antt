@@ -10,7 +10,7 @@ use Rattle.schema.specs.declared.Role.{Role}
 use Rattle.schema.specs.declared.TreeId.{TreeId}
 use Rattle.schema.specs.declared.update.TreeUpdate.{TreeUpdate}
 use Rattle.script_nodes.specs.Given.{Given, with_given}
-use Rattle.script_nodes.specs.NodeText.{all_fields}
+use Rattle.script_nodes.specs.FieldKinds.{all_fields}
 use Rattle.script_lines.specs.Taking.{with_entry}
 use Rattle.script_lines.specs.declared.reader.ScriptCommand.{ScriptCommand}
 use Rattle.script_lines.specs.declared.reader.ScriptCommand.TheVariants as command

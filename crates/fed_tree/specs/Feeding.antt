@@ -21,7 +21,7 @@ use Rattle.fed_tree.specs.declared.stage.Stage.{Stage}
 
 -- before the first line
 abbrev pub start : List ℕ → Place
-start lines = record { left = lines; begun = None; number = 0 }
+start lines = record { left = lines; begun = None; comment = []; number = 0 }
 
 -- the next command is read
 abbrev pub ReadsNext : Place → ScriptCommand → Place → Type 0

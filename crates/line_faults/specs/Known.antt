@@ -6,8 +6,7 @@ use Rattle.schema.specs.declared.Role.{Role}
 use Rattle.schema.specs.declared.Role.TheVariants as role
 use Rattle.schema.specs.RoleNames.{role_name}
 use Rattle.schema.specs.declared.TreeId.{TreeId}
-use Rattle.script_nodes.specs.FieldKinds.{field_name}
-use Rattle.script_nodes.specs.NodeText.{all_fields}
+use Rattle.script_nodes.specs.FieldKinds.{all_fields, field_name}
 use Rattle.script_words.specs.Reading.{IsCount, IsRole}
 use Rattle.script_words.specs.Says.{SaysNumber, SaysRole, SaysTree}
 use Rattle.line_faults.specs.declared.reasons.FieldSet.{FieldSet}

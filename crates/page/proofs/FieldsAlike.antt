@@ -17,8 +17,6 @@ use Rattle.script_nodes.specs.declared.field_kinds.IdsField.TheVariants as ids
 use Rattle.script_nodes.specs.declared.field_kinds.IdField.TheVariants as id
 use Rattle.script_nodes.specs.declared.field_kinds.TextField.TheVariants as text
 use Rattle.script_nodes.specs.declared.field_kinds.FlagField.TheVariants as flag
-use Rattle.script_nodes.specs.declared.field_kinds.NumbersField.TheVariants as numbers
-use Rattle.script_nodes.specs.declared.field_kinds.UnitsField.TheVariants as units
 use Rattle.script_nodes.specs.declared.field_kinds.BoolField.TheVariants as bool
 use Rattle.script_nodes.specs.declared.field_kinds.ColorField.TheVariants as color
 use Rattle.script_nodes.specs.declared.field_kinds.DecorationField.TheVariants as decoration
@@ -33,107 +31,35 @@ use Rattle.page.specs.Laws.{node_field}
 -- no field but the value and what is measured of characters reads either
 sent_blindly : (f : Field) → is_value f ≡ false → is_measured f ≡ false → IsBlind (λ d. sent_value d f)
 sent_blindly (field.Ids ids.Children) plain other d = refl
-sent_blindly (field.Ids ids.LabelledBy) plain other d = refl
-sent_blindly (field.Ids ids.Controls) plain other d = refl
 sent_blindly (field.Id id.ActiveDescendant) plain other d = refl
-sent_blindly (field.Id id.PreviousOnLine) plain other d = refl
-sent_blindly (field.Id id.NextOnLine) plain other d = refl
 sent_blindly (field.Text text.Label) plain other d = refl
 sent_blindly (field.Text text.Value) plain other d = cc
-sent_blindly (field.Text text.Description) plain other d = refl
-sent_blindly (field.Text text.Placeholder) plain other d = refl
-sent_blindly (field.Text text.RoleDescription) plain other d = refl
-sent_blindly (field.Text text.Url) plain other d = refl
-sent_blindly (field.Text text.AuthorId) plain other d = refl
-sent_blindly (field.Text text.HtmlId) plain other d = refl
-sent_blindly (field.Text text.ClassName) plain other d = refl
-sent_blindly (field.Text text.BrailleLabel) plain other d = refl
-sent_blindly (field.Text text.BrailleRoleDescription) plain other d = refl
-sent_blindly (field.Text text.ColumnIndexText) plain other d = refl
-sent_blindly (field.Text text.RowIndexText) plain other d = refl
-sent_blindly (field.Text text.FontFamily) plain other d = refl
-sent_blindly (field.Text text.Language) plain other d = refl
 sent_blindly (field.Flag flag.Hidden) plain other d = refl
-sent_blindly (field.Flag flag.ClipsChildren) plain other d = refl
-sent_blindly (field.Flag flag.Disabled) plain other d = refl
-sent_blindly (field.Flag flag.ReadOnly) plain other d = refl
-sent_blindly (field.Flag flag.Required) plain other d = refl
-sent_blindly (field.Flag flag.Modal) plain other d = refl
-sent_blindly (field.Flag flag.Busy) plain other d = refl
-sent_blindly (field.Flag flag.Multiselectable) plain other d = refl
-sent_blindly (field.Flag flag.Italic) plain other d = refl
-sent_blindly (field.Flag flag.LiveAtomic) plain other d = refl
-sent_blindly (field.Flag flag.TouchTransparent) plain other d = refl
 sent_blindly (field.Numbers which) plain other d = cc
 sent_blindly (field.Units which) plain other d = cc
 sent_blindly (field.Bool bool.Expanded) plain other d = refl
-sent_blindly (field.Bool bool.Selected) plain other d = refl
 sent_blindly (field.Color color.Background) plain other d = refl
-sent_blindly (field.Color color.Foreground) plain other d = refl
 sent_blindly (field.Decoration decoration.Overline) plain other d = refl
-sent_blindly (field.Decoration decoration.Strikethrough) plain other d = refl
-sent_blindly (field.Decoration decoration.Underline) plain other d = refl
 sent_blindly (field.Number number.NumericValue) plain other d = refl
-sent_blindly (field.Number number.MinNumericValue) plain other d = refl
-sent_blindly (field.Number number.MaxNumericValue) plain other d = refl
-sent_blindly (field.Number number.NumericValueStep) plain other d = refl
-sent_blindly (field.Number number.NumericValueJump) plain other d = refl
-sent_blindly (field.Number number.ScrollX) plain other d = refl
-sent_blindly (field.Number number.ScrollXMin) plain other d = refl
-sent_blindly (field.Number number.ScrollXMax) plain other d = refl
-sent_blindly (field.Number number.ScrollY) plain other d = refl
-sent_blindly (field.Number number.ScrollYMin) plain other d = refl
-sent_blindly (field.Number number.ScrollYMax) plain other d = refl
 sent_blindly (field.Count count.Level) plain other d = refl
-sent_blindly (field.Count count.SizeOfSet) plain other d = refl
-sent_blindly (field.Count count.PositionInSet) plain other d = refl
 sent_blindly (field.Actions actions.Own) plain other d = refl
-sent_blindly (field.Actions actions.Children) plain other d = refl
-sent_blindly field.Tree plain other d = refl
-sent_blindly field.Bounds plain other d = refl
-sent_blindly field.Transform plain other d = refl
-sent_blindly field.Selection plain other d = refl
-sent_blindly field.Toggled plain other d = refl
-sent_blindly field.Live plain other d = refl
-sent_blindly field.Orientation plain other d = refl
-sent_blindly field.SortDirection plain other d = refl
-sent_blindly field.AriaCurrent plain other d = refl
-sent_blindly field.HasPopup plain other d = refl
-sent_blindly field.FontSize plain other d = refl
-sent_blindly field.FontWeight plain other d = refl
-sent_blindly field.TextDirection plain other d = refl
-sent_blindly field.TextAlign plain other d = refl
-sent_blindly field.VerticalOffset plain other d = refl
+sent_blindly _ plain other d = refl
 
 -- so it is of any field in a password
 within_blindly : (f : Field) → IsBlind (λ d. other_field true d f)
-within_blindly (field.Ids which) d = sent_blindly (field.Ids which) refl refl d
-within_blindly (field.Id which) d = sent_blindly (field.Id which) refl refl d
 within_blindly (field.Text which) d = refl
-within_blindly (field.Flag which) d = sent_blindly (field.Flag which) refl refl d
 within_blindly (field.Numbers which) d = refl
 within_blindly (field.Units which) d = refl
+within_blindly (field.Ids which) d = sent_blindly (field.Ids which) refl refl d
+within_blindly (field.Id which) d = sent_blindly (field.Id which) refl refl d
+within_blindly (field.Flag which) d = sent_blindly (field.Flag which) refl refl d
 within_blindly (field.Bool which) d = sent_blindly (field.Bool which) refl refl d
 within_blindly (field.Color which) d = sent_blindly (field.Color which) refl refl d
 within_blindly (field.Decoration which) d = sent_blindly (field.Decoration which) refl refl d
 within_blindly (field.Number which) d = sent_blindly (field.Number which) refl refl d
 within_blindly (field.Count which) d = sent_blindly (field.Count which) refl refl d
 within_blindly (field.Actions which) d = sent_blindly (field.Actions which) refl refl d
-within_blindly field.Tree d = refl
-within_blindly field.Bounds d = refl
-within_blindly field.Transform d = refl
-within_blindly field.Selection d = refl
-within_blindly field.Toggled d = refl
-within_blindly field.Live d = refl
-within_blindly field.Orientation d = refl
-within_blindly field.SortDirection d = refl
-within_blindly field.AriaCurrent d = refl
-within_blindly field.HasPopup d = refl
-within_blindly field.FontSize d = refl
-within_blindly field.FontWeight d = refl
-within_blindly field.TextDirection d = refl
-within_blindly field.TextAlign d = refl
-within_blindly field.VerticalOffset d = refl
+within_blindly _ d = refl
 
 -- and of the password itself
 abbrev unmeasured : Field → NodeData → Option (List ℕ)

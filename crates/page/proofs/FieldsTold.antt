@@ -6,8 +6,8 @@ use Rattle.std.proofs.lemmas.Fn.{FoldsTo-push}
 use Rattle.std.proofs.lemmas.List.{get_or-map, length-map, length-append, take_all, take_more}
 use Rattle.std.proofs.Math.Seq.{drop-append_seam}
 use Rattle.schema.specs.NodeData.{NodeData}
-use Rattle.script_nodes.specs.FieldKinds.{field_name, flag_at, flag_name}
-use Rattle.script_nodes.specs.NodeText.{all_fields, piece, value_of}
+use Rattle.script_nodes.specs.FieldKinds.{all_fields, field_name, flag_at}
+use Rattle.script_nodes.specs.NodeText.{piece, value_of}
 use Rattle.script_nodes.specs.declared.field_kinds.Field.{Field}
 use Rattle.script_nodes.specs.declared.field_kinds.Field.TheVariants as field
 use Rattle.script_words.specs.Parts.{field_text, flag_text, word_field}
@@ -73,7 +73,7 @@ pub flag_sent : (d : NodeData) (f : Field) → is_flag f ≡ true → Some (flag
 flag_sent d (field.Ids which) e = cc
 flag_sent d (field.Id which) e = cc
 flag_sent d (field.Text which) e = cc
-flag_sent d (field.Flag which) e = ap Some (as_flag (flag_name which) (flag_at which d))
+flag_sent d (field.Flag which) e = ap Some (as_flag (field_name (field.Flag which)) (flag_at which d))
 flag_sent d (field.Numbers which) e = cc
 flag_sent d (field.Units which) e = cc
 flag_sent d (field.Bool which) e = cc

@@ -1,10 +1,10 @@
 -- The items of states that are counted.
 use Rattle.std.proofs.Common.{◌≡◌, ℕ, ◌+◌, ◌<◌, arith, List, [], ◌∷◌, ◌++◌, length, get_or, take, sym, ap, ◌∙◌}
 use Rattle.std.proofs.lemmas.List.{append-nil, append_assoc, length-take-le, take_more}
-use Rattle.page.specs.declared.sections.Summary.{Summary}
+use Rattle.page.specs.declared.sections.Titled.{Titled}
 use Rattle.page.specs.States.{item_text, items_from}
 
-items_push : (number k : ℕ) (its : List Summary) (it : Summary) → length its ≡ k → items_from number (its ++ it ∷ []) ≡ items_from number its ++ item_text (number + k) it
+items_push : (number k : ℕ) (its : List Titled) (it : Titled) → length its ≡ k → items_from number (its ++ it ∷ []) ≡ items_from number its ++ item_text (number + k) it
 items_push number k [] it e = let same : number ≡ number + k = omega arith in append-nil (item_text number it) ∙ ap (λ n. item_text n it) same
 items_push number k (first ∷ its) it e =
     let same : number + 1 + length its ≡ number + k = omega arith in
@@ -12,7 +12,7 @@ items_push number k (first ∷ its) it e =
     ∙ sym (append_assoc (item_text number first) (items_from (number + 1) its) (item_text (number + k) it))
 
 -- one more
-pub items_more : (states : List Summary) (i : ℕ) (it : Summary) → i < length states → items_from 1 (take (i + 1) states) ≡ items_from 1 (take i states) ++ item_text (i + 1) (get_or states i it)
+pub items_more : (states : List Titled) (i : ℕ) (it : Titled) → i < length states → items_from 1 (take (i + 1) states) ≡ items_from 1 (take i states) ++ item_text (i + 1) (get_or states i it)
 items_more states i it within =
     let same : 1 + i ≡ i + 1 = omega arith in
     ap (items_from 1) (take_more states i it within) ∙ items_push 1 i (take i states) (get_or states i it) (length-take-le i states (omega arith))

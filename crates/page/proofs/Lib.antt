@@ -11,5 +11,7 @@ pub mod LeftOut
 pub mod Opened
 pub mod Reporting
 pub mod SaidAlike
+pub mod SameRuns
+pub mod Shared
 pub mod Told
 pub mod Viewed

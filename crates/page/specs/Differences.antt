@@ -3,8 +3,8 @@ use Rattle.std.specs.Prelude.{ℕ, ◌+◌, List, [], ◌∷◌, ◌++◌, lengt
 use Rattle.std.specs.Fmt.{decimal}
 use Rattle.std.specs.List.{FoldsTo}
 use Rattle.html.specs.Escaped.{escaped}
-use Rattle.script_nodes.specs.FieldKinds.{field_name, flag_at}
-use Rattle.script_nodes.specs.NodeText.{all_fields, value_of}
+use Rattle.script_nodes.specs.FieldKinds.{all_fields, field_name, flag_at}
+use Rattle.script_nodes.specs.NodeText.{value_of}
 use Rattle.script_nodes.specs.declared.field_kinds.Field.{Field}
 use Rattle.script_nodes.specs.declared.field_kinds.Field.TheVariants as field
 use Rattle.script_nodes.specs.declared.field_kinds.TextField.TheVariants as text

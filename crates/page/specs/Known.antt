@@ -18,6 +18,7 @@ use Rattle.model.specs.Filters.{is_hidden, base_filter, common_filter}
 use Rattle.hidden_texts.specs.Hidden.{is_in_password}
 use Rattle.page.specs.declared.carried.Known.{Known}
 use Rattle.page.specs.declared.carried.Step.{Step}
+use Rattle.page.specs.Sources.{IsCarried}
 
 -- a node's own translation, and the sum of those above it
 abbrev pub sum_of : Translation → WideTranslation → WideTranslation
@@ -63,6 +64,7 @@ pub record IsKnown (w : World) (id : FullNodeId) (known : Known) : Type 0 where
   pub answer : known.answer ≡ common_filter w id
   pub left_out : known.is_left_out ≡ is_left_out w id
   pub frame : IfSome known.frame (λ frame. frame ≡ frame_below w id)
+  pub source : IfSome known.source (IsCarried w id)
 
 abbrev pub IsStep : World → Step → Type 0
 IsStep w step = IsKnown w step.id step.known

@@ -9,5 +9,7 @@ pub mod Places
 pub mod Reports
 pub mod Said
 pub mod Shown
+pub mod Sources
 pub mod States
+pub mod Texts
 pub mod Written

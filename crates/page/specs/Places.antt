@@ -1,5 +1,5 @@
 -- The nodes of a state as a page shows them.
-use Rattle.std.specs.Prelude.{◌≡◌, Bool, false, List, [], ◌∷◌, map, All, Option, Some, None, if◌then◌else◌}
+use Rattle.std.specs.Prelude.{◌≡◌, Bool, false, List, [], ◌∷◌, map, All, Option, Some, None, IfSome, if◌then◌else◌}
 use Rattle.hidden_texts.specs.Hidden.{is_in_password}
 use Rattle.schema.specs.declared.geometry.WideRect.{WideRect}
 use Rattle.model.specs.declared.FullNodeId.{FullNodeId}
@@ -13,6 +13,7 @@ use Rattle.views.specs.Descendants.{descendants}
 use Rattle.page.specs.declared.places.Place.{Place}
 use Rattle.page.specs.Known.{is_left_out}
 use Rattle.page.specs.Said.{hidden_at}
+use Rattle.page.specs.Sources.{HasValueOf}
 
 abbrev pub node_at : Place → NodeRef
 node_at place = place.node
@@ -25,6 +26,7 @@ pub record IsPlace (place : Place) : Type 0 where
   pub texts : place.hidden ≡ hidden_at (world_at place.node) (id_at place.node)
   pub within : place.is_in_password ≡ is_in_password (world_at place.node) (id_at place.node)
   pub box : place.rect ≡ bounding_box (world_at place.node) (id_at place.node)
+  pub source : IfSome place.source (HasValueOf (world_at place.node) (id_at place.node))
 
 -- the box that a picture draws
 abbrev pub box_drawn : Place → Option WideRect

@@ -1,14 +1,13 @@
 -- What a page shows of a script, command by command.
 use Rattle.std.specs.Prelude.{◌≡◌, ◌⊎◌, ℕ, List, [], ◌∷◌, ◌++◌, Option, Some, None, MatchOption, MatchResult, Result, Ok, Err, ⊤}
 use Rattle.std.specs.Io.KnownBytes.{Appends, Keeps}
-use Rattle.atree_script.specs.Input.{start_of}
+use Rattle.atree_script.specs.Input.{Commented, start_of}
 use Rattle.atree_script.specs.declared.playing.Played.{Played}
 use Rattle.atree_script.specs.Playing.{Turn, Begun as TreeBegun, FirstRefused, Ran, Asked, Printed, Stage, no_tree, Plays}
 use Rattle.atree_script.specs.Reports.{report_line}
 use Rattle.atree_script.specs.Scripts.{Writes}
 use Rattle.model.specs.World.{World}
 use Rattle.script_lines.specs.Ends.{Tells, status_at_end}
-use Rattle.script_lines.specs.declared.reader.ScriptCommand.{ScriptCommand}
 use Rattle.script_words.specs.declared.stops.Stop.{Stop}
 use Rattle.script_words.specs.declared.stops.Stop.TheVariants.{Memory, WriteFault}
 use Rattle.session.specs.declared.commands.Command.{Command}
@@ -20,6 +19,7 @@ use Rattle.page.specs.declared.sections.Cause.TheVariants.{Update}
 use Rattle.page.specs.declared.sections.Outcome.{Outcome}
 use Rattle.page.specs.declared.sections.Outcome.TheVariants.{Begun, Changed, Same, Refused}
 use Rattle.page.specs.declared.sections.Summary.{Summary}
+use Rattle.page.specs.declared.sections.Titled.{Titled}
 use Rattle.page.specs.declared.stops.Ending.{Ending}
 use Rattle.page.specs.Endings.{EndsAs, told_text}
 use Rattle.page.specs.Reports.{Bytes, Marked, ReportsStep, no_tally}
@@ -28,10 +28,10 @@ use Rattle.page.specs.States.{counted, next_number, cause_of, updates_after, sta
 -- a page while it is written: how many updates there were, its states, and what is written
 pub record Pages : Type 0 where
   pub updates : ℕ
-  pub states : List Summary
+  pub states : List Titled
   pub written : Bytes
 
-abbrev pub pages_of : ℕ → List Summary → Bytes → Pages
+abbrev pub pages_of : ℕ → List Titled → Bytes → Pages
 pages_of updates states written = record { updates = updates; states = states; written = written }
 
 -- why a page is not written further
@@ -53,34 +53,38 @@ WritesTree (Refused why) before after = after ≡ before
 abbrev pub first_summary : ℕ → Outcome → Summary
 first_summary updates outcome = summary (Update (counted updates)) outcome no_tally
 
--- what came of a state is said, and it is one more state
-pub record Notes (it : Summary) (s t : Pages) : Type 0 where
+-- what came of a state is said, and it is one more state, with its title
+pub record Notes (title : List ℕ) (it : Summary) (s t : Pages) : Type 0 where
   pub outcome : Appends s.written t.written (outcome_text (next_number s.states) it.outcome)
-  pub states : t.states ≡ s.states ++ it ∷ []
+  pub state : Titled
+  pub titled : state.title.items ≡ title
+  pub summary : state.summary ≡ it
+  pub states : t.states ≡ s.states ++ state ∷ []
   pub updates : t.updates ≡ updates_after it.cause s.updates
 
 -- a state without events begins, and what came of it is said
-pub record Opens (it : Summary) (s t : Pages) : Type 0 where
+pub record Opens (title : List ℕ) (it : Summary) (s t : Pages) : Type 0 where
   pub begun : Bytes
-  pub begins : Appends s.written begun (state_begun (next_number s.states) it.cause)
-  pub notes : Notes it (pages_of s.updates s.states begun) t
+  pub begins : Appends s.written begun (state_begun (next_number s.states) title it.cause)
+  pub notes : Notes title it (pages_of s.updates s.states begun) t
 
 -- and its tree is written
-pub record ShowsState (it : Summary) (s t : Pages) : Type 0 where
+pub record ShowsState (title : List ℕ) (it : Summary) (s t : Pages) : Type 0 where
   pub noted : Bytes
-  pub opens : Opens it s (pages_of t.updates t.states noted)
+  pub opens : Opens title it s (pages_of t.updates t.states noted)
   pub tree : WritesTree it.outcome noted t.written
 
 -- the state that a step makes is shown, with its events and what came of it
-pub record ShowsStep (cause : Cause) (outcome : Outcome) (s : Pages) (old : World) (c : Command) (new : World) (t : Pages) : Type 0 where
+pub record ShowsStep (title : List ℕ) (cause : Cause) (outcome : Outcome) (s : Pages) (old : World) (c : Command) (new : World)
+    (t : Pages) : Type 0 where
   pub begun : Bytes
-  pub begins : Appends s.written begun (state_begun (next_number s.states) cause)
+  pub begins : Appends s.written begun (state_begun (next_number s.states) title cause)
   pub told : Bytes
   pub tally : Tally
   pub marks : Marked
   pub reports : ReportsStep (next_number s.states) old c new begun outcome tally marks told
   pub noted : Bytes
-  pub notes : Notes (summary cause outcome tally) (pages_of s.updates s.states told) (pages_of t.updates t.states noted)
+  pub notes : Notes title (summary cause outcome tally) (pages_of s.updates s.states told) (pages_of t.updates t.states noted)
   pub tree : WritesTree outcome noted t.written
 
 -- ---- what is shown and reported of a turn
@@ -100,41 +104,42 @@ OrStops result shown silent =
     MatchResult result (λ _. shown) (λ stop. ((why : Fault) × (stop ≡ stop_of why) × silent) ⊎ (stop ≡ WriteFault))
 
 -- a first tree is shown, of which nothing is reported
-abbrev pub ShowsFirst : Summary → Shown → Shown → Type 0
-ShowsFirst it s t = ShowsState it s.0 t.0 × (t.1 ≡ s.1)
+abbrev pub ShowsFirst : List ℕ → Summary → Shown → Shown → Type 0
+ShowsFirst title it s t = ShowsState title it s.0 t.0 × (t.1 ≡ s.1)
 
 -- that a first update is refused is shown and reported
-abbrev pub RefusesFirst : Summary → Shown → Shown → Type 0
-RefusesFirst it s t = Opens it s.0 t.0 × Appends s.1 t.1 (report_text it.cause it.outcome)
+abbrev pub RefusesFirst : List ℕ → Summary → Shown → Shown → Type 0
+RefusesFirst title it s t = Opens title it s.0 t.0 × Appends s.1 t.1 (report_text it.cause it.outcome)
 
 -- the state that a step makes is shown, and its refusal is reported, if it is refused
-pub record ShowsTurn (cause : Cause) (s : Shown) (old : World) (c : Command) (new : World) (t : Shown) : Type 0 where
+pub record ShowsTurn (title : List ℕ) (cause : Cause) (s : Shown) (old : World) (c : Command) (new : World) (t : Shown) : Type 0 where
   pub outcome : Outcome
-  pub shows : ShowsStep cause outcome s.0 old c new t.0
+  pub shows : ShowsStep title cause outcome s.0 old c new t.0
   pub reports : Appends s.1 t.1 (report_text cause outcome)
 
 -- a command that makes no state shows nothing
-abbrev pub ShowsRun : World → Command → World → Shown → Result Unit Stop → Shown → Type 0
-ShowsRun old c new s result t =
+abbrev pub ShowsRun : List ℕ → World → Command → World → Shown → Result Unit Stop → Shown → Type 0
+ShowsRun title old c new s result t =
     MatchOption (cause_of old.host_focused s.0.updates c) ((new ≡ old) × (t ≡ s) × (result ≡ Ok tt))
-    (λ cause. OrStops result (ShowsTurn cause s old c new t) (t.1 ≡ s.1))
+    (λ cause. OrStops result (ShowsTurn title cause s old c new t) (t.1 ≡ s.1))
 
--- What a command shows. Of a query or a `print` that is nothing.
+-- What a command shows: the comment right before it is the title of the state that it makes. Of a query or a `print` nothing is shown.
 abbrev pub Shows : Shown → Turn → Result Unit Stop → Shown → Type 0
-Shows s (TreeBegun w) result t = OrStops result (ShowsFirst (first_summary s.0.updates Begun) s t) (t.1 ≡ s.1)
-Shows s (FirstRefused why) result t = OrStops result (RefusesFirst (first_summary s.0.updates (Refused why)) s t) (t.1 ≡ s.1)
-Shows s (Ran old c new) result t = ShowsRun old c new s result t
+Shows s (TreeBegun comment w) result t = OrStops result (ShowsFirst comment (first_summary s.0.updates Begun) s t) (t.1 ≡ s.1)
+Shows s (FirstRefused comment why) result t =
+    OrStops result (RefusesFirst comment (first_summary s.0.updates (Refused why)) s t) (t.1 ≡ s.1)
+Shows s (Ran comment old c new) result t = ShowsRun comment old c new s result t
 Shows s (Asked old q new) result t = (new ≡ old) × (t ≡ s) × (result ≡ Ok tt)
 Shows s (Printed w) result t = (t ≡ s) × (result ≡ Ok tt)
 
 -- the page ends as the script did, and lists its states; or the output has an error
-abbrev pub EndsPage : List Summary → Ending → Result Unit Stop → Bytes → Bytes → Type 0
+abbrev pub EndsPage : List Titled → Ending → Result Unit Stop → Bytes → Bytes → Type 0
 EndsPage states ending result before after =
     Writes (page_end states ending.ended ending.line ending.message.items) ending.ended result before after
 
 -- a script is run after the head of its page, and its states are shown in turn
 pub record PagesFrom (input head after told_before told_after : Bytes) (status : ℕ) : Type 0 where
-  pub commands : List ScriptCommand
+  pub commands : List Commented
   pub played : Played
   pub end : Stage × Shown
   pub plays : Plays Shows (start_of input) (no_tree, (pages_of 0 [] head, told_before)) commands played.ended played.number end

@@ -15,6 +15,7 @@ use Rattle.page.specs.declared.sections.Cause.TheVariants.{Update, HostOn, HostO
 use Rattle.page.specs.declared.sections.Outcome.{Outcome}
 use Rattle.page.specs.declared.sections.Outcome.TheVariants.{Begun, Changed, Same, Refused}
 use Rattle.page.specs.declared.sections.Summary.{Summary}
+use Rattle.page.specs.declared.sections.Titled.{Titled}
 use Rattle.script_words.specs.declared.stops.Stop.{Stop}
 use Rattle.script_words.specs.declared.stops.Stop.TheVariants as stop
 
@@ -23,7 +24,7 @@ abbrev pub counted : ℕ → ℕ
 counted n = min (n + 1) (2 ^ 64 - 1)
 
 -- the number of the state after these
-abbrev pub next_number : List Summary → ℕ
+abbrev pub next_number : List Titled → ℕ
 next_number states = counted (length states)
 
 -- there were no events
@@ -66,18 +67,26 @@ previous_link before =
 abbrev pub section_begun : ℕ → List ℕ
 section_begun number = codes "<section id=\"state-" ++ decimal number ++ codes "\">\n"
 
-abbrev pub title : ℕ → List ℕ
-title number = codes "<h2>State " ++ decimal number ++ codes "</h2>\n"
+-- what a state is called after its number: by its title, if it has one, which may run from right to left
+abbrev pub title_text : List ℕ → List ℕ
+title_text [] = []
+title_text (byte ∷ bytes) = codes ": <bdi>" ++ escaped (byte ∷ bytes) ++ codes "</bdi>"
 
-abbrev pub heading : ℕ → List ℕ
-heading number = section_begun number ++ title number
+abbrev pub state_name : ℕ → List ℕ → List ℕ
+state_name number title = codes "State " ++ decimal number ++ title_text title
+
+abbrev pub heading_line : ℕ → List ℕ → List ℕ
+heading_line number title = codes "<h2>" ++ state_name number title ++ codes "</h2>\n"
+
+abbrev pub heading : ℕ → List ℕ → List ℕ
+heading number title = section_begun number ++ heading_line number title
 
 abbrev pub cause_line : Cause → List ℕ
 cause_line cause = codes "<p class=\"cause\">" ++ cause_text cause ++ codes "</p>\n"
 
--- the head of a state with this number, after the end of the one before it
-abbrev pub state_begun : ℕ → Cause → List ℕ
-state_begun number cause = next_link number ++ heading number ++ cause_line cause ++ previous_link (number - 1)
+-- the head of a state with this number and title, after the end of the one before it
+abbrev pub state_begun : ℕ → List ℕ → Cause → List ℕ
+state_begun number title cause = next_link number ++ heading number title ++ cause_line cause ++ previous_link (number - 1)
 
 -- ---- what came of it
 
@@ -153,23 +162,27 @@ outcome_word (Refused why) tally = codes " <em class=\"r\">refused</em>"
 abbrev pub state_link_begun : ℕ → List ℕ
 state_link_begun number = codes "<li><a href=\"#state-" ++ decimal number ++ codes "\">"
 
-abbrev pub state_word : ℕ → List ℕ
-state_word number = codes "State " ++ decimal number ++ codes "</a> <small>"
+abbrev pub state_word : ℕ → List ℕ → List ℕ
+state_word number title = state_name number title ++ codes "</a> <small>"
 
-abbrev pub state_link : ℕ → List ℕ
-state_link number = state_link_begun number ++ state_word number
+abbrev pub state_link : ℕ → List ℕ → List ℕ
+state_link number title = state_link_begun number ++ state_word number title
+
+-- what made a state, and what came of it, in short
+abbrev pub summary_text : Summary → List ℕ
+summary_text it = cause_text it.cause ++ codes "</small>" ++ outcome_word it.outcome it.tally
 
 -- a state's item in the list of all, as a link to it
-abbrev pub item_text : ℕ → Summary → List ℕ
-item_text number it = state_link number ++ cause_text it.cause ++ codes "</small>" ++ outcome_word it.outcome it.tally ++ codes "</li>\n"
+abbrev pub item_text : ℕ → Titled → List ℕ
+item_text number it = state_link number it.title.items ++ summary_text it.summary ++ codes "</li>\n"
 
 -- the items of states that are counted from a number
-abbrev pub items_from : ℕ → List Summary → List ℕ
+abbrev pub items_from : ℕ → List Titled → List ℕ
 items_from number [] = []
 items_from number (it ∷ its) = item_text number it ++ items_from (number + 1) its
 
 -- the last state ends, if there is one
-abbrev pub section_end : List Summary → List ℕ
+abbrev pub section_end : List Titled → List ℕ
 section_end [] = []
 section_end (it ∷ its) = codes "</section>\n"
 
@@ -180,5 +193,5 @@ abbrev pub page_foot : List ℕ
 page_foot = codes "</ol></nav>\n</body>\n</html>\n"
 
 -- the end of a page: why the script stopped, if it did, and the list of all states
-abbrev pub page_end : List Summary → Result Unit Stop → ℕ → List ℕ → List ℕ
+abbrev pub page_end : List Titled → Result Unit Stop → ℕ → List ℕ → List ℕ
 page_end states ended line message = section_end states ++ stop_text ended line message ++ list_head ++ items_from 1 states ++ page_foot

@@ -8,7 +8,9 @@ ghost use Rattle.model.specs.Covers.{is_included, is_cut_off};
 ghost use Rattle.views.specs.Nodes.{world_at, id_at};
 ghost use Rattle.hidden_texts.specs.Hidden.{is_in_password};
 ghost use Rattle.page.specs.Known.{clip_frame, frame_below, is_below_left_out, is_clear, is_left_out, left_out_filter, IsKnown, IsStepAbove, sum_of};
+ghost use Rattle.page.specs.Places.{IsOpenUnless};
 
+use crate::sources::{Source, source_of};
 use accesskit_consumer::{FilterResult, FullNodeId, NodeRef, common_filter};
 use hidden_texts::is_in_password;
 use schema::{Rect, Role, Translation, WideRect, WideTranslation};
@@ -34,6 +36,8 @@ pub(crate) struct Known {
     /// What clips the nodes below it, if that is known: the box of the nearest node, from this one upwards, that the
     /// base filter includes, if it clips its children.
     pub frame: Option<Option<WideRect>>,
+    /// The node whose runs it has, if that is known.
+    pub source: Option<Source>,
 }
 
 /// A node with these properties.
@@ -43,9 +47,10 @@ pub(crate) struct Step {
     pub known: Known,
 }
 
-/// The properties of a node, computed from its parent's if they are given.
-pub(crate) fn known_of(node: NodeRef, above: Option<Step>) -> Known
-    requires { IsStepAbove (world_at node) (id_at node) above }
+/// The properties of a node, computed from its parent's if they are given. It is known whether the state has a password.
+pub(crate) fn known_of(node: NodeRef, has_password: bool, above: Option<Step>) -> Known
+    requires open { IsOpenUnless has_password (world_at node) }
+    requires above { IsStepAbove (world_at node) (id_at node) above }
     ensures { IsKnown (world_at node.entry) (id_at node.entry) result }
 {
     let shift = shift_of(node, above);
@@ -62,6 +67,7 @@ pub(crate) fn known_of(node: NodeRef, above: Option<Step>) -> Known
         answer,
         is_left_out: is_left_out_at(node, answer, above),
         frame: frame_of(node, is_hidden, rect, above),
+        source: source_of(node, has_password, above),
     }
 }
 

@@ -19,6 +19,8 @@ mod reported;
 mod secrets;
 mod sections;
 mod sheet;
+mod shown_texts;
+mod sources;
 mod stops;
 mod words;
 

@@ -3,17 +3,17 @@ ghost use Rattle.std.specs.Prelude.{OnOk};
 ghost use Rattle.std.specs.Io.KnownBytes.{Appends};
 ghost use Rattle.views.specs.Nodes.{world_at, id_at};
 ghost use Rattle.page.specs.Said.{label_texts, row_texts, value_texts};
+ghost use Rattle.page.specs.Texts.{IsShown};
 
 use crate::again::{Way, Ways};
-use crate::faults::Fault;
 use crate::looks::Look;
 use crate::marks::Mark;
 use crate::names::{write_anchor, write_id, write_role, write_word};
 use crate::places::Place;
-use crate::words::{hidden_label_word, hidden_value_word, shown_label, shown_value, state_words};
+use crate::shown_texts::Texts;
+use crate::words::{hidden_label_word, hidden_value_word, state_words};
 use accesskit_consumer::NodeRef;
 use html::write_element;
-use std::alloc::Global;
 use std::io::{self, Write};
 
 /// The greatest number of lists in one another. Browsers keep no more than some hundred elements in one another.
@@ -175,50 +175,46 @@ fn row_class(place: &Place) -> &'static str {
 
 /// Writes a row without its mark and links: the role, label, value and state of its node, whether it is focused or isn't
 /// shown, and its id.
-pub(crate) fn write_row_text<O: Write>(
-    alloc: Global,
-    place: &Place,
-    out: &mut O,
-) -> Result<(), Fault> {
+pub(crate) fn write_row_text<O: Write>(place: &Place, texts: Texts, out: &mut O) -> io::Result<()>
+    requires { IsShown place.now texts }
+{
     write_role(&place.node, out)?;
-    write_texts(alloc, place, out)?;
+    write_texts(place, texts, out)?;
     write_words(&state_words(&place.node), out)?;
     write_word("em", "f", focus_word(&place.node), out)?;
     write_word("em", "h", left_out_word(place), out)?;
     out.write_all(b" ")?;
-    write_id(place.node.id(), out)?;
-    Ok(())
+    write_id(place.node.id(), out)
 }
 
 /// Writes a node's label and value, if it has them, and in place of each that is hidden, that it is.
-fn write_texts<O: Write>(alloc: Global, place: &Place, out: &mut O) -> Result<(), Fault>
+fn write_texts<O: Write>(place: &Place, texts: Texts, out: &mut O) -> io::Result<()>
+    requires { IsShown place.now texts }
     ensures { OnOk result (Appends (O.contents out.old) (O.contents out.new)
         (row_texts place.now.hidden (world_at place.now.node) (id_at place.now.node))) }
 {
-    write_label(alloc, place, out)?;
-    write_value(alloc, place, out)
+    write_label(place, texts, out)?;
+    write_value(place, texts, out)
 }
 
 /// Writes a node's label, if it has one, and that it is hidden, if it is.
-fn write_label<O: Write>(alloc: Global, place: &Place, out: &mut O) -> Result<(), Fault>
+fn write_label<O: Write>(place: &Place, texts: Texts, out: &mut O) -> io::Result<()>
+    requires { IsShown place.now texts }
     ensures { OnOk result (Appends (O.contents out.old) (O.contents out.new)
         (label_texts place.now.hidden.label (world_at place.now.node) (id_at place.now.node))) }
 {
-    let label = shown_label(alloc, &place.node, place.hidden.label)?;
-    write_word("q", "l", label.as_deref(), out)?;
-    write_word("i", "w", hidden_label_word(place.hidden.label), out)?;
-    Ok(())
+    write_word("q", "l", texts.label, out)?;
+    write_word("i", "w", hidden_label_word(place.hidden.label), out)
 }
 
 /// Writes a node's value, if it has one, and that it is hidden, if it is.
-fn write_value<O: Write>(alloc: Global, place: &Place, out: &mut O) -> Result<(), Fault>
+fn write_value<O: Write>(place: &Place, texts: Texts, out: &mut O) -> io::Result<()>
+    requires { IsShown place.now texts }
     ensures { OnOk result (Appends (O.contents out.old) (O.contents out.new)
         (value_texts place.now.hidden.value (world_at place.now.node) (id_at place.now.node))) }
 {
-    let value = shown_value(alloc, &place.node, place.hidden.value)?;
-    write_word("q", "v", value.as_deref(), out)?;
-    write_word("i", "w", hidden_value_word(place.hidden.value), out)?;
-    Ok(())
+    write_word("q", "v", texts.value, out)?;
+    write_word("i", "w", hidden_value_word(place.hidden.value), out)
 }
 
 /// Writes each word, if it is set.

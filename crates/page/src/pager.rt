@@ -33,7 +33,7 @@ use crate::picture::{frame_of, write_picture};
 use crate::places::places;
 use crate::reported::{Reported, report_step};
 use crate::sections::{
-    Cause, Outcome, Summary, begin_state, cause_of, write_end, write_head, write_outcome,
+    Cause, Outcome, Summary, Titled, begin_state, cause_of, write_end, write_head, write_outcome,
 };
 use crate::stops::{Ending, end_told, ending_of};
 use accesskit_consumer::{StateRef, UpdateError};
@@ -135,7 +135,7 @@ fn play_shown<R: BufRead, O: Write, E: Write>(
 }
 
 /// Ends the page unless an output had an error, and returns how the run ended.
-fn end_page<O: Write>(states: &[Summary], ending: &Ending, output: &mut O) -> Result<(), Stop>
+fn end_page<O: Write>(states: &[Titled], ending: &Ending, output: &mut O) -> Result<(), Stop>
     ensures { EndsPage states.now ending.now result (O.contents output.old) (O.contents output.new) }
 {
     if ending.ended == Err(Stop::WriteFault) {
@@ -153,8 +153,8 @@ struct Pager<'a, 'b, O, E> {
     errors: &'b mut E,
     /// The number of updates sent so far.
     updates: u64,
-    /// A summary of each state so far.
-    states: Vec<Summary>,
+    /// The title and a summary of each state so far.
+    states: Vec<Titled>,
     /// What is shown of each node of the last state.
     kept: Kept,
 }
@@ -165,27 +165,30 @@ impl<'a, 'b, O: Write, E: Write> Player for Pager<'a, 'b, O, E> {
         (pages_of t.updates t.states.items (O.contents t.output.now), E.contents t.errors.now) };
 
     /// Shows the first state, which has no events.
-    fn begin(&mut self, session: &Session) -> Result<(), Stop> {
-        self.show_begun(session.tree().state().view())?;
+    fn begin(&mut self, comment: &[u8], session: &Session) -> Result<(), Stop> {
+        self.show_begun(comment, session.tree().state().view())?;
         Ok(())
     }
 
     /// Shows and reports why the update is refused, also if memory ran out.
-    fn refuse(&mut self, refusal: UpdateError) -> Result<(), Stop> {
+    fn refuse(&mut self, comment: &[u8], refusal: UpdateError) -> Result<(), Stop> {
         let first = first_summary(self.updates, Outcome::Refused(refusal));
-        self.show_quiet(Summary {
-            cause: first.cause,
-            outcome: first.outcome,
-            tally: first.tally,
-        })?;
+        self.show_quiet(
+            comment,
+            Summary {
+                cause: first.cause,
+                outcome: first.outcome,
+                tally: first.tally,
+            },
+        )?;
         report_outcome(first.cause, first.outcome, self.errors)
     }
 
     /// Shows the state that the command makes, and reports a refusal. Setting the host's focus to its current value makes none.
-    fn run(&mut self, session: &mut Session, command: Command) -> Result<(), Stop> {
+    fn run(&mut self, comment: &[u8], session: &mut Session, command: Command) -> Result<(), Stop> {
         let is_host_focused = session.tree().state().is_host_focused();
         match cause_of(&command, is_host_focused, self.updates) {
-            Some(cause) => self.take_turn(cause, session, command),
+            Some(cause) => self.take_turn(comment, cause, session, command),
             None => Ok(()),
         }
     }
@@ -205,6 +208,7 @@ impl<'a, 'b, O: Write, E: Write> Pager<'a, 'b, O, E> {
     /// Runs a command, shows its events and its state, and reports a refusal.
     fn take_turn(
         &mut self,
+        title: &[u8],
         cause: Cause,
         session: &mut Session,
         command: Command,
@@ -221,9 +225,9 @@ impl<'a, 'b, O: Write, E: Write> Pager<'a, 'b, O, E> {
                   (O.contents self.new.output.now),
               E.contents self.new.errors.now,
             ) in
-            OrStops result (ShowsTurn cause before session.old command session.new after) (after.1 ≡ before.1) }
+            OrStops result (ShowsTurn title.now cause before session.old command session.new after) (after.1 ≡ before.1) }
     {
-        let outcome = self.show_step(cause, session, command)?;
+        let outcome = self.show_step(title, cause, session, command)?;
         report_outcome(cause, outcome, self.errors)
     }
 
@@ -235,15 +239,15 @@ impl<'a, 'b, O: Write, E: Write> Pager<'a, 'b, O, E> {
     }
 
     /// Shows the first state of the tree.
-    fn show_begun(&mut self, state: StateRef) -> Result<(), Fault>
+    fn show_begun(&mut self, title: &[u8], state: StateRef) -> Result<(), Fault>
         ensures output { self.new.output.ghost_name ≡ self.old.output.ghost_name }
         ensures errors { self.new.errors ≡ self.old.errors }
         ensures shows { let before = pages_of self.old.updates self.old.states.items (O.contents self.old.output.now) in
             let after = pages_of self.new.updates self.new.states.items (O.contents self.new.output.now) in
-            OnOk result (ShowsState (first_summary self.old.updates Begun) before after) }
+            OnOk result (ShowsState title.now (first_summary self.old.updates Begun) before after) }
     {
         let number = self.next_number();
-        self.show_quiet(first_summary(self.updates, Outcome::Begun))?;
+        self.show_quiet(title, first_summary(self.updates, Outcome::Begun))?;
         let marks = Marks::new(self.alloc);
         write_tree(
             self.alloc,
@@ -257,20 +261,21 @@ impl<'a, 'b, O: Write, E: Write> Pager<'a, 'b, O, E> {
     }
 
     /// Begins a state without events, and says what came of it.
-    fn show_quiet(&mut self, it: Summary) -> Result<(), Fault>
+    fn show_quiet(&mut self, title: &[u8], it: Summary) -> Result<(), Fault>
         ensures output { self.new.output.ghost_name ≡ self.old.output.ghost_name }
         ensures errors { self.new.errors ≡ self.old.errors }
         ensures opens { let before = pages_of self.old.updates self.old.states.items (O.contents self.old.output.now) in
             let after = pages_of self.new.updates self.new.states.items (O.contents self.new.output.now) in
-            OnOk result (Opens it before after) }
+            OnOk result (Opens title.now it before after) }
     {
-        begin_state(self.next_number(), it.cause, self.output)?;
-        self.note(it)
+        begin_state(self.next_number(), title, it.cause, self.output)?;
+        self.note(title, it)
     }
 
     /// Runs a command, shows its events and its state, and returns what came of it.
     fn show_step(
         &mut self,
+        title: &[u8],
         cause: Cause,
         session: &mut Session,
         command: Command,
@@ -279,16 +284,19 @@ impl<'a, 'b, O: Write, E: Write> Pager<'a, 'b, O, E> {
         ensures errors { self.new.errors ≡ self.old.errors }
         ensures shows { let before = pages_of self.old.updates self.old.states.items (O.contents self.old.output.now) in
             let after = pages_of self.new.updates self.new.states.items (O.contents self.new.output.now) in
-            IfOk result (λ outcome. ShowsStep cause outcome before session.old command session.new after) }
+            IfOk result (λ outcome. ShowsStep title.now cause outcome before session.old command session.new after) }
     {
         let number = self.next_number();
-        begin_state(number, cause, self.output)?;
+        begin_state(number, title, cause, self.output)?;
         let it = report_step(self.alloc, number, session, command, self.output)?;
-        self.note(Summary {
-            cause,
-            outcome: it.outcome,
-            tally: it.tally,
-        })?;
+        self.note(
+            title,
+            Summary {
+                cause,
+                outcome: it.outcome,
+                tally: it.tally,
+            },
+        )?;
         let state = session.tree().state().view();
         write_tree(
             self.alloc,
@@ -302,17 +310,20 @@ impl<'a, 'b, O: Write, E: Write> Pager<'a, 'b, O, E> {
         Ok(it.outcome)
     }
 
-    /// Says what came of the next state, and keeps its summary.
-    fn note(&mut self, it: Summary) -> Result<(), Fault>
+    /// Says what came of the next state, and keeps its title and its summary.
+    fn note(&mut self, title: &[u8], it: Summary) -> Result<(), Fault>
         ensures output { self.new.output.ghost_name ≡ self.old.output.ghost_name }
         ensures errors { self.new.errors ≡ self.old.errors }
         ensures notes { let before = pages_of self.old.updates self.old.states.items (O.contents self.old.output.now) in
             let after = pages_of self.new.updates self.new.states.items (O.contents self.new.output.now) in
-            OnOk result (Notes it before after) }
+            OnOk result (Notes title.now it before after) }
     {
         write_outcome(self.next_number(), it.outcome, self.output)?;
         self.updates = updates_after(it.cause, self.updates);
-        self.states.push(it)?;
+        self.states.push(Titled {
+            title: Vec::from_slice(self.alloc, title)?,
+            summary: it,
+        })?;
         Ok(())
     }
 }
@@ -382,7 +393,7 @@ fn write_state<O: Write>(
 ) -> Result<(), Fault> {
     let places = places(alloc, state, marks)?;
     let frame = frame_of(&places);
-    let looks = looks_of(alloc, frame, &places)?;
+    let looks = looks_of(alloc, state, frame, &places)?;
     let ways = ways_of(alloc, kept, &places, &looks)?;
     output.write_all(b"<div class=\"state\">\n")?;
     write_outline(number, &places, &looks, &ways, output)?;

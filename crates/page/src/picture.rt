@@ -2,16 +2,14 @@
 
 use crate::again::{Way, Ways};
 use crate::boxes::{Frame, picture_frame};
-use crate::faults::Fault;
 use crate::looks::Look;
 use crate::marks::Mark;
 use crate::names::write_anchor;
 use crate::outline::MOST_LISTS;
 use crate::places::Place;
-use crate::words::caption;
+use crate::shown_texts::{Texts, caption_text};
 use accesskit_consumer::{FilterResult, FullNodeId, NodeRef};
 use html::write_escaped;
-use std::alloc::Global;
 use std::io::{self, Write};
 
 /// The frame of a picture of these nodes, if one of them has a box and is not left out.
@@ -155,14 +153,14 @@ fn begin_picture<O: Write>(number: u64, frame: Frame, out: &mut O) -> io::Result
 
 /// Draws a node's box, with the node's label or value in it: of a node with children at the top.
 pub(crate) fn write_drawn<O: Write>(
-    alloc: Global,
     frame: Frame,
     rect: Frame,
     place: &Place,
+    texts: Texts,
     out: &mut O,
-) -> Result<(), Fault> {
+) -> io::Result<()> {
     write_rect(box_class(place), rect, out)?;
-    write_caption(alloc, frame, rect, place, out)
+    write_caption(frame, rect, place, texts, out)
 }
 
 /// The classes of a box.
@@ -204,22 +202,21 @@ fn write_rect<O: Write>(class: &str, rect: Frame, out: &mut O) -> io::Result<()>
 
 /// Writes a node's label, or else its value, into its box.
 fn write_caption<O: Write>(
-    alloc: Global,
     frame: Frame,
     rect: Frame,
     place: &Place,
+    texts: Texts,
     out: &mut O,
-) -> Result<(), Fault> {
-    let Some(text) = caption(alloc, &place.node, place.hidden)? else {
+) -> io::Result<()> {
+    let Some(text) = caption_text(texts) else {
         return Ok(());
     };
     match place.node.child_ids().next() {
         Some(_) => begin_heading(frame, rect, out)?,
         None => begin_caption(frame, rect, text.len(), out)?,
     }
-    write_escaped(&text, out)?;
-    out.write_all(b"</text></svg>")?;
-    Ok(())
+    write_escaped(text, out)?;
+    out.write_all(b"</text></svg>")
 }
 
 /// Begins a text in small letters at the top of its box, which clips it.

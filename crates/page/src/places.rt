@@ -11,6 +11,7 @@ ghost use Rattle.page.specs.Places.{box_drawn, node_at, IsOpenUnless, IsPlace, A
 use crate::carried::{Step, known_of};
 use crate::marks::{Mark, Marks};
 use crate::secrets::{Hidden, has_password, hidden_where};
+use crate::sources::value_source;
 use accesskit_consumer::{FilterResult, FullNodeId, NodeRef, StateRef};
 use schema::WideRect;
 use std::alloc::{AllocError, Global};
@@ -29,6 +30,8 @@ pub(crate) struct Place<'a> {
     pub hidden: Hidden,
     /// Whether an ancestor is a password input.
     pub is_in_password: bool,
+    /// A node that has the same value, if one is known: of all nodes with that value the same one.
+    pub source: Option<FullNodeId>,
     /// Its box, if it has one.
     pub rect: Option<WideRect>,
     /// Whether the common filter excludes it, or an ancestor, with its subtree.
@@ -110,7 +113,7 @@ fn next_place<'a>(
     let depth = path.len();
     let step = Step {
         id: node.id(),
-        known: known_of(node, above),
+        known: known_of(node, has_password, above),
     };
     path.push(step)?;
     Ok(place_at(node, has_password, depth, step, marks))
@@ -162,8 +165,14 @@ fn place_at<'a>(
         depth,
         answer: step.known.answer,
         is_hidden: step.known.is_hidden,
-        hidden: hidden_where(&node, has_password, step.known.is_in_password),
+        hidden: hidden_where(
+            &node,
+            has_password,
+            step.known.is_in_password,
+            step.known.source,
+        ),
         is_in_password: step.known.is_in_password,
+        source: value_source(&node, step.known.source),
         rect: step.known.rect,
         is_left_out: step.known.is_left_out,
         mark: marks.get(&step.id).copied(),

@@ -1,5 +1,5 @@
 //! What of a node's texts may show what is typed into a password.
-ghost use Rattle.std.specs.Prelude.{◌≡◌, ◌||◌, [], false};
+ghost use Rattle.std.specs.Prelude.{◌≡◌, ◌||◌, [], false, IfSome};
 ghost use Rattle.std.specs.List.{list_any};
 ghost use Rattle.model.specs.RoleClasses.{holds_text, is_document as is_document_role};
 ghost use Rattle.hidden_texts.specs.Hidden.{is_in_password as stands_in_password, hides_label, hides_value};
@@ -8,7 +8,9 @@ ghost use Rattle.views.specs.Nodes.{world_at, id_at, data_at};
 ghost use Rattle.page.specs.Laws.{TextsMayBeShown, TypingSaysTheSame};
 ghost use Rattle.page.specs.Places.{IsOpenUnless, is_password_at};
 ghost use Rattle.page.specs.Said.{hidden_at};
+ghost use Rattle.page.specs.Sources.{IsCarried};
 
+use crate::sources::{Source, reads_runs};
 use accesskit_consumer::NodeRef;
 use accesskit_consumer::walks::LabelledBy;
 use hidden_texts::{hides_label, hides_value, is_in_password};
@@ -25,7 +27,7 @@ pub(crate) struct Hidden {
 pub(crate) fn hidden_of(node: &NodeRef) -> Hidden
     ensures { result ≡ hidden_at (world_at node.now) (id_at node.now) }
 {
-    hidden_below(node, is_in_password(node))
+    hidden_below(node, is_in_password(node), None)
 }
 
 /// Whether one of these nodes is a password input.
@@ -47,14 +49,20 @@ fn either(one: bool, other: bool) -> bool
 }
 
 /// The same of a node of which it is known whether an ancestor is a password input, and whether its state has any: where it
-/// has no password, nothing is hidden.
-pub(crate) fn hidden_where(node: &NodeRef, has_password: bool, is_in_password: bool) -> Hidden
+/// has no password, nothing is hidden. Its source may be known.
+pub(crate) fn hidden_where(
+    node: &NodeRef,
+    has_password: bool,
+    is_in_password: bool,
+    source: Option<Source>,
+) -> Hidden
     requires open { IsOpenUnless has_password (world_at node.now) }
     requires within { is_in_password ≡ stands_in_password (world_at node.now) (id_at node.now) }
+    requires source { IfSome source (IsCarried (world_at node.now) (id_at node.now)) }
     ensures { result ≡ hidden_at (world_at node.now) (id_at node.now) }
 {
     if has_password {
-        return hidden_below(node, is_in_password);
+        return hidden_below(node, is_in_password, source);
     }
     Hidden {
         label: false,
@@ -63,8 +71,9 @@ pub(crate) fn hidden_where(node: &NodeRef, has_password: bool, is_in_password: b
 }
 
 /// The same of a node of which it is known whether an ancestor is a password input.
-fn hidden_below(node: &NodeRef, is_in_password: bool) -> Hidden
-    requires { is_in_password ≡ stands_in_password (world_at node.now) (id_at node.now) }
+fn hidden_below(node: &NodeRef, is_in_password: bool, source: Option<Source>) -> Hidden
+    requires within { is_in_password ≡ stands_in_password (world_at node.now) (id_at node.now) }
+    requires source { IfSome source (IsCarried (world_at node.now) (id_at node.now)) }
     ensures { result ≡ hidden_at (world_at node.now) (id_at node.now) }
 {
     if is_in_password {
@@ -75,7 +84,7 @@ fn hidden_below(node: &NodeRef, is_in_password: bool) -> Hidden
     }
     Hidden {
         label: hides_label_outside(node),
-        value: hides_value_outside(node),
+        value: hides_value_outside(node, source),
     }
 }
 
@@ -101,19 +110,43 @@ fn has_label_node(labels: LabelledBy<'_>) -> bool
     }
 }
 
-/// Whether the value of a node that isn't in a password is hidden. Only that of a node with a text of runs can be.
-fn hides_value_outside(node: &NodeRef) -> bool
-    requires { stands_in_password (world_at node.now) (id_at node.now) ≡ false }
+/// Whether the value of a node that isn't in a password is hidden. Only that of a node with a text of runs can be. Where the
+/// node has the value of its source, it is hidden if that of the source is.
+fn hides_value_outside(node: &NodeRef, source: Option<Source>) -> bool
+    requires outside { stands_in_password (world_at node.now) (id_at node.now) ≡ false }
+    requires source { IfSome source (IsCarried (world_at node.now) (id_at node.now)) }
     ensures { result ≡ hides_value (world_at node.now) (id_at node.now) }
 {
     if may_hold_text(node) {
-        return hides_value(node);
+        return hides_value_by(node, source);
     }
     false
 }
 
+/// Whether the value of a node is hidden, by that of its source if it is known.
+fn hides_value_by(node: &NodeRef, source: Option<Source>) -> bool
+    requires { IfSome source (IsCarried (world_at node.now) (id_at node.now)) }
+    ensures { result ≡ hides_value (world_at node.now) (id_at node.now) }
+{
+    match source {
+        Some(source) => hides_with(node, source),
+        None => hides_value(node),
+    }
+}
+
+/// Whether the value of a node with this source is hidden.
+fn hides_with(node: &NodeRef, source: Source) -> bool
+    requires { IsCarried (world_at node.now) (id_at node.now) source }
+    ensures { result ≡ hides_value (world_at node.now) (id_at node.now) }
+{
+    if reads_runs(node) {
+        return source.is_hidden;
+    }
+    hides_value(node)
+}
+
 /// Whether the runs of a node with this role can make a text.
-fn may_hold_text(node: &NodeRef) -> bool
+pub(crate) fn may_hold_text(node: &NodeRef) -> bool
     ensures { result ≡ holds_text (data_at node.now).role }
 {
     node.is_text_input() || is_document(node) || node.label_comes_from_value()

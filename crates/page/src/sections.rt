@@ -8,6 +8,7 @@ ghost use Rattle.page.specs.States.{
   count_text,
   fault_text,
   heading,
+  heading_line,
   host_cause,
   item_text,
   items_from,
@@ -28,7 +29,9 @@ ghost use Rattle.page.specs.States.{
   state_word,
   stop_begun,
   stop_text,
+  summary_text,
   tally_text,
+  title_text,
   why_text,
 };
 
@@ -69,6 +72,14 @@ pub(crate) struct Summary {
     pub cause: Cause,
     pub outcome: Outcome,
     pub tally: Tally,
+}
+
+/// A state as the list of all has it.
+#[derive(Drop)]
+pub(crate) struct Titled {
+    /// The comment right before the command that makes the state; empty if no line of one is there.
+    pub title: Vec<u8>,
+    pub summary: Summary,
 }
 
 /// Writes the page up to its first state.
@@ -144,11 +155,16 @@ fn outcome_of_events(tally: Tally) -> Outcome
 }
 
 /// Ends the state before, if there is one, and begins the next one.
-pub(crate) fn begin_state<O: Write>(number: u64, cause: Cause, out: &mut O) -> io::Result<()>
-    ensures { OnOk result (Appends (O.contents out.old) (O.contents out.new) (state_begun number cause)) }
+pub(crate) fn begin_state<O: Write>(
+    number: u64,
+    title: &[u8],
+    cause: Cause,
+    out: &mut O,
+) -> io::Result<()>
+    ensures { OnOk result (Appends (O.contents out.old) (O.contents out.new) (state_begun number title.now cause)) }
 {
     write_next_link(number, out)?;
-    write_heading(number, out)?;
+    write_heading(number, title, out)?;
     write_cause_line(cause, out)?;
     write_previous_link(number.saturating_sub(1), out)
 }
@@ -180,11 +196,32 @@ fn write_previous_link<O: Write>(number: u64, out: &mut O) -> io::Result<()>
 }
 
 /// Begins a state with its heading.
-fn write_heading<O: Write>(number: u64, out: &mut O) -> io::Result<()>
-    ensures { OnOk result (Appends (O.contents out.old) (O.contents out.new) (heading number)) }
+fn write_heading<O: Write>(number: u64, title: &[u8], out: &mut O) -> io::Result<()>
+    ensures { OnOk result (Appends (O.contents out.old) (O.contents out.new) (heading number title.now)) }
 {
     write!(out, "<section id=\"state-{number}\">\n")?;
-    write!(out, "<h2>State {number}</h2>\n")
+    write_heading_line(number, title, out)
+}
+
+/// Writes the line with the number of a state, and its title if it has one.
+fn write_heading_line<O: Write>(number: u64, title: &[u8], out: &mut O) -> io::Result<()>
+    ensures { OnOk result (Appends (O.contents out.old) (O.contents out.new) (heading_line number title.now)) }
+{
+    write!(out, "<h2>State {number}")?;
+    write_title(title, out)?;
+    out.write_all(b"</h2>\n")
+}
+
+/// Writes the title of a state after its number, if it has one.
+fn write_title<O: Write>(title: &[u8], out: &mut O) -> io::Result<()>
+    ensures { OnOk result (Appends (O.contents out.old) (O.contents out.new) (title_text title.now)) }
+{
+    if title.is_empty() {
+        return Ok(());
+    }
+    out.write_all(b": <bdi>")?;
+    write_escaped_bytes(title, out)?;
+    out.write_all(b"</bdi>")
 }
 
 /// Writes the line with the cause of a state.
@@ -233,11 +270,7 @@ fn write_same<O: Write>(before: u64, out: &mut O) -> io::Result<()>
 }
 
 /// Ends the page: says why the script stopped before its end, if it did, and lists the states.
-pub(crate) fn write_end<O: Write>(
-    states: &[Summary],
-    ending: &Ending,
-    out: &mut O,
-) -> io::Result<()>
+pub(crate) fn write_end<O: Write>(states: &[Titled], ending: &Ending, out: &mut O) -> io::Result<()>
     ensures { OnOk result (Appends (O.contents out.old) (O.contents out.new)
         (page_end states.now ending.now.ended ending.now.line ending.now.message.items)) }
 {
@@ -249,7 +282,7 @@ pub(crate) fn write_end<O: Write>(
 }
 
 /// Ends the last of these states, if there is one.
-fn end_section<O: Write>(states: &[Summary], out: &mut O) -> io::Result<()>
+fn end_section<O: Write>(states: &[Titled], out: &mut O) -> io::Result<()>
     ensures { OnOk result (Appends (O.contents out.old) (O.contents out.new) (section_end states.now)) }
 {
     match states.first() {
@@ -311,7 +344,7 @@ fn begin_stop<O: Write>(line: u64, out: &mut O) -> io::Result<()>
 }
 
 /// Writes an item for each state, counted from 1.
-fn write_items<O: Write>(states: &[Summary], out: &mut O) -> io::Result<()>
+fn write_items<O: Write>(states: &[Titled], out: &mut O) -> io::Result<()>
     ensures { OnOk result (Appends (O.contents out.old) (O.contents out.new) (items_from 1 states.now)) }
 {
     for (index, it) in states.iter().enumerate() {
@@ -321,22 +354,29 @@ fn write_items<O: Write>(states: &[Summary], out: &mut O) -> io::Result<()>
 }
 
 /// Writes an item for a state, as a link to it.
-fn write_item<O: Write>(number: usize, it: &Summary, out: &mut O) -> io::Result<()>
+fn write_item<O: Write>(number: usize, it: &Titled, out: &mut O) -> io::Result<()>
     ensures { OnOk result (Appends (O.contents out.old) (O.contents out.new) (item_text number it.now)) }
 {
-    begin_item(number, out)?;
-    write_cause(it.cause, out)?;
-    out.write_all(b"</small>")?;
-    write_outcome_word(it.outcome, it.tally, out)?;
+    begin_item(number, &it.title, out)?;
+    write_summary(it.summary, out)?;
     out.write_all(b"</li>\n")
 }
 
+/// Writes what made a state, which ends the small letters, and what came of it, in short.
+fn write_summary<O: Write>(it: Summary, out: &mut O) -> io::Result<()>
+    ensures { OnOk result (Appends (O.contents out.old) (O.contents out.new) (summary_text it)) }
+{
+    write_cause(it.cause, out)?;
+    out.write_all(b"</small>")?;
+    write_outcome_word(it.outcome, it.tally, out)
+}
+
 /// Begins an item with a link to its state.
-fn begin_item<O: Write>(number: usize, out: &mut O) -> io::Result<()>
-    ensures { OnOk result (Appends (O.contents out.old) (O.contents out.new) (state_link number)) }
+fn begin_item<O: Write>(number: usize, title: &[u8], out: &mut O) -> io::Result<()>
+    ensures { OnOk result (Appends (O.contents out.old) (O.contents out.new) (state_link number title.now)) }
 {
     begin_state_link(number, out)?;
-    write_state_word(number, out)
+    write_state_word(number, title, out)
 }
 
 /// Begins an item, and a link to a state in it.
@@ -347,10 +387,12 @@ fn begin_state_link<O: Write>(number: usize, out: &mut O) -> io::Result<()>
 }
 
 /// Writes the text of a link to a state, ends it, and begins small letters.
-fn write_state_word<O: Write>(number: usize, out: &mut O) -> io::Result<()>
-    ensures { OnOk result (Appends (O.contents out.old) (O.contents out.new) (state_word number)) }
+fn write_state_word<O: Write>(number: usize, title: &[u8], out: &mut O) -> io::Result<()>
+    ensures { OnOk result (Appends (O.contents out.old) (O.contents out.new) (state_word number title.now)) }
 {
-    write!(out, "State {number}</a> <small>")
+    write!(out, "State {number}")?;
+    write_title(title, out)?;
+    out.write_all(b"</a> <small>")
 }
 
 /// Writes what came of a state, in short.

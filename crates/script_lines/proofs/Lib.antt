@@ -7,3 +7,4 @@ pub mod ReadingBack
 pub mod CommandLines
 pub mod FaultTold
 pub mod Mapped
+pub mod CommentTexts

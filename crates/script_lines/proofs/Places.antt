@@ -1,15 +1,17 @@
 -- How a reader goes from one place to the next.
 use Rattle.std.proofs.Common.{◌≡◌, ◌≢◌, ℕ, List, [], ◌∷◌, ◌++◌, Option, Some, None, Result, Ok, Err, IfSome, MatchOption, inl, inr, option_map, refl, sym, ap, ap₂, subst, ◌∙◌}
 use Rattle.std.proofs.lemmas.Option.{none-some}
-use Rattle.std.specs.Io.BufRead.{DropsThrough, drop_through}
+use Rattle.std.specs.Io.BufRead.{DropsThrough, drop_through, take_through}
 use Rattle.std.specs.Result.{IsErrAnd}
 use Rattle.schema.specs.UpdateData.{UpdateData}
 use Rattle.script_lines.specs.Commands.{Said, said}
-use Rattle.script_lines.specs.InputLines.{ReadsNext, next_number}
+use Rattle.script_lines.specs.Comments.{comment_after}
+use Rattle.script_lines.specs.InputLines.{ReadsNext, next_number, without_end}
 use Rattle.script_words.specs.Reading.{Reads}
-use Rattle.script_lines.specs.ScriptReading.{IsPlace, Passes, PassesLines, Place, ReadsTo, Steps, place}
-use Rattle.script_lines.specs.Taking.{Taken, TakesAs, begun_of, number_of, taken}
+use Rattle.script_lines.specs.ScriptReading.{GoesTo, IsPlace, Passes, PassesLines, Place, Steps, place}
+use Rattle.script_lines.specs.Taking.{Taken, TakesAs, begun_of, comment_of, last_line, number_of, taken}
 use Rattle.script_lines.specs.declared.lines.Line.{Line}
+use Rattle.script_lines.specs.declared.lines.Line.TheVariants as says
 use Rattle.script_lines.specs.declared.reader.ScriptCommand.{ScriptCommand}
 use Rattle.script_lines.specs.declared.reader.ScriptReader.{ScriptReader}
 use Rattle.script_words.specs.declared.stops.Stop.{Stop}
@@ -40,6 +42,29 @@ pub took_none : (o : Option Taken) (r : Result (Option ScriptCommand) Stop) (beg
 took_none None r begun h e = refl
 took_none (Some t) r begun h e = let wrong : BadLine ≡ Memory = subst (λ x. Reads x (λ c. (option_map said c ≡ t.gives) × (begun ≡ t.begun))) e h in cc
 
+-- a line that gives a command ends the update, if one is begun
+abbrev EndsUpdate : Option Taken → Type 0
+EndsUpdate o = IfSome o (λ t. IfSome t.gives (λ command. t.begun ≡ None))
+
+ends_update : (begun : Option UpdateData) (line : Line) → EndsUpdate (taken begun line)
+ends_update None says.Nothing = tt
+ends_update None (says.Update update) = tt
+ends_update None (says.Node id n) = tt
+ends_update None says.End = tt
+ends_update None (says.HostFocus is_focused) = refl
+ends_update None says.Print = refl
+ends_update None (says.Query q) = refl
+ends_update (Some u) says.Nothing = tt
+ends_update (Some u) (says.Update update) = tt
+ends_update (Some u) (says.Node id n) = tt
+ends_update (Some u) says.End = refl
+ends_update (Some u) (says.HostFocus is_focused) = tt
+ends_update (Some u) says.Print = tt
+ends_update (Some u) (says.Query q) = tt
+
+pub comes_whole : (begun : Option UpdateData) (line : Line) (command : Said) (after : Option UpdateData) → taken begun line ≡ Some (record { gives = Some command; begun = after }) → after ≡ None
+comes_whole begun line command after e = subst EndsUpdate e (ends_update begun line)
+
 -- ---- a reader with what its input has left
 
 -- where the bytes were known as the reader began, it has passed lines since then, and is before those that are left
@@ -52,44 +77,52 @@ at_first (Some bytes) first = (bytes, refl, passes_none (place first bytes))
 
 -- what a reader answers, as its contract has it
 abbrev pub Answers : Option (List ℕ) → ScriptReader → Result (Option ScriptCommand) Stop → ScriptReader → Option (List ℕ) → Type 0
-Answers before first result reader left = IfSome before (λ bytes. (next : Place) × ReadsTo (place first bytes) result next × IsPlace next result reader left)
+Answers before first result reader left = IfSome before (λ bytes. (next : Place) × GoesTo (place first bytes) result next × IsPlace next result reader left)
 
 pub err_is : {T : Type 0} (result : Result T Stop) (stop : Stop) → IsErrAnd result (λ s. s ≡ stop) → result ≡ Err stop
 err_is (Ok x) stop h = absurd h
 err_is (Err s) stop h = ap Err h
 
 module _ (before : Option (List ℕ)) (first : ScriptReader) (left after : Option (List ℕ)) (reader next : ScriptReader) (is_at : IsAt before first left reader) where
+  -- what the next line is to the comment, where the reader has its bytes
+  abbrev Notes : List ℕ → Type 0
+  Notes line = comment_of next ≡ comment_after (begun_of reader) (comment_of reader) (without_end line)
+
   -- the next line is read and taken
   stepped : (xs : List ℕ) (line : Line) (given : Option Said) → left ≡ Some xs → IfSome left (λ bytes. ReadsNext bytes (Ok (Some line))) → DropsThrough left after 10 → number_of next ≡ next_number (number_of reader)
-      → taken (begun_of reader) line ≡ Some (record { gives = given; begun = begun_of next }) → (after ≡ Some (drop_through 10 xs)) × Steps (place reader xs) line given (place next (drop_through 10 xs))
-  stepped xs line given e reads drops number takes =
+      → Notes (take_through 10 xs) → taken (begun_of reader) line ≡ Some (record { gives = given; begun = begun_of next }) → (after ≡ Some (drop_through 10 xs)) × Steps (place reader xs) line given (place next (drop_through 10 xs))
+  stepped xs line given e reads drops number notes takes =
       let k = subst (λ o. IfSome o (λ bytes. ReadsNext bytes (Ok (Some line)))) e reads in
-      (subst (λ o. DropsThrough o after 10) e drops, record { some = k.0; reads = k.1; takes = takes; left = refl; number = number })
+      (subst (λ o. DropsThrough o after 10) e drops, record { some = k.0; reads = k.1; takes = takes; left = refl; comment = notes; number = number })
 
-  pub went_on : (line : Line) → IfSome left (λ bytes. ReadsNext bytes (Ok (Some line))) → DropsThrough left after 10 → number_of next ≡ next_number (number_of reader) → taken (begun_of reader) line ≡ Some (record { gives = None; begun = begun_of next }) → IsAt before first after next
-  went_on line reads drops number takes = known before is_at
+  noted : (xs : List ℕ) → left ≡ Some xs → IfSome left (λ bytes. Notes (take_through 10 bytes)) → Notes (take_through 10 xs)
+  noted xs e notes = subst (λ o. IfSome o (λ bytes. Notes (take_through 10 bytes))) e notes
+
+  pub went_on : (line : Line) → IfSome left (λ bytes. ReadsNext bytes (Ok (Some line))) → DropsThrough left after 10 → number_of next ≡ next_number (number_of reader) → IfSome left (λ bytes. Notes (take_through 10 bytes)) → taken (begun_of reader) line ≡ Some (record { gives = None; begun = begun_of next }) → IsAt before first after next
+  went_on line reads drops number notes takes = known before is_at
     where
       known : (o : Option (List ℕ)) → IsAt o first left reader → IsAt o first after next
       known None at = tt
-      known (Some bytes) at = let s = stepped at.0 line None at.1 reads drops number takes in (drop_through 10 at.0, s.0, passes_more (place first bytes) (place reader at.0) (place next (drop_through 10 at.0)) line at.2 s.1)
+      known (Some bytes) at = let s = stepped at.0 line None at.1 reads drops number (noted at.0 at.1 notes) takes in (drop_through 10 at.0, s.0, passes_more (place first bytes) (place reader at.0) (place next (drop_through 10 at.0)) line at.2 s.1)
 
-  pub gave : (line : Line) (command : ScriptCommand) → IfSome left (λ bytes. ReadsNext bytes (Ok (Some line))) → DropsThrough left after 10 → number_of next ≡ next_number (number_of reader) → taken (begun_of reader) line ≡ Some (record { gives = Some (said command); begun = begun_of next })
+  pub gave : (line : Line) (command : ScriptCommand) → IfSome left (λ bytes. ReadsNext bytes (Ok (Some line))) → DropsThrough left after 10 → number_of next ≡ next_number (number_of reader) → IfSome left (λ bytes. Notes (take_through 10 bytes))
+      → taken (begun_of reader) line ≡ Some (record { gives = Some (said command); begun = begun_of next })
       → Answers before first (Ok (Some command)) next after
-  gave line command reads drops number takes = known before is_at
+  gave line command reads drops number notes takes = known before is_at
     where
       known : (o : Option (List ℕ)) → IsAt o first left reader → Answers o first (Ok (Some command)) next after
       known None at = tt
-      known (Some bytes) at = let s = stepped at.0 line (Some (said command)) at.1 reads drops number takes in (place next (drop_through 10 at.0), (place reader at.0, line, at.2, s.1), (refl, (refl, s.0)))
+      known (Some bytes) at = let s = stepped at.0 line (Some (said command)) at.1 reads drops number (noted at.0 at.1 notes) takes in (place next (drop_through 10 at.0), (place reader at.0, line, at.2, s.1), (refl, (refl, s.0, refl)))
 
   -- the input has ended
-  pub ended_well : IfSome left (λ bytes. ReadsNext bytes (Ok None)) → DropsThrough left after 10 → number_of next ≡ number_of reader → begun_of next ≡ begun_of reader → begun_of reader ≡ None → Answers before first (Ok None) next after
-  ended_well reads drops number same none = known before is_at
+  pub ended_well : IfSome left (λ bytes. ReadsNext bytes (Ok None)) → DropsThrough left after 10 → number_of next ≡ number_of reader → begun_of next ≡ begun_of reader → comment_of next ≡ comment_of reader → begun_of reader ≡ None → Answers before first (Ok None) next after
+  ended_well reads drops number same heard none = known before is_at
     where
       known : (o : Option (List ℕ)) → IsAt o first left reader → Answers o first (Ok None) next after
       known None at = tt
       known (Some bytes) at =
           let end : at.0 ≡ [] = subst (λ o. IfSome o (λ bytes. ReadsNext bytes (Ok None))) at.1 reads in
-          (place reader at.0, (at.2, end, none), (number, (same, subst (λ o. DropsThrough o after 10) at.1 drops ∙ ap (λ xs. Some (drop_through 10 xs)) end ∙ ap Some (sym end))))
+          (place reader at.0, (at.2, end, none), (number, (same, subst (λ o. DropsThrough o after 10) at.1 drops ∙ ap (λ xs. Some (drop_through 10 xs)) end ∙ ap Some (sym end), heard)))
 
   pub ended_inside : IfSome left (λ bytes. ReadsNext bytes (Ok None)) → number_of next ≡ number_of reader → begun_of reader ≢ None → Answers before first (Err BadLine) next after
   ended_inside reads number some = known before is_at
@@ -99,18 +132,26 @@ module _ (before : Option (List ℕ)) (first : ScriptReader) (left after : Optio
       known (Some bytes) at = (place next at.0, (place reader at.0, at.2, inl (subst (λ o. IfSome o (λ bytes. ReadsNext bytes (Ok None))) at.1 reads, some, number)), (refl, tt))
 
   -- as `end` has it
-  pub ended : (result : Result (Option ScriptCommand) Stop) → IfSome left (λ bytes. ReadsNext bytes (Ok None)) → DropsThrough left after 10 → number_of next ≡ number_of reader → begun_of next ≡ begun_of reader
+  pub ended : (result : Result (Option ScriptCommand) Stop) → IfSome left (λ bytes. ReadsNext bytes (Ok None)) → DropsThrough left after 10 → number_of next ≡ number_of reader → begun_of next ≡ begun_of reader → comment_of next ≡ comment_of reader
       → MatchOption (begun_of reader) (result ≡ Ok None) (λ u. result ≡ Err BadLine) → Answers before first result next after
-  ended result reads drops number same h = of (begun_of reader) refl h
+  ended result reads drops number same heard h = of (begun_of reader) refl h
     where
       of : (b : Option UpdateData) → b ≡ begun_of reader → MatchOption b (result ≡ Ok None) (λ u. result ≡ Err BadLine) → Answers before first result next after
-      of None e k = subst (λ (r : Result (Option ScriptCommand) Stop). Answers before first r next after) (sym k) (ended_well reads drops number same (sym e))
+      of None e k = subst (λ (r : Result (Option ScriptCommand) Stop). Answers before first r next after) (sym k) (ended_well reads drops number same heard (sym e))
       of (Some u) e k = subst (λ (r : Result (Option ScriptCommand) Stop). Answers before first r next after) (sym k) (ended_inside reads number (λ n. none-some u (sym n ∙ sym e)))
 
   pub given_up : Answers before first (Err ReadFault) next after
   given_up = known before
     where
       known : (o : Option (List ℕ)) → Answers o first (Err ReadFault) next after
+      known None = tt
+      known (Some bytes) = (place next [], tt, (refl, tt))
+
+  -- memory runs out for the comment
+  pub no_memory : Answers before first (Err Memory) next after
+  no_memory = known before
+    where
+      known : (o : Option (List ℕ)) → Answers o first (Err Memory) next after
       known None = tt
       known (Some bytes) = (place next [], tt, (refl, tt))
 

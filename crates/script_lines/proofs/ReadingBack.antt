@@ -19,7 +19,7 @@ use Rattle.script_nodes.specs.NodeText.{node_line, node_text}
 use Rattle.script_lines.specs.Questions.{IsQuery, question_text}
 use Rattle.script_words.specs.Reading.{IsId, Lacks, Reads}
 use Rattle.script_lines.specs.ReadingBack.{IsEntry, IsSaid, ReadsBack, script_text}
-use Rattle.script_lines.specs.ScriptReading.{IsBadNext, IsPlace, Passes, Place, ReadsTo, Steps, place}
+use Rattle.script_lines.specs.ScriptReading.{GoesTo, IsBadNext, IsPlace, Passes, Place, Steps, place}
 use Rattle.script_lines.specs.Taking.{Taken, begun_of, goes_on, taken, with_entry}
 use Rattle.script_lines.specs.declared.lines.Line.{Line}
 use Rattle.script_lines.specs.declared.lines.Line.TheVariants as says
@@ -83,7 +83,7 @@ module _ (text rest : List ℕ) (at : Place) (h : IsLineText text) (e : at.left 
       bad.2
 
   -- a line that gives a command
-  pub last_line : (c : Said) (result : Result (Option ScriptCommand) Stop) (next : Place) → IsSure text at.begun (record { gives = Some c; begun = None }) → ReadsTo at result next → Back c rest result next
+  pub last_line : (c : Said) (result : Result (Option ScriptCommand) Stop) (next : Place) → IsSure text at.begun (record { gives = Some c; begun = None }) → GoesTo at result next → Back c rest result next
   unfolding Passes
   last_line c (Ok (Some command)) next sure (mid, line, ([], same), s) =
       let here : Steps at line (Some (said command)) next = subst (λ m. Steps m line (Some (said command)) next) same s in
@@ -103,7 +103,7 @@ module _ (text rest : List ℕ) (at : Place) (h : IsLineText text) (e : at.left 
 
   -- a line after which the reader goes on
   pub line_passed : (begun : Option UpdateData) (c : Said) (left : List ℕ) (result : Result (Option ScriptCommand) Stop) (next : Place) → IsSure text at.begun (record { gives = None; begun = begun })
-      → ((mid : Place) → mid.left ≡ rest → mid.begun ≡ begun → ReadsTo mid result next → Back c left result next) → ReadsTo at result next → Back c left result next
+      → ((mid : Place) → mid.left ≡ rest → mid.begun ≡ begun → GoesTo mid result next → Back c left result next) → GoesTo at result next → Back c left result next
   unfolding Passes
   line_passed begun c left (Ok (Some command)) next sure on (mid, line, ([], same), s) =
       let here : Steps at line (Some (said command)) next = subst (λ m. Steps m line (Some (said command)) next) same s in
@@ -167,7 +167,7 @@ with_nodes : UpdateData → List (NodeId × NodeData) → UpdateData
 with_nodes u nodes = record u { nodes = u.nodes ++ nodes }
 
 nodes_back : (nodes : List (NodeId × NodeData)) (u : UpdateData) (at next : Place) (rest : List ℕ) (result : Result (Option ScriptCommand) Stop) → All IsEntry nodes → at.begun ≡ Some u
-    → at.left ≡ flat_map entry_line nodes ++ (codes "end" ++ 10 ∷ rest) → ReadsTo at result next → Back (Sends (with_nodes u nodes)) rest result next
+    → at.left ≡ flat_map entry_line nodes ++ (codes "end" ++ 10 ∷ rest) → GoesTo at result next → Back (Sends (with_nodes u nodes)) rest result next
 unfolding with_nodes node_line
 nodes_back [] u at next rest result h b e r =
     let whole : u ≡ record u { nodes = u.nodes ++ [] } = ap (λ ns. record u { nodes = ns }) (sym (append-nil u.nodes)) in
@@ -186,7 +186,7 @@ nodes_back (entry ∷ nodes) u at next rest result h b e r =
 
 -- ---- a command, and a script
 
-said_back : (c : Said) (at next : Place) (rest : List ℕ) (result : Result (Option ScriptCommand) Stop) → IsSaid c → at.begun ≡ None → at.left ≡ said_lines c ++ rest → ReadsTo at result next → Back c rest result next
+said_back : (c : Said) (at next : Place) (rest : List ℕ) (result : Result (Option ScriptCommand) Stop) → IsSaid c → at.begun ≡ None → at.left ≡ said_lines c ++ rest → GoesTo at result next → Back c rest result next
 unfolding with_nodes
 said_back Prints at next rest result h b e r =
     last_line (codes "print") rest at (line_by (codes "print") refl) e Prints result next (subst (λ o. IsSure (codes "print") o (record { gives = Some Prints; begun = None })) (sym b) print_sure) r
@@ -206,7 +206,7 @@ said_back (Sends u) at next rest result h b e r =
     (subst (λ o. IsSure head o (record { gives = None; begun = Some bare })) (sym b) (head_sure bare h.0 refl))
     (λ mid l begun on. nodes_back u.nodes bare mid next rest result h.1 begun l on) r
 
-nothing_back : (at next : Place) (result : Result (Option ScriptCommand) Stop) → at.begun ≡ None → at.left ≡ [] → ReadsTo at result next → ReadsBack [] result (Some next.left)
+nothing_back : (at next : Place) (result : Result (Option ScriptCommand) Stop) → at.begun ≡ None → at.left ≡ [] → GoesTo at result next → ReadsBack [] result (Some next.left)
 unfolding Passes
 nothing_back at next (Ok (Some command)) b e (mid, line, ([], same), s) = absurd (s.some (ap (λ (x : Place). x.left) same ∙ e))
 nothing_back at next (Ok (Some command)) b e (mid, line, (first ∷ others, p), s) = absurd (p.1.some e)
@@ -221,7 +221,7 @@ as_script : (c : Said) (others : List Said) (result : Result (Option ScriptComma
 as_script c others (Ok read) next k = (k.0, ap Some k.1)
 as_script c others (Err stop) next k = k
 
-pub script_back : (commands : List Said) (at next : Place) (result : Result (Option ScriptCommand) Stop) → All IsSaid commands → at.begun ≡ None → at.left ≡ script_text commands → ReadsTo at result next → ReadsBack commands result (Some next.left)
+pub script_back : (commands : List Said) (at next : Place) (result : Result (Option ScriptCommand) Stop) → All IsSaid commands → at.begun ≡ None → at.left ≡ script_text commands → GoesTo at result next → ReadsBack commands result (Some next.left)
 script_back [] at next result h b e r = nothing_back at next result b e r
 script_back (c ∷ others) at next result h b e r = as_script c others result next (said_back c at next (script_text others) result (All-head IsSaid c others h) b e r)
 

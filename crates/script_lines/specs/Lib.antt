@@ -5,6 +5,7 @@ pub mod Arguments
 pub mod Ends
 pub mod LineReading
 pub mod Commands
+pub mod Comments
 pub mod Taking
 pub mod InputLines
 pub mod ScriptReading

@@ -21,6 +21,10 @@ begun_of reader = option_map update_data reader.begun
 abbrev pub number_of : ScriptReader → ℕ
 number_of reader = reader.lines.number
 
+-- the comment before the next command, as far as it has read
+abbrev pub comment_of : ScriptReader → List ℕ
+comment_of reader = reader.comment.items
+
 -- the last line that it has read, without its end
 abbrev pub last_line : ScriptReader → List ℕ
 last_line reader = without_end reader.lines.bytes.items

@@ -3,6 +3,7 @@
 
 mod argument_errors;
 mod arguments;
+mod comments;
 mod ends;
 mod heads;
 mod line_reader;

@@ -36,6 +36,7 @@ impl LineReader {
     /// The meaning of the next line, or `None` at the end of the input.
     pub(crate) fn next<R: BufRead>(&mut self, input: &mut R) -> Result<Option<Line>, Stop>
         ensures reads { IfSome (R.remaining input.old) (λ bytes. ReadsNext bytes result) }
+        ensures bytes { OnOk result (IfSome (R.remaining input.old) (λ left. self.new.bytes.items ≡ take_through 10 left)) }
         ensures rest { OnOk result (DropsThrough (R.remaining input.old) (R.remaining input.new) 10) }
         ensures counts { CountsLine self.old.number result self.new.number }
     {

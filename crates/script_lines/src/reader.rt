@@ -4,12 +4,14 @@ ghost use Rattle.std.specs.Prelude.{◌≡◌, ◌++◌, ◌∷◌, [], All, Err
 ghost use Rattle.line_faults.specs.Faults.{Explains};
 ghost use Rattle.schema.specs.UpdateData.{update_data};
 ghost use Rattle.script_lines.specs.Commands.{Said};
+ghost use Rattle.script_lines.specs.Comments.{comment_after};
 ghost use Rattle.script_words.specs.Reading.{Reads};
 ghost use Rattle.script_lines.specs.ReadingBack.{IsSaid, ReadsBack, script_text};
-ghost use Rattle.script_lines.specs.ScriptReading.{IsPlace, Place, ReadsTo, place};
-ghost use Rattle.script_lines.specs.Taking.{IsNodeLine, TakesAs, begun_of, last_line, number_of, taken};
+ghost use Rattle.script_lines.specs.ScriptReading.{GoesTo, IsPlace, Place, ReadsTo, place};
+ghost use Rattle.script_lines.specs.Taking.{IsNodeLine, TakesAs, begun_of, comment_of, last_line, number_of, taken};
 ghost use Rattle.script_words.specs.declared.stops.Stop.TheVariants as stop_;
 
+use crate::comments::add_line;
 use crate::line_reader::{LineReader, without_end_of_line};
 use crate::lines::Line;
 use line_faults::{LineFault, explain, input_ended};
@@ -38,18 +40,32 @@ pub struct ScriptReader {
     lines: LineReader,
     /// The update whose nodes are being read, if any.
     begun: Option<TreeUpdate>,
+    /// The comment before the next command, or before the last one if no line was read since.
+    comment: Vec<u8>,
 }
 
 impl ScriptReader {
     /// A script of which nothing has been read.
     pub fn new(alloc: Global) -> ScriptReader
         ensures begun { begun_of result ≡ None }
+        ensures comment { comment_of result ≡ [] }
         ensures number { number_of result ≡ 0 }
     {
         ScriptReader {
             lines: LineReader::new(alloc),
             begun: None,
+            comment: Vec::new(alloc),
         }
+    }
+
+    /// The comment before the last command: the texts of the comment lines right before it, with one space between them. An empty
+    /// line ends a comment, so what is before it is left out, and so are comments inside of an update.
+    ///
+    /// A comment's text comes after the signs `#` that begin its line, and has no white space around it. It is UTF-8.
+    pub fn comment(&self) -> &[u8]
+        ensures { result.now ≡ comment_of self.now }
+    {
+        &self.comment
     }
 
     /// The number of the last line that was read, counted from 1; 0 before there is one.
@@ -93,10 +109,23 @@ impl ScriptReader {
         ensures reads_back { (commands : List Said) → All IsSaid commands → begun_of self.old ≡ None →
             R.remaining input.old ≡ Some (script_text commands) → ReadsBack commands result (R.remaining input.new) }
     {
+        self.comment.clear();
+        self.read_on(input)
+    }
+
+    /// Reads lines up to the next command, whose comment may have begun.
+    fn read_on<R: BufRead>(&mut self, input: &mut R) -> Result<Option<ScriptCommand>, Stop>
+        ensures reads { IfSome (R.remaining input.old)
+            (λ bytes. (next : Place) × GoesTo (place self.old bytes) result next × IsPlace next result self.new (R.remaining input.new)) }
+        ensures whole { OnOk result (begun_of self.new ≡ None) }
+        ensures reads_back { (commands : List Said) → All IsSaid commands → begun_of self.old ≡ None →
+            R.remaining input.old ≡ Some (script_text commands) → ReadsBack commands result (R.remaining input.new) }
+    {
         for _ in 0..u64::MAX {
             let Some(line) = self.lines.next(input)? else {
                 return self.end();
             };
+            self.note_comment()?;
             if let Some(command) = self.take(line)? {
                 return Ok(Some(command));
             }
@@ -114,11 +143,24 @@ impl ScriptReader {
         }
     }
 
+    /// Keeps what the last line is to the comment before the next command.
+    fn note_comment(&mut self) -> Result<(), Stop>
+        ensures noted { Reads result (λ _. comment_of self.new ≡ comment_after (begun_of self.old) (comment_of self.old) (last_line self.old)) }
+        ensures lines { self.new.lines ≡ self.old.lines }
+        ensures begun { self.new.begun ≡ self.old.begun }
+    {
+        if self.begun.is_some() {
+            return Ok(());
+        }
+        add_line(&mut self.comment, without_end_of_line(&self.lines.bytes))
+    }
+
     /// The command that a line completes, if it does. Inside an update only its nodes and its end are allowed.
     fn take(&mut self, line: Line) -> Result<Option<ScriptCommand>, Stop>
         ensures takes { TakesAs (taken (begun_of self.old) line) result (begun_of self.new) }
         ensures memory { result ≡ Err stop_.Memory → IsNodeLine line }
         ensures lines { self.new.lines ≡ self.old.lines }
+        ensures comment { self.new.comment ≡ self.old.comment }
     {
         match line {
             Line::Nothing => Ok(None),

@@ -21,9 +21,8 @@ use Rattle.script_nodes.specs.declared.field_kinds.CountField.TheVariants as cou
 use Rattle.script_nodes.specs.declared.field_kinds.ActionsField.TheVariants as actions
 use Rattle.script_nodes.specs.declared.field_kinds.Field.{Field}
 use Rattle.script_nodes.specs.declared.field_kinds.Field.TheVariants as field
-use Rattle.script_nodes.specs.FieldKinds.{field_name}
+use Rattle.script_nodes.specs.FieldKinds.{all_fields, field_name}
 use Rattle.script_words.specs.NamedIn.{named_in}
-use Rattle.script_nodes.specs.NodeText.{all_fields}
 
 -- the first of these fields that is called so
 unfoldable pub named : List ℕ → List Field → Option Field

@@ -3,7 +3,7 @@ use Rattle.std.proofs.Common.{◌≡◌, ℕ, List, map, option_map, Bor, sym, a
 use Rattle.std.proofs.lemmas.Option.{slice_get-map}
 use Rattle.std.specs.List.{slice_get}
 use Rattle.script_nodes.specs.declared.field_kinds.Field.{Field}
-use Rattle.script_nodes.specs.NodeText.{all_fields}
+use Rattle.script_nodes.specs.FieldKinds.{all_fields}
 
 abbrev pub field_of : Bor (List ℕ) × Field → Field
 field_of entry = entry.1

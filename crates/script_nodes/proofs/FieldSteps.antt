@@ -15,9 +15,8 @@ use Rattle.script_nodes.specs.declared.field_kinds.CountField.TheVariants as cou
 use Rattle.script_nodes.specs.declared.field_kinds.ActionsField.TheVariants as actions
 use Rattle.script_nodes.specs.declared.field_kinds.Field.{Field}
 use Rattle.script_nodes.specs.declared.field_kinds.Field.TheVariants as field
-use Rattle.script_nodes.specs.FieldKinds.{with_ids, with_id, with_text, with_flag, with_numbers, with_units, with_bool, with_color, with_decoration, with_number, with_count, with_actions_field}
+use Rattle.script_nodes.specs.FieldKinds.{all_fields, with_ids, with_id, with_text, with_flag, with_numbers, with_units, with_bool, with_color, with_decoration, with_number, with_count, with_actions_field}
 use Rattle.script_nodes.specs.NodeReading.{with_field, without, without_all, IsWithout}
-use Rattle.script_nodes.specs.NodeText.{all_fields}
 use Rattle.script_nodes.proofs.FieldTails.{after_name, following}
 
 -- a node without all fields has nothing but its role

@@ -2,8 +2,7 @@
 use Rattle.std.proofs.Common.{◌≡◌, ℕ, List, [], ◌∷◌, bytes_eq, if◌then◌else◌, refl}
 use Rattle.std.specs.Bool.{⊤}
 use Rattle.script_nodes.specs.declared.field_kinds.Field.{Field}
-use Rattle.script_nodes.specs.FieldKinds.{field_name}
-use Rattle.script_nodes.specs.NodeText.{all_fields}
+use Rattle.script_nodes.specs.FieldKinds.{all_fields, field_name}
 
 -- those of these fields that come after the one with this name
 unfoldable pub after_name : List ℕ → List Field → List Field

@@ -8,7 +8,7 @@ use Rattle.schema.specs.NodeData.{NodeData}
 use Rattle.schema.specs.declared.actions.Action.{Action}
 use Rattle.schema.specs.declared.actions.Action.TheVariants as action
 use Rattle.script_nodes.specs.NodeReading.{IsActionSet, IsValue}
-use Rattle.script_nodes.specs.NodeText.{all_fields}
+use Rattle.script_nodes.specs.FieldKinds.{all_fields}
 use Rattle.script_nodes.specs.declared.field_kinds.Field.{Field}
 use Rattle.script_nodes.proofs.FieldNames.{each}
 use Rattle.script_words.specs.Reading.{IsAction}

@@ -9,9 +9,9 @@ use Rattle.schema.specs.declared.values.Color.{Color}
 use Rattle.script_nodes.specs.declared.field_kinds.Field.{Field}
 use Rattle.script_nodes.specs.declared.field_kinds.Field.TheVariants as field
 use Rattle.script_nodes.specs.ActionLists.{actions_in}
-use Rattle.script_nodes.specs.FieldKinds.{field_name, flag_at, ids_at, id_at, text_at, numbers_at, units_at, bool_at, color_at, decoration_at, number_at, count_at, actions_at}
+use Rattle.script_nodes.specs.FieldKinds.{all_fields, field_name, flag_at, ids_at, id_at, text_at, numbers_at, units_at, bool_at, color_at, decoration_at, number_at, count_at, actions_at}
 use Rattle.script_nodes.specs.NodeReading.{IsNode, IsValue}
-use Rattle.script_nodes.specs.NodeText.{all_fields, fields_text, node_head, node_text, piece, value_of}
+use Rattle.script_nodes.specs.NodeText.{fields_text, node_head, node_text, piece, value_of}
 use Rattle.script_words.specs.Parts.{actions_value, color_text, decoration_text, rect_text, selection_text, translation_text, tree_text, units_text}
 use Rattle.script_words.specs.Quoted.{quoted}
 use Rattle.script_words.specs.Reading.{IsColor, IsCount, IsDecoration, IsId, IsNumber, IsRect, IsSelection, IsShort, IsTranslation, IsUnits}

@@ -7,7 +7,8 @@ use Rattle.schema.specs.RoleNames.{role_text}
 use Rattle.schema.specs.declared.NodeId.{NodeId}
 use Rattle.script_nodes.specs.declared.field_kinds.Field.{Field}
 use Rattle.script_nodes.specs.NodeReading.{IsNode, node_args, with_field, without, without_all, IsWithout}
-use Rattle.script_nodes.specs.NodeText.{fields_text, all_fields, piece}
+use Rattle.script_nodes.specs.FieldKinds.{all_fields}
+use Rattle.script_nodes.specs.NodeText.{fields_text, piece}
 use Rattle.script_words.specs.Reading.{Begins, after}
 use Rattle.script_nodes.proofs.FieldSteps.{nothing_left, taken, given_back, nothing_to_take, kept, kept_away}
 use Rattle.script_nodes.proofs.FieldTails.{IsTail, all_are_tail}

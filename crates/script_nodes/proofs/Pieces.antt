@@ -6,7 +6,7 @@ use Rattle.schema.specs.NodeData.{NodeData}
 use Rattle.script_nodes.specs.declared.field_kinds.FlagField.{FlagField}
 use Rattle.script_nodes.specs.declared.field_kinds.Field.{Field}
 use Rattle.script_nodes.specs.declared.field_kinds.Field.TheVariants as field
-use Rattle.script_nodes.specs.FieldKinds.{field_name, flag_name, flag_at}
+use Rattle.script_nodes.specs.FieldKinds.{field_name, flag_at}
 use Rattle.script_nodes.specs.NodeText.{piece, value_of}
 use Rattle.script_words.specs.Parts.{flag_text, word_field}
 use Rattle.script_words.specs.Reading.{IsFieldName, after}
@@ -35,7 +35,7 @@ as_flag name false line rest e some = absurd (some refl)
 as_flag name true line rest e some = (refl, opened line _ e)
 
 pub piece_cases : (n : NodeData) (which : Field) (line rest : Option (List ℕ)) → after line ≡ piece n which ++ after rest → piece n which ≢ [] → IsValued n which line rest ⊎ IsFlagged n which line rest
-piece_cases n (field.Flag flag) line rest e some = let k = as_flag (flag_name flag) (flag_at flag n) line rest e some in inr (flag, refl, k.0, k.1)
+piece_cases n (field.Flag flag) line rest e some = let k = as_flag (field_name (field.Flag flag)) (flag_at flag n) line rest e some in inr (flag, refl, k.0, k.1)
 piece_cases n which line rest e some = inl (with_value (field_name which) (value_of n which) line rest e some)
 
 -- the names are words without an equals sign
@@ -69,5 +69,5 @@ flag_begins name true = inr (name, refl)
 
 -- a field's piece is nothing, or begins with a space
 pub piece_begins : (n : NodeData) (which : Field) → (piece n which ≡ []) ⊎ ((text : List ℕ) × (piece n which ≡ 32 ∷ text))
-piece_begins n (field.Flag flag) = flag_begins (flag_name flag) (flag_at flag n)
+piece_begins n (field.Flag flag) = flag_begins (field_name (field.Flag flag)) (flag_at flag n)
 piece_begins n which = value_begins (field_name which) (value_of n which)

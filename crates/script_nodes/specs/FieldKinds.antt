@@ -1,5 +1,5 @@
 -- The fields of a node by the kinds of their values: their names and their values.
-use Rattle.std.specs.Prelude.{ℕ, ℤ, List, codes, Bool, Option}
+use Rattle.std.specs.Prelude.{ℕ, ℤ, List, [], ◌∷◌, codes, Bool, Option}
 use Rattle.schema.specs.NodeData.{NodeData}
 use Rattle.schema.specs.declared.NodeId.{NodeId}
 use Rattle.schema.specs.declared.values.Color.{Color}
@@ -31,294 +31,209 @@ use Rattle.script_nodes.specs.declared.field_kinds.ActionsField.TheVariants as a
 use Rattle.script_nodes.specs.declared.field_kinds.Field.{Field}
 use Rattle.script_nodes.specs.declared.field_kinds.Field.TheVariants as field
 
+-- a field of a node: its name in a line, its value in a node, and the node with another value
+pub record NodeField (A : Type 0) : Type 0 where
+  pub name : List ℕ
+  pub at : NodeData → A
+  pub put : A → NodeData → NodeData
+
+abbrev field_of : {A : Type 0} → List ℕ → (NodeData → A) → (A → NodeData → NodeData) → NodeField A
+field_of name at put = record { name = name; at = at; put = put }
+
 -- ---- lists of nodes
 
-abbrev pub ids_name : IdsField → List ℕ
-ids_name ids.Children = codes "children"
-ids_name ids.LabelledBy = codes "labelled"
-ids_name ids.Controls = codes "controls"
+abbrev pub ids_field : IdsField → NodeField (List NodeId)
+ids_field ids.Children = field_of (codes "children") (λ n. n.children) (λ value n. record n { children = value })
+ids_field ids.LabelledBy = field_of (codes "labelled") (λ n. n.labelled_by) (λ value n. record n { labelled_by = value })
+ids_field ids.Controls = field_of (codes "controls") (λ n. n.controls) (λ value n. record n { controls = value })
 
 abbrev pub ids_at : IdsField → NodeData → List NodeId
-ids_at ids.Children n = n.children
-ids_at ids.LabelledBy n = n.labelled_by
-ids_at ids.Controls n = n.controls
+ids_at which = (ids_field which).at
 
 abbrev pub with_ids : IdsField → List NodeId → NodeData → NodeData
-with_ids ids.Children value n = record n { children = value }
-with_ids ids.LabelledBy value n = record n { labelled_by = value }
-with_ids ids.Controls value n = record n { controls = value }
+with_ids which = (ids_field which).put
 
 -- ---- nodes
 
-abbrev pub id_name : IdField → List ℕ
-id_name id.ActiveDescendant = codes "active"
-id_name id.PreviousOnLine = codes "prev"
-id_name id.NextOnLine = codes "next"
+abbrev pub id_field : IdField → NodeField (Option NodeId)
+id_field id.ActiveDescendant = field_of (codes "active") (λ n. n.active_descendant) (λ value n. record n { active_descendant = value })
+id_field id.PreviousOnLine = field_of (codes "prev") (λ n. n.previous_on_line) (λ value n. record n { previous_on_line = value })
+id_field id.NextOnLine = field_of (codes "next") (λ n. n.next_on_line) (λ value n. record n { next_on_line = value })
 
 abbrev pub id_at : IdField → NodeData → Option NodeId
-id_at id.ActiveDescendant n = n.active_descendant
-id_at id.PreviousOnLine n = n.previous_on_line
-id_at id.NextOnLine n = n.next_on_line
+id_at which = (id_field which).at
 
 abbrev pub with_id : IdField → Option NodeId → NodeData → NodeData
-with_id id.ActiveDescendant value n = record n { active_descendant = value }
-with_id id.PreviousOnLine value n = record n { previous_on_line = value }
-with_id id.NextOnLine value n = record n { next_on_line = value }
+with_id which = (id_field which).put
 
 -- ---- texts
 
-abbrev pub text_name : TextField → List ℕ
-text_name text.Label = codes "label"
-text_name text.Value = codes "value"
-text_name text.Description = codes "description"
-text_name text.Placeholder = codes "placeholder"
-text_name text.RoleDescription = codes "role_description"
-text_name text.Url = codes "url"
-text_name text.AuthorId = codes "author_id"
-text_name text.HtmlId = codes "html_id"
-text_name text.ClassName = codes "class_name"
-text_name text.BrailleLabel = codes "braille_label"
-text_name text.BrailleRoleDescription = codes "braille_role_description"
-text_name text.ColumnIndexText = codes "column_index_text"
-text_name text.RowIndexText = codes "row_index_text"
-text_name text.FontFamily = codes "font_family"
-text_name text.Language = codes "language"
+abbrev pub text_field : TextField → NodeField (Option (List ℕ))
+text_field text.Label = field_of (codes "label") (λ n. n.label) (λ value n. record n { label = value })
+text_field text.Value = field_of (codes "value") (λ n. n.value) (λ value n. record n { value = value })
+text_field text.Description = field_of (codes "description") (λ n. n.description) (λ value n. record n { description = value })
+text_field text.Placeholder = field_of (codes "placeholder") (λ n. n.placeholder) (λ value n. record n { placeholder = value })
+text_field text.RoleDescription = field_of (codes "role_description") (λ n. n.role_description) (λ value n. record n { role_description = value })
+text_field text.Url = field_of (codes "url") (λ n. n.url) (λ value n. record n { url = value })
+text_field text.AuthorId = field_of (codes "author_id") (λ n. n.author_id) (λ value n. record n { author_id = value })
+text_field text.HtmlId = field_of (codes "html_id") (λ n. n.html_id) (λ value n. record n { html_id = value })
+text_field text.ClassName = field_of (codes "class_name") (λ n. n.class_name) (λ value n. record n { class_name = value })
+text_field text.BrailleLabel = field_of (codes "braille_label") (λ n. n.braille_label) (λ value n. record n { braille_label = value })
+text_field text.BrailleRoleDescription = field_of (codes "braille_role_description") (λ n. n.braille_role_description) (λ value n. record n { braille_role_description = value })
+text_field text.ColumnIndexText = field_of (codes "column_index_text") (λ n. n.column_index_text) (λ value n. record n { column_index_text = value })
+text_field text.RowIndexText = field_of (codes "row_index_text") (λ n. n.row_index_text) (λ value n. record n { row_index_text = value })
+text_field text.FontFamily = field_of (codes "font_family") (λ n. n.font_family) (λ value n. record n { font_family = value })
+text_field text.Language = field_of (codes "language") (λ n. n.language) (λ value n. record n { language = value })
 
 abbrev pub text_at : TextField → NodeData → Option (List ℕ)
-text_at text.Label n = n.label
-text_at text.Value n = n.value
-text_at text.Description n = n.description
-text_at text.Placeholder n = n.placeholder
-text_at text.RoleDescription n = n.role_description
-text_at text.Url n = n.url
-text_at text.AuthorId n = n.author_id
-text_at text.HtmlId n = n.html_id
-text_at text.ClassName n = n.class_name
-text_at text.BrailleLabel n = n.braille_label
-text_at text.BrailleRoleDescription n = n.braille_role_description
-text_at text.ColumnIndexText n = n.column_index_text
-text_at text.RowIndexText n = n.row_index_text
-text_at text.FontFamily n = n.font_family
-text_at text.Language n = n.language
+text_at which = (text_field which).at
 
 abbrev pub with_text : TextField → Option (List ℕ) → NodeData → NodeData
-with_text text.Label value n = record n { label = value }
-with_text text.Value value n = record n { value = value }
-with_text text.Description value n = record n { description = value }
-with_text text.Placeholder value n = record n { placeholder = value }
-with_text text.RoleDescription value n = record n { role_description = value }
-with_text text.Url value n = record n { url = value }
-with_text text.AuthorId value n = record n { author_id = value }
-with_text text.HtmlId value n = record n { html_id = value }
-with_text text.ClassName value n = record n { class_name = value }
-with_text text.BrailleLabel value n = record n { braille_label = value }
-with_text text.BrailleRoleDescription value n = record n { braille_role_description = value }
-with_text text.ColumnIndexText value n = record n { column_index_text = value }
-with_text text.RowIndexText value n = record n { row_index_text = value }
-with_text text.FontFamily value n = record n { font_family = value }
-with_text text.Language value n = record n { language = value }
+with_text which = (text_field which).put
 
 -- ---- flags
 
-abbrev pub flag_name : FlagField → List ℕ
-flag_name flag.Hidden = codes "hidden"
-flag_name flag.ClipsChildren = codes "clips"
-flag_name flag.Disabled = codes "disabled"
-flag_name flag.ReadOnly = codes "read_only"
-flag_name flag.Required = codes "required"
-flag_name flag.Modal = codes "modal"
-flag_name flag.Busy = codes "busy"
-flag_name flag.Multiselectable = codes "multiselectable"
-flag_name flag.Italic = codes "italic"
-flag_name flag.LiveAtomic = codes "live_atomic"
-flag_name flag.TouchTransparent = codes "touch_transparent"
+abbrev pub flag_field : FlagField → NodeField Bool
+flag_field flag.Hidden = field_of (codes "hidden") (λ n. n.hidden) (λ value n. record n { hidden = value })
+flag_field flag.ClipsChildren = field_of (codes "clips") (λ n. n.clips_children) (λ value n. record n { clips_children = value })
+flag_field flag.Disabled = field_of (codes "disabled") (λ n. n.disabled) (λ value n. record n { disabled = value })
+flag_field flag.ReadOnly = field_of (codes "read_only") (λ n. n.read_only) (λ value n. record n { read_only = value })
+flag_field flag.Required = field_of (codes "required") (λ n. n.required) (λ value n. record n { required = value })
+flag_field flag.Modal = field_of (codes "modal") (λ n. n.modal) (λ value n. record n { modal = value })
+flag_field flag.Busy = field_of (codes "busy") (λ n. n.busy) (λ value n. record n { busy = value })
+flag_field flag.Multiselectable = field_of (codes "multiselectable") (λ n. n.multiselectable) (λ value n. record n { multiselectable = value })
+flag_field flag.Italic = field_of (codes "italic") (λ n. n.italic) (λ value n. record n { italic = value })
+flag_field flag.LiveAtomic = field_of (codes "live_atomic") (λ n. n.live_atomic) (λ value n. record n { live_atomic = value })
+flag_field flag.TouchTransparent = field_of (codes "touch_transparent") (λ n. n.touch_transparent) (λ value n. record n { touch_transparent = value })
 
 abbrev pub flag_at : FlagField → NodeData → Bool
-flag_at flag.Hidden n = n.hidden
-flag_at flag.ClipsChildren n = n.clips_children
-flag_at flag.Disabled n = n.disabled
-flag_at flag.ReadOnly n = n.read_only
-flag_at flag.Required n = n.required
-flag_at flag.Modal n = n.modal
-flag_at flag.Busy n = n.busy
-flag_at flag.Multiselectable n = n.multiselectable
-flag_at flag.Italic n = n.italic
-flag_at flag.LiveAtomic n = n.live_atomic
-flag_at flag.TouchTransparent n = n.touch_transparent
+flag_at which = (flag_field which).at
 
 abbrev pub with_flag : FlagField → Bool → NodeData → NodeData
-with_flag flag.Hidden value n = record n { hidden = value }
-with_flag flag.ClipsChildren value n = record n { clips_children = value }
-with_flag flag.Disabled value n = record n { disabled = value }
-with_flag flag.ReadOnly value n = record n { read_only = value }
-with_flag flag.Required value n = record n { required = value }
-with_flag flag.Modal value n = record n { modal = value }
-with_flag flag.Busy value n = record n { busy = value }
-with_flag flag.Multiselectable value n = record n { multiselectable = value }
-with_flag flag.Italic value n = record n { italic = value }
-with_flag flag.LiveAtomic value n = record n { live_atomic = value }
-with_flag flag.TouchTransparent value n = record n { touch_transparent = value }
+with_flag which = (flag_field which).put
 
 -- ---- lists of numbers
 
-abbrev pub numbers_name : NumbersField → List ℕ
-numbers_name numbers.CharacterLengths = codes "chars"
-numbers_name numbers.WordStarts = codes "words"
+abbrev pub numbers_field : NumbersField → NodeField (List ℕ)
+numbers_field numbers.CharacterLengths = field_of (codes "chars") (λ n. n.character_lengths) (λ value n. record n { character_lengths = value })
+numbers_field numbers.WordStarts = field_of (codes "words") (λ n. n.word_starts) (λ value n. record n { word_starts = value })
 
 abbrev pub numbers_at : NumbersField → NodeData → List ℕ
-numbers_at numbers.CharacterLengths n = n.character_lengths
-numbers_at numbers.WordStarts n = n.word_starts
+numbers_at which = (numbers_field which).at
 
 abbrev pub with_numbers : NumbersField → List ℕ → NodeData → NodeData
-with_numbers numbers.CharacterLengths value n = record n { character_lengths = value }
-with_numbers numbers.WordStarts value n = record n { word_starts = value }
+with_numbers which = (numbers_field which).put
 
 -- ---- lists of numbers in units of 1/64 pixel
 
-abbrev pub units_name : UnitsField → List ℕ
-units_name units.CharacterPositions = codes "character_positions"
-units_name units.CharacterWidths = codes "character_widths"
+abbrev pub units_field : UnitsField → NodeField (Option (List ℤ))
+units_field units.CharacterPositions = field_of (codes "character_positions") (λ n. n.character_positions) (λ value n. record n { character_positions = value })
+units_field units.CharacterWidths = field_of (codes "character_widths") (λ n. n.character_widths) (λ value n. record n { character_widths = value })
 
 abbrev pub units_at : UnitsField → NodeData → Option (List ℤ)
-units_at units.CharacterPositions n = n.character_positions
-units_at units.CharacterWidths n = n.character_widths
+units_at which = (units_field which).at
 
 abbrev pub with_units : UnitsField → Option (List ℤ) → NodeData → NodeData
-with_units units.CharacterPositions value n = record n { character_positions = value }
-with_units units.CharacterWidths value n = record n { character_widths = value }
+with_units which = (units_field which).put
 
 -- ---- flags that may be unset
 
-abbrev pub bool_name : BoolField → List ℕ
-bool_name bool.Expanded = codes "expanded"
-bool_name bool.Selected = codes "selected"
+abbrev pub bool_field : BoolField → NodeField (Option Bool)
+bool_field bool.Expanded = field_of (codes "expanded") (λ n. n.expanded) (λ value n. record n { expanded = value })
+bool_field bool.Selected = field_of (codes "selected") (λ n. n.selected) (λ value n. record n { selected = value })
 
 abbrev pub bool_at : BoolField → NodeData → Option Bool
-bool_at bool.Expanded n = n.expanded
-bool_at bool.Selected n = n.selected
+bool_at which = (bool_field which).at
 
 abbrev pub with_bool : BoolField → Option Bool → NodeData → NodeData
-with_bool bool.Expanded value n = record n { expanded = value }
-with_bool bool.Selected value n = record n { selected = value }
+with_bool which = (bool_field which).put
 
 -- ---- colours
 
-abbrev pub color_name : ColorField → List ℕ
-color_name color.Background = codes "background_color"
-color_name color.Foreground = codes "foreground_color"
+abbrev pub color_field : ColorField → NodeField (Option Color)
+color_field color.Background = field_of (codes "background_color") (λ n. n.background_color) (λ value n. record n { background_color = value })
+color_field color.Foreground = field_of (codes "foreground_color") (λ n. n.foreground_color) (λ value n. record n { foreground_color = value })
 
 abbrev pub color_at : ColorField → NodeData → Option Color
-color_at color.Background n = n.background_color
-color_at color.Foreground n = n.foreground_color
+color_at which = (color_field which).at
 
 abbrev pub with_color : ColorField → Option Color → NodeData → NodeData
-with_color color.Background value n = record n { background_color = value }
-with_color color.Foreground value n = record n { foreground_color = value }
+with_color which = (color_field which).put
 
 -- ---- lines above, through or below text
 
-abbrev pub decoration_name : DecorationField → List ℕ
-decoration_name decoration.Overline = codes "overline"
-decoration_name decoration.Strikethrough = codes "strikethrough"
-decoration_name decoration.Underline = codes "underline"
+abbrev pub decoration_field : DecorationField → NodeField (Option TextDecoration)
+decoration_field decoration.Overline = field_of (codes "overline") (λ n. n.overline) (λ value n. record n { overline = value })
+decoration_field decoration.Strikethrough = field_of (codes "strikethrough") (λ n. n.strikethrough) (λ value n. record n { strikethrough = value })
+decoration_field decoration.Underline = field_of (codes "underline") (λ n. n.underline) (λ value n. record n { underline = value })
 
 abbrev pub decoration_at : DecorationField → NodeData → Option TextDecoration
-decoration_at decoration.Overline n = n.overline
-decoration_at decoration.Strikethrough n = n.strikethrough
-decoration_at decoration.Underline n = n.underline
+decoration_at which = (decoration_field which).at
 
 abbrev pub with_decoration : DecorationField → Option TextDecoration → NodeData → NodeData
-with_decoration decoration.Overline value n = record n { overline = value }
-with_decoration decoration.Strikethrough value n = record n { strikethrough = value }
-with_decoration decoration.Underline value n = record n { underline = value }
+with_decoration which = (decoration_field which).put
 
 -- ---- numbers
 
-abbrev pub number_name : NumberField → List ℕ
-number_name number.NumericValue = codes "number"
-number_name number.MinNumericValue = codes "min"
-number_name number.MaxNumericValue = codes "max"
-number_name number.NumericValueStep = codes "step"
-number_name number.NumericValueJump = codes "jump"
-number_name number.ScrollX = codes "scroll_x"
-number_name number.ScrollXMin = codes "scroll_x_min"
-number_name number.ScrollXMax = codes "scroll_x_max"
-number_name number.ScrollY = codes "scroll_y"
-number_name number.ScrollYMin = codes "scroll_y_min"
-number_name number.ScrollYMax = codes "scroll_y_max"
+abbrev pub number_field : NumberField → NodeField (Option ℤ)
+number_field number.NumericValue = field_of (codes "number") (λ n. n.numeric_value) (λ value n. record n { numeric_value = value })
+number_field number.MinNumericValue = field_of (codes "min") (λ n. n.min_numeric_value) (λ value n. record n { min_numeric_value = value })
+number_field number.MaxNumericValue = field_of (codes "max") (λ n. n.max_numeric_value) (λ value n. record n { max_numeric_value = value })
+number_field number.NumericValueStep = field_of (codes "step") (λ n. n.numeric_value_step) (λ value n. record n { numeric_value_step = value })
+number_field number.NumericValueJump = field_of (codes "jump") (λ n. n.numeric_value_jump) (λ value n. record n { numeric_value_jump = value })
+number_field number.ScrollX = field_of (codes "scroll_x") (λ n. n.scroll_x) (λ value n. record n { scroll_x = value })
+number_field number.ScrollXMin = field_of (codes "scroll_x_min") (λ n. n.scroll_x_min) (λ value n. record n { scroll_x_min = value })
+number_field number.ScrollXMax = field_of (codes "scroll_x_max") (λ n. n.scroll_x_max) (λ value n. record n { scroll_x_max = value })
+number_field number.ScrollY = field_of (codes "scroll_y") (λ n. n.scroll_y) (λ value n. record n { scroll_y = value })
+number_field number.ScrollYMin = field_of (codes "scroll_y_min") (λ n. n.scroll_y_min) (λ value n. record n { scroll_y_min = value })
+number_field number.ScrollYMax = field_of (codes "scroll_y_max") (λ n. n.scroll_y_max) (λ value n. record n { scroll_y_max = value })
 
 abbrev pub number_at : NumberField → NodeData → Option ℤ
-number_at number.NumericValue n = n.numeric_value
-number_at number.MinNumericValue n = n.min_numeric_value
-number_at number.MaxNumericValue n = n.max_numeric_value
-number_at number.NumericValueStep n = n.numeric_value_step
-number_at number.NumericValueJump n = n.numeric_value_jump
-number_at number.ScrollX n = n.scroll_x
-number_at number.ScrollXMin n = n.scroll_x_min
-number_at number.ScrollXMax n = n.scroll_x_max
-number_at number.ScrollY n = n.scroll_y
-number_at number.ScrollYMin n = n.scroll_y_min
-number_at number.ScrollYMax n = n.scroll_y_max
+number_at which = (number_field which).at
 
 abbrev pub with_number : NumberField → Option ℤ → NodeData → NodeData
-with_number number.NumericValue value n = record n { numeric_value = value }
-with_number number.MinNumericValue value n = record n { min_numeric_value = value }
-with_number number.MaxNumericValue value n = record n { max_numeric_value = value }
-with_number number.NumericValueStep value n = record n { numeric_value_step = value }
-with_number number.NumericValueJump value n = record n { numeric_value_jump = value }
-with_number number.ScrollX value n = record n { scroll_x = value }
-with_number number.ScrollXMin value n = record n { scroll_x_min = value }
-with_number number.ScrollXMax value n = record n { scroll_x_max = value }
-with_number number.ScrollY value n = record n { scroll_y = value }
-with_number number.ScrollYMin value n = record n { scroll_y_min = value }
-with_number number.ScrollYMax value n = record n { scroll_y_max = value }
+with_number which = (number_field which).put
 
 -- ---- counts
 
-abbrev pub count_name : CountField → List ℕ
-count_name count.Level = codes "level"
-count_name count.SizeOfSet = codes "set_size"
-count_name count.PositionInSet = codes "position"
+abbrev pub count_field : CountField → NodeField (Option ℕ)
+count_field count.Level = field_of (codes "level") (λ n. n.level) (λ value n. record n { level = value })
+count_field count.SizeOfSet = field_of (codes "set_size") (λ n. n.size_of_set) (λ value n. record n { size_of_set = value })
+count_field count.PositionInSet = field_of (codes "position") (λ n. n.position_in_set) (λ value n. record n { position_in_set = value })
 
 abbrev pub count_at : CountField → NodeData → Option ℕ
-count_at count.Level n = n.level
-count_at count.SizeOfSet n = n.size_of_set
-count_at count.PositionInSet n = n.position_in_set
+count_at which = (count_field which).at
 
 abbrev pub with_count : CountField → Option ℕ → NodeData → NodeData
-with_count count.Level value n = record n { level = value }
-with_count count.SizeOfSet value n = record n { size_of_set = value }
-with_count count.PositionInSet value n = record n { position_in_set = value }
+with_count which = (count_field which).put
 
 -- ---- sets of actions
 
-abbrev pub actions_name : ActionsField → List ℕ
-actions_name actions.Own = codes "actions"
-actions_name actions.Children = codes "child_actions"
+abbrev pub actions_field : ActionsField → NodeField ℕ
+actions_field actions.Own = field_of (codes "actions") (λ n. n.actions) (λ value n. record n { actions = value })
+actions_field actions.Children = field_of (codes "child_actions") (λ n. n.child_actions) (λ value n. record n { child_actions = value })
 
 abbrev pub actions_at : ActionsField → NodeData → ℕ
-actions_at actions.Own n = n.actions
-actions_at actions.Children n = n.child_actions
+actions_at which = (actions_field which).at
 
 abbrev pub with_actions_field : ActionsField → ℕ → NodeData → NodeData
-with_actions_field actions.Own value n = record n { actions = value }
-with_actions_field actions.Children value n = record n { child_actions = value }
+with_actions_field which = (actions_field which).put
 
 -- ---- all of them
 
 abbrev pub field_name : Field → List ℕ
-field_name (field.Ids which) = ids_name which
-field_name (field.Id which) = id_name which
-field_name (field.Text which) = text_name which
-field_name (field.Flag which) = flag_name which
-field_name (field.Numbers which) = numbers_name which
-field_name (field.Units which) = units_name which
-field_name (field.Bool which) = bool_name which
-field_name (field.Color which) = color_name which
-field_name (field.Decoration which) = decoration_name which
-field_name (field.Number which) = number_name which
-field_name (field.Count which) = count_name which
-field_name (field.Actions which) = actions_name which
+field_name (field.Ids which) = (ids_field which).name
+field_name (field.Id which) = (id_field which).name
+field_name (field.Text which) = (text_field which).name
+field_name (field.Flag which) = (flag_field which).name
+field_name (field.Numbers which) = (numbers_field which).name
+field_name (field.Units which) = (units_field which).name
+field_name (field.Bool which) = (bool_field which).name
+field_name (field.Color which) = (color_field which).name
+field_name (field.Decoration which) = (decoration_field which).name
+field_name (field.Number which) = (number_field which).name
+field_name (field.Count which) = (count_field which).name
+field_name (field.Actions which) = (actions_field which).name
 field_name field.Tree = codes "tree"
 field_name field.Bounds = codes "bounds"
 field_name field.Transform = codes "move"
@@ -334,3 +249,28 @@ field_name field.FontWeight = codes "font_weight"
 field_name field.TextDirection = codes "text_direction"
 field_name field.TextAlign = codes "text_align"
 field_name field.VerticalOffset = codes "vertical_offset"
+
+-- all fields, in the order in which they are written
+abbrev pub all_fields : List Field
+all_fields =
+    field.Ids ids.Children ∷ field.Ids ids.LabelledBy ∷ field.Ids ids.Controls ∷ field.Tree ∷
+    field.Id id.ActiveDescendant ∷ field.Text text.Label ∷ field.Text text.Value ∷ field.Text text.Description ∷
+    field.Text text.Placeholder ∷ field.Text text.RoleDescription ∷ field.Text text.Url ∷ field.Text text.AuthorId ∷
+    field.Text text.HtmlId ∷ field.Text text.ClassName ∷ field.Text text.BrailleLabel ∷
+    field.Text text.BrailleRoleDescription ∷ field.Text text.ColumnIndexText ∷ field.Text text.RowIndexText ∷
+    field.Text text.FontFamily ∷ field.Text text.Language ∷ field.Flag flag.Hidden ∷ field.Flag flag.ClipsChildren ∷
+    field.Flag flag.Disabled ∷ field.Flag flag.ReadOnly ∷ field.Flag flag.Required ∷ field.Flag flag.Modal ∷
+    field.Flag flag.Busy ∷ field.Flag flag.Multiselectable ∷ field.Flag flag.Italic ∷ field.Flag flag.LiveAtomic ∷
+    field.Flag flag.TouchTransparent ∷ field.Bounds ∷ field.Transform ∷ field.Selection ∷
+    field.Numbers numbers.CharacterLengths ∷ field.Numbers numbers.WordStarts ∷ field.Units units.CharacterPositions ∷
+    field.Units units.CharacterWidths ∷ field.Id id.PreviousOnLine ∷ field.Id id.NextOnLine ∷ field.Toggled ∷
+    field.Bool bool.Expanded ∷ field.Bool bool.Selected ∷ field.Live ∷ field.Orientation ∷ field.SortDirection ∷
+    field.AriaCurrent ∷ field.HasPopup ∷ field.FontSize ∷ field.FontWeight ∷ field.Color color.Background ∷
+    field.Color color.Foreground ∷ field.Decoration decoration.Overline ∷ field.Decoration decoration.Strikethrough ∷
+    field.Decoration decoration.Underline ∷ field.TextDirection ∷ field.TextAlign ∷ field.VerticalOffset ∷
+    field.Number number.NumericValue ∷ field.Number number.MinNumericValue ∷ field.Number number.MaxNumericValue ∷
+    field.Number number.NumericValueStep ∷ field.Number number.NumericValueJump ∷ field.Count count.Level ∷
+    field.Count count.SizeOfSet ∷ field.Count count.PositionInSet ∷ field.Number number.ScrollX ∷
+    field.Number number.ScrollXMin ∷ field.Number number.ScrollXMax ∷ field.Number number.ScrollY ∷
+    field.Number number.ScrollYMin ∷ field.Number number.ScrollYMax ∷ field.Actions actions.Own ∷
+    field.Actions actions.Children ∷ []

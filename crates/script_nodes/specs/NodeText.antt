@@ -1,24 +1,12 @@
 -- The written form of a node: its fields in a fixed order, each if it is set.
-use Rattle.std.specs.Prelude.{ℕ, ◌≡◌, ◌⊎◌, List, [], ◌∷◌, ◌++◌, codes, flat_map, Option, None, option_map}
+use Rattle.std.specs.Prelude.{ℕ, ◌≡◌, ◌⊎◌, List, [], ◌++◌, codes, flat_map, Option, None, option_map}
 use Rattle.std.specs.Fmt.{decimal, signed_decimal}
 use Rattle.schema.specs.NodeData.{NodeData}
 use Rattle.schema.specs.RoleNames.{role_text}
 use Rattle.schema.specs.declared.NodeId.{NodeId}
 use Rattle.schema.specs.declared.Role.{Role}
 use Rattle.script_nodes.specs.ActionLists.{actions_in}
-use Rattle.script_nodes.specs.FieldKinds.{field_name, ids_at, id_at, text_at, flag_at, numbers_at, units_at, bool_at, color_at, decoration_at, number_at, count_at, actions_at}
-use Rattle.script_nodes.specs.declared.field_kinds.IdsField.TheVariants as ids
-use Rattle.script_nodes.specs.declared.field_kinds.IdField.TheVariants as id
-use Rattle.script_nodes.specs.declared.field_kinds.TextField.TheVariants as text
-use Rattle.script_nodes.specs.declared.field_kinds.FlagField.TheVariants as flag
-use Rattle.script_nodes.specs.declared.field_kinds.NumbersField.TheVariants as numbers
-use Rattle.script_nodes.specs.declared.field_kinds.UnitsField.TheVariants as units
-use Rattle.script_nodes.specs.declared.field_kinds.BoolField.TheVariants as bool
-use Rattle.script_nodes.specs.declared.field_kinds.ColorField.TheVariants as color
-use Rattle.script_nodes.specs.declared.field_kinds.DecorationField.TheVariants as decoration
-use Rattle.script_nodes.specs.declared.field_kinds.NumberField.TheVariants as number
-use Rattle.script_nodes.specs.declared.field_kinds.CountField.TheVariants as count
-use Rattle.script_nodes.specs.declared.field_kinds.ActionsField.TheVariants as actions
+use Rattle.script_nodes.specs.FieldKinds.{all_fields, field_name, ids_at, id_at, text_at, flag_at, numbers_at, units_at, bool_at, color_at, decoration_at, number_at, count_at, actions_at}
 use Rattle.script_nodes.specs.declared.field_kinds.Field.{Field}
 use Rattle.script_nodes.specs.declared.field_kinds.Field.TheVariants as field
 use Rattle.script_words.specs.Names.{toggled_name, truth_name, live_name, orientation_name, sort_direction_name, aria_current_name, has_popup_name, text_direction_name, text_align_name, vertical_offset_name}
@@ -61,31 +49,6 @@ value_of n field.VerticalOffset = option_map vertical_offset_name n.vertical_off
 abbrev pub piece : NodeData → Field → List ℕ
 piece n (field.Flag which) = flag_text (field_name (field.Flag which)) (flag_at which n)
 piece n which = word_field (field_name which) (value_of n which)
-
--- all fields, in the order in which they are written
-abbrev pub all_fields : List Field
-all_fields =
-    field.Ids ids.Children ∷ field.Ids ids.LabelledBy ∷ field.Ids ids.Controls ∷ field.Tree ∷
-    field.Id id.ActiveDescendant ∷ field.Text text.Label ∷ field.Text text.Value ∷ field.Text text.Description ∷
-    field.Text text.Placeholder ∷ field.Text text.RoleDescription ∷ field.Text text.Url ∷ field.Text text.AuthorId ∷
-    field.Text text.HtmlId ∷ field.Text text.ClassName ∷ field.Text text.BrailleLabel ∷
-    field.Text text.BrailleRoleDescription ∷ field.Text text.ColumnIndexText ∷ field.Text text.RowIndexText ∷
-    field.Text text.FontFamily ∷ field.Text text.Language ∷ field.Flag flag.Hidden ∷ field.Flag flag.ClipsChildren ∷
-    field.Flag flag.Disabled ∷ field.Flag flag.ReadOnly ∷ field.Flag flag.Required ∷ field.Flag flag.Modal ∷
-    field.Flag flag.Busy ∷ field.Flag flag.Multiselectable ∷ field.Flag flag.Italic ∷ field.Flag flag.LiveAtomic ∷
-    field.Flag flag.TouchTransparent ∷ field.Bounds ∷ field.Transform ∷ field.Selection ∷
-    field.Numbers numbers.CharacterLengths ∷ field.Numbers numbers.WordStarts ∷ field.Units units.CharacterPositions ∷
-    field.Units units.CharacterWidths ∷ field.Id id.PreviousOnLine ∷ field.Id id.NextOnLine ∷ field.Toggled ∷
-    field.Bool bool.Expanded ∷ field.Bool bool.Selected ∷ field.Live ∷ field.Orientation ∷ field.SortDirection ∷
-    field.AriaCurrent ∷ field.HasPopup ∷ field.FontSize ∷ field.FontWeight ∷ field.Color color.Background ∷
-    field.Color color.Foreground ∷ field.Decoration decoration.Overline ∷ field.Decoration decoration.Strikethrough ∷
-    field.Decoration decoration.Underline ∷ field.TextDirection ∷ field.TextAlign ∷ field.VerticalOffset ∷
-    field.Number number.NumericValue ∷ field.Number number.MinNumericValue ∷ field.Number number.MaxNumericValue ∷
-    field.Number number.NumericValueStep ∷ field.Number number.NumericValueJump ∷ field.Count count.Level ∷
-    field.Count count.SizeOfSet ∷ field.Count count.PositionInSet ∷ field.Number number.ScrollX ∷
-    field.Number number.ScrollXMin ∷ field.Number number.ScrollXMax ∷ field.Number number.ScrollY ∷
-    field.Number number.ScrollYMin ∷ field.Number number.ScrollYMax ∷ field.Actions actions.Own ∷
-    field.Actions actions.Children ∷ []
 
 -- the written form of all of a node's fields
 unfoldable pub fields_text : NodeData → List ℕ

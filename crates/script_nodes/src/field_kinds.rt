@@ -1,9 +1,9 @@
-//! The fields of a node by the kinds of their values, and their names in a line.
+//! The fields of a node by the kinds of their values, with what gets and sets each in a node, and their names in a line. A kind's list
+//! is a macro, whose call names what is made of it: `flag_fields!(got self node)`.
 
 ghost use Rattle.std.specs.Prelude.{MatchOption, map, slice_get, ◌≡◌, ◌≢◌};
 ghost use Rattle.script_nodes.specs.declared.field_kinds.Field.{Field};
-ghost use Rattle.script_nodes.specs.FieldKinds.{field_name};
-ghost use Rattle.script_nodes.specs.NodeText.{all_fields};
+ghost use Rattle.script_nodes.specs.FieldKinds.{all_fields, field_name};
 
 use crate::choices::numbered;
 use script_words::names::named;
@@ -16,12 +16,32 @@ pub enum IdsField {
     Controls,
 }
 
+macro_rules! ids_fields {
+    ($form:ident $($of:tt)*) => {
+        $form!(($($of)*) IdsField {
+            Children = children, set_children;
+            LabelledBy = labelled_by, set_labelled_by;
+            Controls = controls, set_controls
+        })
+    };
+}
+
 /// A node.
 #[derive(Clone, Copy)]
 pub enum IdField {
     ActiveDescendant,
     PreviousOnLine,
     NextOnLine,
+}
+
+macro_rules! id_fields {
+    ($form:ident $($of:tt)*) => {
+        $form!(($($of)*) IdField {
+            ActiveDescendant = active_descendant, set_active_descendant;
+            PreviousOnLine = previous_on_line, set_previous_on_line;
+            NextOnLine = next_on_line, set_next_on_line
+        })
+    };
 }
 
 /// A text in quotes.
@@ -44,6 +64,28 @@ pub enum TextField {
     Language,
 }
 
+macro_rules! text_fields {
+    ($form:ident $($of:tt)*) => {
+        $form!(($($of)*) TextField {
+            Label = label, set_label;
+            Value = value, set_value;
+            Description = description, set_description;
+            Placeholder = placeholder, set_placeholder;
+            RoleDescription = role_description, set_role_description;
+            Url = url, set_url;
+            AuthorId = author_id, set_author_id;
+            HtmlId = html_id, set_html_id;
+            ClassName = class_name, set_class_name;
+            BrailleLabel = braille_label, set_braille_label;
+            BrailleRoleDescription = braille_role_description, set_braille_role_description;
+            ColumnIndexText = column_index_text, set_column_index_text;
+            RowIndexText = row_index_text, set_row_index_text;
+            FontFamily = font_family, set_font_family;
+            Language = language, set_language
+        })
+    };
+}
+
 /// A flag, which has no value.
 #[derive(Clone, Copy)]
 pub enum FlagField {
@@ -60,11 +102,38 @@ pub enum FlagField {
     TouchTransparent,
 }
 
+macro_rules! flag_fields {
+    ($form:ident $($of:tt)*) => {
+        $form!(($($of)*) FlagField {
+            Hidden = is_hidden, set_hidden;
+            ClipsChildren = clips_children, set_clips_children;
+            Disabled = is_disabled, set_disabled;
+            ReadOnly = is_read_only, set_read_only;
+            Required = is_required, set_required;
+            Modal = is_modal, set_modal;
+            Busy = is_busy, set_busy;
+            Multiselectable = is_multiselectable, set_multiselectable;
+            Italic = is_italic, set_italic;
+            LiveAtomic = is_live_atomic, set_live_atomic;
+            TouchTransparent = is_touch_transparent, set_touch_transparent
+        })
+    };
+}
+
 /// A list of numbers of a text run.
 #[derive(Clone, Copy)]
 pub enum NumbersField {
     CharacterLengths,
     WordStarts,
+}
+
+macro_rules! numbers_fields {
+    ($form:ident $($of:tt)*) => {
+        $form!(($($of)*) NumbersField {
+            CharacterLengths = character_lengths, set_character_lengths;
+            WordStarts = word_starts, set_word_starts
+        })
+    };
 }
 
 /// An optional list of numbers of a text run, in units of 1/64 pixel.
@@ -74,11 +143,29 @@ pub enum UnitsField {
     CharacterWidths,
 }
 
+macro_rules! units_fields {
+    ($form:ident $($of:tt)*) => {
+        $form!(($($of)*) UnitsField {
+            CharacterPositions = character_positions, set_character_positions;
+            CharacterWidths = character_widths, set_character_widths
+        })
+    };
+}
+
 /// A flag that may be unset.
 #[derive(Clone, Copy)]
 pub enum BoolField {
     Expanded,
     Selected,
+}
+
+macro_rules! bool_fields {
+    ($form:ident $($of:tt)*) => {
+        $form!(($($of)*) BoolField {
+            Expanded = is_expanded, set_expanded;
+            Selected = is_selected, set_selected
+        })
+    };
 }
 
 /// A colour.
@@ -88,12 +175,31 @@ pub enum ColorField {
     Foreground,
 }
 
+macro_rules! color_fields {
+    ($form:ident $($of:tt)*) => {
+        $form!(($($of)*) ColorField {
+            Background = background_color, set_background_color;
+            Foreground = foreground_color, set_foreground_color
+        })
+    };
+}
+
 /// A line above, through or below text.
 #[derive(Clone, Copy)]
 pub enum DecorationField {
     Overline,
     Strikethrough,
     Underline,
+}
+
+macro_rules! decoration_fields {
+    ($form:ident $($of:tt)*) => {
+        $form!(($($of)*) DecorationField {
+            Overline = overline, set_overline;
+            Strikethrough = strikethrough, set_strikethrough;
+            Underline = underline, set_underline
+        })
+    };
 }
 
 /// A number, with a minus sign if it is negative.
@@ -112,12 +218,40 @@ pub enum NumberField {
     ScrollYMax,
 }
 
+macro_rules! number_fields {
+    ($form:ident $($of:tt)*) => {
+        $form!(($($of)*) NumberField {
+            NumericValue = numeric_value, set_numeric_value;
+            MinNumericValue = min_numeric_value, set_min_numeric_value;
+            MaxNumericValue = max_numeric_value, set_max_numeric_value;
+            NumericValueStep = numeric_value_step, set_numeric_value_step;
+            NumericValueJump = numeric_value_jump, set_numeric_value_jump;
+            ScrollX = scroll_x, set_scroll_x;
+            ScrollXMin = scroll_x_min, set_scroll_x_min;
+            ScrollXMax = scroll_x_max, set_scroll_x_max;
+            ScrollY = scroll_y, set_scroll_y;
+            ScrollYMin = scroll_y_min, set_scroll_y_min;
+            ScrollYMax = scroll_y_max, set_scroll_y_max
+        })
+    };
+}
+
 /// A count.
 #[derive(Clone, Copy)]
 pub enum CountField {
     Level,
     SizeOfSet,
     PositionInSet,
+}
+
+macro_rules! count_fields {
+    ($form:ident $($of:tt)*) => {
+        $form!(($($of)*) CountField {
+            Level = level, set_level;
+            SizeOfSet = size_of_set, set_size_of_set;
+            PositionInSet = position_in_set, set_position_in_set
+        })
+    };
 }
 
 /// A set of actions.
@@ -173,6 +307,18 @@ pub enum Field {
     /// Whether text is superscript or subscript.
     VerticalOffset,
 }
+
+pub(crate) use bool_fields;
+pub(crate) use color_fields;
+pub(crate) use count_fields;
+pub(crate) use decoration_fields;
+pub(crate) use flag_fields;
+pub(crate) use id_fields;
+pub(crate) use ids_fields;
+pub(crate) use number_fields;
+pub(crate) use numbers_fields;
+pub(crate) use text_fields;
+pub(crate) use units_fields;
 
 /// All fields, each with its name, in the order in which they are written.
 macro_rules! fields {

@@ -10,21 +10,37 @@ use crate::action_sets::{
 };
 use crate::field_kinds::{
     ActionsField, BoolField, ColorField, CountField, DecorationField, FlagField, IdField, IdsField,
-    NumberField, NumbersField, TextField, UnitsField,
+    NumberField, NumbersField, TextField, UnitsField, bool_fields, color_fields, count_fields,
+    decoration_fields, flag_fields, id_fields, ids_fields, number_fields, numbers_fields,
+    text_fields, units_fields,
 };
 use schema::{Action, Color, Node, NodeId, TextDecoration};
 use std::alloc::{AllocError, Global};
+
+/// What a node has in one of a kind's fields.
+macro_rules! got {
+    (($which:tt $node:ident) $kind:ident { $($field:ident = $get:ident, $set:ident);+ }) => {
+        match $which {
+            $($kind::$field => $node.$get(),)+
+        }
+    };
+}
+
+/// Sets one of a kind's fields in a node, by these arguments.
+macro_rules! set {
+    (($which:tt $node:ident $given:tt) $kind:ident { $($field:ident = $get:ident, $set:ident);+ }) => {
+        match $which {
+            $($kind::$field => $node.$set $given,)+
+        }
+    };
+}
 
 impl IdsField {
     /// The node's value of the field.
     pub(crate) fn of<'a>(self, node: &'a Node) -> &'a [NodeId]
         ensures { result.now ≡ ids_at self node.now }
     {
-        match self {
-            IdsField::Children => node.children(),
-            IdsField::LabelledBy => node.labelled_by(),
-            IdsField::Controls => node.controls(),
-        }
+        ids_fields!(got self node)
     }
 
     /// Sets the field.
@@ -32,11 +48,7 @@ impl IdsField {
         ensures ok { OnOk result (node.new ≡ with_ids self value.now node.old) }
         ensures err { OnErr result (node.new ≡ node.old) }
     {
-        match self {
-            IdsField::Children => node.set_children(value),
-            IdsField::LabelledBy => node.set_labelled_by(value),
-            IdsField::Controls => node.set_controls(value),
-        }
+        ids_fields!(set self node (value))
     }
 }
 
@@ -45,22 +57,14 @@ impl IdField {
     pub(crate) fn of(self, node: &Node) -> Option<NodeId>
         ensures { result ≡ id_at self node.now }
     {
-        match self {
-            IdField::ActiveDescendant => node.active_descendant(),
-            IdField::PreviousOnLine => node.previous_on_line(),
-            IdField::NextOnLine => node.next_on_line(),
-        }
+        id_fields!(got self node)
     }
 
     /// Sets the field.
     pub(crate) fn set(self, value: NodeId, node: &mut Node)
         ensures { node.new ≡ with_id self (Some value) node.old }
     {
-        match self {
-            IdField::ActiveDescendant => node.set_active_descendant(value),
-            IdField::PreviousOnLine => node.set_previous_on_line(value),
-            IdField::NextOnLine => node.set_next_on_line(value),
-        }
+        id_fields!(set self node (value))
     }
 }
 
@@ -69,23 +73,7 @@ impl TextField {
     pub(crate) fn of<'a>(self, node: &'a Node) -> Option<&'a str>
         ensures { option_copied result ≡ text_at self node.now }
     {
-        match self {
-            TextField::Label => node.label(),
-            TextField::Value => node.value(),
-            TextField::Description => node.description(),
-            TextField::Placeholder => node.placeholder(),
-            TextField::RoleDescription => node.role_description(),
-            TextField::Url => node.url(),
-            TextField::AuthorId => node.author_id(),
-            TextField::HtmlId => node.html_id(),
-            TextField::ClassName => node.class_name(),
-            TextField::BrailleLabel => node.braille_label(),
-            TextField::BrailleRoleDescription => node.braille_role_description(),
-            TextField::ColumnIndexText => node.column_index_text(),
-            TextField::RowIndexText => node.row_index_text(),
-            TextField::FontFamily => node.font_family(),
-            TextField::Language => node.language(),
-        }
+        text_fields!(got self node)
     }
 
     /// Sets the field.
@@ -93,23 +81,7 @@ impl TextField {
         ensures ok { OnOk result (node.new ≡ with_text self (Some value.now) node.old) }
         ensures err { OnErr result (node.new ≡ node.old) }
     {
-        match self {
-            TextField::Label => node.set_label(value),
-            TextField::Value => node.set_value(value),
-            TextField::Description => node.set_description(value),
-            TextField::Placeholder => node.set_placeholder(value),
-            TextField::RoleDescription => node.set_role_description(value),
-            TextField::Url => node.set_url(value),
-            TextField::AuthorId => node.set_author_id(value),
-            TextField::HtmlId => node.set_html_id(value),
-            TextField::ClassName => node.set_class_name(value),
-            TextField::BrailleLabel => node.set_braille_label(value),
-            TextField::BrailleRoleDescription => node.set_braille_role_description(value),
-            TextField::ColumnIndexText => node.set_column_index_text(value),
-            TextField::RowIndexText => node.set_row_index_text(value),
-            TextField::FontFamily => node.set_font_family(value),
-            TextField::Language => node.set_language(value),
-        }
+        text_fields!(set self node (value))
     }
 }
 
@@ -118,38 +90,14 @@ impl FlagField {
     pub(crate) fn is_in(self, node: &Node) -> bool
         ensures { result ≡ flag_at self node.now }
     {
-        match self {
-            FlagField::Hidden => node.is_hidden(),
-            FlagField::ClipsChildren => node.clips_children(),
-            FlagField::Disabled => node.is_disabled(),
-            FlagField::ReadOnly => node.is_read_only(),
-            FlagField::Required => node.is_required(),
-            FlagField::Modal => node.is_modal(),
-            FlagField::Busy => node.is_busy(),
-            FlagField::Multiselectable => node.is_multiselectable(),
-            FlagField::Italic => node.is_italic(),
-            FlagField::LiveAtomic => node.is_live_atomic(),
-            FlagField::TouchTransparent => node.is_touch_transparent(),
-        }
+        flag_fields!(got self node)
     }
 
     /// Sets the flag.
     pub(crate) fn set(self, node: &mut Node)
         ensures { node.new ≡ with_flag self true node.old }
     {
-        match self {
-            FlagField::Hidden => node.set_hidden(),
-            FlagField::ClipsChildren => node.set_clips_children(),
-            FlagField::Disabled => node.set_disabled(),
-            FlagField::ReadOnly => node.set_read_only(),
-            FlagField::Required => node.set_required(),
-            FlagField::Modal => node.set_modal(),
-            FlagField::Busy => node.set_busy(),
-            FlagField::Multiselectable => node.set_multiselectable(),
-            FlagField::Italic => node.set_italic(),
-            FlagField::LiveAtomic => node.set_live_atomic(),
-            FlagField::TouchTransparent => node.set_touch_transparent(),
-        }
+        flag_fields!(set self node ())
     }
 }
 
@@ -158,10 +106,7 @@ impl NumbersField {
     pub(crate) fn of<'a>(self, node: &'a Node) -> &'a [u16]
         ensures { result.now ≡ numbers_at self node.now }
     {
-        match self {
-            NumbersField::CharacterLengths => node.character_lengths(),
-            NumbersField::WordStarts => node.word_starts(),
-        }
+        numbers_fields!(got self node)
     }
 
     /// Sets the field.
@@ -169,10 +114,7 @@ impl NumbersField {
         ensures ok { OnOk result (node.new ≡ with_numbers self value.now node.old) }
         ensures err { OnErr result (node.new ≡ node.old) }
     {
-        match self {
-            NumbersField::CharacterLengths => node.set_character_lengths(value),
-            NumbersField::WordStarts => node.set_word_starts(value),
-        }
+        numbers_fields!(set self node (value))
     }
 }
 
@@ -181,10 +123,7 @@ impl UnitsField {
     pub(crate) fn of<'a>(self, node: &'a Node) -> Option<&'a [i32]>
         ensures { option_copied result ≡ units_at self node.now }
     {
-        match self {
-            UnitsField::CharacterPositions => node.character_positions(),
-            UnitsField::CharacterWidths => node.character_widths(),
-        }
+        units_fields!(got self node)
     }
 
     /// Sets the field.
@@ -192,10 +131,7 @@ impl UnitsField {
         ensures ok { OnOk result (node.new ≡ with_units self (Some value.now) node.old) }
         ensures err { OnErr result (node.new ≡ node.old) }
     {
-        match self {
-            UnitsField::CharacterPositions => node.set_character_positions(value),
-            UnitsField::CharacterWidths => node.set_character_widths(value),
-        }
+        units_fields!(set self node (value))
     }
 }
 
@@ -204,20 +140,14 @@ impl BoolField {
     pub(crate) fn of(self, node: &Node) -> Option<bool>
         ensures { result ≡ bool_at self node.now }
     {
-        match self {
-            BoolField::Expanded => node.is_expanded(),
-            BoolField::Selected => node.is_selected(),
-        }
+        bool_fields!(got self node)
     }
 
     /// Sets the field.
     pub(crate) fn set(self, value: bool, node: &mut Node)
         ensures { node.new ≡ with_bool self (Some value) node.old }
     {
-        match self {
-            BoolField::Expanded => node.set_expanded(value),
-            BoolField::Selected => node.set_selected(value),
-        }
+        bool_fields!(set self node (value))
     }
 }
 
@@ -226,20 +156,14 @@ impl ColorField {
     pub(crate) fn of(self, node: &Node) -> Option<Color>
         ensures { result ≡ color_at self node.now }
     {
-        match self {
-            ColorField::Background => node.background_color(),
-            ColorField::Foreground => node.foreground_color(),
-        }
+        color_fields!(got self node)
     }
 
     /// Sets the field.
     pub(crate) fn set(self, value: Color, node: &mut Node)
         ensures { node.new ≡ with_color self (Some value) node.old }
     {
-        match self {
-            ColorField::Background => node.set_background_color(value),
-            ColorField::Foreground => node.set_foreground_color(value),
-        }
+        color_fields!(set self node (value))
     }
 }
 
@@ -248,22 +172,14 @@ impl DecorationField {
     pub(crate) fn of(self, node: &Node) -> Option<TextDecoration>
         ensures { result ≡ decoration_at self node.now }
     {
-        match self {
-            DecorationField::Overline => node.overline(),
-            DecorationField::Strikethrough => node.strikethrough(),
-            DecorationField::Underline => node.underline(),
-        }
+        decoration_fields!(got self node)
     }
 
     /// Sets the field.
     pub(crate) fn set(self, value: TextDecoration, node: &mut Node)
         ensures { node.new ≡ with_decoration self (Some value) node.old }
     {
-        match self {
-            DecorationField::Overline => node.set_overline(value),
-            DecorationField::Strikethrough => node.set_strikethrough(value),
-            DecorationField::Underline => node.set_underline(value),
-        }
+        decoration_fields!(set self node (value))
     }
 }
 
@@ -272,38 +188,14 @@ impl NumberField {
     pub(crate) fn of(self, node: &Node) -> Option<i64>
         ensures { result ≡ number_at self node.now }
     {
-        match self {
-            NumberField::NumericValue => node.numeric_value(),
-            NumberField::MinNumericValue => node.min_numeric_value(),
-            NumberField::MaxNumericValue => node.max_numeric_value(),
-            NumberField::NumericValueStep => node.numeric_value_step(),
-            NumberField::NumericValueJump => node.numeric_value_jump(),
-            NumberField::ScrollX => node.scroll_x(),
-            NumberField::ScrollXMin => node.scroll_x_min(),
-            NumberField::ScrollXMax => node.scroll_x_max(),
-            NumberField::ScrollY => node.scroll_y(),
-            NumberField::ScrollYMin => node.scroll_y_min(),
-            NumberField::ScrollYMax => node.scroll_y_max(),
-        }
+        number_fields!(got self node)
     }
 
     /// Sets the field.
     pub(crate) fn set(self, value: i64, node: &mut Node)
         ensures { node.new ≡ with_number self (Some value) node.old }
     {
-        match self {
-            NumberField::NumericValue => node.set_numeric_value(value),
-            NumberField::MinNumericValue => node.set_min_numeric_value(value),
-            NumberField::MaxNumericValue => node.set_max_numeric_value(value),
-            NumberField::NumericValueStep => node.set_numeric_value_step(value),
-            NumberField::NumericValueJump => node.set_numeric_value_jump(value),
-            NumberField::ScrollX => node.set_scroll_x(value),
-            NumberField::ScrollXMin => node.set_scroll_x_min(value),
-            NumberField::ScrollXMax => node.set_scroll_x_max(value),
-            NumberField::ScrollY => node.set_scroll_y(value),
-            NumberField::ScrollYMin => node.set_scroll_y_min(value),
-            NumberField::ScrollYMax => node.set_scroll_y_max(value),
-        }
+        number_fields!(set self node (value))
     }
 }
 
@@ -312,22 +204,14 @@ impl CountField {
     pub(crate) fn of(self, node: &Node) -> Option<usize>
         ensures { result ≡ count_at self node.now }
     {
-        match self {
-            CountField::Level => node.level(),
-            CountField::SizeOfSet => node.size_of_set(),
-            CountField::PositionInSet => node.position_in_set(),
-        }
+        count_fields!(got self node)
     }
 
     /// Sets the field.
     pub(crate) fn set(self, value: usize, node: &mut Node)
         ensures { node.new ≡ with_count self (Some value) node.old }
     {
-        match self {
-            CountField::Level => node.set_level(value),
-            CountField::SizeOfSet => node.set_size_of_set(value),
-            CountField::PositionInSet => node.set_position_in_set(value),
-        }
+        count_fields!(set self node (value))
     }
 }
 

@@ -4,7 +4,8 @@ ghost use Rattle.std.specs.Prelude.{◌≡◌, Some, flat_map};
 ghost use Rattle.schema.specs.NodeData.{NodeData};
 ghost use Rattle.schema.specs.declared.NodeId.{NodeId};
 ghost use Rattle.script_nodes.specs.NodeReading.{IsNode, node_args};
-ghost use Rattle.script_nodes.specs.NodeText.{all_fields, piece};
+ghost use Rattle.script_nodes.specs.FieldKinds.{all_fields};
+ghost use Rattle.script_nodes.specs.NodeText.{piece};
 ghost use Rattle.script_words.specs.Reading.{IsId, Reads, after, unread};
 
 use crate::fields::node_field;

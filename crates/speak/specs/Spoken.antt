@@ -48,12 +48,12 @@ StepsAloud old c new s result t =
 -- What a command writes. Each update is counted. A refused first update says nothing, and is reported; a query or a `print` says
 -- nothing. No tree begins where there is no memory for its mirror.
 abbrev pub Utters : Aloud → Turn → Result Unit Stop → Aloud → Type 0
-Utters s (Begun w) result t =
+Utters s (Begun comment w) result t =
     (t.numbering ≡ after_one s.numbering) × (t.reported ≡ s.reported) ×
     (((result ≡ Err Memory) × SaysNothing s t) ⊎ BeginsAloud w s result t)
-Utters s (FirstRefused why) result t =
+Utters s (FirstRefused comment why) result t =
     (t.numbering ≡ after_one s.numbering) × SaysNothing s t × ReportsRefusal t.numbering.updates why result s.reported t.reported
-Utters s (Ran old c new) result t = (t.numbering ≡ after_command s.numbering c) × StepsAloud old c new s result t
+Utters s (Ran comment old c new) result t = (t.numbering ≡ after_command s.numbering c) × StepsAloud old c new s result t
 Utters s (Asked old q new) result t = (new ≡ old) × (t ≡ s) × (result ≡ Ok tt)
 Utters s (Printed w) result t = (t ≡ s) × (result ≡ Ok tt)
 

@@ -117,7 +117,7 @@ impl<'a, 'b, O: Write, E: Write> Player for Adapter<'a, 'b, O, E> {
         × Utters (aloud_of s.numbering s.told (O.contents s.output.now) (E.contents s.errors.now)) turn result
         (aloud_of t.numbering t.told (O.contents t.output.now) (E.contents t.errors.now)) };
 
-    fn begin(&mut self, session: &Session) -> Result<(), Stop> {
+    fn begin(&mut self, _comment: &[u8], session: &Session) -> Result<(), Stop> {
         self.numbering = self.numbering.after_one();
         let heading = self.numbering.first_heading();
         let mut told = begun(self.alloc, session)?;
@@ -127,12 +127,17 @@ impl<'a, 'b, O: Write, E: Write> Player for Adapter<'a, 'b, O, E> {
     }
 
     /// Reports the refusal. An update that runs out of memory ends the run, since what it would have said is lost.
-    fn refuse(&mut self, refusal: UpdateError) -> Result<(), Stop> {
+    fn refuse(&mut self, _comment: &[u8], refusal: UpdateError) -> Result<(), Stop> {
         self.numbering = self.numbering.after_one();
         report_refusal(self.numbering.updates, refusal, self.errors)
     }
 
-    fn run(&mut self, session: &mut Session, command: Command) -> Result<(), Stop> {
+    fn run(
+        &mut self,
+        _comment: &[u8],
+        session: &mut Session,
+        command: Command,
+    ) -> Result<(), Stop> {
         self.numbering = self.numbering.after_command(&command);
         match &mut self.told {
             Some(told) => speak_step(

@@ -15,7 +15,7 @@ returns g c =
       commands = played.0;
       host = c.commands-ended.new.self.is_host_focused;
       plays =
-          subst (λ (input : Option Place). Plays g.P.Player.turns input (no_tree, c.args.player.now) played.0 c.commands-ended.result c.line_number.result end) (at_start left script c.new-script.ensures.begun c.new-script.ensures.number)
+          subst (λ (input : Option Place). Plays g.P.Player.turns input (no_tree, c.args.player.now) played.0 c.commands-ended.result c.line_number.result end) (at_start left script c.new-script.ensures.begun c.new-script.ensures.comment c.new-script.ensures.number)
           (subst (λ (number : ℕ). Plays g.P.Player.turns (option_map (place script) left) (no_tree, c.args.player.now) played.0 c.commands-ended.result number end) (sym c.line_number.ensures) played.1);
       numbered = sym c.line_number.ensures;
     }

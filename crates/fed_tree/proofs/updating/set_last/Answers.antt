@@ -2,7 +2,7 @@ use Rattle.std.proofs.Common.{◌≡◌, Bool, None, inr, refl, subst, rules}
 use Rattle.std.specs.List.{slice_get}
 use Rattle.schema.specs.UpdateData.{update_data}
 use Rattle.script_nodes.specs.Given.{Becomes, given, with_given}
-use Rattle.script_nodes.specs.NodeText.{all_fields}
+use Rattle.script_nodes.specs.FieldKinds.{all_fields}
 use Rattle.fed_tree.proofs.LastNode.{is_set, is_unset, no_field}
 use Rattle.fed_tree.proofs.updating.set_last.Goals as goal
 

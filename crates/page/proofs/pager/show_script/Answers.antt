@@ -4,7 +4,7 @@ use Rattle.atree_script.specs.Playing.{Stage, no_tree, Plays}
 use Rattle.script_lines.specs.Ends.{Tells, status_at_end}
 use Rattle.page.specs.Endings.{told_text}
 use Rattle.page.specs.Shown.{EndsPage, Shown, Shows, pages_of}
-use Rattle.page.specs.declared.sections.Summary.{Summary}
+use Rattle.page.specs.declared.sections.Titled.{Titled}
 use Rattle.page.proofs.pager.show_script.Goals as goal
 
 pub returns-clause-shows : goal.returns-clause-shows
@@ -22,13 +22,13 @@ returns-clause-shows g c =
       commands = h.commands;
       played = played;
       end = end;
-      plays = subst (λ (states : List Summary). Plays Shows (start_of (g.R.Read.remaining c.args.input.now)) (no_tree, (pages_of 0 states head, told)) h.commands played.ended played.number end) c.new.ensures.items h.plays;
+      plays = subst (λ (states : List Titled). Plays Shows (start_of (g.R.Read.remaining c.args.input.now)) (no_tree, (pages_of 0 states head, told)) h.commands played.ended played.number end) c.new.ensures.items h.plays;
       ending = ending;
       ends_as = c.ending_of-ending.ensures;
       result = c.end_page-ended.result;
       closed = closed;
       ends =
-          subst (λ (its : List Summary). EndsPage its ending c.end_page-ended.result (g.O.Write.contents pager.output.now) closed) c.deref.ensures.value
+          subst (λ (its : List Titled). EndsPage its ending c.end_page-ended.result (g.O.Write.contents pager.output.now) closed) c.deref.ensures.value
           (subst (λ x. EndsPage c.deref.result.now ending c.end_page-ended.result (g.O.Write.contents x) closed) (c.output-1.given.1 (sym c.play_shown-played.ensures.output)) c.end_page-ended.ensures);
       kept = c.end_told.ensures.printed;
       tells =

@@ -4,4 +4,4 @@ use Rattle.page.proofs.Hiding.{all_hidden}
 use Rattle.page.proofs.secrets.hidden_below.Goals as goal
 
 pub returns-then-is_in_password : goal.returns-then-is_in_password
-returns-then-is_in_password c = all_hidden (world_at c.args.node.now) (id_at c.args.node.now) (sym c.requires ∙ c.if-is_in_password.true)
+returns-then-is_in_password c = all_hidden (world_at c.args.node.now) (id_at c.args.node.now) (sym c.requires.within ∙ c.if-is_in_password.true)

@@ -7,4 +7,4 @@ use Rattle.page.proofs.secrets.hides_value_outside.Goals as goal
 pub returns : goal.returns
 returns c =
     let n = c.args.node.now in
-    runless (world_at n) (id_at n) c.requires (without_runs n (sym c.may_hold_text.ensures ∙ c.if-may_hold_text.false))
+    runless (world_at n) (id_at n) c.requires.outside (without_runs n (sym c.may_hold_text.ensures ∙ c.if-may_hold_text.false))

@@ -8,7 +8,7 @@ use Rattle.page.proofs.sections.begin_state.Goals as goal
 pub returns : goal.returns
 returns g c =
     let link = next_link c.args.number in
-    let head = heading c.args.number in
+    let head = heading c.args.number c.args.title.now in
     let cause = cause_line c.args.cause in
     let described = g.O.Write.contents c.write_cause_line.new.out in
     let after = g.O.Write.contents c.write_previous_link.new.out in

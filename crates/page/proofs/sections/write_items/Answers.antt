@@ -2,7 +2,7 @@ use Rattle.std.proofs.Common.{◌+◌, get_or, take, sym, subst}
 use Rattle.std.specs.Io.KnownBytes.{Appends}
 use Rattle.std.proofs.KnownBytes.{Appends-trans}
 use Rattle.page.specs.States.{item_text, items_from}
-use Rattle.page.specs.declared.sections.Summary.{Summary}
+use Rattle.page.specs.declared.sections.Titled.{Titled}
 use Rattle.page.proofs.Items.{items_more}
 use Rattle.page.proofs.sections.write_items.Goals as goal
 
@@ -14,6 +14,6 @@ loop-index-preserved g c =
     let before = g.O.Write.contents c.args.out.now in
     let so_far = g.O.Write.contents c.loop-index.out in
     let after = g.O.Write.contents c.write_item.new.out in
-    let told = subst (λ (it : Summary). Appends so_far after (item_text (i + 1) it)) c.index-states-index.is c.in_ok-write_item.ensures in
+    let told = subst (λ (it : Titled). Appends so_far after (item_text (i + 1) it)) c.index-states-index.is c.in_ok-write_item.ensures in
     subst (Appends before after) (sym (items_more states i item c.loop-index-test.true))
     (Appends-trans before so_far after (items_from 1 (take i states)) (item_text (i + 1) (get_or states i item)) c.loop-index.invariant told)

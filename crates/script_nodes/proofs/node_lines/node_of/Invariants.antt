@@ -1,7 +1,8 @@
 use Rattle.std.proofs.Common.{◌≡◌, flat_map, option_copied}
 use Rattle.schema.specs.NodeData.{NodeData}
 use Rattle.script_nodes.specs.NodeReading.{IsNode}
-use Rattle.script_nodes.specs.NodeText.{all_fields, piece}
+use Rattle.script_nodes.specs.FieldKinds.{all_fields}
+use Rattle.script_nodes.specs.NodeText.{piece}
 use Rattle.script_words.specs.Reading.{after}
 use Rattle.script_words.specs.Words.{left}
 use Rattle.script_nodes.proofs.NodeLoop.{IsRead}

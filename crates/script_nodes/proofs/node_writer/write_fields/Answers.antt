@@ -4,7 +4,8 @@ use Rattle.std.proofs.lemmas.List.{take_all}
 use Rattle.std.proofs.lemmas.List.Folds.{flat_map-map}
 use Rattle.schema.specs.NodeData.{NodeData}
 use Rattle.script_nodes.specs.declared.field_kinds.Field.{Field}
-use Rattle.script_nodes.specs.NodeText.{all_fields, fields_text, piece}
+use Rattle.script_nodes.specs.FieldKinds.{all_fields}
+use Rattle.script_nodes.specs.NodeText.{fields_text, piece}
 use Rattle.script_nodes.proofs.FieldNames.{has_its_name}
 use Rattle.script_nodes.proofs.node_writer.write_fields.Goals as goal
 

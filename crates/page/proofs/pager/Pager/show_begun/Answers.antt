@@ -13,7 +13,7 @@ returns-clause-shows g c =
     on_ok_weaker c.write_tree.result
     (λ tree. record {
       noted = g.O.Write.contents new.output.now;
-      opens = subst (λ (it : Summary). Opens it before noted) c.first_summary.ensures c.in_ok-show_quiet.ensures.opens;
+      opens = subst (λ (it : Summary). Opens c.args.title.now it before noted) c.first_summary.ensures c.in_ok-show_quiet.ensures.opens;
       tree = tree;
     })
     c.write_tree.ensures

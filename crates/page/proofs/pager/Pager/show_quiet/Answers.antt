@@ -11,7 +11,7 @@ returns-clause-opens g c =
     on_ok_weaker c.note.result
     (λ noted. record {
       begun = begun;
-      begins = subst (λ (n : ℕ). Appends before begun (state_begun n c.args.it.cause)) c.next_number.ensures c.in_ok-begin_state.ensures;
+      begins = subst (λ (n : ℕ). Appends before begun (state_begun n c.args.title.now c.args.it.cause)) c.next_number.ensures c.in_ok-begin_state.ensures;
       notes = noted;
     })
     c.note.ensures.notes

@@ -12,7 +12,7 @@ returns-clause-shows g c =
     let it = c.in_ok-it.it in
     record {
       begun = begun;
-      begins = subst (λ (n : ℕ). Appends before begun (state_begun n c.args.cause)) c.next_number-number.ensures c.in_ok-begin_state.ensures;
+      begins = subst (λ (n : ℕ). Appends before begun (state_begun n c.args.title.now c.args.cause)) c.next_number-number.ensures c.in_ok-begin_state.ensures;
       told = told;
       tally = it.tally;
       marks = it.marks;

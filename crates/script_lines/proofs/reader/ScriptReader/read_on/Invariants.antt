@@ -1,5 +1,5 @@
 use Rattle.script_lines.proofs.Places.{IsAt}
-use Rattle.script_lines.proofs.reader.ScriptReader.next_command.Given as goal
+use Rattle.script_lines.proofs.reader.ScriptReader.read_on.Given as goal
 
 -- lines are passed so far
 abbrev pub invariant-loop : goal.invariant-loop
