@@ -7,8 +7,6 @@ mod error;
 mod fits;
 mod listed;
 mod search;
-#[cfg(test)]
-mod tests;
 
 pub use by::By;
 pub use condition::{AnyNode, CommonFilter, Condition, Meeting};

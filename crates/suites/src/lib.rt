@@ -1,9 +1,10 @@
-//! Tests of trees, texts and sessions, and what they are made of.
+//! Tests of trees, texts and queries, and what they are made of.
 #![tactic(auto)]
 
 #[cfg(test)]
-mod session_tests;
-pub mod sketches;
+mod query_tests;
+#[cfg(test)]
+mod sketches;
 #[cfg(test)]
 mod text_tests;
 #[cfg(test)]

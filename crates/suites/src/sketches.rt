@@ -1,9 +1,8 @@
-//! What tests are made of: nodes, updates and texts as plain data, random updates, and a handler that records events.
+//! What tests are made of: nodes, updates and texts as plain data, and a handler that records events.
 
 mod fields;
 mod growing;
 pub mod ids;
-pub mod placed;
 pub mod recorder;
 pub mod small_texts;
 pub mod updates;

@@ -1,8 +1,5 @@
-//! Tests of texts, beside plain lists of their runs.
+//! Tests of texts: a table of what is asked of small ones, and ranges that are kept over an update.
 
 mod asking;
-mod pairs;
-mod spoilt;
 mod tables;
 mod weak;
-mod writers;

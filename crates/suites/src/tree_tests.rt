@@ -1,7 +1,6 @@
-//! Tests of trees: walks from both ends, look-ups, and the events that handlers and mirrors get.
+//! Tests of trees: walks from both ends, look-ups, and what handlers see.
 
 mod asking;
 mod counted;
-mod mirrors;
 mod mixtures;
 mod walked;

@@ -16,15 +16,14 @@ pub enum Has {
     Graft(u128),
     Label(&'static str),
     Value(&'static str),
+    Hidden,
     // runs of text
-    /// A value of so many `a`, each a character, by the call that takes wide numbers or by the one that takes bytes.
+    /// A value of so many `a`, each a character.
     Letters(usize),
-    LettersInBytes(usize),
     /// How many bytes each character has.
     Lengths(&'static [u16]),
     /// With which characters words start.
     Words(&'static [u16]),
-    WordsInBytes(&'static [u8]),
     Previous(u64),
     Next(u64),
     Positions(&'static [i32]),
@@ -54,28 +53,20 @@ fn selected(anchor: Spot, focus: Spot) -> TextSelection {
 }
 
 /// Gives the node a value of so many letters.
-fn give_letters(
-    alloc: Global,
-    node: &mut Node,
-    count: usize,
-    is_in_bytes: bool,
-) -> Result<(), AllocError> {
+fn give_letters(alloc: Global, node: &mut Node, count: usize) -> Result<(), AllocError> {
     let mut value = String::new(alloc);
     for _ in 0..count {
         value.push('a')?;
     }
     node.set_value(&value)?;
-    if is_in_bytes {
-        node.set_character_lengths_u8(&vec![in alloc; 1u8; count]?)
-    } else {
-        node.set_character_lengths(&vec![in alloc; 1u16; count]?)
-    }
+    node.set_character_lengths(&vec![in alloc; 1u16; count]?)
 }
 
 /// Sets the node's fields that need no allocation.
 fn give_plain(node: &mut Node, has: Has) {
     match has {
         Has::Graft(name) => node.set_tree_id(tree_id(name)),
+        Has::Hidden => node.set_hidden(),
         Has::Previous(run) => node.set_previous_on_line(NodeId(run)),
         Has::Next(run) => node.set_next_on_line(NodeId(run)),
         Has::Selection(anchor, focus) => node.set_text_selection(selected(anchor, focus)),
@@ -95,11 +86,9 @@ fn give(alloc: Global, node: &mut Node, has: Has) -> Result<(), AllocError> {
         Has::Controls(ids) => node.set_controls(&node_ids(alloc, ids)?),
         Has::Label(text) => node.set_label(text),
         Has::Value(text) => node.set_value(text),
-        Has::Letters(count) => give_letters(alloc, node, count, false),
-        Has::LettersInBytes(count) => give_letters(alloc, node, count, true),
+        Has::Letters(count) => give_letters(alloc, node, count),
         Has::Lengths(lengths) => node.set_character_lengths(lengths),
         Has::Words(words) => node.set_word_starts(words),
-        Has::WordsInBytes(words) => node.set_word_starts_u8(words),
         Has::Positions(positions) => node.set_character_positions(positions),
         Has::Widths(widths) => node.set_character_widths(widths),
         _ => {

@@ -1,8 +1,8 @@
 //! Small texts.
 
 use crate::sketches::Has::{
-    Bounds, Children, Direction, FontSize, LabelledBy, Lengths, Letters, LettersInBytes, Move,
-    Positions, Selection, Value, Widths, Words, WordsInBytes,
+    Bounds, Children, Direction, FontSize, Lengths, Letters, Move, Positions, Selection, Value,
+    Widths, Words,
 };
 use crate::sketches::Sketch;
 use schema::{Role, TextDirection};
@@ -23,16 +23,6 @@ const PASSWORD: Sketch = Sketch(0, Role::PasswordInput, &[Children(&[1, 2])]);
 pub const LETTERS: Text = &[
     INPUT,
     Sketch(1, Role::TextRun, &[Letters(300), Words(&[0, 44])]),
-];
-
-/// The same, set by bytes.
-pub const LETTERS_IN_BYTES: Text = &[
-    INPUT,
-    Sketch(
-        1,
-        Role::TextRun,
-        &[LettersInBytes(300), WordsInBytes(&[0, 44])],
-    ),
 ];
 
 /// 400 letters; words start at 0 and at 300, which is 44 when it is cut to a byte.
@@ -231,28 +221,8 @@ pub const SECRET_WORDS: Text = &[
     SS,
 ];
 
-/// A password of one character again and again.
-pub const ALIKE: Text = &[
-    Sketch(0, Role::PasswordInput, &[Children(&[1])]),
-    Sketch(
-        1,
-        Role::TextRun,
-        &[Value("aaaa"), Lengths(&[1, 1, 1, 1]), Words(&[])],
-    ),
-];
-
 /// A value of its own, and no run.
 pub const OWN_VALUE: Text = &[Sketch(0, Role::MultilineTextInput, &[Value("x")])];
-
-/// The same of a password.
-pub const SECRET_WITHOUT_RUNS: Text = &[Sketch(0, Role::PasswordInput, &[Value("ab")])];
-
-/// A check box that two labels name.
-pub const LABELLED: Text = &[
-    Sketch(0, Role::CheckBox, &[Children(&[1, 2]), LabelledBy(&[1, 2])]),
-    Sketch(1, Role::Label, &[Value("Check email every")]),
-    Sketch(2, Role::Label, &[Value("minutes")]),
-];
 
 /// Two runs that look alike, and one of letters of another size.
 pub const SIZES: Text = &[

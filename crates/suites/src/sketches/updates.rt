@@ -1,6 +1,6 @@
 //! Updates of small interfaces.
 
-use crate::sketches::Has::{Children, Graft, Label};
+use crate::sketches::Has::{Children, Graft};
 use crate::sketches::{BROUGHT, CHANGED, Sent, Sketch};
 use schema::Role::GenericContainer;
 
@@ -9,55 +9,15 @@ const WITH_CHILD: Sketch = Sketch(0, GenericContainer, &[Children(&[1])]);
 const CHILD: Sketch = Sketch(1, GenericContainer, &[]);
 
 /// A window with a button.
-pub const PLAIN: Sent = Sent {
+const PLAIN: Sent = Sent {
     nodes: &[WITH_CHILD, CHILD],
     ..BROUGHT
-};
-
-/// The window without its button.
-pub const BUTTON_DROPPED: Sent = Sent {
-    nodes: &[Sketch(0, GenericContainer, &[])],
-    ..CHANGED
-};
-
-/// The focus is on the window's child.
-pub const FOCUS_ON_CHILD: Sent = Sent {
-    focus: 1,
-    ..CHANGED
-};
-
-/// The window's button is the root, and the window goes.
-pub const CHILD_AS_ROOT: Sent = Sent {
-    root: Some(1),
-    ..FOCUS_ON_CHILD
 };
 
 /// A window whose child grafts a tree.
 pub const WINDOW: Sent = Sent {
     nodes: &[WITH_CHILD, Sketch(1, GenericContainer, &[Graft(1)])],
     ..BROUGHT
-};
-
-/// The tree that is grafted: a document with a button.
-pub const DOCUMENT: Sent = Sent { tree: 1, ..PLAIN };
-
-/// The document gets a label,
-pub const LABELLED: Sent = Sent {
-    tree: 1,
-    nodes: &[Sketch(0, GenericContainer, &[Children(&[1]), Label("label")])],
-    ..CHANGED
-};
-
-/// and again with tree info.
-pub const LABELLED_AGAIN: Sent = Sent {
-    root: Some(0),
-    ..LABELLED
-};
-
-/// The window's graft names another tree.
-pub const GRAFT_RENAMED: Sent = Sent {
-    nodes: &[Sketch(1, GenericContainer, &[Graft(2)])],
-    ..CHANGED
 };
 
 /// A document whose child grafts another tree,

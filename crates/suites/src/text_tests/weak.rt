@@ -2,10 +2,10 @@
 
 use crate::sketches::Has::{Children, Lengths, Value, Words};
 use crate::sketches::recorder::Recorder;
-use crate::sketches::small_texts::{LETTERS, LETTERS_IN_BYTES, NOTHING, OWN_VALUE, THIRD, Text};
-use crate::sketches::{CHANGED, Sent, Sketch, Spot, nodes_of, planted, root_of};
+use crate::sketches::small_texts::{NOTHING, OWN_VALUE, THIRD, Text};
+use crate::sketches::{CHANGED, Sent, Sketch, Spot, planted, root_of};
 use crate::text_tests::asking::Place::At;
-use crate::text_tests::asking::Span::{Between, Selection};
+use crate::text_tests::asking::Span::Between;
 use crate::text_tests::asking::{both_ends, range};
 use accesskit_consumer::WeakTextRange;
 use accesskit_consumer::node::NodeRef;
@@ -91,38 +91,5 @@ fn weak_ranges_are_found_in_states_and_in_views(rt: HostRuntime) -> Result<(), F
         let given = upgraded_elsewhere(rt.alloc(), text)?;
         assert!(rt; given == [*wanted; 2], "row {row}");
     }
-    Ok(())
-}
-
-/// The third of four letters, which is selected from the end of the first run.
-fn third(alloc: Global) -> Result<WeakTextRange, Fail> {
-    let tree = planted(alloc, THIRD)?;
-    Ok(range(&root_of(&tree), Selection)?.downgrade(alloc)?)
-}
-
-/// Whether a range that was kept starts in the second run at this index,
-fn starts_at(weak: &WeakTextRange, index: usize) -> bool {
-    let (path, number) = weak.start_comparable();
-    path.as_slice() == [1usize].as_slice() && *number == index
-}
-
-/// and ends there.
-fn ends_at(weak: &WeakTextRange, index: usize) -> bool {
-    let (path, number) = weak.end_comparable();
-    path.as_slice() == [1usize].as_slice() && *number == index
-}
-
-#[test]
-fn weak_ranges_have_paths(rt: HostRuntime) -> Result<(), Fail> {
-    let weak = third(rt.alloc())?;
-    assert!(rt; starts_at(&weak, 0) && ends_at(&weak, 1));
-    Ok(())
-}
-
-#[test]
-fn bytes_set_what_wide_numbers_set(rt: HostRuntime) -> Result<(), Fail> {
-    let bytes = nodes_of(rt.alloc(), LETTERS_IN_BYTES)?;
-    let wide = nodes_of(rt.alloc(), LETTERS)?;
-    assert!(rt; bytes.as_slice() == wide.as_slice());
     Ok(())
 }

@@ -2,8 +2,7 @@
 
 use crate::sketches::ids::id;
 use crate::sketches::recorder::{Recorder, Told};
-use crate::sketches::updates::{INNER_DOCUMENT, INNER_MOVED, OUTER_DOCUMENT, WINDOW};
-use crate::sketches::{Has, first_update, grown_by, node_of};
+use crate::sketches::{Has, first_update, node_of};
 use schema::{Node, NodeBuilder, NodeId, Role, TreeId, TreeUpdate};
 use std::alloc::{AllocError, Global};
 use std::test::Fail;
@@ -109,20 +108,6 @@ fn look_ups_are_within_their_bound(rt: HostRuntime) -> Result<(), Fail> {
     Ok(())
 }
 
-/// Sends a window whose graft moves.
-fn moved(alloc: Global) -> Result<(Recorder, u128), Fail> {
-    let tree = grown_by(alloc, &[WINDOW, OUTER_DOCUMENT, INNER_DOCUMENT], false)?;
-    count_sent(alloc, tree, INNER_MOVED.update(alloc)?)
-}
-
-#[test]
-fn graft_that_moves_is_counted(rt: HostRuntime) -> Result<(), Fail> {
-    let (recorder, made) = moved(rt.alloc())?;
-    assert!(rt; 0 < made && made <= 208);
-    assert!(rt; recorder.told.len() == 6);
-    Ok(())
-}
-
 /// The path to the last node of a chain of so many.
 fn path_to_last(alloc: Global, count: u64) -> Result<Vec<usize>, Fail> {
     let tree = tree_of(alloc, Shape::Chain, count)?;
@@ -136,34 +121,6 @@ fn end_of_a_chain_has_a_path(rt: HostRuntime) -> Result<(), Fail> {
     assert!(rt; path.len() == 99_999);
     for index in &path {
         assert!(rt; *index == 0);
-    }
-    Ok(())
-}
-
-/// Sends a label of a node, whether or not it is accepted, and says whether it is; and counts on.
-fn sent(alloc: Global, tree: &mut Tree, named: u64, steps: &mut Steps) -> Result<bool, Fail> {
-    let mut recorder = Recorder::new(alloc);
-    let update = naming(alloc, named, LABEL)?;
-    let answer = tree.update_and_process_changes_counted(update, &mut recorder, steps);
-    Ok(answer.is_ok())
-}
-
-/// How many look-ups there were.
-fn count(steps: &Steps) -> u128 {
-    steps.count()
-}
-
-/// The count goes on from where it was, also over an update that is refused.
-#[test]
-fn steps_add_up(rt: HostRuntime) -> Result<(), Fail> {
-    let mut tree = tree_of(rt.alloc(), Shape::Chain, 3)?;
-    let mut steps = Steps::new();
-    let mut before = 0u128;
-    for (named, is_accepted) in [(2, true), (7, false), (2, true)] {
-        assert!(rt; sent(rt.alloc(), &mut tree, named, &mut steps)? == is_accepted);
-        let after = count(&steps);
-        assert!(rt; before < after, "{named}");
-        before = after;
     }
     Ok(())
 }

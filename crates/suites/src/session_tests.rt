@@ -1,4 +1,0 @@
-//! Tests of sessions: runs with a mirror beside them.
-
-mod mirrored;
-mod sent;
