@@ -139,6 +139,50 @@ fn both_ends_of_a_walk_are_in_one_list(rt: HostRuntime) -> Result<(), Fail> {
     Ok(())
 }
 
+/// How many nodes or ids a walk says that it has left: at least so many, and at most.
+type Hint = (usize, Option<usize>);
+
+fn ids_below(node: &NodeRef) -> Hint {
+    node.child_ids().size_hint()
+}
+
+fn ids_after(node: &NodeRef) -> Hint {
+    node.following_sibling_ids().size_hint()
+}
+
+fn ids_before(node: &NodeRef) -> Hint {
+    node.preceding_sibling_ids().size_hint()
+}
+
+fn below(node: &NodeRef) -> Hint {
+    node.children().size_hint()
+}
+
+fn after(node: &NodeRef) -> Hint {
+    node.following_siblings().size_hint()
+}
+
+fn before(node: &NodeRef) -> Hint {
+    node.preceding_siblings().size_hint()
+}
+
+/// Those of the nodes below a node, after it and before it, each of ids and of nodes.
+fn hints(node: &NodeRef) -> [[Hint; 2]; 3] {
+    [
+        [ids_below(node), below(node)],
+        [ids_after(node), after(node)],
+        [ids_before(node), before(node)],
+    ]
+}
+
+#[test]
+fn plain_walks_say_how_many_are_left(rt: HostRuntime) -> Result<(), Fail> {
+    let tree = planted(rt.alloc(), FAMILY)?;
+    let (one, two) = ((1, Some(1)), (2, Some(2)));
+    assert!(rt; hints(&shown(&tree, 0, 2)?) == [[two, two], [two, two], [one, one]]);
+    Ok(())
+}
+
 /// What a walk from the root of a tree gives.
 fn walked_in(
     alloc: Global,
