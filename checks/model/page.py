@@ -144,12 +144,19 @@ def row(world, id, number, marks):
     }
 
 
+def in_box(world, id):
+    """What stands in its box: its label, or else its value, unless the first of its children is a run with a box, where that stands."""
+    first = children_of(world, id)[:1]
+    is_in_run = any(world.nodes[it].role == "TextRun" and world.nodes[it].bounds is not None for it in first)
+    return None if is_in_run and shown_label(world, id) is None else caption(world, id)
+
+
 def drawn(world, id, number, marks):
     """The box of a node that isn't left out, and what stands in it."""
     box = bounding_box(world, id)
     look = "" if common_filter(world, id) == INCLUDED else "t", marks.get(id, "")[:1]
     classes = " ".join(filter(None, look)) or "n"
-    return f"#s{number}-{id[0]}-{id[1]}", classes, box[:2] + (max(box[2] - box[0], 1), max(box[3] - box[1], 1)), caption(world, id)
+    return f"#s{number}-{id[0]}-{id[1]}", classes, box[:2] + (max(box[2] - box[0], 1), max(box[3] - box[1], 1)), in_box(world, id)
 
 
 # ---- what has become of a state

@@ -10,6 +10,7 @@ use crate::places::Place;
 use crate::shown_texts::{Texts, caption_text};
 use accesskit_consumer::{FilterResult, FullNodeId, NodeRef};
 use html::write_escaped;
+use schema::Role;
 use std::io::{self, Write};
 
 /// The frame of a picture of these nodes, if one of them has a box and is not left out.
@@ -200,7 +201,23 @@ fn write_rect<O: Write>(class: &str, rect: Frame, out: &mut O) -> io::Result<()>
     )
 }
 
-/// Writes a node's label, or else its value, into its box.
+/// What a node's box shows: its label, or else its value, unless its first run has a box, where that is shown.
+fn text_in_box<'t>(node: NodeRef, texts: Texts<'t>) -> Option<&'t str> {
+    if texts.label.is_none() && has_run_with_box(node) {
+        return None;
+    }
+    caption_text(texts)
+}
+
+/// Whether the first child of a node is a run that has a box.
+fn has_run_with_box(node: NodeRef) -> bool {
+    match node.children().next() {
+        Some(child) => child.role() == Role::TextRun && child.has_bounds(),
+        None => false,
+    }
+}
+
+/// Writes what a node's box shows into it.
 fn write_caption<O: Write>(
     frame: Frame,
     rect: Frame,
@@ -208,7 +225,7 @@ fn write_caption<O: Write>(
     texts: Texts,
     out: &mut O,
 ) -> io::Result<()> {
-    let Some(text) = caption_text(texts) else {
+    let Some(text) = text_in_box(place.node, texts) else {
         return Ok(());
     };
     match place.node.child_ids().next() {
