@@ -13,8 +13,8 @@ use Rattle.fed_tree.specs.Fed.{Fed}
 use Rattle.fed_tree.specs.declared.events.Event.{Event}
 use Rattle.fed_tree.specs.declared.feeding.FeedError.{FeedError}
 use Rattle.fed_tree.specs.declared.feeding.FeedError.TheVariants as feed
-use Rattle.fed_tree.specs.declared.reading.Unread.{Unread}
-use Rattle.fed_tree.specs.declared.reading.Unread.TheVariants as unread
+use Rattle.fed_tree.specs.declared.fed_lines.Unread.{Unread}
+use Rattle.fed_tree.specs.declared.fed_lines.Unread.TheVariants as unread
 use Rattle.fed_tree.specs.declared.stage.Stage.{Stage}
 
 -- ---- reading

@@ -3,7 +3,7 @@ ghost use Rattle.std.specs.Prelude.{◌≡◌, [], None, Some, false, option_map
 ghost use Rattle.fed_tree.specs.Feeding.{CarriesOutAll, Feeds};
 
 use crate::events::{Event, Events};
-use crate::reading::{Unread, read_commands};
+use crate::fed_lines::{Unread, read_commands};
 use crate::stage::Stage;
 use schema::TreeUpdate;
 use script_lines::ScriptCommand;

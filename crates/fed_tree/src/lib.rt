@@ -3,9 +3,9 @@
 #![tactic(auto)]
 
 mod events;
+mod fed_lines;
 mod feeding;
 mod flags;
-mod reading;
 mod reads;
 mod shown;
 mod stage;

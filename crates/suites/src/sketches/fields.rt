@@ -62,35 +62,59 @@ fn give_letters(alloc: Global, node: &mut Node, count: usize) -> Result<(), Allo
     node.set_character_lengths(&vec![in alloc; 1u16; count]?)
 }
 
+fn give_ids(node: &mut Node, has: Has, ids: &[NodeId]) -> Result<(), AllocError> {
+    match has {
+        Has::Children(_) => node.set_children(ids),
+        Has::LabelledBy(_) => node.set_labelled_by(ids),
+        _ => node.set_controls(ids),
+    }
+}
+
+/// Gives a run what it has for each character or word.
+fn give_list(node: &mut Node, has: Has) -> Result<(), AllocError> {
+    match has {
+        Has::Lengths(lengths) => node.set_character_lengths(lengths),
+        Has::Words(words) => node.set_word_starts(words),
+        Has::Positions(positions) => node.set_character_positions(positions),
+        Has::Widths(widths) => node.set_character_widths(widths),
+        _ => Ok(()),
+    }
+}
+
+fn give_place(node: &mut Node, has: Has) {
+    match has {
+        Has::Previous(run) => node.set_previous_on_line(NodeId(run)),
+        Has::Next(run) => node.set_next_on_line(NodeId(run)),
+        Has::Bounds(x0, y0, x1, y1) => node.set_bounds(Rect::new(x0, y0, x1, y1)),
+        Has::Move(x, y) => node.set_transform(Translation::new(x, y)),
+        _ => {}
+    }
+}
+
 /// Sets the node's fields that need no allocation.
 fn give_plain(node: &mut Node, has: Has) {
     match has {
         Has::Graft(name) => node.set_tree_id(tree_id(name)),
         Has::Hidden => node.set_hidden(),
-        Has::Previous(run) => node.set_previous_on_line(NodeId(run)),
-        Has::Next(run) => node.set_next_on_line(NodeId(run)),
         Has::Selection(anchor, focus) => node.set_text_selection(selected(anchor, focus)),
-        Has::Bounds(x0, y0, x1, y1) => node.set_bounds(Rect::new(x0, y0, x1, y1)),
-        Has::Move(x, y) => node.set_transform(Translation::new(x, y)),
         Has::Direction(direction) => node.set_text_direction(direction),
         Has::FontSize(size) => node.set_font_size(size),
-        _ => {}
+        _ => give_place(node, has),
     }
 }
 
 /// Gives the node what it is to have.
 fn give(alloc: Global, node: &mut Node, has: Has) -> Result<(), AllocError> {
     match has {
-        Has::Children(ids) => node.set_children(&node_ids(alloc, ids)?),
-        Has::LabelledBy(ids) => node.set_labelled_by(&node_ids(alloc, ids)?),
-        Has::Controls(ids) => node.set_controls(&node_ids(alloc, ids)?),
+        Has::Children(ids) | Has::LabelledBy(ids) | Has::Controls(ids) => {
+            give_ids(node, has, &node_ids(alloc, ids)?)
+        }
         Has::Label(text) => node.set_label(text),
         Has::Value(text) => node.set_value(text),
         Has::Letters(count) => give_letters(alloc, node, count),
-        Has::Lengths(lengths) => node.set_character_lengths(lengths),
-        Has::Words(words) => node.set_word_starts(words),
-        Has::Positions(positions) => node.set_character_positions(positions),
-        Has::Widths(widths) => node.set_character_widths(widths),
+        Has::Lengths(_) | Has::Words(_) | Has::Positions(_) | Has::Widths(_) => {
+            give_list(node, has)
+        }
         _ => {
             give_plain(node, has);
             Ok(())

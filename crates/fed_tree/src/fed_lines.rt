@@ -1,4 +1,4 @@
-//! Reading all commands of some lines.
+//! Reading all commands of the lines that are fed.
 ghost use Rattle.fed_tree.specs.Feeding.{ReadsCommands};
 
 use script_lines::{ScriptCommand, ScriptReader, Stop};
