@@ -32,8 +32,8 @@ fn count<F: Filter, C: Condition>(
     Ok(tree.state().view().find_all(alloc, by)?.len())
 }
 
-/// The id of the only node of the state that fits, or why there is none.
-fn told<F: Filter, C: Condition>(
+/// The id of the only node of the state that fits, or the message of the error.
+fn answer<F: Filter, C: Condition>(
     alloc: Global,
     tree: &Tree,
     by: &By<'_, F, C>,
@@ -47,9 +47,9 @@ fn told<F: Filter, C: Condition>(
     }
 }
 
-/// What is told of the button with this label.
+/// The same of the button with this label.
 fn button(alloc: Global, tree: &Tree, label: &str) -> Result<String, AllocError> {
-    told(alloc, tree, &By::new().role(Role::Button).label(label))
+    answer(alloc, tree, &By::new().role(Role::Button).label(label))
 }
 
 #[test]
@@ -57,8 +57,8 @@ fn nodes_are_found(rt: HostRuntime) -> Result<(), Fail> {
     let alloc = rt.alloc();
     let tree = planted(alloc, WINDOW)?;
     assert!(rt; button(alloc, &tree, "Send now")?.as_str() == "2");
-    assert!(rt; told(alloc, &tree, &By::new().text("Two letters"))?.as_str() == "1");
-    assert!(rt; told(alloc, &tree, &By::new().label_contains("later"))?.as_str() == "3");
+    assert!(rt; answer(alloc, &tree, &By::new().text("Two letters"))?.as_str() == "1");
+    assert!(rt; answer(alloc, &tree, &By::new().label_contains("later"))?.as_str() == "3");
     assert!(rt; count(alloc, &tree, &By::new())? == 4);
     Ok(())
 }
@@ -80,7 +80,7 @@ fn other_places_and_filters_are_searched(rt: HostRuntime) -> Result<(), Fail> {
     let slider = slider.filter(|_: &NodeRef<'_>| FilterResult::Include);
     assert!(rt; count(alloc, &tree, &slider)? == 1);
     let second = By::new().meets(|node: &NodeRef<'_>| node.id().node == NodeId(3));
-    assert!(rt; told(alloc, &tree, &second)?.as_str() == "3");
+    assert!(rt; answer(alloc, &tree, &second)?.as_str() == "3");
     Ok(())
 }
 
@@ -93,11 +93,11 @@ fn messages_help(rt: HostRuntime) -> Result<(), Fail> {
             == "no Button, label \"Send\"; the labels of this role are \"Send now\" \"Send later\""
     );
     assert!(rt;
-        told(alloc, &tree, &By::new().role(Role::Slider).label("Size"))?.as_str()
+        answer(alloc, &tree, &By::new().role(Role::Slider).label("Size"))?.as_str()
             == "no Slider, label \"Size\"; the roles are Window Label Button"
     );
     assert!(rt;
-        told(alloc, &tree, &By::new().role(Role::Button))?.as_str() == "2 nodes fit Button: 2 3"
+        answer(alloc, &tree, &By::new().role(Role::Button))?.as_str() == "2 nodes fit Button: 2 3"
     );
     Ok(())
 }
