@@ -23,6 +23,11 @@ fn find<'a>(
     Ok(None)
 }
 
+/// Whether a node can be clicked, as adapters show it.
+fn is_clickable(node: &NodeRef) -> bool {
+    node.is_clickable(&common_filter)
+}
+
 /// Prints whether there is a button with this label, and whether it can be clicked.
 fn print_button(
     rt: &impl Print,
@@ -37,7 +42,7 @@ fn print_button(
     let id = button.id().node;
     println!(rt;
         "button {label:?}: node {id}, clickable {}",
-        button.is_clickable(&common_filter)
+        is_clickable(&button)
     )?;
     Ok(())
 }
