@@ -29,6 +29,31 @@ pub static SETTINGS: [Setting; 9] = [
     Setting::CharacterPositions,
 ];
 
+/// What is set.
+struct Given {
+    text: &'static str,
+    ids: &'static [NodeId],
+    shorts: &'static [u16],
+    bytes: &'static [u8],
+    numbers: &'static [i32],
+}
+
+static LITTLE: Given = Given {
+    text: "a text",
+    ids: &[NodeId(3)],
+    shorts: &[1],
+    bytes: &[4],
+    numbers: &[7],
+};
+
+static MORE: Given = Given {
+    text: "a longer text than before",
+    ids: &[NodeId(1), NodeId(2)],
+    shorts: &[1, 2, 3],
+    bytes: &[4, 5, 6],
+    numbers: &[7, 8, 9],
+};
+
 /// Adds an id.
 fn push(node: &mut Node, setting: Setting) -> Result<(), AllocError> {
     match setting {
@@ -39,46 +64,22 @@ fn push(node: &mut Node, setting: Setting) -> Result<(), AllocError> {
 }
 
 /// Sets what a run has for each of its characters or words.
-fn set_run(node: &mut Node, setting: Setting, numbers: &[u8]) -> Result<(), AllocError> {
+fn set_run(node: &mut Node, setting: Setting, given: &Given) -> Result<(), AllocError> {
     match setting {
-        Setting::CharacterLengthsInBytes => node.set_character_lengths_u8(numbers),
-        _ => node.set_word_starts_u8(numbers),
-    }
-}
-
-/// Makes the call with little,
-fn set_little(node: &mut Node, setting: Setting) -> Result<(), AllocError> {
-    match setting {
-        Setting::Label => node.set_label("a text"),
-        Setting::Children => node.set_children(&[NodeId(3)]),
-        Setting::CharacterLengths => node.set_character_lengths(&[1]),
-        Setting::CharacterPositions => node.set_character_positions(&[7]),
-        Setting::CharacterLengthsInBytes | Setting::WordStartsInBytes => {
-            set_run(node, setting, &[4])
-        }
-        _ => push(node, setting),
-    }
-}
-
-/// or with more.
-fn set_more(node: &mut Node, setting: Setting) -> Result<(), AllocError> {
-    match setting {
-        Setting::Label => node.set_label("a longer text than before"),
-        Setting::Children => node.set_children(&[NodeId(1), NodeId(2)]),
-        Setting::CharacterLengths => node.set_character_lengths(&[1, 2, 3]),
-        Setting::CharacterPositions => node.set_character_positions(&[7, 8, 9]),
-        Setting::CharacterLengthsInBytes | Setting::WordStartsInBytes => {
-            set_run(node, setting, &[4, 5, 6])
-        }
-        _ => push(node, setting),
+        Setting::CharacterLengths => node.set_character_lengths(given.shorts),
+        Setting::CharacterLengthsInBytes => node.set_character_lengths_u8(given.bytes),
+        Setting::WordStartsInBytes => node.set_word_starts_u8(given.bytes),
+        _ => node.set_character_positions(given.numbers),
     }
 }
 
 /// Makes the call, for the first time or again with more.
 pub fn set(node: &mut Node, setting: Setting, is_again: bool) -> Result<(), AllocError> {
-    if is_again {
-        set_more(node, setting)
-    } else {
-        set_little(node, setting)
+    let given = if is_again { &MORE } else { &LITTLE };
+    match setting {
+        Setting::Label => node.set_label(given.text),
+        Setting::Children => node.set_children(given.ids),
+        Setting::PushChild | Setting::PushLabelledBy | Setting::PushControls => push(node, setting),
+        _ => set_run(node, setting, given),
     }
 }

@@ -89,20 +89,25 @@ fn other_places_and_filters_are_searched(rt: HostRuntime) -> Result<(), Fail> {
     Ok(())
 }
 
-/// The message where no node with this role has this label.
-fn message(alloc: Global, state: StateRef, role: Role, label: &str) -> Result<String, AllocError> {
-    match state.find_one(alloc, &By::new().role(role).label(label)) {
+/// The message of a query that gives no node.
+fn message_of(alloc: Global, found: Result<NodeRef, QueryError>) -> Result<String, AllocError> {
+    match found {
         Ok(_) => Ok(String::new(alloc)),
         Err(error) => format!(in alloc; "{error}"),
     }
 }
 
-/// The message where more than one node has this role.
+/// That where no node with this role has this label,
+fn message(alloc: Global, state: StateRef, role: Role, label: &str) -> Result<String, AllocError> {
+    message_of(
+        alloc,
+        state.find_one(alloc, &By::new().role(role).label(label)),
+    )
+}
+
+/// and where more than one node has this role.
 fn message_of_many(alloc: Global, state: StateRef, role: Role) -> Result<String, AllocError> {
-    match state.find_one(alloc, &By::new().role(role)) {
-        Ok(_) => Ok(String::new(alloc)),
-        Err(error) => format!(in alloc; "{error}"),
-    }
+    message_of(alloc, state.find_one(alloc, &By::new().role(role)))
 }
 
 #[test]
