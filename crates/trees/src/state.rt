@@ -26,7 +26,7 @@ use std::marker::Model;
 use tree_changes::{Decision, LookUps, UpdateError};
 use tree_plan::decide;
 use tree_store::{Overlay, Store, StoreLookUps};
-use views::{NodeRef, StateRef};
+use views::{Laid, NodeRef, StateRef};
 
 /// The state of a tree: its nodes, the trees grafted into it, and its focus.
 #[derive(Drop)]
@@ -227,8 +227,9 @@ impl TreeState {
             update: &update,
             decision: &decision,
         };
+        let laid = Laid::over(&self.store, overlay);
         let old = StateRef::new(&self.store);
-        let new = StateRef::over(&self.store, overlay);
+        let new = StateRef::of_laid(&laid);
         old.know();
         tell_all(old, new, decision.events.as_slice(), handler);
         steps.add(2 * change_count(&decision));
@@ -242,11 +243,9 @@ impl TreeState {
         ensures told { (differences : List PlanEvent) × AreOfFocus self.old self.new [] differences
             × Told H.steps handler.old (events self.old self.new differences) handler.new }
     {
-        tell_focus(
-            StateRef::new(&self.store),
-            StateRef::with_host_focused(&self.store, is_host_focused),
-            handler,
-        );
+        let laid = Laid::with_host_focused(&self.store, is_host_focused);
+        let old = StateRef::new(&self.store);
+        tell_focus(old, StateRef::of_laid(&laid), handler);
         self.store.set_host_focused(is_host_focused);
     }
 }

@@ -32,3 +32,7 @@ module _ (w : World) (o p : Option Overlay) (host : Bool) (is : o ≡ p) where
   pub kept_shown : (id : FullNodeId) (found : Option Kept) → IfSome found (λ r. IsPlaceOf (laid_world w p) id r.place.now) → IfSome found (λ r. r.place.now ≡ place_of (with_host (laid_world w o) host) id)
   kept_shown id None h = h
   kept_shown id (Some r) h = place_shown id r.place.now h
+
+pub kept_placed : (w : World) (id : FullNodeId) (found : Option Kept) → IfSome found (λ r. IsPlaceOf w id r.place.now) → IfSome found (λ r. r.place.now ≡ place_of w id)
+kept_placed w id None h = h
+kept_placed w id (Some r) h = place_known w id r.place.now h

@@ -3,10 +3,12 @@
 
 mod dialogs;
 pub mod filters;
+mod laid;
 pub mod node;
 pub mod runs;
 mod state_ref;
 pub mod walks;
 
+pub use laid::Laid;
 pub use node::{FullNodeId, NodeRef};
 pub use state_ref::StateRef;

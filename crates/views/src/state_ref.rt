@@ -1,19 +1,32 @@
 //! A view of a state.
-ghost use Rattle.views.specs.Sound.{IsSound, IsSound-prop, HasRoom, HasRoom-prop};
-
+use crate::laid::Laid;
 use crate::node::NodeRef;
 use model::FullNodeId;
 use schema::{Node, NodeId, TreeId};
-use tree_store::{Kept, Overlay, Store};
+use tree_store::{Kept, Store};
 
-/// A read-only view of a state: the stored state, with the changes of an update laid over it if there are any.
+/// A state as it is stored, or with something laid over it.
+#[derive(Clone, Copy)]
+pub(crate) enum Shown<'a> {
+    Stored(&'a Store),
+    Laid(&'a Laid<'a>),
+}
+
+/// A read-only view of a state: the stored state, with the changes of an update laid over it if there are any. It has two
+/// words, so it is cheap to copy.
 #[derive(Clone, Copy)]
 pub struct StateRef<'a> {
-    base: &'a Store,
-    overlay: Option<Overlay<'a>>,
-    is_host_focused: bool,
-    ghost sound: { IsSound base.now.world overlay } by { IsSound-prop base.now.world overlay },
-    ghost room: { HasRoom base.now overlay } by { HasRoom-prop base.now overlay },
+    shown: Shown<'a>,
+}
+
+/// Asks what a view shows.
+macro_rules! ask {
+    ($view:ident, $read:ident($($argument:expr),*)) => {
+        match $view.shown {
+            Shown::Stored(base) => base.$read($($argument),*),
+            Shown::Laid(laid) => laid.$read($($argument),*),
+        }
+    };
 }
 
 impl<'a> StateRef<'a> {
@@ -22,41 +35,24 @@ impl<'a> StateRef<'a> {
     ghost use Rattle.model.specs.World.{IsNode, data_of, index_of, name_of, root_of, root_named, local_id_of, toolkit_name, toolkit_version};
     ghost use Rattle.model.specs.Forest.{place_of, IsFormed};
     ghost use Rattle.model.specs.Focus.{IsEffectiveFocus, IsFocusId, IsFocus};
-    ghost use Rattle.model.specs.State.{IsState, with_host};
-    ghost use Rattle.tree_store.specs.Commits.{HasSlots};
-    ghost use Rattle.tree_store.specs.Overlays.{laid_over, IsLaidOver};
-    ghost use Rattle.views.specs.ShownWorlds.{world_of};
+    ghost use Rattle.model.specs.State.{IsState};
+    ghost use Rattle.views.specs.ShownWorlds.{world_of, world_laid};
     ghost use Rattle.views.specs.Nodes.{world_at, id_at, ShowsThe, IsView};
 
     /// A view of the stored state.
     pub fn new(base: &'a Store) -> StateRef<'a>
         ensures { world_of result ≡ base.now.world }
     {
-        StateRef::with_host_focused(base, base.is_host_focused())
+        let shown = Shown::Stored(base);
+        StateRef { shown }
     }
 
-    /// A view of the stored state with this host focus.
-    pub fn with_host_focused(base: &'a Store, is_host_focused: bool) -> StateRef<'a>
-        ensures { world_of result ≡ with_host base.now.world is_host_focused }
+    /// A view of a state with something laid over it.
+    pub fn of_laid(laid: &'a Laid<'a>) -> StateRef<'a>
+        ensures { world_of result ≡ world_laid laid.now }
     {
-        StateRef {
-            base,
-            overlay: None,
-            is_host_focused,
-        }
-    }
-
-    /// A view of the state with these changes laid over it.
-    pub fn over(base: &'a Store, overlay: Overlay<'a>) -> StateRef<'a>
-        requires laid { IsLaidOver base.now.world overlay }
-        requires slots { HasSlots base.now overlay.decision.now }
-        ensures { world_of result ≡ laid_over base.now.world overlay.entry }
-    {
-        StateRef {
-            base,
-            overlay: Some(overlay),
-            is_host_focused: base.is_host_focused(),
-        }
+        let shown = Shown::Laid(laid);
+        StateRef { shown }
     }
 
     /// The world of the view is a state. Only a proof uses this; it computes nothing.
@@ -64,21 +60,14 @@ impl<'a> StateRef<'a> {
         ensures state { IsState (world_of self.entry) }
         ensures formed { IsFormed (world_of self.entry) }
     {
-        let Some(overlay) = self.overlay else {
-            self.base.know();
-            return;
-        };
-        overlay.know(self.base);
+        ask!(self, know())
     }
 
     /// The number of nodes fits a `usize`. Only a proof uses this; it computes nothing.
     pub(crate) fn know_count(self)
         ensures { len (world_of self.entry).nodes < 2 ^ 64 }
     {
-        match self.overlay {
-            Some(overlay) => overlay.know_count(self.base),
-            None => self.base.know_count(),
-        }
+        ask!(self, know_count())
     }
 
     /// The data of a node.
@@ -86,10 +75,7 @@ impl<'a> StateRef<'a> {
     pub(crate) fn data(self, id: FullNodeId) -> Option<&'a Node>
         ensures { option_copied result ≡ data_of (world_of self.entry) id }
     {
-        match self.overlay {
-            Some(overlay) => overlay.data(self.base, id),
-            None => self.base.get(id),
-        }
+        ask!(self, get(id))
     }
 
     /// A node's place and data.
@@ -107,9 +93,9 @@ impl<'a> StateRef<'a> {
         ensures data { option_map (λ r. r.node.now) result ≡ data_of (world_of self.entry) id }
         ensures place { IfSome result (λ r. r.place.now ≡ place_of (world_of self.entry) id) }
     {
-        match self.overlay {
-            Some(overlay) => overlay.kept_near(self.base, id, near),
-            None => self.base.kept(id),
+        match self.shown {
+            Shown::Stored(base) => base.kept(id),
+            Shown::Laid(laid) => laid.kept_near(id, near),
         }
     }
 
@@ -117,67 +103,49 @@ impl<'a> StateRef<'a> {
     pub(crate) fn known_focus(self) -> FullNodeId
         ensures { IsEffectiveFocus (world_of self.entry) result }
     {
-        match self.overlay {
-            Some(overlay) => overlay.focus(self.base),
-            None => self.base.focus(),
-        }
+        ask!(self, focus())
     }
 
     /// The root tree's root.
     pub(crate) fn known_root(self) -> FullNodeId
         ensures { root_of (world_of self.entry) 0 ≡ Some result }
     {
-        match self.overlay {
-            Some(overlay) => overlay.root(self.base),
-            None => self.base.root(),
-        }
+        ask!(self, root())
     }
 
     /// The index of the tree with this id, if it was ever known.
     pub(crate) fn tree_index(self, name: TreeId) -> Option<u32>
         ensures { result ≡ index_of (world_of self.entry) name }
     {
-        match self.overlay {
-            Some(overlay) => overlay.tree_index(self.base, name),
-            None => self.base.tree_index(name),
-        }
+        ask!(self, tree_index(name))
     }
 
     /// The id of the tree with this index.
     pub(crate) fn tree_id(self, index: u32) -> Option<TreeId>
         ensures { result ≡ name_of (world_of self.entry) index }
     {
-        match self.overlay {
-            Some(overlay) => overlay.tree_id(self.base, index),
-            None => self.base.tree_id(index),
-        }
+        ask!(self, tree_id(index))
     }
 
     /// Whether the host is focused.
     pub fn is_host_focused(&self) -> bool
         ensures { result ≡ (world_of self.now).host_focused }
     {
-        self.is_host_focused
+        ask!(self, is_host_focused())
     }
 
     /// The toolkit's name as sent in the update.
     pub(crate) fn given_toolkit_name(self) -> Option<&'a str>
         ensures { option_copied result ≡ (world_of self.entry).toolkit.0 }
     {
-        match self.overlay {
-            Some(overlay) => overlay.toolkit_name(self.base),
-            None => self.base.toolkit_name(),
-        }
+        ask!(self, toolkit_name())
     }
 
     /// The toolkit's version as sent in the update.
     pub(crate) fn given_toolkit_version(self) -> Option<&'a str>
         ensures { option_copied result ≡ (world_of self.entry).toolkit.1 }
     {
-        match self.overlay {
-            Some(overlay) => overlay.toolkit_version(self.base),
-            None => self.base.toolkit_version(),
-        }
+        ask!(self, toolkit_version())
     }
 
     /// The view of a node that is in the state.
@@ -360,9 +328,6 @@ impl<'a> StateRef<'a> {
     pub fn subtree_root(&self, name: TreeId) -> Option<FullNodeId>
         ensures { result ≡ root_named (world_of self.now) name }
     {
-        match self.overlay {
-            Some(overlay) => overlay.subtree_root(self.base, name),
-            None => self.base.subtree_root(name),
-        }
+        ask!(self, subtree_root(name))
     }
 }

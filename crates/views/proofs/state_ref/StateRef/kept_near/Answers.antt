@@ -1,8 +1,12 @@
-use Rattle.views.proofs.Overlaid.{kept_shown}
+use Rattle.std.proofs.Common.{◌≡◌, sym, subst}
+use Rattle.std.specs.Prelude.{IfSome}
+use Rattle.model.specs.Forest.{place_of}
+use Rattle.views.specs.declared.state_ref.Shown.{Shown}
+use Rattle.views.specs.ShownWorlds.{world_shown}
+use Rattle.views.proofs.Overlaid.{kept_placed}
 use Rattle.views.proofs.state_ref.StateRef.kept_near.Goals as goal
 
-pub returns-in-Some-clause-place : goal.returns-in-Some-clause-place
-returns-in-Some-clause-place c = kept_shown c.args.self.base.now.world c.args.self.overlay _ c.args.self.is_host_focused c.in-Some.is c.args.id c.kept_near.result c.kept_near.ensures.place
-
-pub returns-in-None-clause-place : goal.returns-in-None-clause-place
-returns-in-None-clause-place c = kept_shown c.args.self.base.now.world c.args.self.overlay _ c.args.self.is_host_focused c.in-None.is c.args.id c.kept.result c.kept.ensures.place
+pub returns-in-Stored-clause-place : goal.returns-in-Stored-clause-place
+returns-in-Stored-clause-place c =
+    subst (λ (s : Shown). IfSome c.kept.result (λ r. r.place.now ≡ place_of (world_shown s) c.args.id)) (sym c.in-Stored.is)
+    (kept_placed c.in-Stored.base.now.world c.args.id c.kept.result c.kept.ensures.place)

@@ -1,5 +1,5 @@
 use Rattle.views.proofs.Overlaid.{focus_shown}
-use Rattle.views.proofs.state_ref.StateRef.known_focus.Goals as goal
+use Rattle.views.proofs.laid.Laid.focus.Goals as goal
 
 pub returns-in-Some : goal.returns-in-Some
 returns-in-Some c = focus_shown c.args.self.base.now.world c.args.self.overlay _ c.args.self.is_host_focused c.in-Some.is c.focus.result c.focus.ensures

@@ -1,5 +1,5 @@
 use Rattle.views.proofs.Overlaid.{state_shown, formed_shown}
-use Rattle.views.proofs.state_ref.StateRef.know.Goals as goal
+use Rattle.views.proofs.laid.Laid.know.Goals as goal
 
 pub returns-in_default-clause-state : goal.returns-in_default-clause-state
 returns-in_default-clause-state c = state_shown c.args.self.base.now.world c.args.self.overlay _ c.args.self.is_host_focused c.in_default.is c.know.ensures.state
