@@ -19,7 +19,6 @@ pub enum Has {
     Hidden,
     // runs of text
     /// A value of so many `a`, each a character.
-    Letters(usize),
     /// How many bytes each character has.
     Lengths(&'static [u16]),
     /// With which characters words start.
@@ -50,16 +49,6 @@ fn selected(anchor: Spot, focus: Spot) -> TextSelection {
         anchor: sent(anchor),
         focus: sent(focus),
     }
-}
-
-/// Gives the node a value of so many letters.
-fn give_letters(alloc: Global, node: &mut Node, count: usize) -> Result<(), AllocError> {
-    let mut value = String::new(alloc);
-    for _ in 0..count {
-        value.push('a')?;
-    }
-    node.set_value(&value)?;
-    node.set_character_lengths(&vec![in alloc; 1u16; count]?)
 }
 
 fn give_ids(node: &mut Node, has: Has, ids: &[NodeId]) -> Result<(), AllocError> {
@@ -111,7 +100,6 @@ fn give(alloc: Global, node: &mut Node, has: Has) -> Result<(), AllocError> {
         }
         Has::Label(text) => node.set_label(text),
         Has::Value(text) => node.set_value(text),
-        Has::Letters(count) => give_letters(alloc, node, count),
         Has::Lengths(_) | Has::Words(_) | Has::Positions(_) | Has::Widths(_) => {
             give_list(node, has)
         }

@@ -19,18 +19,6 @@ const LINES_INPUT: Sketch = Sketch(0, Role::MultilineTextInput, &[Children(&[1, 
 
 const PASSWORD: Sketch = Sketch(0, Role::PasswordInput, &[Children(&[1, 2])]);
 
-/// 300 letters; words start at 0 and at 44.
-pub const LETTERS: Text = &[
-    INPUT,
-    Sketch(1, Role::TextRun, &[Letters(300), Words(&[0, 44])]),
-];
-
-/// 400 letters; words start at 0 and at 300, which is 44 when it is cut to a byte.
-pub const MORE_LETTERS: Text = &[
-    INPUT,
-    Sketch(1, Role::TextRun, &[Letters(400), Words(&[0, 300])]),
-];
-
 /// A run of no characters, of which nothing is sent.
 pub const NOTHING: Text = &[INPUT, Sketch(1, Role::TextRun, &[])];
 

@@ -2,9 +2,8 @@
 
 use crate::sketches::Has::{Children, Lengths, Next, Previous, Value, Words};
 use crate::sketches::small_texts::{
-    BULLETS, ELSEWHERE, EMPTY_LAST, LEFTWARD, LETTERS, MEETING, MORE_LETTERS, NOTHING, OTHER_RUNS,
-    PARAGRAPHS, RIGHTWARD, SECRET, SECRET_LINES, SECRET_WORDS, SIZES, THIRD, Text, WIDE,
-    WIDE_SECRET,
+    BULLETS, ELSEWHERE, EMPTY_LAST, LEFTWARD, MEETING, NOTHING, OTHER_RUNS, PARAGRAPHS, RIGHTWARD,
+    SECRET, SECRET_LINES, SECRET_WORDS, SIZES, THIRD, Text, WIDE, WIDE_SECRET,
 };
 use crate::sketches::{Sketch, Spot, planted, root_of};
 use crate::text_tests::asking::Place::{
@@ -111,9 +110,6 @@ static ANSWERS: [(Text, Asked); 77] = [
     (RIGHTWARD, Position(Near(130, 205), Some((1, 3)))),
     (RIGHTWARD, Position(Near(99, 205), Some((1, 0)))),
     (EMPTY_LAST, Position(EndSideOf(3), Some((1, 3)))),
-    (LETTERS, Is(At(44), Kind::WordStart, true)),
-    (LETTERS, Is(At(300), Kind::WordStart, false)),
-    (MORE_LETTERS, Is(At(44), Kind::WordStart, false)),
     (NOTHING, Is(At(0), Kind::DocumentStart, true)),
     (NOTHING, Is(At(0), Kind::DocumentEnd, true)),
     (PARAGRAPHS, Is(At(2), Kind::ParagraphSeparator, true)),

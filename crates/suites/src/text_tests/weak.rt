@@ -43,14 +43,6 @@ fn upgraded(weak: &WeakTextRange, tree: &Tree) -> Option<(Spot, Spot)> {
     }
 }
 
-/// The same, by a view of the state.
-fn upgraded_in_view(weak: &WeakTextRange, tree: &Tree) -> Option<(Spot, Spot)> {
-    match weak.upgrade(tree.state().view()) {
-        Some(range) => Some(both_ends(&range)),
-        None => None,
-    }
-}
-
 /// Sends the update by which two letters go.
 fn shorten(alloc: Global, tree: &mut Tree) -> Result<(), Fail> {
     let update = SHORTENED.update(alloc)?;
@@ -70,11 +62,11 @@ fn weak_range_past_its_run_is_gone(rt: HostRuntime) -> Result<(), Fail> {
     Ok(())
 }
 
-/// The ends of the first two letters in another tree, by its state and by a view of it.
-fn upgraded_elsewhere(alloc: Global, text: Text) -> Result<[Option<(Spot, Spot)>; 2], Fail> {
+/// The ends of the first two letters in another tree.
+fn upgraded_elsewhere(alloc: Global, text: Text) -> Result<Option<(Spot, Spot)>, Fail> {
     let (tree, other) = (planted(alloc, LONG)?, planted(alloc, text)?);
     let weak = first_two(alloc, &root_of(&tree))?;
-    Ok([upgraded(&weak, &other), upgraded_in_view(&weak, &other)])
+    Ok(upgraded(&weak, &other))
 }
 
 /// Another tree, and where it has the first two letters: by the ids of runs, and not past their ends.
@@ -86,10 +78,10 @@ static ELSEWHERE: [(Text, Option<(Spot, Spot)>); 4] = [
 ];
 
 #[test]
-fn weak_ranges_are_found_in_states_and_in_views(rt: HostRuntime) -> Result<(), Fail> {
+fn weak_ranges_are_found_in_other_states(rt: HostRuntime) -> Result<(), Fail> {
     for (row, (text, wanted)) in ELSEWHERE.iter().enumerate() {
         let given = upgraded_elsewhere(rt.alloc(), text)?;
-        assert!(rt; given == [*wanted; 2], "row {row}");
+        assert!(rt; given == *wanted, "row {row}");
     }
     Ok(())
 }
