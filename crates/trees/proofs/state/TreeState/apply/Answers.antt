@@ -12,7 +12,7 @@ use Rattle.trees.proofs.state.TreeState.apply.Goals as goal
 pub tell_all-requires : goal.tell_all-requires
 tell_all-requires g c =
     let old = c.new-old.ensures ∙ c.reserve.ensures.same ∙ c.self.view_is in
-    let new = c.over-new.ensures ∙ ap (λ w. overlaid_world w (update_data c.args.update) c.args.decision) (c.reserve.ensures.same ∙ c.self.view_is) in
+    let new = c.of_laid-new.ensures ∙ c.over-laid.ensures ∙ ap (λ w. overlaid_world w (update_data c.args.update) c.args.decision) (c.reserve.ensures.same ∙ c.self.view_is) in
     views_tellable c.args.self.now (update_data c.args.update) c.args.decision (subst IsState old c.know.ensures.state) c.requires _ _ _ old new c.as_slice.ensures.value
 
 pub commit-requires-clause-decided : goal.commit-requires-clause-decided
@@ -25,7 +25,7 @@ returns-clause-does g c =
       events c.args.self.now c.commit.new.self.world c.args.decision.events.items,
       does_accepted c.args.self.now (update_data c.args.update) c.args.decision (subst IsState old c.know.ensures.state) c.requires c.commit.new.self.world (c.commit.ensures.world ∙ same),
       told_differences g.H.TreeChangeHandler.steps c.args.handler.now c.tell_all.new.handler _ c.args.self.now _ c.commit.new.self.world _ c.args.decision.events.items
-          old (c.over-new.ensures ∙ sym c.commit.ensures.world) c.as_slice.ensures.value c.tell_all.ensures,
+          old (c.of_laid-new.ensures ∙ c.over-laid.ensures ∙ sym c.commit.ensures.world) c.as_slice.ensures.value c.tell_all.ensures,
     )
 
 pub returns-clause-counted : goal.returns-clause-counted
