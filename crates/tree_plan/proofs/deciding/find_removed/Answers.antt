@@ -1,10 +1,9 @@
 use Rattle.std.proofs.Common.{sym, subst, ◌∙◌, arith}
-use Rattle.std.proofs.lemmas.Result.{err_from_is_err_and}
 use Rattle.model.specs.Work.{named_ids}
 use Rattle.model.specs.Surgery.{IsSettled, IsRefined, IsClimbed, AreSteps}
-use Rattle.tree_changes.specs.Refusals.{IsRefusal}
 use Rattle.tree_plan.specs.Passes.{HoldsSettled, HoldsRemoved}
 use Rattle.tree_plan.specs.Cases.{IsCase, sent}
+use Rattle.tree_plan.proofs.Passing.{passed_refusal}
 use Rattle.tree_plan.proofs.deciding.find_removed.Goals as goal
 
 pub remove-requires-clause-case : goal.remove-requires-clause-case
@@ -46,28 +45,19 @@ pub returns-in_err-removed-clause-world : goal.returns-in_err-removed-clause-wor
 returns-in_err-removed-clause-world g c = c.remove.ensures.world ∙ c.settle.ensures.world
 
 pub returns-in_err-removed-clause-err : goal.returns-in_err-removed-clause-err
-returns-in_err-removed-clause-err g c =
-    let u = sent c.args.case.now in
-    let p = err_from_is_err_and c.from_residual-in_err-removed.result c.from_residual-in_err-removed.ensures.1 in
-    rw (p.1, p.2) (subst (λ v. IsRefusal v u c.in_err-removed.field-0.0) (c.settle.ensures.world) c.in_err-removed.ensures.err)
+returns-in_err-removed-clause-err g c = passed_refusal (sent c.args.case.now) c.from_residual-in_err-removed.result _ c.from_residual-in_err-removed.ensures.1 c.settle.ensures.world c.in_err-removed.ensures.err
 
 pub returns-in_err-refuse_misplaced-clause-world : goal.returns-in_err-refuse_misplaced-clause-world
 returns-in_err-refuse_misplaced-clause-world g c = c.refuse_misplaced.ensures.world ∙ c.remove.ensures.world ∙ c.settle.ensures.world
 
 pub returns-in_err-refuse_misplaced-clause-err : goal.returns-in_err-refuse_misplaced-clause-err
-returns-in_err-refuse_misplaced-clause-err g c =
-    let u = sent c.args.case.now in
-    let p = err_from_is_err_and c.from_residual-in_err-refuse_misplaced.result c.from_residual-in_err-refuse_misplaced.ensures.1 in
-    rw (p.1, p.2) (subst (λ v. IsRefusal v u c.in_err-refuse_misplaced.field-0.0) (c.remove.ensures.world ∙ c.settle.ensures.world) c.in_err-refuse_misplaced.ensures.err)
+returns-in_err-refuse_misplaced-clause-err g c = passed_refusal (sent c.args.case.now) c.from_residual-in_err-refuse_misplaced.result _ c.from_residual-in_err-refuse_misplaced.ensures.1 (c.remove.ensures.world ∙ c.settle.ensures.world) c.in_err-refuse_misplaced.ensures.err
 
 pub returns-in_err-climb_all-clause-world : goal.returns-in_err-climb_all-clause-world
 returns-in_err-climb_all-clause-world g c = c.climb_all.ensures.world ∙ c.refuse_misplaced.ensures.world ∙ c.remove.ensures.world ∙ c.settle.ensures.world
 
 pub returns-in_err-climb_all-clause-err : goal.returns-in_err-climb_all-clause-err
-returns-in_err-climb_all-clause-err g c =
-    let u = sent c.args.case.now in
-    let p = err_from_is_err_and c.from_residual-in_err-climb_all.result c.from_residual-in_err-climb_all.ensures.1 in
-    rw (p.1, p.2) (subst (λ v. IsRefusal v u c.in_err-climb_all.field-0.0) (c.refuse_misplaced.ensures.world ∙ c.remove.ensures.world ∙ c.settle.ensures.world) c.in_err-climb_all.ensures.err)
+returns-in_err-climb_all-clause-err g c = passed_refusal (sent c.args.case.now) c.from_residual-in_err-climb_all.result _ c.from_residual-in_err-climb_all.ensures.1 (c.refuse_misplaced.ensures.world ∙ c.remove.ensures.world ∙ c.settle.ensures.world) c.in_err-climb_all.ensures.err
 
 pub returns-clause-world : goal.returns-clause-world
 returns-clause-world g c = c.climb_all.ensures.world ∙ c.refuse_misplaced.ensures.world ∙ c.remove.ensures.world ∙ c.settle.ensures.world

@@ -65,13 +65,8 @@ loop-name-preserved g c =
 
 pub returns-clause-ok : goal.returns-clause-ok
 returns-clause-ok g c =
-    let w : World = g.L.LookUps.world c.args.look_ups.now in
-    let u : UpdateData = sent c.args.case.now in
-    let d = c.args.case.now.compared.now in
-    let r = c.args.removed.now in
-    let xs = d.gained.items in
-    let items = c.deref-name-items.ensures.value in
-    let end : length xs ≤ c.loop-name.name-index = omega (arith, c.loop-name-test.false, ap length items) in
+    let xs = c.args.case.now.compared.now.gained.items in
+    let end : length xs ≤ c.loop-name.name-index = omega (arith, c.loop-name-test.false, ap length c.deref-name-items.ensures.value) in
     let all : take c.loop-name.name-index xs ≡ xs = take_all c.loop-name.name-index xs (omega arith) in
-    regrafted_all w u d r c.requires.case.comparison c.requires.removal c.requires.climbed c.loop-name.regrafted
-    (subst (λ names. AreRegrafted w u d r names c.loop-name.regrafted) all c.loop-name.invariant.found)
+    regrafted_all _ _ _ _ c.requires.case.comparison c.requires.removal c.requires.climbed c.loop-name.regrafted
+    (subst (λ names. AreRegrafted _ _ _ _ names c.loop-name.regrafted) all c.loop-name.invariant.found)

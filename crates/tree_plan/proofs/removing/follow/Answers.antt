@@ -1,9 +1,10 @@
-use Rattle.std.proofs.Common.{◌≡◌, ◌<◌, Some, length, slice_get, refl, ◌∙◌, arith}
-use Rattle.std.proofs.lemmas.Option.{slice_get_read}
+use Rattle.std.proofs.Common.{◌≡◌, Some, slice_get, refl, ◌∙◌, arith}
 use Rattle.tree_plan.specs.Cases.{sent}
-use Rattle.tree_plan.proofs.IdMaps.{contains_at}
+use Rattle.tree_plan.proofs.IdMaps.{contains_at, read_at}
 use Rattle.tree_plan.proofs.RemovingSteps.{following_start, following_fresh, following_more, following_end}
+use Rattle.tree_plan.proofs.removing.follow.Given as given
 use Rattle.tree_plan.proofs.removing.follow.Goals as goal
+use Rattle.tree_plan.proofs.removing.follow.Goals.{After-index-id}
 
 pub loop-position-init : goal.loop-position-init
 loop-position-init g c = record {
@@ -12,15 +13,16 @@ loop-position-init g c = record {
   following = following_start g.before (sent c.args.case.now) c.args.removing.now c.requires.1.1.0.found c.requires.1.1.1;
 }
 
+-- the node of a turn
+read : (g : given.Over) (c : After-index-id g) → slice_get c.loop-position.removing.queue.items c.loop-position.position ≡ Some c.index-id.result.now
+read g c = read_at c.loop-position.removing.queue.items _ refl c.loop-position.position c.index-id.result.now (omega (arith, c.len.ensures, c.if-position-len.false)) c.index-id.ensures
+
 pub expand-requires : goal.expand-requires
 expand-requires g c =
-    let w = g.before in let u = sent c.args.case.now in
-    let a = c.args.removing.now in
     let b = c.loop-position.removing in
     let k = c.loop-position.position in
     let id = c.index-id.result.now in
-    let lt : k < length b.queue.items = omega (arith, c.len.ensures, c.if-position-len.false) in
-    let is : slice_get b.queue.items k ≡ Some id = slice_get_read b.queue.items (length b.queue.items) k id refl lt c.index-id.ensures in
+    let is = read g (goal.at.expand-requires g c).After-index-id in
     λ κs short. (
       short,
       (
@@ -29,7 +31,7 @@ expand-requires g c =
           record { case = c.requires.1.1.0.case; found = c.loop-position.invariant.following.found },
           (
             contains_at b.queue.items k id is,
-            following_fresh w u c.requires.1.1.0.case.old k id a b is c.loop-position.invariant.following,
+            following_fresh g.before (sent c.args.case.now) c.requires.1.1.0.case.old k id c.args.removing.now b is c.loop-position.invariant.following,
           ),
         ),
       ),
@@ -37,17 +39,12 @@ expand-requires g c =
 
 pub loop-position-preserved : goal.loop-position-preserved
 loop-position-preserved g c =
-    let w = g.before in let u = sent c.args.case.now in
-    let a = c.args.removing.now in
-    let b = c.loop-position.removing in
-    let k = c.loop-position.position in
-    let id = c.index-id.result.now in
-    let lt : k < length b.queue.items = omega (arith, c.len.ensures, c.if-position-len.false) in
-    let is : slice_get b.queue.items k ≡ Some id = slice_get_read b.queue.items (length b.queue.items) k id refl lt c.index-id.ensures in
+    let looks = c.expand.ensures.looks in
+    let before = c.loop-position.invariant in
     record {
-      world = c.expand.ensures.looks.0 ∙ c.loop-position.invariant.world;
-      count = (omega (arith, c.expand.ensures.looks.1.0, c.loop-position.invariant.count.0), omega (arith, c.expand.ensures.looks.1.1, c.loop-position.invariant.count.1));
-      following = following_more w u k id a b c.expand.new.removing is c.loop-position.invariant.following c.in_ok-expand.ensures.ok;
+      world = looks.0 ∙ before.world;
+      count = (omega (arith, looks.1.0, before.count.0), omega (arith, looks.1.1, before.count.1));
+      following = following_more _ _ c.loop-position.position c.index-id.result.now c.args.removing.now c.loop-position.removing c.expand.new.removing (read g (goal.at.loop-position-preserved g c).After-index-id) before.following c.in_ok-expand.ensures.ok;
     }
 
 pub returns-then-position-len-clause-ok : goal.returns-then-position-len-clause-ok
