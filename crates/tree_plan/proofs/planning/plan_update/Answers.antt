@@ -20,7 +20,7 @@ changed g c =
     c.in_ok-push_nodes.ensures.ok ∙ ap (λ xs. xs ++ map (plan_change slots) c.deref-2.result.now) trees ∙ ap (λ ns. map Tree c.in_ok-decision.decision.trees.items ++ map (plan_change slots) ns) c.deref-2.ensures.value
 
 -- the plan that is made
-made : (g : given.Over) → After-toolkit_texts g → Plan
+abbrev made : (g : given.Over) → After-toolkit_texts g → Plan
 made g c = record { changes = c.push_nodes.new.changes; events = c.in_ok-decision.decision.events; toolkit = c.toolkit_texts.result; focus = c.in_ok-decision.decision.focus }
 
 pub returns-clause-ok : goal.returns-clause-ok
