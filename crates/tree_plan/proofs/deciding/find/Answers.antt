@@ -23,20 +23,11 @@ regraft-requires-clause-climbed g c =
     let u = update_data c.args.update.now in
     subst (λ v. IsClimbed v u) (sym c.find_removed.ensures.world) c.in_ok-removed.ensures.climbed
 
-pub returns-in_err-removed-clause-world : goal.returns-in_err-removed-clause-world
-returns-in_err-removed-clause-world g c = c.find_removed.ensures.world ∙ c.compare.ensures.world
-
 pub returns-in_err-removed-clause-err : goal.returns-in_err-removed-clause-err
 returns-in_err-removed-clause-err g c = passed_refusal (update_data c.args.update.now) c.from_residual-in_err-removed.result _ c.from_residual-in_err-removed.ensures.1 c.compare.ensures.world c.in_err-removed.ensures.err
 
-pub returns-in_err-regrafted-clause-world : goal.returns-in_err-regrafted-clause-world
-returns-in_err-regrafted-clause-world g c = c.regraft.ensures.world ∙ c.find_removed.ensures.world ∙ c.compare.ensures.world
-
 pub returns-in_err-regrafted-clause-err : goal.returns-in_err-regrafted-clause-err
 returns-in_err-regrafted-clause-err g c = passed_refusal (update_data c.args.update.now) c.from_residual-in_err-regrafted.result _ c.from_residual-in_err-regrafted.ensures.1 (c.find_removed.ensures.world ∙ c.compare.ensures.world) c.in_err-regrafted.ensures.err
-
-pub returns-clause-world : goal.returns-clause-world
-returns-clause-world g c = c.regraft.ensures.world ∙ c.find_removed.ensures.world ∙ c.compare.ensures.world
 
 pub returns-clause-ok : goal.returns-clause-ok
 returns-clause-ok g c =

@@ -41,26 +41,14 @@ climb_all-requires-clause-refined g c =
     let u = sent c.args.case.now in
     subst (λ v. IsRefined v u) (sym c.refuse_misplaced.ensures.world) c.in_ok-refuse_misplaced.ensures.ok
 
-pub returns-in_err-removed-clause-world : goal.returns-in_err-removed-clause-world
-returns-in_err-removed-clause-world g c = c.remove.ensures.world ∙ c.settle.ensures.world
-
 pub returns-in_err-removed-clause-err : goal.returns-in_err-removed-clause-err
 returns-in_err-removed-clause-err g c = passed_refusal (sent c.args.case.now) c.from_residual-in_err-removed.result _ c.from_residual-in_err-removed.ensures.1 c.settle.ensures.world c.in_err-removed.ensures.err
-
-pub returns-in_err-refuse_misplaced-clause-world : goal.returns-in_err-refuse_misplaced-clause-world
-returns-in_err-refuse_misplaced-clause-world g c = c.refuse_misplaced.ensures.world ∙ c.remove.ensures.world ∙ c.settle.ensures.world
 
 pub returns-in_err-refuse_misplaced-clause-err : goal.returns-in_err-refuse_misplaced-clause-err
 returns-in_err-refuse_misplaced-clause-err g c = passed_refusal (sent c.args.case.now) c.from_residual-in_err-refuse_misplaced.result _ c.from_residual-in_err-refuse_misplaced.ensures.1 (c.remove.ensures.world ∙ c.settle.ensures.world) c.in_err-refuse_misplaced.ensures.err
 
-pub returns-in_err-climb_all-clause-world : goal.returns-in_err-climb_all-clause-world
-returns-in_err-climb_all-clause-world g c = c.climb_all.ensures.world ∙ c.refuse_misplaced.ensures.world ∙ c.remove.ensures.world ∙ c.settle.ensures.world
-
 pub returns-in_err-climb_all-clause-err : goal.returns-in_err-climb_all-clause-err
 returns-in_err-climb_all-clause-err g c = passed_refusal (sent c.args.case.now) c.from_residual-in_err-climb_all.result _ c.from_residual-in_err-climb_all.ensures.1 (c.refuse_misplaced.ensures.world ∙ c.remove.ensures.world ∙ c.settle.ensures.world) c.in_err-climb_all.ensures.err
-
-pub returns-clause-world : goal.returns-clause-world
-returns-clause-world g c = c.climb_all.ensures.world ∙ c.refuse_misplaced.ensures.world ∙ c.remove.ensures.world ∙ c.settle.ensures.world
 
 pub returns-clause-ok : goal.returns-clause-ok
 returns-clause-ok g c =

@@ -18,24 +18,14 @@ read : (g : given.Over) (c : After-name-item g) → slice_get c.args.case.now.co
 read g c = read_at c.deref-name-items.result.now _ c.deref-name-items.ensures.value c.loop-name.name-index c.name-item.result c.loop-name-test.true c.name-item.is
 
 pub drop_tree-requires : goal.drop_tree-requires
-drop_tree-requires g c =
-    let names = c.args.case.now.compared.now.lost.items in
-    let k = c.loop-name.name-index in
-    let name = c.name-item.result in
-    let comparison = c.requires.1.1.0.case.comparison in
-    λ κs short. (
-      short,
-      (
-        c.loop-name.invariant.world ∙ c.requires.1.0,
-        (
-          record { case = c.requires.1.1.0.case; found = c.loop-name.invariant.dropping.found },
-          (
-            (let is = read g (goal.at.drop_tree-requires g c).After-name-item in let lost = (comparison.lost name).0 (contains_at names k name is) in (lost.0, lost.2, inr lost.1)),
-            dropping_fresh g.before (sent c.args.case.now) names k name c.args.removing.now c.loop-name.removing comparison.lost_once (read g (goal.at.drop_tree-requires g c).After-name-item) c.loop-name.invariant.dropping,
-          ),
-        ),
-      ),
-    )
+drop_tree-requires g c κs short =
+    let w = g.before in let u = sent c.args.case.now in
+    let is = read g (goal.at.drop_tree-requires g c).After-name-item in
+    let case = c.requires.1.1.0.case in
+    let lost = (case.comparison.lost c.name-item.result).0 (contains_at _ c.loop-name.name-index _ is) in
+    let dropping = c.loop-name.invariant.dropping in
+    let fresh = dropping_fresh w u _ c.loop-name.name-index _ c.args.removing.now c.loop-name.removing case.comparison.lost_once is dropping in
+    (short, (c.loop-name.invariant.world ∙ c.requires.1.0, (record { case = case; found = dropping.found }, ((lost.0, lost.2, inr lost.1), fresh))))
 
 pub loop-name-preserved : goal.loop-name-preserved
 loop-name-preserved g c =

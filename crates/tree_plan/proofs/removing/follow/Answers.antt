@@ -18,24 +18,12 @@ read : (g : given.Over) (c : After-index-id g) → slice_get c.loop-position.rem
 read g c = read_at c.loop-position.removing.queue.items _ refl c.loop-position.position c.index-id.result.now (omega (arith, c.len.ensures, c.if-position-len.false)) c.index-id.ensures
 
 pub expand-requires : goal.expand-requires
-expand-requires g c =
-    let b = c.loop-position.removing in
-    let k = c.loop-position.position in
-    let id = c.index-id.result.now in
+expand-requires g c κs short =
     let is = read g (goal.at.expand-requires g c).After-index-id in
-    λ κs short. (
-      short,
-      (
-        c.loop-position.invariant.world ∙ c.requires.1.0,
-        (
-          record { case = c.requires.1.1.0.case; found = c.loop-position.invariant.following.found },
-          (
-            contains_at b.queue.items k id is,
-            following_fresh g.before (sent c.args.case.now) c.requires.1.1.0.case.old k id c.args.removing.now b is c.loop-position.invariant.following,
-          ),
-        ),
-      ),
-    )
+    let case = c.requires.1.1.0.case in
+    let i = c.loop-position.invariant in
+    let fresh = following_fresh g.before (sent c.args.case.now) case.old c.loop-position.position _ c.args.removing.now c.loop-position.removing is i.following in
+    (short, (i.world ∙ c.requires.1.0, (record { case = case; found = i.following.found }, (contains_at _ c.loop-position.position _ is, fresh))))
 
 pub loop-position-preserved : goal.loop-position-preserved
 loop-position-preserved g c =
