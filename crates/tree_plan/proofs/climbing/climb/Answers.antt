@@ -36,9 +36,6 @@ goes_up g c =
     let i = c.up.invariant in
     up_to i.known i.first c.up.climbed i.others i.climb.1 c.parent_after-id.result (c.up-test.ensures.unknown refl) (subst (λ v. IsNext v c.args.case.now.compared.now c.up.id c.parent_after-id.result) i.world c.parent_after-id.ensures.next)
 
-pub returns-then-not-contains-clause-world : goal.returns-then-not-contains-clause-world
-returns-then-not-contains-clause-world g c = refl
-
 pub returns-then-not-contains-clause-climbed : goal.returns-then-not-contains-clause-climbed
 returns-then-not-contains-clause-climbed g c =
     let p = (goal.at.returns-then-not-contains-clause-climbed g c).After-named_id-start in
@@ -68,16 +65,10 @@ up-init g c =
       first = first g p;
     }
 
-pub returns-then-is_same_node-clause-world : goal.returns-then-is_same_node-clause-world
-returns-then-is_same_node-clause-world g c = c.up.invariant.world
-
 pub returns-then-is_same_node-clause-err : goal.returns-then-is_same_node-clause-err
 returns-then-is_same_node-clause-err g c =
     let i = c.up.invariant in
     comes_round i.known c.named_id-start.result c.up.id i.climb.0 c.up.climbed i.first.named i.climb.1 (marked g (goal.at.returns-then-is_same_node-clause-err g c).In-Some ∙ ap Some (c.if-is_same_node.ensures.0 refl))
-
-pub returns-in-Some-clause-world : goal.returns-in-Some-clause-world
-returns-in-Some-clause-world g c = c.up.invariant.world
 
 pub returns-in-Some-clause-climbed : goal.returns-in-Some-clause-climbed
 returns-in-Some-clause-climbed g c =
@@ -88,9 +79,6 @@ pub returns-in-Some-clause-way : goal.returns-in-Some-clause-way
 returns-in-Some-clause-way g c =
     let i = c.up.invariant in
     (i.climb.0, climbed_from i.known i.first c.up.climbed i.others i.climb.1 (at_other i.known i.first c.up.climbed i.others i.climb.1 c.in-Some.other.now (marked g (goal.at.returns-in-Some-clause-way g c).In-Some) (λ same. let no = c.if-is_same_node.ensures.1 same in cc)), i.climb.2)
-
-pub returns-in_err-insert-clause-world : goal.returns-in_err-insert-clause-world
-returns-in_err-insert-clause-world g c = c.up.invariant.world
 
 pub parent_after-id-requires-clause-old : goal.parent_after-id-requires-clause-old
 parent_after-id-requires-clause-old g c = subst (λ v. IsOld v) (sym c.up.invariant.world) c.requires.case.old
@@ -131,9 +119,6 @@ up-preserved g c =
       known = i.known;
       first = i.first;
     }
-
-pub returns-clause-world : goal.returns-clause-world
-returns-clause-world g c = c.up.invariant.world
 
 pub returns-clause-climbed : goal.returns-clause-climbed
 returns-clause-climbed g c =

@@ -7,28 +7,6 @@ use Rattle.tree_plan.specs.Passes.{HoldsRemoved, HoldsRegrafted}
 use Rattle.tree_plan.proofs.Passing.{passed_refusal, as_case}
 use Rattle.tree_plan.proofs.deciding.find.Goals as goal
 
-pub find_removed-requires : goal.find_removed-requires
-find_removed-requires g c = record { case = as_case _ c.compare.ensures.world c.requires.old c.requires.opening c.in_ok-compared.ensures.ok }
-
-pub regraft-requires-clause-case : goal.regraft-requires-clause-case
-regraft-requires-clause-case g c = as_case _ (c.find_removed.ensures.world ∙ c.compare.ensures.world) c.requires.old c.requires.opening c.in_ok-compared.ensures.ok
-
-pub regraft-requires-clause-removal : goal.regraft-requires-clause-removal
-regraft-requires-clause-removal g c =
-    let u = update_data c.args.update.now in
-    subst (λ v. HoldsRemoved v u c.in_ok-removed.removed) (sym c.find_removed.ensures.world) c.in_ok-removed.ensures.ok
-
-pub regraft-requires-clause-climbed : goal.regraft-requires-clause-climbed
-regraft-requires-clause-climbed g c =
-    let u = update_data c.args.update.now in
-    subst (λ v. IsClimbed v u) (sym c.find_removed.ensures.world) c.in_ok-removed.ensures.climbed
-
-pub returns-in_err-removed-clause-err : goal.returns-in_err-removed-clause-err
-returns-in_err-removed-clause-err g c = passed_refusal (update_data c.args.update.now) c.from_residual-in_err-removed.result _ c.from_residual-in_err-removed.ensures.1 c.compare.ensures.world c.in_err-removed.ensures.err
-
-pub returns-in_err-regrafted-clause-err : goal.returns-in_err-regrafted-clause-err
-returns-in_err-regrafted-clause-err g c = passed_refusal (update_data c.args.update.now) c.from_residual-in_err-regrafted.result _ c.from_residual-in_err-regrafted.ensures.1 (c.find_removed.ensures.world ∙ c.compare.ensures.world) c.in_err-regrafted.ensures.err
-
 pub returns-clause-ok : goal.returns-clause-ok
 returns-clause-ok g c =
     let u = update_data c.args.update.now in
