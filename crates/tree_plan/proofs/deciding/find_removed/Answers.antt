@@ -6,16 +6,6 @@ use Rattle.tree_plan.specs.Cases.{IsCase, sent}
 use Rattle.tree_plan.proofs.Passing.{passed_refusal}
 use Rattle.tree_plan.proofs.deciding.find_removed.Goals as goal
 
-pub returns-clause-ok : goal.returns-clause-ok
-returns-clause-ok g c =
-    let u = sent c.args.case.now in
-    subst (λ v. HoldsRemoved v u c.in_ok-removed.removed) c.settle.ensures.world c.in_ok-removed.ensures.ok
-
-pub returns-clause-climbed : goal.returns-clause-climbed
-returns-clause-climbed g c =
-    let u = sent c.args.case.now in
-    subst (λ v. IsClimbed v u) (c.refuse_misplaced.ensures.world ∙ c.remove.ensures.world ∙ c.settle.ensures.world) c.in_ok-climb_all.ensures.ok
-
 pub returns-clause-count : goal.returns-clause-count
 returns-clause-count g c =
     let u = sent c.args.case.now in

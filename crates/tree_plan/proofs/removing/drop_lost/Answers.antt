@@ -6,13 +6,6 @@ use Rattle.tree_plan.proofs.removing.drop_lost.Given as given
 use Rattle.tree_plan.proofs.removing.drop_lost.Goals as goal
 use Rattle.tree_plan.proofs.removing.drop_lost.Goals.{After-name-item}
 
-pub loop-name-init : goal.loop-name-init
-loop-name-init g c = record {
-  world = refl;
-  count = (omega arith, omega arith);
-  dropping = dropping_start g.before (sent c.args.case.now) c.args.case.now.compared.now.lost.items c.args.removing.now c.requires.1.1.0.found c.requires.1.1.1;
-}
-
 -- the name of a turn
 read : (g : given.Over) (c : After-name-item g) → slice_get c.args.case.now.compared.now.lost.items c.loop-name.name-index ≡ Some c.name-item.result
 read g c = read_at c.deref-name-items.result.now _ c.deref-name-items.ensures.value c.loop-name.name-index c.name-item.result c.loop-name-test.true c.name-item.is

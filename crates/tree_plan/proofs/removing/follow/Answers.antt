@@ -6,13 +6,6 @@ use Rattle.tree_plan.proofs.removing.follow.Given as given
 use Rattle.tree_plan.proofs.removing.follow.Goals as goal
 use Rattle.tree_plan.proofs.removing.follow.Goals.{After-index-id}
 
-pub loop-position-init : goal.loop-position-init
-loop-position-init g c = record {
-  world = refl;
-  count = (omega arith, omega arith);
-  following = following_start g.before (sent c.args.case.now) c.args.removing.now c.requires.1.1.0.found c.requires.1.1.1;
-}
-
 -- the node of a turn
 read : (g : given.Over) (c : After-index-id g) → slice_get c.loop-position.removing.queue.items c.loop-position.position ≡ Some c.index-id.result.now
 read g c = read_at c.loop-position.removing.queue.items _ refl c.loop-position.position c.index-id.result.now (omega (arith, c.len.ensures, c.if-position-len.false)) c.index-id.ensures
@@ -35,10 +28,3 @@ loop-position-preserved g c =
       following = following_more _ _ c.loop-position.position c.index-id.result.now c.args.removing.now c.loop-position.removing c.expand.new.removing (read g (goal.at.loop-position-preserved g c).After-index-id) before.following c.in_ok-expand.ensures.ok;
     }
 
-pub returns-then-position-len-clause-ok : goal.returns-then-position-len-clause-ok
-returns-then-position-len-clause-ok g c =
-    following_end g.before (sent c.args.case.now) c.loop-position.position c.args.removing.now c.loop-position.removing (omega (arith, c.len.ensures, c.if-position-len.true)) c.loop-position.invariant.following
-
-pub returns-clause-ok : goal.returns-clause-ok
-returns-clause-ok g c =
-    following_end g.before (sent c.args.case.now) c.loop-position.position c.args.removing.now c.loop-position.removing (omega (arith, c.loop-position.removing.queue.ok.0, c.loop-position-test.false)) c.loop-position.invariant.following
