@@ -191,11 +191,18 @@ fn boxed(alloc: Global, mut nodes: Vec<(NodeId, Node)>) -> Result<Waiting, Alloc
     while let Some((_, node)) = nodes.pop() {
         let place = None;
         waiting[nodes.len()] = Some(Box::new(alloc, Some(Record { place, node }))?);
-        if nodes.capacity() - nodes.len() > SPARE + nodes.len() / 16 {
-            nodes.shrink_to(0);
-        }
+        release(&mut nodes);
     }
     Ok(waiting)
+}
+
+// releases the spare memory of a list, if it is much
+fn release(nodes: &mut Vec<(NodeId, Node)>)
+    ensures { nodes.new.items ≡ nodes.old.items }
+{
+    if nodes.capacity() - nodes.len() > SPARE + nodes.len() / 16 {
+        nodes.shrink_to(0);
+    }
 }
 
 // applies this change to a node of a first state, which has no slot yet

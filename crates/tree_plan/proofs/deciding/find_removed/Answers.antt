@@ -8,14 +8,13 @@ use Rattle.tree_plan.proofs.deciding.find_removed.Goals as goal
 
 pub returns-clause-count : goal.returns-clause-count
 returns-clause-count g c =
-    let u = sent c.args.case.now in
     let climbs = c.in_ok-climb_all.ensures.counts in
     let settles = c.in_ok-settled.ensures.count in
     let removes = c.in_ok-removed.ensures.count in
     let refuses = c.in_ok-refuse_misplaced.ensures.count in
     record {
       steps = climbs.0;
-      are_steps = subst (λ v. AreSteps v u (named_ids v u) climbs.0) (c.refuse_misplaced.ensures.world ∙ c.remove.ensures.world ∙ c.settle.ensures.world) climbs.1;
+      are_steps = subst (λ v. AreSteps v (sent c.args.case.now) (named_ids v (sent c.args.case.now)) climbs.0) (c.refuse_misplaced.ensures.world ∙ c.remove.ensures.world ∙ c.settle.ensures.world) climbs.1;
       cut = c.in_ok-removed.ensures.trees;
       asked = (omega (arith, settles.0, removes.0, refuses, climbs.2.0), omega (arith, settles.1, removes.1, refuses, climbs.2.1));
     }

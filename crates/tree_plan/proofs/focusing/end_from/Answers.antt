@@ -23,8 +23,7 @@ grafting g c =
     let same = c.loop-depth.invariant.world in
     let id = c.loop-depth.id in
     let v : World = g.L.LookUps.world c.loop-depth.look_ups in
-    let aim : IsAimIn v id c.unwrap-aim.result = rw c.unwrap-aim.ensures at c.old_aim.ensures.aim in
-    (
+    let aim : IsAimIn v id c.unwrap-aim.result = rw c.unwrap-aim.ensures at c.old_aim.ensures.aim in (
       ap (λ v. graft_name v id) (sym same) ∙ aim_graft v id c.unwrap-aim.result aim ∙ c.in-Some.is,
       c.declared.ensures.focus ∙ ap (focus_named (g.L.LookUps.world c.old_aim.new.look_ups)) c.in-Some.inner-is ∙ ap (λ v. focus_named v c.in-Some.inner) (c.old_aim.ensures.looks.0 ∙ same),
     )

@@ -27,4 +27,3 @@ loop-position-preserved g c =
       count = (omega (arith, looks.1.0, before.count.0), omega (arith, looks.1.1, before.count.1));
       following = following_more _ _ c.loop-position.position c.index-id.result.now c.args.removing.now c.loop-position.removing c.expand.new.removing (read g (goal.at.loop-position-preserved g c).After-index-id) before.following c.in_ok-expand.ensures.ok;
     }
-
