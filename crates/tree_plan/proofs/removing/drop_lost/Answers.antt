@@ -1,6 +1,7 @@
 use Rattle.std.proofs.Common.{◌≡◌, ◌≤◌, Some, inr, length, slice_get, refl, subst, ◌∙◌, arith}
 use Rattle.tree_plan.specs.Cases.{sent}
 use Rattle.tree_plan.proofs.IdMaps.{contains_at, read_at}
+use Rattle.tree_plan.proofs.Passing.{looks_more}
 use Rattle.tree_plan.proofs.RemovingSteps.{dropping_start, dropping_fresh, dropping_more, dropping_end}
 use Rattle.tree_plan.proofs.removing.drop_lost.Given as given
 use Rattle.tree_plan.proofs.removing.drop_lost.Goals as goal
@@ -18,16 +19,13 @@ drop_tree-requires g c κs short =
     let lost = (case.comparison.lost c.name-item.result).0 (contains_at _ c.loop-name.name-index _ is) in
     let dropping = c.loop-name.invariant.dropping in
     let fresh = dropping_fresh w u _ c.loop-name.name-index _ c.args.removing.now c.loop-name.removing case.comparison.lost_once is dropping in
-    (short, (c.loop-name.invariant.world ∙ c.requires.1.0, (record { case = case; found = dropping.found }, ((lost.0, lost.2, inr lost.1), fresh))))
+    (short, (c.loop-name.invariant.looks.0 ∙ c.requires.1.0, (record { case = case; found = dropping.found }, ((lost.0, lost.2, inr lost.1), fresh))))
 
 pub loop-name-preserved : goal.loop-name-preserved
 loop-name-preserved g c =
-    let looks = c.drop_tree.ensures.looks in
-    let before = c.loop-name.invariant in
     record {
-      world = looks.0 ∙ before.world;
-      count = (omega (arith, looks.1.0, before.count.0), omega (arith, looks.1.1, before.count.1));
-      dropping = dropping_more _ _ c.args.case.now.compared.now.lost.items c.loop-name.name-index c.name-item.result c.args.removing.now c.loop-name.removing c.drop_tree.new.removing (read g (goal.at.loop-name-preserved g c).After-name-item) before.dropping c.in_ok-drop_tree.ensures.ok;
+      looks = looks_more g.L.LookUps.world g.L.LookUps.asked c.args.look_ups.now c.loop-name.look_ups c.drop_tree.new.look_ups c.loop-name.name-index 1 _ (omega arith) c.loop-name.invariant.looks c.drop_tree.ensures.looks;
+      dropping = dropping_more _ _ c.args.case.now.compared.now.lost.items c.loop-name.name-index c.name-item.result c.args.removing.now c.loop-name.removing c.drop_tree.new.removing (read g (goal.at.loop-name-preserved g c).After-name-item) c.loop-name.invariant.dropping c.in_ok-drop_tree.ensures.ok;
     }
 
 pub returns-clause-ok : goal.returns-clause-ok

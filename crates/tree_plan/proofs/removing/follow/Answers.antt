@@ -1,6 +1,7 @@
-use Rattle.std.proofs.Common.{◌≡◌, Some, slice_get, refl, ◌∙◌, arith}
+use Rattle.std.proofs.Common.{◌*◌, ◌≡◌, Some, slice_get, refl, ◌∙◌, arith}
 use Rattle.tree_plan.specs.Cases.{sent}
 use Rattle.tree_plan.proofs.IdMaps.{contains_at, read_at}
+use Rattle.tree_plan.proofs.Passing.{looks_more}
 use Rattle.tree_plan.proofs.RemovingSteps.{following_start, following_fresh, following_more, following_end}
 use Rattle.tree_plan.proofs.removing.follow.Given as given
 use Rattle.tree_plan.proofs.removing.follow.Goals as goal
@@ -16,14 +17,11 @@ expand-requires g c κs short =
     let case = c.requires.1.1.0.case in
     let i = c.loop-position.invariant in
     let fresh = following_fresh g.before (sent c.args.case.now) case.old c.loop-position.position _ c.args.removing.now c.loop-position.removing is i.following in
-    (short, (i.world ∙ c.requires.1.0, (record { case = case; found = i.following.found }, (contains_at _ c.loop-position.position _ is, fresh))))
+    (short, (i.looks.0 ∙ c.requires.1.0, (record { case = case; found = i.following.found }, (contains_at _ c.loop-position.position _ is, fresh))))
 
 pub loop-position-preserved : goal.loop-position-preserved
 loop-position-preserved g c =
-    let looks = c.expand.ensures.looks in
-    let before = c.loop-position.invariant in
     record {
-      world = looks.0 ∙ before.world;
-      count = (omega (arith, looks.1.0, before.count.0), omega (arith, looks.1.1, before.count.1));
-      following = following_more _ _ c.loop-position.position c.index-id.result.now c.args.removing.now c.loop-position.removing c.expand.new.removing (read g (goal.at.loop-position-preserved g c).After-index-id) before.following c.in_ok-expand.ensures.ok;
+      looks = looks_more g.L.LookUps.world g.L.LookUps.asked c.args.look_ups.now c.loop-position.look_ups c.expand.new.look_ups (2 * c.loop-position.position) 2 _ (omega arith) c.loop-position.invariant.looks c.expand.ensures.looks;
+      following = following_more _ _ c.loop-position.position c.index-id.result.now c.args.removing.now c.loop-position.removing c.expand.new.removing (read g (goal.at.loop-position-preserved g c).After-index-id) c.loop-position.invariant.following c.in_ok-expand.ensures.ok;
     }
