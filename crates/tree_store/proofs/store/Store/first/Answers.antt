@@ -1,13 +1,12 @@
 use Rattle.std.proofs.Common.{◌≡◌, true, None, refl, ap, sym, subst, ◌∙◌}
 use Rattle.schema.specs.UpdateData.{update_data}
-use Rattle.schema.specs.declared.TreeId.{TreeId}
 use Rattle.model.specs.declared.FullNodeId.{FullNodeId}
 use Rattle.model.specs.State.{empty_world}
 use Rattle.model.proofs.Update.UpdateLeavesState.{first_leaves_state}
 use Rattle.tree_store.specs.declared.store.Store.TheInside.{Inside}
 use Rattle.tree_store.specs.Cells.{record_at}
 use Rattle.tree_store.specs.Stored.{texts_shown}
-use Rattle.tree_store.specs.KeptNames.{name_at, kept_in}
+use Rattle.tree_store.specs.KeptNames.{kept_in}
 use Rattle.std.specs.Map.{lookup}
 use Rattle.std.specs.BTreeMap.{is_at}
 use Rattle.model.specs.FullIds.{name_cmp}
