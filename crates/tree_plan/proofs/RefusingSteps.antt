@@ -1,5 +1,5 @@
 -- The search for what is reached, and what is refused.
-use Rattle.std.proofs.Common.{◌≡◌, ◌≢◌, ◌⊎◌, ℕ, ◌+◌, ◌<◌, ◌≤◌, Bool, true, false, List, [], ◌∷◌, ◌++◌, length, map, get_or, Contains, Option, Some, None, ⊎_elim, inl, inr, refl, sym, ap, subst, ◌∙◌, arith}
+use Rattle.std.proofs.Common.{◌≡◌, ◌⊎◌, ℕ, ◌+◌, ◌<◌, ◌≤◌, Bool, true, false, List, [], ◌∷◌, ◌++◌, length, map, get_or, Contains, Option, Some, None, ⊎_elim, inl, inr, refl, sym, ap, subst, ◌∙◌, arith}
 use Rattle.std.specs.Prelude.{slice_get}
 use Rattle.std.specs.Option.{option_map, option_map_or}
 use Rattle.std.specs.BTreeSet.{BTreeSet, contains}
@@ -15,7 +15,7 @@ use Rattle.model.specs.World.{World, Place, IsNode, HasData, data_of, in_tree, l
 use Rattle.model.specs.World as world
 use Rattle.model.specs.Update.{UpdateData, IsNamed, index_for, merged_world}
 use Rattle.model.specs.Surgery.{IsOld, HasEntered, Gone, IsRefined}
-use Rattle.model.proofs.Worlds.Names.{cases_id, certain}
+use Rattle.model.proofs.Worlds.Names.{certain}
 use Rattle.model.proofs.State.StatePlaces.{value_of, listed_tree}
 use Rattle.model.proofs.Members.{contains_none, contains_first}
 use Rattle.model.proofs.Surgery.Spots.{unnamed_data, root_reached}
@@ -33,7 +33,7 @@ use Rattle.tree_plan.specs.declared.refusing.Search.{Search}
 use Rattle.tree_plan.specs.Passes.{at, has, HoldsOpened, HoldsCompared, HoldsSettled, HoldsRemoved}
 use Rattle.tree_plan.specs.Refusing.{AreListed, IsOfUnlisted, IsKept, IsListedStill, IsSearch, Enqueues, SearchesAll, HasReached, Explains}
 use Rattle.model.proofs.Update.RulesOrFault.{no_some}
-use Rattle.tree_plan.proofs.IdMaps.{Put, put_here, put_apart, contains_at, at_contains}
+use Rattle.tree_plan.proofs.IdMaps.{Put, contains_at, at_contains}
 use Rattle.tree_plan.proofs.Entries.{entry_named}
 use Rattle.tree_plan.proofs.Arrived.{not_arrived, no_arrival}
 use Rattle.tree_plan.proofs.RemovingSteps.{push_keeps, contains_one, contains_push, contains_last, pushed_last, pushed_cases, put_pushed}

@@ -1,10 +1,9 @@
-use Rattle.std.proofs.Common.{sym, ap, subst, ◌∙◌, arith}
+use Rattle.std.proofs.Common.{ap, subst, ◌∙◌, arith}
 use Rattle.schema.specs.UpdateData.{update_data}
 use Rattle.model.specs.Differences.{told_root}
 use Rattle.model.specs.Work.{named_ids}
-use Rattle.model.specs.Surgery.{IsClimbed, AreSteps}
+use Rattle.model.specs.Surgery.{AreSteps}
 use Rattle.tree_plan.specs.Passes.{HoldsRemoved, HoldsRegrafted}
-use Rattle.tree_plan.proofs.Passing.{passed_refusal, as_case}
 use Rattle.tree_plan.proofs.deciding.find.Goals as goal
 
 pub returns-clause-ok : goal.returns-clause-ok

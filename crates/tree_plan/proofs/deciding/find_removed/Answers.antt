@@ -1,9 +1,7 @@
-use Rattle.std.proofs.Common.{sym, subst, ◌∙◌, arith}
+use Rattle.std.proofs.Common.{subst, ◌∙◌, arith}
 use Rattle.model.specs.Work.{named_ids}
-use Rattle.model.specs.Surgery.{IsSettled, IsRefined, IsClimbed, AreSteps}
-use Rattle.tree_plan.specs.Passes.{HoldsSettled, HoldsRemoved}
-use Rattle.tree_plan.specs.Cases.{IsCase, sent}
-use Rattle.tree_plan.proofs.Passing.{passed_refusal}
+use Rattle.model.specs.Surgery.{AreSteps}
+use Rattle.tree_plan.specs.Cases.{sent}
 use Rattle.tree_plan.proofs.deciding.find_removed.Goals as goal
 
 pub returns-clause-count : goal.returns-clause-count

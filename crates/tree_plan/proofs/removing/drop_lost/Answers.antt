@@ -1,8 +1,8 @@
-use Rattle.std.proofs.Common.{◌≡◌, ◌≤◌, Some, inr, length, slice_get, refl, subst, ◌∙◌, arith}
+use Rattle.std.proofs.Common.{◌≡◌, ◌≤◌, Some, inr, length, slice_get, subst, ◌∙◌, arith}
 use Rattle.tree_plan.specs.Cases.{sent}
 use Rattle.tree_plan.proofs.IdMaps.{contains_at, read_at}
 use Rattle.tree_plan.proofs.Passing.{looks_more}
-use Rattle.tree_plan.proofs.RemovingSteps.{dropping_start, dropping_fresh, dropping_more, dropping_end}
+use Rattle.tree_plan.proofs.RemovingSteps.{dropping_fresh, dropping_more, dropping_end}
 use Rattle.tree_plan.proofs.removing.drop_lost.Given as given
 use Rattle.tree_plan.proofs.removing.drop_lost.Goals as goal
 use Rattle.tree_plan.proofs.removing.drop_lost.Goals.{After-name-item}

@@ -2,7 +2,7 @@ use Rattle.std.proofs.Common.{◌*◌, ◌≡◌, Some, slice_get, refl, ◌∙�
 use Rattle.tree_plan.specs.Cases.{sent}
 use Rattle.tree_plan.proofs.IdMaps.{contains_at, read_at}
 use Rattle.tree_plan.proofs.Passing.{looks_more}
-use Rattle.tree_plan.proofs.RemovingSteps.{following_start, following_fresh, following_more, following_end}
+use Rattle.tree_plan.proofs.RemovingSteps.{following_fresh, following_more}
 use Rattle.tree_plan.proofs.removing.follow.Given as given
 use Rattle.tree_plan.proofs.removing.follow.Goals as goal
 use Rattle.tree_plan.proofs.removing.follow.Goals.{After-index-id}
