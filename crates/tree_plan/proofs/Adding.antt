@@ -170,8 +170,8 @@ module _ (s : Transition) where
         let here : get_or (keys_of es) k d.0 ≡ (get_or xs k d).0 = key_at es k d lt ∙ ap (λ (ys : List (FullNodeId × X)). (get_or ys k d).0) (sym all) in
         adds_next (take k (keys_of es)) (take (k + 1) (keys_of es)) (get_or xs k d).0 a b c (take_more (keys_of es) k d.0 (omega arith) ∙ ap (λ x. take k (keys_of es) ++ x ∷ []) here) f g
 
-    pub all_rows : (k : ℕ) (a b : Verdicts) → length es ≤ k → Adds s (take k (keys_of es)) a b → Adds s (keys_of es) a b
-    all_rows k a b fits h = let long = length-keys_of es in subst (λ l. Adds s l a b) (take_all k (keys_of es) (omega arith)) h
+    pub all_rows : (xs : List (FullNodeId × X)) → xs ≡ es → (k : ℕ) (a b : Verdicts) → length xs ≤ k → Adds s (take k (keys_of es)) a b → Adds s (keys_of es) a b
+    all_rows xs all k a b fits h = let long = length-keys_of es in let same = ap length all in subst (λ l. Adds s l a b) (take_all k (keys_of es) (omega arith)) h
 
   -- what is said of the verdicts once they are sorted
   pub settled : (vs rows : Verdicts) → AreSound s vs → ((id : FullNodeId) (v : Verdict) → at rows id ≡ Some v → Contains vs (id, v)) → ((id : FullNodeId) (v : Verdict) → Contains vs (id, v) → IsSome (at rows id))

@@ -1,5 +1,5 @@
 -- What entered, by the arrivals that the comparison found.
-use Rattle.std.proofs.Common.{◌≡◌, ◌⊎◌, ⊎_elim, true, false, Some, None, option_map, sym, ap, ◌∙◌}
+use Rattle.std.proofs.Common.{◌≡◌, ⊎_elim, true, false, Some, None, option_map, sym, ap, ◌∙◌}
 use Rattle.std.proofs.lemmas.Option.{same_Some}
 use Rattle.model.specs.declared.FullNodeId.{FullNodeId}
 use Rattle.model.specs.World.{World}

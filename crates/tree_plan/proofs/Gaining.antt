@@ -1,7 +1,7 @@
 -- Trees that get another graft, one after another.
-use Rattle.std.proofs.Common.{◌≡◌, ◌≢◌, ◌⊎◌, ℕ, ◌<◌, List, [], ◌∷◌, ◌++◌, length, map, take, get_or, Some, None, IsSome, ◌↔◌, refl, sym, ap, subst, ◌∙◌, inl, inr, ⊎_elim, arith}
+use Rattle.std.proofs.Common.{◌≡◌, ◌≢◌, ◌⊎◌, ℕ, ◌<◌, ◌≤◌, List, [], ◌∷◌, ◌++◌, length, map, take, get_or, Some, None, IsSome, ◌↔◌, refl, sym, ap, subst, ◌∙◌, inl, inr, ⊎_elim, arith}
 use Rattle.std.specs.List.{Contains, AllPairs}
-use Rattle.std.proofs.lemmas.List.{get_or-take, map-append, get_or-map, length-map, length-take-le, get_or_default}
+use Rattle.std.proofs.lemmas.List.{get_or-take, map-append, get_or-map, length-map, length-take-le, get_or_default, take_all}
 use Rattle.std.proofs.lemmas.List.Elements.{Contains-get_or, Contains-append_left, Contains-push, Contains-push_cases}
 use Rattle.schema.specs.declared.TreeId.{TreeId}
 use Rattle.model.specs.declared.FullNodeId.{FullNodeId}
@@ -75,7 +75,7 @@ module _ (w : World) (u : UpdateData) (c : Compared) (r : Removed) (compared : H
       let low : h.0 < k = omega (arith, h.1) in
       compared.gained_once h.0 k x low fits (sym (get_or-take k xs h.0 x low) ∙ h.2 ∙ get_or_default xs k d x fits)
 
-  pub regrafted_all : (removed : HoldsRemoved w u r) → IsClimbed w u → (found : Regrafted) → AreRegrafted w u c r c.gained.items found → HoldsRegrafted w u found.trees.items found.moved_in
+  regrafted_all : (removed : HoldsRemoved w u r) → IsClimbed w u → (found : Regrafted) → AreRegrafted w u c r c.gained.items found → HoldsRegrafted w u found.trees.items found.moved_in
   regrafted_all removed climbed found all = record {
     passed = record { climbed = climbed; rival_gone = λ n g name named grafts gained was. apart g (all.free name ((compared.gained name).1 (n, (named, grafts, gained))) g was) };
     gained = λ t. subst (λ xs. Contains xs t ↔ IsGained w u t) (sym all.trees) (to t, from t);
@@ -118,3 +118,7 @@ module _ (w : World) (u : UpdateData) (c : Compared) (r : Removed) (compared : H
   rival_refused o removed climbed name gained h =
       let f = (compared.gained name).0 gained in
       rival_stands w u o climbed f.0 h.0 name f.1.0 f.1.1 f.1.2 h.1 (λ gone. h.2 ((removed.gone h.0).1 gone)) (λ named. let n = value_of (at c.named h.0) (compared.has_named h.0 named) in let no : None ≡ Some n.0 = sym h.3 ∙ n.1 in cc)
+
+  -- once all names are gone over
+  pub regrafted_in_the_end : (k : ℕ) → length c.gained.items ≤ k → HoldsRemoved w u r → IsClimbed w u → (found : Regrafted) → AreRegrafted w u c r (take k c.gained.items) found → HoldsRegrafted w u found.trees.items found.moved_in
+  regrafted_in_the_end k fits removed climbed found all = regrafted_all removed climbed found (subst (λ names. AreRegrafted w u c r names found) (take_all k c.gained.items fits) all)

@@ -122,3 +122,10 @@ module _ (parent : FullNodeId) (this other : List FullNodeId) where
         let i : h.0 ≡ k = ap (λ (x : Place). x.1) (same_Some p r e) in
         let lt : h.0 < k = h.1 in
         omega arith
+
+    -- what enters at this index, after what entered before it
+    pub gathers_next : (f g h : Spots) → Gathers (OnlyInBefore k parent this other) f g → Gathers (OnlyAt (Some (parent, k)) (slice_get this k) (slice_get other k)) g h → Gathers (OnlyInBefore (k + 1) parent this other) f h
+    gathers_next f g h before here = gathers_both (OnlyInBefore k parent this other) (OnlyAt (Some (parent, k)) (slice_get this k) (slice_get other k)) (OnlyInBefore (k + 1) parent this other) next_from next_left next_right next_apart f g h before here
+
+    pub gathers_all : length this ≤ k → (f g : Spots) → Gathers (OnlyInBefore k parent this other) f g → Gathers (OnlyIn parent this other) f g
+    gathers_all fits f g before = gathers_same (OnlyInBefore k parent this other) (OnlyIn parent this other) all_left (all_from fits) f g before

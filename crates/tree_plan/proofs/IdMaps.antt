@@ -10,7 +10,7 @@ use Rattle.std.proofs.lemmas.Bool.{cases_lt}
 use Rattle.std.proofs.lemmas.Map.{lookup-set_value}
 use Rattle.std.proofs.lemmas.Map.Keys.{IsDistinct-from_sorted}
 use Rattle.std.proofs.lemmas.Map.Entries.{lookup_from_place}
-use Rattle.std.proofs.lemmas.Option.{same_Some, slice_get-get_or, slice_get_within, get_or_from_slice_get}
+use Rattle.std.proofs.lemmas.Option.{same_Some, slice_get-get_or, slice_get_read, slice_get_within, get_or_from_slice_get}
 use Rattle.model.specs.declared.FullNodeId.{FullNodeId}
 use Rattle.model.specs.FullIds.{full_cmp, exact_full, full_total}
 use Rattle.model.proofs.Members.{contains_none, contains_cases}
@@ -62,6 +62,10 @@ at_contains {X} (y ∷ ys) x h = go (contains_cases y x ys h) (at_contains ys x)
     go : (y ≡ x) ⊎ Contains ys x → (Contains ys x → (i : ℕ) × (slice_get ys i ≡ Some x)) → (i : ℕ) × (slice_get (y ∷ ys) i ≡ Some x)
     go (inl same) later = (0, ap Some same)
     go (inr h) later = let f = later h in (suc f.0, f.1)
+
+-- what is read of a slice that is this list
+pub read_at : {X : Type 0} (xs ys : List X) → xs ≡ ys → (k : ℕ) (x : X) → k < length xs → x ≡ get_or xs k x → slice_get ys k ≡ Some x
+read_at xs ys same k x within is = subst (λ zs. slice_get zs k ≡ Some x) same (slice_get_read xs (length xs) k x refl within is)
 
 -- ---- an entry that gets another value
 

@@ -12,7 +12,8 @@ use Rattle.model.proofs.Members.{contains_none, contains_first, contains_cases}
 use Rattle.model.proofs.State.StatePlaces.{map_some}
 use Rattle.tree_plan.specs.declared.passes.Arrival.{Arrival}
 use Rattle.tree_plan.specs.declared.passes.Comparing.{Comparing}
-use Rattle.tree_plan.specs.Comparisons.{Spots, Arrivals, arrival_at, spot_entry, spots_of, IsShiftedIn, OnlyPlain, Gathers, OnlyAt, Leaves, ComparesChild}
+use Rattle.tree_plan.specs.declared.comparing.Lists.{Lists}
+use Rattle.tree_plan.specs.Comparisons.{Spots, Arrivals, arrival_at, spot_entry, spots_of, IsShiftedIn, OnlyPlain, Gathers, OnlyAt, Leaves, ComparesChild, ids_before, ids_after}
 use Rattle.tree_plan.proofs.Gathering.{gathers_none, gathers_one}
 use Rattle.tree_plan.proofs.IdMaps.{contains_at, at_contains}
 
@@ -210,3 +211,14 @@ child_was tree xs k n is =
 
 pub child_elsewhere : (tree : ℕ) (xs : List NodeId) (k : ℕ) (n : NodeId) → slice_get xs k ≢ Some n → slice_get (map (in_tree tree) xs) k ≢ Some (in_tree tree n)
 child_elsewhere tree xs k n other is = other (child_was tree xs k n is)
+
+-- ---- the lists of a node, from one step of the comparison to another
+
+abbrev pub LeavesLists : Lists → ℕ → ℕ → Comparing → Comparing → Type 0
+LeavesLists lists from to a b = Leaves lists.parent (ids_before lists) (ids_after lists) from to a.left b.left a.entered b.entered
+
+pub lists_none : (lists : Lists) (k : ℕ) (a : Comparing) → LeavesLists lists k k a a
+lists_none lists k a = leaves_none lists.parent (ids_before lists) (ids_after lists) k k a.left a.entered (omega arith)
+
+pub lists_both : (lists : Lists) (from mid to : ℕ) (a b c : Comparing) → LeavesLists lists from mid a b → LeavesLists lists mid to b c → LeavesLists lists from to a c
+lists_both lists from mid to a b c f g = leaves_both lists.parent (ids_before lists) (ids_after lists) from mid to a.left b.left c.left a.entered b.entered c.entered f g

@@ -1,4 +1,5 @@
 pub mod Entries
+pub mod Passing
 pub mod Arrived
 pub mod Becoming
 pub mod Adding

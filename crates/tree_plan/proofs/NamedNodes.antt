@@ -38,7 +38,7 @@ use Rattle.model.proofs.Update.RulesOrFault.{no_some}
 use Rattle.model.specs.FullIds.{name_cmp}
 use Rattle.tree_plan.proofs.IdMaps.{contains_at, at_contains, put_here, put_apart, some_is}
 use Rattle.tree_plan.proofs.Opens.{tree_is}
-use Rattle.tree_plan.proofs.Taking.{entry_id, last_or_before, value_at}
+use Rattle.tree_plan.proofs.Taking.{IsTurn, entry_id, last_or_before, value_at}
 
 -- ---- elements of lists
 
@@ -280,61 +280,47 @@ module _ (w : World) (u : UpdateData) (o : IsOld w) where
           (λ same. (s.grafted.taken name (sym graft_here ∙ subst (λ x. graft_name m x ≡ Some name) (sym same) grafts)).1 ∙ ap Some same)
           (last_named n before)
 
-      abbrev Lost : ℕ → TreeId → Type 0
-      Lost j name = (n : FullNodeId) × IsNamedBefore w u j n × (graft_name w n ≡ Some name) × (graft_name m n ≢ Some name)
+      -- the first so many nodes have a tree of this name by f, and not by g
+      abbrev Only : (FullNodeId → Option TreeId) → (FullNodeId → Option TreeId) → ℕ → TreeId → Type 0
+      Only f g j name = (n : FullNodeId) × IsNamedBefore w u j n × (f n ≡ Some name) × (g n ≢ Some name)
 
-      abbrev Gained : ℕ → TreeId → Type 0
-      Gained j name = (n : FullNodeId) × IsNamedBefore w u j n × (graft_name m n ≡ Some name) × (graft_name w n ≢ Some name)
+      only_later : (f g : FullNodeId → Option TreeId) (name : TreeId) → Only f g k name → Only f g (k + 1) name
+      only_later f g name h = (h.0, later_named k h.0 h.1, h.2, h.3)
 
-      lost_next : (name : TreeId) → Contains b.lost.items name ↔ Lost (k + 1) name
-      lost_next name = go s.compares.regrafted
+      -- a list of these names gets that of the node, if it is one
+      only_next : (f g : FullNodeId → Option TreeId) (xs ys : List TreeId) → ((name : TreeId) → Contains xs name ↔ Only f g k name)
+          → ((f id ≡ g id) × (ys ≡ xs)) ⊎ ((f id ≢ g id) × (ys ≡ xs ++ option_to_list (f id))) → (name : TreeId) → Contains ys name ↔ Only f g (k + 1) name
+      only_next f g xs ys before (inl one) name = (
+        (λ c. only_later f g name ((before name).0 (subst (λ zs. Contains zs name) one.1 c))),
+        (λ x. subst (λ zs. Contains zs name) (sym one.1) (⊎_elim
+            (λ earlier. (before name).1 (x.0, earlier, x.2, x.3))
+            (λ same. absurd (x.3 (subst (λ y. g y ≡ Some name) same (sym one.0 ∙ subst (λ y. f y ≡ Some name) (sym same) x.2))))
+            (last_named x.0 x.1))),
+      )
+      only_next f g xs ys before (inr two) name = (
+        (λ c. ⊎_elim
+            (λ earlier. only_later f g name ((before name).0 earlier))
+            (λ now. let is : f id ≡ Some name = in_option (f id) name now in (id, named_here, is, λ other. two.0 (is ∙ sym other)))
+            (Contains-append_cases xs (option_to_list (f id)) name (subst (λ zs. Contains zs name) two.1 c))),
+        (λ x. subst (λ zs. Contains zs name) (sym two.1) (⊎_elim
+            (λ earlier. Contains-append_left xs (option_to_list (f id)) name ((before name).1 (x.0, earlier, x.2, x.3)))
+            (λ same. Contains-append_right xs (option_to_list (f id)) name (option_has (f id) name (subst (λ y. f y ≡ Some name) (sym same) x.2)))
+            (last_named x.0 x.1))),
+      )
+
+      lost_next : (name : TreeId) → Contains b.lost.items name ↔ Only (graft_name w) (graft_name m) (k + 1) name
+      lost_next = only_next (graft_name w) (graft_name m) a.lost.items b.lost.items h.lost (go s.compares.regrafted)
         where
-          weaker : Lost k name → Lost (k + 1) name
-          weaker f = (f.0, later_named k f.0 f.1, f.2, f.3)
+          go : ChangesGraft (graft_name w id) e.1.tree_id a b → ((graft_name w id ≡ graft_name m id) × (b.lost.items ≡ a.lost.items)) ⊎ ((graft_name w id ≢ graft_name m id) × (b.lost.items ≡ a.lost.items ++ option_to_list (graft_name w id)))
+          go (inl f) = inl (f.0 ∙ sym graft_here, f.1)
+          go (inr f) = inr (λ same. f.0 (same ∙ graft_here), f.1)
 
-          go : ChangesGraft (graft_name w id) e.1.tree_id a b → Contains b.lost.items name ↔ Lost (k + 1) name
-          go (inl f) = (
-            (λ c. weaker ((h.lost name).0 (subst (λ xs. Contains xs name) f.1 c))),
-            (λ x. subst (λ xs. Contains xs name) (sym f.1) (⊎_elim
-                (λ earlier. (h.lost name).1 (x.0, earlier, x.2, x.3))
-                (λ same. absurd (x.3 (subst (λ y. graft_name m y ≡ Some name) same (graft_here ∙ sym f.0 ∙ subst (λ y. graft_name w y ≡ Some name) (sym same) x.2))))
-                (last_named x.0 x.1))),
-          )
-          go (inr f) = (
-            (λ c. ⊎_elim
-                (λ before. weaker ((h.lost name).0 before))
-                (λ now. let was : graft_name w id ≡ Some name = in_option (graft_name w id) name now in (id, named_here, was, λ is. f.0 (was ∙ sym is ∙ graft_here)))
-                (Contains-append_cases a.lost.items (option_to_list (graft_name w id)) name (subst (λ xs. Contains xs name) f.1 c))),
-            (λ x. subst (λ xs. Contains xs name) (sym f.1) (⊎_elim
-                (λ earlier. Contains-append_left a.lost.items (option_to_list (graft_name w id)) name ((h.lost name).1 (x.0, earlier, x.2, x.3)))
-                (λ same. Contains-append_right a.lost.items (option_to_list (graft_name w id)) name (option_has (graft_name w id) name (subst (λ y. graft_name w y ≡ Some name) (sym same) x.2)))
-                (last_named x.0 x.1))),
-          )
-
-      gained_next : (name : TreeId) → Contains b.gained.items name ↔ Gained (k + 1) name
-      gained_next name = go s.compares.regrafted
+      gained_next : (name : TreeId) → Contains b.gained.items name ↔ Only (graft_name m) (graft_name w) (k + 1) name
+      gained_next = only_next (graft_name m) (graft_name w) a.gained.items b.gained.items h.gained (go s.compares.regrafted)
         where
-          weaker : Gained k name → Gained (k + 1) name
-          weaker f = (f.0, later_named k f.0 f.1, f.2, f.3)
-
-          go : ChangesGraft (graft_name w id) e.1.tree_id a b → Contains b.gained.items name ↔ Gained (k + 1) name
-          go (inl f) = (
-            (λ c. weaker ((h.gained name).0 (subst (λ xs. Contains xs name) f.2 c))),
-            (λ x. subst (λ xs. Contains xs name) (sym f.2) (⊎_elim
-                (λ earlier. (h.gained name).1 (x.0, earlier, x.2, x.3))
-                (λ same. absurd (x.3 (subst (λ y. graft_name w y ≡ Some name) same (f.0 ∙ sym graft_here ∙ subst (λ y. graft_name m y ≡ Some name) (sym same) x.2))))
-                (last_named x.0 x.1))),
-          )
-          go (inr f) = (
-            (λ c. ⊎_elim
-                (λ before. weaker ((h.gained name).0 before))
-                (λ now. let is : e.1.tree_id ≡ Some name = in_option e.1.tree_id name now in (id, named_here, graft_here ∙ is, λ was. f.0 (was ∙ sym is)))
-                (Contains-append_cases a.gained.items (option_to_list e.1.tree_id) name (subst (λ xs. Contains xs name) f.2 c))),
-            (λ x. subst (λ xs. Contains xs name) (sym f.2) (⊎_elim
-                (λ earlier. Contains-append_left a.gained.items (option_to_list e.1.tree_id) name ((h.gained name).1 (x.0, earlier, x.2, x.3)))
-                (λ same. Contains-append_right a.gained.items (option_to_list e.1.tree_id) name (option_has e.1.tree_id name (sym graft_here ∙ subst (λ y. graft_name m y ≡ Some name) (sym same) x.2)))
-                (last_named x.0 x.1))),
-          )
+          go : ChangesGraft (graft_name w id) e.1.tree_id a b → ((graft_name m id ≡ graft_name w id) × (b.gained.items ≡ a.gained.items)) ⊎ ((graft_name m id ≢ graft_name w id) × (b.gained.items ≡ a.gained.items ++ option_to_list (graft_name m id)))
+          go (inl f) = inl (graft_here ∙ sym f.0, f.2)
+          go (inr f) = inr (λ same. f.0 (sym same ∙ graft_here), f.2 ∙ ap (λ x. a.gained.items ++ option_to_list x) (sym graft_here))
 
       lost_new : (v : TreeId) → graft_name w id ≡ Some v → Contains a.lost.items v → ⊥
       lost_new v was c = let f = (h.lost v).0 c in apart f.0 f.1 (o.grafted_once id f.0 v was f.2)
@@ -567,3 +553,16 @@ module _ (w : World) (u : UpdateData) (o : IsOld w) where
         lost_count = subst (λ x. length x.items ≤ length u.nodes) (sym l.lost) h.lost_count;
         gained_count = subst (λ x. length x.items ≤ length u.nodes) (sym l.gained) h.gained_count;
       }
+
+-- ---- a turn of the loop over the entries
+
+module _ {w : World} {u : UpdateData} {k : ℕ} {e : NodeId × NodeData} {id : FullNodeId} (o : IsOld w) (once : AreNamedOnce u.nodes) (turn : IsTurn w u k e id) (a : Comparing) (h : AreCompared w u k a) where
+  pub turn_known : IsSome (at a.named id)
+  turn_known = subst (λ (x : FullNodeId). IsSome (at a.named x)) (sym turn.names) (named_known w u o once k e turn.at a h)
+
+  pub turn_compared : (v : World) → v ≡ w → (b : Comparing) → ComparesNode v id k e.1 a b → AreCompared w u (k + 1) b
+  turn_compared v same b step = compared_next w u o once k e turn.at a b h
+      (subst (λ (x : FullNodeId). ComparesNode w x k e.1 a b) turn.names (subst (λ (x : World). ComparesNode x id k e.1 a b) same step))
+
+  pub turn_refused : (f : UpdateError) → IsGraftFault id e.1 (at_name a.grafted) f → IsRefusal w u f
+  turn_refused f fault = node_refused w u o once k e turn.at a h f (subst (λ (x : FullNodeId). IsGraftFault x e.1 (at_name a.grafted) f) turn.names fault)

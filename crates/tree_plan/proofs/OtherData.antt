@@ -35,7 +35,7 @@ use Rattle.tree_plan.specs.News.{KeepsForest, AllKeep, IsNamedOnce}
 use Rattle.tree_plan.proofs.Entries.{entry_named}
 use Rattle.tree_plan.proofs.IdMaps.{at_contains}
 use Rattle.tree_plan.proofs.Opens.{tree_is}
-use Rattle.tree_plan.proofs.Trees.{KnownAlike, AreAfter, same_option}
+use Rattle.tree_plan.proofs.Trees.{KnownAlike, AreAfter, both_parts, same_option}
 use Rattle.tree_plan.proofs.Forests.{HaveOneForest, root_same, root_named_same, tree_named_same, lists_same, grafts_same, stands_same, reached_same, kept_same, chain_same}
 
 pub same_data : (d : NodeData) → KeepsForest d d
@@ -57,13 +57,6 @@ module _ (w : World) (u : UpdateData) (o : IsOld w) (op : Opened) (opening : Hol
   i = index_for w u.name
 
   -- ---- the head
-
-  both_parts : (x : Option Tree) (a b : NodeId) → option_map (λ t. t.root) x ≡ Some a → option_map (λ t. t.focus) x ≡ Some b → x ≡ Some (record { root = a; focus = b })
-  both_parts None a b e f = cc
-  both_parts (Some t) a b e f =
-      let root : t.root ≡ a = same_Some t.root a e in
-      let focus : t.focus ≡ b = same_Some t.focus b f in
-      ap Some (λ j. record { root = root j; focus = focus j })
 
   tree_before : get w.trees i ≡ Some (record { root = op.root; focus = u.focus })
   tree_before = tree_is w o u.name ∙ both_parts (look.tree_named w u.name) op.root u.focus (sym opening.record_of.root ∙ sym (ap (λ r. r.root) same)) (sym opening.record_of.focus ∙ sym (ap (λ r. r.focus) same))

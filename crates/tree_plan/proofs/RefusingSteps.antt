@@ -1,5 +1,5 @@
 -- The search for what is reached, and what is refused.
-use Rattle.std.proofs.Common.{◌≡◌, ◌≢◌, ◌⊎◌, ℕ, ◌+◌, ◌<◌, ◌≤◌, Bool, true, false, List, [], ◌∷◌, ◌++◌, length, map, get_or, Contains, Option, Some, None, ⊎_elim, inl, inr, refl, sym, ap, subst, ◌∙◌, arith}
+use Rattle.std.proofs.Common.{◌≡◌, ◌⊎◌, ℕ, ◌+◌, ◌<◌, ◌≤◌, Bool, true, false, List, [], ◌∷◌, ◌++◌, length, map, get_or, Contains, Option, Some, None, ⊎_elim, inl, inr, refl, sym, ap, subst, ◌∙◌, arith}
 use Rattle.std.specs.Prelude.{slice_get}
 use Rattle.std.specs.Option.{option_map, option_map_or}
 use Rattle.std.specs.BTreeSet.{BTreeSet, contains}
@@ -15,7 +15,7 @@ use Rattle.model.specs.World.{World, Place, IsNode, HasData, data_of, in_tree, l
 use Rattle.model.specs.World as world
 use Rattle.model.specs.Update.{UpdateData, IsNamed, index_for, merged_world}
 use Rattle.model.specs.Surgery.{IsOld, HasEntered, Gone, IsRefined}
-use Rattle.model.proofs.Worlds.Names.{cases_id, certain}
+use Rattle.model.proofs.Worlds.Names.{certain}
 use Rattle.model.proofs.State.StatePlaces.{value_of, listed_tree}
 use Rattle.model.proofs.Members.{contains_none, contains_first}
 use Rattle.model.proofs.Surgery.Spots.{unnamed_data, root_reached}
@@ -33,10 +33,10 @@ use Rattle.tree_plan.specs.declared.refusing.Search.{Search}
 use Rattle.tree_plan.specs.Passes.{at, has, HoldsOpened, HoldsCompared, HoldsSettled, HoldsRemoved}
 use Rattle.tree_plan.specs.Refusing.{AreListed, IsOfUnlisted, IsKept, IsListedStill, IsSearch, Enqueues, SearchesAll, HasReached, Explains}
 use Rattle.model.proofs.Update.RulesOrFault.{no_some}
-use Rattle.tree_plan.proofs.IdMaps.{Put, put_here, put_apart, contains_at, at_contains}
+use Rattle.tree_plan.proofs.IdMaps.{Put, contains_at, at_contains}
 use Rattle.tree_plan.proofs.Entries.{entry_named}
 use Rattle.tree_plan.proofs.Arrived.{not_arrived, no_arrival}
-use Rattle.tree_plan.proofs.RemovingSteps.{push_keeps, contains_one, contains_push, contains_last}
+use Rattle.tree_plan.proofs.RemovingSteps.{push_keeps, contains_one, contains_push, contains_last, pushed_last, pushed_cases, put_pushed}
 
 -- ---- the search
 
@@ -53,26 +53,11 @@ adds_none a search = record { search = search; queue = λ i x e. e; added = λ x
 
 pub adds_new : (id : FullNodeId) (a b : Search) → IsSearch a → Put id true (λ q. contains full_cmp a.seen q) (λ q. contains full_cmp b.seen q) → b.queue.items ≡ a.queue.items ++ id ∷ [] → Enqueues (id ∷ []) a b
 adds_new id a b search put queue = record {
-  search = λ x. (to x, from x);
+  search = put_pushed id a.seen b.seen a.queue.items b.queue.items search put queue;
   queue = λ i x e. subst (λ xs. slice_get xs i ≡ Some x) (sym queue) (push_keeps a.queue.items id i x e);
-  added = λ x h. subst (Contains b.queue.items) (contains_one id x h) here;
-  only = λ x h. ⊎_elim inl (λ same. inr (subst (Contains (id ∷ [])) same (contains_first id []))) (cases x h);
+  added = λ x h. subst (Contains b.queue.items) (contains_one id x h) (pushed_last a.queue.items b.queue.items id queue);
+  only = λ x h. ⊎_elim inl (λ same. inr (subst (Contains (id ∷ [])) same (contains_first id []))) (pushed_cases a.queue.items b.queue.items id queue x h);
 }
-  where
-    here : Contains b.queue.items id
-    here = subst (λ xs. Contains xs id) (sym queue) (contains_last a.queue.items id)
-
-    cases : (q : FullNodeId) → Contains b.queue.items q → Contains a.queue.items q ⊎ (id ≡ q)
-    cases q h = contains_push a.queue.items id q (subst (λ xs. Contains xs q) queue h)
-
-    apart : (q : FullNodeId) → id ≢ q → contains full_cmp b.seen q ≡ contains full_cmp a.seen q
-    apart q other = put_apart id true (λ x. contains full_cmp a.seen x) (λ x. contains full_cmp b.seen x) put q other
-
-    to : (q : FullNodeId) → has b.seen q → Contains b.queue.items q
-    to q h = ⊎_elim (λ same. subst (Contains b.queue.items) same here) (λ other. subst (λ xs. Contains xs q) (sym queue) (Contains-append_left a.queue.items (id ∷ []) q ((search q).0 (sym (apart q other) ∙ h)))) (cases_id id q)
-
-    from : (q : FullNodeId) → Contains b.queue.items q → has b.seen q
-    from q h = ⊎_elim (λ same. subst (has b.seen) same (put_here id true (λ x. contains full_cmp a.seen x) (λ x. contains full_cmp b.seen x) put)) (λ other. apart q other ∙ (search q).1 (⊎_elim (λ before. before) (λ same. absurd (other same)) (cases q h))) (cases_id id q)
 
 kept : (a b : Search) → ((i : ℕ) (id : FullNodeId) → slice_get a.queue.items i ≡ Some id → slice_get b.queue.items i ≡ Some id) → (id : FullNodeId) → Contains a.queue.items id → Contains b.queue.items id
 kept a b queue id h = let f = at_contains a.queue.items id h in contains_at b.queue.items f.0 id (queue f.0 id f.1)

@@ -2,7 +2,7 @@
 use Rattle.std.proofs.Common.{◌≡◌, ◌≢◌, ◌⊎◌, ◌↔◌, ℕ, zero, suc, ◌+◌, ◌<◌, ◌≤◌, true, false, List, [], ◌∷◌, ◌++◌, length, map, get_or, Contains, AllPairs, Option, Some, None, ⊎_elim, inl, inr, refl, sym, ap, subst, ◌∙◌, arith, length-append}
 use Rattle.std.specs.Prelude.{is_some, slice_get}
 use Rattle.std.specs.Option.{option_map, option_map_or, option_and_then}
-use Rattle.std.specs.BTreeSet.{btree_set_len, contains}
+use Rattle.std.specs.BTreeSet.{BTreeSet, btree_set_len, contains}
 use Rattle.std.specs.FinMap as fin
 use Rattle.std.proofs.lemmas.Bool.{cases_lt}
 use Rattle.std.proofs.lemmas.Option.{same_Some, slice_get_within, get_or_from_slice_get, slice_get-map, slice_get-get_or}
@@ -50,6 +50,13 @@ contains_push xs y x h = ⊎_elim inl (λ one. inr (contains_one y x one)) (Cont
 pub contains_last : {X : Type 0} (xs : List X) (x : X) → Contains (xs ++ x ∷ []) x
 contains_last xs x = Contains-append_right xs (x ∷ []) x (contains_first x [])
 
+-- a list that has one element more
+pub pushed_last : {X : Type 0} (xs ys : List X) (x : X) → ys ≡ xs ++ x ∷ [] → Contains ys x
+pushed_last xs ys x more = subst (λ zs. Contains zs x) (sym more) (contains_last xs x)
+
+pub pushed_cases : {X : Type 0} (xs ys : List X) (x : X) → ys ≡ xs ++ x ∷ [] → (y : X) → Contains ys y → Contains xs y ⊎ (x ≡ y)
+pushed_cases xs ys x more y h = contains_push xs x y (subst (λ zs. Contains zs y) more h)
+
 pub contains_map_at : {X Y : Type 0} (f : X → Y) (xs : List X) (i : ℕ) (d : X) → i < length xs → Contains (map f xs) (f (get_or xs i d))
 contains_map_at f xs i d within = contains_at (map f xs) i (f (get_or xs i d)) (slice_get-map f xs i ∙ ap (option_map f) (slice_get-get_or xs i d within))
 
@@ -70,6 +77,22 @@ pairs_push {X} R xs y pairs last i j d lt within = go (cases_lt j (length xs))
 
 pub pairs_none : {X : Type 0} (R : X → X → Type 0) → AllPairs R []
 pairs_none R i j d lt within = absurd (omega arith)
+
+-- ---- a set of ids and a queue of the same ids
+
+-- an id is put into the set and pushed to the queue
+pub put_pushed : (id : FullNodeId) (s t : BTreeSet FullNodeId) (xs ys : List FullNodeId) → ((q : FullNodeId) → has s q ↔ Contains xs q)
+    → Put id true (λ q. contains full_cmp s q) (λ q. contains full_cmp t q) → ys ≡ xs ++ id ∷ [] → (q : FullNodeId) → has t q ↔ Contains ys q
+put_pushed id s t xs ys same put more q = (to, from)
+  where
+    apart : id ≢ q → contains full_cmp t q ≡ contains full_cmp s q
+    apart other = put_apart id true (λ x. contains full_cmp s x) (λ x. contains full_cmp t x) put q other
+
+    to : has t q → Contains ys q
+    to h = ⊎_elim (λ is. subst (Contains ys) is (pushed_last xs ys id more)) (λ other. subst (λ zs. Contains zs q) (sym more) (Contains-append_left xs (id ∷ []) q ((same q).0 (sym (apart other) ∙ h)))) (cases_id id q)
+
+    from : Contains ys q → has t q
+    from h = ⊎_elim (λ is. subst (has t) is (put_here id true (λ x. contains full_cmp s x) (λ x. contains full_cmp t x) put)) (λ other. apart other ∙ (same q).1 (⊎_elim (λ before. before) (λ is. absurd (other is)) (pushed_cases xs ys id more q h))) (cases_id id q)
 
 -- ---- what the named nodes' maps say
 
@@ -157,10 +180,10 @@ module _ (w : World) (u : UpdateData) where
       → b.queue.items ≡ a.queue.items ++ id ∷ [] → b.trees ≡ a.trees → LosesAll w u (id ∷ []) a b
   loses_new id a b found goes unnamed absent put count queue trees = record {
     found = record {
-      gone = λ q. (to q, from q);
+      gone = put_pushed id a.gone b.gone a.queue.items b.queue.items found.gone put queue;
       once = once;
       count = let f : btree_set_len a.gone ≡ length a.queue.items = found.count in let l : length b.queue.items ≡ length a.queue.items + 1 = ap length queue ∙ length-append a.queue.items (id ∷ []) in omega arith;
-      goes = λ q h. ⊎_elim (λ before. found.goes q before) (λ same. subst (λ x. Gone w u x × ¬ (IsNamed w u x)) same (goes, unnamed)) (cases q h);
+      goes = λ q h. ⊎_elim (λ before. found.goes q before) (λ same. subst (λ x. Gone w u x × ¬ (IsNamed w u x)) same (goes, unnamed)) (pushed_cases a.queue.items b.queue.items id queue q h);
       trees = λ t h. found.trees t (subst (λ ts. Contains ts.items t) trees h);
       trees_once = subst (λ ts. AllPairs (λ (x y : TreeRecord). x.id ≢ y.id) ts.items) (sym trees) found.trees_once;
     };
@@ -169,24 +192,9 @@ module _ (w : World) (u : UpdateData) where
       trees = λ t h. subst (λ ts. Contains ts.items t) (sym trees) h;
     };
     trees = trees;
-    lost = λ x h. inr (subst (Contains b.queue.items) (contains_one id x h) here);
+    lost = λ x h. inr (subst (Contains b.queue.items) (contains_one id x h) (pushed_last a.queue.items b.queue.items id queue));
   }
     where
-      here : Contains b.queue.items id
-      here = subst (λ xs. Contains xs id) (sym queue) (contains_last a.queue.items id)
-
-      cases : (q : FullNodeId) → Contains b.queue.items q → Contains a.queue.items q ⊎ (id ≡ q)
-      cases q h = contains_push a.queue.items id q (subst (λ xs. Contains xs q) queue h)
-
-      apart : (q : FullNodeId) → id ≢ q → contains full_cmp b.gone q ≡ contains full_cmp a.gone q
-      apart q other = put_apart id true (λ x. contains full_cmp a.gone x) (λ x. contains full_cmp b.gone x) put q other
-
-      to : (q : FullNodeId) → has b.gone q → Contains b.queue.items q
-      to q h = ⊎_elim (λ same. subst (Contains b.queue.items) same here) (λ other. subst (λ xs. Contains xs q) (sym queue) (Contains-append_left a.queue.items (id ∷ []) q ((found.gone q).0 (sym (apart q other) ∙ h)))) (cases_id id q)
-
-      from : (q : FullNodeId) → Contains b.queue.items q → has b.gone q
-      from q h = ⊎_elim (λ same. subst (has b.gone) same (put_here id true (λ x. contains full_cmp a.gone x) (λ x. contains full_cmp b.gone x) put)) (λ other. apart q other ∙ (found.gone q).1 (⊎_elim (λ before. before) (λ same. absurd (other same)) (cases q h))) (cases_id id q)
-
       new : (i : ℕ) → slice_get a.queue.items i ≡ Some id → ⊥
       new i e = let f : contains full_cmp a.gone id ≡ true = (found.gone id).1 (contains_at a.queue.items i id e) in cc
 

@@ -11,8 +11,8 @@ use Rattle.values_by_id.specs.Rows.{IsTwice}
 use Rattle.schema.specs.declared.NodeId.{NodeId}
 use Rattle.schema.specs.NodeData.{NodeData}
 use Rattle.model.specs.declared.FullNodeId.{FullNodeId}
-use Rattle.model.specs.World.{in_tree}
-use Rattle.model.specs.Update.{UpdateData, named_at}
+use Rattle.model.specs.World.{World, in_tree}
+use Rattle.model.specs.Update.{UpdateData, index_for, named_at}
 use Rattle.model.proofs.Worlds.Names.{same_id}
 use Rattle.model.proofs.State.StatePlaces.{value_of}
 use Rattle.tree_plan.specs.declared.passes.Named.{Named}
@@ -23,6 +23,11 @@ use Rattle.tree_plan.proofs.IdMaps.{some_is, contains_at, at_contains}
 -- the id in an entry that was read
 pub entry_id : (u : UpdateData) (k : ℕ) (e : NodeId × NodeData) → slice_get u.nodes k ≡ Some e → named_at u k ≡ Some e.0
 entry_id u k e at = slice_get-map (λ (e : NodeId × NodeData). e.0) u.nodes k ∙ ap (option_map (λ (e : NodeId × NodeData). e.0)) at
+
+-- a loop over the entries reads one, which names the node
+pub record IsTurn (w : World) (u : UpdateData) (k : ℕ) (e : NodeId × NodeData) (id : FullNodeId) : Type 0 where
+  pub at : slice_get u.nodes k ≡ Some e
+  pub names : id ≡ in_tree (index_for w u.name) e.0
 
 pub last_or_before : (j k : ℕ) → j < k + 1 → (j < k) ⊎ (j ≡ k)
 last_or_before j k lt = ⊎_elim inl (λ ge. inr (omega arith)) (cases_lt j k)

@@ -62,6 +62,14 @@ AllPairs-append R (x ∷ xs) ys f g apart = AllPairs-cons R x (xs ++ ys)
     (All-append (R x) xs ys (λ k d within. f 0 (suc k) d (omega arith) (omega arith)) (λ k d within. apart x (get_or ys k d) (contains_head x x xs refl) (at_index ys k d within)))
     (AllPairs-append R xs ys (AllPairs-tail R x xs f) g (λ a b c e. apart a b (contains_later x a xs c) e))
 
+-- a tree by its root and its focus
+pub both_parts : (x : Option Tree) (a b : NodeId) → option_map (λ t. t.root) x ≡ Some a → option_map (λ t. t.focus) x ≡ Some b → x ≡ Some (record { root = a; focus = b })
+both_parts None a b e f = cc
+both_parts (Some t) a b e f =
+    let root : t.root ≡ a = same_Some t.root a e in
+    let focus : t.focus ≡ b = same_Some t.focus b f in
+    ap Some (λ j. record { root = root j; focus = focus j })
+
 -- what is known of a name is the same in two worlds
 pub record KnownAlike (v new : World) (name : TreeId) : Type 0 where
   pub index : index_of v name ≡ index_of new name
@@ -142,13 +150,6 @@ module _ (w : World) (u : UpdateData) (o : IsOld w) (k : KeepsRules w u) (new : 
     root = sym (ap (option_map (λ t. t.root)) (own_tree op is));
     focus = sym (ap (option_map (λ t. t.focus)) (own_tree op is));
   }
-
-  both_parts : (x : Option Tree) (a b : NodeId) → option_map (λ t. t.root) x ≡ Some a → option_map (λ t. t.focus) x ≡ Some b → x ≡ Some (record { root = a; focus = b })
-  both_parts None a b e f = cc
-  both_parts (Some t) a b e f =
-      let root : t.root ≡ a = same_Some t.root a e in
-      let focus : t.focus ≡ b = same_Some t.focus b f in
-      ap Some (λ j. record { root = root j; focus = focus j })
 
   -- where its record is as before, so is what is known of the named tree
   pub own_alike : (op : Opened) → HoldsOpened w u op → own_record u.name u.focus op ≡ op.record → KnownAlike w new u.name

@@ -1,12 +1,13 @@
 -- The steps of the climbs from all named nodes.
-use Rattle.std.proofs.Common.{◌≡◌, ◌⊎◌, ℕ, ◌+◌, ◌<◌, List, [], ◌∷◌, ◌++◌, length, map, get_or, Some, refl, sym, ap, subst, ◌∙◌, inl, inr, ⊎_elim, arith}
+use Rattle.std.proofs.Common.{◌≡◌, ◌⊎◌, ℕ, ◌+◌, ◌<◌, List, [], ◌∷◌, ◌++◌, ◌≤◌, length, map, take, get_or, Some, refl, sym, ap, subst, ◌∙◌, inl, inr, ⊎_elim, arith}
 use Rattle.std.specs.List.{Contains}
 use Rattle.std.proofs.lemmas.Option.{same_Some, slice_get-get_or, slice_get_within}
+use Rattle.std.proofs.lemmas.List.{length-map, take_all}
 use Rattle.std.proofs.lemmas.List.Elements.{Contains-push_cases}
 use Rattle.schema.specs.NodeData.{NodeData}
 use Rattle.schema.specs.declared.NodeId.{NodeId}
 use Rattle.model.specs.declared.FullNodeId.{FullNodeId}
-use Rattle.model.specs.World.{World, Kept, Reached}
+use Rattle.model.specs.World.{World, Kept, Reached, in_tree}
 use Rattle.model.specs.Update.{UpdateData, IsNamed, index_for, merged_world}
 use Rattle.model.specs.Work.{named_ids}
 use Rattle.model.specs.Surgery.{IsOld, Adopts, IsLive, IsRefined, IsClimbed, LeadsDown, AreSteps}
@@ -50,3 +51,13 @@ module _ (w : World) (u : UpdateData) where
     ways_steps [] sum named none = none
     ways_steps (q ∷ qs) sum named h =
         (h.0, h.1, h.2.0, top_live q h.2.0 h.0 (named q (contains_first q qs)) h.2.1 h.2.2, h.2.1, ways_steps qs h.1 (λ x «in». named x (contains_later q x qs «in»)) h.3, h.4)
+
+  -- once all entries are gone over
+  first_are_all : (k : ℕ) → length u.nodes ≤ k → take k (named_ids w u) ≡ named_ids w u
+  first_are_all k fits = let same = length-map u.nodes (λ (e : NodeId × NodeData). in_tree (index_for w u.name) e.0) in take_all k (named_ids w u) (omega arith)
+
+  pub climbed_in_the_end : (k : ℕ) → length u.nodes ≤ k → IsRefined w u → ((n : FullNodeId) → Contains (take k (named_ids w u)) n → Adopts w u n → Reached m n) → IsClimbed w u
+  climbed_in_the_end k fits r reached = all_climbed r (subst (λ xs. (n : FullNodeId) → Contains xs n → Adopts w u n → Reached m n) (first_are_all k fits) reached)
+
+  pub steps_in_the_end : (k : ℕ) → length u.nodes ≤ k → IsOld w → IsClimbed w u → (sum : ℕ) → AreWays w u (take k (named_ids w u)) sum → AreSteps w u (named_ids w u) sum
+  steps_in_the_end k fits o c sum ways = ways_steps o c (named_ids w u) sum id_named (subst (λ xs. AreWays w u xs sum) (first_are_all k fits) ways)

@@ -15,13 +15,11 @@ ghost use Rattle.tree_plan.specs.Climbs.{IsNext, IsOldPlace, IsKnown, first_ids,
 use crate::passes::{Case, Compared, Opened, Settled};
 use model::{FullNodeId, Place};
 use schema::TreeUpdate;
-use std::alloc::Global;
 use std::collections::BTreeMap;
 use tree_changes::{LookUps, UpdateError};
 
 /// Climbs from each named node that got a child, and refuses the update if one isn't reached.
 pub(crate) fn climb_all<L: LookUps>(
-    alloc: Global,
     look_ups: &mut L,
     case: &Case<'_>,
     settled: &Settled,
@@ -35,7 +33,7 @@ pub(crate) fn climb_all<L: LookUps>(
     ensures counts { OnOk result (let w = L.world look_ups.old in let u = sent case.now in
         (steps : ℕ) × AreSteps w u (named_ids w u) steps × IsRaisedUpTo (L.asked look_ups.old) steps (L.asked look_ups.new)) }
 {
-    let mut climbed = BTreeMap::new(alloc);
+    let mut climbed = BTreeMap::new(case.alloc);
     for entry in 0..case.update.nodes.len() {
         climb(look_ups, case, settled, &mut climbed, entry)?;
     }

@@ -31,11 +31,7 @@ use std::alloc::Global;
 use tree_changes::{Decision, LookUps, UpdateError};
 
 /// What goes, where each node is listed once, no listed node goes, and each of the update's nodes that got a child is reached.
-fn find_removed<L: LookUps>(
-    alloc: Global,
-    look_ups: &mut L,
-    case: &Case<'_>,
-) -> Result<Removed, UpdateError>
+fn find_removed<L: LookUps>(look_ups: &mut L, case: &Case<'_>) -> Result<Removed, UpdateError>
     requires case { IsCase (L.world look_ups.old) case.now }
     ensures world { L.world look_ups.new ≡ L.world look_ups.old }
     ensures err { IfErr result (λ e. IsRefusal (L.world look_ups.old) (sent case.now) e) }
@@ -44,10 +40,10 @@ fn find_removed<L: LookUps>(
     ensures count { IfOk result (λ r.
         IsRemovedCount (L.world look_ups.old) (sent case.now) case.now.compared.now r (L.asked look_ups.old) (L.asked look_ups.new)) }
 {
-    let settled = settle(alloc, look_ups, case)?;
-    let removed = remove(alloc, look_ups, case)?;
-    refuse_misplaced(alloc, look_ups, case, &settled, &removed)?;
-    climb_all(alloc, look_ups, case, &settled)?;
+    let settled = settle(look_ups, case)?;
+    let removed = remove(look_ups, case)?;
+    refuse_misplaced(look_ups, case, &settled, &removed)?;
+    climb_all(look_ups, case, &settled)?;
     Ok(removed)
 }
 
@@ -69,12 +65,13 @@ fn find<L: LookUps>(
     let told = told_root(&opened, update);
     let compared = compare(alloc, look_ups, update, &opened)?;
     let case = Case {
+        alloc,
         update,
         opened: &opened,
         compared: &compared,
     };
-    let removed = find_removed(alloc, look_ups, &case)?;
-    let regrafted = regraft(alloc, look_ups, &case, &removed)?;
+    let removed = find_removed(look_ups, &case)?;
+    let regrafted = regraft(look_ups, &case, &removed)?;
     Ok(Found {
         opened,
         compared,
@@ -109,6 +106,7 @@ fn conclude<L: LookUps>(
         IsRaisedUpTo (L.asked look_ups.old) most (L.asked look_ups.new)) }
 {
     let case = Case {
+        alloc,
         update,
         opened: &findings.opened,
         compared: &findings.compared,

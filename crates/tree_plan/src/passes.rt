@@ -1,6 +1,7 @@
 //! The results of the passes.
 use model::{FullNodeId, Place};
 use schema::{NodeId, TreeId, TreeUpdate};
+use std::alloc::Global;
 use std::collections::{BTreeMap, BTreeSet};
 use tree_changes::TreeRecord;
 use values_by_id::{RowList, SortedRows};
@@ -63,9 +64,10 @@ pub(crate) struct Compared {
     pub(crate) gained: Vec<TreeId>,
 }
 
-/// An update with its tree and its nodes, compared: what each later pass reads.
+/// An update with its tree and its nodes, compared: what each later pass reads. And where a pass allocates.
 #[derive(Clone, Copy)]
 pub(crate) struct Case<'a> {
+    pub(crate) alloc: Global,
     pub(crate) update: &'a TreeUpdate,
     pub(crate) opened: &'a Opened,
     pub(crate) compared: &'a Compared,

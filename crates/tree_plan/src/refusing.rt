@@ -13,7 +13,6 @@ ghost use Rattle.tree_plan.specs.Refusing.{IsNowhere, AreListed, IsOfUnlisted, I
 use crate::passes::{Case, Compared, Named, Removed, Settled};
 use model::{FullNodeId, Place};
 use schema::NodeId;
-use std::alloc::Global;
 use std::collections::BTreeSet;
 use tree_changes::{LookUps, UpdateError};
 
@@ -135,7 +134,6 @@ fn work_off<L: LookUps>(
 
 /// The nodes of the named tree that are reached after the update.
 fn find_reached<L: LookUps>(
-    alloc: Global,
     look_ups: &mut L,
     case: &Case<'_>,
 ) -> Result<BTreeSet<FullNodeId>, UpdateError>
@@ -145,8 +143,8 @@ fn find_reached<L: LookUps>(
     ensures err { IfErr result (λ e. e ≡ Memory) }
 {
     let mut search = Search {
-        seen: BTreeSet::new(alloc),
-        queue: Vec::new(alloc),
+        seen: BTreeSet::new(case.alloc),
+        queue: Vec::new(case.alloc),
     };
     let root = FullNodeId {
         tree: case.opened.index,
@@ -175,7 +173,6 @@ fn fault_of_double(
 
 /// The reason to refuse an update that lists a node at a second place.
 fn explain<L: LookUps>(
-    alloc: Global,
     look_ups: &mut L,
     case: &Case<'_>,
     removed: &Removed,
@@ -187,7 +184,7 @@ fn explain<L: LookUps>(
     ensures world { L.world look_ups.new ≡ L.world look_ups.old }
     ensures stands { IsRefusal (L.world look_ups.old) (sent case.now) result }
 {
-    match find_reached(alloc, look_ups, case) {
+    match find_reached(look_ups, case) {
         Ok(reached) => fault_of_double(case.compared, &reached, double),
         Err(refusal) => refusal,
     }
@@ -195,7 +192,6 @@ fn explain<L: LookUps>(
 
 /// Refuses an update that lists one of its nodes nowhere, or a node twice.
 pub(crate) fn refuse_misplaced<L: LookUps>(
-    alloc: Global,
     look_ups: &mut L,
     case: &Case<'_>,
     settled: &Settled,
@@ -212,7 +208,7 @@ pub(crate) fn refuse_misplaced<L: LookUps>(
     refuse_unlisted(case.compared)?;
     for item in settled.doubles.iter() {
         if is_kept(removed, item.1) {
-            return Err(explain(alloc, look_ups, case, removed, item.0));
+            return Err(explain(look_ups, case, removed, item.0));
         }
     }
     Ok(())

@@ -12,7 +12,6 @@ use crate::passes::{Case, Compared, Removed};
 use crate::records::tree_record;
 use model::FullNodeId;
 use schema::TreeId;
-use std::alloc::Global;
 use std::collections::BTreeMap;
 use tree_changes::{LookUps, TreeRecord, UpdateError};
 
@@ -28,7 +27,6 @@ pub(crate) struct Regrafted {
 /// Sets the new graft of each tree that a node of the update gains. The old graft has to be removed or to be in the
 /// update.
 pub(crate) fn regraft<L: LookUps>(
-    alloc: Global,
     look_ups: &mut L,
     case: &Case<'_>,
     removed: &Removed,
@@ -44,8 +42,8 @@ pub(crate) fn regraft<L: LookUps>(
         (IsRaisedUpTo (L.asked look_ups.old) (length case.now.compared.now.gained.items) (L.asked look_ups.new)) }
 {
     let mut regrafted = Regrafted {
-        trees: Vec::new(alloc),
-        moved_in: BTreeMap::new(alloc),
+        trees: Vec::new(case.alloc),
+        moved_in: BTreeMap::new(case.alloc),
     };
     for name in case.compared.gained.iter() {
         regrafted.add(look_ups, case.compared, removed, name)?;

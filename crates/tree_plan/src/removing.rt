@@ -17,7 +17,6 @@ use crate::passes::{Case, Removed};
 use crate::records::tree_record;
 use model::FullNodeId;
 use schema::{NodeId, TreeId};
-use std::alloc::Global;
 use std::collections::BTreeSet;
 use tree_changes::{LookUps, TreeRecord, UpdateError};
 
@@ -245,11 +244,7 @@ fn find_all<L: LookUps>(
 }
 
 /// The nodes that are removed, and the trees that lose their grafts and get no others.
-pub(crate) fn remove<L: LookUps>(
-    alloc: Global,
-    look_ups: &mut L,
-    case: &Case<'_>,
-) -> Result<Removed, UpdateError>
+pub(crate) fn remove<L: LookUps>(look_ups: &mut L, case: &Case<'_>) -> Result<Removed, UpdateError>
     requires case { IsCase (L.world look_ups.old) case.now }
     requires settled { IsSettled (L.world look_ups.old) (sent case.now) }
     ensures world { L.world look_ups.new ≡ L.world look_ups.old }
@@ -262,9 +257,9 @@ pub(crate) fn remove<L: LookUps>(
     ensures err { IfErr result (λ e. IsRefusal (L.world look_ups.old) (sent case.now) e) }
 {
     let mut removing = Removing {
-        gone: BTreeSet::new(alloc),
-        queue: Vec::new(alloc),
-        trees: Vec::new(alloc),
+        gone: BTreeSet::new(case.alloc),
+        queue: Vec::new(case.alloc),
+        trees: Vec::new(case.alloc),
     };
     find_all(&mut removing, look_ups, case)?;
     Ok(Removed {

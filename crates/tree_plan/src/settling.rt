@@ -12,7 +12,6 @@ ghost use Rattle.tree_plan.specs.Settling.{Comes, StoodBefore, place_kept, Keeps
 
 use crate::passes::{Arrival, Case, Opened, Settled};
 use model::{FullNodeId, Place};
-use std::alloc::Global;
 use std::collections::BTreeSet;
 use tree_changes::{LookUps, UpdateError};
 
@@ -164,11 +163,7 @@ fn settle_one<L: LookUps>(
 }
 
 /// The nodes that entered a spot and are still listed where they were, and the nodes that got a child that they didn't list.
-pub(crate) fn settle<L: LookUps>(
-    alloc: Global,
-    look_ups: &mut L,
-    case: &Case<'_>,
-) -> Result<Settled, UpdateError>
+pub(crate) fn settle<L: LookUps>(look_ups: &mut L, case: &Case<'_>) -> Result<Settled, UpdateError>
     requires case { IsCase (L.world look_ups.old) case.now }
     ensures world { L.world look_ups.new ≡ L.world look_ups.old }
     ensures ok { IfOk result (HoldsSettled (L.world look_ups.old) (sent case.now)) }
@@ -177,8 +172,8 @@ pub(crate) fn settle<L: LookUps>(
     ensures err { IfErr result (λ e. IsRefusal (L.world look_ups.old) (sent case.now) e) }
 {
     let mut settled = Settled {
-        doubles: Vec::new(alloc),
-        adopters: BTreeSet::new(alloc),
+        doubles: Vec::new(case.alloc),
+        adopters: BTreeSet::new(case.alloc),
         has_moved: false,
     };
     let mut near = Near { left: 0, named: 0 };

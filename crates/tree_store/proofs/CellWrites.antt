@@ -1,6 +1,7 @@
 -- What there is in cells once one of them is written, or there is one more.
-use Rattle.std.proofs.Common.{◌≡◌, ◌≢◌, ℕ, ◌+◌, ◌<◌, List, [], ◌∷◌, ◌++◌, length, Bool, true, false, true≢false, cond, Option, Some, None, refl, sym, ap, subst, ◌∙◌, arith, slice_get, slice_set, ◌-◌, Result, Ok, Err, length-append, eqb, ◌⊎◌, inl, inr, ⊎_elim}
-use Rattle.std.specs.Prelude.{IsSome, is_none, count_by, option_and_then, option_to_list, is_ok, is_err}
+use Rattle.std.proofs.Common.{◌≡◌, ◌≢◌, ℕ, ◌+◌, ◌<◌, ◌≤◌, ◌^◌, get_or, List, [], ◌∷◌, ◌++◌, length, Bool, true, false, true≢false, cond, Option, Some, None, refl, sym, ap, subst, ◌∙◌, arith, slice_get, slice_set, ◌-◌, Result, Ok, Err, length-append, eqb, ◌⊎◌, inl, inr, ⊎_elim}
+use Rattle.std.specs.Prelude.{IsSome, is_none, is_some, count_by, option_and_then, option_to_list, is_ok, is_err}
+use Rattle.std.specs.Vec.{vec_capacity}
 use Rattle.std.specs.Map.{lookup}
 use Rattle.std.specs.BTreeMap.{is_at}
 use Rattle.std.proofs.lemmas.Bool.Decides.{eqb_tells}
@@ -12,7 +13,9 @@ use Rattle.model.specs.FullIds.{full_cmp}
 use Rattle.model.proofs.Update.Merges.{slice_get_front, slice_get_push}
 use Rattle.tree_store.specs.declared.records.Record.{Record}
 use Rattle.tree_store.specs.declared.cells.Cell.{Cell}
-use Rattle.tree_store.specs.Cells.{SlotsView, kept_in, number_of, slot_in, slot_at, is_free, HasOwnCells, IsFreeList}
+use Rattle.tree_store.specs.declared.cells.Slots.TheInside.{Inside}
+use Rattle.tree_store.specs.Cells.{SlotsView, kept_in, number_of, slot_in, slot_at, record_in, record_at, is_free, HasOwnCells, IsFreeList}
+use Rattle.tree_store.specs.CellsKept.{slots_of, IsKept}
 use Rattle.tree_store.proofs.Boxed.{set_here, set_there, last_of}
 use Rattle.tree_store.proofs.KeptSlots.{same_id}
 use Rattle.tree_store.proofs.WrittenSlots.{at_itself}
@@ -262,3 +265,46 @@ free_more cells free c f some = record {
   once = f.once;
   all = f.all ∙ sym (sum_by_push (λ x. cond (is_free x) 1 0) cells c ∙ ap (λ b. count_by is_free cells + cond b 1 0) (some_is (kept_in c) some) ∙ omega arith);
 }
+
+-- the record in an id's slot becomes another one, in the cell that the id has
+pub record IsRenewed (a : Inside) (v : SlotsView) (id : FullNodeId) (n : ℕ) (old new : Cell) (record_now : Option Record) : Type 0 where
+  pub cells : HasOwnCells (record { numbers = a.index; cells = slice_set a.cells.items n new })
+  pub free : IsFreeList (slice_set a.cells.items n new) a.free.items
+  pub room : length (slice_set a.cells.items n new) ≤ vec_capacity a.free
+  pub bound : length (slice_set a.cells.items n new) < 2 ^ 32
+  pub before : record_in (kept_in old) ≡ record_at v id
+  pub slots : (q : FullNodeId) → slot_at (record { numbers = a.index; cells = slice_set a.cells.items n new }) q ≡ cond (is_at (full_cmp id) q) (Some record_now) (slot_at v q)
+
+pub renewed : (a : Inside) → IsKept a → (v : SlotsView) → slots_of a ≡ v → (id : FullNodeId) (n : ℕ) → number_of (slots_of a) id ≡ Some n → (old new : Cell) → old ≡ get_or a.cells.items n old → new.id ≡ old.id
+    → (f : Option Record → Option Record) → kept_in new ≡ Some (f (record_in (kept_in old))) → IsRenewed a v id n old new (f (record_at v id))
+renewed a k v shows id n at old new read same_id f now = record {
+  cells = cells_written (slots_of a) k.cells id n own.0 new a.index own.1 own_id up (inl at);
+  free = free_kept a.cells.items a.free.items k.free n own.0 new own.1 own.3 some;
+  room = subst (λ m. m ≤ vec_capacity a.free) (sym (length-set a.cells.items n new)) k.room;
+  bound = subst (λ m. m < 2 ^ 32) (sym (length-set a.cells.items n new)) k.bound;
+  before = before;
+  slots = λ q. slots_written (slots_of a) k.cells id n own.0 new a.index own.1 own_id up (inl at) q
+      ∙ ap (λ x. cond (is_at (full_cmp id) q) x (slot_at (slots_of a) q)) (now ∙ ap (λ r. Some (f r)) before)
+      ∙ ap (λ x. cond (is_at (full_cmp id) q) (Some (f (record_at v id))) (slot_at x q)) shows;
+}
+  where
+    own : (c : Cell) × (slice_get a.cells.items n ≡ Some c) × (c.id ≡ id) × IsSome (kept_in c)
+    own = k.cells.own id n at
+
+    was : old ≡ own.0
+    was = read ∙ get_or_from_slice_get a.cells.items n own.0 old own.1
+
+    own_id : new.id ≡ id
+    own_id = same_id ∙ ap (λ (x : Cell). x.id) was ∙ own.2
+
+    some : IsSome (kept_in new)
+    some = ap is_some now
+
+    up : (q : FullNodeId) → number_of (slots_of a) q ≡ cond (is_at (full_cmp id) q) (number_if n (kept_in new)) (number_of (slots_of a) q)
+    up = stays (slots_of a) id n (kept_in new) at some
+
+    here : slot_at (slots_of a) id ≡ kept_in own.0
+    here = ap (option_and_then (slot_in (slots_of a))) at ∙ ap (option_and_then kept_in) own.1
+
+    before : record_in (kept_in old) ≡ record_at v id
+    before = ap (λ x. record_in (kept_in x)) was ∙ ap record_in (sym here) ∙ ap (λ x. record_at x id) shows

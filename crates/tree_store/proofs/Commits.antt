@@ -136,23 +136,25 @@ graft_kept : (r : TreeRecord) (b : Bool) → option_and_then (λ (x : NameRecord
 graft_kept r true = refl
 graft_kept r false = refl
 
+-- a part of a name's record afterwards, which f has of what is kept of a name, and h of the record of a tree
+part_after : {X : Type 0} (f : NameRecord → Option X) (h : TreeRecord → Option X) (name : TreeId)
+    → ((n : Option NameRecord) (t : Option PresentTree) → option_and_then f n ≡ option_and_then h (record_of name (option_and_then (λ r. r.index) n) (option_and_then (λ r. r.graft) n) t))
+    → ((r : TreeRecord) (b : Bool) → option_and_then f (cond b (Some (record { index = r.index; graft = r.graft })) None) ≡ option_and_then h (cond b (Some r) None))
+    → (rs : List TreeRecord) (o : Option TreeRecord) (n : Option NameRecord) (t : Option PresentTree) → o ≡ tree_change rs name
+    → option_and_then f (name_after o n) ≡ option_and_then h (tree_after rs name (record_of name (option_and_then (λ r. r.index) n) (option_and_then (λ r. r.graft) n) t))
+part_after f h name by kept rs None n t e =
+    by n t ∙ ap (λ x. option_and_then h (option_map_or if_kept x (record_of name (option_and_then (λ r. r.index) n) (option_and_then (λ r. r.graft) n) t))) e
+part_after f h name by kept rs (Some r) n t e =
+    kept r (is_some r.index || is_some r.graft)
+    ∙ ap (λ x. option_and_then h (option_map_or if_kept x (record_of name (option_and_then (λ r. r.index) n) (option_and_then (λ r. r.graft) n) t))) e
+
 index_after : (rs : List TreeRecord) (name : TreeId) (o : Option TreeRecord) (n : Option NameRecord) (t : Option PresentTree) → o ≡ tree_change rs name
     → option_and_then (λ r. r.index) (name_after o n) ≡ option_and_then (λ r. r.index) (tree_after rs name (record_of name (option_and_then (λ r. r.index) n) (option_and_then (λ r. r.graft) n) t))
-index_after rs name None n t e =
-    index_by (option_and_then (λ r. r.index) n) (option_and_then (λ r. r.graft) n) name t
-    ∙ ap (λ x. option_and_then (λ r. r.index) (option_map_or if_kept x (record_of name (option_and_then (λ r. r.index) n) (option_and_then (λ r. r.graft) n) t))) e
-index_after rs name (Some r) n t e =
-    index_kept r (is_some r.index || is_some r.graft)
-    ∙ ap (λ x. option_and_then (λ r. r.index) (option_map_or if_kept x (record_of name (option_and_then (λ r. r.index) n) (option_and_then (λ r. r.graft) n) t))) e
+index_after rs name = part_after (λ r. r.index) (λ r. r.index) name (λ n t. index_by (option_and_then (λ r. r.index) n) (option_and_then (λ r. r.graft) n) name t) index_kept rs
 
 graft_after : (rs : List TreeRecord) (name : TreeId) (o : Option TreeRecord) (n : Option NameRecord) (t : Option PresentTree) → o ≡ tree_change rs name
     → option_and_then (λ r. r.graft) (name_after o n) ≡ option_and_then (λ r. r.graft) (tree_after rs name (record_of name (option_and_then (λ r. r.index) n) (option_and_then (λ r. r.graft) n) t))
-graft_after rs name None n t e =
-    graft_by (option_and_then (λ r. r.index) n) (option_and_then (λ r. r.graft) n) name t
-    ∙ ap (λ x. option_and_then (λ r. r.graft) (option_map_or if_kept x (record_of name (option_and_then (λ r. r.index) n) (option_and_then (λ r. r.graft) n) t))) e
-graft_after rs name (Some r) n t e =
-    graft_kept r (is_some r.index || is_some r.graft)
-    ∙ ap (λ x. option_and_then (λ r. r.graft) (option_map_or if_kept x (record_of name (option_and_then (λ r. r.index) n) (option_and_then (λ r. r.graft) n) t))) e
+graft_after rs name = part_after (λ r. r.graft) (λ r. r.graft) name (λ n t. graft_by (option_and_then (λ r. r.index) n) (option_and_then (λ r. r.graft) n) name t) graft_kept rs
 
 -- the record of a name that a store keeps
 pub record_of_name : (a : Inside) (name : TreeId) → NamesAreTrue a.tables.names (world_shown a) → (before : Option TreeRecord) × IsTreeRecord (world_shown a) name before
@@ -206,10 +208,17 @@ module _ (a b : Inside) (u : UpdateData) (d : Decision) (old_places : HasTruePla
   pub stored_written : IsStored b (world_shown b)
   stored_written = written_by (world_shown b) world_written
 
+-- no node and no name is known
+pub record IsBlank (a : Inside) (host : Bool) : Type 0 where
+  pub nodes : (id : FullNodeId) → record_at a.tables.nodes id ≡ None
+  pub world : world_shown a ≡ empty_world host
+  pub names : NamesAreTrue a.tables.names (world_shown a)
+  pub places : HasTruePlaces a.tables.nodes (world_shown a)
+
 -- before anything is written a store of no record shows the empty world, and keeps what that asks
 module _ (a : Inside) (host : Bool) (known : a.tables.known.items ≡ []) (nodes : (id : FullNodeId) → record_at a.tables.nodes id ≡ None)
     (names : (name : TreeId) → kept_in (name_at a.tables.names name) ≡ (None, None)) (texts : texts_shown a.tables.toolkit ≡ (None, None)) (told : a.host_focused ≡ host) where
-  pub blank_world : world_shown a ≡ empty_world host
+  blank_world : world_shown a ≡ empty_world host
   blank_world = λ i. record {
     known = names_shown (known i);
     trees = trees_shown 0 (known i);
@@ -218,15 +227,18 @@ module _ (a : Inside) (host : Bool) (known : a.tables.known.items ≡ []) (nodes
     host_focused = told i;
   }
 
-  pub blank_places : HasTruePlaces a.tables.nodes (world_shown a)
+  blank_places : HasTruePlaces a.tables.nodes (world_shown a)
   blank_places id r e = let none : None ≡ Some r = sym (nodes id) ∙ e in cc
 
   ungrafted : (g : FullNodeId) (name : TreeId) → graft_name (world_shown a) g ≡ Some name → ⊥
   ungrafted g name e =
       let none : None ≡ Some name = sym (ap (λ w. graft_name w g) blank_world ∙ ap (option_and_then (λ d. d.tree_id)) (get-empty full_cmp g)) ∙ e in cc
 
-  pub blank_names : NamesAreTrue a.tables.names (world_shown a)
+  blank_names : NamesAreTrue a.tables.names (world_shown a)
   blank_names = record {
     index = λ name. ap (λ p. p.0) (names name) ∙ sym (ap (λ w. index_of w name) blank_world);
     graft = λ name g. ((λ e. let none : None ≡ Some g = sym (ap (λ p. p.1) (names name)) ∙ e in cc), (λ e. absurd (ungrafted g name e)));
   }
+
+  pub all_blank : IsBlank a host
+  all_blank = record { nodes = nodes; world = blank_world; names = blank_names; places = blank_places }

@@ -46,8 +46,11 @@ module _ (a : Inside) (v : World) (shows : world_shown a ≡ v) (old_names : Nam
         texts ∙ texts_same is_root u.info (world_shown a).toolkit
         ∙ ap (λ x. option_map_or (λ (i : InfoData). if x then (i.toolkit_name, i.toolkit_version) else (world_shown a).toolkit) u.info (world_shown a).toolkit) (root ∙ ap (λ w. index_for w u.name == 0) (sym shows))
 
-    pub stored_after : IsStored b (world_shown b)
+    stored_after : IsStored b (world_shown b)
     stored_after = stored_written a b u d old_places old_names state_left decided records (known ∙ names_known) trees names texts_left host focus cells
 
-    pub world_after : world_shown b ≡ overlaid_world v u d
+    world_after : world_shown b ≡ overlaid_world v u d
     world_after = world_written a b u d old_places old_names state_left decided records (known ∙ names_known) trees names texts_left host focus cells ∙ ap (λ w. overlaid_world w u d) shows
+
+    pub committed : IsStored b (world_shown b) × (world_shown b ≡ overlaid_world v u d)
+    committed = (stored_after, world_after)

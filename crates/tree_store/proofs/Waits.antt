@@ -77,36 +77,47 @@ tight_by : (b : Bool) (r s t : Option Record) (slot old : Bool) → r ≡ cond b
 tight_by true r s t slot old e f g = f
 tight_by false r s t slot old e f g = f ∙ g ∙ ap is_some (sym e)
 
+-- changes that are still to be applied to a first state, whose slots these are
+pub record AreLeft (first : List (NodeId × NodeData)) (now : List (Option (Box (Option Record) Global))) (es : SlotsView) (cs : NodeChanges) : Type 0 where
+  pub sorted : IsStrictlySortedBy full_cmp (keys_of cs)
+  pub waits : AreWaiting first now cs
+  pub apart : AreEntriesApart cs
+  pub tight : HasNoSpare es
+  pub absent : HasNoneOf es cs
+
 module _ (first : List (NodeId × NodeData)) (now later : List (Option (Box (Option Record) Global))) (es fs : SlotsView) (e : FullNodeId × NodeChange) (cs : NodeChanges)
-    (sorted : IsStrictlySortedBy full_cmp (keys_of (e ∷ cs))) (waits : AreWaiting first now (e ∷ cs)) (apart : AreEntriesApart (e ∷ cs)) (tight : HasNoSpare es)
+    (left : AreLeft first now es (e ∷ cs))
     (written : (q : FullNodeId) → record_at fs q ≡ cond (is_at (full_cmp e.0) q) (record_from now e.1 (record_at es e.0)) (record_at es q))
     (slots : (q : FullNodeId) → is_some (slot_at fs q) ≡ cond (is_at (full_cmp e.0) q) (is_some (record_at fs q)) (is_some (slot_at es q)))
     (others : (k : ℕ) → entry_of e.1 ≢ Some k → data_waiting later k ≡ data_waiting now k) where
   given : (q : FullNodeId) → record_at fs q ≡ cond (is_at (full_cmp e.0) q) (record_after first e.1 (record_at es e.0)) (record_at es q)
-  given q = written q ∙ ap (λ r. cond (is_at (full_cmp e.0) q) r (record_at es q)) (same_from first now e.1 (record_at es e.0) (All-head (λ x. (k : ℕ) → entry_of x.1 ≡ Some k → data_waiting now k ≡ entry_data first k) e cs waits))
+  given q = written q ∙ ap (λ r. cond (is_at (full_cmp e.0) q) r (record_at es q)) (same_from first now e.1 (record_at es e.0) (All-head (λ x. (k : ℕ) → entry_of x.1 ≡ Some k → data_waiting now k ≡ entry_data first k) e cs left.waits))
 
   pub next_records : (q : FullNodeId) → changed_record first (change_at cs q) (record_at fs q) ≡ changed_record first (change_at (e ∷ cs) q) (record_at es q)
-  next_records = written_next first es fs e.0 e.1 cs sorted given
+  next_records = written_next first es fs e.0 e.1 cs left.sorted given
 
-  pub next_tight : HasNoSpare fs
-  next_tight q = tight_by (is_at (full_cmp e.0) q) (record_at fs q) (record_from now e.1 (record_at es e.0)) (record_at es q) (is_some (slot_at fs q)) (is_some (slot_at es q)) (written q) (slots q) (tight q)
+  next_tight : HasNoSpare fs
+  next_tight q = tight_by (is_at (full_cmp e.0) q) (record_at fs q) (record_from now e.1 (record_at es e.0)) (record_at es q) (is_some (slot_at fs q)) (is_some (slot_at es q)) (written q) (slots q) (left.tight q)
 
   absent_by : (q : FullNodeId) (b : Bool) → is_at (full_cmp e.0) q ≡ b → IsSome (change_at cs q) → is_some (slot_at fs q) ≡ cond b (is_some (record_at fs q)) (is_some (slot_at es q)) → (b ≡ false → slot_at es q ≡ None) → slot_at fs q ≡ None
-  absent_by q true t there f old = let none : change_at cs q ≡ None = none_here first es fs e.0 e.1 cs sorted given q t in let j : false ≡ true = sym (ap is_some none) ∙ there in cc
+  absent_by q true t there f old = let none : change_at cs q ≡ None = none_here first es fs e.0 e.1 cs left.sorted given q t in let j : false ≡ true = sym (ap is_some none) ∙ there in cc
   absent_by q false t there f old = none_by (slot_at fs q) (f ∙ ap is_some (old refl))
 
-  pub next_absent : HasNoneOf es (e ∷ cs) → HasNoneOf fs cs
-  next_absent absent q there =
+  next_absent : HasNoneOf fs cs
+  next_absent q there =
       absent_by q (is_at (full_cmp e.0) q) refl there (slots q)
-      (λ b. absent q (ap (λ t. is_some (cond t (Some e.1) (change_at cs q))) (symmetric e.0 q ∙ b) ∙ there))
+      (λ b. left.absent q (ap (λ t. is_some (cond t (Some e.1) (change_at cs q))) (symmetric e.0 q ∙ b) ∙ there))
 
-  pub next_sorted : IsStrictlySortedBy full_cmp (keys_of cs)
-  next_sorted = rest_sorted e.0 e.1 cs sorted
+  next_sorted : IsStrictlySortedBy full_cmp (keys_of cs)
+  next_sorted = rest_sorted e.0 e.1 cs left.sorted
 
-  pub next_waits : AreWaiting first later cs
+  next_waits : AreWaiting first later cs
   next_waits i d less k is =
-      let free : entry_of e.1 ≢ Some k = λ own. apart 0 (suc i) d (omega arith) (omega (arith, less)) k own is in
-      others k free ∙ waits (suc i) d (omega (arith, less)) k is
+      let free : entry_of e.1 ≢ Some k = λ own. left.apart 0 (suc i) d (omega arith) (omega (arith, less)) k own is in
+      others k free ∙ left.waits (suc i) d (omega (arith, less)) k is
 
-  pub next_apart : AreEntriesApart cs
-  next_apart i j d less end = apart (suc i) (suc j) d (omega (arith, less)) (omega (arith, end))
+  next_apart : AreEntriesApart cs
+  next_apart i j d less end = left.apart (suc i) (suc j) d (omega (arith, less)) (omega (arith, end))
+
+  pub next_left : AreLeft first later fs cs
+  next_left = record { sorted = next_sorted; waits = next_waits; apart = next_apart; tight = next_tight; absent = next_absent }

@@ -84,28 +84,6 @@ fn put_place(slots: &mut Slots, id: FullNodeId, place: Option<Place>)
     }
 }
 
-// sets a node's place and gives it an entry's data
-fn put_entry(
-    alloc: Global,
-    slots: &mut Slots,
-    nodes: &mut Vec<(NodeId, Node)>,
-    id: FullNodeId,
-    place: Option<Place>,
-    entry: usize,
-)
-    requires slot { IsSome (slot_at slots.old id) }
-    requires entry { entry < length nodes.old.items }
-    ensures records { (q : FullNodeId) → record_at slots.new q
-        ≡ cond (is_at (full_cmp id) q) (record_after nodes.old.items (Put place (Some entry)) (record_at slots.old id))
-        (record_at slots.old q) }
-    ensures tight { (q : FullNodeId) → is_some (slot_at slots.new q)
-        ≡ cond (is_at (full_cmp id) q) (is_some (record_at slots.new q)) (is_some (slot_at slots.old q)) }
-    ensures nodes { (k : ℕ) → k ≢ entry → slice_get nodes.new.items k ≡ slice_get nodes.old.items k }
-    ensures count { length nodes.new.items ≡ length nodes.old.items }
-{
-    slots.put_node(alloc, nodes, id, place, entry);
-}
-
 fn write(
     alloc: Global,
     slots: &mut Slots,
@@ -126,7 +104,7 @@ fn write(
         NodeChange::Put {
             place,
             entry: Some(entry),
-        } => put_entry(alloc, slots, nodes, id, place, entry),
+        } => slots.put_node(alloc, nodes, id, place, entry),
         NodeChange::Put { place, entry: None } => put_place(slots, id, place),
         NodeChange::Gone => slots.remove(id),
     }
@@ -191,11 +169,18 @@ fn boxed(alloc: Global, mut nodes: Vec<(NodeId, Node)>) -> Result<Waiting, Alloc
     while let Some((_, node)) = nodes.pop() {
         let place = None;
         waiting[nodes.len()] = Some(Box::new(alloc, Some(Record { place, node }))?);
-        if nodes.capacity() - nodes.len() > SPARE + nodes.len() / 16 {
-            nodes.shrink_to(0);
-        }
+        release(&mut nodes);
     }
     Ok(waiting)
+}
+
+// releases the spare memory of a list, if it is much
+fn release(nodes: &mut Vec<(NodeId, Node)>)
+    ensures { nodes.new.items ≡ nodes.old.items }
+{
+    if nodes.capacity() - nodes.len() > SPARE + nodes.len() / 16 {
+        nodes.shrink_to(0);
+    }
 }
 
 // applies this change to a node of a first state, which has no slot yet

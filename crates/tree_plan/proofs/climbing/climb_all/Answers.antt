@@ -1,19 +1,16 @@
-use Rattle.std.proofs.Common.{◌≡◌, ◌+◌, take, sym, subst, ◌∙◌, arith}
+use Rattle.std.proofs.Common.{◌+◌, ◌≤◌, length, take, sym, subst, ◌∙◌, arith}
 use Rattle.std.specs.List.{Contains}
-use Rattle.std.proofs.lemmas.List.{length-map, take_all}
-use Rattle.schema.specs.NodeData.{NodeData}
-use Rattle.schema.specs.declared.NodeId.{NodeId}
 use Rattle.schema.specs.UpdateData.{UpdateData}
 use Rattle.model.specs.declared.FullNodeId.{FullNodeId}
-use Rattle.model.specs.World.{World, in_tree, Reached}
-use Rattle.model.specs.Update.{index_for, merged_world}
+use Rattle.model.specs.World.{World, Reached}
+use Rattle.model.specs.Update.{merged_world}
 use Rattle.model.specs.Work.{named_ids}
 use Rattle.model.specs.Surgery.{IsRefined, Adopts}
 use Rattle.tree_plan.specs.Passes.{HoldsSettled}
 use Rattle.tree_plan.specs.Climbs.{AreClimbed, IsClimbedFrom, AreWays}
 use Rattle.tree_plan.specs.Cases.{IsCase, sent}
 use Rattle.tree_plan.proofs.Ascents.{IsStart, is_start}
-use Rattle.tree_plan.proofs.Ways.{id_named, ways_push, adopters_push, all_climbed, ways_steps}
+use Rattle.tree_plan.proofs.Ways.{ways_push, adopters_push, climbed_in_the_end, steps_in_the_end}
 use Rattle.tree_plan.proofs.climbing.climb_all.Goals as goal
 
 pub climb-requires-clause-case : goal.climb-requires-clause-case
@@ -48,21 +45,12 @@ loop-entry-preserved g c =
     }
 
 pub returns-clause-ok : goal.returns-clause-ok
-returns-clause-ok g c =
-    let w : World = g.L.LookUps.world c.args.look_ups.now in
-    let u : UpdateData = sent c.args.case.now in
-    let ids = named_ids w u in
-    let same = length-map u.nodes (λ (e : NodeId × NodeData). in_tree (index_for w u.name) e.0) in
-    let all : take c.loop-entry.entry ids ≡ ids = take_all c.loop-entry.entry ids (omega (arith, c.loop-entry-test.false, same)) in
-    all_climbed w u c.requires.refined (subst (λ xs. (n : FullNodeId) → Contains xs n → Adopts w u n → Reached (merged_world w u) n) all c.loop-entry.invariant.adopters)
+returns-clause-ok g c = climbed_in_the_end _ _ c.loop-entry.entry (omega (arith, c.loop-entry-test.false)) c.requires.refined c.loop-entry.invariant.adopters
 
 pub returns-clause-counts : goal.returns-clause-counts
 returns-clause-counts g c =
     let w : World = g.L.LookUps.world c.args.look_ups.now in
     let u : UpdateData = sent c.args.case.now in
-    let ids = named_ids w u in
-    let same = length-map u.nodes (λ (e : NodeId × NodeData). in_tree (index_for w u.name) e.0) in
-    let all : take c.loop-entry.entry ids ≡ ids = take_all c.loop-entry.entry ids (omega (arith, c.loop-entry-test.false, same)) in
-    let climbed = all_climbed w u c.requires.refined (subst (λ xs. (n : FullNodeId) → Contains xs n → Adopts w u n → Reached (merged_world w u) n) all c.loop-entry.invariant.adopters) in
-    let ways = c.loop-entry.invariant.ways in
-    (ways.0, ways_steps w u c.requires.case.old climbed ids ways.0 (id_named w u) (subst (λ xs. AreWays w u xs ways.0) all ways.1), ways.2)
+    let all : length u.nodes ≤ c.loop-entry.entry = omega (arith, c.loop-entry-test.false) in
+    let i = c.loop-entry.invariant in
+    (i.ways.0, steps_in_the_end w u c.loop-entry.entry all c.requires.case.old (climbed_in_the_end w u c.loop-entry.entry all c.requires.refined i.adopters) i.ways.0 i.ways.1, i.ways.2)

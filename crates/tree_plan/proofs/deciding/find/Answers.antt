@@ -1,65 +1,10 @@
-use Rattle.std.proofs.Common.{sym, ap, subst, ◌∙◌, arith}
-use Rattle.std.proofs.lemmas.Result.{err_from_is_err_and}
+use Rattle.std.proofs.Common.{ap, subst, ◌∙◌, arith}
 use Rattle.schema.specs.UpdateData.{update_data}
 use Rattle.model.specs.Differences.{told_root}
 use Rattle.model.specs.Work.{named_ids}
-use Rattle.model.specs.Surgery.{IsOld, IsClimbed, AreSteps}
-use Rattle.tree_changes.specs.Refusals.{IsRefusal}
-use Rattle.tree_plan.specs.Passes.{HoldsOpened, HoldsCompared, HoldsRemoved, HoldsRegrafted}
+use Rattle.model.specs.Surgery.{AreSteps}
+use Rattle.tree_plan.specs.Passes.{HoldsRemoved, HoldsRegrafted}
 use Rattle.tree_plan.proofs.deciding.find.Goals as goal
-
-pub find_removed-requires : goal.find_removed-requires
-find_removed-requires g c =
-    let u = update_data c.args.update.now in
-    let world = sym c.compare.ensures.world in
-    record {
-      case = record {
-        old = subst (λ v. IsOld v) world c.requires.old;
-        opening = subst (λ v. HoldsOpened v u c.args.opened) world c.requires.opening;
-        comparison = subst (λ v. HoldsCompared v u c.in_ok-compared.compared) world c.in_ok-compared.ensures.ok;
-      };
-    }
-
-pub regraft-requires-clause-case : goal.regraft-requires-clause-case
-regraft-requires-clause-case g c =
-    let u = update_data c.args.update.now in
-    let world = sym (c.find_removed.ensures.world ∙ c.compare.ensures.world) in
-    record {
-      old = subst (λ v. IsOld v) world c.requires.old;
-      opening = subst (λ v. HoldsOpened v u c.args.opened) world c.requires.opening;
-      comparison = subst (λ v. HoldsCompared v u c.in_ok-compared.compared) world c.in_ok-compared.ensures.ok;
-    }
-
-pub regraft-requires-clause-removal : goal.regraft-requires-clause-removal
-regraft-requires-clause-removal g c =
-    let u = update_data c.args.update.now in
-    subst (λ v. HoldsRemoved v u c.in_ok-removed.removed) (sym c.find_removed.ensures.world) c.in_ok-removed.ensures.ok
-
-pub regraft-requires-clause-climbed : goal.regraft-requires-clause-climbed
-regraft-requires-clause-climbed g c =
-    let u = update_data c.args.update.now in
-    subst (λ v. IsClimbed v u) (sym c.find_removed.ensures.world) c.in_ok-removed.ensures.climbed
-
-pub returns-in_err-removed-clause-world : goal.returns-in_err-removed-clause-world
-returns-in_err-removed-clause-world g c = c.find_removed.ensures.world ∙ c.compare.ensures.world
-
-pub returns-in_err-removed-clause-err : goal.returns-in_err-removed-clause-err
-returns-in_err-removed-clause-err g c =
-    let u = update_data c.args.update.now in
-    let p = err_from_is_err_and c.from_residual-in_err-removed.result c.from_residual-in_err-removed.ensures.1 in
-    rw (p.1, p.2) (subst (λ v. IsRefusal v u c.in_err-removed.field-0.0) (c.compare.ensures.world) c.in_err-removed.ensures.err)
-
-pub returns-in_err-regrafted-clause-world : goal.returns-in_err-regrafted-clause-world
-returns-in_err-regrafted-clause-world g c = c.regraft.ensures.world ∙ c.find_removed.ensures.world ∙ c.compare.ensures.world
-
-pub returns-in_err-regrafted-clause-err : goal.returns-in_err-regrafted-clause-err
-returns-in_err-regrafted-clause-err g c =
-    let u = update_data c.args.update.now in
-    let p = err_from_is_err_and c.from_residual-in_err-regrafted.result c.from_residual-in_err-regrafted.ensures.1 in
-    rw (p.1, p.2) (subst (λ v. IsRefusal v u c.in_err-regrafted.field-0.0) (c.find_removed.ensures.world ∙ c.compare.ensures.world) c.in_err-regrafted.ensures.err)
-
-pub returns-clause-world : goal.returns-clause-world
-returns-clause-world g c = c.regraft.ensures.world ∙ c.find_removed.ensures.world ∙ c.compare.ensures.world
 
 pub returns-clause-ok : goal.returns-clause-ok
 returns-clause-ok g c =

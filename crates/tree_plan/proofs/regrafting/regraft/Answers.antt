@@ -1,6 +1,6 @@
-use Rattle.std.proofs.Common.{◌≡◌, ◌∷◌, ◌++◌, [], ◌<◌, ◌≤◌, take, get_or, length, sym, ap, subst, ⊎_elim, ◌∙◌, arith}
+use Rattle.std.proofs.Common.{◌≡◌, ◌∷◌, ◌++◌, [], ◌<◌, take, get_or, length, sym, ap, subst, ⊎_elim, ◌∙◌, arith}
 use Rattle.std.specs.List.{Contains}
-use Rattle.std.proofs.lemmas.List.{take_more, take_all}
+use Rattle.std.proofs.lemmas.List.{take_more}
 use Rattle.std.proofs.lemmas.Result.{err_from_is_err_and}
 use Rattle.tree_changes.specs.Refusals.{IsRefusal}
 use Rattle.schema.specs.UpdateData.{UpdateData}
@@ -8,7 +8,7 @@ use Rattle.model.specs.World.{World}
 use Rattle.model.proofs.State.StatePlaces.{IsSome_is}
 use Rattle.tree_plan.specs.Regrafts.{HasRival, HasNoRival, MovesIn, AreRegrafted, grafted_record}
 use Rattle.tree_plan.specs.Cases.{sent}
-use Rattle.tree_plan.proofs.Gaining.{grafted_there, regrafts_more, not_before, regrafted_all, rival_refused}
+use Rattle.tree_plan.proofs.Gaining.{grafted_there, regrafts_more, not_before, regrafted_in_the_end, rival_refused}
 use Rattle.tree_plan.proofs.regrafting.regraft.Goals as goal
 
 pub add-requires : goal.add-requires
@@ -65,13 +65,4 @@ loop-name-preserved g c =
 
 pub returns-clause-ok : goal.returns-clause-ok
 returns-clause-ok g c =
-    let w : World = g.L.LookUps.world c.args.look_ups.now in
-    let u : UpdateData = sent c.args.case.now in
-    let d = c.args.case.now.compared.now in
-    let r = c.args.removed.now in
-    let xs = d.gained.items in
-    let items = c.deref-name-items.ensures.value in
-    let end : length xs ≤ c.loop-name.name-index = omega (arith, c.loop-name-test.false, ap length items) in
-    let all : take c.loop-name.name-index xs ≡ xs = take_all c.loop-name.name-index xs (omega arith) in
-    regrafted_all w u d r c.requires.case.comparison c.requires.removal c.requires.climbed c.loop-name.regrafted
-    (subst (λ names. AreRegrafted w u d r names c.loop-name.regrafted) all c.loop-name.invariant.found)
+    regrafted_in_the_end _ _ _ _ c.requires.case.comparison c.loop-name.name-index (omega (arith, c.loop-name-test.false, ap length c.deref-name-items.ensures.value)) c.requires.removal c.requires.climbed c.loop-name.regrafted c.loop-name.invariant.found

@@ -1,4 +1,5 @@
-use Rattle.std.proofs.Common.{rules, ◌≡◌, ◌∷◌, ◌++◌, [], length, ◌+◌, cond, Some, refl, sym, ap, subst, ◌∙◌, arith, length-append}
+use Rattle.std.proofs.Common.{rules, ◌≡◌, ◌∷◌, ◌++◌, [], length, ◌+◌, cond, None, Some, refl, sym, ap, subst, ◌∙◌, arith, length-append}
+use Rattle.std.specs.Map.{lookup}
 use Rattle.std.specs.BTreeMap.{is_at}
 use Rattle.model.specs.declared.FullNodeId.{FullNodeId}
 use Rattle.model.specs.FullIds.{full_cmp}
@@ -7,20 +8,30 @@ use Rattle.tree_store.specs.Cells.{SlotsView, number_of, slot_at, HasOwnCells, I
 use Rattle.tree_store.specs.CellsKept.{slots_of}
 use Rattle.tree_store.proofs.CellWrites.{no_number, cells_more, slots_more, free_more}
 use Rattle.tree_store.proofs.cells.Slots.push.Goals as goal
+use Rattle.tree_store.proofs.cells.Slots.push.Goals.{In_ok-insert}
+
+-- the id had no number, and has the next one
+numbered : (c : In_ok-insert) → (number_of (slots_of c.self.inside) c.args.id ≡ None)
+    × ((q : FullNodeId) → lookup (is_at (full_cmp q)) c.insert.new.self ≡ cond (is_at (full_cmp c.args.id) q) (Some (length c.self.inside.cells.items)) (number_of (slots_of c.self.inside) q))
+numbered c =
+    let a = c.self.inside in
+    let n : c.len-number.result ≡ length a.cells.items = search rules in (
+      no_number (slots_of a) c.self.invariant.cells c.args.id (ap (λ v. slot_at v c.args.id) c.self.view_is ∙ c.requires),
+      λ q. c.in_ok-insert.ensures.updates q ∙ ap (λ m. cond (is_at (full_cmp c.args.id) q) (Some m) (number_of (slots_of a) q)) n,
+    )
 
 pub invariant_of-self-2 : goal.invariant_of-self-2
 invariant_of-self-2 c =
     let a = c.self.inside in
     let k = c.self.invariant in
     let new : Cell = record { id = c.args.id; slot = Some c.args.slot } in
-    let none = no_number (slots_of a) k.cells c.args.id (ap (λ v. slot_at v c.args.id) c.self.view_is ∙ c.requires) in
+    let given = numbered (goal.at.invariant_of-self-2 c).In_ok-insert in
     let n : c.len-number.result ≡ length a.cells.items = search rules in
     let cells : c.push.new.self.items ≡ a.cells.items ++ new ∷ [] = search rules in
     let free : c.grow-2.new.list.items ≡ a.free.items = search rules in
-    let up = λ (q : FullNodeId). c.in_ok-insert.ensures.updates q ∙ ap (λ m. cond (is_at (full_cmp c.args.id) q) (Some m) (number_of (slots_of a) q)) n in
     let long : length c.push.new.self.items ≡ length a.cells.items + 1 = ap length cells ∙ length-append a.cells.items (new ∷ []) in
     record {
-      cells = subst (λ l. HasOwnCells (record { numbers = c.insert.new.self; cells = l })) (sym cells) (cells_more (slots_of a) k.cells c.args.id new c.insert.new.self refl refl none up);
+      cells = subst (λ l. HasOwnCells (record { numbers = c.insert.new.self; cells = l })) (sym cells) (cells_more (slots_of a) k.cells c.args.id new c.insert.new.self refl refl given.0 given.1);
       free = subst (λ l. IsFreeList c.push.new.self.items l) (sym free) (subst (λ l. IsFreeList l a.free.items) (sym cells) (free_more a.cells.items a.free.items new k.free refl));
       room = omega (arith, long, n, c.in_ok-grow-2.ensures.ok);
       bound = omega (arith, long, n, c.if-number-ge-MOST.false);
@@ -28,13 +39,9 @@ invariant_of-self-2 c =
 
 pub returns-clause-ok : goal.returns-clause-ok
 returns-clause-ok c q =
-    let a = c.self.inside in
-    let k = c.self.invariant in
     let new : Cell = record { id = c.args.id; slot = Some c.args.slot } in
-    let none = no_number (slots_of a) k.cells c.args.id (ap (λ v. slot_at v c.args.id) c.self.view_is ∙ c.requires) in
-    let n : c.len-number.result ≡ length a.cells.items = search rules in
-    let cells : c.push.new.self.items ≡ a.cells.items ++ new ∷ [] = search rules in
-    let up = λ (p : FullNodeId). c.in_ok-insert.ensures.updates p ∙ ap (λ m. cond (is_at (full_cmp c.args.id) p) (Some m) (number_of (slots_of a) p)) n in
+    let given = numbered (goal.at.returns-clause-ok c).In_ok-insert in
+    let cells : c.push.new.self.items ≡ c.self.inside.cells.items ++ new ∷ [] = search rules in
     ap (λ l. let s : SlotsView = record { numbers = c.insert.new.self; cells = l } in slot_at s q) cells
-    ∙ slots_more (slots_of a) k.cells c.args.id new c.insert.new.self refl refl none up q
+    ∙ slots_more (slots_of c.self.inside) c.self.invariant.cells c.args.id new c.insert.new.self refl refl given.0 given.1 q
     ∙ ap (λ v. cond (is_at (full_cmp c.args.id) q) (Some c.args.slot.value) (slot_at v q)) c.self.view_is

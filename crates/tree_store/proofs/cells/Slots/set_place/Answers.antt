@@ -1,60 +1,23 @@
-use Rattle.std.proofs.Common.{rules, ◌≡◌, ◌≤◌, ◌<◌, ◌^◌, cond, Some, sym, ap, subst, ◌∙◌, inl}
-use Rattle.std.specs.Prelude.{IsSome, is_some, option_and_then}
-use Rattle.std.specs.BTreeMap.{is_at}
-use Rattle.std.specs.Vec.{vec_capacity}
-use Rattle.std.proofs.lemmas.List.{length-set}
-use Rattle.std.proofs.lemmas.Option.{get_or_from_slice_get}
-use Rattle.model.specs.FullIds.{full_cmp}
-use Rattle.tree_store.specs.declared.cells.Cell.{Cell}
-use Rattle.tree_store.specs.Cells.{kept_in, number_of, slot_in, slot_at, record_in, record_at}
+use Rattle.std.proofs.Common.{rules, ◌≡◌, Some, ap, ◌∙◌}
+use Rattle.tree_store.specs.Cells.{number_of, record_at}
 use Rattle.tree_store.specs.CellsKept.{slots_of}
+use Rattle.std.specs.Prelude.{is_some}
 use Rattle.tree_store.specs.Commits.{record_moved_to}
-use Rattle.tree_store.proofs.CellWrites.{stays, cells_written, slots_written, free_kept}
+use Rattle.tree_store.proofs.CellWrites.{IsRenewed, renewed}
 use Rattle.tree_store.proofs.cells.Slots.set_place.Goals as goal
+use Rattle.tree_store.proofs.cells.Slots.set_place.Goals.{After-move_in}
+
+-- the cell is written
+written : (c : After-move_in) → IsRenewed c.self.inside c.args.self.now c.args.id c.in-Some.number c.index_mut.result.now c.move_in.new.cell (record_moved_to c.args.place (record_at c.args.self.now c.args.id))
+written c =
+    let at : number_of (slots_of c.self.inside) c.args.id ≡ Some c.in-Some.number = search rules in
+    renewed c.self.inside c.self.invariant c.args.self.now c.self.view_is c.args.id c.in-Some.number at c.index_mut.result.now c.move_in.new.cell c.index_mut.ensures.value c.move_in.ensures.id (record_moved_to c.args.place) c.move_in.ensures.moved
 
 pub invariant_of-self : goal.invariant_of-self
-invariant_of-self c =
-    let a = c.self.inside in
-    let k = c.self.invariant in
-    let n = c.in-Some.number in
-    let new : Cell = c.move_in.new.cell in
-    let at : number_of (slots_of a) c.args.id ≡ Some n = search rules in
-    let o = k.cells.own c.args.id n at in
-    let old : c.index_mut.result.now ≡ o.0 = c.index_mut.ensures.value ∙ get_or_from_slice_get a.cells.items n o.0 c.index_mut.result.now o.1 in
-    let own_id = c.move_in.ensures.id ∙ ap (λ (x : Cell). x.id) old ∙ o.2 in
-    let some : IsSome (kept_in new) = ap is_some c.move_in.ensures.moved in
-    record {
-      cells = cells_written (slots_of a) k.cells c.args.id n o.0 new a.index o.1 own_id (stays (slots_of a) c.args.id n (kept_in new) at some) (inl at);
-      free = free_kept a.cells.items a.free.items k.free n o.0 new o.1 o.3 some;
-      room = subst (λ m. m ≤ vec_capacity a.free) (sym (length-set a.cells.items n new)) k.room;
-      bound = subst (λ m. m < 2 ^ 32) (sym (length-set a.cells.items n new)) k.bound;
-    }
+invariant_of-self c = let w = written (goal.at.invariant_of-self c).After-move_in in record { cells = w.cells; free = w.free; room = w.room; bound = w.bound }
 
 pub returns-clause-there : goal.returns-clause-there
-returns-clause-there c =
-    let a = c.self.inside in
-    let s = slots_of c.self.inside in
-    let n = c.in-Some.number in
-    let at : number_of s c.args.id ≡ Some n = search rules in
-    let o = c.self.invariant.cells.own c.args.id n at in
-    let old : c.index_mut.result.now ≡ o.0 = c.index_mut.ensures.value ∙ get_or_from_slice_get a.cells.items n o.0 c.index_mut.result.now o.1 in
-    let here : slot_at s c.args.id ≡ kept_in o.0 = ap (option_and_then (slot_in s)) at ∙ ap (option_and_then kept_in) o.1 in
-    c.move_in.ensures.there ∙ ap (λ x. is_some (record_in (kept_in x))) old ∙ ap (λ x. is_some (record_in x)) (sym here) ∙ ap (λ v. is_some (record_at v c.args.id)) c.self.view_is
+returns-clause-there c = c.move_in.ensures.there ∙ ap is_some (written (goal.at.returns-clause-there c).After-move_in).before
 
 pub returns-clause-after : goal.returns-clause-after
-returns-clause-after c q =
-    let a = c.self.inside in
-    let s = slots_of c.self.inside in
-    let k = c.self.invariant in
-    let n = c.in-Some.number in
-    let new : Cell = c.move_in.new.cell in
-    let at : number_of s c.args.id ≡ Some n = search rules in
-    let o = k.cells.own c.args.id n at in
-    let old : c.index_mut.result.now ≡ o.0 = c.index_mut.ensures.value ∙ get_or_from_slice_get a.cells.items n o.0 c.index_mut.result.now o.1 in
-    let own_id = c.move_in.ensures.id ∙ ap (λ (x : Cell). x.id) old ∙ o.2 in
-    let some : IsSome (kept_in new) = ap is_some c.move_in.ensures.moved in
-    let here : slot_at s c.args.id ≡ kept_in o.0 = ap (option_and_then (slot_in s)) at ∙ ap (option_and_then kept_in) o.1 in
-    let before : record_in (kept_in c.index_mut.result.now) ≡ record_at c.args.self.now c.args.id = ap (λ x. record_in (kept_in x)) old ∙ ap record_in (sym here) ∙ ap (λ v. record_at v c.args.id) c.self.view_is in
-    slots_written s k.cells c.args.id n o.0 new a.index o.1 own_id (stays s c.args.id n (kept_in new) at some) (inl at) q
-    ∙ ap (λ x. cond (is_at (full_cmp c.args.id) q) x (slot_at s q)) (c.move_in.ensures.moved ∙ ap (λ r. Some (record_moved_to c.args.place r)) before)
-    ∙ ap (λ v. cond (is_at (full_cmp c.args.id) q) (Some (record_moved_to c.args.place (record_at c.args.self.now c.args.id))) (slot_at v q)) c.self.view_is
+returns-clause-after c = (written (goal.at.returns-clause-after c).After-move_in).slots
