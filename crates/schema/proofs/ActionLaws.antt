@@ -1,29 +1,24 @@
 -- A set with one more action has that action, and else what it had.
-use Rattle.std.proofs.Common.{◌≡◌, ◌≢◌, ℕ, ◌+◌, ◌-◌, ◌^◌, ◌==◌, false, cond, nat_lt, max, sym, ap, ◌∙◌, refl, arith, inl, inr}
+use Rattle.std.proofs.Common.{◌≡◌, ◌≢◌, ℕ, ◌+◌, ◌-◌, ◌^◌, ◌==◌, cond, nat_lt, max, sym, ap, subst, ◌∙◌, refl, arith, inl, inr}
 use Rattle.std.specs.Int.{bit_at}
 use Rattle.std.specs.Int.RustNames.{bit_or}
-use Rattle.std.proofs.Math.Nat.{max-zero}
-use Rattle.std.proofs.lemmas.Bool.{cases_eq}
-use Rattle.std.proofs.lemmas.Bool.Decides.{nat_tests}
+use Rattle.std.proofs.Math.Nat.{max-zero, le-add_right}
+use Rattle.std.proofs.lemmas.Bool.{cases_eq, le-ltb}
 use Rattle.std.proofs.lemmas.Nat.Bits.{bit_at_or, bit_at-pow_same, bit_at-pow_other, bit_at-lt}
 use Rattle.schema.specs.Actions.{action_number, with_action, Gains}
 use Rattle.schema.specs.declared.actions.Action.{Action}
 use Rattle.schema.specs.declared.actions.Action.TheVariants.{Click, Focus, Increment, Decrement, Other}
 
 -- the action of a number
-action_from : ℕ → Action
+abbrev action_from : ℕ → Action
 action_from n = cond (nat_lt n 4) (cond (nat_lt n 2) (cond (nat_lt n 1) Click Focus) (cond (nat_lt n 3) Increment Decrement)) (Other (n - 4))
 
-not_below : (n : ℕ) → nat_lt (4 + n) 4 ≡ false
-not_below n = grind (arith, nat_tests)
-
 back : (a : Action) → action_from (action_number a) ≡ a
-unfolding action_from
 back Click = refl
 back Focus = refl
 back Increment = refl
 back Decrement = refl
-back (Other n) = let e : 4 + n - 4 ≡ n = omega arith in rw (not_below n, e)
+back (Other n) = let e : 4 + n - 4 ≡ n = omega arith in rw (le-ltb (4 + n) 4 (le-add_right 4 n), e)
 
 same_action : (a b : Action) → action_number a ≡ action_number b → a ≡ b
 same_action a b e = sym (back a) ∙ ap action_from e ∙ back b
@@ -49,3 +44,7 @@ gains set a b = elim (cases_eq (action_number b) (action_number a)) [
     ],
   )
 ]
+
+-- the same where both sets are known by equations
+pub gains_after : (old set new : ℕ) (a : Action) → set ≡ old → new ≡ with_action set a → Gains old new a
+gains_after old set new a before after = subst (λ o. Gains o new a) before (subst (λ n. Gains set n a) (sym after) (gains set a))

@@ -13,15 +13,19 @@ pub record SameLinks (a b : NodeData) : Type 0 where
   pub next_on_line : a.next_on_line ≡ b.next_on_line
   pub tree_id : a.tree_id ≡ b.tree_id
 
--- in words for the user
-pub record SameWords (a b : NodeData) : Type 0 where
-  pub label : a.label ≡ b.label
-  pub value : a.value ≡ b.value
+-- in the descriptions and the other rarer words
+pub record SameDescriptions (a b : NodeData) : Type 0 where
   pub description : a.description ≡ b.description
   pub role_description : a.role_description ≡ b.role_description
   pub placeholder : a.placeholder ≡ b.placeholder
   pub braille_label : a.braille_label ≡ b.braille_label
   pub braille_role_description : a.braille_role_description ≡ b.braille_role_description
+
+-- in words for the user
+pub record SameWords (a b : NodeData) : Type 0 where
+  pub label : a.label ≡ b.label
+  pub value : a.value ≡ b.value
+  pub descriptions : SameDescriptions a b
 
 -- in names and other texts
 pub record SameNames (a b : NodeData) : Type 0 where

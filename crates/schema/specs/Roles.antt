@@ -1,9 +1,11 @@
 -- A number for each role, and the role of a number.
-use Rattle.std.specs.Prelude.{◌≡◌, ℕ, ◌+◌, ◌-◌, ◌==◌, nat_lt, cond, Bool, false, refl}
+use Rattle.std.specs.Prelude.{◌≡◌, ℕ, ◌+◌, ◌-◌, ◌==◌, nat_lt, cond, Bool, refl}
 use Rattle.std.specs.Bool.{Decides}
 use Rattle.std.specs.Cmp.{IsPartialEquivalence, IsEquivalence, partial_equiv_from_equiv}
 use Rattle.std.proofs.Common.{ap, sym, ◌∙◌, arith}
-use Rattle.std.proofs.lemmas.Bool.Decides.{nat_tests, Decides-eqb, Decides-like, same_from_decides}
+use Rattle.std.proofs.Math.Nat.{le-add_right}
+use Rattle.std.proofs.lemmas.Bool.{le-ltb}
+use Rattle.std.proofs.lemmas.Bool.Decides.{Decides-eqb, Decides-like, same_from_decides}
 use Rattle.schema.specs.declared.Role.{Role}
 use Rattle.schema.specs.declared.Role.TheVariants.{Unknown, Window, ScrollView, Paragraph, GenericContainer, TextRun, Label, Image, Document, Terminal, TextInput, MultilineTextInput, SearchInput, DateInput, DateTimeInput, WeekInput, MonthInput, TimeInput, EmailInput, NumberInput, PasswordInput, PhoneNumberInput, UrlInput, EditableComboBox, SpinButton, ListBox, TabList, AlertDialog, Dialog, ComboBox, DisclosureTriangle, TreeItem, Button, CheckBox, DefaultButton, Link, MenuItem, MenuItemCheckBox, MenuItemRadio, RadioButton, DocBackLink, DocBiblioRef, DocGlossRef, DocNoteRef, ColorWell, Grid, MenuListPopup, RadioGroup, Slider, Switch, TreeGrid, Article, Definition, DescriptionList, GraphicsDocument, List, ListItem, PdfRoot, ProgressIndicator, RootWebArea, Term, Timer, Toolbar, Tooltip, Comment, Tab, ListBoxOption, MenuListOption, ListGrid, Menu, MenuBar, Tree, Other}
 
@@ -107,9 +109,6 @@ role_from n =
     (cond (nat_lt n 69) (cond (nat_lt n 68) MenuListOption ListGrid) (cond (nat_lt n 70) Menu (cond (nat_lt n 71) MenuBar Tree)))))))
     (Other (n - 72))
 
-not_below : (n : ℕ) → nat_lt (72 + n) 72 ≡ false
-not_below n = grind (arith, nat_tests)
-
 back : (r : Role) → role_from (role_number r) ≡ r
 unfolding role_from
 back Unknown = refl
@@ -184,7 +183,7 @@ back ListGrid = refl
 back Menu = refl
 back MenuBar = refl
 back Tree = refl
-back (Other n) = let e : 72 + n - 72 ≡ n = omega arith in rw (not_below n, e)
+back (Other n) = let e : 72 + n - 72 ≡ n = omega arith in rw (le-ltb (72 + n) 72 (le-add_right 72 n), e)
 
 -- whether two roles are equal
 abbrev pub same_role : Role → Role → Bool

@@ -2,7 +2,7 @@
 
 ghost use Rattle.std.specs.Prelude.{◌≡◌, ◌↔◌, IsTrue, option_copied};
 ghost use Rattle.schema.specs.Same.{same_node, same_node_laws, same_node_equivalence};
-ghost use Rattle.schema.specs.Parts.{SameLinks, SameWords, SameNames, SameStates, SameManners, SameNumbers, SamePlace, SameRuns, SameStyle, SameChoices};
+ghost use Rattle.schema.specs.Parts.{SameLinks, SameWords, SameDescriptions, SameNames, SameStates, SameManners, SameNumbers, SamePlace, SameRuns, SameStyle, SameChoices};
 
 use crate::{
     AriaCurrent, Color, HasPopup, Live, Node, NodeId, Orientation, Rect, Role, SortDirection,
@@ -64,7 +64,22 @@ impl Node {
     {
         same_text(self.label(), other.label())
             && same_text(self.value(), other.value())
-            && same_text(self.description(), other.description())
+            && (self.has_no_rarer_text(other) || self.same_descriptions(other))
+    }
+
+    /// Whether none of the rarer texts is set in either, as in most nodes: then they agree.
+    fn has_no_rarer_text(&self, other: &Node) -> bool
+        ensures descriptions { IsTrue result → SameDescriptions self.now other.now }
+        ensures names { IsTrue result → SameNames self.now other.now }
+    {
+        self.texts.is_empty() && other.texts.is_empty()
+    }
+
+    /// Whether the descriptions agree.
+    fn same_descriptions(&self, other: &Node) -> bool
+        ensures { IsTrue result ↔ SameDescriptions self.now other.now }
+    {
+        same_text(self.description(), other.description())
             && same_text(self.role_description(), other.role_description())
             && same_text(self.placeholder(), other.placeholder())
             && same_text(self.braille_label(), other.braille_label())
@@ -76,6 +91,13 @@ impl Node {
 
     /// Whether the names and other texts agree.
     fn same_names(&self, other: &Node) -> bool
+        ensures { IsTrue result ↔ SameNames self.now other.now }
+    {
+        self.has_no_rarer_text(other) || self.same_each_name(other)
+    }
+
+    /// Whether each of the names and other texts agrees.
+    fn same_each_name(&self, other: &Node) -> bool
         ensures { IsTrue result ↔ SameNames self.now other.now }
     {
         same_text(self.url(), other.url())

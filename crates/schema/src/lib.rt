@@ -203,6 +203,8 @@ impl Model for Node {
     ghost use Rattle.std.specs.Bool.{then_some};
     ghost use Rattle.std.specs.String.{string_bytes};
     ghost use Rattle.schema.specs.NodeData.{NodeData};
+    ghost use Rattle.schema.specs.RareTexts.{text_under};
+    ghost use Rattle.schema.specs.declared.rare_texts.RareText.TheVariants.{Description, RoleDescription, Placeholder, Url, AuthorId, HtmlId, ClassName, BrailleLabel, BrailleRoleDescription, ColumnIndexText, RowIndexText, FontFamily, Language};
 
     ghost Value = { NodeData };
 
@@ -217,19 +219,19 @@ impl Model for Node {
       tree_id = a.plain.tree_id;
       label = option_map string_bytes a.label;
       value = option_map string_bytes a.value;
-      description = a.texts.description;
-      role_description = a.texts.role_description;
-      placeholder = a.texts.placeholder;
-      url = a.texts.url;
-      author_id = a.texts.author_id;
-      html_id = a.texts.html_id;
-      class_name = a.texts.class_name;
-      braille_label = a.texts.braille_label;
-      braille_role_description = a.texts.braille_role_description;
-      column_index_text = a.texts.column_index_text;
-      row_index_text = a.texts.row_index_text;
-      font_family = a.texts.font_family;
-      language = a.texts.language;
+      description = text_under Description a.texts;
+      role_description = text_under RoleDescription a.texts;
+      placeholder = text_under Placeholder a.texts;
+      url = text_under Url a.texts;
+      author_id = text_under AuthorId a.texts;
+      html_id = text_under HtmlId a.texts;
+      class_name = text_under ClassName a.texts;
+      braille_label = text_under BrailleLabel a.texts;
+      braille_role_description = text_under BrailleRoleDescription a.texts;
+      column_index_text = text_under ColumnIndexText a.texts;
+      row_index_text = text_under RowIndexText a.texts;
+      font_family = text_under FontFamily a.texts;
+      language = text_under Language a.texts;
       hidden = a.plain.hidden;
       disabled = a.plain.disabled;
       read_only = a.plain.read_only;

@@ -1,13 +1,14 @@
 //! The rarer texts of a node: a list with an entry for each text that is set, so that a node without them stays small.
 
-ghost use Rattle.std.specs.Prelude.{◌≡◌, ◌++◌, [], ◌∷◌, ◌==◌, not, filter, map, None, Some, OnOk, OnErr, IfOk, option_copied, string_bytes, vec_len, vec_capacity, ◌≤◌};
-ghost use Rattle.schema.specs.RareTexts.{key_number, is_under, text_at, entry_seen, no_texts, text_under, with_text};
+ghost use Rattle.std.specs.Prelude.{◌≡◌, ◌++◌, [], ◌∷◌, not, filter, map, None, Some, OnOk, OnErr, IfOk, option_map, option_copied, string_bytes, vec_len, vec_capacity, ◌≤◌, IsTrue};
+ghost use Rattle.std.specs.List.{find};
+ghost use Rattle.schema.specs.RareTexts.{is_under, text_under, entry_seen, IsSetUnder};
 
 use std::alloc::{AllocError, Global};
 use std::marker::Model;
 
 /// The key of a rarer text.
-#[derive(Clone, Copy)]
+#[derive(Clone, Copy, PartialEq, Eq)]
 pub(crate) enum RareText {
     Description,
     RoleDescription,
@@ -24,29 +25,6 @@ pub(crate) enum RareText {
     Language,
 }
 
-impl RareText {
-    /// The number of the key.
-    fn number(self) -> u8
-        ensures { result ≡ key_number self }
-    {
-        match self {
-            RareText::Description => 0,
-            RareText::RoleDescription => 1,
-            RareText::Placeholder => 2,
-            RareText::Url => 3,
-            RareText::AuthorId => 4,
-            RareText::HtmlId => 5,
-            RareText::ClassName => 6,
-            RareText::BrailleLabel => 7,
-            RareText::BrailleRoleDescription => 8,
-            RareText::ColumnIndexText => 9,
-            RareText::RowIndexText => 10,
-            RareText::FontFamily => 11,
-            RareText::Language => 12,
-        }
-    }
-}
-
 /// The rarer texts of a node.
 #[derive(Drop)]
 pub(crate) struct RareTexts {
@@ -54,21 +32,30 @@ pub(crate) struct RareTexts {
 }
 
 impl Model for RareTexts {
-    ghost use Rattle.schema.specs.RareTexts.{RareTextsData, texts_of};
+    ghost use Rattle.std.specs.Prelude.{ℕ, List, map};
+    ghost use Rattle.schema.specs.declared.rare_texts.RareText.{RareText};
+    ghost use Rattle.schema.specs.RareTexts.{entry_seen};
 
-    ghost Value = { RareTextsData };
+    ghost Value = { List (RareText × List ℕ) };
 
-    ghost view = { λ a. texts_of a.entries.items };
+    ghost view = { λ a. map entry_seen a.entries.items };
 }
 
 impl RareTexts {
     /// None of the texts.
     pub(crate) fn new(alloc: Global) -> RareTexts
-        ensures { result ≡ no_texts }
+        ensures { result ≡ [] }
     {
         RareTexts {
             entries: Vec::new(alloc),
         }
+    }
+
+    /// Whether none of the texts is set.
+    pub(crate) fn is_empty(&self) -> bool
+        ensures { IsTrue result → self.now ≡ [] }
+    {
+        self.entries.is_empty()
     }
 
     /// One of the texts.
@@ -80,7 +67,7 @@ impl RareTexts {
 
     /// Sets one of the texts.
     pub(crate) fn set(&mut self, key: RareText, text: String) -> Result<(), AllocError>
-        ensures ok { OnOk result (self.new ≡ with_text key (Some (string_bytes text)) self.old) }
+        ensures ok { OnOk result (IsSetUnder key (Some (string_bytes text)) self.old self.new) }
         ensures err { OnErr result (self.new ≡ self.old) }
     {
         put(&mut self.entries, key, text)?;
@@ -89,7 +76,7 @@ impl RareTexts {
 
     /// Clears one of the texts.
     pub(crate) fn clear(&mut self, key: RareText)
-        ensures { self.new ≡ with_text key None self.old }
+        ensures { IsSetUnder key None self.old self.new }
     {
         take_out(&mut self.entries, key);
     }
@@ -105,11 +92,11 @@ impl RareTexts {
 
 /// The text of the first entry under the key.
 fn entry_of(entries: &[(RareText, String)], key: RareText) -> Option<&str>
-    ensures { option_copied result ≡ text_at entries.now key }
+    ensures { option_copied result ≡ option_map (λ e. string_bytes e.1) (find (is_under key) entries.now) }
 {
     entries
         .iter()
-        .find(|entry| entry.0.number() == key.number())
+        .find(|entry| entry.0 == key)
         .map(|entry| entry.1.as_str())
 }
 
@@ -133,7 +120,7 @@ fn take_out(entries: &mut Vec<(RareText, String)>, key: RareText)
     ensures len { vec_len entries.new ≤ vec_len entries.old }
     ensures capacity { vec_capacity entries.new ≡ vec_capacity entries.old }
 {
-    entries.retain(|entry| entry.0.number() != key.number());
+    entries.retain(|entry| entry.0 != key);
 }
 
 /// The same entries, with copies of their texts.

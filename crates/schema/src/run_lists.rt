@@ -1,7 +1,7 @@
 //! The lists about a text run's characters. They are stored apart from the node, so that other nodes stay small.
 
 ghost use Rattle.std.specs.Prelude.{◌≡◌, [], None, Some, OnOk, OnErr, IfOk, option_map, option_copied};
-ghost use Rattle.schema.specs.RunLists.{no_lists};
+ghost use Rattle.schema.specs.RunLists.{no_lists, table_data, with_list};
 
 use std::alloc::{AllocError, Global};
 use std::marker::Model;
@@ -16,10 +16,7 @@ struct RunTable {
 
 impl RunTable {
     fn new(alloc: Global) -> RunTable
-        ensures lengths { result.lengths.items ≡ [] }
-        ensures starts { result.starts.items ≡ [] }
-        ensures positions { result.positions ≡ None }
-        ensures widths { result.widths ≡ None }
+        ensures { table_data result ≡ no_lists }
     {
         RunTable {
             lengths: Vec::new(alloc),
@@ -28,6 +25,27 @@ impl RunTable {
             widths: None,
         }
     }
+
+    /// Puts a list in place of the one of its kind.
+    fn put(&mut self, list: RunList)
+        ensures { table_data self.new ≡ with_list list (table_data self.old) }
+    {
+        match list {
+            RunList::Lengths(lengths) => self.lengths = lengths,
+            RunList::Starts(starts) => self.starts = starts,
+            RunList::Positions(positions) => self.positions = positions,
+            RunList::Widths(widths) => self.widths = widths,
+        }
+    }
+}
+
+/// One of the lists, or `None` for one that may be unset.
+#[derive(Drop)]
+pub(crate) enum RunList {
+    Lengths(Vec<u16>),
+    Starts(Vec<u16>),
+    Positions(Option<Vec<i32>>),
+    Widths(Option<Vec<i32>>),
 }
 
 /// The lists of a text run. Nothing is allocated until the first of them is set.
@@ -37,18 +55,12 @@ pub(crate) struct RunLists {
 }
 
 impl Model for RunLists {
-    ghost use Rattle.std.specs.Prelude.{[], option_map, option_and_then};
     ghost use Rattle.std.specs.Option.{option_map_or};
-    ghost use Rattle.schema.specs.RunLists.{RunListsData};
+    ghost use Rattle.schema.specs.RunLists.{RunListsData, no_lists, table_data};
 
     ghost Value = { RunListsData };
 
-    ghost view = { λ a. record {
-      lengths = option_map_or (λ b. b.value.lengths.items) a.table [];
-      starts = option_map_or (λ b. b.value.starts.items) a.table [];
-      positions = option_and_then (λ b. option_map (λ v. v.items) b.value.positions) a.table;
-      widths = option_and_then (λ b. option_map (λ v. v.items) b.value.widths) a.table;
-    } };
+    ghost view = { λ a. option_map_or (λ table. table_data table.value) a.table no_lists };
 }
 
 impl RunLists {
@@ -69,30 +81,6 @@ impl RunLists {
         }
     }
 
-    /// Sets [`RunLists::lengths`].
-    pub(crate) fn set_lengths(&mut self, alloc: Global, lengths: Vec<u16>) -> Result<(), AllocError>
-        ensures ok { OnOk result (self.new ≡ record self.old { lengths = lengths.items }) }
-        ensures err { OnErr result (self.new ≡ self.old) }
-    {
-        if let Some(table) = &mut self.table {
-            table.lengths = lengths;
-            return Ok(());
-        }
-        let mut table = RunTable::new(alloc);
-        table.lengths = lengths;
-        self.table = Some(Box::new(alloc, table)?);
-        Ok(())
-    }
-
-    /// Clears [`RunLists::lengths`].
-    pub(crate) fn clear_lengths(&mut self, alloc: Global)
-        ensures { self.new ≡ record self.old { lengths = [] } }
-    {
-        if let Some(table) = &mut self.table {
-            table.lengths = Vec::new(alloc);
-        }
-    }
-
     /// The index of the first character of each word.
     pub(crate) fn starts(&self) -> &[u16]
         ensures { result.now ≡ self.now.starts }
@@ -103,63 +91,11 @@ impl RunLists {
         }
     }
 
-    /// Sets [`RunLists::starts`].
-    pub(crate) fn set_starts(&mut self, alloc: Global, starts: Vec<u16>) -> Result<(), AllocError>
-        ensures ok { OnOk result (self.new ≡ record self.old { starts = starts.items }) }
-        ensures err { OnErr result (self.new ≡ self.old) }
-    {
-        if let Some(table) = &mut self.table {
-            table.starts = starts;
-            return Ok(());
-        }
-        let mut table = RunTable::new(alloc);
-        table.starts = starts;
-        self.table = Some(Box::new(alloc, table)?);
-        Ok(())
-    }
-
-    /// Clears [`RunLists::starts`].
-    pub(crate) fn clear_starts(&mut self, alloc: Global)
-        ensures { self.new ≡ record self.old { starts = [] } }
-    {
-        if let Some(table) = &mut self.table {
-            table.starts = Vec::new(alloc);
-        }
-    }
-
     /// Where each character begins, in units of 1/64 pixel.
     pub(crate) fn positions(&self) -> Option<&[i32]>
         ensures { option_copied result ≡ self.now.positions }
     {
         slice_of(&self.table.as_ref()?.positions)
-    }
-
-    /// Sets [`RunLists::positions`].
-    pub(crate) fn set_positions(
-        &mut self,
-        alloc: Global,
-        positions: Vec<i32>,
-    ) -> Result<(), AllocError>
-        ensures ok { OnOk result (self.new ≡ record self.old { positions = Some positions.items }) }
-        ensures err { OnErr result (self.new ≡ self.old) }
-    {
-        if let Some(table) = &mut self.table {
-            table.positions = Some(positions);
-            return Ok(());
-        }
-        let mut table = RunTable::new(alloc);
-        table.positions = Some(positions);
-        self.table = Some(Box::new(alloc, table)?);
-        Ok(())
-    }
-
-    /// Clears [`RunLists::positions`].
-    pub(crate) fn clear_positions(&mut self)
-        ensures { self.new ≡ record self.old { positions = None } }
-    {
-        if let Some(table) = &mut self.table {
-            table.positions = None;
-        }
     }
 
     /// The width of each character, in units of 1/64 pixel.
@@ -169,27 +105,28 @@ impl RunLists {
         slice_of(&self.table.as_ref()?.widths)
     }
 
-    /// Sets [`RunLists::widths`].
-    pub(crate) fn set_widths(&mut self, alloc: Global, widths: Vec<i32>) -> Result<(), AllocError>
-        ensures ok { OnOk result (self.new ≡ record self.old { widths = Some widths.items }) }
+    /// Sets one of the lists.
+    pub(crate) fn set(&mut self, alloc: Global, list: RunList) -> Result<(), AllocError>
+        ensures ok { OnOk result (self.new ≡ with_list list self.old) }
         ensures err { OnErr result (self.new ≡ self.old) }
     {
         if let Some(table) = &mut self.table {
-            table.widths = Some(widths);
+            table.put(list);
             return Ok(());
         }
         let mut table = RunTable::new(alloc);
-        table.widths = Some(widths);
+        table.put(list);
         self.table = Some(Box::new(alloc, table)?);
         Ok(())
     }
 
-    /// Clears [`RunLists::widths`].
-    pub(crate) fn clear_widths(&mut self)
-        ensures { self.new ≡ record self.old { widths = None } }
+    /// Sets one of the lists to an empty one, which needs no memory.
+    pub(crate) fn clear(&mut self, list: RunList)
+        requires { with_list list no_lists ≡ no_lists }
+        ensures { self.new ≡ with_list list self.old }
     {
         if let Some(table) = &mut self.table {
-            table.widths = None;
+            table.put(list);
         }
     }
 
@@ -215,12 +152,7 @@ fn slice_of(list: &Option<Vec<i32>>) -> Option<&[i32]>
 }
 
 fn copy_of_table(alloc: Global, table: &RunTable) -> Result<RunTable, AllocError>
-    ensures lengths { IfOk result (λ copy. copy.lengths.items ≡ table.now.lengths.items) }
-    ensures starts { IfOk result (λ copy. copy.starts.items ≡ table.now.starts.items) }
-    ensures positions { IfOk result (λ copy.
-        option_map (λ v. v.items) copy.positions ≡ option_map (λ v. v.items) table.now.positions) }
-    ensures widths { IfOk result (λ copy.
-        option_map (λ v. v.items) copy.widths ≡ option_map (λ v. v.items) table.now.widths) }
+    ensures { IfOk result (λ copy. table_data copy ≡ table_data table.now) }
 {
     let lengths = Vec::from_slice(alloc, table.lengths.as_slice())?;
     let starts = Vec::from_slice(alloc, table.starts.as_slice())?;

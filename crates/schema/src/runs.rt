@@ -4,6 +4,7 @@
 
 ghost use Rattle.std.specs.Prelude.{◌≡◌, [], None, Some, OnOk, OnErr, IfOk, option_copied};
 
+use crate::run_lists::RunList;
 use crate::{Node, TextSelection};
 use std::alloc::{AllocError, Global};
 
@@ -46,7 +47,7 @@ impl Node {
         ensures err { OnErr result (self.new ≡ self.old) }
     {
         let copy = Vec::from_slice(self.alloc, lengths)?;
-        self.run.set_lengths(self.alloc, copy)
+        self.run.set(self.alloc, RunList::Lengths(copy))
     }
 
     /// Sets [`Node::character_lengths`] to these lengths, given as bytes.
@@ -59,14 +60,14 @@ impl Node {
         ensures err { OnErr result (self.new ≡ self.old) }
     {
         let copy = widened(self.alloc, lengths)?;
-        self.run.set_lengths(self.alloc, copy)
+        self.run.set(self.alloc, RunList::Lengths(copy))
     }
 
     /// Clears [`Node::character_lengths`].
     pub fn clear_character_lengths(&mut self)
         ensures { self.new ≡ record self.old { character_lengths = [] } }
     {
-        self.run.clear_lengths(self.alloc);
+        self.run.clear(RunList::Lengths(Vec::new(self.alloc)));
     }
 
     /// The index of the first character of each word of a text run.
@@ -86,7 +87,7 @@ impl Node {
         ensures err { OnErr result (self.new ≡ self.old) }
     {
         let copy = Vec::from_slice(self.alloc, starts)?;
-        self.run.set_starts(self.alloc, copy)
+        self.run.set(self.alloc, RunList::Starts(copy))
     }
 
     /// Sets [`Node::word_starts`] to these indexes, given as bytes.
@@ -99,14 +100,14 @@ impl Node {
         ensures err { OnErr result (self.new ≡ self.old) }
     {
         let copy = widened(self.alloc, starts)?;
-        self.run.set_starts(self.alloc, copy)
+        self.run.set(self.alloc, RunList::Starts(copy))
     }
 
     /// Clears [`Node::word_starts`].
     pub fn clear_word_starts(&mut self)
         ensures { self.new ≡ record self.old { word_starts = [] } }
     {
-        self.run.clear_starts(self.alloc);
+        self.run.clear(RunList::Starts(Vec::new(self.alloc)));
     }
 
     /// Where each character of a text run begins along its line, in units of 1/64 pixel.
@@ -126,14 +127,14 @@ impl Node {
         ensures err { OnErr result (self.new ≡ self.old) }
     {
         let copy = Vec::from_slice(self.alloc, positions)?;
-        self.run.set_positions(self.alloc, copy)
+        self.run.set(self.alloc, RunList::Positions(Some(copy)))
     }
 
     /// Clears [`Node::character_positions`].
     pub fn clear_character_positions(&mut self)
         ensures { self.new ≡ record self.old { character_positions = None } }
     {
-        self.run.clear_positions();
+        self.run.clear(RunList::Positions(None));
     }
 
     /// The width of each character of a text run along its line, in units of 1/64 pixel.
@@ -153,14 +154,14 @@ impl Node {
         ensures err { OnErr result (self.new ≡ self.old) }
     {
         let copy = Vec::from_slice(self.alloc, widths)?;
-        self.run.set_widths(self.alloc, copy)
+        self.run.set(self.alloc, RunList::Widths(Some(copy)))
     }
 
     /// Clears [`Node::character_widths`].
     pub fn clear_character_widths(&mut self)
         ensures { self.new ≡ record self.old { character_widths = None } }
     {
-        self.run.clear_widths();
+        self.run.clear(RunList::Widths(None));
     }
 }
 

@@ -38,7 +38,7 @@ use Rattle.model.proofs.Asking.Asked.{of_secret}
 use Rattle.model.proofs.Alike.Answers.{one_answer}
 use Rattle.model.proofs.Alike.Runs.{alike_step}
 use Rattle.model.proofs.Examples.Tools.{◌▸◌}
-use Rattle.model.proofs.Examples.Tested.{IsWritten, node_in, is_there, is_present, among, place_read, accepted_by_tests}
+use Rattle.model.proofs.Examples.Tested.{IsWritten, node_in, is_there, among, place_read, root_tree_again, accepted_by_tests}
 use Rattle.model.proofs.Examples.ToldTools.{listed_so, same_still, nothing_there}
 use Rattle.model.proofs.Examples.SecretExamples.{sent_as, root_data, password, sent, runs, same_shape, equal_shape}
 
@@ -66,7 +66,7 @@ module _ (v a l b value : List ℕ) where
   accepted : IsAccepted old (send_run value) new
   accepted =
       accepted_by_tests (send_run value) before (node 0) refl after (refl, refl, refl)
-      (inr (record { later = λ e. cc; grafted = inl refl; has_root = inl (is_present before 0 refl); index_left = inl refl }))
+      (root_tree_again (send_run value) before refl refl refl)
       (refl ▸ tt, refl ▸ refl ▸ refl ▸ tt) refl plain_tree refl refl refl
 
   none_added : IsAscendingListOf (IsAdded old new) []

@@ -1,5 +1,5 @@
 -- The focus on a graft that the update cuts off.
-use Rattle.std.proofs.Common.{◌≡◌, ℕ, List, [], ◌∷◌, inl, inr, refl, sym, ap, ◌∙◌, subst, arith}
+use Rattle.std.proofs.Common.{◌≡◌, ℕ, List, [], ◌∷◌, refl, sym, ap, ◌∙◌, subst, arith}
 use Rattle.std.specs.FinMap.{get}
 use Rattle.std.proofs.lemmas.Option.{same_Some}
 use Rattle.schema.specs.NodeData.{NodeData}
@@ -13,7 +13,7 @@ use Rattle.model.specs.Examples.{at, node, name, window, document, graft, button
 use Rattle.model.proofs.State.StatePlaces.{listed_tree}
 use Rattle.model.proofs.Examples.Tools.{◌▸◌}
 use Rattle.model.proofs.Examples.Evidence.{each_listed, none_stands_apart}
-use Rattle.model.proofs.Examples.Tested.{IsWritten, IsTested, merged_written, tree_at, is_present, tested_apart}
+use Rattle.model.proofs.Examples.Tested.{IsWritten, IsTested, merged_written, tree_at, root_tree_again, tested, tested_apart}
 use Rattle.model.proofs.Examples.Worlds.{window_nodes, nested_written, written}
 
 abbrev focused_tree : Tree
@@ -39,14 +39,9 @@ before : IsWritten m merged_trees merged_nodes
 before = merged_written nested focus_on_cut_graft nested_written (node 0) refl
 
 shown : IsTested nested focus_on_cut_graft left merged_trees merged_nodes focused window_nodes
-shown = record {
-  before = before;
-  after = written _ focused window_nodes;
-  same = (refl, refl, refl);
-  occasion = inr (record { later = λ e. cc; grafted = inl refl; has_root = inl (is_present nested_written 0 refl); index_left = inl refl });
-  found = (refl ▸ tt, refl ▸ tt);
-  passes = refl;
-}
+shown =
+    tested focus_on_cut_graft nested_written (node 0) refl (written _ focused window_nodes) (refl, refl, refl)
+    (root_tree_again focus_on_cut_graft nested_written refl refl refl) (refl ▸ tt, refl ▸ tt) refl
 
 -- of tree 0 the window alone is reached
 reached_alone : (id : FullNodeId) → Reached m id → id.tree ≡ 0 → id.node.0 ≡ 0

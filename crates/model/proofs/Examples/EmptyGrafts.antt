@@ -1,5 +1,5 @@
 -- The focus on a graft whose tree isn't there.
-use Rattle.std.proofs.Common.{ℕ, List, [], ◌∷◌, inl, inr, refl}
+use Rattle.std.proofs.Common.{ℕ, List, [], ◌∷◌, refl}
 use Rattle.model.specs.World.{ROOT_NAME, World, Tree}
 use Rattle.model.specs.World as world
 use Rattle.model.specs.Focus.{first}
@@ -8,7 +8,7 @@ use Rattle.model.specs.Examples as examples
 use Rattle.model.specs.Examples.{at, node, name, empty_graft, focus_on_graft}
 use Rattle.model.proofs.Examples.Tools.{◌▸◌}
 use Rattle.model.proofs.Examples.Evidence.{none_stands_apart}
-use Rattle.model.proofs.Examples.Tested.{IsWritten, IsTested, merged_written, tree_at, reached_by, grafts_in, is_present, tested_apart}
+use Rattle.model.proofs.Examples.Tested.{IsWritten, IsTested, merged_written, tree_at, reached_by, grafts_in, root_tree_again, tested, tested_apart}
 use Rattle.model.proofs.Examples.Worlds.{empty_graft_nodes, empty_graft_written, written}
 
 abbrev focused : List (ℕ × Tree)
@@ -25,14 +25,9 @@ before : IsWritten m focused empty_graft_nodes
 before = merged_written empty_graft focus_on_graft empty_graft_written (node 0) refl
 
 shown : IsTested empty_graft focus_on_graft left focused empty_graft_nodes focused empty_graft_nodes
-shown = record {
-  before = before;
-  after = written _ focused empty_graft_nodes;
-  same = (refl, refl, refl);
-  occasion = inr (record { later = λ e. cc; grafted = inl refl; has_root = inl (is_present empty_graft_written 0 refl); index_left = inl refl });
-  found = (refl ▸ tt, refl ▸ refl ▸ tt);
-  passes = refl;
-}
+shown =
+    tested focus_on_graft empty_graft_written (node 0) refl (written _ focused empty_graft_nodes) (refl, refl, refl)
+    (root_tree_again focus_on_graft empty_graft_written refl refl refl) (refl ▸ tt, refl ▸ refl ▸ tt) refl
 
 pub focus_on_an_empty_graft_is_refused : Stands empty_graft focus_on_graft (FocusOnEmptyGraft (name 1))
 focus_on_an_empty_graft_is_refused = (

@@ -19,7 +19,7 @@ use Rattle.model.proofs.Members.{contains_none}
 use Rattle.model.proofs.Examples.ToldTools.{same_still, nothing_there}
 use Rattle.model.proofs.Examples.Tools.{◌▸◌, entries-from_entries}
 use Rattle.model.proofs.Examples.Evidence.{each_graft, accepted_by_chain}
-use Rattle.model.proofs.Examples.Tested.{IsWritten, IsTested, merged_written, tree_at, node_in, is_there, is_present, reached_by, grafts_in, place_read, tested_apart}
+use Rattle.model.proofs.Examples.Tested.{IsWritten, IsTested, merged_written, tree_at, node_in, is_there, reached_by, grafts_in, place_read, root_tree_again, tested, tested_apart}
 
 abbrev nodes : List (FullNodeId × NodeData)
 nodes = (at 0 0, window (1 ∷ [])) ∷ (at 0 1, graft (name 1)) ∷ (at 1 0, document (1 ∷ [])) ∷ (at 1 1, button) ∷ []
@@ -76,14 +76,9 @@ module _ (f g : ℕ) (stays : IsSome (find full_cmp (at 0 g) nodes)) where
   before = merged_written (with_inner_focus f) (focus_on g) (written f) (node 0) refl
 
   shown : IsTested (with_inner_focus f) (focus_on g) (with_inner_focus g) (trees g) nodes (trees g) nodes
-  shown = record {
-    before = before;
-    after = written g;
-    same = (refl, refl, refl);
-    occasion = inr (record { later = λ e. cc; grafted = inl refl; has_root = inl (is_present (written f) 0 refl); index_left = inl refl });
-    found = (refl ▸ refl ▸ tt, refl ▸ refl ▸ refl ▸ refl ▸ tt);
-    passes = refl;
-  }
+  shown =
+      tested (focus_on g) (written f) (node 0) refl (written g) (refl, refl, refl)
+      (root_tree_again (focus_on g) (written f) refl refl refl) (refl ▸ refl ▸ tt, refl ▸ refl ▸ refl ▸ refl ▸ tt) refl
 
   m_tree : (index : ℕ) → get m.trees index ≡ find nat_cmp index (trees g)
   m_tree = tree_at before

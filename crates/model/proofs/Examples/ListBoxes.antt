@@ -31,30 +31,30 @@ module _ (active : ℕ) where
       let t : Tree = record { root = node 0; focus = node 1 } in
       (first t (get_is (focused_list active).trees ((0, t) ∷ []) (entries-from_entries nat_cmp_total ((0, t) ∷ [])) 0), list_box active, has, refl)
 
+  -- where another node resolves it, or it resolves itself, the list box doesn't say that it is focused
+  says_no : (a : FullNodeId) → Resolves (focused_list active) (at 0 1) a → ¬ (IsFocusedNode (focused_list active) (at 0 1))
+  says_no a resolves f = resolved f.1 f.2 f.3
+    where
+      resolved : (e : FullNodeId) → IsEffectiveFocus (focused_list active) e → (((at 0 1 ≡ e) × ((b : FullNodeId) → ¬ (Resolves (focused_list active) e b))) ⊎ ((at 0 1 ≢ e) × Resolves (focused_list active) e (at 0 1))) → ⊥
+      resolved e is (inl h) = subst (λ x. (b : FullNodeId) → ¬ (Resolves (focused_list active) x b)) (sym h.0) h.1 a resolves
+      resolved e is (inr h) = h.0 (effective_focus_unique (focused_list active) (at 0 1) e effective is)
+
 -- the list box has the effective focus; `focus` answers its active descendant, which alone says that it is focused
 pub active_descendant_has_the_focus : IsFocusId (focused_list 2) (Some (at 0 1)) × IsFocus (focused_list 2) (Some (at 0 2)) × IsFocusedNode (focused_list 2) (at 0 2) × ¬ (IsFocusedNode (focused_list 2) (at 0 1))
 unfolding nodes
 active_descendant_has_the_focus =
-    ((refl, effective 2), (refl, at 0 1, effective 2, inl resolves), (refl, at 0 1, effective 2, inr ((λ e. let n : 2 ≡ 1 = ap (λ x. x.node.0) e in omega arith), resolves)), λ f. not_the_box f.1 f.2 f.3)
+    ((refl, effective 2), (refl, at 0 1, effective 2, inl resolves), (refl, at 0 1, effective 2, inr ((λ e. let n : 2 ≡ 1 = ap (λ x. x.node.0) e in omega arith), resolves)), says_no 2 (at 0 2) resolves)
   where
     resolves : Resolves (focused_list 2) (at 0 1) (at 0 2)
     resolves = (list_box 2, has 2, refl, refl, there 2 (at 0 2) refl)
 
-    not_the_box : (e : FullNodeId) → IsEffectiveFocus (focused_list 2) e → (((at 0 1 ≡ e) × ((a : FullNodeId) → ¬ (Resolves (focused_list 2) e a))) ⊎ ((at 0 1 ≢ e) × Resolves (focused_list 2) e (at 0 1))) → ⊥
-    not_the_box e is (inl h) = subst (λ x. (a : FullNodeId) → ¬ (Resolves (focused_list 2) x a)) (sym h.0) h.1 (at 0 2) resolves
-    not_the_box e is (inr h) = h.0 (effective_focus_unique (focused_list 2) (at 0 1) e (effective 2) is)
-
 -- one that names itself has the focus, and says that it isn't focused
 pub own_active_descendant_is_not_focused : IsFocus (focused_list 1) (Some (at 0 1)) × ¬ (IsFocusedNode (focused_list 1) (at 0 1))
 unfolding nodes
-own_active_descendant_is_not_focused = ((refl, at 0 1, effective 1, inl resolves), λ f. not_focused f.1 f.2 f.3)
+own_active_descendant_is_not_focused = ((refl, at 0 1, effective 1, inl resolves), says_no 1 (at 0 1) resolves)
   where
     resolves : Resolves (focused_list 1) (at 0 1) (at 0 1)
     resolves = (list_box 1, has 1, refl, refl, there 1 (at 0 1) refl)
-
-    not_focused : (e : FullNodeId) → IsEffectiveFocus (focused_list 1) e → (((at 0 1 ≡ e) × ((a : FullNodeId) → ¬ (Resolves (focused_list 1) e a))) ⊎ ((at 0 1 ≢ e) × Resolves (focused_list 1) e (at 0 1))) → ⊥
-    not_focused e is (inl h) = subst (λ x. (a : FullNodeId) → ¬ (Resolves (focused_list 1) x a)) (sym h.0) h.1 (at 0 1) resolves
-    not_focused e is (inr h) = h.0 (effective_focus_unique (focused_list 1) (at 0 1) e (effective 1) is)
 
 -- an active descendant that isn't there isn't one: the list box has the focus, and says so
 pub gone_active_descendant_is_passed_over : IsFocus (focused_list 9) (Some (at 0 1)) × IsFocusedNode (focused_list 9) (at 0 1)

@@ -7,13 +7,13 @@ use Rattle.model.specs.World as world
 use Rattle.model.specs.Update.{ListedTwice, Stands, IsAccepted, merged_world}
 use Rattle.model.specs.Examples.{at, node, window, container, button, plain_tree, before_move, after_move, half_a_move, whole_move}
 use Rattle.model.proofs.Examples.Tools.{◌▸◌, lists_at}
-use Rattle.model.proofs.Examples.Tested.{IsWritten, merged_written, node_in, reached_by, is_present, accepted_by_tests}
+use Rattle.model.proofs.Examples.Tested.{IsWritten, merged_written, node_in, reached_by, root_tree_again, accepted_by_tests}
 use Rattle.model.proofs.Examples.Worlds.{one_tree, before_move_written, after_move_written}
 
 pub moved_child_with_both_parents_is_accepted : IsAccepted before_move whole_move after_move
 moved_child_with_both_parents_is_accepted =
     accepted_by_tests whole_move before_move_written (node 0) refl after_move_written (refl, refl, refl)
-    (inr (record { later = λ e. cc; grafted = inl refl; has_root = inl (is_present before_move_written 0 refl); index_left = inl refl }))
+    (root_tree_again whole_move before_move_written refl refl refl)
     (refl ▸ tt, refl ▸ refl ▸ refl ▸ refl ▸ tt) refl plain_tree refl refl refl
 
 -- ---- without its old parent

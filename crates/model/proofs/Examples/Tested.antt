@@ -302,6 +302,23 @@ pub record IsTested (w : World) (u : UpdateData) (new : World) (mts : List (ℕ 
   pub found : AllByRecursion (λ e. find nat_cmp e.0 mts ≡ Some e.1) ts × AllByRecursion (λ e. find full_cmp e.0 mes ≡ Some e.1) es
   pub passes : all_tests_pass w u mts mes ts es ≡ true
 
+-- an update of the root tree that comes later, to a world that has it
+pub root_tree_again : {w : World} (u : UpdateData) {ts : List (ℕ × Tree)} {es : List (FullNodeId × NodeData)} → IsWritten w ts es → u.name ≡ ROOT_NAME → has_tree ts (index_for w u.name) ≡ true → IsSome (index_of w u.name) → IsShownFirst w u ⊎ IsShownLater w u
+root_tree_again {w} u is named there known =
+    inr (record { later = λ first. nothing_known first; grafted = inl named; has_root = inl (is_present is (index_for w u.name) there); index_left = inl known })
+  where
+    nothing_known : ¬ (w.known ≡ [])
+    nothing_known first = let none : index_of w u.name ≡ None = ap (position (is_name u.name)) first in let some : IsSome {T = ℕ} None = subst IsSome none known in cc
+
+-- the same of an update of a written world, whose merged world is written with it
+pub tested : {w : World} (u : UpdateData) {new : World} {ots : List (ℕ × Tree)} {oes : List (FullNodeId × NodeData)} {ts : List (ℕ × Tree)} {es : List (FullNodeId × NodeData)}
+    → IsWritten w ots oes → (root : NodeId) → root_read w u ots ≡ Some root → IsWritten new ts es
+    → (new.known ≡ (merged_world w u).known) × (new.toolkit ≡ (merged_world w u).toolkit) × (new.host_focused ≡ w.host_focused) → IsShownFirst w u ⊎ IsShownLater w u
+    → AllByRecursion (λ e. find nat_cmp e.0 (trees_over w u root ots) ≡ Some e.1) ts × AllByRecursion (λ e. find full_cmp e.0 (nodes_over w u oes) ≡ Some e.1) es
+    → all_tests_pass w u (trees_over w u root ots) (nodes_over w u oes) ts es ≡ true
+    → IsTested w u new (trees_over w u root ots) (nodes_over w u oes) ts es
+tested {w} u before root read after same occasion found passes = record { before = merged_written w u before root read; after = after; same = same; occasion = occasion; found = found; passes = passes }
+
 module _ {w : World} {u : UpdateData} {new : World} {mts : List (ℕ × Tree)} {mes : List (FullNodeId × NodeData)} {ts : List (ℕ × Tree)} {es : List (FullNodeId × NodeData)} (s : IsTested w u new mts mes ts es) where
   abbrev m : World
   m = merged_world w u
@@ -384,5 +401,4 @@ pub accepted_by_tests : {w : World} (u : UpdateData) {new : World} {ots : List (
     → AllByRecursion (λ e. find nat_cmp e.0 (trees_over w u root ots) ≡ Some e.1) ts × AllByRecursion (λ e. find full_cmp e.0 (nodes_over w u oes) ≡ Some e.1) es
     → all_tests_pass w u (trees_over w u root ots) (nodes_over w u oes) ts es ≡ true
     → (focus : Tree) → find nat_cmp 0 (trees_over w u root ots) ≡ Some focus → has_node es (in_tree 0 focus.focus) ≡ true → graft_in (nodes_over w u oes) (in_tree 0 focus.focus) ≡ None → IsAccepted w u new
-accepted_by_tests {w} u before root read after same occasion found passes focus is stays ends =
-    accepted_tested (record { before = merged_written w u before root read; after = after; same = same; occasion = occasion; found = found; passes = passes }) focus is stays ends
+accepted_by_tests u before root read after same occasion found passes focus is stays ends = accepted_tested (tested u before root read after same occasion found passes) focus is stays ends

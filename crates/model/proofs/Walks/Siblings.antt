@@ -121,29 +121,24 @@ module _ (f : FullNodeId → FilterResult) where
     both_end : (p : Place) → is_same top p.0 ≡ true → is_not_passed f p.0 ≡ true
     both_end p t = ap (λ r. not (is_left_out r)) (ap f (sym (same_from_test top p.0 t)) ∙ kept)
 
-    after_same : (ps : List Place) → LeadsUpTo f top ps → after f w (is_same top) ps ≡ after f w (is_not_passed f) ps
-    after_same [] leads = absurd leads
-    after_same (p ∷ up) leads = go (is_same top p.0) refl leads (after_same up)
+    -- so a walk up ends at the same place by either test
+    ends_alike : (join : Place → List FullNodeId → List FullNodeId) (walk : (FullNodeId → Bool) → List Place → List FullNodeId) →
+        ((ends : FullNodeId → Bool) (p : Place) (up : List Place) → walk ends (p ∷ up) ≡ join p (cond (ends p.0) [] (walk ends up))) →
+        (ps : List Place) → LeadsUpTo f top ps → walk (is_same top) ps ≡ walk (is_not_passed f) ps
+    ends_alike join walk steps [] leads = absurd leads
+    ends_alike join walk steps (p ∷ up) leads =
+        steps (is_same top) p up ∙ ap (join p) (go (is_same top p.0) refl leads (ends_alike join walk steps up)) ∙ sym (steps (is_not_passed f) p up)
       where
-        go : (b : Bool) → is_same top p.0 ≡ b → LeadsUpTo f top (p ∷ up) → (LeadsUpTo f top up → after f w (is_same top) up ≡ after f w (is_not_passed f) up) → after f w (is_same top) (p ∷ up) ≡ after f w (is_not_passed f) (p ∷ up)
-        go true t leads higher =
-            ap (λ b. shown_from f w (next_place p) ++ cond b [] (after f w (is_same top) up)) t ∙ ap (λ b. shown_from f w (next_place p) ++ cond b [] (after f w (is_not_passed f) up)) (sym (both_end p t))
+        go : (b : Bool) → is_same top p.0 ≡ b → LeadsUpTo f top (p ∷ up) → (LeadsUpTo f top up → walk (is_same top) up ≡ walk (is_not_passed f) up) → cond (is_same top p.0) [] (walk (is_same top) up) ≡ cond (is_not_passed f p.0) [] (walk (is_not_passed f) up)
+        go true t leads higher = ap (λ b. cond b [] (walk (is_same top) up)) t ∙ ap (λ b. cond b [] (walk (is_not_passed f) up)) (sym (both_end p t))
         go false t (inl here) higher = absurd (let both : true ≡ false = sym (ap (is_same top) here ∙ test_self top) ∙ t in cc)
-        go false t (inr (out, leads)) higher =
-            ap (λ b. shown_from f w (next_place p) ++ cond b [] (after f w (is_same top) up)) t ∙ ap (λ xs. shown_from f w (next_place p) ++ xs) (higher leads)
-            ∙ ap (λ r. shown_from f w (next_place p) ++ cond (not (is_left_out r)) [] (after f w (is_not_passed f) up)) (sym out)
+        go false t (inr (out, leads)) higher = ap (λ b. cond b [] (walk (is_same top) up)) t ∙ higher leads ∙ ap (λ r. cond (not (is_left_out r)) [] (walk (is_not_passed f) up)) (sym out)
+
+    after_same : (ps : List Place) → LeadsUpTo f top ps → after f w (is_same top) ps ≡ after f w (is_not_passed f) ps
+    after_same = ends_alike (λ p later. shown_from f w (next_place p) ++ later) (after f w) (λ ends p up. refl)
 
     before_same : (ps : List Place) → LeadsUpTo f top ps → before f w (is_same top) ps ≡ before f w (is_not_passed f) ps
-    before_same [] leads = absurd leads
-    before_same (p ∷ up) leads = go (is_same top p.0) refl leads (before_same up)
-      where
-        go : (b : Bool) → is_same top p.0 ≡ b → LeadsUpTo f top (p ∷ up) → (LeadsUpTo f top up → before f w (is_same top) up ≡ before f w (is_not_passed f) up) → before f w (is_same top) (p ∷ up) ≡ before f w (is_not_passed f) (p ∷ up)
-        go true t leads higher =
-            ap (λ b. cond b [] (before f w (is_same top) up) ++ shown_until f w p) t ∙ ap (λ b. cond b [] (before f w (is_not_passed f) up) ++ shown_until f w p) (sym (both_end p t))
-        go false t (inl here) higher = absurd (let both : true ≡ false = sym (ap (is_same top) here ∙ test_self top) ∙ t in cc)
-        go false t (inr (out, leads)) higher =
-            ap (λ b. cond b [] (before f w (is_same top) up) ++ shown_until f w p) t ∙ ap (λ xs. xs ++ shown_until f w p) (higher leads)
-            ∙ ap (λ r. cond (not (is_left_out r)) [] (before f w (is_not_passed f) up) ++ shown_until f w p) (sym out)
+    before_same = ends_alike (λ p earlier. earlier ++ shown_until f w p) (before f w) (λ ends p up. refl)
 
 -- ---- the tests of order
 

@@ -1,4 +1,4 @@
-use Rattle.std.proofs.Common.{◌≡◌, ℕ, Some, inl, inr, sym, ◌∙◌, subst}
+use Rattle.std.proofs.Common.{inl, inr, sym, ◌∙◌, subst}
 use Rattle.model.specs.Run.{ToQuery, Does}
 use Rattle.model.proofs.Decisions.{same_inside}
 use Rattle.model.proofs.laws.events.stop_loses_no_change.Goals as goal
