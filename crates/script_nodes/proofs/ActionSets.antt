@@ -14,7 +14,8 @@ use Rattle.schema.proofs.ActionBits.{or_high}
 use Rattle.schema.specs.Actions.{action_number, has_action, with_action}
 use Rattle.schema.specs.declared.actions.Action.{Action}
 use Rattle.script_nodes.specs.ActionLists.{action_numbered, actions_among, actions_in, chosen, with_actions}
-use Rattle.script_words.specs.Parts.{action_list_text, action_text, comma_action}
+use Rattle.script_words.specs.Parts.{action_list_text, action_text}
+use Rattle.script_words.specs.Items.{comma_then}
 use Rattle.script_words.specs.Reading.{IsAction, IsWord, Lacks}
 use Rattle.script_words.proofs.ActionNames.{action_begins, action_lacks_space}
 use Rattle.script_nodes.proofs.ActionSteps.{one_more_action}
@@ -151,15 +152,15 @@ has_none set n low e = among_has_none set 260 n low e
 
 -- ---- the names of a list are a word
 
-names_lack_space : (others : List Action) → All IsAction others → Lacks 32 (flat_map comma_action others)
+names_lack_space : (others : List Action) → All IsAction others → Lacks 32 (flat_map (comma_then action_text) others)
 names_lack_space [] hs = lacks_nothing 32
 names_lack_space (action ∷ others) hs =
-    lacks_append 32 (comma_action action) (flat_map comma_action others)
+    lacks_append 32 (comma_then action_text action) (flat_map (comma_then action_text) others)
     (lacks_append 32 (codes ",") (action_text action) (lacks_by 32 (codes ",") refl) (action_lacks_space action (All-head IsAction action others hs)))
     (names_lack_space others (All-tail IsAction action others hs))
 
 pub action_list_is_word : (action : Action) (others : List Action) → IsAction action → All IsAction others → IsWord (action_list_text action others)
 action_list_is_word action others h hs = (
-  lacks_append 32 (action_text action) (flat_map comma_action others) (action_lacks_space action h) (names_lack_space others hs),
-  omega (arith, action_begins action, length-append (action_text action) (flat_map comma_action others)),
+  lacks_append 32 (action_text action) (flat_map (comma_then action_text) others) (action_lacks_space action h) (names_lack_space others hs),
+  omega (arith, action_begins action, length-append (action_text action) (flat_map (comma_then action_text) others)),
 )
