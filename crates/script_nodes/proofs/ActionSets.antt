@@ -13,6 +13,10 @@ use Rattle.std.proofs.lemmas.List.Elements.{All-append, All-cons, All-head, All-
 use Rattle.schema.proofs.ActionBits.{or_high}
 use Rattle.schema.specs.Actions.{action_number, has_action, with_action}
 use Rattle.schema.specs.declared.actions.Action.{Action}
+use Rattle.schema.specs.NodeData.{NodeData}
+use Rattle.script_nodes.specs.declared.field_kinds.ActionsField.{ActionsField}
+use Rattle.script_nodes.specs.declared.field_kinds.ActionsField.TheVariants as actions
+use Rattle.script_nodes.specs.FieldKinds.{actions_at, with_actions_field}
 use Rattle.script_nodes.specs.ActionLists.{action_numbered, actions_among, actions_in, chosen, with_actions}
 use Rattle.script_words.specs.Parts.{action_list_text, action_text}
 use Rattle.script_words.specs.Items.{comma_then}
@@ -37,8 +41,31 @@ unfolding with_actions
 one_more set xs action = with_both set xs (action ∷ [])
 
 -- the next one of a list
-pub next_action : (set : ℕ) (xs : List Action) (i : ℕ) (d : Action) → i < length xs → with_action (with_actions set (take i xs)) (slice_index_or xs i d) ≡ with_actions set (take (i + 1) xs)
+next_action : (set : ℕ) (xs : List Action) (i : ℕ) (d : Action) → i < length xs → with_action (with_actions set (take i xs)) (slice_index_or xs i d) ≡ with_actions set (take (i + 1) xs)
 next_action set xs i d low = sym (ap (λ ys. with_actions set ys) (ap (λ k. take k xs) (add-one i) ∙ take-suc xs i d low) ∙ one_more set (take i xs) (slice_index_or xs i d))
+
+-- ---- one of a node's two sets
+
+pub given_same : (which : ActionsField) (n : NodeData) → with_actions_field which (actions_at which n) n ≡ n
+given_same actions.Own n = refl
+given_same actions.Children n = refl
+
+-- a change of a set that was given
+given_twice : (which : ActionsField) (set : ℕ) (change : ℕ → ℕ) (n : NodeData)
+    → with_actions_field which (change (actions_at which (with_actions_field which set n))) (with_actions_field which set n) ≡ with_actions_field which (change set) n
+given_twice actions.Own set change n = refl
+given_twice actions.Children set change n = refl
+
+-- a node that has the first ones of a list gains the next
+pub gains_next : (which : ActionsField) (n : NodeData) (xs : List Action) (i : ℕ) (d : Action) (now new : NodeData) → i < length xs
+    → now ≡ with_actions_field which (with_actions (actions_at which n) (take i xs)) n
+    → new ≡ with_actions_field which (with_action (actions_at which now) (slice_index_or xs i d)) now
+    → new ≡ with_actions_field which (with_actions (actions_at which n) (take (i + 1) xs)) n
+gains_next which n xs i d now new low so_far next =
+    next
+    ∙ ap (λ node. with_actions_field which (with_action (actions_at which node) (slice_index_or xs i d)) node) so_far
+    ∙ given_twice which (with_actions (actions_at which n) (take i xs)) (λ set. with_action set (slice_index_or xs i d)) n
+    ∙ ap (λ set. with_actions_field which set n) (next_action (actions_at which n) xs i d low)
 
 -- ---- what number an action has
 
