@@ -27,6 +27,7 @@ READING = [
     "checks/formatted",
     "tools/check-excerpts",
     "tools/index --check",
+    "tools/fields --check",
     "tools/crates --check",
     "tools/check-documents --docstrings",
     "checks/names",

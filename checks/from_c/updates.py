@@ -1,4 +1,5 @@
-"""Sends updates that are built call by call, beside the same ones by lines: `updates.py LIBRARY SCRIPT` prints updates.told.
+"""Sends updates that are built call by call, beside the same ones by lines: `updates.py LIBRARY SCRIPT` prints updates.told. It needs the
+script that `updates.py --script` prints: updates.script, in which node 2 has each other field too.
 
 Where both say the same, the second of them changes nothing. It has one event: an update of another tree than the root tree reports the
 root that it names. A field that a line lacks is noticed by another event, or by a refusal, so each field was compared.
@@ -6,29 +7,50 @@ root that it names. A field that a line lacks is noticed by another event, or by
 
 import re
 import sys
+from pathlib import Path
 from uuid import UUID
 from accesskit_proved import FIELDS, Event, Id, Refused, Tree
 
 INSIDE = UUID(int=7)
 UNCHANGED = [Event("updated", Id(1, 1), Id(1, 1))]
-FLAGS = "hidden clips disabled read_only required modal busy multiselectable italic live_atomic touch_transparent".split()
-TEXTS = dict(label='To: "all"\n', value="v", description="d", placeholder="p", role_description="rd", url="u", author_id="a", html_id="h")
-TEXTS |= dict(class_name="c", braille_label="bl", braille_role_description="br", column_index_text="B", row_index_text="2", font_family="f", language="fr")
-CHOICES = dict(toggled="mixed", live="assertive", orientation="vertical", sort_direction="other", aria_current="time", has_popup="dialog")
-CHOICES |= dict(text_direction="bottom_to_top", text_align="justify", vertical_offset="superscript")
-NUMBERS = dict(number=-(2**63), min=-1, max=2**63 - 1, step=2, jump=3, scroll_x=1, scroll_x_min=-2, scroll_x_max=3, scroll_y=4, scroll_y_min=-5, scroll_y_max=6)
-COUNTS = dict(level=2**64 - 1, set_size=5, position=4, font_size=2**32 - 1, font_weight=65535)
-LOOKS = dict(background_color=(1, 2, 3, 4), foreground_color=(255, 0, 128, 7), overline=("solid", 0, 0, 0, 255))
-LOOKS |= dict(strikethrough=("double", 9, 8, 7, 6), underline=("wavy", 255, 0, 0, 255))
-OTHERS = dict(children=[3, 6], labelled=[1], controls=[4, 5], active=5, bounds=(-1, 2, 2**31 - 1, -(2**31)), move=(3, -4), selection=(3, 1, 6, 2))
-OTHERS |= dict(expanded=True, selected=False, actions=["Click", "Decrement", 255], child_actions=["Focus", 0])
+# What updates.script has of node 2.
+GIVEN = dict(children=[3, 6], labelled=[1], controls=[4, 5], active=5, label='To: "all"\n', bounds=(-1, 2, 2**31 - 1, -(2**31)), move=(3, -4))
+GIVEN |= dict(selection=(3, 1, 6, 2), toggled="mixed", live="assertive", orientation="vertical", sort_direction="other", aria_current="time")
+GIVEN |= dict(has_popup="dialog", font_size=2**32 - 1, font_weight=65535, overline=("solid", 0, 0, 0, 255), strikethrough=("double", 9, 8, 7, 6))
+GIVEN |= dict(text_direction="bottom_to_top", text_align="justify", vertical_offset="superscript", number=-(2**63), max=2**63 - 1, level=2**64 - 1)
+GIVEN |= dict(actions=["Click", "Decrement", 255], child_actions=["Focus", 0])
+# What it has of each other field of these kinds: a value made of the field's number, so that no two are alike. updates.rs makes the same.
+MADE = {
+    "text": lambda number: f"text {number}",
+    "flag": lambda number: True,
+    "number": lambda number: -number,
+    "count": lambda number: number,
+    "bool": lambda number: number % 2 == 0,
+    "color": lambda number: (number, 1, 2, 255),
+    "decoration": lambda number: ("wavy", number, 1, 2, 255),
+}
+OTHERS = {name: MADE[kind](number) for number, (name, kind) in enumerate(FIELDS.items()) if kind in MADE and name not in GIVEN}
+
+
+def word(name, value):
+    """One of the other fields, in a line."""
+    if FIELDS[name] == "flag":
+        return name
+    if FIELDS[name] == "text":
+        return f'{name}="{value}"'
+    return f"{name}={','.join(map(str, value)) if isinstance(value, tuple) else str(value).lower()}"
+
+
+def completed(script):
+    """updates.script with the other fields of node 2."""
+    return re.sub(r"(?<=^node 2 TextInput) ", f" {' '.join(word(*it) for it in OTHERS.items())} ", script, flags=re.M)
 
 
 def build(tree):
-    """The updates of updates.script by calls; the events of both."""
+    """The updates of the script by calls; the events of both."""
     update = tree.update(2, root=1, toolkit="Kit", version="1.2")
     update.node(1, "Window", label="Mail", children=[2, 4, 5])
-    update.node(2, "TextInput", **TEXTS, **dict.fromkeys(FLAGS, True), **CHOICES, **NUMBERS, **COUNTS, **LOOKS, **OTHERS)
+    update.node(2, "TextInput", **GIVEN, **OTHERS)
     update.node(3, "TextRun", value="aéb", chars=[1, 2, 1], words=[0, 65535], character_positions=[-5, 0, 2**31 - 1], character_widths=[], next=6)
     update.node(6, "TextRun", value="cd", chars=[1, 1], words=[0], prev=3)
     update.node(4, 328, tree=INSIDE)
@@ -91,8 +113,7 @@ def main(library, path):
         print("built, then fed:", told(feed(built, script)))
         feed(fed, script)
         print("fed, then built:", told(build(fed)))
-        print(f"fields: {len(FIELDS)}")
-        print(f"fields whose lack is noticed: {len(noticed(library, script) & set(FIELDS))}")
+        print("fields whose lack is not noticed:", ", ".join(FIELDS.keys() - noticed(library, script)) or "none")
         print(f"root and focus: {named(built.root())}, {named(built.focus())}")
         built.update(2).node(5, "Button", label="More").send()
         print("relabelled by calls:", told(built.events()))
@@ -111,4 +132,7 @@ def main(library, path):
 
 
 if __name__ == "__main__":
-    main(*sys.argv[1:])
+    if sys.argv[1] == "--script":
+        print(completed(Path(__file__).with_suffix(".script").read_text(encoding="utf-8")), end="")
+    else:
+        main(*sys.argv[1:])

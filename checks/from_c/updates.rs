@@ -1,84 +1,49 @@
-//! Sends updates that are built call by call, beside the same ones by lines: `updates SCRIPT` prints updates.told but for the two lines
-//! about the lack of fields, which updates.py prints, and which says why there is an event where both say the same.
+//! Sends updates that are built call by call, beside the same ones by lines: `updates SCRIPT` prints updates.told but for the line about
+//! the lack of fields. That is printed by updates.py, which makes the script, and says why there is an event where both say the same.
+mod fields;
+
 use accesskit_proved::{
     Action, AriaCurrent, Color, Error, Event, Field, HasPopup, Id, Live, Orientation, Place, Role, SortDirection, Style, TextAlign, TextDirection, Toggled,
     Tree, TreeName, Update, VerticalOffset,
 };
 
 const INSIDE: [u8; 16] = [0, 0, 0, 0, 0, 0, 0, 0, 0, 0, 0, 0, 0, 0, 0, 7];
-const FLAGS: [Field; 11] = [
-    Field::Hidden,
-    Field::Clips,
-    Field::Disabled,
-    Field::ReadOnly,
-    Field::Required,
-    Field::Modal,
-    Field::Busy,
-    Field::Multiselectable,
-    Field::Italic,
-    Field::LiveAtomic,
-    Field::TouchTransparent,
-];
-const TEXTS: [(Field, &str); 15] = [
-    (Field::Label, "To: \"all\"\n"),
-    (Field::Value, "v"),
-    (Field::Description, "d"),
-    (Field::Placeholder, "p"),
-    (Field::RoleDescription, "rd"),
-    (Field::Url, "u"),
-    (Field::AuthorId, "a"),
-    (Field::HtmlId, "h"),
-    (Field::ClassName, "c"),
-    (Field::BrailleLabel, "bl"),
-    (Field::BrailleRoleDescription, "br"),
-    (Field::ColumnIndexText, "B"),
-    (Field::RowIndexText, "2"),
-    (Field::FontFamily, "f"),
-    (Field::Language, "fr"),
-];
-const NUMBERS: [(Field, i64); 11] = [
-    (Field::Number, i64::MIN),
-    (Field::Min, -1),
-    (Field::Max, i64::MAX),
-    (Field::Step, 2),
-    (Field::Jump, 3),
-    (Field::ScrollX, 1),
-    (Field::ScrollXMin, -2),
-    (Field::ScrollXMax, 3),
-    (Field::ScrollY, 4),
-    (Field::ScrollYMin, -5),
-    (Field::ScrollYMax, 6),
-];
-const COUNTS: [(Field, usize); 5] =
-    [(Field::Level, usize::MAX), (Field::SetSize, 5), (Field::Position, 4), (Field::FontSize, u32::MAX as usize), (Field::FontWeight, 65535)];
 
 fn color(red: u8, green: u8, blue: u8, alpha: u8) -> Color {
     Color { red, green, blue, alpha }
 }
 
-/// A node with every field that any node may have.
+/// Sets each field of the kinds that have many to a value made of its number. updates.py makes the same.
+fn made(update: &mut Update) -> Result<(), Error> {
+    fields::TEXTS.iter().try_for_each(|it| update.text(*it, &format!("text {}", *it as u8)).map(|_| ()))?;
+    fields::FLAGS.iter().try_for_each(|it| update.flag(*it).map(|_| ()))?;
+    fields::NUMBERS.iter().try_for_each(|it| update.number(*it, -(*it as i64)).map(|_| ()))?;
+    fields::COUNTS.iter().try_for_each(|it| update.count(*it, *it as usize).map(|_| ()))?;
+    fields::BOOLS.iter().try_for_each(|it| update.bool(*it, *it as u8 % 2 == 0).map(|_| ()))?;
+    fields::COLORS.iter().try_for_each(|it| update.color(*it, color(*it as u8, 1, 2, 255)).map(|_| ()))?;
+    fields::DECORATIONS.iter().try_for_each(|it| update.decoration(*it, Style::Wavy, color(*it as u8, 1, 2, 255)).map(|_| ()))
+}
+
+/// A node with every field that any node may have: some have values that are given here, in place of those made.
 fn full(update: &mut Update) -> Result<(), Error> {
     update.node(2, Role::TEXT_INPUT)?;
+    made(update)?;
     update.ids(Field::Children, &[3, 6])?.ids(Field::Labelled, &[1])?.ids(Field::Controls, &[4, 5])?.id(Field::Active, 5)?;
-    TEXTS.iter().try_for_each(|(field, text)| update.text(*field, text).map(|_| ()))?;
-    FLAGS.iter().try_for_each(|field| update.flag(*field).map(|_| ()))?;
-    NUMBERS.iter().try_for_each(|(field, number)| update.number(*field, *number).map(|_| ()))?;
-    COUNTS.iter().try_for_each(|(field, count)| update.count(*field, *count).map(|_| ()))?;
+    update.text(Field::Label, "To: \"all\"\n")?.number(Field::Number, i64::MIN)?.number(Field::Max, i64::MAX)?;
+    update.count(Field::Level, usize::MAX)?.count(Field::FontSize, u32::MAX as usize)?.count(Field::FontWeight, 65535)?;
     update.bounds(-1, 2, i32::MAX, i32::MIN)?.shift(3, -4)?;
     update.selection(Place { run: 3, character: 1 }, Place { run: 6, character: 2 })?;
-    update.bool(Field::Expanded, true)?.bool(Field::Selected, false)?.choose(Toggled::Mixed)?.choose(Live::Assertive)?;
+    update.choose(Toggled::Mixed)?.choose(Live::Assertive)?;
     update.choose(Orientation::Vertical)?.choose(SortDirection::Other)?.choose(AriaCurrent::Time)?.choose(HasPopup::Dialog)?;
     update.choose(TextDirection::BottomToTop)?.choose(TextAlign::Justify)?.choose(VerticalOffset::Superscript)?;
-    update.color(Field::BackgroundColor, color(1, 2, 3, 4))?.color(Field::ForegroundColor, color(255, 0, 128, 7))?;
     update.decoration(Field::Overline, Style::Solid, color(0, 0, 0, 255))?;
     update.decoration(Field::Strikethrough, Style::Double, color(9, 8, 7, 6))?;
-    update.decoration(Field::Underline, Style::Wavy, color(255, 0, 0, 255))?;
     update.action(Field::Actions, Action::CLICK)?.action(Field::Actions, Action::DECREMENT)?.action(Field::Actions, Action::other(255))?;
     update.action(Field::ChildActions, Action::FOCUS)?.action(Field::ChildActions, Action::other(0))?;
     Ok(())
 }
 
-/// The updates of updates.script by calls; the events of both.
+/// The updates of the script by calls; the events of both.
 fn build(tree: &mut Tree) -> Result<Vec<Event>, Error> {
     tree.update(TreeName::Root, 2, |update| {
         update.root(1)?.toolkit_name("Kit")?.toolkit_version("1.2")?;

@@ -13,8 +13,13 @@ use Rattle.std.proofs.lemmas.List.Elements.{All-append, All-cons, All-head, All-
 use Rattle.schema.proofs.ActionBits.{or_high}
 use Rattle.schema.specs.Actions.{action_number, has_action, with_action}
 use Rattle.schema.specs.declared.actions.Action.{Action}
+use Rattle.schema.specs.NodeData.{NodeData}
+use Rattle.script_nodes.specs.declared.field_kinds.ActionsField.{ActionsField}
+use Rattle.script_nodes.specs.declared.field_kinds.ActionsField.TheVariants as actions
+use Rattle.script_nodes.specs.FieldKinds.{actions_at, with_actions_field}
 use Rattle.script_nodes.specs.ActionLists.{action_numbered, actions_among, actions_in, chosen, with_actions}
-use Rattle.script_words.specs.Parts.{action_list_text, action_text, comma_action}
+use Rattle.script_words.specs.Parts.{action_list_text, action_text}
+use Rattle.script_words.specs.Items.{comma_then}
 use Rattle.script_words.specs.Reading.{IsAction, IsWord, Lacks}
 use Rattle.script_words.proofs.ActionNames.{action_begins, action_lacks_space}
 use Rattle.script_nodes.proofs.ActionSteps.{one_more_action}
@@ -36,8 +41,31 @@ unfolding with_actions
 one_more set xs action = with_both set xs (action ∷ [])
 
 -- the next one of a list
-pub next_action : (set : ℕ) (xs : List Action) (i : ℕ) (d : Action) → i < length xs → with_action (with_actions set (take i xs)) (slice_index_or xs i d) ≡ with_actions set (take (i + 1) xs)
+next_action : (set : ℕ) (xs : List Action) (i : ℕ) (d : Action) → i < length xs → with_action (with_actions set (take i xs)) (slice_index_or xs i d) ≡ with_actions set (take (i + 1) xs)
 next_action set xs i d low = sym (ap (λ ys. with_actions set ys) (ap (λ k. take k xs) (add-one i) ∙ take-suc xs i d low) ∙ one_more set (take i xs) (slice_index_or xs i d))
+
+-- ---- one of a node's two sets
+
+pub given_same : (which : ActionsField) (n : NodeData) → with_actions_field which (actions_at which n) n ≡ n
+given_same actions.Own n = refl
+given_same actions.Children n = refl
+
+-- a change of a set that was given
+given_twice : (which : ActionsField) (set : ℕ) (change : ℕ → ℕ) (n : NodeData)
+    → with_actions_field which (change (actions_at which (with_actions_field which set n))) (with_actions_field which set n) ≡ with_actions_field which (change set) n
+given_twice actions.Own set change n = refl
+given_twice actions.Children set change n = refl
+
+-- a node that has the first ones of a list gains the next
+pub gains_next : (which : ActionsField) (n : NodeData) (xs : List Action) (i : ℕ) (d : Action) (now new : NodeData) → i < length xs
+    → now ≡ with_actions_field which (with_actions (actions_at which n) (take i xs)) n
+    → new ≡ with_actions_field which (with_action (actions_at which now) (slice_index_or xs i d)) now
+    → new ≡ with_actions_field which (with_actions (actions_at which n) (take (i + 1) xs)) n
+gains_next which n xs i d now new low so_far next =
+    next
+    ∙ ap (λ node. with_actions_field which (with_action (actions_at which node) (slice_index_or xs i d)) node) so_far
+    ∙ given_twice which (with_actions (actions_at which n) (take i xs)) (λ set. with_action set (slice_index_or xs i d)) n
+    ∙ ap (λ set. with_actions_field which set n) (next_action (actions_at which n) xs i d low)
 
 -- ---- what number an action has
 
@@ -151,15 +179,15 @@ has_none set n low e = among_has_none set 260 n low e
 
 -- ---- the names of a list are a word
 
-names_lack_space : (others : List Action) → All IsAction others → Lacks 32 (flat_map comma_action others)
+names_lack_space : (others : List Action) → All IsAction others → Lacks 32 (flat_map (comma_then action_text) others)
 names_lack_space [] hs = lacks_nothing 32
 names_lack_space (action ∷ others) hs =
-    lacks_append 32 (comma_action action) (flat_map comma_action others)
+    lacks_append 32 (comma_then action_text action) (flat_map (comma_then action_text) others)
     (lacks_append 32 (codes ",") (action_text action) (lacks_by 32 (codes ",") refl) (action_lacks_space action (All-head IsAction action others hs)))
     (names_lack_space others (All-tail IsAction action others hs))
 
 pub action_list_is_word : (action : Action) (others : List Action) → IsAction action → All IsAction others → IsWord (action_list_text action others)
 action_list_is_word action others h hs = (
-  lacks_append 32 (action_text action) (flat_map comma_action others) (action_lacks_space action h) (names_lack_space others hs),
-  omega (arith, action_begins action, length-append (action_text action) (flat_map comma_action others)),
+  lacks_append 32 (action_text action) (flat_map (comma_then action_text) others) (action_lacks_space action h) (names_lack_space others hs),
+  omega (arith, action_begins action, length-append (action_text action) (flat_map (comma_then action_text) others)),
 )

@@ -7,43 +7,11 @@ use Rattle.std.proofs.lemmas.List.Elements.{All-head, All-tail}
 use Rattle.std.proofs.lemmas.List.Sums.{AllPass-from_list_all}
 use Rattle.std.proofs.lemmas.Option.{none-some, same_Some}
 use Rattle.std.proofs.lemmas.Slice.Eq.{bytes_eq-Decides}
-use Rattle.script_nodes.specs.declared.field_kinds.IdsField.TheVariants as ids
-use Rattle.script_nodes.specs.declared.field_kinds.IdField.TheVariants as id
-use Rattle.script_nodes.specs.declared.field_kinds.TextField.TheVariants as text
-use Rattle.script_nodes.specs.declared.field_kinds.FlagField.TheVariants as flag
-use Rattle.script_nodes.specs.declared.field_kinds.NumbersField.TheVariants as numbers
-use Rattle.script_nodes.specs.declared.field_kinds.UnitsField.TheVariants as units
-use Rattle.script_nodes.specs.declared.field_kinds.BoolField.TheVariants as bool
-use Rattle.script_nodes.specs.declared.field_kinds.ColorField.TheVariants as color
-use Rattle.script_nodes.specs.declared.field_kinds.DecorationField.TheVariants as decoration
-use Rattle.script_nodes.specs.declared.field_kinds.NumberField.TheVariants as number
-use Rattle.script_nodes.specs.declared.field_kinds.CountField.TheVariants as count
-use Rattle.script_nodes.specs.declared.field_kinds.ActionsField.TheVariants as actions
 use Rattle.script_nodes.specs.declared.field_kinds.Field.{Field}
-use Rattle.script_nodes.specs.declared.field_kinds.Field.TheVariants as field
 use Rattle.script_nodes.specs.FieldKinds.{all_fields, field_name}
 use Rattle.script_words.specs.NamedIn.{named_in}
-
--- the first of these fields that is called so
-unfoldable pub named : List ℕ → List Field → Option Field
-named name [] = None
-named name (which ∷ others) = if bytes_eq (field_name which) name then Some which else named name others
-
-pub named_back : (which : Field) → named (field_name which) all_fields ≡ Some which
-unfolding named
-named_back (field.Ids ids.Children) = refl
-named_back (field.Id id.ActiveDescendant) = refl
-named_back (field.Text text.Label) = refl
-named_back (field.Flag flag.Hidden) = refl
-named_back (field.Numbers numbers.CharacterLengths) = refl
-named_back (field.Units units.CharacterPositions) = refl
-named_back (field.Bool bool.Expanded) = refl
-named_back (field.Color color.Background) = refl
-named_back (field.Decoration decoration.Overline) = refl
-named_back (field.Number number.NumericValue) = refl
-named_back (field.Count count.Level) = refl
-named_back (field.Actions actions.Own) = refl
-named_back _ = refl
+use Rattle.script_nodes.proofs.FieldTails.{named}
+use Rattle.script_nodes.proofs.FieldSteps.{named_back}
 
 -- ---- what holds of all fields in the list holds of each
 

@@ -1,5 +1,5 @@
 -- Nodes without fields, one field after another.
-use Rattle.std.proofs.Common.{◌≡◌, refl, ap, sym, ◌∙◌}
+use Rattle.std.proofs.Common.{◌≡◌, Some, refl, ap, sym, ◌∙◌}
 use Rattle.schema.specs.NodeData.{NodeData, empty_node}
 use Rattle.script_nodes.specs.declared.field_kinds.IdsField.TheVariants as ids
 use Rattle.script_nodes.specs.declared.field_kinds.IdField.TheVariants as id
@@ -15,9 +15,9 @@ use Rattle.script_nodes.specs.declared.field_kinds.CountField.TheVariants as cou
 use Rattle.script_nodes.specs.declared.field_kinds.ActionsField.TheVariants as actions
 use Rattle.script_nodes.specs.declared.field_kinds.Field.{Field}
 use Rattle.script_nodes.specs.declared.field_kinds.Field.TheVariants as field
-use Rattle.script_nodes.specs.FieldKinds.{all_fields, with_ids, with_id, with_text, with_flag, with_numbers, with_units, with_bool, with_color, with_decoration, with_number, with_count, with_actions_field}
+use Rattle.script_nodes.specs.FieldKinds.{all_fields, field_name, with_ids, with_id, with_text, with_flag, with_numbers, with_units, with_bool, with_color, with_decoration, with_number, with_count, with_actions_field}
 use Rattle.script_nodes.specs.NodeReading.{with_field, without, without_all, IsWithout}
-use Rattle.script_nodes.proofs.FieldTails.{after_name, following}
+use Rattle.script_nodes.proofs.FieldTails.{after_name, following, named}
 
 -- a node without all fields has nothing but its role
 pub nothing_left : (n : NodeData) → without_all all_fields n ≡ empty_node n.role
@@ -34,21 +34,32 @@ StandsAlone which n m =
     × (with_field which (without_all (following which) n) m ≡ with_field which n m)
     × (IsWithout which n → IsWithout which (without_all (following which) n))
 
+-- it is the first one of its name
+abbrev pub IsFound : Field → Type 0
+IsFound which = named (field_name which) all_fields ≡ Some which
+
+-- all that holds of each field by computation
+of_each : (which : Field) → IsFound which × ((n m : NodeData) → StandsAlone which n m)
+unfolding with_field without_all without following after_name named
+of_each (field.Ids ids.Children) = (refl, λ n m. (refl, refl, refl, refl, λ e. e))
+of_each (field.Id id.ActiveDescendant) = (refl, λ n m. (refl, refl, refl, refl, λ e. e))
+of_each (field.Text text.Label) = (refl, λ n m. (refl, refl, refl, refl, λ e. e))
+of_each (field.Flag flag.Hidden) = (refl, λ n m. (refl, refl, refl, refl, λ e. e))
+of_each (field.Numbers numbers.CharacterLengths) = (refl, λ n m. (refl, refl, refl, refl, λ e. e))
+of_each (field.Units units.CharacterPositions) = (refl, λ n m. (refl, refl, refl, refl, λ e. e))
+of_each (field.Bool bool.Expanded) = (refl, λ n m. (refl, refl, refl, refl, λ e. e))
+of_each (field.Color color.Background) = (refl, λ n m. (refl, refl, refl, refl, λ e. e))
+of_each (field.Decoration decoration.Overline) = (refl, λ n m. (refl, refl, refl, refl, λ e. e))
+of_each (field.Number number.NumericValue) = (refl, λ n m. (refl, refl, refl, refl, λ e. e))
+of_each (field.Count count.Level) = (refl, λ n m. (refl, refl, refl, refl, λ e. e))
+of_each (field.Actions actions.Own) = (refl, λ n m. (refl, refl, refl, refl, λ e. e))
+of_each _ = (refl, λ n m. (refl, refl, refl, refl, λ e. e))
+
+pub named_back : (which : Field) → IsFound which
+named_back which = (of_each which).0
+
 stands_alone : (which : Field) (n m : NodeData) → StandsAlone which n m
-unfolding with_field without_all without following after_name
-stands_alone (field.Ids ids.Children) n m = (refl, refl, refl, refl, λ e. e)
-stands_alone (field.Id id.ActiveDescendant) n m = (refl, refl, refl, refl, λ e. e)
-stands_alone (field.Text text.Label) n m = (refl, refl, refl, refl, λ e. e)
-stands_alone (field.Flag flag.Hidden) n m = (refl, refl, refl, refl, λ e. e)
-stands_alone (field.Numbers numbers.CharacterLengths) n m = (refl, refl, refl, refl, λ e. e)
-stands_alone (field.Units units.CharacterPositions) n m = (refl, refl, refl, refl, λ e. e)
-stands_alone (field.Bool bool.Expanded) n m = (refl, refl, refl, refl, λ e. e)
-stands_alone (field.Color color.Background) n m = (refl, refl, refl, refl, λ e. e)
-stands_alone (field.Decoration decoration.Overline) n m = (refl, refl, refl, refl, λ e. e)
-stands_alone (field.Number number.NumericValue) n m = (refl, refl, refl, refl, λ e. e)
-stands_alone (field.Count count.Level) n m = (refl, refl, refl, refl, λ e. e)
-stands_alone (field.Actions actions.Own) n m = (refl, refl, refl, refl, λ e. e)
-stands_alone _ n m = (refl, refl, refl, refl, λ e. e)
+stands_alone which = (of_each which).1
 
 -- what was taken away isn't there
 pub taken : (which : Field) (n : NodeData) → IsWithout which (without which n)

@@ -1,9 +1,12 @@
-//! Sets of actions: which actions a node has.
+//! Sets of actions: which actions a node has, or its children.
 
+ghost use Rattle.schema.specs.Actions.{has_action, with_action};
 ghost use Rattle.schema.specs.declared.actions.Action.{Action};
 ghost use Rattle.script_nodes.specs.ActionLists.{action_numbered, actions_in, chosen, with_actions};
+ghost use Rattle.script_nodes.specs.FieldKinds.{actions_at, with_actions_field};
 ghost use Rattle.std.specs.Prelude.{ℕ, ◌≡◌, ◌<◌, ◌↔◌, [], ◌++◌, IfOk, OnOk, false};
 
+use crate::field_kinds::ActionsField;
 use schema::{Action, Node};
 use std::alloc::{AllocError, Global};
 
@@ -25,78 +28,62 @@ pub(crate) fn action_numbered(number: u16) -> Action
     }
 }
 
-/// Whether the node supports any action.
-#[tactic(auto, using(crate::proofs::ActionSteps::no_actions, crate::proofs::ActionSets::none_so_far, crate::proofs::ActionSets::has_none, crate::proofs::ActionSets::nothing_has), unfolding(crate::specs::ActionLists::actions_in))]
-pub(crate) fn has_actions(node: &Node) -> bool
-    ensures none { node.now.actions ≡ 0 → result ≡ false }
-    ensures exact { (result ≡ false) ↔ (actions_in node.now.actions ≡ []) }
-{
-    for number in 0..ACTIONS {
-        if node.supports_action(action_numbered(number)) {
-            return true;
+impl ActionsField {
+    /// Whether an action is in the set.
+    fn has(self, action: Action, node: &Node) -> bool
+        ensures { result ≡ has_action (actions_at self node.now) action }
+    {
+        match self {
+            ActionsField::Own => node.supports_action(action),
+            ActionsField::Children => node.child_supports_action(action),
         }
     }
-    false
-}
 
-/// Whether the node's children support any action.
-#[tactic(auto, using(crate::proofs::ActionSteps::no_actions, crate::proofs::ActionSets::none_so_far, crate::proofs::ActionSets::has_none, crate::proofs::ActionSets::nothing_has), unfolding(crate::specs::ActionLists::actions_in))]
-pub(crate) fn has_child_actions(node: &Node) -> bool
-    ensures none { node.now.child_actions ≡ 0 → result ≡ false }
-    ensures exact { (result ≡ false) ↔ (actions_in node.now.child_actions ≡ []) }
-{
-    for number in 0..ACTIONS {
-        if node.child_supports_action(action_numbered(number)) {
-            return true;
+    /// Adds an action to the set.
+    fn add_one(self, action: Action, node: &mut Node)
+        ensures value { node.new ≡ with_actions_field self (with_action (actions_at self node.old) action) node.old }
+    {
+        match self {
+            ActionsField::Own => node.add_action(action),
+            ActionsField::Children => node.add_child_action(action),
         }
     }
-    false
-}
 
-/// Adds to the actions that the node supports.
-#[tactic(auto, using(crate::proofs::ActionSets::no_more, crate::proofs::ActionSets::one_more))]
-pub(crate) fn add_actions(actions: &[Action], node: &mut Node)
-    ensures { node.new ≡ record node.old { actions = with_actions node.old.actions actions.now } }
-{
-    for action in actions {
-        node.add_action(*action);
+    /// Whether there is any action.
+    #[tactic(auto, using(crate::proofs::ActionSteps::no_actions, crate::proofs::ActionSets::none_so_far, crate::proofs::ActionSets::has_none, crate::proofs::ActionSets::nothing_has), unfolding(crate::specs::ActionLists::actions_in))]
+    pub(crate) fn is_in(self, node: &Node) -> bool
+        ensures none { actions_at self node.now ≡ 0 → result ≡ false }
+        ensures exact { (result ≡ false) ↔ (actions_in (actions_at self node.now) ≡ []) }
+    {
+        for number in 0..ACTIONS {
+            if self.has(action_numbered(number), node) {
+                return true;
+            }
+        }
+        false
     }
-}
 
-/// Adds to the actions that the node's children support.
-#[tactic(auto, using(crate::proofs::ActionSets::no_more, crate::proofs::ActionSets::one_more))]
-pub(crate) fn add_child_actions(actions: &[Action], node: &mut Node)
-    ensures { node.new ≡ record node.old { child_actions = with_actions node.old.child_actions actions.now } }
-{
-    for action in actions {
-        node.add_child_action(*action);
+    /// The actions in the set, those with names first.
+    #[tactic(auto, using(crate::proofs::ActionSteps::no_actions, crate::proofs::ActionSteps::one_more_action), unfolding(crate::specs::ActionLists::actions_in))]
+    pub(crate) fn of(self, alloc: Global, node: &Node) -> Result<Vec<Action>, AllocError>
+        ensures { IfOk result (λ actions. actions.items ≡ actions_in (actions_at self node.now)) }
+    {
+        let mut actions = Vec::new(alloc);
+        for number in 0..ACTIONS {
+            let action = action_numbered(number);
+            push_if(action, self.has(action, node), &mut actions)?;
+        }
+        Ok(actions)
     }
-}
 
-/// The actions that the node supports, those with names first.
-#[tactic(auto, using(crate::proofs::ActionSteps::no_actions, crate::proofs::ActionSteps::one_more_action), unfolding(crate::specs::ActionLists::actions_in))]
-pub(crate) fn supported_actions(alloc: Global, node: &Node) -> Result<Vec<Action>, AllocError>
-    ensures { IfOk result (λ actions. actions.items ≡ actions_in node.now.actions) }
-{
-    let mut actions = Vec::new(alloc);
-    for number in 0..ACTIONS {
-        let action = action_numbered(number);
-        push_if(action, node.supports_action(action), &mut actions)?;
+    /// Adds actions.
+    pub(crate) fn add(self, actions: &[Action], node: &mut Node)
+        ensures { node.new ≡ with_actions_field self (with_actions (actions_at self node.old) actions.now) node.old }
+    {
+        for action in actions {
+            self.add_one(*action, node);
+        }
     }
-    Ok(actions)
-}
-
-/// The actions that the node's children support, those with names first.
-#[tactic(auto, using(crate::proofs::ActionSteps::no_actions, crate::proofs::ActionSteps::one_more_action), unfolding(crate::specs::ActionLists::actions_in))]
-pub(crate) fn supported_child_actions(alloc: Global, node: &Node) -> Result<Vec<Action>, AllocError>
-    ensures { IfOk result (λ actions. actions.items ≡ actions_in node.now.child_actions) }
-{
-    let mut actions = Vec::new(alloc);
-    for number in 0..ACTIONS {
-        let action = action_numbered(number);
-        push_if(action, node.child_supports_action(action), &mut actions)?;
-    }
-    Ok(actions)
 }
 
 /// Adds an action to the list, if it is one of the set.

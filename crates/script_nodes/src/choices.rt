@@ -1,8 +1,8 @@
 //! Fields whose value is one of a few: sets one by its number.
 
-ghost use Rattle.std.specs.Prelude.{◌≡◌, Some, option_map, slice_get};
+ghost use Rattle.std.specs.Prelude.{◌≡◌, slice_get};
 ghost use Rattle.script_nodes.specs.Given.{Becomes, given_choice};
-ghost use Rattle.script_words.specs.NameLists.{all_toggles, all_lives, all_orientations, all_sort_directions, all_currents, all_popups, all_text_directions, all_text_aligns, all_vertical_offsets, all_decoration_styles};
+ghost use Rattle.script_words.specs.NameLists.{all_decoration_styles};
 
 use crate::field_kinds::Field;
 use schema::{Node, TextDecorationStyle};
@@ -43,78 +43,19 @@ pub(crate) fn set_choice(field: Field, number: u8, node: &mut Node) -> bool
     ensures { Becomes (given_choice number field node.old) result node.old node.new }
 {
     match field {
-        Field::Toggled => set_toggled(number, node),
-        Field::Live => set_live(number, node),
-        Field::Orientation => set_orientation(number, node),
-        Field::SortDirection => set_sort_direction(number, node),
-        Field::AriaCurrent => set_aria_current(number, node),
-        Field::HasPopup => set_has_popup(number, node),
-        Field::TextDirection => set_text_direction(number, node),
-        Field::TextAlign => set_text_align(number, node),
-        Field::VerticalOffset => set_vertical_offset(number, node),
+        Field::Toggled => set_numbered!(node.set_toggled, toggles(), number),
+        Field::Live => set_numbered!(node.set_live, lives(), number),
+        Field::Orientation => set_numbered!(node.set_orientation, orientations(), number),
+        Field::SortDirection => set_numbered!(node.set_sort_direction, sort_directions(), number),
+        Field::AriaCurrent => set_numbered!(node.set_aria_current, currents(), number),
+        Field::HasPopup => set_numbered!(node.set_has_popup, popups(), number),
+        Field::TextDirection => set_numbered!(node.set_text_direction, text_directions(), number),
+        Field::TextAlign => set_numbered!(node.set_text_align, text_aligns(), number),
+        Field::VerticalOffset => set_numbered!(
+            node.set_vertical_offset,
+            vertical_offsets(),
+            number
+        ),
         _ => false,
     }
-}
-
-fn set_toggled(number: u8, node: &mut Node) -> bool
-    ensures { Becomes (option_map (λ it. record node.old { toggled = Some it }) (slice_get all_toggles number))
-        result node.old node.new }
-{
-    set_numbered!(node.set_toggled, toggles(), number)
-}
-
-fn set_live(number: u8, node: &mut Node) -> bool
-    ensures { Becomes (option_map (λ it. record node.old { live = Some it }) (slice_get all_lives number))
-        result node.old node.new }
-{
-    set_numbered!(node.set_live, lives(), number)
-}
-
-fn set_orientation(number: u8, node: &mut Node) -> bool
-    ensures { Becomes (option_map (λ it. record node.old { orientation = Some it }) (slice_get all_orientations number))
-        result node.old node.new }
-{
-    set_numbered!(node.set_orientation, orientations(), number)
-}
-
-fn set_sort_direction(number: u8, node: &mut Node) -> bool
-    ensures { Becomes (option_map (λ it. record node.old { sort_direction = Some it }) (slice_get all_sort_directions number))
-        result node.old node.new }
-{
-    set_numbered!(node.set_sort_direction, sort_directions(), number)
-}
-
-fn set_aria_current(number: u8, node: &mut Node) -> bool
-    ensures { Becomes (option_map (λ it. record node.old { aria_current = Some it }) (slice_get all_currents number))
-        result node.old node.new }
-{
-    set_numbered!(node.set_aria_current, currents(), number)
-}
-
-fn set_has_popup(number: u8, node: &mut Node) -> bool
-    ensures { Becomes (option_map (λ it. record node.old { has_popup = Some it }) (slice_get all_popups number))
-        result node.old node.new }
-{
-    set_numbered!(node.set_has_popup, popups(), number)
-}
-
-fn set_text_direction(number: u8, node: &mut Node) -> bool
-    ensures { Becomes (option_map (λ it. record node.old { text_direction = Some it }) (slice_get all_text_directions number))
-        result node.old node.new }
-{
-    set_numbered!(node.set_text_direction, text_directions(), number)
-}
-
-fn set_text_align(number: u8, node: &mut Node) -> bool
-    ensures { Becomes (option_map (λ it. record node.old { text_align = Some it }) (slice_get all_text_aligns number))
-        result node.old node.new }
-{
-    set_numbered!(node.set_text_align, text_aligns(), number)
-}
-
-fn set_vertical_offset(number: u8, node: &mut Node) -> bool
-    ensures { Becomes (option_map (λ it. record node.old { vertical_offset = Some it }) (slice_get all_vertical_offsets number))
-        result node.old node.new }
-{
-    set_numbered!(node.set_vertical_offset, vertical_offsets(), number)
 }

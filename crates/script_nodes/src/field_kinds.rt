@@ -155,7 +155,9 @@ macro_rules! units_fields {
 /// A flag that may be unset.
 #[derive(Clone, Copy)]
 pub enum BoolField {
+    /// Whether the node is expanded; absent if it can't be.
     Expanded,
+    /// Whether the node is selected; absent if it can't be.
     Selected,
 }
 
@@ -257,7 +259,9 @@ macro_rules! count_fields {
 /// A set of actions.
 #[derive(Clone, Copy)]
 pub enum ActionsField {
+    /// What the node can be asked to do, as `actions=Click,Focus`.
     Own,
+    /// What each of the node's children can be asked to do.
     Children,
 }
 
@@ -276,35 +280,35 @@ pub enum Field {
     Number(NumberField),
     Count(CountField),
     Actions(ActionsField),
-    /// The tree that is grafted here.
+    /// Makes the node a graft: its only child is the root of that tree, once there is one.
     Tree,
-    /// The node's rectangle.
+    /// The node's rectangle, in units of 1/64 pixel, before any translation.
     Bounds,
-    /// By how much the node and its subtree are shifted.
+    /// By how much the node and its subtree are shifted, in units of 1/64 pixel.
     Transform,
-    /// The selection in its text.
+    /// Where the selection in the node's text began, and the end that moves.
     Selection,
-    /// The toggle state of a control.
+    /// Whether a check box, a switch or a button is on.
     Toggled,
     /// How changes are announced.
     Live,
-    /// Its axis.
+    /// The axis along which a control lies.
     Orientation,
-    /// The sort order.
+    /// How a column or a row is sorted.
     SortDirection,
-    /// Which kind of current item the node is.
+    /// As what the node is the current one of its set.
     AriaCurrent,
-    /// The kind of popup that it opens.
+    /// What pops up from the node.
     HasPopup,
-    /// The size of a text.
+    /// The size of the font, in hundredths of a pixel.
     FontSize,
-    /// The weight of a text.
+    /// The weight of the font: 400 is regular, 700 bold.
     FontWeight,
-    /// The direction of a text.
+    /// The direction of the text.
     TextDirection,
-    /// How a text is aligned.
+    /// How the text is aligned.
     TextAlign,
-    /// Whether text is superscript or subscript.
+    /// Whether the text is subscript or superscript.
     VerticalOffset,
 }
 
@@ -320,15 +324,18 @@ pub(crate) use numbers_fields;
 pub(crate) use text_fields;
 pub(crate) use units_fields;
 
-/// All fields, each with its name, in the order in which they are written.
+/// All fields, each with its name, in the order in which they are written. A comment names the section of docs/SCRIPT.md for the fields
+/// below it.
 macro_rules! fields {
     ($form:ident) => {
         $form! {
+            // Structure
             "children" = Field::Ids(IdsField::Children),
             "labelled" = Field::Ids(IdsField::LabelledBy),
             "controls" = Field::Ids(IdsField::Controls),
             "tree" = Field::Tree,
             "active" = Field::Id(IdField::ActiveDescendant),
+            // Texts
             "label" = Field::Text(TextField::Label),
             "value" = Field::Text(TextField::Value),
             "description" = Field::Text(TextField::Description),
@@ -342,21 +349,29 @@ macro_rules! fields {
             "braille_role_description" = Field::Text(TextField::BrailleRoleDescription),
             "column_index_text" = Field::Text(TextField::ColumnIndexText),
             "row_index_text" = Field::Text(TextField::RowIndexText),
+            // How text looks
             "font_family" = Field::Text(TextField::FontFamily),
             "language" = Field::Text(TextField::Language),
+            // State
             "hidden" = Field::Flag(FlagField::Hidden),
+            // Where a node lies
             "clips" = Field::Flag(FlagField::ClipsChildren),
+            // State
             "disabled" = Field::Flag(FlagField::Disabled),
             "read_only" = Field::Flag(FlagField::ReadOnly),
             "required" = Field::Flag(FlagField::Required),
             "modal" = Field::Flag(FlagField::Modal),
             "busy" = Field::Flag(FlagField::Busy),
             "multiselectable" = Field::Flag(FlagField::Multiselectable),
+            // How text looks
             "italic" = Field::Flag(FlagField::Italic),
+            // State
             "live_atomic" = Field::Flag(FlagField::LiveAtomic),
             "touch_transparent" = Field::Flag(FlagField::TouchTransparent),
+            // Where a node lies
             "bounds" = Field::Bounds,
             "move" = Field::Transform,
+            // Runs of text
             "selection" = Field::Selection,
             "chars" = Field::Numbers(NumbersField::CharacterLengths),
             "words" = Field::Numbers(NumbersField::WordStarts),
@@ -364,6 +379,7 @@ macro_rules! fields {
             "character_widths" = Field::Units(UnitsField::CharacterWidths),
             "prev" = Field::Id(IdField::PreviousOnLine),
             "next" = Field::Id(IdField::NextOnLine),
+            // State
             "toggled" = Field::Toggled,
             "expanded" = Field::Bool(BoolField::Expanded),
             "selected" = Field::Bool(BoolField::Selected),
@@ -372,6 +388,7 @@ macro_rules! fields {
             "sort_direction" = Field::SortDirection,
             "aria_current" = Field::AriaCurrent,
             "has_popup" = Field::HasPopup,
+            // How text looks
             "font_size" = Field::FontSize,
             "font_weight" = Field::FontWeight,
             "background_color" = Field::Color(ColorField::Background),
@@ -382,6 +399,7 @@ macro_rules! fields {
             "text_direction" = Field::TextDirection,
             "text_align" = Field::TextAlign,
             "vertical_offset" = Field::VerticalOffset,
+            // Numbers and places in a set
             "number" = Field::Number(NumberField::NumericValue),
             "min" = Field::Number(NumberField::MinNumericValue),
             "max" = Field::Number(NumberField::MaxNumericValue),
@@ -390,12 +408,14 @@ macro_rules! fields {
             "level" = Field::Count(CountField::Level),
             "set_size" = Field::Count(CountField::SizeOfSet),
             "position" = Field::Count(CountField::PositionInSet),
+            // Where a node lies
             "scroll_x" = Field::Number(NumberField::ScrollX),
             "scroll_x_min" = Field::Number(NumberField::ScrollXMin),
             "scroll_x_max" = Field::Number(NumberField::ScrollXMax),
             "scroll_y" = Field::Number(NumberField::ScrollY),
             "scroll_y_min" = Field::Number(NumberField::ScrollYMin),
             "scroll_y_max" = Field::Number(NumberField::ScrollYMax),
+            // Actions
             "actions" = Field::Actions(ActionsField::Own),
             "child_actions" = Field::Actions(ActionsField::Children),
         }

@@ -1,20 +1,15 @@
 //! Gets and sets the fields of a node, by the kinds of their values. It reads no line.
 
 ghost use Rattle.std.specs.Prelude.{◌≡◌, IfOk, OnErr, OnOk, Some, true, false, option_copied};
-ghost use Rattle.script_nodes.specs.FieldKinds.{ids_at, with_ids, id_at, with_id, text_at, with_text, flag_at, with_flag, numbers_at, with_numbers, units_at, with_units, bool_at, with_bool, color_at, with_color, decoration_at, with_decoration, number_at, with_number, count_at, with_count, actions_at, with_actions_field};
-ghost use Rattle.script_nodes.specs.ActionLists.{actions_in, with_actions};
+ghost use Rattle.script_nodes.specs.FieldKinds.{ids_at, with_ids, id_at, with_id, text_at, with_text, flag_at, with_flag, numbers_at, with_numbers, units_at, with_units, bool_at, with_bool, color_at, with_color, decoration_at, with_decoration, number_at, with_number, count_at, with_count};
 
-use crate::action_sets::{
-    add_actions, add_child_actions, has_actions, has_child_actions, supported_actions,
-    supported_child_actions,
-};
 use crate::field_kinds::{
-    ActionsField, BoolField, ColorField, CountField, DecorationField, FlagField, IdField, IdsField,
-    NumberField, NumbersField, TextField, UnitsField, bool_fields, color_fields, count_fields,
+    BoolField, ColorField, CountField, DecorationField, FlagField, IdField, IdsField, NumberField,
+    NumbersField, TextField, UnitsField, bool_fields, color_fields, count_fields,
     decoration_fields, flag_fields, id_fields, ids_fields, number_fields, numbers_fields,
     text_fields, units_fields,
 };
-use schema::{Action, Color, Node, NodeId, TextDecoration};
+use schema::{Color, Node, NodeId, TextDecoration};
 use std::alloc::{AllocError, Global};
 
 /// What a node has in one of a kind's fields.
@@ -212,37 +207,5 @@ impl CountField {
         ensures { node.new ≡ with_count self (Some value) node.old }
     {
         count_fields!(set self node (value))
-    }
-}
-
-impl ActionsField {
-    /// Whether there is any action.
-    pub(crate) fn is_in(self, node: &Node) -> bool
-        ensures { actions_at self node.now ≡ 0 → result ≡ false }
-    {
-        match self {
-            ActionsField::Own => has_actions(node),
-            ActionsField::Children => has_child_actions(node),
-        }
-    }
-
-    /// The actions in the set, those with names first.
-    pub(crate) fn of(self, alloc: Global, node: &Node) -> Result<Vec<Action>, AllocError>
-        ensures { IfOk result (λ actions. actions.items ≡ actions_in (actions_at self node.now)) }
-    {
-        match self {
-            ActionsField::Own => supported_actions(alloc, node),
-            ActionsField::Children => supported_child_actions(alloc, node),
-        }
-    }
-
-    /// Adds actions.
-    pub(crate) fn add(self, actions: &[Action], node: &mut Node)
-        ensures { node.new ≡ with_actions_field self (with_actions (actions_at self node.old) actions.now) node.old }
-    {
-        match self {
-            ActionsField::Own => add_actions(actions, node),
-            ActionsField::Children => add_child_actions(actions, node),
-        }
     }
 }

@@ -88,6 +88,19 @@ macro_rules! set_if {
     };
 }
 
+/// Sets a field to a number, if its type has it, and says whether it does.
+macro_rules! set_fitting {
+    ($node:ident.$set:ident, $number:expr) => {
+        match $number {
+            Ok(number) => {
+                $node.$set(number);
+                true
+            }
+            Err(_) => false,
+        }
+    };
+}
+
 fn set_ids(field: Field, ids: &[NodeId], node: &mut Node) -> Result<bool, AllocError>
     ensures { Sets (given_ids ids.now field node.old) result node.old node.new }
 {
@@ -177,34 +190,10 @@ fn set_count(field: Field, count: usize, node: &mut Node) -> bool
             which.set(count, node);
             true
         }
-        Field::FontSize => set_font_size(count, node),
-        Field::FontWeight => set_font_weight(count, node),
+        Field::FontSize => set_fitting!(node.set_font_size, u32::try_from(count)),
+        Field::FontWeight => set_fitting!(node.set_font_weight, u16::try_from(count)),
         _ => false,
     }
-}
-
-/// Sets the size of a text, if it has no more than 32 bits.
-fn set_font_size(count: usize, node: &mut Node) -> bool
-    ensures { Becomes (if nat_lt count (2 ^ 32) then Some (record node.old { font_size = Some count }) else None)
-        result node.old node.new }
-{
-    let Ok(size) = u32::try_from(count) else {
-        return false;
-    };
-    node.set_font_size(size);
-    true
-}
-
-/// Sets the weight of a text, if it has no more than 16 bits.
-fn set_font_weight(count: usize, node: &mut Node) -> bool
-    ensures { Becomes (if nat_lt count (2 ^ 16) then Some (record node.old { font_weight = Some count }) else None)
-        result node.old node.new }
-{
-    let Ok(weight) = u16::try_from(count) else {
-        return false;
-    };
-    node.set_font_weight(weight);
-    true
 }
 
 fn add_action(field: Field, number: u16, node: &mut Node) -> bool

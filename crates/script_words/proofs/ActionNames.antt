@@ -1,5 +1,5 @@
 -- What bytes an action's name has.
-use Rattle.std.proofs.Common.{◌≡◌, ◌≢◌, ℕ, ◌<◌, ◌≤◌, List, ◌++◌, length, arith, refl, subst, codes}
+use Rattle.std.proofs.Common.{◌≡◌, ◌≢◌, ℕ, ◌<◌, ◌≤◌, List, ◌++◌, length, arith, false, refl, subst, codes}
 use Rattle.std.specs.Char.{digit_value}
 use Rattle.std.specs.Fmt.{decimal}
 use Rattle.schema.specs.declared.actions.Action.{Action}
@@ -8,27 +8,26 @@ use Rattle.script_words.specs.Parts.{action_text}
 use Rattle.script_words.specs.Reading.{IsAction, IsByte, Lacks}
 use Rattle.script_words.specs.Says.{SaysAction, SaysOther}
 use Rattle.script_words.proofs.Decimals.{decimal_lacks}
-use Rattle.script_words.proofs.Lacking.{lacks_append, lacks_by}
+use Rattle.script_words.proofs.Lacking.{has, lacks_append, lacks_by}
 
-other_lacks : (c code : ℕ) → 10 ≤ digit_value c → code < 256 → Lacks c (codes "Other(") → Lacks c (codes ")") → Lacks c (action_text (Other code))
-other_lacks c code high byte before behind =
-    lacks_append c (codes "Other(") (decimal code ++ codes ")") before (lacks_append c (decimal code) (codes ")") (decimal_lacks c high code (omega (arith, byte))) behind)
+-- a character that is in no name, and that no number has
+action_lacks : (c : ℕ) → 10 ≤ digit_value c → has c (codes "Click") ≡ false → has c (codes "Focus") ≡ false → has c (codes "Increment") ≡ false
+    → has c (codes "Decrement") ≡ false → has c (codes "Other(") ≡ false → has c (codes ")") ≡ false
+    → (action : Action) → IsAction action → Lacks c (action_text action)
+action_lacks c high click focus increment decrement before behind Click h = lacks_by c (codes "Click") click
+action_lacks c high click focus increment decrement before behind Focus h = lacks_by c (codes "Focus") focus
+action_lacks c high click focus increment decrement before behind Increment h = lacks_by c (codes "Increment") increment
+action_lacks c high click focus increment decrement before behind Decrement h = lacks_by c (codes "Decrement") decrement
+action_lacks c high click focus increment decrement before behind (Other code) h =
+    let low = h code refl in
+    lacks_append c (codes "Other(") (decimal code ++ codes ")") (lacks_by c (codes "Other(") before)
+    (lacks_append c (decimal code) (codes ")") (decimal_lacks c high code (omega (arith, low))) (lacks_by c (codes ")") behind))
 
--- no comma
 pub action_lacks_comma : (action : Action) → IsAction action → Lacks 44 (action_text action)
-action_lacks_comma Click h = lacks_by 44 (codes "Click") refl
-action_lacks_comma Focus h = lacks_by 44 (codes "Focus") refl
-action_lacks_comma Increment h = lacks_by 44 (codes "Increment") refl
-action_lacks_comma Decrement h = lacks_by 44 (codes "Decrement") refl
-action_lacks_comma (Other code) h = other_lacks 44 code (omega arith) (h code refl) (lacks_by 44 (codes "Other(") refl) (lacks_by 44 (codes ")") refl)
+action_lacks_comma = action_lacks 44 (omega arith) refl refl refl refl refl refl
 
--- and no space
 pub action_lacks_space : (action : Action) → IsAction action → Lacks 32 (action_text action)
-action_lacks_space Click h = lacks_by 32 (codes "Click") refl
-action_lacks_space Focus h = lacks_by 32 (codes "Focus") refl
-action_lacks_space Increment h = lacks_by 32 (codes "Increment") refl
-action_lacks_space Decrement h = lacks_by 32 (codes "Decrement") refl
-action_lacks_space (Other code) h = other_lacks 32 code (omega arith) (h code refl) (lacks_by 32 (codes "Other(") refl) (lacks_by 32 (codes ")") refl)
+action_lacks_space = action_lacks 32 (omega arith) refl refl refl refl refl refl
 
 -- it isn't empty
 pub action_begins : (action : Action) → 0 < length (action_text action)

@@ -15,7 +15,7 @@ use Rattle.schema.specs.declared.values.TextDecorationStyle.TheVariants as decor
 use Rattle.schema.specs.declared.values.TextPosition.{TextPosition}
 use Rattle.schema.specs.declared.values.TextSelection.{TextSelection}
 use Rattle.script_words.specs.Names.{decoration_style_name}
-use Rattle.script_words.specs.Parts.{pair_text, corners_text, rect_text, translation_text, place_text, selection_text, color_text, decoration_text, ids_text, numbers_text, comma_units, units_text}
+use Rattle.script_words.specs.Parts.{pair_text, corners_text, rect_text, translation_text, place_text, selection_text, color_text, decoration_text, ids_text, numbers_text, units_text}
 use Rattle.script_words.specs.Items.{comma_then}
 use Rattle.script_words.specs.Reading.{Lacks, IsWord, IsCount, IsUnits, IsShort, IsByte, IsId, IsRect, IsTranslation, IsPosition, IsSelection, IsColor, IsDecoration}
 use Rattle.script_words.proofs.Decimals.{decimal_lacks, decimal_is_word}
@@ -98,7 +98,7 @@ units_no_minus (negsuc n) fits tail e = let some = (decimal_is_word (suc n) (ome
 -- a list whose text is a minus sign has no items
 pub no_units : (units : List ℤ) (text : List ℕ) (b : Bool) → All IsUnits units → text ≡ units_text units → b ≡ bytes_eq text (codes "-") → b ≡ true → units ≡ []
 no_units [] text b h e is t = refl
-no_units (z ∷ zs) text b h e is t = absurd (units_no_minus z (All-head IsUnits z zs h) (flat_map comma_units zs) (sym e ∙ (bytes_eq-Decides text (codes "-")).0 (sym is ∙ t)))
+no_units (z ∷ zs) text b h e is t = absurd (units_no_minus z (All-head IsUnits z zs h) (flat_map (comma_then signed_decimal) zs) (sym e ∙ (bytes_eq-Decides text (codes "-")).0 (sym is ∙ t)))
 
 -- and one with another text has some
 pub some_units : (P : List ℤ → Type 0) (units : List ℤ) (text : List ℕ) (b : Bool)

@@ -1,5 +1,5 @@
 -- The parts of a line: fields and their values.
-use Rattle.std.specs.Prelude.{ℕ, ℤ, List, [], ◌∷◌, ◌++◌, codes, flat_map, Bool, Option, Some, None, if◌then◌else◌}
+use Rattle.std.specs.Prelude.{ℕ, ℤ, List, [], ◌∷◌, ◌++◌, codes, Bool, Option, Some, None, if◌then◌else◌}
 use Rattle.std.specs.Fmt.{decimal, signed_decimal}
 use Rattle.std.specs.Str.{bytes_eq}
 use Rattle.uuid.specs.Text.{hyphenated_text, lower}
@@ -16,6 +16,7 @@ use Rattle.schema.specs.declared.values.Color.{Color}
 use Rattle.schema.specs.declared.values.TextDecoration.{TextDecoration}
 use Rattle.schema.specs.declared.values.TextPosition.{TextPosition}
 use Rattle.schema.specs.declared.values.TextSelection.{TextSelection}
+use Rattle.script_words.specs.Items.{list_text}
 use Rattle.script_words.specs.Names.{decoration_style_name, side_name}
 
 -- a flag, if it is set
@@ -65,35 +66,29 @@ color_text c = decimal c.red ++ codes "," ++ decimal c.green ++ codes "," ++ dec
 abbrev pub decoration_text : TextDecoration → List ℕ
 decoration_text d = decoration_style_name d.style ++ codes "," ++ color_text d.color
 
--- ---- lists, each item but the first after a comma; nothing if there are no items
+-- ---- lists with commas between their items
 
-abbrev pub comma_id : NodeId → List ℕ
-comma_id id = codes "," ++ decimal id.0
+-- a list's text, if it has an item
+abbrev pub list_value : {T : Type 0} → (T → List ℕ) → List T → Option (List ℕ)
+list_value text [] = None
+list_value text (item ∷ others) = Some (list_text text item others)
 
 abbrev pub ids_text : NodeId → List NodeId → List ℕ
-ids_text id others = decimal id.0 ++ flat_map comma_id others
+ids_text = list_text id_text
 
 abbrev pub ids_value : List NodeId → Option (List ℕ)
-ids_value [] = None
-ids_value (id ∷ others) = Some (ids_text id others)
-
-abbrev pub comma_number : ℕ → List ℕ
-comma_number number = codes "," ++ decimal number
+ids_value = list_value id_text
 
 abbrev pub numbers_text : ℕ → List ℕ → List ℕ
-numbers_text number others = decimal number ++ flat_map comma_number others
+numbers_text = list_text decimal
 
 abbrev pub numbers_value : List ℕ → Option (List ℕ)
-numbers_value [] = None
-numbers_value (number ∷ others) = Some (numbers_text number others)
-
-abbrev pub comma_units : ℤ → List ℕ
-comma_units number = codes "," ++ signed_decimal number
+numbers_value = list_value decimal
 
 -- here `-` stands for an empty list, since the list may also be absent
 abbrev pub units_text : List ℤ → List ℕ
 units_text [] = codes "-"
-units_text (number ∷ others) = signed_decimal number ++ flat_map comma_units others
+units_text (number ∷ others) = list_text signed_decimal number others
 
 -- ---- actions
 
@@ -104,15 +99,11 @@ action_text Increment = codes "Increment"
 action_text Decrement = codes "Decrement"
 action_text (Other code) = codes "Other(" ++ decimal code ++ codes ")"
 
-abbrev pub comma_action : Action → List ℕ
-comma_action action = codes "," ++ action_text action
-
 abbrev pub action_list_text : Action → List Action → List ℕ
-action_list_text action others = action_text action ++ flat_map comma_action others
+action_list_text = list_text action_text
 
 abbrev pub actions_value : List Action → Option (List ℕ)
-actions_value [] = None
-actions_value (action ∷ others) = Some (action_list_text action others)
+actions_value = list_value action_text
 
 -- ---- what queries name
 

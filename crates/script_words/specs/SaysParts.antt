@@ -12,19 +12,22 @@ use Rattle.script_words.specs.Names.{decoration_style_name}
 use Rattle.script_words.specs.Reading.{IsAction, IsId, IsShort, IsUnits, behind}
 use Rattle.script_words.specs.Says.{SaysAction, SaysNumber, SaysSigned}
 
--- ---- two parts
+-- ---- two parts, or four
 
 -- this character is between a first part and a second one
 abbrev pub SaysBoth : List ℕ → ℕ → (List ℕ → Type 0) → (List ℕ → Type 0) → Type 0
 SaysBoth word c First Second = (first : List ℕ) × (second : List ℕ) × (word ≡ first ++ (c ∷ second)) × First first × Second second
+
+-- a comma is between each of four parts and the next one
+abbrev pub SaysFour : List ℕ → (List ℕ → Type 0) → (List ℕ → Type 0) → (List ℕ → Type 0) → (List ℕ → Type 0) → Type 0
+SaysFour word First Second Third Fourth = SaysBoth word 44 First (λ rest. SaysBoth rest 44 Second (λ rest. SaysBoth rest 44 Third Fourth))
 
 abbrev pub SaysPair : List ℕ → ℤ → ℤ → Type 0
 SaysPair word x y = SaysBoth word 44 (λ part. SaysSigned part x) (λ part. SaysSigned part y)
 
 abbrev pub SaysRect : List ℕ → Rect → Type 0
 SaysRect word r =
-    SaysBoth word 44 (λ part. SaysSigned part r.x0)
-    (λ rest. SaysBoth rest 44 (λ part. SaysSigned part r.y0) (λ rest. SaysPair rest r.x1 r.y1))
+    SaysFour word (λ part. SaysSigned part r.x0) (λ part. SaysSigned part r.y0) (λ part. SaysSigned part r.x1) (λ part. SaysSigned part r.y1)
 
 abbrev pub SaysTranslation : List ℕ → Translation → Type 0
 SaysTranslation word t = SaysPair word t.x t.y
@@ -40,8 +43,7 @@ SaysBytes word x y = SaysBoth word 44 (λ part. SaysNumber part x) (λ part. Say
 
 abbrev pub SaysColor : List ℕ → Color → Type 0
 SaysColor word c =
-    SaysBoth word 44 (λ part. SaysNumber part c.red)
-    (λ rest. SaysBoth rest 44 (λ part. SaysNumber part c.green) (λ rest. SaysBytes rest c.blue c.alpha))
+    SaysFour word (λ part. SaysNumber part c.red) (λ part. SaysNumber part c.green) (λ part. SaysNumber part c.blue) (λ part. SaysNumber part c.alpha)
 
 abbrev pub SaysDecoration : List ℕ → TextDecoration → Type 0
 SaysDecoration word d = SaysBoth word 44 (λ part. part ≡ decoration_style_name d.style) (λ rest. SaysColor rest d.color)

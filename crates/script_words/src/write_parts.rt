@@ -6,7 +6,8 @@ ghost use Rattle.std.specs.Fmt.{decimal, signed_decimal};
 ghost use Rattle.std.specs.Str.{bytes_eq};
 ghost use Rattle.std.specs.Io.KnownBytes.{Appends};
 ghost use Rattle.schema.specs.TreeIds.{root_tree_id};
-ghost use Rattle.script_words.specs.Parts.{action_text, actions_value, color_text, comma_action, comma_id, comma_number, comma_units, corners_text, decoration_text, field_text, flag_text, id_text, ids_value, numbers_value, pair_text, place_text, rect_text, selection_text, translation_text, tree_text, units_text, word_field};
+ghost use Rattle.script_words.specs.Parts.{action_text, actions_value, color_text, corners_text, decoration_text, field_text, flag_text, id_text, ids_value, numbers_value, pair_text, place_text, rect_text, selection_text, translation_text, tree_text, units_text, word_field};
+ghost use Rattle.script_words.specs.Items.{comma_then};
 ghost use Rattle.script_words.specs.Quoted.{quoted};
 
 use crate::called::decoration_style_name;
@@ -105,7 +106,7 @@ pub fn write_word<O: Write>(name: &str, value: Option<&str>, out: &mut O) -> io:
 struct MoreIds<'a>(&'a [NodeId]);
 
 impl fmt::Display for MoreIds<'_> {
-    ghost output = { λ s. Some (flat_map comma_id s.0.now) };
+    ghost output = { λ s. Some (flat_map (comma_then id_text) s.0.now) };
 
     fn fmt<W: fmt::Write>(&self, f: &mut fmt::Formatter<W>) -> fmt::Result {
         for item in self.0 {
@@ -133,7 +134,7 @@ pub fn write_ids<O: Write>(name: &str, ids: &[NodeId], out: &mut O) -> io::Resul
 struct MoreNumbers<'a>(&'a [u16]);
 
 impl fmt::Display for MoreNumbers<'_> {
-    ghost output = { λ s. Some (flat_map comma_number s.0.now) };
+    ghost output = { λ s. Some (flat_map (comma_then decimal) s.0.now) };
 
     fn fmt<W: fmt::Write>(&self, f: &mut fmt::Formatter<W>) -> fmt::Result {
         for item in self.0 {
@@ -161,7 +162,7 @@ pub fn write_numbers<O: Write>(name: &str, numbers: &[u16], out: &mut O) -> io::
 struct MoreUnits<'a>(&'a [i32]);
 
 impl fmt::Display for MoreUnits<'_> {
-    ghost output = { λ s. Some (flat_map comma_units s.0.now) };
+    ghost output = { λ s. Some (flat_map (comma_then signed_decimal) s.0.now) };
 
     fn fmt<W: fmt::Write>(&self, f: &mut fmt::Formatter<W>) -> fmt::Result {
         for item in self.0 {
@@ -218,7 +219,7 @@ impl fmt::Display for ShownAction {
 struct MoreActions<'a>(&'a [Action]);
 
 impl fmt::Display for MoreActions<'_> {
-    ghost output = { λ s. Some (flat_map comma_action s.0.now) };
+    ghost output = { λ s. Some (flat_map (comma_then action_text) s.0.now) };
 
     fn fmt<W: fmt::Write>(&self, f: &mut fmt::Formatter<W>) -> fmt::Result {
         for item in self.0 {

@@ -1,9 +1,10 @@
 use Rattle.std.proofs.Common.{take, flat_map}
 use Rattle.std.specs.Fmt.{HasWritten, IsPlainFormatter}
-use Rattle.script_words.specs.Parts.{comma_units}
+use Rattle.std.specs.Fmt.{signed_decimal}
+use Rattle.script_words.specs.Items.{comma_then}
 use Rattle.script_words.proofs.write_parts.MoreUnitsDisplay.fmt.Given as goal
 
 -- the items so far are written
 abbrev pub invariant-loop-item : goal.invariant-loop-item
 invariant-loop-item g l =
-    IsPlainFormatter l.initial.f → HasWritten g.W.Write.write_str_gives l.initial.f (flat_map comma_units (take l.item-index l.item-items)) l.f
+    IsPlainFormatter l.initial.f → HasWritten g.W.Write.write_str_gives l.initial.f (flat_map (comma_then signed_decimal) (take l.item-index l.item-items)) l.f
