@@ -5,4 +5,5 @@ pub mod ListFacts
 pub mod StateLists
 pub mod PreorderCount
 pub mod Frontiers
+pub mod Ranges
 pub mod Shown

@@ -1,9 +1,8 @@
 -- How what is shown from a place on, and before a place, changes from one place of a walk to the next.
-use Rattle.std.proofs.Common.{◌≡◌, ℕ, ◌+◌, ◌<◌, ◌≤◌, Bool, true, false, cond, List, [], ◌∷◌, ◌++◌, length, take, drop, suc, refl, sym, ◌∙◌, ap, arith, append_assoc, append-nil, add-one, inl, inr}
-use Rattle.std.specs.Prelude.{Some, None, slice_get, ◌↔◌}
+use Rattle.std.proofs.Common.{◌≡◌, ◌+◌, ◌<◌, ◌≤◌, Bool, true, false, cond, List, [], ◌∷◌, ◌++◌, length, take, drop, refl, sym, ◌∙◌, ap, arith, append_assoc, append-nil, inl, inr}
+use Rattle.std.specs.Prelude.{None, ◌↔◌}
 use Rattle.std.proofs.Math.ListN.{drop_of_length-le}
-use Rattle.std.proofs.Math.Seq.{drop-cons, take-suc}
-use Rattle.std.proofs.lemmas.Option.{slice_get_within, get_or_from_slice_get}
+use Rattle.std.proofs.Math.Seq.{take-length}
 use Rattle.std.proofs.lemmas.List.{take-append-drop}
 use Rattle.model.specs.declared.FullNodeId.{FullNodeId}
 use Rattle.model.specs.declared.filters.FilterResult.{FilterResult}
@@ -17,20 +16,9 @@ use Rattle.model.specs.Beside.{next_place, shown_from, shown_until, after, befor
 use Rattle.model.proofs.Forest.Grown.{below_is, above_child, above_root, depth_child}
 use Rattle.model.proofs.Forest.PlaceOf.{same_from_test, test_self}
 use Rattle.model.proofs.Lists.Frontiers.{frontier-plant}
+use Rattle.model.proofs.Lists.Ranges.{drop_at, take_at}
 use Rattle.model.proofs.Forest.Climbs.{within_deeper}
 use Rattle.model.proofs.Lists.Shown.{above_parts}
-
--- ---- lists at an index that is there
-
-drop_at : {A : Type 0} (xs : List A) (i : ℕ) (c : A) → slice_get xs i ≡ Some c → drop i xs ≡ c ∷ drop (i + 1) xs
-drop_at xs i c e = drop-cons xs i c (slice_get_within xs i c e) ∙ ap (λ x. x ∷ drop (suc i) xs) (get_or_from_slice_get xs i c c e) ∙ ap (λ n. c ∷ drop n xs) (sym (add-one i))
-
-take_at : {A : Type 0} (xs : List A) (i : ℕ) (c : A) → slice_get xs i ≡ Some c → take (i + 1) xs ≡ take i xs ++ c ∷ []
-take_at xs i c e = rw add-one (take-suc xs i c (slice_get_within xs i c e) ∙ ap (λ x. take i xs ++ x ∷ []) (get_or_from_slice_get xs i c c e))
-
-take_all : {A : Type 0} (xs : List A) → take (length xs) xs ≡ xs
-take_all [] = refl
-take_all (x ∷ xs) = ap (λ ys. x ∷ ys) (take_all xs)
 
 weight-plant : (sub : FullNodeId → Forest) (xs ys : List FullNodeId) → weight (plant sub (xs ++ ys)) ≡ weight (plant sub xs) + weight (plant sub ys)
 weight-plant sub [] ys = omega arith
@@ -130,7 +118,7 @@ module _ (w : World) (formed : IsFormed w) where
     pub prior_descend : (p : Place) (c : FullNodeId) → StandsAt w p c → f c ≡ ExcludeNode → ends c ≡ false → prior_at f w ends (next_place p) ≡ prior_at f w ends (c, length (children w c))
     prior_descend p c e out on =
         prior_step p c e ∙ ap (λ r. prior_at f w ends p ++ shown_part r c (filtered_children f w c)) out
-        ∙ ap (λ t. prior_at f w ends p ++ frontier f t) (below_is w formed c ∙ ap (plant (below w)) (sym (take_all (children w c))))
+        ∙ ap (λ t. prior_at f w ends p ++ frontier f t) (below_is w formed c ∙ ap (plant (below w)) (sym (take-length (children w c))))
         ∙ ap (λ xs. xs ++ shown_until f w (c, length (children w c))) (sym (before_child p c e) ∙ ap (λ b. cond b [] (before f w ends (above w c))) (sym on))
 
     pub prior_up : (p q : Place) → p.1 ≡ 0 → StandsAt w q p.0 → ends p.0 ≡ false → prior_at f w ends p ≡ prior_at f w ends q
@@ -204,7 +192,7 @@ module _ (w : World) (formed : IsFormed w) where
     pub start_prior : prior_at f w (is_same top) (top, length (children w top)) ≡ filtered_children f w top
     start_prior =
         ap (λ b. cond b [] (before f w (is_same top) (above w top)) ++ shown_until f w (top, length (children w top))) (test_self top)
-        ∙ ap (λ xs. frontier f (plant (below w) xs)) (take_all (children w top)) ∙ ap (frontier f) (sym (below_is w formed top))
+        ∙ ap (λ xs. frontier f (plant (below w) xs)) (take-length (children w top)) ∙ ap (frontier f) (sym (below_is w formed top))
 
   -- ---- the work that is left
 
@@ -240,7 +228,7 @@ module _ (w : World) (formed : IsFormed w) where
     work_until_descend p c e = go (is_same top c)
       where
         all : weight_until w (c, length (children w c)) ≡ weight (below w c)
-        all = ap weight (ap (plant (below w)) (take_all (children w c)) ∙ sym (below_is w formed c))
+        all = ap weight (ap (plant (below w)) (take-length (children w c)) ∙ sym (below_is w formed c))
 
         go : (b : Bool) → weight_until w (c, length (children w c)) + cond b 0 (work_before w top (above w c) + 1) < work_until w top (next_place p)
         go true = omega (arith, work_until_step p c e, all)

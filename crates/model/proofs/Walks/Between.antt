@@ -1,10 +1,9 @@
 -- How the list that a walk has left changes with its ends.
-use Rattle.std.proofs.Common.{◌≡◌, ◌≢◌, ℕ, ◌+◌, ◌-◌, ◌<◌, ◌≤◌, Bool, true, false, ◌||◌, List, [], ◌∷◌, ◌++◌, length, take, drop, suc, zero, refl, sym, ◌∙◌, ap, subst, arith, length-append, append-nil, append_assoc, add-one, get_or, inl, inr, map}
+use Rattle.std.proofs.Common.{◌≡◌, ◌≢◌, ℕ, ◌+◌, ◌-◌, ◌<◌, ◌≤◌, Bool, true, false, ◌||◌, List, [], ◌∷◌, ◌++◌, length, suc, zero, refl, sym, ◌∙◌, ap, subst, arith, length-append, append-nil, append_assoc, inl, inr, map}
 use Rattle.std.specs.Prelude.{Option, Some, None, slice_get, slice_range, Contains}
 use Rattle.std.specs.List.{list_any}
-use Rattle.std.proofs.Math.Seq.{drop-cons, take-suc}
-use Rattle.std.proofs.lemmas.Option.{none-some, slice_get_within, get_or_from_slice_get}
-use Rattle.std.proofs.lemmas.List.{get_or-drop, length-drop}
+use Rattle.std.proofs.Math.Seq.{take-append_seam}
+use Rattle.std.proofs.lemmas.Option.{none-some, slice_get_within}
 use Rattle.std.proofs.lemmas.List.Elements.{Contains-append_right}
 use Rattle.model.specs.declared.FullNodeId.{FullNodeId}
 use Rattle.model.specs.declared.filters.FilterResult.{FilterResult}
@@ -20,50 +19,17 @@ use Rattle.model.proofs.Forest.Grown.{above_child, depth_child}
 use Rattle.model.proofs.Forest.PlaceOf.{stands_at_place, same_from_test, test_self}
 use Rattle.model.proofs.Forest.Climbs.{within_child, within_both, within_deeper}
 use Rattle.model.proofs.Members.{contains_first}
+use Rattle.model.proofs.Lists.Ranges.{behind, none_between, range_first, range_last}
 use Rattle.model.proofs.Lists.Shown.{shown_is}
 use Rattle.model.proofs.Forest.WaysUp.{within_is_tested}
 use Rattle.model.proofs.Walks.Beside.{below_is_other, splits, splits_at, after_child, left_include, left_skip, left_descend, left_up, left_end, left_root, before_child, prior_include, prior_skip, prior_descend, prior_up, prior_end, prior_root, work_from_step, work_from_descend, work_from_up, work_until_step, work_until_descend, work_until_up}
-
--- ---- ranges of lists
-
-drop_at : {A : Type 0} (xs : List A) (i : ℕ) (c : A) → slice_get xs i ≡ Some c → drop i xs ≡ c ∷ drop (suc i) xs
-drop_at xs i c e = drop-cons xs i c (slice_get_within xs i c e) ∙ ap (λ x. x ∷ drop (suc i) xs) (get_or_from_slice_get xs i c c e)
-
-first_of_two : {A : Type 0} (n m : ℕ) (xs ys : List A) (c : A) → n ≡ suc m → xs ≡ c ∷ ys → take n xs ≡ c ∷ take m ys
-first_of_two n m xs ys c p q = rw (p, q) refl
-
-slice_first : {A : Type 0} (xs : List A) (a b : ℕ) (c : A) → a < b → slice_get xs a ≡ Some c → slice_range xs a b ≡ c ∷ slice_range xs (a + 1) b
-slice_first xs a b c h e = first_of_two (b - a) (b - (a + 1)) (drop a xs) (drop (a + 1) xs) c (omega arith) (drop_at xs a c e ∙ ap (λ n. c ∷ drop n xs) (sym (add-one a)))
-
-slice_last : {A : Type 0} (xs : List A) (a b : ℕ) (c : A) → a < b → slice_get xs (b - 1) ≡ Some c → slice_range xs a b ≡ slice_range xs a (b - 1) ++ c ∷ []
-slice_last xs a b c h e =
-    let m : ℕ = b - 1 - a in
-    let n : b - a ≡ suc m = omega arith in
-    let within : b - 1 < length xs = slice_get_within xs (b - 1) c e in
-    let here : get_or (drop a xs) m c ≡ c = get_or-drop a xs m c ∙ ap (λ n. get_or xs n c) (let k : a + m ≡ b - 1 = omega arith in k) ∙ get_or_from_slice_get xs (b - 1) c c e in
-    rw n (take-suc (drop a xs) m c (omega (arith, length-drop a xs)) ∙ ap (λ x. take m (drop a xs) ++ x ∷ []) here)
-
-none_between : {A : Type 0} (xs : List A) (n : ℕ) → slice_range xs n n ≡ []
-none_between xs n = let zero_long : n - n ≡ 0 = omega arith in ap (λ k. take k (drop n xs)) zero_long
-
-behind : {A : Type 0} (xs : List A) (c : A) (ys : List A) → slice_get (xs ++ c ∷ ys) (length xs) ≡ Some c
-behind [] c ys = refl
-behind (x ∷ xs) c ys = behind xs c ys
-
-take_all : {A : Type 0} (xs : List A) → take (length xs) xs ≡ xs
-take_all [] = refl
-take_all (x ∷ xs) = ap (λ ys. x ∷ ys) (take_all xs)
-
-take_front : {A : Type 0} (us vs : List A) → take (length us) (us ++ vs) ≡ us
-take_front [] vs = refl
-take_front (u ∷ us) vs = ap (λ ts. u ∷ ts) (take_front us vs)
 
 -- the middle of three lists
 middle : {A : Type 0} (xs ys zs : List A) (a b : ℕ) → a ≡ length xs → b ≡ length xs + length ys → slice_range (xs ++ (ys ++ zs)) a b ≡ ys
 middle [] [] zs a b e h = rw (e, h) refl
 middle [] (y ∷ ys) zs a b e h =
     let long : b - a ≡ suc (length ys) = omega (arith, e, h) in
-    rw (long, e) (ap (λ us. y ∷ us) (take_front ys zs))
+    rw (long, e) (ap (λ us. y ∷ us) (take-append_seam ys zs))
 middle (x ∷ xs) ys zs a b e h =
     let c : ℕ = length xs in
     let d : ℕ = length xs + length ys in
@@ -155,7 +121,7 @@ module _ (w : World) (formed : IsFormed w) (f : FullNodeId → FilterResult) (to
   pub last_one : (c b : FullNodeId) → Spans f w top c b → c ≡ b → items_between f w top c b ≡ c ∷ []
   last_one c b s e =
       let here : at c ≡ at b = ap at e in
-      slice_first (filtered_children f w top) (at c) (at b + 1) c (omega arith) (at_shown c s.first)
+      range_first (filtered_children f w top) (at c) (at b + 1) c (omega arith) (at_shown c s.first)
       ∙ ap (λ k. c ∷ slice_range (filtered_children f w top) (k + 1) (at b + 1)) here
       ∙ ap (λ xs. c ∷ xs) (none_between (filtered_children f w top) (at b + 1))
 
@@ -165,7 +131,7 @@ module _ (w : World) (formed : IsFormed w) (f : FullNodeId → FilterResult) (to
   pub first_off : (c b d : FullNodeId) → Spans f w top c b → c ≢ b → after_in f w top c ≡ d ∷ after_in f w top d → Spans f w top d b × (items_between f w top c b ≡ c ∷ items_between f w top d b)
   first_off c b d s ne e = (
     record { first = next_is_shown c d s.first e; last = s.last; order = omega (arith, differ c b s ne, next_at c d s.first e) },
-    slice_first (filtered_children f w top) (at c) (at b + 1) c (omega (arith, differ c b s ne)) (at_shown c s.first)
+    range_first (filtered_children f w top) (at c) (at b + 1) c (omega (arith, differ c b s ne)) (at_shown c s.first)
         ∙ ap (λ k. c ∷ slice_range (filtered_children f w top) k (at b + 1)) (sym (next_at c d s.first e)),
   )
 
@@ -185,7 +151,7 @@ module _ (w : World) (formed : IsFormed w) (f : FullNodeId → FilterResult) (to
       let end : at b + 1 - 1 ≡ at b = omega arith in
       let there : slice_get (filtered_children f w top) (at b + 1 - 1) ≡ Some b = ap (slice_get (filtered_children f w top)) end ∙ at_shown b s.last in (
         record { first = s.first; last = previous_is_shown b e s.last h; order = omega (arith, differ c b s ne, previous_at b e h) },
-        slice_last (filtered_children f w top) (at c) (at b + 1) b (omega (arith, s.order)) there
+        range_last (filtered_children f w top) (at c) (at b + 1) b (omega (arith, s.order)) there
             ∙ ap (λ k. slice_range (filtered_children f w top) (at c) k ++ b ∷ []) (end ∙ previous_at b e h),
       )
 

@@ -1,11 +1,10 @@
 -- A hit is that of the last child that has one, or the node's own; and a search backwards finds it.
-use Rattle.std.proofs.Common.{◌≡◌, ℕ, ◌+◌, Bool, true, false, cond, List, [], ◌∷◌, ◌++◌, length, take, suc, refl, sym, ◌∙◌, ap, arith, append_assoc, append-nil, add-one, inl, inr}
+use Rattle.std.proofs.Common.{◌≡◌, ℕ, Bool, true, false, cond, List, [], ◌∷◌, ◌++◌, length, take, suc, refl, sym, ◌∙◌, ap, arith, append_assoc, append-nil, inl, inr}
 use Rattle.std.specs.Prelude.{ℤ, pos, ◌+ℤ◌, ◌-ℤ◌, Option, Some, None, slice_get, filter, filter_map, flat_map, take_while, not}
 use Rattle.std.specs.Option.{option_map_or, option_or}
 use Rattle.std.specs.List.{last_or, AllByRecursion, cons_option}
-use Rattle.std.proofs.Math.Seq.{take-suc}
+use Rattle.std.proofs.Math.Seq.{take-length}
 use Rattle.std.proofs.lemmas.Int.{ints}
-use Rattle.std.proofs.lemmas.Option.{slice_get_within, get_or_from_slice_get}
 use Rattle.std.proofs.lemmas.List.Elements.{filter-append}
 use Rattle.std.proofs.lemmas.List.Sums.{take_while-cons}
 use Rattle.schema.specs.declared.geometry.Point.{Point}
@@ -20,6 +19,7 @@ use Rattle.model.specs.Beside.{next_place}
 use Rattle.model.specs.Hits.{wide_point, seen_by_child, seen_by_parent, seen_within, is_hit, last_hit, hit_seen, hits_of_children, entered, uncut_until}
 use Rattle.model.proofs.Forest.Grown.{below_is, above_child}
 use Rattle.model.proofs.Forest.PlaceOf.{test_self}
+use Rattle.model.proofs.Lists.Ranges.{take_at}
 use Rattle.model.proofs.Lists.Preorder.{HangsAt, hangs_below, Under, under_child, under_deeper, under_lower, all_append, all_weaker}
 use Rattle.model.proofs.Lists.Within.{above_under}
 use Rattle.model.proofs.Forest.Climbs.{within_child, within_both}
@@ -61,13 +61,6 @@ filter_same p q (x ∷ xs) a = ap (λ b. cond b (x ∷ filter p xs) (filter p xs
 flat_same : {A B : Type 0} (g h : A → List B) (cs : List A) → ((i : ℕ) (c : A) → slice_get cs i ≡ Some c → g c ≡ h c) → flat_map g cs ≡ flat_map h cs
 flat_same g h [] e = refl
 flat_same g h (c ∷ cs) e = ap (λ xs. xs ++ flat_map g cs) (e 0 c refl) ∙ ap (λ xs. h c ++ xs) (flat_same g h cs (λ i d s. e (suc i) d s))
-
-take_at : {A : Type 0} (xs : List A) (i : ℕ) (c : A) → slice_get xs i ≡ Some c → take (i + 1) xs ≡ take i xs ++ c ∷ []
-take_at xs i c e = rw add-one (take-suc xs i c (slice_get_within xs i c e) ∙ ap (λ x. take i xs ++ x ∷ []) (get_or_from_slice_get xs i c c e))
-
-take_all : {A : Type 0} (xs : List A) → take (length xs) xs ≡ xs
-take_all [] = refl
-take_all (x ∷ xs) = ap (λ ys. x ∷ ys) (take_all xs)
 
 -- the last of a filtered list, where the last of the list is tested first
 pub last_tested : (p : FullNodeId → Bool) (xs : List FullNodeId) (x : FullNodeId) → last_or None (filter p (xs ++ x ∷ [])) ≡ cond (p x) (Some x) (last_or None (filter p xs))
@@ -231,7 +224,7 @@ module _ (f : FullNodeId → FilterResult) (w : World) (formed : IsFormed w) whe
     pub search_start : is_cut_off (f top) ≡ false → uncut_preorder f w top ≡ uncut_until f w top (top, length (children w top))
     search_start kept =
         ap (λ b. cond b [] (top ∷ uncut f (below w top))) kept
-        ∙ ap (λ t. top ∷ uncut f t) (below_is w formed top ∙ ap (plant (below w)) (sym (take_all (children w top))))
+        ∙ ap (λ t. top ∷ uncut f t) (below_is w formed top ∙ ap (plant (below w)) (sym (take-length (children w top))))
         ∙ ap (λ b. (cond b [] (entered f w top (above w top)) ++ top ∷ []) ++ uncut f (plant (below w) (take (length (children w top)) (children w top)))) (sym (test_self top))
 
     pub search_over : (p : Place) (c : FullNodeId) → StandsAt w p c → is_cut_off (f c) ≡ true → uncut_until f w top (next_place p) ≡ uncut_until f w top p
@@ -241,7 +234,7 @@ module _ (f : FullNodeId → FilterResult) (w : World) (formed : IsFormed w) whe
     search_down p c e kept other =
         uncut_step p c e ∙ ap (λ b. uncut_until f w top p ++ cond b [] (c ∷ uncut f (below w c))) kept
         ∙ sym (append_assoc (uncut_until f w top p) (c ∷ []) (uncut f (below w c)))
-        ∙ ap (λ t. (uncut_until f w top p ++ c ∷ []) ++ uncut f t) (below_is w formed c ∙ ap (plant (below w)) (sym (take_all (children w c))))
+        ∙ ap (λ t. (uncut_until f w top p ++ c ∷ []) ++ uncut f t) (below_is w formed c ∙ ap (plant (below w)) (sym (take-length (children w c))))
         ∙ ap (λ xs. (xs ++ c ∷ []) ++ uncut f (plant (below w) (take (length (children w c)) (children w c))))
         (sym (ap (λ b. cond b [] (entered f w top (above w c))) other ∙ ap (entered f w top) (above_child w formed p c e)))
 

@@ -23,6 +23,7 @@ use Rattle.model.specs.Beside.{after_in, before_in}
 use Rattle.model.specs.Views.{set_by_role, set_of}
 use Rattle.model.proofs.Members.{contains_first}
 use Rattle.model.proofs.Lists.Preorder.{not_before_itself, by_path}
+use Rattle.model.proofs.Lists.Ranges.{behind}
 use Rattle.model.proofs.Lists.Shown.{shown_rise}
 use Rattle.model.proofs.Walks.Beside.{splits_at}
 use Rattle.model.proofs.Walks.Siblings.{filter_all, filter_none, cover_leads, before_self, all_before, all_after}
@@ -36,10 +37,6 @@ kept_all P p (x ∷ xs) a = go (p x) (kept_all P p xs a.1)
     go : (b : Bool) → AllByRecursion P (filter p xs) → AllByRecursion P (cond b (x ∷ filter p xs) (filter p xs))
     go true rest = (a.0, rest)
     go false rest = rest
-
-behind : {A : Type 0} (xs : List A) (c : A) (ys : List A) → slice_get (xs ++ c ∷ ys) (length xs) ≡ Some c
-behind [] c ys = refl
-behind (x ∷ xs) c ys = behind xs c ys
 
 right_holds : (a b : Bool) → (a && b) ≡ true → b ≡ true
 right_holds true b e = e
