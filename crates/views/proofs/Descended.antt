@@ -1,19 +1,20 @@
 -- How what a walk in pre-order has left changes with its ends.
 use Rattle.std.proofs.Common.{◌≡◌, ◌≢◌, ℕ, ◌+◌, ◌-◌, ◌<◌, ◌≤◌, true, List, [], ◌∷◌, ◌++◌, length, take, drop, refl, sym, ◌∙◌, ap, arith, length-append, append_assoc}
 use Rattle.std.specs.Prelude.{Option, Some, None, slice_get, slice_range, MatchOption, IfSome}
+use Rattle.std.proofs.Math.Seq.{take-length}
 use Rattle.model.specs.declared.FullNodeId.{FullNodeId}
 use Rattle.model.specs.declared.filters.FilterResult.{FilterResult}
 use Rattle.model.specs.World.{World, Place, StandsAt, children}
 use Rattle.model.specs.Upward.{is_within}
 use Rattle.model.specs.Forest.{is_same as is_same_id, IsFormed}
 use Rattle.model.specs.Beside.{after_in, left_at, is_below, work_from}
+use Rattle.model.proofs.Lists.Ranges.{behind, none_between, range_first, range_last}
 use Rattle.model.proofs.Walks.Beside.{start_left, work_from_descend}
 use Rattle.model.proofs.Walks.Between.{below_is_within}
 use Rattle.views.specs.declared.walks.spot.Spot.{Spot}
 use Rattle.views.specs.Spots.{IsSpot, place_at}
 use Rattle.views.specs.Descendants.{filtered_descendants}
 use Rattle.views.specs.Descents.{earlier_in, later_in, earlier_at, IsAmong, SpansAll, all_between}
-use Rattle.views.proofs.RangeEnds.{range_first, range_last}
 use Rattle.views.proofs.Descending.{earlier_child, first_opened, none_opened, last_inside, among_where}
 
 -- the parent of a node below top lies within top
@@ -33,19 +34,8 @@ pub before_place : (w : World) → IsFormed w → (f : FullNodeId → FilterResu
 before_place w formed f top p c e None h = earlier_child f w formed top p c e ∙ h
 before_place w formed f top p c e (Some r) h = earlier_child f w formed top p c e ∙ h
 
-none_between : {A : Type 0} (xs : List A) (n : ℕ) → slice_range xs n n ≡ []
-none_between xs n = let zero_long : n - n ≡ 0 = omega arith in ap (λ k. take k (drop n xs)) zero_long
-
-behind : {A : Type 0} (xs : List A) (c : A) (ys : List A) → slice_get (xs ++ c ∷ ys) (length xs) ≡ Some c
-behind [] c ys = refl
-behind (x ∷ xs) c ys = behind xs c ys
-
-take_all : {A : Type 0} (xs : List A) → take (length xs) xs ≡ xs
-take_all [] = refl
-take_all (x ∷ xs) = ap (λ ys. x ∷ ys) (take_all xs)
-
 whole_range : {A : Type 0} (xs : List A) (a b : ℕ) → a ≡ 0 → b ≡ length xs → slice_range xs a b ≡ xs
-whole_range xs a b e h = let long : b - a ≡ length xs = omega (arith, e, h) in rw (long, e) (take_all xs)
+whole_range xs a b e h = let long : b - a ≡ length xs = omega (arith, e, h) in rw (long, e) (take-length xs)
 
 module _ (w : World) (formed : IsFormed w) (f : FullNodeId → FilterResult) (top : FullNodeId) where
   -- ---- where a node stands in what is shown

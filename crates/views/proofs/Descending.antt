@@ -3,10 +3,9 @@ use Rattle.std.proofs.Common.{◌≡◌, ℕ, ◌+◌, ◌≤◌, Bool, true, fa
 use Rattle.std.specs.Prelude.{Option, Some, None, slice_get, flat_map, MatchOption, ◌⊎◌}
 use Rattle.std.specs.FinMap.{len}
 use Rattle.std.specs.List.{AllByRecursion}
-use Rattle.std.proofs.Math.Seq.{drop-cons, take-suc}
+use Rattle.std.proofs.Math.Seq.{take-length}
 use Rattle.std.proofs.lemmas.Grind.{flat_map-append}
 use Rattle.std.proofs.lemmas.List.{take-append-drop}
-use Rattle.std.proofs.lemmas.Option.{slice_get_within, get_or_from_slice_get}
 use Rattle.model.specs.declared.FullNodeId.{FullNodeId}
 use Rattle.model.specs.declared.filters.FilterResult.{FilterResult}
 use Rattle.model.specs.declared.filters.FilterResult.TheVariants.{Include, ExcludeNode, ExcludeSubtree}
@@ -20,6 +19,7 @@ use Rattle.model.specs.Beside.{next_place, after, after_in, left_at}
 use Rattle.model.proofs.Forest.Grown.{below_is, above_child, depth_child, depth_at_most}
 use Rattle.model.proofs.Forest.PlaceOf.{same_from_test, test_self}
 use Rattle.model.proofs.Lists.Frontiers.{frontier_is}
+use Rattle.model.proofs.Lists.Ranges.{drop_at, take_at}
 use Rattle.model.proofs.Lists.Preorder.{HangsAt, hangs_below, all_append}
 use Rattle.model.proofs.Lists.Shown.{above_parts}
 use Rattle.views.specs.declared.walks.spot.Spot.{Spot}
@@ -27,16 +27,6 @@ use Rattle.views.specs.Descendants.{descendants, shown_tree, shown_nodes, filter
 use Rattle.views.specs.Descents.{own_part, earlier, later, earlier_in, later_in, earlier_at, IsAmong}
 
 -- ---- lists
-
-drop_at : {A : Type 0} (xs : List A) (i : ℕ) (c : A) → slice_get xs i ≡ Some c → drop i xs ≡ c ∷ drop (i + 1) xs
-drop_at xs i c e = drop-cons xs i c (slice_get_within xs i c e) ∙ ap (λ x. x ∷ drop (suc i) xs) (get_or_from_slice_get xs i c c e) ∙ ap (λ n. c ∷ drop n xs) (sym (add-one i))
-
-take_at : {A : Type 0} (xs : List A) (i : ℕ) (c : A) → slice_get xs i ≡ Some c → take (i + 1) xs ≡ take i xs ++ c ∷ []
-take_at xs i c e = rw add-one (take-suc xs i c (slice_get_within xs i c e) ∙ ap (λ x. take i xs ++ x ∷ []) (get_or_from_slice_get xs i c c e))
-
-take_all : {A : Type 0} (xs : List A) → take (length xs) xs ≡ xs
-take_all [] = refl
-take_all (x ∷ xs) = ap (λ ys. x ∷ ys) (take_all xs)
 
 flat_same : {A B : Type 0} (g h : A → List B) (cs : List A) → ((i : ℕ) (c : A) → slice_get cs i ≡ Some c → g c ≡ h c) → flat_map g cs ≡ flat_map h cs
 flat_same g h [] e = refl
@@ -164,7 +154,7 @@ module _ (f : FullNodeId → FilterResult) (w : World) (formed : IsFormed w) whe
     earlier_descend p c e uncut other =
         earlier_step p c e ∙ ap (λ xs. earlier_at f w top p ++ xs) (uncut_tree (f c) c (filtered_descendants f w c) uncut) ∙ sym (append_assoc (earlier_at f w top p) (own_part f c) (filtered_descendants f w c))
         ∙ ap (λ xs. (xs ++ own_part f c) ++ filtered_descendants f w c) (sym (earlier_child p c e))
-        ∙ ap (λ t. (earlier f w top (above w c) ++ own_part f c) ++ shown_nodes f t) (below_is w formed c ∙ ap (plant (below w)) (sym (take_all (children w c))))
+        ∙ ap (λ t. (earlier f w top (above w c) ++ own_part f c) ++ shown_nodes f t) (below_is w formed c ∙ ap (plant (below w)) (sym (take-length (children w c))))
         ∙ ap (λ b. cond b [] (earlier f w top (above w c) ++ own_part f c) ++ shown_nodes f (plant (below w) (take (length (children w c)) (children w c)))) (sym other)
 
     earlier_first : (p : Place) → p.1 ≡ 0 → earlier_at f w top p ≡ cond (is_same top p.0) [] (earlier_in f w top p.0 ++ own_part f p.0)
@@ -187,7 +177,7 @@ module _ (f : FullNodeId → FilterResult) (w : World) (formed : IsFormed w) whe
     pub last_inside : earlier_at f w top (top, length (children w top)) ≡ filtered_descendants f w top
     last_inside =
         ap (λ b. cond b [] (earlier f w top (above w top) ++ own_part f top) ++ shown_nodes f (plant (below w) (take (length (children w top)) (children w top)))) (test_self top)
-        ∙ ap (λ xs. shown_nodes f (plant (below w) xs)) (take_all (children w top)) ∙ ap (shown_nodes f) (sym (below_is w formed top))
+        ∙ ap (λ xs. shown_nodes f (plant (below w) xs)) (take-length (children w top)) ∙ ap (shown_nodes f) (sym (below_is w formed top))
 
     -- ---- a node that is shown, with what is before it and after it
 

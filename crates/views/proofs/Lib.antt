@@ -21,7 +21,7 @@ pub mod ValueCalling
 pub mod Writing
 pub mod Calling
 pub mod Named
-pub mod RangeEnds
+pub mod Reversed
 pub mod SeenFrom
 pub mod Showing
 pub mod Walked

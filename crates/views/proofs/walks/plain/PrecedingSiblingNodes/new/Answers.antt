@@ -1,6 +1,6 @@
 use Rattle.std.proofs.Common.{map, sym, ◌∙◌, ap}
 use Rattle.std.specs.Prelude.{reverse}
-use Rattle.views.proofs.RangeEnds.{map_reverse}
+use Rattle.views.proofs.Reversed.{map_reverse}
 use Rattle.views.specs.Nodes.{world_at}
 use Rattle.views.specs.PlainWalks.{node_in, range_left}
 use Rattle.views.proofs.walks.plain.PrecedingSiblingNodes.new.Goals as goal

@@ -2,7 +2,7 @@ use Rattle.std.proofs.Common.{◌<◌, arith, sym, ◌∙◌}
 use Rattle.model.specs.World.{children}
 use Rattle.model.proofs.State.StatePlaces.{child_is_node}
 use Rattle.views.specs.ShownWorlds.{world_of}
-use Rattle.views.proofs.RangeEnds.{range_first}
+use Rattle.model.proofs.Lists.Ranges.{range_first}
 use Rattle.views.proofs.walks.range.ChildRange.take_first.Goals as goal
 
 pub returns-clause-steps : goal.returns-clause-steps
