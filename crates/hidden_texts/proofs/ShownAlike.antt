@@ -3,6 +3,7 @@ use Rattle.std.proofs.Common.{◌≡◌, ◌≢◌, ℕ, Bool, true, false, not,
 use Rattle.std.specs.Prelude.{Contains, bytes_eq, chars, filter_map, is_none, nat_lt, option_map, unwrap_or, if◌then◌else◌}
 use Rattle.std.specs.Option.{option_or, option_map_or}
 use Rattle.std.specs.List.{list_any, flat_map}
+use Rattle.std.proofs.lemmas.Bool.{or_parts}
 use Rattle.schema.specs.NodeData.{NodeData, empty_node}
 use Rattle.schema.specs.declared.Role.{Role}
 use Rattle.schema.specs.declared.Role.TheVariants.{TextRun}
@@ -19,6 +20,7 @@ use Rattle.model.specs.Values.{bullets, own_value, document_text, has_value_in_r
 use Rattle.model.proofs.Forest.PlaceOf.{same_from_test, test_self}
 use Rattle.model.proofs.Members.{contains_first, contains_later}
 use Rattle.model.proofs.Text.Outlines.{runs_same, says_same}
+use Rattle.model.proofs.Text.Secrets.{masked_is_password}
 use Rattle.views.specs.RunTexts.{shown_of_all, shown_text}
 use Rattle.views.proofs.DocumentTexts.{document_is_shown}
 use Rattle.hidden_texts.specs.Alike.{DifferInPassword, scalar_count}
@@ -43,17 +45,9 @@ labels_are_plain w id e = go (data_of w id) e
 
 -- ---- booleans
 
-and_false : (a b : Bool) → (a && b) ≡ false → a ≡ true → b ≡ false
+pub and_false : (a b : Bool) → (a && b) ≡ false → a ≡ true → b ≡ false
 and_false true b e h = e
 and_false false b e h = cc
-
-left_false : (a b : Bool) → (a || b) ≡ false → a ≡ false
-left_false true b e = cc
-left_false false b e = refl
-
-right_false : (a b : Bool) → (a || b) ≡ false → b ≡ false
-right_false true b e = cc
-right_false false b e = e
 
 -- ---- lists
 
@@ -68,8 +62,8 @@ with_part (Some y) ys = y ∷ ys
 same_parts : {X Y : Type 0} (hides : X → Bool) (f g : X → Option Y) (xs : List X) → list_any hides xs ≡ false → ((x : X) → hides x ≡ false → f x ≡ g x) → filter_map f xs ≡ filter_map g xs
 same_parts hides f g [] none h = refl
 same_parts hides f g (x ∷ xs) none h =
-    let here = h x (left_false (hides x) (list_any hides xs) none) in
-    let later = same_parts hides f g xs (right_false (hides x) (list_any hides xs) none) h in
+    let here = h x ((or_parts (hides x) (list_any hides xs) none).0) in
+    let later = same_parts hides f g xs (or_parts (hides x) (list_any hides xs) none).1 h in
     λ i. with_part (here i) (later i)
 
 -- as many bullets for as many characters in each run
@@ -210,10 +204,10 @@ module _ (p : FullNodeId) (w v : World) (formed : IsFormed w) (alike : DifferInP
 
   module _ (id : FullNodeId) (open' : hides_value w id ≡ false) where
     out : is_in_password w id ≡ false
-    out = left_false (is_in_password w id) (is_valued_by_runs w id && holds_password w id) open'
+    out = (or_parts (is_in_password w id) (is_valued_by_runs w id && holds_password w id) open').0
 
     free : is_valued_by_runs w id ≡ true → holds_password w id ≡ false
-    free = and_false (is_valued_by_runs w id) (holds_password w id) (right_false (is_in_password w id) (is_valued_by_runs w id && holds_password w id) open')
+    free = and_false (is_valued_by_runs w id) (holds_password w id) (or_parts (is_in_password w id) (is_valued_by_runs w id && holds_password w id) open').1
 
     secret_one : is_password w id ≡ true → (b : Bool) → is_same id p ≡ b → password_value w id ≡ password_value v id
     secret_one secret true same = subst (λ x. password_value w x ≡ password_value v x) (sym (same_from_test id p same)) (at_password (supports_text_ranges w p) refl)
@@ -260,7 +254,7 @@ module _ (p : FullNodeId) (w v : World) (formed : IsFormed w) (alike : DifferInP
   label_one id open' (Some l) e =
       ap (λ o. option_or o (others_label w id)) e ∙ sym (ap (λ o. option_or o (others_label v id)) ((λ i. sym (own_labels_one p w v formed alike) i id) ∙ e))
   label_one id open' None e =
-      let any : list_any (hides_part w) (labelled_by w id) ≡ false = and_false (is_none (own_label w id)) (list_any (hides_part w) (labelled_by w id)) (right_false (is_in_password w id) (is_none (own_label w id) && list_any (hides_part w) (labelled_by w id)) open') (ap is_none e) in
+      let any : list_any (hides_part w) (labelled_by w id) ≡ false = and_false (is_none (own_label w id)) (list_any (hides_part w) (labelled_by w id)) (or_parts (is_in_password w id) (is_none (own_label w id) && list_any (hides_part w) (labelled_by w id)) open').1 (ap is_none e) in
       let parts : filter_map (label_part w) (labelled_by w id) ≡ filter_map (label_part v) (labelled_by w id) = same_parts (hides_part w) (label_part w) (label_part v) (labelled_by w id) any part_one in
       (λ i. option_or (own_labels_one p w v formed alike i id) (joined_text (parts i)))
       ∙ (λ i. option_or (own_label v id) (joined_text (filter_map (label_part v) (labels_one p w v formed alike i id))))
@@ -277,14 +271,6 @@ pub typing_shows_the_same : TypingShowsTheSame
 typing_shows_the_same p w v formed alike id = record { value = value_shown p w v formed alike id; label = label_shown p w v formed alike id }
 
 -- ---- worlds of equal shape
-
-first_of : (a b : Bool) → (a && b) ≡ true → a ≡ true
-first_of true b e = refl
-first_of false b e = cc
-
-masked_is_password : (w : World) (p : FullNodeId) → needs_masking w p ≡ true → is_password w p ≡ true
-unfolding needs_masking
-masked_is_password w p e = first_of (is_password w p) _ e
 
 pub equal_shapes_differ_in_password : EqualShapesDifferInPassword
 equal_shapes_differ_in_password p w v e = record {

@@ -3,7 +3,7 @@ use Rattle.std.proofs.Common.{◌≡◌, ◌≢◌, ℕ, ◌+◌, Bool, true, fa
 use Rattle.std.specs.Prelude.{bytes_eq, codes, is_some, nat_lt, option_and_then, option_map, if◌then◌else◌}
 use Rattle.std.specs.List.{flat_map, range_with_len}
 use Rattle.std.specs.Option.{option_map_or}
-use Rattle.std.proofs.lemmas.Bool.{lt-ltb}
+use Rattle.std.proofs.lemmas.Bool.{lt-ltb, or_parts}
 use Rattle.schema.specs.NodeData.{NodeData}
 use Rattle.schema.specs.declared.values.TextSelection.{TextSelection}
 use Rattle.model.specs.declared.FullNodeId.{FullNodeId}
@@ -31,7 +31,7 @@ use Rattle.views.specs.declared.runs.defects.TextDefect.TheVariants.{Role}
 use Rattle.hidden_texts.specs.Alike.{DifferInPassword}
 use Rattle.hidden_texts.specs.Hidden.{is_in_password, has_password_below, holds_password, hides_text}
 use Rattle.hidden_texts.proofs.HiddenAlike.{one, passwords_one, texts_one}
-use Rattle.hidden_texts.proofs.ShownAlike.{runs_one, holders_one, sents_one, supports_one, textless, without_runs}
+use Rattle.hidden_texts.proofs.ShownAlike.{runs_one, holders_one, sents_one, supports_one, textless, without_runs, and_false}
 use Rattle.read.specs.Asked.{told_of, shows_text}
 use Rattle.read.specs.Laws.{DifferInTyping, TypingReadsTheSame}
 use Rattle.read.specs.Lines.{read_text}
@@ -39,20 +39,6 @@ use Rattle.read.specs.NoText.{no_text_line}
 use Rattle.read.specs.Shown.{further, count_before, shown_index, shown_text}
 use Rattle.read.proofs.Muted.{mute, characters_cut, words_cut, lines_found, last_line, counted_before, nearest, between, one as same_of}
 use Rattle.read.proofs.ReadAlike.{IsReadAlike, read_same}
-
--- ---- small cases
-
-left_false : (a b : Bool) → (a || b) ≡ false → a ≡ false
-left_false true b e = cc
-left_false false b e = refl
-
-right_false : (a b : Bool) → (a || b) ≡ false → b ≡ false
-right_false true b e = cc
-right_false false b e = e
-
-and_false : (a b : Bool) → (a && b) ≡ false → a ≡ true → b ≡ false
-and_false true b e h = e
-and_false false b e h = cc
 
 first_false : (a b : Bool) → (a && b) ≡ false → b ≡ true → a ≡ false
 first_false true b e h = sym h ∙ e
@@ -291,11 +277,11 @@ module _ (p : FullNodeId) (w v : World) (formed : IsFormed w) (differ : DifferIn
 
   module _ (id : FullNodeId) (seen : hides_text w id ≡ false) where
     outside : is_in_password w id ≡ false
-    outside = left_false (is_in_password w id) (holds_password w id) seen
+    outside = (or_parts (is_in_password w id) (holds_password w id) seen).0
 
     by_runs : id ≢ p → (b : Bool) → has_runs w id (sent_runs w id) ≡ b → AreAlikeAt w v id
     by_runs other true e =
-        let none : has_password_below w id ≡ false = and_false (has_runs w id (sent_runs w id)) (has_password_below w id) (right_false (is_in_password w id) (holds_password w id) seen) e in
+        let none : has_password_below w id ≡ false = and_false (has_runs w id (sent_runs w id)) (has_password_below w id) (or_parts (is_in_password w id) (holds_password w id) seen).1 e in
         record { printed = told_apart p w v formed typed id other outside none; supported = supported_apart p w v formed typed id other outside none }
     by_runs other false e = record { printed = told_textless p w v formed typed id other outside e; supported = supported_textless p w v formed typed id other outside e }
 

@@ -1,5 +1,6 @@
 -- A masked password is one text in all worlds of its shape.
 use Rattle.std.proofs.Common.{◌≡◌, ℕ, Bool, true, false, List, [], ◌∷◌, length, map, replicate, Option, Some, None, refl, sym, ap, ◌∙◌}
+use Rattle.std.proofs.lemmas.Bool.{and_parts}
 use Rattle.std.specs.Prelude.{is_some, not, ◌&&◌, if◌then◌else◌, zip, option_map}
 use Rattle.std.specs.Option.{option_or}
 use Rattle.model.specs.declared.FullNodeId.{FullNodeId}
@@ -81,13 +82,9 @@ one_text p w v e =
 
 -- ---- its value
 
-both_first : (a b : Bool) → (a && b) ≡ true → a ≡ true
-both_first true b e = refl
-both_first false b e = cc
-
-masked_is_password : (w : World) (p : FullNodeId) → needs_masking w p ≡ true → is_password w p ≡ true
+pub masked_is_password : (w : World) (p : FullNodeId) → needs_masking w p ≡ true → is_password w p ≡ true
 unfolding needs_masking
-masked_is_password w p e = both_first (is_password w p) _ e
+masked_is_password w p e = (and_parts (is_password w p) _ e).0
 
 abbrev pub value_by : Bool → Bool → List ℕ → Option (List ℕ)
 value_by given multiline doc = if given then Some doc else (if not multiline then Some doc else None)
