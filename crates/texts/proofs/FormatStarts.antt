@@ -190,10 +190,34 @@ module _ (root : Run) (run : Run) (same : text_root_of run ≡ text_root_of root
       step_back b is ∙ ap (λ x. cond x (Some (number_in run)) (last_run (text_around root) (number_in run) starts)) e
       ∙ ap (λ k. last_run (text_around root) k starts) (sym (number_previous run s before))
 
--- ---- moves
+-- ---- how far a search has come
 
 pub at_start_from : (t : FlatText) (number from : ℕ) (test : ℕ → Bool) → first_run t from test ≡ Some number → start_at number ≡ start_from t from test
 at_start_from t number from test found = sym (ap (λ o. option_map_or start_at o (document_end t)) found)
+
+-- forwards, no format begins after one run up to the other
+pub record IsSoughtFrom (start run : Run) : Type 0 where
+  pub same : text_root_of run ≡ text_root_of start
+  pub sought : search_after start (number_in start) ≡ search_after start (number_in run)
+
+-- backwards, none begins from one run down to after the other
+pub record IsSoughtUpTo (start run : Run) : Type 0 where
+  pub same : text_root_of run ≡ text_root_of start
+  pub sought : search_upto start (number_in start) ≡ search_upto start (number_in run)
+
+module _ (start run s : Run) (b : Bool) where
+  pub sought_next : IsSoughtFrom start run → IsAfter run s → b ≡ begins_format (text_around s) (number_in s) → b ≡ false → IsSoughtFrom start s
+  sought_next way after is e = record { same = after.root ∙ way.same; sought = way.sought ∙ starts_later start run way.same s after b is e }
+
+  pub found_next : IsSoughtFrom start run → IsAfter run s → b ≡ begins_format (text_around s) (number_in s) → b ≡ true
+      → start_at (number_in s) ≡ start_from (text_around start) (number_in start + 1) (begins_format (text_around start))
+  found_next way after is e =
+      at_start_from (text_around start) (number_in s) (number_in start + 1) (begins_format (text_around start)) (way.sought ∙ starts_at_next start run way.same s after b is e)
+
+  pub sought_previous : IsSoughtUpTo start run → IsPreviousRun run s → b ≡ begins_format (text_around run) (number_in run) → b ≡ false → IsSoughtUpTo start s
+  sought_previous way before is e = record { same = before.root ∙ way.same; sought = way.sought ∙ started_before start run way.same b is e s before }
+
+-- ---- moves
 
 pub at_no_start : (t : FlatText) (from : ℕ) (test : ℕ → Bool) → first_run t from test ≡ None → document_end t ≡ start_from t from test
 at_no_start t from test found = sym (ap (λ o. option_map_or start_at o (document_end t)) found)

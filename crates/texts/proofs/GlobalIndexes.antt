@@ -3,7 +3,7 @@ use Rattle.std.proofs.Common.{◌≡◌, ℕ, zero, suc, ◌+◌, ◌-◌, ◌^�
 use Rattle.std.specs.Prelude.{◌==◌, nat_lt, Some, None, option_map, if◌then◌else◌, slice_get, sum_by}
 use Rattle.std.specs.Option.{option_or, option_map_or}
 use Rattle.std.proofs.Math.Seq.{take-append-add}
-use Rattle.std.proofs.lemmas.Bool.{ltb-true, lt-ltb, eqb-true}
+use Rattle.std.proofs.lemmas.Bool.{eqb-true, le-ltb, lt-ltb, ltb-true}
 use Rattle.std.proofs.lemmas.List.{take-append-le}
 use Rattle.std.proofs.lemmas.List.Sums.{sum_by-cons, sum_by-append, sum_by-take-le}
 use Rattle.std.proofs.lemmas.Option.{get_or_from_slice_get, slice_get_within}
@@ -29,13 +29,6 @@ use Rattle.texts.specs.GlobalIndexes.{unit_len, IsCut, length_to, length_of}
 use Rattle.texts.proofs.FlatRuns.{sent_at_number, shown_at_number, count_at_number, runs_counted, first_number, last_number, number_next, number_previous}
 use Rattle.texts.proofs.TextEnds.{at_document_end}
 use Rattle.texts.proofs.UnitCounts.{run_le_bytes}
-
-not_lt : (a b : ℕ) → b ≤ a → nat_lt a b ≡ false
-not_lt a b h = go (nat_lt a b) refl
-  where
-    go : (x : Bool) → nat_lt a b ≡ x → nat_lt a b ≡ false
-    go true e = absurd (let less : a < b = ltb-true a b e in omega (arith, less, h))
-    go false e = e
 
 -- ---- up to a place in a run
 
@@ -72,7 +65,7 @@ module _ (len : List ℕ → ℕ) (t : FlatText) where
       let less : offset t q < total t = omega (arith, up, within, start_next t r, start_at_end t) in
       let found : holder_of len t g ≡ Some (offset t q) =
       first_is (total t) 0 (offset t q) (holds g) (omega arith) less (lt-ltb g (length_before len t (offset t q + 1)) high)
-      (λ k a b. not_lt g (length_before len t (k + 1)) (omega (arith, low, before_rises len t (k + 1) (offset t q) (omega (arith, b)) (omega (arith, less, total_is t))))) in
+      (λ k a b. le-ltb g (length_before len t (k + 1)) (omega (arith, low, before_rises len t (k + 1) (offset t q) (omega (arith, b)) (omega (arith, less, total_is t))))) in
       ap (λ o. option_or (option_map (start_side t) o) (if g == length_before len t (total t) then Some (document_end t) else None)) found
       ∙ ap Some (start_side_is t q (record { run = h; within = λ m. within; index = omega (arith, within) }))
 
@@ -80,7 +73,7 @@ module _ (len : List ℕ → ℕ) (t : FlatText) where
   past_all g h =
       let none : holder_of len t g ≡ None =
       first_is_none (total t) 0 (holds g) (omega arith)
-      (λ k a b. not_lt g (length_before len t (k + 1)) (omega (arith, h, before_rises len t (k + 1) (total t) (omega (arith, b)) (omega (arith, total_is t))))) in
+      (λ k a b. le-ltb g (length_before len t (k + 1)) (omega (arith, h, before_rises len t (k + 1) (total t) (omega (arith, b)) (omega (arith, total_is t))))) in
       ap (λ o. option_or (option_map (start_side t) o) (if g == length_before len t (total t) then Some (document_end t) else None)) none
 
   pub position_at_end : (g : ℕ) → g ≡ length_before len t (total t) → position_of len t g ≡ Some (document_end t)

@@ -1,11 +1,11 @@
 -- The lines of a text, one after another.
 use Rattle.std.proofs.Common.{◌≡◌, ℕ, zero, suc, ◌+◌, ◌-◌, ◌<◌, ◌≤◌, Bool, true, false, cond, List, [], ◌∷◌, length, drop, get_or, Some, refl, sym, ap, subst, ◌∙◌, arith, add-one}
 use Rattle.std.specs.Prelude.{None, ◌==◌, ◌&&◌, nat_lt, filter, zip, slice_get, Option, option_map, if◌then◌else◌}
-use Rattle.std.specs.Option.{option_or}
+use Rattle.std.specs.Option.{option_or, option_map_or}
 use Rattle.std.proofs.Math.Seq.{drop-cons}
 use Rattle.std.proofs.Math.ListN.{drop_of_length-le}
-use Rattle.std.proofs.lemmas.Bool.{ltb-true, ltb-false, lt-ltb, le-ltb}
-use Rattle.std.proofs.lemmas.Option.{same_Some}
+use Rattle.std.proofs.lemmas.Bool.{ltb-true, ltb-false, lt-ltb, le-ltb, le-leb, eq-eqb}
+use Rattle.std.proofs.lemmas.Option.{same_Some, slice_get_past}
 use Rattle.std.proofs.lemmas.List.FromFn.{get_or-range_with_len, length-range_with_len}
 use Rattle.model.specs.FlatText.{FlatText, Position, run_numbers, count_in, total, start_of, start_at, end_at, document_end, first_run, begins_line, ends_line, lines}
 use Rattle.model.specs.Moves.{has_caret_line}
@@ -121,3 +121,22 @@ module _ (t : FlatText) where
   pub line_is_there : (k s b : ℕ) → slice_get (lines t) k ≡ Some (s, b) → Some (let r : Range = record { start = start_at s; end = end_at t b } in r) ≡ range_of_line t k
   line_is_there k s b e =
       sym (ap (λ o. option_map as_range (option_or (option_map (λ (l : ℕ × ℕ). (start_at l.0, end_at t l.1)) o) (caret (k == length (lines t) && has_caret_line t)))) e)
+
+  abbrev last_has_some : Option (ℕ × ℕ) → Bool
+  last_has_some o = option_map_or (λ (l : ℕ × ℕ). nat_lt (start_of t l.0) (total t)) o false
+
+  -- past the last line, a caret, if there are several lines and the last one isn't empty
+  pub caret_is_there : (line k s b : ℕ) → length (lines t) ≡ line + 1 → slice_get (lines t) line ≡ Some (s, b) → 1 ≤ line → line < k → k ≤ line + 1 →
+      (if nat_lt (start_of t s) (total t) then Some (let r : Range = record { start = document_end t; end = document_end t } in r) else None) ≡ range_of_line t k
+  caret_is_there line k s b size last several past upto =
+      let here : k ≡ length (lines t) = omega (arith, size, past, upto) in
+      let back : length (lines t) - 1 ≡ line = omega (arith, size) in
+      mapped (nat_lt (start_of t s) (total t))
+      ∙ sym (ap (λ o. option_map as_range (option_or (option_map (λ (l : ℕ × ℕ). (start_at l.0, end_at t l.1)) o) (caret (k == length (lines t) && has_caret_line t)))) (slice_get_past (lines t) k (omega (arith, here)))
+      ∙ ap (λ c. option_map as_range (caret (c && has_caret_line t))) (eq-eqb k (length (lines t)) here)
+      ∙ ap (λ c. option_map as_range (caret (c && last_has_some (slice_get (lines t) (length (lines t) - 1))))) (le-leb 2 (length (lines t)) (omega (arith, size, several)))
+      ∙ ap (λ o. option_map as_range (caret (last_has_some o))) (ap (slice_get (lines t)) back ∙ last))
+    where
+      mapped : (c : Bool) → (if c then Some (as_range (document_end t, document_end t)) else None) ≡ option_map as_range (caret c)
+      mapped true = refl
+      mapped false = refl

@@ -27,12 +27,6 @@ module _ (p : TextPosition) (n : ℕ) (counted : n ≡ said_count (sent_of p.run
   at_count : n ≡ count_in (position_text p) (number_in p.run)
   at_count = counted ∙ sym (count_at_number p.run)
 
-  pub off_end : (b : Bool) → (p.index ≡ n → ⊥) → false ≡ (p.index == count_in (position_text p) (number_in p.run) && b)
-  off_end b apart = sym (ap (λ c. c && b) (differs p.index (count_in (position_text p) (number_in p.run)) (λ e. apart (e ∙ sym at_count))))
-
-  pub on_end : (b : Bool) → p.index ≡ n → b ≡ (p.index == count_in (position_text p) (number_in p.run) && b)
-  on_end b e = sym (ap (λ c. c && b) (eq-eqb p.index (count_in (position_text p) (number_in p.run)) (e ∙ at_count)))
-
   in_last_run : (b : Bool) → b ≡ (number_in p.run + 1 == length (position_text p)) → b ≡ true → (p.index == n) ≡ is_document_end (position_text p) (flat_position p)
   in_last_run b is last =
       let at : number_in p.run ≡ length (position_text p) - 1 = (let e = eqb-true (number_in p.run + 1) (length (position_text p)) (sym is ∙ last) in omega (arith, e)) in

@@ -32,20 +32,23 @@ abbrev pub length_after : Option Run → ℕ
 length_after None = 0
 length_after (Some r) = 1 + length (ids_after r)
 
--- the runs from this one on that were looked at are not the other run
-pub record IsAheadAt (run other n : Run) : Type 0 where
+-- a walk from a run has come to n, and the runs that it has passed are not the other run
+pub record IsOnWay (less upto : ℕ → ℕ → Type 0) (run other n : Run) : Type 0 where
   pub same : text_root_of n ≡ text_root_of run
-  pub past : number_in run < number_in n
-  pub left : number_in run < number_in other → number_in n ≤ number_in other
+  pub past : less (number_in run) (number_in n)
+  pub left : less (number_in run) (number_in other) → upto (number_in n) (number_in other)
 
+-- forwards, and backwards
+abbrev pub IsAheadAt : Run → Run → Run → Type 0
+IsAheadAt = IsOnWay (λ a b. a < b) (λ a b. a ≤ b)
+
+abbrev pub IsBehindAt : Run → Run → Run → Type 0
+IsBehindAt = IsOnWay (λ a b. b < a) (λ a b. b ≤ a)
+
+-- or no run is left on the way
 abbrev pub IsAhead : Run → Run → Option Run → Type 0
 IsAhead run other None = number_in other ≤ number_in run
 IsAhead run other (Some n) = IsAheadAt run other n
-
-pub record IsBehindAt (run other b : Run) : Type 0 where
-  pub same : text_root_of b ≡ text_root_of run
-  pub short : number_in b < number_in run
-  pub left : number_in other < number_in run → number_in other ≤ number_in b
 
 abbrev pub IsBehind : Run → Run → Option Run → Type 0
 IsBehind run other None = number_in run ≤ number_in other
@@ -81,7 +84,7 @@ module _ (run other : Run) (worlds : run_world other ≡ run_world run) (roots :
         go false e = ltb-false _ _ e
     behind_of short left apart (Some b) before = record {
       same = before.root ∙ same;
-      short = (let previous = number_previous r b before in omega (arith, short, previous));
+      past = (let previous = number_previous r b before in omega (arith, short, previous));
       left = λ less. (let le = left less in let ne = apart less in let previous = number_previous r b before in omega (arith, le, ne, previous));
     }
 
@@ -101,7 +104,7 @@ module _ (run other : Run) (worlds : run_world other ≡ run_world run) (roots :
   next_ahead n at apart o next = ahead_of n at.same (let past = at.past in omega (arith, past)) at.left (λ _. number_apart n at.same apart) o next
 
   pub next_behind : (b : Run) → IsBehindAt run other b → run_id b ≢ run_id other → (o : Option Run) → MatchOption o (ids_before b ≡ []) (IsPreviousRun b) → IsBehind run other o
-  next_behind b at apart o previous = behind_of b at.same (let short = at.short in omega (arith, short)) at.left (λ _. number_apart b at.same apart) o previous
+  next_behind b at apart o previous = behind_of b at.same (let past = at.past in omega (arith, past)) at.left (λ _. number_apart b at.same apart) o previous
 
   pub none_ahead : IsAhead run other None → false ≡ nat_lt (number_in run) (number_in other)
   none_ahead le = sym (le-ltb (number_in run) (number_in other) le)
@@ -113,7 +116,7 @@ module _ (run other : Run) (worlds : run_world other ≡ run_world run) (roots :
   met_ahead n at e = sym (lt-ltb (number_in run) (number_in other) (let past = at.past in omega (arith, past, number_is n at.same e)))
 
   pub met_behind : (b : Run) → IsBehindAt run other b → run_id b ≡ run_id other → false ≡ nat_lt (number_in run) (number_in other)
-  met_behind b at e = sym (le-ltb (number_in run) (number_in other) (let short = at.short in omega (arith, short, number_is b at.same e)))
+  met_behind b at e = sym (le-ltb (number_in run) (number_in other) (let past = at.past in omega (arith, past, number_is b at.same e)))
 
 pub less_left : (n : Run) (o : Option Run) → MatchOption o (ids_after n ≡ []) (IsAfter n) → length_after o < length_after (Some n)
 less_left n None none = omega arith

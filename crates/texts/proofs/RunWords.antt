@@ -169,6 +169,26 @@ module _ (p : TextPosition) where
         pub none_previous : None ≡ find (λ v. nat_lt v count) (reverse (words_in (text_around s) (number_in s))) → IsBack t q (number_in s)
         none_previous f = back_previous t (text_is_whole p) q (number_in r) back (number_in s) (number_previous r s before) inside (begun_here ∙ e) (f ∙ words_before)
 
+-- ---- how far a search has come
+
+-- forwards, no word begins after the position up to the end of the run
+pub record IsPastRun (p : TextPosition) (r : Run) : Type 0 where
+  pub same : text_root_of r ≡ root_at p
+  pub past : IsPast (position_text p) (flat_position p) (number_in r)
+
+-- backwards, none begins before the position down to after the start of the run
+pub record IsBackRun (p : TextPosition) (r : Run) : Type 0 where
+  pub same : text_root_of r ≡ root_at p
+  pub back : IsBack (position_text p) (flat_position p) (number_in r)
+
+module _ (p : TextPosition) (r s : Run) (b : Bool) where
+  pub past_run : IsPastRun p r → IsAfter r s → b ≡ begins_paragraph (text_around s) (number_in s) → b ≡ false → None ≡ slice_get (words_in (text_around s) (number_in s)) 0 → IsPastRun p s
+  past_run way after is e none = record { same = after.root ∙ way.same; past = none_next p r way.same s after way.past b is e none }
+
+  pub back_run : IsBackRun p r → IsPreviousRun r s → b ≡ begins_paragraph (text_around r) (number_in r) → b ≡ false → (count : ℕ) → count ≡ said_count (sent_of s)
+      → None ≡ find (λ v. nat_lt v count) (reverse (words_in (text_around s) (number_in s))) → IsBackRun p s
+  back_run way before is e count counted none = record { same = before.root ∙ way.same; back = none_previous p r way.same s before way.back b is e count counted none }
+
 -- a word below a count is within it
 pub below_within : (count w : ℕ) (xs : List ℕ) → Some w ≡ find (λ v. nat_lt v count) xs → w ≤ count
 below_within count w xs e = let l = ltb-true w count (found_passes (λ v. nat_lt v count) xs w e) in omega (arith, l)

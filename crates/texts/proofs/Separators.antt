@@ -1,7 +1,7 @@
 -- The next character, and whether it ends a paragraph.
 use Rattle.std.proofs.Common.{◌≡◌, ℕ, ◌+◌, ◌<◌, ◌≤◌, Bool, true, false, length, refl, sym, ap, ◌∙◌, arith}
 use Rattle.std.specs.Prelude.{◌&&◌, nat_lt, not}
-use Rattle.std.proofs.lemmas.Bool.{ltb-true, ltb-false, lt-ltb}
+use Rattle.std.proofs.lemmas.Bool.{le-ltb, lt-ltb, ltb-false, ltb-true}
 use Rattle.model.specs.TextRuns.{said_count}
 use Rattle.model.specs.FlatText.{FlatText, Position, IsPosition, count_in, start_of, total, offset, biased_to_start, is_paragraph_end, is_document_end, is_paragraph_separator}
 use Rattle.model.specs.Moves.{forward_to_character_end}
@@ -14,13 +14,6 @@ use Rattle.texts.specs.RunNumbers.{number_in}
 use Rattle.texts.specs.Positions.{root_at, node_text, position_text, flat_position, IsPositionAt}
 use Rattle.texts.proofs.FlatRuns.{count_at_number, text_is_whole, is_position}
 use Rattle.texts.proofs.CharacterMoves.{start_of_all}
-
-not_below : (a b : ℕ) → b ≤ a → nat_lt a b ≡ false
-not_below a b le = go (nat_lt a b) refl
-  where
-    go : (c : Bool) → nat_lt a b ≡ c → nat_lt a b ≡ false
-    go true e = absurd (let less : a < b = ltb-true a b e in omega (arith, less, le))
-    go false e = e
 
 module _ (t : FlatText) (whole : IsWhole t) (p : Position) (is : IsPosition t p) where
   abbrev side : Position
@@ -56,7 +49,7 @@ module _ (p b : TextPosition) (at : IsPositionAt (root_at p) (biased_to_start (p
   none_to_separate e =
       let past = none_follows (position_text p) (text_is_whole p) (flat_position p) (is_position p) (sym index_at ∙ e ∙ count_at) in
       sym (ap (λ c. c && (is_paragraph_end (position_text p) (forward_to_character_end (position_text p) (flat_position p)) && not (is_document_end (position_text p) (forward_to_character_end (position_text p) (flat_position p)))))
-      (not_below (offset (position_text p) (flat_position p)) (total (position_text p)) past))
+      (le-ltb (offset (position_text p) (flat_position p)) (total (position_text p)) past))
 
   pub one_to_separate : (b.index ≡ n → ⊥) → offset (position_text p) (flat_position p) < total (position_text p)
   one_to_separate apart =

@@ -5,7 +5,7 @@ use Rattle.std.specs.Option.{option_or}
 use Rattle.std.specs.List.{flat_map}
 use Rattle.std.proofs.Math.Seq.{drop-cons, take-suc}
 use Rattle.std.proofs.Math.ListN.{drop_of_length-le}
-use Rattle.std.proofs.lemmas.Bool.{ltb-true, ltb-false, lt-ltb}
+use Rattle.std.proofs.lemmas.Bool.{le-ltb, lt-ltb, ltb-false, ltb-true}
 use Rattle.std.proofs.lemmas.List.{append-nil, append_assoc, reverse-append, take-append-drop}
 use Rattle.std.proofs.lemmas.List.Folds.{find-append}
 use Rattle.std.proofs.lemmas.List.FromFn.{get_or-range_with_len, length-range_with_len}
@@ -81,13 +81,6 @@ module _ (p : ℕ → Bool) where
         ∙ ap (λ o. option_or o (cond (q x) (Some x) None)) (last_same xs (λ k l. h (suc k) (omega (arith, l))))
         ∙ sym (last_cons q x xs)
 
-not_lt : (a b : ℕ) → b ≤ a → nat_lt a b ≡ false
-not_lt a b h = go (nat_lt a b) refl
-  where
-    go : (x : Bool) → nat_lt a b ≡ x → nat_lt a b ≡ false
-    go true e = absurd (let l : a < b = ltb-true a b e in omega (arith, l, h))
-    go false e = e
-
 same_lt : (a b c d : ℕ) → (a < b → c < d) → (c < d → a < b) → nat_lt a b ≡ nat_lt c d
 same_lt a b c d f g = go (nat_lt a b) refl (nat_lt c d) refl
   where
@@ -153,7 +146,7 @@ module _ (t : FlatText) where
     begun_below k low = go (begins_paragraph t k)
       where
         go : (b : Bool) → find above (if b then start_at k ∷ [] else []) ≡ None
-        go true = ap (λ b. cond b (Some (start_at k)) None) (not_lt o (start_of t k + 0) (omega (arith, low)))
+        go true = ap (λ b. cond b (Some (start_at k)) None) (le-ltb o (start_of t k + 0) (omega (arith, low)))
         go false = refl
 
     in_run : (k : ℕ) → find above (word_marks_in t k) ≡ option_or (find above (begun k)) (option_map (at_index k) (find (λ i. nat_lt o (start_of t k + i)) (words_in t k)))
@@ -171,7 +164,7 @@ module _ (t : FlatText) where
           in_run k
           ∙ ap (λ x. option_or x (option_map (at_index k) (find (λ w. nat_lt o (start_of t k + w)) (words_in t k)))) (begun_below k (omega (arith, low, start_next t k)))
           ∙ ap (option_map (at_index k)) (first_fails (λ w. nat_lt o (start_of t k + w)) (words_in t k)
-          (λ n l. not_lt o (start_of t k + slice_index (words_in t k) n) (let fits = whole.words_within k n l in omega (arith, fits, low, start_next t k))))
+          (λ n l. le-ltb o (start_of t k + slice_index (words_in t k) n) (let fits = whole.words_within k n l in omega (arith, fits, low, start_next t k))))
 
       in_later : (k : ℕ) → o < start_of t k → find above (word_marks_in t k) ≡ slice_get (word_marks_in t k) 0
       in_later k high =
@@ -215,7 +208,7 @@ module _ (t : FlatText) where
     none_begun k high = go (begins_paragraph t k)
       where
         go : (b : Bool) → find_last under (if b then start_at k ∷ [] else []) ≡ None
-        go true = ap (λ b. cond b (Some (start_at k)) None) (not_lt (start_of t k + 0) o (omega (arith, high)))
+        go true = ap (λ b. cond b (Some (start_at k)) None) (le-ltb (start_of t k + 0) o (omega (arith, high)))
         go false = refl
 
     later_run : (k : ℕ) → o ≤ start_of t k → find_last under (word_marks_in t k) ≡ None
@@ -224,7 +217,7 @@ module _ (t : FlatText) where
         ∙ ap (option_or (find_last under (worded k))) (none_begun k high)
         ∙ or_none (find_last under (worded k))
         ∙ last_mapped (at_index k) under (words_in t k)
-        ∙ ap (option_map (at_index k)) (last_fails (λ w. nat_lt (start_of t k + w) o) (words_in t k) (λ n l. not_lt (start_of t k + slice_index (words_in t k) n) o (omega (arith, high))))
+        ∙ ap (option_map (at_index k)) (last_fails (λ w. nat_lt (start_of t k + w) o) (words_in t k) (λ n l. le-ltb (start_of t k + slice_index (words_in t k) n) o (omega (arith, high))))
 
     -- none of the runs from one on has a mark below
     later_fail : (d k : ℕ) → length t ≤ k + d → o ≤ start_of t k → find_last under (marks_from k) ≡ None

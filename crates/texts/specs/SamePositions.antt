@@ -1,8 +1,6 @@
 -- Which positions of texts are equal.
-use Rattle.std.specs.Prelude.{◌≡◌, ℕ, Bool}
-use Rattle.std.specs.Bool.{Decides}
+use Rattle.std.specs.Prelude.{ℕ, Bool}
 use Rattle.std.specs.Coded.{Coded, coded×, coded_ℕ}
-use Rattle.std.specs.Cmp.{IsPartialEquivalence, IsEquivalence, partial_equiv_from_equiv}
 use Rattle.model.specs.declared.FullNodeId.{FullNodeId}
 use Rattle.model.specs.FullIds.{coded_full}
 use Rattle.texts.specs.declared.edges.Edge.{Edge}
@@ -10,7 +8,7 @@ use Rattle.texts.specs.declared.position.TextPosition.{TextPosition}
 use Rattle.views.specs.Nodes.{id_at}
 use Rattle.views.specs.Runs.{run_id}
 use Rattle.texts.specs.Positions.{root_at}
-use Rattle.texts.specs.SameKeys.{same_key, same_key-equivalence, same_key-decides}
+use Rattle.texts.specs.SameKeys.{same_key}
 
 -- what two ends of ranges are compared by: the run and the index
 abbrev pub RangeEnd : Type 0
@@ -33,16 +31,5 @@ abbrev pub coded_key : Coded Key
 coded_key = coded× coded_full coded_end
 
 -- they are equal in all three
-unfoldable pub same_text_position : TextPosition → TextPosition → Bool
+abbrev pub same_text_position : TextPosition → TextPosition → Bool
 same_text_position = same_key coded_key key_of
-
-pub same_text_position_equivalence : IsEquivalence same_text_position
-unfolding same_text_position
-same_text_position_equivalence = same_key-equivalence coded_key key_of
-
-pub same_text_position_laws : IsPartialEquivalence same_text_position
-same_text_position_laws = partial_equiv_from_equiv same_text_position_equivalence
-
-pub same_text_position-decides : (p q : TextPosition) → Decides (same_text_position p q) (key_of p ≡ key_of q)
-unfolding same_text_position
-same_text_position-decides = same_key-decides coded_key key_of

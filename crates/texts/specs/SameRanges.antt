@@ -1,13 +1,11 @@
 -- Which ranges of texts are equal.
-use Rattle.std.specs.Prelude.{◌≡◌, Bool}
-use Rattle.std.specs.Bool.{Decides}
+use Rattle.std.specs.Prelude.{Bool}
 use Rattle.std.specs.Coded.{Coded, coded×}
-use Rattle.std.specs.Cmp.{IsPartialEquivalence, IsEquivalence, partial_equiv_from_equiv}
 use Rattle.model.specs.declared.FullNodeId.{FullNodeId}
 use Rattle.model.specs.FullIds.{coded_full}
 use Rattle.texts.specs.declared.range.TextRange.{TextRange}
 use Rattle.texts.specs.TextRanges.{root_in}
-use Rattle.texts.specs.SameKeys.{same_key, same_key-equivalence, same_key-decides}
+use Rattle.texts.specs.SameKeys.{same_key}
 use Rattle.texts.specs.SamePositions.{RangeEnd, end_of, coded_end}
 
 -- what two ranges are compared by: the root and both ends
@@ -21,16 +19,5 @@ abbrev pub coded_ends : Coded Ends
 coded_ends = coded× coded_full (coded× coded_end coded_end)
 
 -- they are equal in all three
-unfoldable pub same_text_range : TextRange → TextRange → Bool
+abbrev pub same_text_range : TextRange → TextRange → Bool
 same_text_range = same_key coded_ends ends_of
-
-pub same_text_range_equivalence : IsEquivalence same_text_range
-unfolding same_text_range
-same_text_range_equivalence = same_key-equivalence coded_ends ends_of
-
-pub same_text_range_laws : IsPartialEquivalence same_text_range
-same_text_range_laws = partial_equiv_from_equiv same_text_range_equivalence
-
-pub same_text_range-decides : (r s : TextRange) → Decides (same_text_range r s) (ends_of r ≡ ends_of s)
-unfolding same_text_range
-same_text_range-decides = same_key-decides coded_ends ends_of

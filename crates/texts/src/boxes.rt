@@ -59,6 +59,20 @@ fn whole_rect(rect: Rect) -> WideRect
     }
 }
 
+/// The rectangle between two other horizontal coordinates.
+fn across(rect: WideRect, x0: i128, x1: i128) -> WideRect
+    ensures { result ≡ record rect { x0 = x0; x1 = x1 } }
+{
+    WideRect { x0, x1, ..rect }
+}
+
+/// The rectangle between two other vertical coordinates.
+fn down(rect: WideRect, y0: i128, y1: i128) -> WideRect
+    ensures { result ≡ record rect { y0 = y0; y1 = y1 } }
+{
+    WideRect { y0, y1, ..rect }
+}
+
 /// The part of a rectangle between two distances along it.
 fn cut_along(direction: TextDirection, rect: Rect, from: i128, to: i128) -> WideRect
     requires starts { IsAlong 2 from }
@@ -68,26 +82,10 @@ fn cut_along(direction: TextDirection, rect: Rect, from: i128, to: i128) -> Wide
 {
     let whole = whole_rect(rect);
     match direction {
-        TextDirection::LeftToRight => WideRect {
-            x0: past(rect.x0, from),
-            x1: past(rect.x0, to),
-            ..whole
-        },
-        TextDirection::RightToLeft => WideRect {
-            x0: before(rect.x1, to),
-            x1: before(rect.x1, from),
-            ..whole
-        },
-        TextDirection::TopToBottom => WideRect {
-            y0: past(rect.y0, from),
-            y1: past(rect.y0, to),
-            ..whole
-        },
-        TextDirection::BottomToTop => WideRect {
-            y0: before(rect.y1, to),
-            y1: before(rect.y1, from),
-            ..whole
-        },
+        TextDirection::LeftToRight => across(whole, past(rect.x0, from), past(rect.x0, to)),
+        TextDirection::RightToLeft => across(whole, before(rect.x1, to), before(rect.x1, from)),
+        TextDirection::TopToBottom => down(whole, past(rect.y0, from), past(rect.y0, to)),
+        TextDirection::BottomToTop => down(whole, before(rect.y1, to), before(rect.y1, from)),
     }
 }
 

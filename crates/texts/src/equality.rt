@@ -1,7 +1,8 @@
 //! Equality of positions and ranges.
 ghost use Rattle.std.specs.Prelude.{◌≡◌, ◌↔◌, IsTrue};
-ghost use Rattle.texts.specs.SamePositions.{end_of, key_of, same_text_position, same_text_position_laws, same_text_position_equivalence};
-ghost use Rattle.texts.specs.SameRanges.{ends_of, same_text_range, same_text_range_laws, same_text_range_equivalence};
+ghost use Rattle.texts.specs.SameKeys.{same_key-laws, same_key-equivalence};
+ghost use Rattle.texts.specs.SamePositions.{end_of, key_of, coded_key, same_text_position};
+ghost use Rattle.texts.specs.SameRanges.{ends_of, coded_ends, same_text_range};
 
 use crate::edges::Edge;
 use crate::position::TextPosition;
@@ -29,7 +30,7 @@ impl TextPosition<'_> {
 impl PartialEq for TextPosition<'_> {
     ghost eq = { same_text_position };
 
-    ghost laws = { same_text_position_laws };
+    ghost laws = { same_key-laws coded_key key_of };
 
     fn eq(&self, other: &TextPosition<'_>) -> bool
         ensures value { result ≡ same_text_position self.now other.now }
@@ -40,7 +41,7 @@ impl PartialEq for TextPosition<'_> {
 }
 
 impl Eq for TextPosition<'_> {
-    ghost laws = { same_text_position_equivalence };
+    ghost laws = { same_key-equivalence coded_key key_of };
 }
 
 impl TextRange<'_> {
@@ -57,7 +58,7 @@ impl TextRange<'_> {
 impl PartialEq for TextRange<'_> {
     ghost eq = { same_text_range };
 
-    ghost laws = { same_text_range_laws };
+    ghost laws = { same_key-laws coded_ends ends_of };
 
     fn eq(&self, other: &TextRange<'_>) -> bool
         ensures value { result ≡ same_text_range self.now other.now }
@@ -68,5 +69,5 @@ impl PartialEq for TextRange<'_> {
 }
 
 impl Eq for TextRange<'_> {
-    ghost laws = { same_text_range_equivalence };
+    ghost laws = { same_key-equivalence coded_ends ends_of };
 }

@@ -1,6 +1,6 @@
 //! Tests of a position, and its parts.
-ghost use Rattle.std.specs.Prelude.{◌≡◌, Some, slice_get, option_map};
-ghost use Rattle.model.specs.FlatText.{is_line_start, is_line_end, is_document_start, is_document_end, is_page_start, is_paragraph_start, is_paragraph_end, is_paragraph_separator};
+ghost use Rattle.std.specs.Prelude.{◌≡◌, ◌==◌, Some, slice_get, option_map};
+ghost use Rattle.model.specs.FlatText.{count_in, is_line_start, is_line_end, is_document_start, is_document_end, is_page_start, is_paragraph_start, is_paragraph_end, is_paragraph_separator};
 ghost use Rattle.model.specs.Ranges.{IsRaw};
 ghost use Rattle.views.specs.Nodes.{world_at, id_at};
 ghost use Rattle.texts.specs.Positions.{root_at, position_text, flat_position};
@@ -40,12 +40,19 @@ impl<'a> TextPosition<'a> {
         position.index == 0 && begins_line(position.run)
     }
 
+    /// Whether the position is at the end of its run.
+    fn is_at_run_end(self) -> bool
+        ensures { let p = flat_position self.entry in result ≡ (p.index == count_in (position_text self.entry) p.run) }
+    {
+        self.index == self.run.character_count()
+    }
+
     /// Whether a line ends at the position.
     pub fn is_line_end(&self) -> bool
         ensures { result ≡ is_line_end (position_text self.now) (flat_position self.now) }
     {
         let position = *self;
-        position.index == position.run.character_count() && ends_line(position.run)
+        position.is_at_run_end() && ends_line(position.run)
     }
 
     /// Whether the text starts at the position.
@@ -84,7 +91,7 @@ impl<'a> TextPosition<'a> {
         ensures { result ≡ is_paragraph_end (position_text self.now) (flat_position self.now) }
     {
         let position = *self;
-        position.index == position.run.character_count() && ends_paragraph(position.run)
+        position.is_at_run_end() && ends_paragraph(position.run)
     }
 
     /// Whether the next character ends a paragraph that isn't the last one.

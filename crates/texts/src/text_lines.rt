@@ -96,28 +96,6 @@ impl<'a> TextLines<'a> {
         }
     }
 
-    /// The first run of the line found.
-    fn first_run(self) -> Run<'a>
-        ensures root { text_root_of result ≡ self.entry.root }
-        ensures spot { result.spot ≡ self.entry.first }
-    {
-        Run {
-            root: self.root,
-            spot: self.first,
-        }
-    }
-
-    /// The last run of the line found.
-    fn last_run(self) -> Run<'a>
-        ensures root { text_root_of result ≡ self.entry.root }
-        ensures spot { result.spot ≡ self.entry.last }
-    {
-        Run {
-            root: self.root,
-            spot: self.last,
-        }
-    }
-
     /// The line with this number, or the last one if there are fewer lines.
     fn nearest(self, index: usize) -> TextLines<'a>
         ensures same { lines_root result ≡ lines_root self.entry }
@@ -129,7 +107,7 @@ impl<'a> TextLines<'a> {
             self
         };
         while found.line < index {
-            let Some(next) = found.last_run().next() else {
+            let Some(next) = run_at(found.root, found.last).next() else {
                 return found;
             };
             found = TextLines::beginning(next, found.line + 1);
@@ -145,8 +123,19 @@ impl<'a> TextLines<'a> {
             IsRangeFound (world_at root) (id_at root) range result }
     {
         if self.line < index {
-            return range_past(self.first_run(), self.line, index);
+            return range_past(run_at(self.root, self.first), self.line, index);
         }
-        Some(range_to(self.first_run(), self.last_run()))
+        let first = run_at(self.root, self.first);
+        let last = run_at(self.root, self.last);
+        Some(range_to(first, last))
     }
+}
+
+/// The run of a root's text at a place.
+fn run_at<'a>(root: NodeRef<'a>, spot: Spot<'a>) -> Run<'a>
+    requires { IsRunPlace (world_at root) (id_at root) spot }
+    ensures root { text_root_of result ≡ root.entry }
+    ensures spot { result.spot ≡ spot.entry }
+{
+    Run { root, spot }
 }

@@ -135,6 +135,7 @@ impl<'a> TextPosition<'a> {
     }
 
     /// The start of the next word or paragraph, or the end of the text if there isn't one.
+    #[tactic(auto, using(crate::proofs::RunWords::start_stays))]
     pub fn forward_to_word_start(&self) -> TextPosition<'a>
         ensures moved { IsMoved forward_to_word_start self.now result }
         ensures secret { IsMovedInEach forward_to_word_start self.now result }
@@ -152,6 +153,7 @@ impl<'a> TextPosition<'a> {
     }
 
     /// The start of the previous word or paragraph, or the start of the text if there isn't one.
+    #[tactic(auto, using(crate::proofs::RunWords::end_stays))]
     pub fn backward_to_word_start(&self) -> TextPosition<'a>
         ensures moved { IsMoved backward_to_word_start self.now result }
         ensures secret { IsMovedInEach backward_to_word_start self.now result }

@@ -1,9 +1,6 @@
-use Rattle.std.proofs.Common.{◌≡◌, ◌-◌, [], sym, subst, ◌∙◌, arith}
-use Rattle.std.specs.Prelude.{MatchOption}
-use Rattle.model.specs.TextRuns.{run_ids}
-use Rattle.views.specs.Nodes.{world_at, id_at}
+use Rattle.std.proofs.Common.{◌-◌, sym, ◌∙◌, arith}
 use Rattle.views.specs.Runs.{IsFirstOf}
-use Rattle.texts.proofs.TextEnds.{some_run}
+use Rattle.texts.proofs.TextEnds.{run_found, some_run}
 use Rattle.texts.proofs.GlobalIndexes.{is_cut_in, none_before, one_on, all_before, held, held_by_end, held_by_none}
 use Rattle.texts.proofs.indexes.position_from.Goals as goal
 
@@ -12,9 +9,8 @@ unwrap-run-requires c = some_run (IsFirstOf c.args.root) c.args.root c.first.res
 
 pub loop-left-init : goal.loop-left-init
 loop-left-init c =
-    let n = c.args.root in
-    let first : IsFirstOf n c.unwrap-run.result = subst (λ o. MatchOption o (run_ids (world_at n) (id_at n) ≡ []) (IsFirstOf n)) c.unwrap-run.ensures c.first.ensures in
-    let none = none_before c.args.units n c.needs_masking-masked.result c.needs_masking-masked.ensures c.unwrap-run.result first.order in
+    let first = run_found IsFirstOf c.args.root c.first.result c.unwrap-run.result c.first.ensures c.unwrap-run.ensures in
+    let none = none_before c.args.units c.args.root c.needs_masking-masked.result c.needs_masking-masked.ensures c.unwrap-run.result first.order in
     record { same = first.root; summed = omega (arith, none) }
 
 pub count_run-count-requires : goal.count_run-count-requires

@@ -1,6 +1,5 @@
-use Rattle.std.proofs.Common.{◌≡◌, [], Some, sym, ap, subst, ◌∙◌, arith}
-use Rattle.std.specs.Prelude.{MatchOption, slice_get}
-use Rattle.model.specs.TextRuns.{run_ids}
+use Rattle.std.proofs.Common.{◌≡◌, Some, sym, ap, ◌∙◌, arith}
+use Rattle.std.specs.Prelude.{slice_get}
 use Rattle.model.specs.FlatText.{lines, start_at, end_at}
 use Rattle.model.specs.Ranges.{Range}
 use Rattle.views.specs.Nodes.{world_at, id_at}
@@ -8,7 +7,7 @@ use Rattle.views.specs.Runs.{IsFirstOf}
 use Rattle.texts.specs.RunNumbers.{number_in}
 use Rattle.texts.specs.Positions.{node_text}
 use Rattle.texts.proofs.RunSteps.{ended, went_on}
-use Rattle.texts.proofs.TextEnds.{some_run}
+use Rattle.texts.proofs.TextEnds.{run_found, some_run}
 use Rattle.texts.proofs.LineRanges.{line_is_there}
 use Rattle.texts.proofs.LineSteps.{at_first_line, line_rises, line_there, no_more_lines, last_line, next_at_line, fewer_left}
 use Rattle.texts.proofs.line_ranges.line_range_of.Goals as goal
@@ -18,9 +17,8 @@ unwrap-first-requires c = some_run (IsFirstOf c.args.root) c.args.root c.first.r
 
 pub loop-line-init : goal.loop-line-init
 loop-line-init c =
-    let n = c.args.root in
-    let first : IsFirstOf n c.unwrap-first.result = subst (λ o. MatchOption o (run_ids (world_at n) (id_at n) ≡ []) (IsFirstOf n)) c.unwrap-first.ensures c.first.ensures in
-    record { at = at_first_line n c.requires c.unwrap-first.result first; upto = omega arith }
+    let first = run_found IsFirstOf c.args.root c.first.result c.unwrap-first.result c.first.ensures c.unwrap-first.ensures in
+    record { at = at_first_line c.args.root c.requires c.unwrap-first.result first; upto = omega arith }
 
 pub range_to-requires-clause-order : goal.range_to-requires-clause-order
 range_to-requires-clause-order c =

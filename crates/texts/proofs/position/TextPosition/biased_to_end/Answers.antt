@@ -1,28 +1,14 @@
-use Rattle.std.proofs.Common.{refl, sym, ap, ◌∙◌}
-use Rattle.model.specs.FlatText.{count_in, end_at}
-use Rattle.texts.specs.RunNumbers.{number_in}
-use Rattle.texts.specs.Positions.{node_text, position_text, flat_position}
-use Rattle.texts.proofs.FlatRuns.{count_at_number, first_number, number_previous}
-use Rattle.texts.proofs.CharacterMoves.{same_place, stays_past_start, stays_first, goes_to_previous}
+use Rattle.model.specs.FlatText.{biased_to_end}
+use Rattle.texts.proofs.FlatRuns.{first_number}
+use Rattle.texts.proofs.TextEnds.{stays, goes_back}
+use Rattle.texts.proofs.CharacterMoves.{stays_past_start, stays_first}
 use Rattle.texts.proofs.position.TextPosition.biased_to_end.Goals as goal
 
 pub returns-then-position-ne0 : goal.returns-then-position-ne0
-returns-then-position-ne0 c =
-    let p = c.args.self.now in
-    record { same = refl; at = sym (stays_past_start (position_text p) (flat_position p) c.if-position-ne0.true) }
+returns-then-position-ne0 c = stays biased_to_end c.args.self.now (stays_past_start _ _ c.if-position-ne0.true)
 
 pub returns-in_default : goal.returns-in_default
-returns-in_default c =
-    let p = c.args.self.now in
-    record { same = refl; at = sym (stays_first (position_text p) (flat_position p) (first_number p.run c.in_default.ensures)) }
+returns-in_default c = stays biased_to_end c.args.self.now (stays_first _ _ (first_number c.args.self.now.run c.in_default.ensures))
 
 pub returns : goal.returns
-returns c =
-    let p = c.args.self.now in
-    let s = c.in-Some.previous in
-    record {
-      same = c.in-Some.ensures.root;
-      at = sym (goes_to_previous (position_text p) (flat_position p) (number_in s) c.if-position-ne0.false (number_previous p.run s c.in-Some.ensures)
-          ∙ sym (same_place (end_at (position_text p) (number_in s)) (number_in s) c.character_count.result refl
-          (c.character_count.ensures ∙ sym (count_at_number s) ∙ ap (λ n. count_in (node_text n) (number_in s)) c.in-Some.ensures.root)));
-    }
+returns c = goes_back c.args.self.now _ c.in-Some.ensures c.if-position-ne0.false c.character_count.ensures

@@ -3,7 +3,7 @@ use Rattle.model.specs.FlatText.{begins_format}
 use Rattle.texts.specs.RunNumbers.{number_in}
 use Rattle.texts.specs.Positions.{position_text}
 use Rattle.texts.proofs.TextEnds.{at_start_before}
-use Rattle.texts.proofs.FormatStarts.{started_here, started_before}
+use Rattle.texts.proofs.FormatStarts.{started_here, sought_previous}
 use Rattle.texts.proofs.position.TextPosition.start_of_format.Goals as goal
 
 pub returns-then-begins_format_after : goal.returns-then-begins_format_after
@@ -19,10 +19,4 @@ returns-then-begins_format_after c =
 
 pub loop-previous-preserved : goal.loop-previous-preserved
 loop-previous-preserved c =
-    let p = c.args.self in
-    let r = c.loop-previous.run in
-    let loop = c.loop-previous.invariant in
-    record {
-      same = c.in-Some.ensures.root ∙ loop.same;
-      sought = loop.sought ∙ started_before p.run r loop.same c.begins_format_after.result c.begins_format_after.ensures c.if-begins_format_after.false c.in-Some.previous c.in-Some.ensures;
-    }
+    sought_previous c.args.self.run c.loop-previous.run c.in-Some.previous c.begins_format_after.result c.loop-previous.invariant c.in-Some.ensures c.begins_format_after.ensures c.if-begins_format_after.false

@@ -5,7 +5,7 @@ use Rattle.texts.specs.RunNumbers.{number_in, text_around}
 use Rattle.texts.specs.Positions.{position_text, flat_position}
 use Rattle.texts.proofs.FlatRuns.{text_is_whole}
 use Rattle.texts.proofs.WordMarks.{word_after_found, none_after_found}
-use Rattle.texts.proofs.RunWords.{on_start, word_within, first_within, last_run_past, paragraph_next, word_next, none_next, text_there}
+use Rattle.texts.proofs.RunWords.{on_start, word_within, first_within, last_run_past, paragraph_next, word_next, past_run, text_there}
 use Rattle.texts.proofs.position.TextPosition.word_after.Goals as goal
 
 pub invariant_of-result : goal.invariant_of-result
@@ -64,9 +64,5 @@ returns-in-Some-first c =
 
 pub loop-next-preserved : goal.loop-next-preserved
 loop-next-preserved c =
-    let loop = c.loop-next.invariant in
-    record {
-      same = c.in-Some-next.ensures.root ∙ loop.same;
-      past = none_next c.args.self c.loop-next.run loop.same c.in-Some-next.next c.in-Some-next.ensures loop.past c.begins_after.result c.begins_after.ensures c.if-begins_after.false
-          (c.in_default-first.ensures.value ∙ ap (λ xs. slice_get xs 0) c.shown_words-in-loop-next.ensures);
-    }
+    past_run c.args.self c.loop-next.run c.in-Some-next.next c.begins_after.result c.loop-next.invariant c.in-Some-next.ensures c.begins_after.ensures c.if-begins_after.false
+    (c.in_default-first.ensures.value ∙ ap (λ xs. slice_get xs 0) c.shown_words-in-loop-next.ensures)

@@ -2,7 +2,7 @@ use Rattle.std.proofs.Common.{nat_lt, find, reverse, refl, ap, ◌∙◌, arith}
 use Rattle.texts.specs.Positions.{position_text, flat_position}
 use Rattle.texts.proofs.FlatRuns.{text_is_whole}
 use Rattle.texts.proofs.WordMarks.{word_before_found, none_before_found}
-use Rattle.texts.proofs.RunWords.{on_end, below_within, word_previous, none_previous, text_there}
+use Rattle.texts.proofs.RunWords.{on_end, below_within, word_previous, back_run, text_there}
 use Rattle.texts.proofs.position.TextPosition.word_before.Goals as goal
 
 pub invariant_of-result : goal.invariant_of-result
@@ -45,10 +45,5 @@ returns-in-Some-last_below c =
 
 pub loop-previous-preserved : goal.loop-previous-preserved
 loop-previous-preserved c =
-    let loop = c.loop-previous.invariant in
-    record {
-      same = c.in-Some-previous.ensures.root ∙ loop.same;
-      back = none_previous c.args.self c.loop-previous.run loop.same c.in-Some-previous.previous c.in-Some-previous.ensures loop.back c.begins_after.result c.begins_after.ensures c.if-begins_after.false
-          c.character_count.result c.character_count.ensures
-          (c.in_default-last_below.ensures ∙ ap (λ xs. find (λ k. nat_lt k c.character_count.result) (reverse xs)) c.shown_words-in-loop-previous.ensures);
-    }
+    back_run c.args.self c.loop-previous.run c.in-Some-previous.previous c.begins_after.result c.loop-previous.invariant c.in-Some-previous.ensures c.begins_after.ensures c.if-begins_after.false
+    c.character_count.result c.character_count.ensures (c.in_default-last_below.ensures ∙ ap (λ xs. find (λ k. nat_lt k c.character_count.result) (reverse xs)) c.shown_words-in-loop-previous.ensures)

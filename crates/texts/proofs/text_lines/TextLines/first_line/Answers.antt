@@ -1,9 +1,5 @@
-use Rattle.std.proofs.Common.{◌≡◌, [], subst}
-use Rattle.std.specs.Prelude.{MatchOption}
-use Rattle.model.specs.TextRuns.{run_ids}
-use Rattle.views.specs.Nodes.{world_at, id_at}
 use Rattle.views.specs.Runs.{IsFirstOf}
-use Rattle.texts.proofs.TextEnds.{some_run}
+use Rattle.texts.proofs.TextEnds.{run_found, some_run}
 use Rattle.texts.proofs.LineSteps.{at_first_line}
 use Rattle.texts.proofs.LineWalks.{begins_here}
 use Rattle.texts.proofs.text_lines.TextLines.first_line.Goals as goal
@@ -13,6 +9,5 @@ unwrap-requires c = some_run (IsFirstOf c.args.root) c.args.root c.first.result 
 
 pub beginning-requires-clause-begins : goal.beginning-requires-clause-begins
 beginning-requires-clause-begins c =
-    let n = c.args.root in
-    let first : IsFirstOf n c.unwrap.result = subst (λ o. MatchOption o (run_ids (world_at n) (id_at n) ≡ []) (IsFirstOf n)) c.unwrap.ensures c.first.ensures in
-    begins_here n 0 c.unwrap.result (at_first_line n c.requires c.unwrap.result first)
+    let first = run_found IsFirstOf c.args.root c.first.result c.unwrap.result c.first.ensures c.unwrap.ensures in
+    begins_here c.args.root 0 c.unwrap.result (at_first_line c.args.root c.requires c.unwrap.result first)

@@ -5,4 +5,4 @@ use Rattle.texts.proofs.text_lines.TextLines.nearest.Goals as goal
 pub beginning-found-requires-clause-begins : goal.beginning-found-requires-clause-begins
 beginning-found-requires-clause-begins c =
     let l = c.loop-found.found in
-    line_after l (begin_of l) c.last_run.result refl refl c.last_run.ensures.root c.last_run.ensures.spot c.in-Some.next c.in-Some.ensures
+    line_after l (begin_of l) c.run_at.result refl refl c.run_at.ensures.root c.run_at.ensures.spot c.in-Some.next c.in-Some.ensures
