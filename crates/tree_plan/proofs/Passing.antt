@@ -1,28 +1,14 @@
--- What goes from one step to the next: an error that `?` passes on, a case, and the look-ups so far.
+-- What goes from one step to the next: an error that `?` passes on, and the look-ups so far.
 use Rattle.std.proofs.Common.{◌≡◌, ℕ, ◌+◌, subst, sym, ◌∙◌, arith}
 use Rattle.std.specs.Prelude.{Result, Ok, Err, IfErr}
 use Rattle.std.specs.Result.{IsErrAnd}
-use Rattle.schema.specs.UpdateData.{UpdateData}
 use Rattle.model.specs.World.{World}
-use Rattle.model.specs.Surgery.{IsOld}
 use Rattle.tree_changes.specs.declared.error.UpdateError.{UpdateError}
-use Rattle.tree_changes.specs.Refusals.{IsRefusal}
-use Rattle.tree_plan.specs.declared.passes.Case.{Case}
-use Rattle.tree_plan.specs.Passes.{HoldsOpened, HoldsCompared}
-use Rattle.tree_plan.specs.Cases.{IsCase, sent}
 use Rattle.tree_plan.specs.Looks.{LooksUpTo}
 
 pub passed_on : {T : Type 0} (P : UpdateError → Type 0) (r : Result T UpdateError) (e : UpdateError) → IsErrAnd r (λ y. y ≡ e) → P e → IfErr r P
 passed_on P (Ok x) e is p = absurd is
 passed_on P (Err y) e is p = subst P (sym is) p
-
--- a refusal in a world that is the same
-pub passed_refusal : {T : Type 0} {v w : World} (u : UpdateData) (r : Result T UpdateError) (e : UpdateError) → IsErrAnd r (λ y. y ≡ e) → v ≡ w → IsRefusal v u e → IfErr r (λ e. IsRefusal w u e)
-passed_refusal {T} {v} {w} u r e is same refusal = passed_on (λ y. IsRefusal w u y) r e is (subst (λ x. IsRefusal x u e) same refusal)
-
--- a case in a world that is the same
-pub as_case : {v w : World} (c : Case) → v ≡ w → IsOld w → HoldsOpened w (sent c) c.opened.now → HoldsCompared w (sent c) c.compared.now → IsCase v c
-as_case c same old opening comparison = subst (λ x. IsCase x c) (sym same) (record { old = old; opening = opening; comparison = comparison })
 
 -- the look-ups of one step after those of another
 pub looks_more : {S : Type 0} (world : S → World) (asked : S → ℕ) (a b c : S) (k n m : ℕ) → m ≡ k + n → LooksUpTo world asked a k b → LooksUpTo world asked b n c → LooksUpTo world asked a m c

@@ -46,7 +46,7 @@ module _ {X : Type 0} where
 
   module _ (es : List (FullNodeId × X)) (sorted : Ascends es) (id : FullNodeId) (v : X) where
     pub set_at_end : (n : ℕ) → n ≡ length es → IsPlace es id n → set_value (is_at (full_cmp id)) es v ≡ es
-    set_at_end n end place = set_none es id v (at_end es sorted id n end place)
+    set_at_end n end place = set_none es id v (at_end es sorted id n (omega arith) place)
 
     module _ (n : ℕ) (x : FullNodeId × X) (bound : n < length es) (at : x ≡ get_or es n x) (place : IsPlace es id n) where
       pub set_elsewhere : x.0 ≢ id → set_value (is_at (full_cmp id)) es v ≡ es

@@ -124,7 +124,7 @@ module _ {X : Type 0} (es : List (FullNodeId × X)) where
           let here = get_or_from_slice_get es n e e at in
           full_total.antisymm id e.0 ∙ ap ordering_reverse (ap (λ x. full_cmp x.0 id) (sym here) ∙ not_below _ (place.1 n e (omega arith) within) (λ same. other within e (exact_full _ _ same))))
 
-      pub at_end : (n : ℕ) → n ≡ length es → IsPlace es id n → row_at es id ≡ None
+      pub at_end : (n : ℕ) → length es ≤ n → IsPlace es id n → row_at es id ≡ None
       at_end n end place = not_found n place (λ l. absurd (omega arith))
 
       module _ (n : ℕ) (x : FullNodeId × X) (bound : n < length es) (at : x ≡ get_or es n x) where

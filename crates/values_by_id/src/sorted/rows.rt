@@ -4,7 +4,7 @@ ghost use Rattle.std.specs.Option.{is_some, option_copied};
 ghost use Rattle.std.specs.BTreeMap.{is_at};
 ghost use Rattle.std.specs.Map.{set_value};
 ghost use Rattle.model.specs.FullIds.{full_cmp};
-ghost use Rattle.values_by_id.specs.Rows.{Ascends, row_at};
+ghost use Rattle.values_by_id.specs.Rows.{Ascends, IsPlace, row_at};
 
 use super::order::place;
 use model::FullNodeId;
@@ -63,9 +63,10 @@ impl<V: Copy + Drop> SortedRows<V> {
     }
 
     /// The value of the entry at an index, if that entry has this id.
-    #[tactic(auto, using(crate::proofs::Places::found_here))]
+    #[tactic(auto, using(crate::proofs::Places::at_end, crate::proofs::Places::found_here, crate::proofs::Places::not_here))]
     fn value_at(&self, id: FullNodeId, index: usize) -> Option<V>
-        ensures { IfSome result (λ value. row_at self.now id ≡ Some value) }
+        ensures found { IfSome result (λ value. row_at self.now id ≡ Some value) }
+        ensures placed { IsPlace self.now id index → result ≡ row_at self.now id }
     {
         if index >= self.items.len() {
             return None;
@@ -79,7 +80,6 @@ impl<V: Copy + Drop> SortedRows<V> {
 
     /// The value at an id. The search starts at the index `near`, and `near` is set to the entry after the one found,
     /// so that looking up ascending ids needs no search.
-    #[tactic(auto, using(crate::proofs::Places::at_end, crate::proofs::Places::found_here, crate::proofs::Places::not_here))]
     pub fn get_near(&self, id: FullNodeId, near: &mut usize) -> Option<V>
         ensures { result ≡ row_at self.now id }
     {
@@ -89,16 +89,9 @@ impl<V: Copy + Drop> SortedRows<V> {
             return Some(value);
         }
         let index = place(&self.items, id, hint);
-        *near = index;
-        if index == self.items.len() {
-            return None;
-        }
-        let item = self.items[index];
-        if item.0 == id {
-            *near = index + 1;
-            return Some(item.1);
-        }
-        None
+        let value = self.value_at(id, index);
+        *near = if value.is_some() { index + 1 } else { index };
+        value
     }
 
     /// The value at an id.

@@ -1,7 +1,7 @@
 use Rattle.std.proofs.Common.{◌≡◌, sym, subst}
 use Rattle.std.specs.Prelude.{IsSome}
 use Rattle.std.specs.FinMap.{get}
-use Rattle.std.proofs.lemmas.Result.{IfErr-weaker, err_from_is_err_and}
+use Rattle.std.proofs.lemmas.Result.{IfErr-weaker}
 use Rattle.schema.specs.UpdateData.{update_data}
 use Rattle.model.specs.World.{World}
 use Rattle.model.specs.Update.{IsFirst, KeepsRules}
@@ -9,6 +9,7 @@ use Rattle.model.specs.Surgery.{IsOld, IsPassed}
 use Rattle.tree_changes.specs.Refusals.{IsRefusal}
 use Rattle.tree_changes.specs.declared.error.UpdateError.TheVariants.{Memory}
 use Rattle.tree_plan.specs.Passes.{HoldsOpened, HoldsCompared, HoldsRemoved, IsFocusing}
+use Rattle.tree_plan.proofs.Passing.{passed_on}
 use Rattle.tree_plan.proofs.Within.{root_tree_there}
 use Rattle.tree_plan.proofs.deciding.conclude.Goals as goal
 
@@ -38,9 +39,8 @@ find_focus-requires-clause-passed g c =
 
 pub returns-in_err-focused-clause-err : goal.returns-in_err-focused-clause-err
 returns-in_err-focused-clause-err g c =
-    let p = err_from_is_err_and c.from_residual.result c.from_residual.ensures.1 in
     let e = c.in_err-focused.field-0.0 in
-    rw (p.1, p.2) (subst (λ u. IsRefusal g.step.old u e) (sym c.requires.1.1.0) (subst (λ w. IsRefusal w (update_data c.args.update.now) e) (sym c.requires.1.0) c.in_err-focused.ensures.err))
+    passed_on (λ x. IsRefusal g.step.old g.step.update x) c.from_residual.result e c.from_residual.ensures.1 (subst (λ u. IsRefusal g.step.old u e) (sym c.requires.1.1.0) (subst (λ w. IsRefusal w (update_data c.args.update.now) e) (sym c.requires.1.0) c.in_err-focused.ensures.err))
 
 pub write-requires : goal.write-requires
 write-requires g c =

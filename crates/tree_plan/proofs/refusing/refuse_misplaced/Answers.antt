@@ -1,12 +1,11 @@
 use Rattle.std.proofs.Common.{◌≡◌, Contains, get_or, length, refl, sym, ap, subst, arith}
-use Rattle.std.specs.Prelude.{IfErr}
 use Rattle.std.proofs.lemmas.List.Elements.{Contains-get_or}
-use Rattle.std.proofs.lemmas.Result.{err_from_is_err_and}
 use Rattle.model.specs.declared.FullNodeId.{FullNodeId}
 use Rattle.model.specs.World.{Place}
 use Rattle.tree_changes.specs.Refusals.{IsRefusal}
 use Rattle.tree_plan.specs.Refusing.{IsKept, IsListedStill}
 use Rattle.tree_plan.specs.Cases.{sent}
+use Rattle.tree_plan.proofs.Passing.{passed_on}
 use Rattle.tree_plan.proofs.IdMaps.{none_done, done_step, done_each}
 use Rattle.tree_plan.proofs.RefusingSteps.{doubled_still, unlisted_refused, refined}
 use Rattle.tree_plan.proofs.refusing.refuse_misplaced.Goals as goal
@@ -22,8 +21,7 @@ pub returns-in_err-refuse_unlisted-clause-err : goal.returns-in_err-refuse_unlis
 returns-in_err-refuse_unlisted-clause-err g c =
     let w = g.L.LookUps.world c.args.look_ups.now in let u = sent c.args.case.now in
     let stands = unlisted_refused w u c.requires.case.old c.args.case.now.compared.now c.requires.case.comparison c.in_err-refuse_unlisted.field-0.0 c.in_err-refuse_unlisted.ensures.err in
-    let e = err_from_is_err_and c.from_residual.result c.from_residual.ensures.1 in
-    subst (λ r. IfErr r (λ e. IsRefusal w u e)) (sym e.1) (subst (λ x. IsRefusal w u x) (sym e.2) stands)
+    passed_on (λ e. IsRefusal w u e) c.from_residual.result c.in_err-refuse_unlisted.field-0.0 c.from_residual.ensures.1 stands
 
 pub loop-item-init : goal.loop-item-init
 loop-item-init g c = record {

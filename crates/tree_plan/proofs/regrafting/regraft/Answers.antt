@@ -1,13 +1,13 @@
 use Rattle.std.proofs.Common.{◌≡◌, ◌∷◌, ◌++◌, [], ◌<◌, take, get_or, length, sym, ap, subst, ⊎_elim, ◌∙◌, arith}
 use Rattle.std.specs.List.{Contains}
 use Rattle.std.proofs.lemmas.List.{take_more}
-use Rattle.std.proofs.lemmas.Result.{err_from_is_err_and}
 use Rattle.tree_changes.specs.Refusals.{IsRefusal}
 use Rattle.schema.specs.UpdateData.{UpdateData}
 use Rattle.model.specs.World.{World}
 use Rattle.model.proofs.State.StatePlaces.{IsSome_is}
 use Rattle.tree_plan.specs.Regrafts.{HasRival, HasNoRival, MovesIn, AreRegrafted, grafted_record}
 use Rattle.tree_plan.specs.Cases.{sent}
+use Rattle.tree_plan.proofs.Passing.{passed_on}
 use Rattle.tree_plan.proofs.Gaining.{grafted_there, regrafts_more, not_before, regrafted_in_the_end, rival_refused}
 use Rattle.tree_plan.proofs.regrafting.regraft.Goals as goal
 
@@ -32,8 +32,7 @@ returns-in_err-add-clause-err g c =
     let items = c.deref-name-items.ensures.value in
     let is : name ≡ get_or d.gained.items c.loop-name.name-index name = c.name-item.is ∙ ap (λ xs. get_or xs c.loop-name.name-index name) items in
     let «in» : Contains d.gained.items name = (c.loop-name.name-index, omega (arith, c.loop-name-test.true, ap length items), sym is) in
-    let p = err_from_is_err_and c.from_residual.result c.from_residual.ensures.1 in
-    rw (p.1, p.2) (⊎_elim (λ memory. subst (IsRefusal w u) (sym memory) tt)
+    passed_on (λ e. IsRefusal w u e) c.from_residual.result _ c.from_residual.ensures.1 (⊎_elim (λ memory. subst (IsRefusal w u) (sym memory) tt)
     (λ h. subst (IsRefusal w u) (sym h.0) (rival_refused w u d r c.requires.case.comparison c.requires.case.old c.requires.removal c.requires.climbed name «in» (subst (λ v. HasRival v d r name) before.world h.1)))
     c.in_err-add.ensures.err)
 

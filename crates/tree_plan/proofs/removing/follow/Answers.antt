@@ -2,7 +2,7 @@ use Rattle.std.proofs.Common.{◌*◌, ◌≡◌, Some, slice_get, refl, ◌∙�
 use Rattle.tree_plan.specs.Cases.{sent}
 use Rattle.tree_plan.proofs.IdMaps.{contains_at, read_at}
 use Rattle.tree_plan.proofs.Passing.{looks_more}
-use Rattle.tree_plan.proofs.RemovingSteps.{following_fresh, following_more}
+use Rattle.tree_plan.proofs.RemovingSteps.{following_fresh, following_more, following_end}
 use Rattle.tree_plan.proofs.removing.follow.Given as given
 use Rattle.tree_plan.proofs.removing.follow.Goals as goal
 use Rattle.tree_plan.proofs.removing.follow.Goals.{After-index-id}
@@ -25,3 +25,7 @@ loop-position-preserved g c =
       looks = looks_more g.L.LookUps.world g.L.LookUps.asked c.args.look_ups.now c.loop-position.look_ups c.expand.new.look_ups (2 * c.loop-position.position) 2 _ (omega arith) c.loop-position.invariant.looks c.expand.ensures.looks;
       following = following_more _ _ c.loop-position.position c.index-id.result.now c.args.removing.now c.loop-position.removing c.expand.new.removing (read g (goal.at.loop-position-preserved g c).After-index-id) c.loop-position.invariant.following c.in_ok-expand.ensures.ok;
     }
+
+pub returns-then-position-len-clause-ok : goal.returns-then-position-len-clause-ok
+returns-then-position-len-clause-ok g c =
+    following_end g.before (sent c.args.case.now) c.loop-position.position c.args.removing.now c.loop-position.removing (omega (arith, c.len.ensures, c.if-position-len.true)) c.loop-position.invariant.following
