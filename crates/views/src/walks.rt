@@ -11,6 +11,7 @@ mod filtered;
 pub mod hits;
 pub(crate) mod items;
 mod labelled_by;
+mod members;
 mod mixtures;
 mod plain;
 mod range;
