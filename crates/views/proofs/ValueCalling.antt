@@ -19,6 +19,7 @@ use Rattle.views.specs.PlainWalks.{node_in, node_of}
 use Rattle.views.specs.ValueCalls.{text_calls, alone_calls, document_calls, own_value_calls, value_calls, part_calls, given_calls, spaced_calls, joined_calls, label_calls, calls_of, rest_of_calls}
 use Rattle.views.specs.Writes.{IsCalled, IsCalledTillFault}
 use Rattle.views.proofs.Climbing.{says_shown}
+use Rattle.views.proofs.ValueTexts.{own_value_is}
 
 -- ---- another name for calls, and one call more
 
@@ -77,9 +78,6 @@ module _ (n : NodeRef) where
   abbrev id : FullNodeId
   id = id_at n
 
-  own_value_is : own_value w id ≡ (data_at n).value
-  own_value_is = ap (λ o. option_and_then (λ (d : NodeData). d.value) o) n.known
-
   own_label_is : own_label w id ≡ (data_at n).label
   own_label_is = ap (λ o. option_and_then (λ (d : NodeData). d.label) o) n.known
 
@@ -88,7 +86,7 @@ module _ (n : NodeRef) where
 
   by_own : (o : Option (List ℕ)) → o ≡ (data_at n).value → valued o (has_value_in_runs w id) ≡ value_calls w id
   unfolding value_calls
-  by_own o e = ap (λ o. valued o (has_value_in_runs w id)) (e ∙ sym own_value_is)
+  by_own o e = ap (λ o. valued o (has_value_in_runs w id)) (e ∙ sym (own_value_is n))
 
   pub calls_of_own : (v : List ℕ) → Some v ≡ (data_at n).value → own_value_calls w id v ≡ value_calls w id
   calls_of_own v e = by_own (Some v) e

@@ -1,5 +1,5 @@
 -- The effect of a call that writes a text on its writer, and how it calls the writer.
-use Rattle.std.specs.Prelude.{◌≡◌, ℕ, ◌+◌, Bool, true, false, List, ◌∷◌, ◌++◌, replicate}
+use Rattle.std.specs.Prelude.{◌≡◌, ℕ, ◌+◌, Bool, true, false, List, ◌∷◌, ◌++◌, replicate, Result, OnOk, OnErr}
 use Rattle.std.specs.List.{FoldsTo}
 use Rattle.schema.specs.TextCalls.{TextCall, WithCharacter}
 
@@ -43,3 +43,8 @@ module _ {W : Type 0} (steps : W → TextCall → Bool → W → Type 0) where
     pub before : W
     pub taken : IsCalled front old before
     pub failed : steps before call false new
+
+  -- by its result, a function made these calls, or the first of them till one failed
+  pub record IsCalledBy {A E : Type 0} (r : Result A E) (calls : List TextCall) (old new : W) : Type 0 where
+    pub called : OnOk r (IsCalled calls old new)
+    pub stopped : OnErr r (IsCalledTillFault calls old new)

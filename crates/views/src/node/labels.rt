@@ -7,7 +7,7 @@ ghost use Rattle.views.specs.PlainWalks.{node_in};
 ghost use Rattle.views.specs.LabelWalks.{labels_left};
 ghost use Rattle.views.specs.LabelTexts.{parts_of, spaced};
 ghost use Rattle.views.specs.ValueCalls.{calls_of, joined_calls, label_calls, part_calls, spaced_calls};
-ghost use Rattle.views.specs.Writes.{IsWritten, IsCutShort, IsCalled, IsCalledTillFault};
+ghost use Rattle.views.specs.Writes.{IsWritten, IsCutShort, IsCalled, IsCalledTillFault, IsCalledBy};
 
 use crate::node::NodeRef;
 use crate::walks::LabelledBy;
@@ -108,10 +108,8 @@ impl<'a> NodeRef<'a> {
             OnOk result (IsWritten W.received W.faults (spaced is_later part) writer.old writer.new) }
         ensures err { let part = unwrap_or (label_part (world_at self.now) (id_at self.now)) [] in
             OnErr result (IsCutShort W.received W.faults (spaced is_later part) writer.old writer.new) }
-        ensures called { OnOk result (IsCalled W.steps
-            (spaced_calls is_later (part_calls (world_at self.now) (id_at self.now))) writer.old writer.new) }
-        ensures stopped { OnErr result (IsCalledTillFault W.steps
-            (spaced_calls is_later (part_calls (world_at self.now) (id_at self.now))) writer.old writer.new) }
+        ensures calls { let calls = spaced_calls is_later (part_calls (world_at self.now) (id_at self.now)) in
+            IsCalledBy W.steps result calls writer.old writer.new }
     {
         if !is_later {
             return self.write_bare_part(writer);

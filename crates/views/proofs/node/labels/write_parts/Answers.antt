@@ -49,7 +49,7 @@ returns-in_err-write_part-clause-stopped g c =
     let e = given_its_calls (labels_left c.loop-node.nodes) (labels_left c.next.new.self) n c.in-Some.ensures.steps (sym c.gives_part.ensures ∙ c.if-not-gives_part.false) in
     let rest = calls_of (labels_left c.next.new.self) in
     err_with c.from_residual.result
-    (broken_off g.W.TextWrite.steps (spaced_calls later part) (rest_of_calls true rest) (left_is g.W.TextWrite.steps (ap (rest_of_calls later) e ∙ next_calls later part rest) c.loop-node.invariant.calls) c.in_err-write_part.ensures.stopped)
+    (broken_off g.W.TextWrite.steps (spaced_calls later part) (rest_of_calls true rest) (left_is g.W.TextWrite.steps (ap (rest_of_calls later) e ∙ next_calls later part rest) c.loop-node.invariant.calls) c.in_err-write_part.ensures.calls.stopped)
 
 pub loop-node-preserved : goal.loop-node-preserved
 loop-node-preserved g c =
@@ -65,7 +65,7 @@ loop-node-preserved g c =
           (left_is g.W.TextWrite.steps
           (ap (rest_of_calls later) (given_its_calls (labels_left c.loop-node.nodes) (labels_left c.next.new.self) n c.in-Some.ensures.steps (sym c.gives_part.ensures ∙ c.if-not-gives_part.false))
           ∙ next_calls later (part_calls (world_at n) (id_at n)) (calls_of (labels_left c.next.new.self))) inv.calls)
-          c.in_ok-write_part.ensures.called;
+          c.in_ok-write_part.ensures.calls.called;
       there = there_already later ∙ ap (λ ps. later || has_parts ps) (sym e) ∙ inv.there;
     }
 
