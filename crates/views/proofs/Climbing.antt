@@ -1,5 +1,5 @@
 -- What a climb from a node to its ancestors finds.
-use Rattle.std.proofs.Common.{◌≡◌, ◌<◌, Bool, true, false, cond, ◌||◌, List, [], ◌∷◌, length, Option, Some, None, refl, sym, ap, subst, ◌∙◌, map, arith, inl, inr}
+use Rattle.std.proofs.Common.{◌≡◌, ◌<◌, ℕ, ◌++◌, Bool, true, false, cond, ◌||◌, List, [], ◌∷◌, length, Option, Some, None, refl, sym, ap, subst, ◌∙◌, map, arith, inl, inr}
 use Rattle.std.specs.Prelude.{find, is_some, Contains, IsTrue, ◌↔◌}
 use Rattle.std.specs.Option.{option_map, option_map_or}
 use Rattle.std.specs.List.{list_any}
@@ -161,3 +161,7 @@ pub record IsReached {A : Type 0} (Meets : World → FullNodeId → Type 0) (val
 -- above an ancestor that was found are fewer nodes
 pub found_is_higher : (w : World) → IsFormed w → (n q : NodeRef) → world_at n ≡ w → Contains (ancestors (world_at n) (id_at n)) (id_at q) → length (ancestors w (id_at q)) < length (ancestors w (id_at n))
 found_is_higher w formed n q same above = ancestor_is_higher w formed (id_at n) (id_at q) (subst (λ v. Contains (ancestors v (id_at n)) (id_at q)) same above)
+
+-- the indexes so far, and those of the places from this node up, are those from the start up
+abbrev pub IsPathSoFar : World → FullNodeId → FullNodeId → List ℕ → Type 0
+IsPathSoFar w start id path = path ++ map (λ (p : Place). p.1) (above w id) ≡ map (λ (p : Place). p.1) (above w start)

@@ -25,6 +25,13 @@ pub record IsSearched (answers : NodeRef → FilterResult → Type 0) (w : World
   pub nearer : work (m.id, i) ≤ work start
   pub exact : (f : FullNodeId → FilterResult) → Follows answers w f → shown f start ≡ shown f (m.id, i)
 
+-- a move to another such place, at which less work is left and as much is shown
+moves : {answers : NodeRef → FilterResult → Type 0} {w : World} {top : FullNodeId} {work : Place → ℕ} {shown : (FullNodeId → FilterResult) → Place → List FullNodeId} {start : Place} {m : Member} {i : ℕ} →
+    IsSearched answers w top work shown start m i → (n : Member) (k : ℕ) → IsMember w n → k ≤ length (children w n.id) → is_within w top n.id ≡ true → work (n.id, k) < work (m.id, i) →
+    ((f : FullNodeId → FilterResult) → Follows answers w f → shown f (m.id, i) ≡ shown f (n.id, k)) → IsSearched answers w top work shown start n k
+moves s n k known in_it within less same =
+    record { known = known; in_it = in_it; within = within; nearer = omega (arith, less, s.nearer); exact = λ f follows. s.exact f follows ∙ same f follows }
+
 -- a node's place, by another name of the node
 pub stands_as : {w : World} (q : Spot) (id : FullNodeId) → IsSpot w q × (q.member.id ≡ id) → StandsAt w (place_at q) id
 stands_as {w} q id at = subst (StandsAt w (place_at q)) at.1 at.0.stands
@@ -41,33 +48,19 @@ module _ (w : World) (formed : IsFormed w) (top : FullNodeId) where
 
     pub goes_over : (c : FullNodeId) → Some c ≡ child_at w (m.id, i) → ((f : FullNodeId → FilterResult) → Follows answers w f → shown f (m.id, i) ≡ shown f (m.id, i + 1)) →
         IsSearched answers w top (work_from w top) shown start m (i + 1)
-    goes_over c e same = record {
-      known = s.known;
-      in_it = omega (arith, slice_get_within (children w m.id) i c (sym e));
-      within = s.within;
-      nearer = omega (arith, work_from_step w formed top (m.id, i) c (sym e), s.nearer);
-      exact = λ f follows. s.exact f follows ∙ same f follows;
-    }
+    goes_over c e same =
+        moves s m (i + 1) s.known (omega (arith, slice_get_within (children w m.id) i c (sym e))) s.within (omega (arith, work_from_step w formed top (m.id, i) c (sym e))) same
 
     pub goes_into : (c : Member) → IsMember w c → Some c.id ≡ child_at w (m.id, i) → ((f : FullNodeId → FilterResult) → Follows answers w f → shown f (m.id, i) ≡ shown f (c.id, 0)) →
         IsSearched answers w top (work_from w top) shown start c 0
-    goes_into c known e same = record {
-      known = known;
-      in_it = omega arith;
-      within = child_within w formed top (m.id, i) c.id (sym e) s.within;
-      nearer = omega (arith, work_from_descend w formed top (m.id, i) c.id (sym e), s.nearer);
-      exact = λ f follows. s.exact f follows ∙ same f follows;
-    }
+    goes_into c known e same =
+        moves s c 0 known (omega arith) (child_within w formed top (m.id, i) c.id (sym e) s.within) (work_from_descend w formed top (m.id, i) c.id (sym e)) same
 
     pub goes_up : length (children w m.id) ≤ i → (q : Spot) → IsSpot w q × (q.member.id ≡ m.id) → is_same top m.id ≡ false →
         ((f : FullNodeId → FilterResult) → Follows answers w f → shown f (m.id, i) ≡ shown f (next_place (place_at q))) → IsSearched answers w top (work_from w top) shown start q.parent (q.index + 1)
-    goes_up past q at other same = record {
-      known = at.0.parent;
-      in_it = omega (arith, slice_get_within (children w q.parent.id) q.index m.id (stands_as q m.id at));
-      within = parent_within w formed top (place_at q) m.id (stands_as q m.id at) s.within other;
-      nearer = omega (arith, work_from_up w formed top (m.id, i) (place_at q) past (stands_as q m.id at) other, s.nearer);
-      exact = λ f follows. s.exact f follows ∙ same f follows;
-    }
+    goes_up past q at other same =
+        moves s q.parent (q.index + 1) at.0.parent (omega (arith, slice_get_within (children w q.parent.id) q.index m.id (stands_as q m.id at)))
+        (parent_within w formed top (place_at q) m.id (stands_as q m.id at) s.within other) (work_from_up w formed top (m.id, i) (place_at q) past (stands_as q m.id at) other) same
 
   -- ---- backwards
 
@@ -90,35 +83,25 @@ module _ (w : World) (formed : IsFormed w) (top : FullNodeId) where
       back_nearer c e = omega (arith, less_before m.id i some c e, work_before_child w formed top (m.id, i - 1) c (sym e), s.nearer)
 
       -- what is shown before a place, by the place before it
+      stepped : (f : FullNodeId → FilterResult) → shown f (m.id, i) ≡ shown f (next_place (m.id, i - 1))
+      stepped f = let n : i ≡ i - 1 + 1 = omega (arith, some) in ap (λ j. shown f (m.id, j)) n
+
       pub back_shown : (f : FullNodeId → FilterResult) → Follows answers w f → shown f start ≡ shown f (next_place (m.id, i - 1))
-      back_shown f follows = let n : i ≡ i - 1 + 1 = omega (arith, some) in s.exact f follows ∙ ap (λ j. shown f (m.id, j)) n
+      back_shown f follows = s.exact f follows ∙ stepped f
 
       pub back_over : (c : FullNodeId) → Some c ≡ child_at w (m.id, i - 1) → ((f : FullNodeId → FilterResult) → Follows answers w f → shown f (next_place (m.id, i - 1)) ≡ shown f (m.id, i - 1)) →
           IsSearched answers w top (work_until w top) shown start m (i - 1)
-      back_over c e same = record {
-        known = s.known;
-        in_it = omega (arith, s.in_it);
-        within = s.within;
-        nearer = omega (arith, less_before m.id i some c e, s.nearer);
-        exact = λ f follows. back_shown f follows ∙ same f follows;
-      }
+      back_over c e same =
+          moves s m (i - 1) s.known (omega (arith, s.in_it)) s.within (less_before m.id i some c e) (λ f follows. stepped f ∙ same f follows)
 
       pub back_into : (c : Member) → IsMember w c → Some c.id ≡ child_at w (m.id, i - 1) → (k : ℕ) → k ≡ length (children w c.id) →
           ((f : FullNodeId → FilterResult) → Follows answers w f → shown f (next_place (m.id, i - 1)) ≡ shown f (c.id, length (children w c.id))) → IsSearched answers w top (work_until w top) shown start c k
-      back_into c known e k h same = record {
-        known = known;
-        in_it = omega (arith, h);
-        within = child_within w formed top (m.id, i - 1) c.id (sym e) s.within;
-        nearer = omega (arith, less_inside m.id i some c.id e k h, s.nearer);
-        exact = λ f follows. back_shown f follows ∙ same f follows ∙ ap (λ j. shown f (c.id, j)) (sym h);
-      }
+      back_into c known e k h same =
+          moves s c k known (omega (arith, h)) (child_within w formed top (m.id, i - 1) c.id (sym e) s.within) (less_inside m.id i some c.id e k h)
+          (λ f follows. stepped f ∙ same f follows ∙ ap (λ j. shown f (c.id, j)) (sym h))
 
     pub back_up : i ≡ 0 → (q : Spot) → IsSpot w q × (q.member.id ≡ m.id) → is_same top m.id ≡ false → ((f : FullNodeId → FilterResult) → Follows answers w f → shown f (m.id, i) ≡ shown f (place_at q)) →
         IsSearched answers w top (work_until w top) shown start q.parent q.index
-    back_up first q at other same = record {
-      known = at.0.parent;
-      in_it = omega (arith, slice_get_within (children w q.parent.id) q.index m.id (stands_as q m.id at));
-      within = parent_within w formed top (place_at q) m.id (stands_as q m.id at) s.within other;
-      nearer = omega (arith, work_until_up w formed top (m.id, i) (place_at q) first (stands_as q m.id at) other, s.nearer);
-      exact = λ f follows. s.exact f follows ∙ same f follows;
-    }
+    back_up first q at other same =
+        moves s q.parent q.index at.0.parent (omega (arith, slice_get_within (children w q.parent.id) q.index m.id (stands_as q m.id at)))
+        (parent_within w formed top (place_at q) m.id (stands_as q m.id at) s.within other) (work_until_up w formed top (m.id, i) (place_at q) first (stands_as q m.id at) other) same

@@ -14,7 +14,7 @@ use crate::StateRef;
 use crate::node::NodeRef;
 use crate::node::geometry::meets;
 use crate::walks::filter::Filter;
-use crate::walks::siblings::{first_following, first_preceding};
+use crate::walks::siblings::nearest_sibling;
 pub use model::filters::FilterResult;
 use model::{FullNodeId, is_same};
 use schema::{Node, Role, WideRect};
@@ -149,11 +149,11 @@ fn is_far_outside(node: NodeRef<'_>, frame: WideRect, focused: Option<FullNodeId
         return false;
     }
     let base = BaseFilter { focused };
-    let following = first_following(node, &base);
+    let following = nearest_sibling(node, false, &base);
     if is_inside(following, frame) {
         return false;
     }
-    let preceding = first_preceding(node, &base);
+    let preceding = nearest_sibling(node, true, &base);
     !is_inside(preceding, frame)
 }
 
