@@ -14,7 +14,6 @@ use crate::StateRef;
 use crate::node::NodeRef;
 use crate::node::geometry::meets;
 use crate::walks::filter::Filter;
-use crate::walks::siblings::nearest_sibling;
 pub use model::filters::FilterResult;
 use model::{FullNodeId, is_same};
 use schema::{Node, Role, WideRect};
@@ -149,11 +148,11 @@ fn is_far_outside(node: NodeRef<'_>, frame: WideRect, focused: Option<FullNodeId
         return false;
     }
     let base = BaseFilter { focused };
-    let following = nearest_sibling(node, false, &base);
+    let following = node.nearest_sibling(false, &base);
     if is_inside(following, frame) {
         return false;
     }
-    let preceding = nearest_sibling(node, true, &base);
+    let preceding = node.nearest_sibling(true, &base);
     !is_inside(preceding, frame)
 }
 

@@ -17,7 +17,7 @@ mod plain;
 mod range;
 pub(crate) mod searches;
 mod sets;
-pub(crate) mod siblings;
+mod siblings;
 pub mod spot;
 mod starts;
 
