@@ -16,15 +16,15 @@ use Rattle.views.specs.LabelTexts.{parts_of, spaced, rest_of_label}
 
 -- ---- what a node gives
 
+pub own_label_is : (n : NodeRef) → own_label (world_at n) (id_at n) ≡ (data_at n).label
+own_label_is n = ap (λ o. option_and_then (λ (d : NodeData). d.label) o) n.known
+
 module _ (n : NodeRef) where
   abbrev w : World
   w = world_at n
 
   abbrev id : FullNodeId
   id = id_at n
-
-  pub own_label_is : own_label w id ≡ (data_at n).label
-  own_label_is = ap (λ o. option_and_then (λ (d : NodeData). d.label) o) n.known
 
   part_by_role : label_part w id ≡ cond (is_label (data_at n).role) (value_of w id) (own_label w id)
   part_by_role = ap (λ o. cond (option_map_or (λ (d : NodeData). is_label d.role) o false) (value_of w id) (own_label w id)) n.known
@@ -33,7 +33,7 @@ module _ (n : NodeRef) where
   part_is_value e = sym (part_by_role ∙ ap (λ b. cond b (value_of w id) (own_label w id)) e)
 
   pub part_is_label : is_label (data_at n).role ≡ false → (data_at n).label ≡ label_part w id
-  part_is_label e = sym (part_by_role ∙ ap (λ b. cond b (value_of w id) (own_label w id)) e ∙ own_label_is)
+  part_is_label e = sym (part_by_role ∙ ap (λ b. cond b (value_of w id) (own_label w id)) e ∙ own_label_is n)
 
 -- ---- part after part
 

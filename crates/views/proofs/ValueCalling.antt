@@ -1,10 +1,9 @@
 -- By which calls values and labels are written, case by case.
 use Rattle.std.proofs.Common.{◌≡◌, ℕ, Bool, true, false, cond, List, [], ◌∷◌, ◌++◌, map, refl, sym, ap, ◌∙◌, subst}
 use Rattle.std.specs.Prelude.{Option, Some, None, is_some, option_map, unwrap_or, filter_map, if◌then◌else◌, Result, OnOk, OnErr}
-use Rattle.std.specs.Option.{option_and_then, option_map_or}
+use Rattle.std.specs.Option.{option_map_or}
 use Rattle.std.specs.List.{cons_option}
 use Rattle.std.proofs.lemmas.Result.{on_ok_weaker, on_err_weaker}
-use Rattle.schema.specs.NodeData.{NodeData}
 use Rattle.schema.specs.TextCalls.{TextCall}
 use Rattle.model.specs.declared.FullNodeId.{FullNodeId}
 use Rattle.model.specs.World.{World}
@@ -12,7 +11,7 @@ use Rattle.model.specs.FlatText.{needs_masking}
 use Rattle.model.specs.Labels.{own_label, label_part, labelled_by}
 use Rattle.model.specs.RoleClasses.{is_label}
 use Rattle.model.specs.TextRuns.{is_password, supports_text_ranges}
-use Rattle.model.specs.Values.{own_value, has_value_in_runs}
+use Rattle.model.specs.Values.{has_value_in_runs}
 use Rattle.views.specs.declared.node.node_ref.NodeRef.{NodeRef}
 use Rattle.views.specs.Nodes.{world_at, id_at, data_at}
 use Rattle.views.specs.PlainWalks.{node_in, node_of}

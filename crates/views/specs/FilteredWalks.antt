@@ -33,21 +33,21 @@ pub record BeginsWalk {S F : Type 0} (answers : NodeRef → FilterResult → Typ
   pub list : (f : FullNodeId → FilterResult) → Follows answers w f → walk.OnCourse f s × (walk.left f s ≡ ids f)
 
 -- the filter stays; the walk stays in its world, each item is a node of that, and at its end the walk stays there;
--- and by each f that the filter follows the call returns the first of what is left
-pub record GivesFirst {S F : Type 0} (answers : F → NodeRef → FilterResult → Type 0) (walk : WalkOf S F) (s : S) (r : Option NodeRef)
-    (t : S) : Type 0 where
+-- and by each f that the filter follows the call returns an item of what is left from one end
+pub record Gives {S F : Type 0} (Yields : (S → List FullNodeId) → S → Option NodeRef → S → Type 0)
+    (answers : F → NodeRef → FilterResult → Type 0) (walk : WalkOf S F) (s : S) (r : Option NodeRef) (t : S) : Type 0 where
   pub filter : walk.filter t ≡ walk.filter s
   pub goes : WalksOn (walk.course s) r (walk.course t)
   pub list : (f : FullNodeId → FilterResult) → Follows (answers (walk.filter s)) (walked_world (walk.course s)) f → walk.OnCourse f s →
-      walk.OnCourse f t × YieldsFirstBy id_at (walk.left f) s r t
+      walk.OnCourse f t × Yields (walk.left f) s r t
 
--- and the same of the last
-pub record GivesLast {S F : Type 0} (answers : F → NodeRef → FilterResult → Type 0) (walk : WalkOf S F) (s : S) (r : Option NodeRef)
-    (t : S) : Type 0 where
-  pub filter : walk.filter t ≡ walk.filter s
-  pub goes : WalksOn (walk.course s) r (walk.course t)
-  pub list : (f : FullNodeId → FilterResult) → Follows (answers (walk.filter s)) (walked_world (walk.course s)) f → walk.OnCourse f s →
-      walk.OnCourse f t × YieldsLastBy id_at (walk.left f) s r t
+-- the first
+abbrev pub GivesFirst : {S F : Type 0} → (F → NodeRef → FilterResult → Type 0) → WalkOf S F → S → Option NodeRef → S → Type 0
+GivesFirst = Gives (YieldsFirstBy id_at)
+
+-- or the last
+abbrev pub GivesLast : {S F : Type 0} → (F → NodeRef → FilterResult → Type 0) → WalkOf S F → S → Option NodeRef → S → Type 0
+GivesLast = Gives (YieldsLastBy id_at)
 
 -- however calls at both ends are mixed, by each f that the filter follows they take what is left
 abbrev pub MixturesTakeShown : {S F : Type 0} → (S → Option NodeRef → S → Type 0) → (S → Option NodeRef → S → Type 0)

@@ -18,6 +18,11 @@ module _ {W : Type 0} (received : W → List ℕ) (faults : W → ℕ) where
     pub has : received new ≡ received old ++ front
     pub failed : faults new ≡ faults old + 1
 
+  -- by the result of a function, it has the text, or it is cut short
+  pub record IsWrittenBy {A E : Type 0} (r : Result A E) (text : List ℕ) (old new : W) : Type 0 where
+    pub written : OnOk r (IsWritten text old new)
+    pub cut_short : OnErr r (IsCutShort text old new)
+
   -- it has the text except for the rest, and no call failed
   pub record IsUnderWay (text rest : List ℕ) (old new : W) : Type 0 where
     pub front : List ℕ

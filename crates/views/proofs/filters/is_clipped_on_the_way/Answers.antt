@@ -44,9 +44,9 @@ pub loop-parent-preserved : goal.loop-parent-preserved
 loop-parent-preserved c = record {
   world = c.in-Some.ensures.world ∙ c.loop-parent.invariant.world;
   meets = opens (world_at c.args.node) c.know.ensures.formed c.args.focused c.requires.focus c.loop-parent.current c.in-Some.parent c.loop-parent.invariant.world c.in-Some.ensures.world c.in-Some.ensures.node
-    c.is_passed.result c.is_passed.ensures c.loop-parent.invariant.meets c.if-is_passed.false
+      c.is_passed.result c.is_passed.ensures c.loop-parent.invariant.meets c.if-is_passed.false
       (c.requires.focus.at (id_at c.in-Some.parent) ∙ sym c.is_focused_one.ensures ∙ c.if-is_focused_one.false);
   sought = sym (goes_on (world_at c.args.node) c.know.ensures.formed c.args.focused c.requires.focus c.loop-parent.current c.in-Some.parent c.loop-parent.invariant.world c.in-Some.ensures.world c.in-Some.ensures.node
-    c.is_passed.result c.is_passed.ensures c.loop-parent.invariant.meets c.if-is_passed.false c.is_clipped_by-in-Some.result c.is_clipped_by-in-Some.ensures c.if-is_clipped_by.false)
+      c.is_passed.result c.is_passed.ensures c.loop-parent.invariant.meets c.if-is_passed.false c.is_clipped_by-in-Some.result c.is_clipped_by-in-Some.ensures c.if-is_clipped_by.false)
       ∙ c.loop-parent.invariant.sought;
 }

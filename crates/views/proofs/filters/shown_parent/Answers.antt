@@ -16,5 +16,5 @@ loop-parent-preserved c =
       world = c.in-Some.ensures.world ∙ way.world;
       meets = parent_is_seen (world_at c.args.node) c.know.ensures.formed (world_at c.loop-parent.current) way.world (id_at c.loop-parent.current) (id_at c.in-Some.parent) c.in-Some.ensures.node way.meets;
       sought = sym (shown_above (world_at c.args.node) c.know.ensures.formed c.args.focused c.requires.focus c.loop-parent.current c.in-Some.parent c.loop-parent.invariant.world c.in-Some.ensures.world c.in-Some.ensures.node
-    c.is_passed.result c.is_passed.ensures c.loop-parent.invariant.meets c.if-not-is_passed.false) ∙ way.sought;
+          c.is_passed.result c.is_passed.ensures c.loop-parent.invariant.meets c.if-not-is_passed.false) ∙ way.sought;
     }

@@ -19,8 +19,8 @@ loop-index-preserved-then-is_cut g c =
     let w = world_of c.args.state in
     back_over w c.know.ensures.formed c.args.top c.loop-index.invariant (omega arith) c.in-Some.child.member.id c.in-Some.ensures.none
     (λ f follows.
-        let cut : is_cut_off (f c.in-Some.child.member.id) ≡ true = says_cut follows c.view.result _ _ c.view.ensures.world c.view.ensures.id c.is_cut.ensures ∙ c.if-is_cut.true in
-        earlier_skip f w c.know.ensures.formed c.args.top (c.loop-index.parent.id, c.loop-index.index - 1) c.in-Some.child.member.id (sym c.in-Some.ensures.none) cut)
+    let cut : is_cut_off (f c.in-Some.child.member.id) ≡ true = says_cut follows c.view.result _ _ c.view.ensures.world c.view.ensures.id c.is_cut.ensures ∙ c.if-is_cut.true in
+    earlier_skip f w c.know.ensures.formed c.args.top (c.loop-index.parent.id, c.loop-index.index - 1) c.in-Some.child.member.id (sym c.in-Some.ensures.none) cut)
 
 pub loop-index-smaller-else-is_cut : goal.loop-index-smaller-else-is_cut
 loop-index-smaller-else-is_cut g c = less_inside (world_of c.args.state) c.know.ensures.formed c.args.top c.loop-index.parent.id c.loop-index.index (omega arith) c.in-Some.child.member.id c.in-Some.ensures.none c.child_count-index.result c.child_count-index.ensures
@@ -30,9 +30,9 @@ loop-index-preserved-else-is_cut g c =
     let w = world_of c.args.state in
     back_into w c.know.ensures.formed c.args.top c.loop-index.invariant (omega arith) c.in-Some.child.member c.in-Some.ensures.there.0.member c.in-Some.ensures.none c.child_count-index.result c.child_count-index.ensures
     (λ f follows.
-        let uncut : is_cut_off (f c.in-Some.child.member.id) ≡ false = says_cut follows c.view.result _ _ c.view.ensures.world c.view.ensures.id c.is_cut.ensures ∙ c.if-is_cut.false in
-        earlier_descend f w c.know.ensures.formed c.args.top (c.loop-index.parent.id, c.loop-index.index - 1) c.in-Some.child.member.id (sym c.in-Some.ensures.none) uncut
-        (child_is_other w c.know.ensures.formed c.args.top (c.loop-index.parent.id, c.loop-index.index - 1) c.in-Some.child.member.id (sym c.in-Some.ensures.none) c.loop-index.invariant.within))
+    let uncut : is_cut_off (f c.in-Some.child.member.id) ≡ false = says_cut follows c.view.result _ _ c.view.ensures.world c.view.ensures.id c.is_cut.ensures ∙ c.if-is_cut.false in
+    earlier_descend f w c.know.ensures.formed c.args.top (c.loop-index.parent.id, c.loop-index.index - 1) c.in-Some.child.member.id (sym c.in-Some.ensures.none) uncut
+    (child_is_other w c.know.ensures.formed c.args.top (c.loop-index.parent.id, c.loop-index.index - 1) c.in-Some.child.member.id (sym c.in-Some.ensures.none) c.loop-index.invariant.within))
 
 pub returns-then-is_same-clause-exact : goal.returns-then-is_same-clause-exact
 returns-then-is_same-clause-exact g c = λ f follows.
@@ -81,6 +81,6 @@ loop-index-preserved g c =
     let other : is_same_id c.args.top c.loop-index.parent.id ≡ false = tested_same c.is_same.result c.args.top c.loop-index.parent.id c.is_same.ensures ∙ c.if-is_same.false in
     back_up w c.know.ensures.formed c.args.top c.loop-index.invariant (omega arith) c.in-Some-spot.above c.in-Some-spot.ensures.there other
     (λ f follows.
-        let said : f c.loop-index.parent.id ≡ c.answer.result = says_of follows c.view-else-index-gt0.result _ _ c.view-else-index-gt0.ensures.world (c.view-else-index-gt0.ensures.id ∙ c.in-Some-spot.ensures.there.1) c.answer.ensures in
-        let out : is_included_answer (f c.loop-index.parent.id) ≡ false = ap is_included_answer said ∙ sym c.is_included.ensures ∙ c.if-is_included.false in
-        earlier_up f w c.know.ensures.formed c.args.top (c.loop-index.parent.id, c.loop-index.index) (place_at c.in-Some-spot.above) (omega arith) (stands_as c.in-Some-spot.above c.loop-index.parent.id c.in-Some-spot.ensures.there) other out)
+    let said : f c.loop-index.parent.id ≡ c.answer.result = says_of follows c.view-else-index-gt0.result _ _ c.view-else-index-gt0.ensures.world (c.view-else-index-gt0.ensures.id ∙ c.in-Some-spot.ensures.there.1) c.answer.ensures in
+    let out : is_included_answer (f c.loop-index.parent.id) ≡ false = ap is_included_answer said ∙ sym c.is_included.ensures ∙ c.if-is_included.false in
+    earlier_up f w c.know.ensures.formed c.args.top (c.loop-index.parent.id, c.loop-index.index) (place_at c.in-Some-spot.above) (omega arith) (stands_as c.in-Some-spot.above c.loop-index.parent.id c.in-Some-spot.ensures.there) other out)

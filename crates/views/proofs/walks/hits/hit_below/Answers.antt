@@ -7,11 +7,12 @@ use Rattle.model.specs.Beside.{work_until}
 use Rattle.model.specs.Covers.{is_cut_off}
 use Rattle.model.specs.Hits.{last_hit, uncut_until, seen_by_child, seen_by_parent, is_hit}
 use Rattle.model.proofs.Forest.WaysUp.{within_is_tested}
-use Rattle.model.proofs.Walks.Beside.{tested_same, work_until_step, work_until_descend, work_until_up}
+use Rattle.model.proofs.Walks.Beside.{tested_same, work_until_up}
 use Rattle.model.proofs.Walks.Between.{within_top, child_within, child_is_other, parent_within}
 use Rattle.model.proofs.Walks.Hits.{seen_itself, seen_down, seen_up, search_start, search_down, hit_here, hit_higher}
 use Rattle.views.specs.ShownWorlds.{world_of}
 use Rattle.views.specs.Spots.{place_at}
+use Rattle.views.proofs.Searching.{less_before, less_inside}
 use Rattle.views.proofs.SeenFrom.{both_farther, search_work}
 use Rattle.views.specs.SeenPoints.{wide_of, is_bare_miss}
 use Rattle.views.proofs.Filtering.{or_first}
@@ -35,24 +36,19 @@ loop-index-init g c =
     }
 
 pub loop-index-smaller-then-is_missed : goal.loop-index-smaller-then-is_missed
-loop-index-smaller-then-is_missed g c =
-    let w = world_of c.args.top.state in
-    let stands : StandsAt w (c.loop-index.parent.id, c.loop-index.index - 1) c.in-Some.child.member.id = sym c.in-Some.ensures.none in
-    let n : c.loop-index.index ≡ c.loop-index.index - 1 + 1 = omega arith in
-    omega (arith, ap (λ i. work_until w c.args.top.id (c.loop-index.parent.id, i)) n, work_until_step w c.know.ensures.formed c.args.top.id (c.loop-index.parent.id, c.loop-index.index - 1) c.in-Some.child.member.id stands)
+loop-index-smaller-then-is_missed g c = less_before (world_of c.args.top.state) c.know.ensures.formed c.args.top.id c.loop-index.parent.id c.loop-index.index (omega arith) c.in-Some.child.member.id c.in-Some.ensures.none
 
 pub loop-index-preserved-then-is_missed : goal.loop-index-preserved-then-is_missed
 loop-index-preserved-then-is_missed g c =
     let w = world_of c.args.top.state in
     let stands : StandsAt w (c.loop-index.parent.id, c.loop-index.index - 1) c.in-Some.child.member.id = sym c.in-Some.ensures.none in
     let n : c.loop-index.index ≡ c.loop-index.index - 1 + 1 = omega arith in
-    let less = work_until_step w c.know.ensures.formed c.args.top.id (c.loop-index.parent.id, c.loop-index.index - 1) c.in-Some.child.member.id stands in
-    let here : work_until w c.args.top.id (c.loop-index.parent.id, c.loop-index.index) ≡ work_until w c.args.top.id (c.loop-index.parent.id, c.loop-index.index - 1 + 1) = ap (λ i. work_until w c.args.top.id (c.loop-index.parent.id, i)) n in
+    let less = less_before w c.know.ensures.formed c.args.top.id c.loop-index.parent.id c.loop-index.index (omega arith) c.in-Some.child.member.id c.in-Some.ensures.none in
     let next : ℕ = work_until w c.args.top.id (c.args.top.id, length (children w c.args.top.id)) - work_until w c.args.top.id (c.loop-index.parent.id, c.loop-index.index - 1) in
     record {
       known = c.loop-index.invariant.known;
-      spent = omega (arith, less, here, c.loop-index.invariant.spent);
-      near = both_farther (work_until w c.args.top.id (c.args.top.id, length (children w c.args.top.id)) - work_until w c.args.top.id (c.loop-index.parent.id, c.loop-index.index)) next c.loop-index.seen (omega (arith, less, here)) c.loop-index.invariant.near;
+      spent = omega (arith, less, c.loop-index.invariant.spent);
+      near = both_farther (work_until w c.args.top.id (c.args.top.id, length (children w c.args.top.id)) - work_until w c.args.top.id (c.loop-index.parent.id, c.loop-index.index)) next c.loop-index.seen (omega (arith, less)) c.loop-index.invariant.near;
       in_it = omega (arith, c.loop-index.invariant.in_it);
       within = c.loop-index.invariant.within;
       seen = c.loop-index.invariant.seen;
@@ -68,30 +64,20 @@ loop-index-preserved-then-is_missed g c =
 
 pub loop-index-smaller-else-is_missed : goal.loop-index-smaller-else-is_missed
 loop-index-smaller-else-is_missed g c =
-    let w = world_of c.args.top.state in
-    let stands : StandsAt w (c.loop-index.parent.id, c.loop-index.index - 1) c.in-Some.child.member.id = sym c.in-Some.ensures.none in
-    let n : c.loop-index.index ≡ c.loop-index.index - 1 + 1 = omega arith in
-    omega (
-      arith,
-      ap (λ i. work_until w c.args.top.id (c.loop-index.parent.id, i)) n,
-      work_until_descend w c.know.ensures.formed c.args.top.id (c.loop-index.parent.id, c.loop-index.index - 1) c.in-Some.child.member.id stands,
-      ap (λ i. work_until w c.args.top.id (c.in-Some.child.member.id, i)) c.child_count-count.ensures,
-    )
+    less_inside (world_of c.args.top.state) c.know.ensures.formed c.args.top.id c.loop-index.parent.id c.loop-index.index (omega arith) c.in-Some.child.member.id c.in-Some.ensures.none c.child_count-count.result c.child_count-count.ensures
 
 pub loop-index-preserved-else-is_missed : goal.loop-index-preserved-else-is_missed
 loop-index-preserved-else-is_missed g c =
     let w = world_of c.args.top.state in
     let stands : StandsAt w (c.loop-index.parent.id, c.loop-index.index - 1) c.in-Some.child.member.id = sym c.in-Some.ensures.none in
     let n : c.loop-index.index ≡ c.loop-index.index - 1 + 1 = omega arith in
-    let less = work_until_descend w c.know.ensures.formed c.args.top.id (c.loop-index.parent.id, c.loop-index.index - 1) c.in-Some.child.member.id stands in
-    let here : work_until w c.args.top.id (c.loop-index.parent.id, c.loop-index.index) ≡ work_until w c.args.top.id (c.loop-index.parent.id, c.loop-index.index - 1 + 1) = ap (λ i. work_until w c.args.top.id (c.loop-index.parent.id, i)) n in
-    let there = ap (λ i. work_until w c.args.top.id (c.in-Some.child.member.id, i)) c.child_count-count.ensures in
+    let less = less_inside w c.know.ensures.formed c.args.top.id c.loop-index.parent.id c.loop-index.index (omega arith) c.in-Some.child.member.id c.in-Some.ensures.none c.child_count-count.result c.child_count-count.ensures in
     let done : ℕ = work_until w c.args.top.id (c.args.top.id, length (children w c.args.top.id)) - work_until w c.args.top.id (c.loop-index.parent.id, c.loop-index.index) in
     let next : ℕ = work_until w c.args.top.id (c.args.top.id, length (children w c.args.top.id)) - work_until w c.args.top.id (c.in-Some.child.member.id, c.child_count-count.result) in
     record {
       known = c.in-Some.ensures.there.0.member;
-      spent = omega (arith, less, here, there, c.loop-index.invariant.spent);
-      near = both_farther (done + 1) next c.seen_across-below.result (omega (arith, less, here, there, c.loop-index.invariant.spent)) (c.seen_across-below.ensures.near done c.loop-index.invariant.near);
+      spent = omega (arith, less, c.loop-index.invariant.spent);
+      near = both_farther (done + 1) next c.seen_across-below.result (omega (arith, less, c.loop-index.invariant.spent)) (c.seen_across-below.ensures.near done c.loop-index.invariant.near);
       in_it = omega (arith, c.child_count-count.ensures);
       within = child_within w c.know.ensures.formed c.args.top.id (c.loop-index.parent.id, c.loop-index.index - 1) c.in-Some.child.member.id stands c.loop-index.invariant.within;
       seen = c.seen_across-below.ensures.is ∙ ap (seen_by_child w c.in-Some.child.member.id) c.loop-index.invariant.seen

@@ -1,5 +1,5 @@
-use Rattle.std.proofs.Common.{◌≡◌, ◌-◌, ◌<◌, arith, sym, ◌∙◌, false}
-use Rattle.model.specs.declared.filters.FilterResult.TheVariants.{Include, ExcludeNode, ExcludeSubtree}
+use Rattle.std.proofs.Common.{◌≡◌, ◌-◌, arith, sym, ◌∙◌, false}
+use Rattle.model.specs.declared.filters.FilterResult.TheVariants.{Include}
 use Rattle.model.specs.World.{Place}
 use Rattle.model.specs.Forest.{is_same as is_same_id}
 use Rattle.model.proofs.Walks.Beside.{tested_same, prior_include, prior_skip, prior_descend, prior_up, work_until_up}

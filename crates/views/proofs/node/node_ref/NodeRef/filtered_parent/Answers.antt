@@ -1,4 +1,4 @@
-use Rattle.std.proofs.Common.{◌∙◌, sym, refl, ap}
+use Rattle.std.proofs.Common.{◌∙◌, sym, refl}
 use Rattle.std.proofs.lemmas.Fn.{says_at}
 use Rattle.model.specs.Covers.{is_included}
 use Rattle.views.specs.Nodes.{world_at, id_at}

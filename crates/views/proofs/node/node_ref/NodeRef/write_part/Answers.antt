@@ -10,29 +10,36 @@ use Rattle.views.proofs.ValueCalling.{one_before, one_before_fault}
 use Rattle.views.proofs.Writing.{starts, goes_on, stops, err_with, cut_is, all_taken, none_taken, written_as, cut_short_as, last_written, last_cut_short}
 use Rattle.views.proofs.node.node_ref.NodeRef.write_part.Goals as goal
 
-pub returns-in_err-write_char-clause-err : goal.returns-in_err-write_char-clause-err
-unfolding lib.Utf8.encode
-returns-in_err-write_char-clause-err g c =
-    let n = c.args.self.now in
-    let part = unwrap_or (label_part (world_at n) (id_at n)) [] in
-    err_with c.from_residual.result
-    (cut_is (sym (ap (λ b. spaced b part) c.if-not-is_later.false)) (stops (32 ∷ []) part (starts (32 ∷ part) c.args.writer.now) (none_taken c.in_err-write_char.ensures.err)))
+pub returns-then-not-is_later-clause-text : goal.returns-then-not-is_later-clause-text
+returns-then-not-is_later-clause-text g c =
+    let e = sym (ap (λ b. spaced b (unwrap_or (label_part (world_at c.args.self.now) (id_at c.args.self.now)) [])) c.if-not-is_later.true) in
+    record {
+      written = written_as g.W.TextWrite.received g.W.TextWrite.faults c.args.writer.now c.write_bare_part.new.writer c.write_bare_part.result e c.write_bare_part.ensures.ok;
+      cut_short = cut_short_as g.W.TextWrite.received g.W.TextWrite.faults c.args.writer.now c.write_bare_part.new.writer c.write_bare_part.result e c.write_bare_part.ensures.err;
+    }
 
-pub returns-clause-ok : goal.returns-clause-ok
+pub returns-in_err-write_char-clause-text : goal.returns-in_err-write_char-clause-text
 unfolding lib.Utf8.encode
-returns-clause-ok g c =
-    let n = c.args.self.now in
-    let part = unwrap_or (label_part (world_at n) (id_at n)) [] in
-    written_as g.W.TextWrite.received g.W.TextWrite.faults c.args.writer.now c.write_bare_part-2.new.writer c.write_bare_part-2.result (sym (ap (λ b. spaced b part) c.if-not-is_later.false))
-    (last_written (goes_on {rest = part} {part = 32 ∷ []} (starts (32 ∷ part) c.args.writer.now) (all_taken c.in_ok-write_char.ensures.ok)) c.write_bare_part-2.result c.write_bare_part-2.new.writer c.write_bare_part-2.ensures.ok)
+returns-in_err-write_char-clause-text g c =
+    let part = unwrap_or (label_part (world_at c.args.self.now) (id_at c.args.self.now)) [] in
+    record {
+      written = search rules;
+      cut_short = err_with c.from_residual.result
+          (cut_is (sym (ap (λ b. spaced b part) c.if-not-is_later.false)) (stops (32 ∷ []) part (starts (32 ∷ part) c.args.writer.now) (none_taken c.in_err-write_char.ensures.err)));
+    }
 
-pub returns-clause-err : goal.returns-clause-err
+pub returns-clause-text : goal.returns-clause-text
 unfolding lib.Utf8.encode
-returns-clause-err g c =
-    let n = c.args.self.now in
-    let part = unwrap_or (label_part (world_at n) (id_at n)) [] in
-    cut_short_as g.W.TextWrite.received g.W.TextWrite.faults c.args.writer.now c.write_bare_part-2.new.writer c.write_bare_part-2.result (sym (ap (λ b. spaced b part) c.if-not-is_later.false))
-    (last_cut_short (goes_on {rest = part} {part = 32 ∷ []} (starts (32 ∷ part) c.args.writer.now) (all_taken c.in_ok-write_char.ensures.ok)) c.write_bare_part-2.result c.write_bare_part-2.new.writer c.write_bare_part-2.ensures.err)
+returns-clause-text g c =
+    let part = unwrap_or (label_part (world_at c.args.self.now) (id_at c.args.self.now)) [] in
+    let e = sym (ap (λ b. spaced b part) c.if-not-is_later.false) in
+    let after = goes_on {rest = part} {part = 32 ∷ []} (starts (32 ∷ part) c.args.writer.now) (all_taken c.in_ok-write_char.ensures.ok) in
+    record {
+      written = written_as g.W.TextWrite.received g.W.TextWrite.faults c.args.writer.now c.write_bare_part-2.new.writer c.write_bare_part-2.result e
+          (last_written after c.write_bare_part-2.result c.write_bare_part-2.new.writer c.write_bare_part-2.ensures.ok);
+      cut_short = cut_short_as g.W.TextWrite.received g.W.TextWrite.faults c.args.writer.now c.write_bare_part-2.new.writer c.write_bare_part-2.result e
+          (last_cut_short after c.write_bare_part-2.result c.write_bare_part-2.new.writer c.write_bare_part-2.ensures.err);
+    }
 
 pub returns-then-not-is_later-clause-calls : goal.returns-then-not-is_later-clause-calls
 returns-then-not-is_later-clause-calls g c =
