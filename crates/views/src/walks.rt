@@ -2,7 +2,6 @@
 mod controls;
 mod course;
 mod deepest;
-mod depths;
 mod descendants;
 mod descents;
 pub(crate) mod ends;
@@ -13,6 +12,7 @@ pub(crate) mod items;
 mod labelled_by;
 mod members;
 mod mixtures;
+mod paths;
 mod plain;
 mod range;
 pub(crate) mod searches;

@@ -12,7 +12,7 @@ use Rattle.model.proofs.Walks.Between.{within_top, child_within, child_is_other,
 use Rattle.model.proofs.Walks.Hits.{seen_itself, seen_down, seen_up, search_start, search_down, hit_here, hit_higher}
 use Rattle.views.specs.ShownWorlds.{world_of}
 use Rattle.views.specs.Spots.{place_at}
-use Rattle.views.proofs.Searching.{less_before, less_inside}
+use Rattle.views.proofs.Searching.{stands_as, less_before, less_inside}
 use Rattle.views.proofs.SeenFrom.{both_farther, search_work}
 use Rattle.views.specs.SeenPoints.{wide_of, is_bare_miss}
 use Rattle.views.proofs.Filtering.{or_first}
@@ -105,12 +105,8 @@ returns-then-is_hit_itself g c =
 
 pub loop-index-smaller : goal.loop-index-smaller
 loop-index-smaller g c =
-    let w = world_of c.args.top.state in
-    let q = place_at c.in-Some-spot.above in
-    let stands : StandsAt w q c.loop-index.parent.id = subst (StandsAt w q) c.in-Some-spot.ensures.there.1 c.in-Some-spot.ensures.there.0.stands in
-    let other : is_same_id c.args.top.id c.loop-index.parent.id ≡ false = tested_same c.is_same.result c.args.top.id c.loop-index.parent.id c.is_same.ensures ∙ c.if-is_same.false in
-    let start : c.loop-index.index ≡ 0 = omega arith in
-    work_until_up w c.know.ensures.formed c.args.top.id (c.loop-index.parent.id, c.loop-index.index) q start stands other
+    work_until_up (world_of c.args.top.state) c.know.ensures.formed c.args.top.id (c.loop-index.parent.id, c.loop-index.index) (place_at c.in-Some-spot.above) (omega arith)
+    (stands_as c.in-Some-spot.above c.loop-index.parent.id c.in-Some-spot.ensures.there) (tested_same c.is_same.result c.args.top.id c.loop-index.parent.id c.is_same.ensures ∙ c.if-is_same.false)
 
 pub loop-index-preserved : goal.loop-index-preserved
 loop-index-preserved g c =
