@@ -3,7 +3,7 @@ use Rattle.std.proofs.Common.{◌≡◌, ℕ, suc, ◌+◌, ◌-◌, ◌<◌, �
 use Rattle.std.specs.Prelude.{Result, Ok, Err, OnOk, OnErr, is_ok}
 use Rattle.std.specs.List.{FoldsTo}
 use Rattle.schema.specs.TextCalls.{TextCall, WithCharacter}
-use Rattle.views.specs.Writes.{IsCalled, IsCalledTillFault, bullet_calls}
+use Rattle.views.specs.Writes.{IsCalled, IsCalledTillFault, IsCalledBy, bullet_calls}
 
 folds_on : {P A : Type 0} (R : P → A → P → Type 0) (p q r : P) (xs ys : List A) → FoldsTo R p xs q → FoldsTo R q ys r → FoldsTo R p (xs ++ ys) r
 folds_on R p q r [] ys e g = subst (λ u. FoldsTo R u ys r) (sym e) g
@@ -60,6 +60,9 @@ module _ {W A E : Type 0} (steps : W → TextCall → Bool → W → Type 0) (ol
   pub broken_off_as : calls ≡ other → OnErr r (IsCalledTillFault steps calls old new) → OnErr r (IsCalledTillFault steps other old new)
   broken_off_as e h = subst (λ c. OnErr r (IsCalledTillFault steps c old new)) e h
 
+  pub calls_as : calls ≡ other → IsCalledBy steps r calls old new → IsCalledBy steps r other old new
+  calls_as e h = subst (λ c. IsCalledBy steps r c old new) e h
+
 -- one call, by its result
 module _ {W A E : Type 0} (steps : W → TextCall → Bool → W → Type 0) (old new : W) (call : TextCall) where
   pub taken_by : (r : Result A E) → steps old call (is_ok r) new → OnOk r (IsCalled steps (call ∷ []) old new)
@@ -69,6 +72,9 @@ module _ {W A E : Type 0} (steps : W → TextCall → Bool → W → Type 0) (ol
   pub failed_by : (r : Result A E) → steps old call (is_ok r) new → OnErr r (IsCalledTillFault steps (call ∷ []) old new)
   failed_by (Ok x) h = tt
   failed_by (Err e) h = one_failed steps call h
+
+  pub one_call : (r : Result A E) → steps old call (is_ok r) new → IsCalledBy steps r (call ∷ []) old new
+  one_call r h = record { called = taken_by r h; stopped = failed_by r h }
 
 -- ---- bullets
 

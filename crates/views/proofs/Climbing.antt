@@ -1,5 +1,5 @@
 -- What a climb from a node to its ancestors finds.
-use Rattle.std.proofs.Common.{◌≡◌, ◌<◌, Bool, true, false, cond, ◌||◌, List, [], ◌∷◌, length, Option, Some, None, refl, sym, ap, subst, ◌∙◌, map, arith, inl, inr}
+use Rattle.std.proofs.Common.{◌≡◌, ◌<◌, ℕ, ◌++◌, Bool, true, false, cond, ◌||◌, List, [], ◌∷◌, length, Option, Some, None, refl, sym, ap, subst, ◌∙◌, map, arith, inl, inr}
 use Rattle.std.specs.Prelude.{find, is_some, Contains, IsTrue, ◌↔◌}
 use Rattle.std.specs.Option.{option_map, option_map_or}
 use Rattle.std.specs.List.{list_any}
@@ -140,3 +140,28 @@ within_itself w top id e = sym (ap (λ b. b || list_any (is_same top) (ancestors
 pub within_where_found : (w : World) (top id : FullNodeId) (found : Option NodeRef) → is_same top id ≡ false → option_map id_at found ≡ find (is_same top) (ancestors w id) → is_some found ≡ is_within w top id
 within_where_found w top id found other e =
     some_mapped found ∙ ap is_some e ∙ any_found (is_same top) (ancestors w id) ∙ sym (ap (λ b. b || list_any (is_same top) (ancestors w id)) other)
+
+-- ---- the state of a climb
+
+-- climbed to a node of the same world, at which what is sought is what was sought at the start
+pub record IsClimbed {F A : Type 0} (Given : F → Type 0) (value : F → FullNodeId → A) (start now : NodeRef) : Type 0 where
+  pub world : world_at now ≡ world_at start
+  pub sought : (f : F) → Given f → value f (id_at now) ≡ value f (id_at start)
+
+pub climbs_on : {F A : Type 0} {Given : F → Type 0} {value : F → FullNodeId → A} {start now : NodeRef} → IsClimbed Given value start now → (q : NodeRef) → world_at q ≡ world_at now →
+    ((f : F) → Given f → value f (id_at now) ≡ value f (id_at q)) → IsClimbed Given value start q
+climbs_on way q there same = record { world = there ∙ way.world; sought = λ f given. sym (same f given) ∙ way.sought f given }
+
+-- the same where the node that was climbed to also meets a condition
+pub record IsReached {A : Type 0} (Meets : World → FullNodeId → Type 0) (value : World → FullNodeId → A) (start now : NodeRef) : Type 0 where
+  pub world : world_at now ≡ world_at start
+  pub meets : Meets (world_at start) (id_at now)
+  pub sought : value (world_at start) (id_at now) ≡ value (world_at start) (id_at start)
+
+-- above an ancestor that was found are fewer nodes
+pub found_is_higher : (w : World) → IsFormed w → (n q : NodeRef) → world_at n ≡ w → Contains (ancestors (world_at n) (id_at n)) (id_at q) → length (ancestors w (id_at q)) < length (ancestors w (id_at n))
+found_is_higher w formed n q same above = ancestor_is_higher w formed (id_at n) (id_at q) (subst (λ v. Contains (ancestors v (id_at n)) (id_at q)) same above)
+
+-- the indexes so far, and those of the places from this node up, are those from the start up
+abbrev pub IsPathSoFar : World → FullNodeId → FullNodeId → List ℕ → Type 0
+IsPathSoFar w start id path = path ++ map (λ (p : Place). p.1) (above w id) ≡ map (λ (p : Place). p.1) (above w start)

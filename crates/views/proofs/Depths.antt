@@ -18,7 +18,7 @@ use Rattle.model.specs.Beside.{left_at, prior_at, after_in, before_in}
 use Rattle.model.proofs.Walks.Beside.{start_left, start_prior}
 use Rattle.views.specs.declared.walks.spot.Spot.{Spot}
 use Rattle.views.specs.Spots.{IsSpot, place_at}
-use Rattle.views.specs.Deepest.{first_shown, last_shown}
+use Rattle.views.specs.Deepest.{first_shown, last_shown, LeadsToEnd, ends, goes, IsDeepest}
 
 -- ---- no node lies deeper than there are nodes
 
@@ -47,21 +47,19 @@ deeper_below w formed top p c e below =
 -- ---- the deepest, where each is that of a child
 
 module _ (deep child : FullNodeId → Option FullNodeId) (law : (id : FullNodeId) → deep id ≡ option_map (λ c. unwrap_or (deep c) c) (child id)) where
-  pub deep_first : (id c : FullNodeId) → Some c ≡ child id → deep id ≡ Some (unwrap_or (deep c) c)
+  deep_first : (id c : FullNodeId) → Some c ≡ child id → deep id ≡ Some (unwrap_or (deep c) c)
   deep_first id c e = law id ∙ ap (option_map (λ c. unwrap_or (deep c) c)) (sym e)
 
-  pub deep_none : (id : FullNodeId) → None ≡ child id → deep id ≡ None
+  deep_none : (id : FullNodeId) → None ≡ child id → deep id ≡ None
   deep_none id e = law id ∙ ap (option_map (λ c. unwrap_or (deep c) c)) (sym e)
 
-  pub deep_on : (id d c : FullNodeId) → deep id ≡ Some (unwrap_or (deep d) d) → Some c ≡ child d → deep id ≡ Some (unwrap_or (deep c) c)
-  deep_on id d c h e = h ∙ ap (λ o. Some (unwrap_or o d)) (deep_first d c e)
+  leads_to_it : (d last : FullNodeId) → LeadsToEnd child d last → unwrap_or (deep d) d ≡ last
+  leads_to_it d last (ends id e) = ap (λ o. unwrap_or o id) (deep_none id (sym e))
+  leads_to_it d last (goes id next end e leads) = ap (λ o. unwrap_or o id) (deep_first id next (sym e)) ∙ leads_to_it next end leads
 
-  pub deep_last : (id d : FullNodeId) → deep id ≡ Some (unwrap_or (deep d) d) → None ≡ child d → deep id ≡ Some d
-  deep_last id d h e = h ∙ ap (λ o. Some (unwrap_or o d)) (deep_none d e)
-
--- a step down leaves less of the nodes below
-pub less_below : (w : World) → IsFormed w → (p : Place) (d c : FullNodeId) → StandsAt w p c → p.0 ≡ d → len w.nodes - depth w c < len w.nodes - depth w d
-less_below w formed p d c e same = omega (arith, deeper_child w formed p c e, depth_within_nodes w c, ap (depth w) same)
+  pub deepest_is : (id : FullNodeId) (o : Option FullNodeId) → IsDeepest child id o → o ≡ deep id
+  deepest_is id None e = sym (deep_none id (sym e))
+  deepest_is id (Some last) (next, e, leads) = sym (deep_first id next (sym e) ∙ ap Some (leads_to_it next last leads))
 
 -- ---- the first and the last that is shown below a node
 
@@ -94,6 +92,12 @@ module _ (w : World) (formed : IsFormed w) (f : FullNodeId → FilterResult) (to
       option_map (λ s. s.member.id) r ≡ last_shown f w top
   item_last n None h e = none_last n h e
   item_last n (Some s) h e = shown_last n s.member.id h e
+
+pub child_deeper : (w : World) → IsFormed w → (id : FullNodeId) (i : ℕ) (o : Option Spot) → IfSome o (λ s. IsSpot w s × (place_at s ≡ (id, i))) → IfSome o (λ s. depth w id < depth w s.member.id)
+child_deeper w formed id i None there = tt
+child_deeper w formed id i (Some s) there =
+    let up : s.parent.id ≡ id = ap (λ (p : Place). p.0) there.1 in
+    omega (arith, deeper_child w formed (place_at s) s.member.id there.0.stands, ap (depth w) up)
 
 pub item_deeper : (w : World) → IsFormed w → (top : FullNodeId) (r : Option Spot) → IfSome r (IsSpot w) → IfSome r (λ s. is_below w top s.member.id ≡ true) → IfSome r (λ s. depth w top < depth w s.member.id)
 item_deeper w formed top None spot below = tt

@@ -216,3 +216,37 @@ module _ (w : World) (formed : IsFormed w) where
 module _ (w : World) (focused : Option FullNodeId) (n : NodeRef) (same : world_at n ≡ w) (focus : IsFocusedOne w focused) where
   pub passed_as : (r : Bool) → (IsFocusedOne (world_at n) focused → r ≡ is_passed (world_at n) (id_at n)) → r ≡ is_passed w (id_at n)
   passed_as r says = says (subst (λ v. IsFocusedOne v focused) (sym same) focus) ∙ ap (λ v. is_passed v (id_at n)) same
+
+-- ---- a step of the way up, by what the code's tests say of the parent
+
+module _ (w : World) (formed : IsFormed w) (focused : Option FullNodeId) (focus : IsFocusedOne w focused) (n q : NodeRef) (same : world_at n ≡ w) (there : world_at q ≡ world_at n) (parent : Some (id_at q) ≡ parent_of (world_at n) (id_at n))
+    (r : Bool) (tested : IsFocusedOne (world_at q) focused → r ≡ is_passed (world_at q) (id_at q)) where
+  passed_is : (b : Bool) → r ≡ b → is_passed w (id_at q) ≡ b
+  passed_is b e = sym (passed_as w focused q (there ∙ same) focus r tested) ∙ e
+
+  pub shown_found : is_hidden w (id_at n) ≡ false → r ≡ false → filtered_parent (base_filter w) w (id_at n) ≡ Some (id_at q)
+  shown_found seen e = base_finds w formed (world_at n) same (id_at n) (id_at q) parent seen (passed_is false e)
+
+  pub shown_above : is_hidden w (id_at n) ≡ false → r ≡ true → filtered_parent (base_filter w) w (id_at n) ≡ filtered_parent (base_filter w) w (id_at q)
+  shown_above seen e = base_goes_on w formed (world_at n) same (id_at n) (id_at q) parent seen (passed_is true e)
+
+  module _ (unsettled : first_answer w (id_at n) ≡ None) where
+    pub ends_passed : r ≡ true → (o : Option FullNodeId) → o ≡ filtered_parent (base_filter (world_at q)) (world_at q) (id_at q) → option_map_or (λ p. is_clipped_by w p (id_at n)) o false ≡ clipped_from w (upward w (id_at n))
+    ends_passed e o found = way_passed w formed (world_at n) same (id_at n) (id_at q) parent unsettled (passed_is true e) o (found ∙ ap (λ v. filtered_parent (base_filter v) v (id_at q)) (there ∙ same))
+
+    module _ (kept : r ≡ false) where
+      pub opens : is_focused w (id_at q) ≡ false → first_answer w (id_at q) ≡ None
+      opens f = parent_unsettled w formed (world_at n) same (id_at n) (id_at q) parent unsettled (passed_is false kept) f
+
+      module _ (s : Bool) (clips : s ≡ is_clipped_by (world_at n) (id_at q) (id_at n)) where
+        clipped_is : (b : Bool) → s ≡ b → is_clipped_by w (id_at q) (id_at n) ≡ b
+        clipped_is b e = sym (clips ∙ ap (λ v. is_clipped_by v (id_at q) (id_at n)) same) ∙ e
+
+        pub ends_clipped : s ≡ true → true ≡ clipped_from w (upward w (id_at n))
+        ends_clipped e = way_clipped w formed (world_at n) same (id_at n) (id_at q) parent unsettled (passed_is false kept) (clipped_is true e)
+
+        pub ends_focused : s ≡ false → is_focused w (id_at q) ≡ true → false ≡ clipped_from w (upward w (id_at n))
+        ends_focused e f = way_focused w formed (world_at n) same (id_at n) (id_at q) parent unsettled (passed_is false kept) (clipped_is false e) f
+
+        pub goes_on : s ≡ false → clipped_from w (upward w (id_at n)) ≡ clipped_from w (upward w (id_at q))
+        goes_on e = way_on w formed (world_at n) same (id_at n) (id_at q) parent unsettled (passed_is false kept) (clipped_is false e)

@@ -1,5 +1,5 @@
 -- What a node has from the nodes above it, by the nearest that passes a test.
-use Rattle.std.proofs.Common.{◌≡◌, Bool, false, cond, List, [], ◌∷◌, Option, Some, None, refl, sym, ap, ◌∙◌}
+use Rattle.std.proofs.Common.{◌≡◌, ℕ, Bool, false, cond, List, [], ◌∷◌, Option, Some, None, refl, sym, ap, ◌∙◌}
 use Rattle.std.specs.Prelude.{find, is_some, slice_get, filter_map, option_and_then}
 use Rattle.std.specs.Option.{option_map, option_map_or}
 use Rattle.std.specs.List.{cons_option}
@@ -9,6 +9,7 @@ use Rattle.model.specs.World.{World, data_of}
 use Rattle.model.specs.Upward.{field_at, says, upward, nearest_given, inherited_field, says_upward}
 use Rattle.views.specs.declared.node.node_ref.NodeRef.{NodeRef}
 use Rattle.views.specs.Nodes.{world_at, id_at, data_at}
+use Rattle.views.specs.Inherited.{inherited_at}
 use Rattle.views.proofs.Climbing.{data_shown, any_found, some_mapped}
 
 module _ {A : Type 0} (field : NodeData → Option A) (w : World) where
@@ -46,3 +47,14 @@ module _ {A : Type 0} (field : NodeData → Option A) (w : World) where
 -- a node or an ancestor says so if one is found
 pub said_where_found : (test : NodeData → Bool) (w : World) (id : FullNodeId) (found : Option NodeRef) → option_map id_at found ≡ find (says test w) (upward w id) → is_some found ≡ says_upward test w id
 said_where_found test w id found e = some_mapped found ∙ ap is_some e ∙ any_found (says test w) (upward w id)
+
+-- the same of a field that is a text, by what the code returns
+module _ (field : NodeData → Option (List ℕ)) (n : NodeRef) where
+  abbrev gives_it : FullNodeId → Bool
+  gives_it = says (λ d. is_some (field d)) (world_at n)
+
+  pub text_inherited : (o : Option (List ℕ)) (q : NodeRef) → o ≡ field (data_at q) → world_at q ≡ world_at n → Some (id_at q) ≡ find gives_it (upward (world_at n) (id_at n)) → o ≡ inherited_at field n
+  text_inherited o q is same found = is ∙ inherited_from field (world_at n) (id_at n) q same found
+
+  pub no_text_inherited : (o : Option (List ℕ)) → o ≡ None → None ≡ find gives_it (upward (world_at n) (id_at n)) → o ≡ inherited_at field n
+  no_text_inherited o is none = is ∙ nothing_inherited field (world_at n) (id_at n) none

@@ -16,15 +16,15 @@ use Rattle.views.specs.LabelTexts.{parts_of, spaced, rest_of_label}
 
 -- ---- what a node gives
 
+pub own_label_is : (n : NodeRef) → own_label (world_at n) (id_at n) ≡ (data_at n).label
+own_label_is n = ap (λ o. option_and_then (λ (d : NodeData). d.label) o) n.known
+
 module _ (n : NodeRef) where
   abbrev w : World
   w = world_at n
 
   abbrev id : FullNodeId
   id = id_at n
-
-  pub own_label_is : own_label w id ≡ (data_at n).label
-  own_label_is = ap (λ o. option_and_then (λ (d : NodeData). d.label) o) n.known
 
   part_by_role : label_part w id ≡ cond (is_label (data_at n).role) (value_of w id) (own_label w id)
   part_by_role = ap (λ o. cond (option_map_or (λ (d : NodeData). is_label d.role) o false) (value_of w id) (own_label w id)) n.known
@@ -33,7 +33,7 @@ module _ (n : NodeRef) where
   part_is_value e = sym (part_by_role ∙ ap (λ b. cond b (value_of w id) (own_label w id)) e)
 
   pub part_is_label : is_label (data_at n).role ≡ false → (data_at n).label ≡ label_part w id
-  part_is_label e = sym (part_by_role ∙ ap (λ b. cond b (value_of w id) (own_label w id)) e ∙ own_label_is)
+  part_is_label e = sym (part_by_role ∙ ap (λ b. cond b (value_of w id) (own_label w id)) e ∙ own_label_is n)
 
 -- ---- part after part
 
@@ -54,25 +54,26 @@ pub no_more : (is_later : Bool) → rest_of_label is_later [] ≡ []
 no_more true = refl
 no_more false = refl
 
+-- what there is comes before the others
+pub put_first : {A : Type 0} (o : Option A) (d : A) (xs : List A) → is_some o ≡ true → cons_option o xs ≡ unwrap_or o d ∷ xs
+put_first None d xs e = cc
+put_first (Some x) d xs e = refl
+
+pub left_out : {A : Type 0} (o : Option A) (xs : List A) → is_some o ≡ false → cons_option o xs ≡ xs
+left_out None xs e = refl
+left_out (Some x) xs e = cc
+
 module _ (nodes rest : List (World × FullNodeId)) (n : NodeRef) (is : nodes ≡ node_of n ∷ rest) where
   by_part : parts_of nodes ≡ cons_option (label_part (world_at n) (id_at n)) (parts_of rest)
   by_part = ap parts_of is
 
   -- the node gives a part
   pub given : is_some (label_part (world_at n) (id_at n)) ≡ true → parts_of nodes ≡ unwrap_or (label_part (world_at n) (id_at n)) [] ∷ parts_of rest
-  given some = by_part ∙ go (label_part (world_at n) (id_at n)) some
-    where
-      go : (o : Option (List ℕ)) → is_some o ≡ true → cons_option o (parts_of rest) ≡ unwrap_or o [] ∷ parts_of rest
-      go None e = cc
-      go (Some t) e = refl
+  given some = by_part ∙ put_first (label_part (world_at n) (id_at n)) [] (parts_of rest) some
 
   -- or none
   pub not_given : is_some (label_part (world_at n) (id_at n)) ≡ false → parts_of nodes ≡ parts_of rest
-  not_given none = by_part ∙ go (label_part (world_at n) (id_at n)) none
-    where
-      go : (o : Option (List ℕ)) → is_some o ≡ false → cons_option o (parts_of rest) ≡ parts_of rest
-      go None e = refl
-      go (Some t) e = cc
+  not_given none = by_part ∙ left_out (label_part (world_at n) (id_at n)) (parts_of rest) none
 
 pub there_already : (b : Bool) → true ≡ (b || true)
 there_already true = refl

@@ -24,6 +24,7 @@ pub mod Named
 pub mod Reversed
 pub mod SeenFrom
 pub mod Showing
+pub mod Searching
 pub mod Walked
 pub mod Descending
 pub mod Descended

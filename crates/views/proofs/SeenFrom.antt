@@ -11,11 +11,15 @@ use Rattle.model.specs.Beside.{weight, work_until, work_before}
 use Rattle.model.proofs.Forest.PlaceOf.{test_self}
 use Rattle.model.proofs.Forest.Grown.{below_is}
 use Rattle.model.proofs.Forest.Rooted.{state_formed}
-use Rattle.views.specs.SeenPoints.{IsNear}
+use Rattle.views.specs.declared.walks.hits.SeenPoint.{SeenPoint}
+use Rattle.views.specs.SeenPoints.{IsNear, AreNear}
 use Rattle.views.proofs.Weights.{weight_fits}
 
-pub farther : (k n : ℕ) (z : ℤ) → k ≤ n → IsNear k z → IsNear n z
+farther : (k n : ℕ) (z : ℤ) → k ≤ n → IsNear k z → IsNear n z
 farther k n z l h = (omega (arith, ints), omega (arith, ints))
+
+pub both_farther : (k n : ℕ) (s : SeenPoint) → k ≤ n → AreNear k s → AreNear n s
+both_farther k n s l h = (farther k n s.x l h.0, farther k n s.y l h.1)
 
 take_all : {A : Type 0} (xs : List A) → take (length xs) xs ≡ xs
 take_all [] = refl

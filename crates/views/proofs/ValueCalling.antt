@@ -1,10 +1,9 @@
 -- By which calls values and labels are written, case by case.
 use Rattle.std.proofs.Common.{◌≡◌, ℕ, Bool, true, false, cond, List, [], ◌∷◌, ◌++◌, map, refl, sym, ap, ◌∙◌, subst}
 use Rattle.std.specs.Prelude.{Option, Some, None, is_some, option_map, unwrap_or, filter_map, if◌then◌else◌, Result, OnOk, OnErr}
-use Rattle.std.specs.Option.{option_and_then, option_map_or}
+use Rattle.std.specs.Option.{option_map_or}
 use Rattle.std.specs.List.{cons_option}
 use Rattle.std.proofs.lemmas.Result.{on_ok_weaker, on_err_weaker}
-use Rattle.schema.specs.NodeData.{NodeData}
 use Rattle.schema.specs.TextCalls.{TextCall}
 use Rattle.model.specs.declared.FullNodeId.{FullNodeId}
 use Rattle.model.specs.World.{World}
@@ -12,13 +11,15 @@ use Rattle.model.specs.FlatText.{needs_masking}
 use Rattle.model.specs.Labels.{own_label, label_part, labelled_by}
 use Rattle.model.specs.RoleClasses.{is_label}
 use Rattle.model.specs.TextRuns.{is_password, supports_text_ranges}
-use Rattle.model.specs.Values.{own_value, has_value_in_runs}
+use Rattle.model.specs.Values.{has_value_in_runs}
 use Rattle.views.specs.declared.node.node_ref.NodeRef.{NodeRef}
 use Rattle.views.specs.Nodes.{world_at, id_at, data_at}
 use Rattle.views.specs.PlainWalks.{node_in, node_of}
 use Rattle.views.specs.ValueCalls.{text_calls, alone_calls, document_calls, own_value_calls, value_calls, part_calls, given_calls, spaced_calls, joined_calls, label_calls, calls_of, rest_of_calls}
 use Rattle.views.specs.Writes.{IsCalled, IsCalledTillFault}
 use Rattle.views.proofs.Climbing.{says_shown}
+use Rattle.views.proofs.LabelTexts.{own_label_is, put_first, left_out}
+use Rattle.views.proofs.ValueTexts.{own_value_is}
 
 -- ---- another name for calls, and one call more
 
@@ -77,18 +78,12 @@ module _ (n : NodeRef) where
   abbrev id : FullNodeId
   id = id_at n
 
-  own_value_is : own_value w id ≡ (data_at n).value
-  own_value_is = ap (λ o. option_and_then (λ (d : NodeData). d.value) o) n.known
-
-  own_label_is : own_label w id ≡ (data_at n).label
-  own_label_is = ap (λ o. option_and_then (λ (d : NodeData). d.label) o) n.known
-
   abbrev valued : Option (List ℕ) → Bool → List TextCall
   valued own runs = option_map_or (own_value_calls w id) own (if runs then document_calls w id else [])
 
   by_own : (o : Option (List ℕ)) → o ≡ (data_at n).value → valued o (has_value_in_runs w id) ≡ value_calls w id
   unfolding value_calls
-  by_own o e = ap (λ o. valued o (has_value_in_runs w id)) (e ∙ sym own_value_is)
+  by_own o e = ap (λ o. valued o (has_value_in_runs w id)) (e ∙ sym (own_value_is n))
 
   pub calls_of_own : (v : List ℕ) → Some v ≡ (data_at n).value → own_value_calls w id v ≡ value_calls w id
   calls_of_own v e = by_own (Some v) e
@@ -104,7 +99,7 @@ module _ (n : NodeRef) where
 
   by_role : parted (is_label (data_at n).role) (data_at n).label ≡ part_calls w id
   by_role =
-      ap (λ o. parted (is_label (data_at n).role) o) (sym own_label_is)
+      ap (λ o. parted (is_label (data_at n).role) o) (sym (own_label_is n))
       ∙ ap (λ b. parted b (own_label w id)) (sym (says_shown (λ d. is_label d.role) w n refl))
 
   pub part_of_value : is_label (data_at n).role ≡ true → value_calls w id ≡ part_calls w id
@@ -123,23 +118,25 @@ pub no_more_calls : (is_later : Bool) → rest_of_calls is_later [] ≡ []
 no_more_calls true = refl
 no_more_calls false = refl
 
+mapped_is_some : {A B : Type 0} (b : B) (o : Option A) → is_some (option_map (λ _. b) o) ≡ is_some o
+mapped_is_some b None = refl
+mapped_is_some b (Some x) = refl
+
+mapped_to : {A B : Type 0} (b : B) (o : Option A) → unwrap_or (option_map (λ _. b) o) b ≡ b
+mapped_to b None = refl
+mapped_to b (Some x) = refl
+
 module _ (nodes rest : List (World × FullNodeId)) (n : NodeRef) (is : nodes ≡ node_of n ∷ rest) where
   by_part : calls_of nodes ≡ cons_option (given_calls (world_at n) (id_at n)) (calls_of rest)
   by_part = ap calls_of is
 
   pub given_its_calls : is_some (label_part (world_at n) (id_at n)) ≡ true → calls_of nodes ≡ part_calls (world_at n) (id_at n) ∷ calls_of rest
-  given_its_calls some = by_part ∙ go (label_part (world_at n) (id_at n)) some
-    where
-      go : (o : Option (List ℕ)) → is_some o ≡ true → cons_option (option_map (λ _. part_calls (world_at n) (id_at n)) o) (calls_of rest) ≡ part_calls (world_at n) (id_at n) ∷ calls_of rest
-      go None e = cc
-      go (Some t) e = refl
+  given_its_calls some =
+      by_part ∙ put_first (given_calls (world_at n) (id_at n)) (part_calls (world_at n) (id_at n)) (calls_of rest) (mapped_is_some (part_calls (world_at n) (id_at n)) (label_part (world_at n) (id_at n)) ∙ some)
+      ∙ ap (λ c. c ∷ calls_of rest) (mapped_to (part_calls (world_at n) (id_at n)) (label_part (world_at n) (id_at n)))
 
   pub given_no_calls : is_some (label_part (world_at n) (id_at n)) ≡ false → calls_of nodes ≡ calls_of rest
-  given_no_calls none = by_part ∙ go (label_part (world_at n) (id_at n)) none
-    where
-      go : (o : Option (List ℕ)) → is_some o ≡ false → cons_option (option_map (λ _. part_calls (world_at n) (id_at n)) o) (calls_of rest) ≡ calls_of rest
-      go None e = refl
-      go (Some t) e = cc
+  given_no_calls none = by_part ∙ left_out (given_calls (world_at n) (id_at n)) (calls_of rest) (mapped_is_some (part_calls (world_at n) (id_at n)) (label_part (world_at n) (id_at n)) ∙ none)
 
 -- ---- the label of a node
 

@@ -17,7 +17,7 @@ module _ (n : NodeRef) where
   abbrev id : FullNodeId
   id = id_at n
 
-  own_value_is : own_value w id ≡ (data_at n).value
+  pub own_value_is : own_value w id ≡ (data_at n).value
   own_value_is = ap (λ o. option_and_then (λ (d : NodeData). d.value) o) n.known
 
   abbrev valued : Option (List ℕ) → Bool → Option (List ℕ)

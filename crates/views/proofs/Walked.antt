@@ -1,6 +1,6 @@
 -- What a step of a walk and its beginnings give.
 use Rattle.std.proofs.Common.{◌≡◌, ◌≢◌, ℕ, Bool, true, false, [], ◌∷◌, ◌++◌, length, sym, ◌∙◌, ap}
-use Rattle.std.specs.Prelude.{Option, Some, None, reverse, slice_get, MatchOption, ◌↔◌}
+use Rattle.std.specs.Prelude.{Option, Some, None, reverse, slice_get, option_map, MatchOption, ◌↔◌}
 use Rattle.std.proofs.lemmas.List.{reverse-append}
 use Rattle.model.specs.declared.FullNodeId.{FullNodeId}
 use Rattle.model.specs.declared.filters.FilterResult.{FilterResult}
@@ -13,6 +13,8 @@ use Rattle.model.proofs.Walks.Beside.{start_left, start_prior}
 use Rattle.model.proofs.Walks.Between.{first_off, not_stuck, last_off, not_stuck_back, all_between, none_beside}
 use Rattle.model.proofs.Walks.Siblings.{cover_leads, following_in, preceding_in}
 use Rattle.model.proofs.Walks.WalkLaws.{root_has_no_cover, uncovered_has_no_siblings, walk_has_following, walk_has_preceding}
+use Rattle.views.specs.declared.walks.spot.Spot.{Spot}
+use Rattle.views.specs.Sides.{siblings_beside}
 
 pub apart : (r : Bool) (a b : FullNodeId) → (r ≡ true) ↔ (a ≡ b) → r ≡ false → a ≢ b
 apart r a b h n e = let both : false ≡ true = sym n ∙ h.1 e in cc
@@ -68,16 +70,37 @@ unplaced w formed f node e = uncovered_has_no_siblings f w formed node (root_has
 pub uncovered : (w : World) → IsFormed w → (f : FullNodeId → FilterResult) (node : FullNodeId) → None ≡ cover f w node → (following_filtered_siblings f w node ≡ []) × (preceding_filtered_siblings f w node ≡ [])
 uncovered w formed f node e = uncovered_has_no_siblings f w formed node (sym e)
 
--- the first that is shown after a covered node, and the last before it, are its nearest siblings
-module _ (w : World) (formed : IsFormed w) (f : FullNodeId → FilterResult) (top node : FullNodeId) (covers : Some top ≡ cover f w node) where
-  pub first_after : (r : FullNodeId) → after_in f w top node ≡ r ∷ after_in f w top r → Some r ≡ slice_get (following_filtered_siblings f w node) 0
-  first_after r e = sym (ap (λ xs. slice_get xs 0) (following_in f w formed node top (sym covers) ∙ e))
+-- ---- the nearest sibling on either side
 
-  pub none_after : after_in f w top node ≡ [] → None ≡ slice_get (following_filtered_siblings f w node) 0
-  none_after e = sym (ap (λ xs. slice_get xs 0) (following_in f w formed node top (sym covers) ∙ e))
+module _ (w : World) (formed : IsFormed w) (f : FullNodeId → FilterResult) (before : Bool) (node : FullNodeId) where
+  none_beside_it : (following_filtered_siblings f w node ≡ []) × (preceding_filtered_siblings f w node ≡ []) → None ≡ slice_get (siblings_beside before f w node) 0
+  none_beside_it h = by_side before
+    where
+      by_side : (b : Bool) → None ≡ slice_get (siblings_beside b f w node) 0
+      by_side true = sym (ap (λ xs. slice_get xs 0) h.1)
+      by_side false = sym (ap (λ xs. slice_get xs 0) h.0)
 
-  pub last_before : (r : FullNodeId) → before_in f w top node ≡ before_in f w top r ++ r ∷ [] → Some r ≡ slice_get (preceding_filtered_siblings f w node) 0
-  last_before r e = sym (ap (λ xs. slice_get xs 0) (preceding_in f w formed node top (sym covers) ∙ ap reverse e ∙ reverse-append (before_in f w top r) (r ∷ [])))
+  pub none_unplaced : None ≡ place_of w node → None ≡ slice_get (siblings_beside before f w node) 0
+  none_unplaced e = none_beside_it (unplaced w formed f node e)
 
-  pub none_before : before_in f w top node ≡ [] → None ≡ slice_get (preceding_filtered_siblings f w node) 0
-  none_before e = sym (ap (λ xs. slice_get xs 0) (preceding_in f w formed node top (sym covers) ∙ ap reverse e))
+  pub none_uncovered : None ≡ cover f w node → None ≡ slice_get (siblings_beside before f w node) 0
+  none_uncovered e = none_beside_it (uncovered w formed f node e)
+
+  -- the nearest item on that side below the cover, where the walk has the node by another name
+  module _ (top other : FullNodeId) (covers : Some top ≡ cover f w node) (same : other ≡ node) (o : Option Spot) where
+    pub next_is_nearest : before ≡ false → MatchOption o (after_in f w top other ≡ []) (λ r. after_in f w top other ≡ r.member.id ∷ after_in f w top r.member.id) →
+        option_map (λ r. r.member.id) o ≡ slice_get (siblings_beside before f w node) 0
+    next_is_nearest side h = by_item o h ∙ ap (λ i. slice_get (after_in f w top i) 0) same ∙ sym (ap (λ b. slice_get (siblings_beside b f w node) 0) side ∙ ap (λ xs. slice_get xs 0) (following_in f w formed node top (sym covers)))
+      where
+        by_item : (o : Option Spot) → MatchOption o (after_in f w top other ≡ []) (λ r. after_in f w top other ≡ r.member.id ∷ after_in f w top r.member.id) → option_map (λ r. r.member.id) o ≡ slice_get (after_in f w top other) 0
+        by_item None e = sym (ap (λ xs. slice_get xs 0) e)
+        by_item (Some r) e = sym (ap (λ xs. slice_get xs 0) e)
+
+    pub previous_is_nearest : before ≡ true → MatchOption o (before_in f w top other ≡ []) (λ r. before_in f w top other ≡ before_in f w top r.member.id ++ r.member.id ∷ []) →
+        option_map (λ r. r.member.id) o ≡ slice_get (siblings_beside before f w node) 0
+    previous_is_nearest side h = by_item o h ∙ ap (λ i. slice_get (reverse (before_in f w top i)) 0) same ∙ sym (ap (λ b. slice_get (siblings_beside b f w node) 0) side ∙ ap (λ xs. slice_get xs 0) (preceding_in f w formed node top (sym covers)))
+      where
+        by_item : (o : Option Spot) → MatchOption o (before_in f w top other ≡ []) (λ r. before_in f w top other ≡ before_in f w top r.member.id ++ r.member.id ∷ []) →
+            option_map (λ r. r.member.id) o ≡ slice_get (reverse (before_in f w top other)) 0
+        by_item None e = sym (ap (λ xs. slice_get (reverse xs) 0) e)
+        by_item (Some r) e = sym (ap (λ xs. slice_get xs 0) (ap reverse e ∙ reverse-append (before_in f w top r.member.id) (r.member.id ∷ [])))

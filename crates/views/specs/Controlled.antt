@@ -1,5 +1,5 @@
 -- What a walk over named nodes has left.
-use Rattle.std.specs.Prelude.{ℕ, List, map, filter_map}
+use Rattle.std.specs.Prelude.{ℕ, Bool, true, false, List, [], ◌∷◌, ◌++◌, map, filter_map}
 use Rattle.schema.specs.declared.NodeId.{NodeId}
 use Rattle.model.specs.declared.FullNodeId.{FullNodeId}
 use Rattle.model.specs.World.{World, in_tree}
@@ -14,3 +14,8 @@ named_nodes w tree ids = map (node_in w) (filter_map (λ n. if_there w (in_tree 
 
 abbrev pub controls_left : Controls → List (World × FullNodeId)
 controls_left s = named_nodes (world_of s.state) s.tree s.ids.now
+
+-- an item before the others, or after them
+abbrev pub joined_at : {A : Type 0} → Bool → A → List A → List A
+joined_at false x xs = x ∷ xs
+joined_at true x xs = xs ++ x ∷ []

@@ -4,6 +4,8 @@ use Rattle.model.specs.declared.FullNodeId.{FullNodeId}
 use Rattle.model.specs.declared.filters.FilterResult.{FilterResult}
 use Rattle.model.specs.World.{World}
 use Rattle.model.specs.Frontier.{filtered_children}
+use Rattle.views.specs.declared.node.node_ref.NodeRef.{NodeRef}
+use Rattle.views.specs.Follows.{Follows}
 
 abbrev pub first_shown : (FullNodeId → FilterResult) → World → FullNodeId → Option FullNodeId
 first_shown f w id = slice_get (filtered_children f w id) 0
@@ -20,3 +22,8 @@ pub data LeadsToEnd (step : FullNodeId → Option FullNodeId) : FullNodeId → F
 abbrev pub IsDeepest : (FullNodeId → Option FullNodeId) → FullNodeId → Option FullNodeId → Type 0
 IsDeepest step id None = step id ≡ None
 IsDeepest step id (Some last) = (next : FullNodeId) × (step id ≡ Some next) × LeadsToEnd step next last
+
+-- by a function that the filter follows in this world, the steps go where it shows
+abbrev pub LeadsByFilter : (NodeRef → FilterResult → Type 0) → ((FullNodeId → FilterResult) → World → FullNodeId → Option FullNodeId) → World
+    → (FullNodeId → Option FullNodeId) → Type 0
+LeadsByFilter answers shown w step = (f : FullNodeId → FilterResult) × Follows answers w f × (step ≡ shown f w)

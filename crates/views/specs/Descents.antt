@@ -13,8 +13,7 @@ use Rattle.views.specs.declared.node.node_ref.NodeRef.{NodeRef}
 use Rattle.views.specs.declared.walks.ends.Ends.{Ends}
 use Rattle.views.specs.declared.walks.course.Course.{Course}
 use Rattle.views.specs.Nodes.{id_at}
-use Rattle.views.specs.Follows.{Follows}
-use Rattle.views.specs.Walks.{walked_world, WalksOn}
+use Rattle.views.specs.Walks.{walked_world, HasLeft, Takes}
 use Rattle.views.specs.Descendants.{shown_nodes, filtered_descendants}
 
 -- the node, if it is included
@@ -96,23 +95,16 @@ descent_left f c = all_between_if f (walked_world c) c.top c.ends
 abbrev pub descent_work : Course → ℕ
 descent_work c = work_inside_if (walked_world c) c.top c.ends
 
--- by each f that the filter follows, the call takes the first of what is left
-pub record TakesFirst (answers : NodeRef → FilterResult → Type 0) (s : Course) (r : Option NodeRef) (t : Course) : Type 0 where
-  pub goes : WalksOn s r t
-  pub list : (f : FullNodeId → FilterResult) → Follows answers (walked_world s) f → IsOnDescent f s → IsOnDescent f t
-      × YieldsFirstBy id_at (descent_left f) s r t
+-- the call takes the first of what is left, or the last
+abbrev pub TakesFirst : (NodeRef → FilterResult → Type 0) → Course → Option NodeRef → Course → Type 0
+TakesFirst = Takes (YieldsFirstBy id_at) IsOnDescent descent_left
 
--- or the last
-pub record TakesLast (answers : NodeRef → FilterResult → Type 0) (s : Course) (r : Option NodeRef) (t : Course) : Type 0 where
-  pub goes : WalksOn s r t
-  pub list : (f : FullNodeId → FilterResult) → Follows answers (walked_world s) f → IsOnDescent f s → IsOnDescent f t
-      × YieldsLastBy id_at (descent_left f) s r t
+abbrev pub TakesLast : (NodeRef → FilterResult → Type 0) → Course → Option NodeRef → Course → Type 0
+TakesLast = Takes (YieldsLastBy id_at) IsOnDescent descent_left
 
--- the walk is in this world, and by each f that the filter follows it has these ids left
-pub record BeginsDescent (answers : NodeRef → FilterResult → Type 0) (w : World) (ids : (FullNodeId → FilterResult) → List FullNodeId)
-    (c : Course) : Type 0 where
-  pub world : walked_world c ≡ w
-  pub list : (f : FullNodeId → FilterResult) → Follows answers w f → IsOnDescent f c × (descent_left f c ≡ ids f)
+-- the walk has these ids left
+abbrev pub BeginsDescent : (NodeRef → FilterResult → Type 0) → World → ((FullNodeId → FilterResult) → List FullNodeId) → Course → Type 0
+BeginsDescent = HasLeft IsOnDescent descent_left
 
 IsAmong-prop : (f : FullNodeId → FilterResult) (w : World) (top id : FullNodeId) → IsProp (IsAmong f w top id)
 IsAmong-prop f w top id =

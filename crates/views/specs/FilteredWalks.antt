@@ -33,21 +33,21 @@ pub record BeginsWalk {S F : Type 0} (answers : NodeRef → FilterResult → Typ
   pub list : (f : FullNodeId → FilterResult) → Follows answers w f → walk.OnCourse f s × (walk.left f s ≡ ids f)
 
 -- the filter stays; the walk stays in its world, each item is a node of that, and at its end the walk stays there;
--- and by each f that the filter follows the call returns the first of what is left
-pub record GivesFirst {S F : Type 0} (answers : F → NodeRef → FilterResult → Type 0) (walk : WalkOf S F) (s : S) (r : Option NodeRef)
-    (t : S) : Type 0 where
+-- and by each f that the filter follows the call returns an item of what is left from one end
+pub record Gives {S F : Type 0} (Yields : (S → List FullNodeId) → S → Option NodeRef → S → Type 0)
+    (answers : F → NodeRef → FilterResult → Type 0) (walk : WalkOf S F) (s : S) (r : Option NodeRef) (t : S) : Type 0 where
   pub filter : walk.filter t ≡ walk.filter s
   pub goes : WalksOn (walk.course s) r (walk.course t)
   pub list : (f : FullNodeId → FilterResult) → Follows (answers (walk.filter s)) (walked_world (walk.course s)) f → walk.OnCourse f s →
-      walk.OnCourse f t × YieldsFirstBy id_at (walk.left f) s r t
+      walk.OnCourse f t × Yields (walk.left f) s r t
 
--- and the same of the last
-pub record GivesLast {S F : Type 0} (answers : F → NodeRef → FilterResult → Type 0) (walk : WalkOf S F) (s : S) (r : Option NodeRef)
-    (t : S) : Type 0 where
-  pub filter : walk.filter t ≡ walk.filter s
-  pub goes : WalksOn (walk.course s) r (walk.course t)
-  pub list : (f : FullNodeId → FilterResult) → Follows (answers (walk.filter s)) (walked_world (walk.course s)) f → walk.OnCourse f s →
-      walk.OnCourse f t × YieldsLastBy id_at (walk.left f) s r t
+-- the first
+abbrev pub GivesFirst : {S F : Type 0} → (F → NodeRef → FilterResult → Type 0) → WalkOf S F → S → Option NodeRef → S → Type 0
+GivesFirst = Gives (YieldsFirstBy id_at)
+
+-- or the last
+abbrev pub GivesLast : {S F : Type 0} → (F → NodeRef → FilterResult → Type 0) → WalkOf S F → S → Option NodeRef → S → Type 0
+GivesLast = Gives (YieldsLastBy id_at)
 
 -- however calls at both ends are mixed, by each f that the filter follows they take what is left
 abbrev pub MixturesTakeShown : {S F : Type 0} → (S → Option NodeRef → S → Type 0) → (S → Option NodeRef → S → Type 0)
@@ -57,33 +57,25 @@ MixturesTakeShown {S} next next_back answers walk =
     → Follows (answers (walk.filter s)) (walked_world (walk.course s)) f → walk.OnCourse f s →
     AreTaken (walk.left f s) (map (call_seen id_at) calls) (walk.left f t)
 
+-- a walk whose ids are those of its state
+abbrev walk_by : {S F : Type 0} → (S → F) → (S → Course) → ((FullNodeId → FilterResult) → Course → Type 0)
+    → ((FullNodeId → FilterResult) → Course → List FullNodeId) → WalkOf S F
+walk_by filter course On left =
+    record { filter = filter; course = course; OnCourse = λ f s. On f (course s); left = λ f s. left f (course s) }
+
 abbrev pub children_walk : {F : Type 0} → WalkOf (FilteredChildren F) F
-children_walk =
-    record { filter = λ s. s.filter; course = λ s. s.course; OnCourse = λ f s. IsOnCourse f s.course; left = λ f s. ids_left f s.course }
+children_walk = walk_by (λ s. s.filter) (λ s. s.course) IsOnCourse ids_left
 
 abbrev pub following_walk : {F : Type 0} → WalkOf (FollowingFilteredSiblings F) F
-following_walk =
-    record { filter = λ s. s.filter; course = λ s. s.course; OnCourse = λ f s. IsOnCourse f s.course; left = λ f s. ids_left f s.course }
+following_walk = walk_by (λ s. s.filter) (λ s. s.course) IsOnCourse ids_left
 
 -- nearest first
 abbrev pub preceding_walk : {F : Type 0} → WalkOf (PrecedingFilteredSiblings F) F
-preceding_walk =
-    record {
-      filter = λ s. s.filter;
-      course = λ s. s.course;
-      OnCourse = λ f s. IsOnCourse f s.course;
-      left = λ f s. reverse (ids_left f s.course);
-    }
+preceding_walk = walk_by (λ s. s.filter) (λ s. s.course) IsOnCourse (λ f c. reverse (ids_left f c))
 
 -- over all depths
 abbrev pub descendants_walk : {F : Type 0} → WalkOf (FilteredDescendants F) F
-descendants_walk =
-    record {
-      filter = λ s. s.filter;
-      course = λ s. s.course;
-      OnCourse = λ f s. IsOnDescent f s.course;
-      left = λ f s. descent_left f s.course;
-    }
+descendants_walk = walk_by (λ s. s.filter) (λ s. s.course) IsOnDescent descent_left
 
 -- of the items, by the answer of f for a node that is one
 abbrev pub items_walk : {F : Type 0} → WalkOf (Items F) F

@@ -9,6 +9,7 @@ pub mod Inherited
 pub mod Reach
 pub mod Tests
 pub mod Spots
+pub mod Sides
 pub mod Courses
 pub mod Walks
 pub mod FilteredWalks

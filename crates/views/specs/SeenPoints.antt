@@ -14,6 +14,10 @@ wide_of s = record { x = s.x; y = s.y }
 abbrev pub IsNear : ℕ → ℤ → Type 0
 IsNear n z = (neg_ℤ (pos (2 ^ 63 + 2 ^ 31 * n)) ≤ℤ z) × (z ≤ℤ pos (2 ^ 63 + 2 ^ 31 * n))
 
+-- both of its coordinates are
+abbrev pub AreNear : ℕ → SeenPoint → Type 0
+AreNear n s = IsNear n s.x × IsNear n s.y
+
 -- the node has no children and doesn't contain the point itself
 abbrev pub is_bare_miss : World → FullNodeId → ℕ → WidePoint → Bool
 is_bare_miss w id count q = (count == 0) && not (option_map_or (λ r. contains_point r q) (field_at (λ d. d.bounds) w id) false)

@@ -29,11 +29,14 @@ work_of c = work_if (walked_world c) c.top c.ends
 abbrev pub IsOver : Course → Type 0
 IsOver c = c.ends ≡ None
 
--- the walk is in this world, and by each f that the filter follows it has these ids left
-pub record HasIdsLeft (answers : NodeRef → FilterResult → Type 0) (w : World) (ids : (FullNodeId → FilterResult) → List FullNodeId)
-    (c : Course) : Type 0 where
+-- the walk is in this world, and by each f that the filter follows it is on its course and has these ids left
+pub record HasLeft (On : (FullNodeId → FilterResult) → Course → Type 0) (left : (FullNodeId → FilterResult) → Course → List FullNodeId)
+    (answers : NodeRef → FilterResult → Type 0) (w : World) (ids : (FullNodeId → FilterResult) → List FullNodeId) (c : Course) : Type 0 where
   pub world : walked_world c ≡ w
-  pub list : (f : FullNodeId → FilterResult) → Follows answers w f → IsOnCourse f c × (ids_left f c ≡ ids f)
+  pub list : (f : FullNodeId → FilterResult) → Follows answers w f → On f c × (left f c ≡ ids f)
+
+abbrev pub HasIdsLeft : (NodeRef → FilterResult → Type 0) → World → ((FullNodeId → FilterResult) → List FullNodeId) → Course → Type 0
+HasIdsLeft = HasLeft IsOnCourse ids_left
 
 -- what a call leaves of a walk, from either end: it is in the same world, each item is a node of that, and at its end it stays there
 pub record WalksOn (s : Course) (r : Option NodeRef) (t : Course) : Type 0 where
@@ -42,14 +45,17 @@ pub record WalksOn (s : Course) (r : Option NodeRef) (t : Course) : Type 0 where
   pub ends : IfNone r (IsOver t)
   pub stays : IsOver s → r ≡ None
 
--- by each f that the filter follows, the call takes the first of what is left
-pub record TakesFront (answers : NodeRef → FilterResult → Type 0) (s : Course) (r : Option NodeRef) (t : Course) : Type 0 where
+-- by each f that the filter follows, the call takes an item of what is left from one end
+pub record Takes (Yields : (Course → List FullNodeId) → Course → Option NodeRef → Course → Type 0)
+    (On : (FullNodeId → FilterResult) → Course → Type 0) (left : (FullNodeId → FilterResult) → Course → List FullNodeId)
+    (answers : NodeRef → FilterResult → Type 0) (s : Course) (r : Option NodeRef) (t : Course) : Type 0 where
   pub goes : WalksOn s r t
-  pub list : (f : FullNodeId → FilterResult) → Follows answers (walked_world s) f → IsOnCourse f s → IsOnCourse f t
-      × YieldsFirstBy id_at (ids_left f) s r t
+  pub list : (f : FullNodeId → FilterResult) → Follows answers (walked_world s) f → On f s → On f t × Yields (left f) s r t
+
+-- the first
+abbrev pub TakesFront : (NodeRef → FilterResult → Type 0) → Course → Option NodeRef → Course → Type 0
+TakesFront = Takes (YieldsFirstBy id_at) IsOnCourse ids_left
 
 -- or the last
-pub record TakesBack (answers : NodeRef → FilterResult → Type 0) (s : Course) (r : Option NodeRef) (t : Course) : Type 0 where
-  pub goes : WalksOn s r t
-  pub list : (f : FullNodeId → FilterResult) → Follows answers (walked_world s) f → IsOnCourse f s → IsOnCourse f t
-      × YieldsLastBy id_at (ids_left f) s r t
+abbrev pub TakesBack : (NodeRef → FilterResult → Type 0) → Course → Option NodeRef → Course → Type 0
+TakesBack = Takes (YieldsLastBy id_at) IsOnCourse ids_left

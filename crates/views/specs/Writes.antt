@@ -1,5 +1,5 @@
 -- The effect of a call that writes a text on its writer, and how it calls the writer.
-use Rattle.std.specs.Prelude.{◌≡◌, ℕ, ◌+◌, Bool, true, false, List, ◌∷◌, ◌++◌, replicate}
+use Rattle.std.specs.Prelude.{◌≡◌, ℕ, ◌+◌, Bool, true, false, List, ◌∷◌, ◌++◌, replicate, Result, OnOk, OnErr}
 use Rattle.std.specs.List.{FoldsTo}
 use Rattle.schema.specs.TextCalls.{TextCall, WithCharacter}
 
@@ -17,6 +17,11 @@ module _ {W : Type 0} (received : W → List ℕ) (faults : W → ℕ) where
     pub whole : front ++ missing ≡ text
     pub has : received new ≡ received old ++ front
     pub failed : faults new ≡ faults old + 1
+
+  -- by the result of a function, it has the text, or it is cut short
+  pub record IsWrittenBy {A E : Type 0} (r : Result A E) (text : List ℕ) (old new : W) : Type 0 where
+    pub written : OnOk r (IsWritten text old new)
+    pub cut_short : OnErr r (IsCutShort text old new)
 
   -- it has the text except for the rest, and no call failed
   pub record IsUnderWay (text rest : List ℕ) (old new : W) : Type 0 where
@@ -43,3 +48,8 @@ module _ {W : Type 0} (steps : W → TextCall → Bool → W → Type 0) where
     pub before : W
     pub taken : IsCalled front old before
     pub failed : steps before call false new
+
+  -- by its result, a function made these calls, or the first of them till one failed
+  pub record IsCalledBy {A E : Type 0} (r : Result A E) (calls : List TextCall) (old new : W) : Type 0 where
+    pub called : OnOk r (IsCalled calls old new)
+    pub stopped : OnErr r (IsCalledTillFault calls old new)

@@ -14,7 +14,6 @@ use crate::StateRef;
 use crate::node::NodeRef;
 use crate::node::geometry::meets;
 use crate::walks::filter::Filter;
-use crate::walks::siblings::{first_following, first_preceding};
 pub use model::filters::FilterResult;
 use model::{FullNodeId, is_same};
 use schema::{Node, Role, WideRect};
@@ -149,11 +148,11 @@ fn is_far_outside(node: NodeRef<'_>, frame: WideRect, focused: Option<FullNodeId
         return false;
     }
     let base = BaseFilter { focused };
-    let following = first_following(node, &base);
+    let following = node.nearest_sibling(false, &base);
     if is_inside(following, frame) {
         return false;
     }
-    let preceding = first_preceding(node, &base);
+    let preceding = node.nearest_sibling(true, &base);
     !is_inside(preceding, frame)
 }
 

@@ -2,7 +2,6 @@
 mod controls;
 mod course;
 mod deepest;
-mod depths;
 mod descendants;
 mod descents;
 pub(crate) mod ends;
@@ -11,12 +10,14 @@ mod filtered;
 pub mod hits;
 pub(crate) mod items;
 mod labelled_by;
+mod members;
 mod mixtures;
+mod paths;
 mod plain;
 mod range;
 pub(crate) mod searches;
 mod sets;
-pub(crate) mod siblings;
+mod siblings;
 pub mod spot;
 mod starts;
 

@@ -7,7 +7,7 @@ ghost use Rattle.views.specs.PlainWalks.{node_in};
 ghost use Rattle.views.specs.LabelWalks.{labels_left};
 ghost use Rattle.views.specs.LabelTexts.{parts_of, spaced};
 ghost use Rattle.views.specs.ValueCalls.{calls_of, joined_calls, label_calls, part_calls, spaced_calls};
-ghost use Rattle.views.specs.Writes.{IsWritten, IsCutShort, IsCalled, IsCalledTillFault};
+ghost use Rattle.views.specs.Writes.{IsWritten, IsCutShort, IsCalled, IsCalledTillFault, IsWrittenBy, IsCalledBy};
 
 use crate::node::NodeRef;
 use crate::walks::LabelledBy;
@@ -104,14 +104,10 @@ impl<'a> NodeRef<'a> {
     /// Writes a label part, after a space if it isn't the first.
     fn write_part<W: TextWrite>(&self, is_later: bool, writer: &mut W) -> Result<(), TextFault>
         requires { W.faults writer.old + 1 < 2 ^ 128 }
-        ensures ok { let part = unwrap_or (label_part (world_at self.now) (id_at self.now)) [] in
-            OnOk result (IsWritten W.received W.faults (spaced is_later part) writer.old writer.new) }
-        ensures err { let part = unwrap_or (label_part (world_at self.now) (id_at self.now)) [] in
-            OnErr result (IsCutShort W.received W.faults (spaced is_later part) writer.old writer.new) }
-        ensures called { OnOk result (IsCalled W.steps
-            (spaced_calls is_later (part_calls (world_at self.now) (id_at self.now))) writer.old writer.new) }
-        ensures stopped { OnErr result (IsCalledTillFault W.steps
-            (spaced_calls is_later (part_calls (world_at self.now) (id_at self.now))) writer.old writer.new) }
+        ensures text { let part = unwrap_or (label_part (world_at self.now) (id_at self.now)) [] in
+            IsWrittenBy W.received W.faults result (spaced is_later part) writer.old writer.new }
+        ensures calls { let calls = spaced_calls is_later (part_calls (world_at self.now) (id_at self.now)) in
+            IsCalledBy W.steps result calls writer.old writer.new }
     {
         if !is_later {
             return self.write_bare_part(writer);

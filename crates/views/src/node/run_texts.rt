@@ -9,7 +9,7 @@ ghost use Rattle.views.specs.Nodes.{world_at, id_at};
 ghost use Rattle.views.specs.Runs.{sent_of};
 ghost use Rattle.views.specs.RunTexts.{shown_of, shown_text, are_all};
 ghost use Rattle.views.specs.ValueCalls.{run_calls, calls_of_runs, document_calls};
-ghost use Rattle.views.specs.Writes.{IsWritten, IsCutShort, IsCalled, IsCalledTillFault};
+ghost use Rattle.views.specs.Writes.{IsWritten, IsCutShort, IsCalled, IsCalledTillFault, IsCalledBy};
 
 use crate::node::NodeRef;
 use crate::node::masking::write_bullets;
@@ -21,8 +21,7 @@ fn write_run<W: TextWrite>(run: Run<'_>, masked: bool, writer: &mut W) -> Result
     requires { W.faults writer.old + 1 < 2 ^ 128 }
     ensures ok { OnOk result (IsWritten W.received W.faults (shown_of masked (sent_of run.entry)) writer.old writer.new) }
     ensures err { OnErr result (IsCutShort W.received W.faults (shown_of masked (sent_of run.entry)) writer.old writer.new) }
-    ensures called { OnOk result (IsCalled W.steps (run_calls masked (sent_of run.entry)) writer.old writer.new) }
-    ensures stopped { OnErr result (IsCalledTillFault W.steps (run_calls masked (sent_of run.entry)) writer.old writer.new) }
+    ensures calls { IsCalledBy W.steps result (run_calls masked (sent_of run.entry)) writer.old writer.new }
 {
     if masked {
         return write_bullets(run.character_count(), writer);

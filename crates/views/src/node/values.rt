@@ -5,7 +5,7 @@ ghost use Rattle.model.specs.Values.{shown_alone, shown_value, has_value_in_runs
 ghost use Rattle.views.specs.Nodes.{world_at, id_at, data_at};
 ghost use Rattle.views.specs.Secrets.{InEachOfShape};
 ghost use Rattle.views.specs.ValueCalls.{alone_calls, own_value_calls, value_calls};
-ghost use Rattle.views.specs.Writes.{IsWritten, IsCutShort, IsCalled, IsCalledTillFault};
+ghost use Rattle.views.specs.Writes.{IsWritten, IsCutShort, IsCalled, IsCalledTillFault, IsCalledBy};
 
 use crate::node::NodeRef;
 use crate::node::masking::{has_one_scalar, scalar_count, write_bullets};
@@ -19,8 +19,7 @@ fn write_alone<W: TextWrite>(value: &str, writer: &mut W) -> Result<(), TextFaul
     requires { W.faults writer.old + 1 < 2 ^ 128 }
     ensures ok { OnOk result (IsWritten W.received W.faults (shown_alone value.now) writer.old writer.new) }
     ensures err { OnErr result (IsCutShort W.received W.faults (shown_alone value.now) writer.old writer.new) }
-    ensures called { OnOk result (IsCalled W.steps (alone_calls value.now) writer.old writer.new) }
-    ensures stopped { OnErr result (IsCalledTillFault W.steps (alone_calls value.now) writer.old writer.new) }
+    ensures calls { IsCalledBy W.steps result (alone_calls value.now) writer.old writer.new }
 {
     if has_one_scalar(value) {
         return writer.write_str(value);
@@ -91,10 +90,8 @@ impl<'a> NodeRef<'a> {
             OnOk result (IsWritten W.received W.faults text writer.old writer.new) }
         ensures err { let text = shown_value (world_at self.now) (id_at self.now) value.now in
             OnErr result (IsCutShort W.received W.faults text writer.old writer.new) }
-        ensures called { let calls = own_value_calls (world_at self.now) (id_at self.now) value.now in
-            OnOk result (IsCalled W.steps calls writer.old writer.new) }
-        ensures stopped { let calls = own_value_calls (world_at self.now) (id_at self.now) value.now in
-            OnErr result (IsCalledTillFault W.steps calls writer.old writer.new) }
+        ensures calls { let calls = own_value_calls (world_at self.now) (id_at self.now) value.now in
+            IsCalledBy W.steps result calls writer.old writer.new }
     {
         if !self.is_password_input() {
             return writer.write_str(value);

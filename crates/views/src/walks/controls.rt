@@ -1,10 +1,10 @@
 //! The nodes that a node controls. The walk does not allocate.
-ghost use Rattle.std.specs.Prelude.{◌≡◌, ◌<◌, [], ◌∷◌, ◌++◌, length, map, IfSome, MatchOption};
+ghost use Rattle.std.specs.Prelude.{◌≡◌, ◌<◌, [], length, map, IfSome, MatchOption};
 ghost use Rattle.model.specs.Views.{controls as controls_of};
 ghost use Rattle.views.specs.Nodes.{world_at, id_at};
 ghost use Rattle.views.specs.ShownWorlds.{world_of};
 ghost use Rattle.views.specs.PlainWalks.{node_in, node_of};
-ghost use Rattle.views.specs.Controlled.{named_nodes};
+ghost use Rattle.views.specs.Controlled.{named_nodes, joined_at};
 
 use crate::StateRef;
 use crate::node::NodeRef;
@@ -54,7 +54,7 @@ impl<'a> Iterator for Controls<'a> {
     ghost remaining = { λ s. at_most (length s.ids.now) };
 
     fn next(&mut self) -> Option<NodeRef<'a>> {
-        let (found, rest) = first_named(self.state, self.tree, self.ids);
+        let (found, rest) = end_named(self.state, self.tree, self.ids, false);
         self.ids = rest;
         found
     }
@@ -67,7 +67,7 @@ impl<'a> DoubleEndedIterator for Controls<'a> {
     ghost next_back_gives = { YieldsLastBy node_of controls_left };
 
     fn next_back(&mut self) -> Option<NodeRef<'a>> {
-        let (found, rest) = last_named(self.state, self.tree, self.ids);
+        let (found, rest) = end_named(self.state, self.tree, self.ids, true);
         self.ids = rest;
         found
     }
@@ -75,47 +75,35 @@ impl<'a> DoubleEndedIterator for Controls<'a> {
 
 impl FusedIterator for Controls<'_> {}
 
-/// The first of these nodes that is in the state, and the rest after it.
-fn first_named<'a>(
-    state: StateRef<'a>,
-    tree: u32,
-    start: &'a [NodeId],
-) -> (Option<NodeRef<'a>>, &'a [NodeId])
-    ensures fewer { IfSome result.0 (λ _. length result.1.now < length start.entry.now) }
-    ensures steps { let w = world_of state.entry in
-        let all = named_nodes w tree start.entry.now in
-        let left = named_nodes w tree result.1.now in
-        MatchOption result.0 ((all ≡ []) × (left ≡ []))
-        (λ n. all ≡ node_of n ∷ left) }
+/// Splits off the first of the ids, or the last.
+fn split_end(ids: &[NodeId], from_back: bool) -> Option<(NodeId, &[NodeId])>
+    ensures { MatchOption result (ids.entry.now ≡ []) (λ r. ids.entry.now ≡ joined_at from_back r.0 r.1.now) }
 {
-    let mut ids = start;
-    while let Some((node, rest)) = ids.split_first() {
-        let id = FullNodeId { tree, node: *node };
-        if let Some(found) = state.node_by_id(id) {
-            return (Some(found), rest);
-        }
-        ids = rest;
+    if from_back {
+        let (node, rest) = ids.split_last()?;
+        return Some((*node, rest));
     }
-    (None, ids)
+    let (node, rest) = ids.split_first()?;
+    Some((*node, rest))
 }
 
-/// The last of these nodes that is in the state, and the rest before it.
-fn last_named<'a>(
+/// The first or the last of these nodes that is in the state, and the rest beyond it.
+fn end_named<'a>(
     state: StateRef<'a>,
     tree: u32,
     start: &'a [NodeId],
+    from_back: bool,
 ) -> (Option<NodeRef<'a>>, &'a [NodeId])
     ensures fewer { IfSome result.0 (λ _. length result.1.now < length start.entry.now) }
     ensures steps { let w = world_of state.entry in
         let all = named_nodes w tree start.entry.now in
         let left = named_nodes w tree result.1.now in
         MatchOption result.0 ((all ≡ []) × (left ≡ []))
-        (λ n. all ≡ left ++ node_of n ∷ []) }
+        (λ n. all ≡ joined_at from_back (node_of n) left) }
 {
     let mut ids = start;
-    while let Some((node, rest)) = ids.split_last() {
-        let id = FullNodeId { tree, node: *node };
-        if let Some(found) = state.node_by_id(id) {
+    while let Some((node, rest)) = split_end(ids, from_back) {
+        if let Some(found) = state.node_by_id(FullNodeId { tree, node }) {
             return (Some(found), rest);
         }
         ids = rest;

@@ -1,5 +1,5 @@
 //! Hit tests: the node at a point.
-ghost use Rattle.std.specs.Prelude.{◌≡◌, ◌||◌, ℕ, ◌+◌, ◌^◌, ◌+ℤ◌, ◌-ℤ◌, false, IfSome, FitsSigned, option_map};
+ghost use Rattle.std.specs.Prelude.{◌≡◌, ◌||◌, ℕ, ◌+◌, ◌^◌, ◌+ℤ◌, ◌-ℤ◌, false, IfSome, FitsSigned, option_map, if◌then◌else◌};
 ghost use Rattle.std.specs.Fn.{FnReturnsAt};
 ghost use Rattle.std.specs.Int.{w32};
 ghost use Rattle.std.specs.Option.{option_map_or};
@@ -11,7 +11,7 @@ ghost use Rattle.model.specs.Geometry.{is_between, contains_point, direct_transf
 ghost use Rattle.model.specs.Hits.{wide_point, seen_by_child, seen_by_parent, is_hit, hit_seen};
 ghost use Rattle.views.specs.Nodes.{world_at, id_at};
 ghost use Rattle.views.specs.Follows.{Follows};
-ghost use Rattle.views.specs.SeenPoints.{IsNear, wide_of, is_bare_miss};
+ghost use Rattle.views.specs.SeenPoints.{IsNear, AreNear, wide_of, is_bare_miss};
 
 use crate::node::NodeRef;
 use crate::node::kin::is_included;
@@ -51,8 +51,7 @@ fn wide(number: i64) -> i128
 /// A point before any translation.
 fn unmoved(point: Point) -> SeenPoint
     ensures is { wide_of result ≡ wide_point point }
-    ensures across { IsNear 0 result.x }
-    ensures along { IsNear 0 result.y }
+    ensures near { AreNear 0 result }
 {
     SeenPoint {
         x: wide(point.x),
@@ -78,32 +77,21 @@ fn plus(seen: i128, own: i32) -> i128
     seen + i128::from(own)
 }
 
-/// The point in the coordinates of a child.
-fn into_child(seen: SeenPoint, child: NodeRef<'_>) -> SeenPoint
-    requires across { IsNear (2 ^ 90) seen.x }
-    requires along { IsNear (2 ^ 90) seen.y }
+/// The point in the coordinates of a child, from those of its parent; or in the parent's, from those of the child.
+fn seen_across(seen: SeenPoint, child: NodeRef<'_>, is_into: bool) -> SeenPoint
+    requires { AreNear (2 ^ 90) seen }
     ensures is { let w = world_at child.entry in
-        wide_of result ≡ seen_by_child w (id_at child.entry) (wide_of seen) }
-    ensures across { (n : ℕ) → IsNear n seen.x → IsNear (n + 1) result.x }
-    ensures along { (n : ℕ) → IsNear n seen.y → IsNear (n + 1) result.y }
+        let turned = if is_into then seen_by_child else seen_by_parent in
+        wide_of result ≡ turned w (id_at child.entry) (wide_of seen) }
+    ensures near { (n : ℕ) → AreNear n seen → AreNear (n + 1) result }
 {
     let own = own_move(child);
-    SeenPoint {
-        x: minus(seen.x, own.x),
-        y: minus(seen.y, own.y),
+    if is_into {
+        return SeenPoint {
+            x: minus(seen.x, own.x),
+            y: minus(seen.y, own.y),
+        };
     }
-}
-
-/// The point in the coordinates of a node's parent.
-fn out_of_child(seen: SeenPoint, child: NodeRef<'_>) -> SeenPoint
-    requires across { IsNear (2 ^ 90) seen.x }
-    requires along { IsNear (2 ^ 90) seen.y }
-    ensures is { let w = world_at child.entry in
-        wide_of result ≡ seen_by_parent w (id_at child.entry) (wide_of seen) }
-    ensures across { (n : ℕ) → IsNear n seen.x → IsNear (n + 1) result.x }
-    ensures along { (n : ℕ) → IsNear n seen.y → IsNear (n + 1) result.y }
-{
-    let own = own_move(child);
     SeenPoint {
         x: plus(seen.x, own.x),
         y: plus(seen.y, own.y),
@@ -181,8 +169,7 @@ fn is_missed<F: Filter>(node: NodeRef<'_>, count: usize, seen: SeenPoint, filter
 /// The node hit at a point in the coordinates of `top`: the last one in pre-order.
 fn hit_below<'a, F: Filter>(top: NodeRef<'a>, at: SeenPoint, filter: &F) -> Option<NodeRef<'a>>
     requires can { F.can_answer filter.now }
-    requires across { IsNear 0 at.x }
-    requires along { IsNear 0 at.y }
+    requires near { AreNear 0 at }
     ensures world { IfSome result (λ n. world_at n ≡ world_at top.entry) }
     ensures exact { let w = world_at top.entry in
         (f : FullNodeId → FilterResult) → Follows (F.answers filter.now) w f →
@@ -213,7 +200,7 @@ fn hit_below<'a, F: Filter>(top: NodeRef<'a>, at: SeenPoint, filter: &F) -> Opti
                 node: child.member.node,
                 place: child.member.place,
             };
-            let below = into_child(seen, node);
+            let below = seen_across(seen, node, true);
             let count = state.child_count(child.member);
             if is_missed(node, count, below, filter) {
                 index -= 1;
@@ -238,7 +225,7 @@ fn hit_below<'a, F: Filter>(top: NodeRef<'a>, at: SeenPoint, filter: &F) -> Opti
             let Some(above) = state.spot(parent) else {
                 return None;
             };
-            seen = out_of_child(seen, node);
+            seen = seen_across(seen, node, false);
             parent = above.parent;
             index = above.index;
         }

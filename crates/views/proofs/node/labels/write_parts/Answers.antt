@@ -39,7 +39,7 @@ returns-in_err-write_part-clause-err g c =
     let rest = parts_of (labels_left c.next.new.self) in
     err_with c.from_residual.result
     (cut_is (joined_is (parts_of (labels_left c.args.labels)))
-    (stops (spaced later part) (rest_of_label true rest) (rest_is (ap (rest_of_label later) e ∙ next_part later part rest) c.loop-node.invariant.way) c.in_err-write_part.ensures.err))
+    (stops (spaced later part) (rest_of_label true rest) (rest_is (ap (rest_of_label later) e ∙ next_part later part rest) c.loop-node.invariant.way) c.in_err-write_part.ensures.text.cut_short))
 
 pub returns-in_err-write_part-clause-stopped : goal.returns-in_err-write_part-clause-stopped
 returns-in_err-write_part-clause-stopped g c =
@@ -49,7 +49,7 @@ returns-in_err-write_part-clause-stopped g c =
     let e = given_its_calls (labels_left c.loop-node.nodes) (labels_left c.next.new.self) n c.in-Some.ensures.steps (sym c.gives_part.ensures ∙ c.if-not-gives_part.false) in
     let rest = calls_of (labels_left c.next.new.self) in
     err_with c.from_residual.result
-    (broken_off g.W.TextWrite.steps (spaced_calls later part) (rest_of_calls true rest) (left_is g.W.TextWrite.steps (ap (rest_of_calls later) e ∙ next_calls later part rest) c.loop-node.invariant.calls) c.in_err-write_part.ensures.stopped)
+    (broken_off g.W.TextWrite.steps (spaced_calls later part) (rest_of_calls true rest) (left_is g.W.TextWrite.steps (ap (rest_of_calls later) e ∙ next_calls later part rest) c.loop-node.invariant.calls) c.in_err-write_part.ensures.calls.stopped)
 
 pub loop-node-preserved : goal.loop-node-preserved
 loop-node-preserved g c =
@@ -60,12 +60,12 @@ loop-node-preserved g c =
     let e = given (labels_left c.loop-node.nodes) (labels_left c.next.new.self) n c.in-Some.ensures.steps (sym c.gives_part.ensures ∙ c.if-not-gives_part.false) in
     let rest = parts_of (labels_left c.next.new.self) in
     record {
-      way = goes_on (rest_is (ap (rest_of_label later) e ∙ next_part later part rest) inv.way) c.in_ok-write_part.ensures.ok;
+      way = goes_on (rest_is (ap (rest_of_label later) e ∙ next_part later part rest) inv.way) c.in_ok-write_part.ensures.text.written;
       calls = called_on g.W.TextWrite.steps (spaced_calls later (part_calls (world_at n) (id_at n)))
           (left_is g.W.TextWrite.steps
           (ap (rest_of_calls later) (given_its_calls (labels_left c.loop-node.nodes) (labels_left c.next.new.self) n c.in-Some.ensures.steps (sym c.gives_part.ensures ∙ c.if-not-gives_part.false))
           ∙ next_calls later (part_calls (world_at n) (id_at n)) (calls_of (labels_left c.next.new.self))) inv.calls)
-          c.in_ok-write_part.ensures.called;
+          c.in_ok-write_part.ensures.calls.called;
       there = there_already later ∙ ap (λ ps. later || has_parts ps) (sym e) ∙ inv.there;
     }
 

@@ -28,7 +28,7 @@ returns-in_err-write_run-clause-stopped g c =
     let run = c.in-Some.run' in
     err_with c.from_residual.result
     (broken_off g.W.TextWrite.steps (run_calls c.args.masked (sent_of run)) (calls_of_runs c.args.masked (sents_after run))
-    (left_is g.W.TextWrite.steps (ap (λ o. calls_of_runs c.args.masked (sents_from o)) c.in-Some.is) c.loop-rest.invariant.calls) c.in_err-write_run.ensures.stopped)
+    (left_is g.W.TextWrite.steps (ap (λ o. calls_of_runs c.args.masked (sents_from o)) c.in-Some.is) c.loop-rest.invariant.calls) c.in_err-write_run.ensures.calls.stopped)
 
 pub loop-rest-preserved : goal.loop-rest-preserved
 loop-rest-preserved g c =
@@ -38,7 +38,7 @@ loop-rest-preserved g c =
           (goes_on (rest_is (ap (λ o. shown_of_all c.args.masked (sents_from o)) c.in-Some.is) c.loop-rest.invariant.way) c.in_ok-write_run.ensures.ok);
       calls = left_is g.W.TextWrite.steps (ap (calls_of_runs c.args.masked) (sym (from_next run c.next-rest.result c.next-rest.ensures).0))
           (called_on g.W.TextWrite.steps (run_calls c.args.masked (sent_of run))
-          (left_is g.W.TextWrite.steps (ap (λ o. calls_of_runs c.args.masked (sents_from o)) c.in-Some.is) c.loop-rest.invariant.calls) c.in_ok-write_run.ensures.called);
+          (left_is g.W.TextWrite.steps (ap (λ o. calls_of_runs c.args.masked (sents_from o)) c.in-Some.is) c.loop-rest.invariant.calls) c.in_ok-write_run.ensures.calls.called);
     }
 
 pub returns-clause-ok : goal.returns-clause-ok

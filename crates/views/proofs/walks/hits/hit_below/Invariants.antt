@@ -8,7 +8,7 @@ use Rattle.model.specs.Hits.{hit_seen, last_hit, uncut_until, seen_within}
 use Rattle.views.specs.ShownWorlds.{world_of}
 use Rattle.views.specs.Spots.{IsMember}
 use Rattle.views.specs.Follows.{Follows}
-use Rattle.views.specs.SeenPoints.{IsNear, wide_of}
+use Rattle.views.specs.SeenPoints.{AreNear, wide_of}
 use Rattle.views.proofs.walks.hits.hit_below.Given as goal
 
 -- the place lies within top, the point is as the parent sees it, and the hit is the last before the place;
@@ -24,8 +24,7 @@ invariant-loop-index g l =
       within : is_within w top l.parent.id ≡ true;
       seen : wide_of l.seen ≡ seen_within w top l.parent.id (wide_of l.fn.at);
       spent : work_until w top (l.parent.id, l.index) ≤ work_until w top (top, length (children w top));
-      across : IsNear done l.seen.x;
-      along : IsNear done l.seen.y;
+      near : AreNear done l.seen;
       exact : (f : FullNodeId → FilterResult) → Follows (g.F.Filter.answers l.filter) w f →
           hit_seen f w top (wide_of l.fn.at) ≡ last_hit f w top (wide_of l.fn.at) (uncut_until f w top (l.parent.id, l.index));
     }

@@ -1,7 +1,6 @@
 use Rattle.std.proofs.Common.{true, arith, sym, ◌∙◌, ap, subst}
 use Rattle.std.specs.Prelude.{is_some}
 use Rattle.schema.specs.Roles.{same_role}
-use Rattle.model.specs.World.{IsNode}
 use Rattle.model.specs.Upward.{says}
 use Rattle.model.specs.Frontier.{filtered_children}
 use Rattle.views.specs.Nodes.{world_at, id_at}
@@ -16,7 +15,6 @@ loop-node-preserved-then-has_role g c =
     let w = world_at c.args.top in
     let steps = c.in-Some.ensures.steps in
     let same = c.loop-node.invariant.world in
-    let there : IsNode w (id_at c.args.top) = ap is_some c.args.top.known in
     record {
       world = steps.goes.world ∙ same;
       counted = λ f follows.
@@ -24,7 +22,7 @@ loop-node-preserved-then-has_role g c =
           let next = steps.list f (subst (λ v. Follows (g.F.Filter.answers c.args.filter.now) v f) (sym same) follows) so_far.0 in
           let seen = role_seen w c.args.role c.in-Some.node true (steps.goes.item ∙ same) (sym c.if-has_role.true ∙ c.has_role.ensures) in
           let more = one_counted w c.args.role (ids_left f c.loop-node.course) (ids_left f c.take_front.new.self) (id_at c.in-Some.node) c.loop-node.count _ next.1 seen so_far.1 in
-          let fits = shown_fit c.know.ensures.state c.root_id-root.result c.root_id-root.ensures f (id_at c.args.top) there in (
+          let fits = shown_fit c.know.ensures.state c.root_id-root.result c.root_id-root.ensures f (id_at c.args.top) (ap is_some c.args.top.known) in (
             next.0,
             omega (arith, more, fits, filter_fits (says (λ d. same_role d.role c.args.role) w) (filtered_children f w (id_at c.args.top)), c.know_count.ensures, c.saturating_add-count.ensures),
           );

@@ -3,7 +3,6 @@ use Rattle.std.specs.Prelude.{is_some, Some, Contains}
 use Rattle.std.proofs.lemmas.Option.{slice_get_within}
 use Rattle.schema.specs.Roles.{same_role}
 use Rattle.model.specs.declared.FullNodeId.{FullNodeId}
-use Rattle.model.specs.World.{IsNode}
 use Rattle.model.specs.Upward.{says}
 use Rattle.model.specs.Frontier.{filtered_children}
 use Rattle.model.proofs.Members.{contains_cases}
@@ -33,7 +32,6 @@ loop-node-preserved g c =
     let w = world_at c.args.top in
     let steps = c.in-Some.ensures.steps in
     let same = c.loop-node.invariant.world in
-    let there : IsNode w (id_at c.args.top) = ap is_some c.args.top.known in
     record {
       world = steps.goes.world ∙ same;
       passed = λ f follows inside.
@@ -44,7 +42,7 @@ loop-node-preserved g c =
           let seen = role_seen w c.args.role c.in-Some.node true (steps.goes.item ∙ same) (sym c.if-not-has_role.false ∙ c.has_role.ensures) in
           let taken = role_taken w c.args.role (ids_left f c.loop-node.course) (ids_left f c.take_front.new.self) (id_at c.in-Some.node) true next.1 seen in
           let here = drop_head all c.loop-node.index (id_at c.in-Some.node) rest (so_far.1 ∙ taken) in
-          let fits = shown_fit c.know.ensures.state c.root_id-root.result c.root_id-root.ensures f (id_at c.args.top) there in
+          let fits = shown_fit c.know.ensures.state c.root_id-root.result c.root_id-root.ensures f (id_at c.args.top) (ap is_some c.args.top.known) in
           let more : c.saturating_add-index.result ≡ suc c.loop-node.index = omega (
             arith,
             slice_get_within all c.loop-node.index (id_at c.in-Some.node) here.0,

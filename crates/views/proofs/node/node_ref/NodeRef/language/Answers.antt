@@ -1,16 +1,10 @@
-use Rattle.std.proofs.Common.{rules, ◌∙◌, ap}
+use Rattle.std.proofs.Common.{rules, ap}
 use Rattle.std.specs.Prelude.{is_some, option_copied}
-use Rattle.views.specs.Nodes.{world_at, id_at}
-use Rattle.views.proofs.Inheriting.{inherited_from, nothing_inherited}
+use Rattle.views.proofs.Inheriting.{text_inherited, no_text_inherited}
 use Rattle.views.proofs.node.node_ref.NodeRef.language.Goals as goal
 
 pub returns-in_err-nearest : goal.returns-in_err-nearest
-returns-in_err-nearest c =
-    ap option_copied c.from_residual.ensures
-    ∙ nothing_inherited (λ d. d.language) (world_at c.args.self.now) (id_at c.args.self.now) (c.in_err-nearest.ensures.node (λ d. is_some d.language) (search rules))
+returns-in_err-nearest c = no_text_inherited (λ d. d.language) c.args.self.now _ (ap option_copied c.from_residual.ensures) (c.in_err-nearest.ensures.node (λ d. is_some d.language) (search rules))
 
 pub returns : goal.returns
-returns c =
-    c.language.ensures
-    ∙ inherited_from (λ d. d.language) (world_at c.args.self.now) (id_at c.args.self.now) c.in_ok-nearest.field-0 c.in_ok-nearest.ensures.world
-    (c.in_ok-nearest.ensures.node (λ d. is_some d.language) (search rules))
+returns c = text_inherited (λ d. d.language) c.args.self.now _ c.in_ok-nearest.field-0 c.language.ensures c.in_ok-nearest.ensures.world (c.in_ok-nearest.ensures.node (λ d. is_some d.language) (search rules))

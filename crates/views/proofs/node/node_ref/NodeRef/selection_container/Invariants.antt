@@ -1,22 +1,14 @@
-use Rattle.std.proofs.Common.{◌≡◌, length}
-use Rattle.std.specs.Prelude.{find}
+use Rattle.std.proofs.Common.{length}
 use Rattle.std.specs.Fn.{FnReturnsAt}
-use Rattle.model.specs.declared.FullNodeId.{FullNodeId}
-use Rattle.model.specs.declared.filters.FilterResult.{FilterResult}
 use Rattle.model.specs.Lists.{ancestors}
-use Rattle.model.specs.RoleClasses.{is_container_with_selectable_children}
-use Rattle.model.specs.Upward.{says}
-use Rattle.model.specs.Views.{included_ancestors, selection_container}
+use Rattle.model.specs.Views.{selection_container}
 use Rattle.views.specs.Nodes.{world_at, id_at}
 use Rattle.views.specs.Follows.{Follows}
+use Rattle.views.proofs.Climbing.{IsClimbed}
 use Rattle.views.proofs.node.node_ref.NodeRef.selection_container.Given as goal
 
 abbrev pub decreases-loop-container : goal.decreases-loop-container
 decreases-loop-container g l = length (ancestors (world_at l.fn.self) (id_at l.current))
 
 abbrev pub invariant-loop-container : goal.invariant-loop-container
-invariant-loop-container g l = record {
-  world : world_at l.current ≡ world_at l.fn.self;
-  sought : (f : FullNodeId → FilterResult) → Follows (FnReturnsAt g.F.Fn l.filter) (world_at l.fn.self) f →
-      find (says (λ d. is_container_with_selectable_children d.role) (world_at l.fn.self)) (included_ancestors f (world_at l.fn.self) (id_at l.current)) ≡ selection_container f (world_at l.fn.self) (id_at l.fn.self);
-}
+invariant-loop-container g l = IsClimbed (Follows (FnReturnsAt g.F.Fn l.filter) (world_at l.fn.self)) (λ f. selection_container f (world_at l.fn.self)) l.fn.self l.current

@@ -32,10 +32,10 @@ returns-clause-ok g c =
 -- how the writer is called
 pub returns-in_err-write_own_value-clause-stopped : goal.returns-in_err-write_own_value-clause-stopped
 returns-in_err-write_own_value-clause-stopped g c =
-    err_with c.from_residual.result (broken_off_is g.W.TextWrite.steps (calls_of_own c.args.self.now c.in-Some.value.now c.in-Some.ensures) c.in_err-write_own_value.ensures.stopped)
+    err_with c.from_residual.result (broken_off_is g.W.TextWrite.steps (calls_of_own c.args.self.now c.in-Some.value.now c.in-Some.ensures) c.in_err-write_own_value.ensures.calls.stopped)
 
 pub returns-in-Some-clause-called : goal.returns-in-Some-clause-called
-returns-in-Some-clause-called g c = calls_are g.W.TextWrite.steps c.args.writer.now c.write_own_value.new.writer (calls_of_own c.args.self.now c.in-Some.value.now c.in-Some.ensures) c.in_ok-write_own_value.ensures.called
+returns-in-Some-clause-called g c = calls_are g.W.TextWrite.steps c.args.writer.now c.write_own_value.new.writer (calls_of_own c.args.self.now c.in-Some.value.now c.in-Some.ensures) c.in_ok-write_own_value.ensures.calls.called
 
 pub returns-then-not-has_value_in_runs-clause-called : goal.returns-then-not-has_value_in_runs-clause-called
 returns-then-not-has_value_in_runs-clause-called g c =

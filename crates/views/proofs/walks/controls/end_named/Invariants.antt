@@ -1,7 +1,7 @@
 use Rattle.std.proofs.Common.{◌≡◌, ◌≤◌, length}
 use Rattle.views.specs.ShownWorlds.{world_of}
 use Rattle.views.specs.Controlled.{named_nodes}
-use Rattle.views.proofs.walks.controls.last_named.Given as goal
+use Rattle.views.proofs.walks.controls.end_named.Given as goal
 
 -- those that were passed over aren't in the state
 abbrev pub invariant-loop-node : goal.invariant-loop-node
