@@ -2,7 +2,7 @@
 
 ghost use Rattle.std.specs.Prelude.{ℕ, ◌≡◌, List, OnOk, Option, None, Some, codes, option_copied};
 ghost use Rattle.std.specs.Io.KnownBytes.{Appends};
-ghost use Rattle.line_faults.specs.Messages.{Suggests, column_of, end_text, fault_line, hint_text, message_text, near_text, number_meant, word_of, word_text};
+ghost use Rattle.line_faults.specs.Messages.{Suggests, column_of, end_text, fault_line, message_text, near_text, number_meant, word_of, word_text};
 
 use crate::names::{field_names, role_names, words};
 use crate::phrases::write_reason;
@@ -47,7 +47,8 @@ fn write_message<O: Write>(
     write_end(reason, word, near, out)
 }
 
-/// Writes the end of a message: the word, and what may be meant.
+/// Writes the end of a message: the word, and how a script writes the role that it names, if that is sent by a number, and
+/// else the word that may be meant.
 fn write_end<O: Write>(
     reason: Reason,
     word: &[u8],
@@ -57,24 +58,11 @@ fn write_end<O: Write>(
     ensures { OnOk result (Appends (O.contents out.old) (O.contents out.new) (end_text reason word.now (option_copied near.entry))) }
 {
     write_word(word, out)?;
-    write_hint(reason, word, near, out)?;
-    out.write_all(b"\n")
-}
-
-/// Writes how a script writes the role that the word names, if that is sent by a number, and else the word that may be
-/// meant.
-fn write_hint<O: Write>(
-    reason: Reason,
-    word: &[u8],
-    near: Option<&str>,
-    out: &mut O,
-) -> io::Result<()>
-    ensures { OnOk result (Appends (O.contents out.old) (O.contents out.new) (hint_text reason word.now (option_copied near.entry))) }
-{
     match number_meant(reason, word) {
-        Some(number) => write!(out, "; in a script it is Other({number})"),
-        None => write_near(near, out),
+        Some(number) => write!(out, "; in a script it is Other({number})")?,
+        None => write_near(near, out)?,
     }
+    out.write_all(b"\n")
 }
 
 /// The number of the role that the word names, if the fault is an unknown role, and the role is sent by a number.

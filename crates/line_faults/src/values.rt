@@ -172,30 +172,35 @@ pub(crate) fn parts_fault(form: Form, value: &[u8], start: usize) -> Option<Word
 
 /// The fault of a line above, through or below text: a style and a colour.
 pub(crate) fn decoration_fault(value: &[u8], start: usize) -> Option<WordFault> {
-    let end = part_length(value, b',');
-    if part_count(value, b',') != 5 || end == value.len() {
-        return whole(value, start, OtherReason::Parts(Form::Decoration));
-    }
-    let fault = listed_fault(WordSet::DecorationStyles, &value[..end], start);
-    if fault.is_some() {
-        return fault;
-    }
-    let color = start.saturating_add(end).saturating_add(1);
-    parts_fault(Form::Color, &value[end + 1..], color)
+    two_faults(Form::Decoration, 5, Form::Color, value, start)
 }
 
 /// The fault of a selection: two positions.
 pub(crate) fn selection_fault(value: &[u8], start: usize) -> Option<WordFault> {
+    two_faults(Form::Selection, 2, Form::Position, value, start)
+}
+
+/// The fault of a value of this form that has so many parts: the first one and, after a comma, a rest of another form.
+fn two_faults(
+    form: Form,
+    parts: usize,
+    of_rest: Form,
+    value: &[u8],
+    start: usize,
+) -> Option<WordFault> {
     let end = part_length(value, b',');
-    if part_count(value, b',') != 2 || end == value.len() {
-        return whole(value, start, OtherReason::Parts(Form::Selection));
+    if part_count(value, b',') != parts || end == value.len() {
+        return whole(value, start, OtherReason::Parts(form));
     }
-    let fault = parts_fault(Form::Position, &value[..end], start);
+    let fault = match form {
+        Form::Decoration => listed_fault(WordSet::DecorationStyles, &value[..end], start),
+        _ => parts_fault(of_rest, &value[..end], start),
+    };
     if fault.is_some() {
         return fault;
     }
-    let focus = start.saturating_add(end).saturating_add(1);
-    parts_fault(Form::Position, &value[end + 1..], focus)
+    let rest = start.saturating_add(end).saturating_add(1);
+    parts_fault(of_rest, &value[end + 1..], rest)
 }
 
 /// The fault of a text in quotes.
