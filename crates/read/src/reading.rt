@@ -16,7 +16,7 @@ ghost use Rattle.read.specs.Lines.{mark, marks, marks_line, span_line, word_text
 ghost use Rattle.read.specs.Shown.{index_after, parts_at};
 ghost use Rattle.read.specs.Spans.{span_of};
 
-use self::shown::{shown_text, units};
+use self::shown::shown_text;
 use crate::defect::tell_defect;
 use crate::selected::{Selected, tell_selection};
 use accesskit_consumer::node::NodeRef;
@@ -27,6 +27,7 @@ use hidden_texts::hides_text;
 use session::NodeName;
 use std::alloc::Global;
 use std::io::Write;
+use texts::utf16_count;
 
 /// In two worlds that differ in what is typed into a password alone, the same is printed of each node.
 fn typing_reads_the_same()
@@ -143,7 +144,7 @@ fn tell_span<O: Write>(
     ensures after { IfOk result (λ after. after ≡ index_after at (located range.entry)) }
 {
     let written = shown_text(alloc, range)?;
-    let after = at.saturating_add(units(&written));
+    let after = at.saturating_add(utf16_count(&written));
     write!(out, "{at} {after} ")?;
     write_text(Some(&written), out)?;
     Ok(after)
@@ -234,5 +235,5 @@ fn tell_mark<O: Write>(
     let star = selected.star(at);
     write!(out, " {at}{star}")?;
     let written = shown_text(alloc, character)?;
-    Ok(at.saturating_add(units(&written)))
+    Ok(at.saturating_add(utf16_count(&written)))
 }

@@ -23,7 +23,7 @@ pub(crate) enum Units {
 }
 
 /// The number of UTF-16 code units of the text.
-fn utf16_count(text: &str) -> usize
+pub fn utf16_count(text: &str) -> usize
     ensures { result ≡ utf16_len text.now }
 {
     let mut count = 0usize;

@@ -33,6 +33,7 @@ mod traversals;
 mod weak;
 mod words;
 
+pub use indexes::utf16_count;
 pub use node_texts::{NodeText, Text};
 pub use position::TextPosition;
 pub use range::TextRange;

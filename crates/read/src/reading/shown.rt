@@ -1,6 +1,5 @@
 //! What is printed of a range's text, and the indexes of positions: of a password a bullet for each character.
 ghost use Rattle.std.specs.Prelude.{◌≡◌, ◌+◌, min, length, IfOk, string_bytes};
-ghost use Rattle.model.specs.Moves.{utf16_len};
 ghost use Rattle.model.specs.Values.{bullets};
 ghost use Rattle.texts.specs.Cuts.{character_ranges};
 ghost use Rattle.texts.specs.NodeTexts.{root_of};
@@ -71,15 +70,4 @@ pub(crate) fn shown_index(text: Text<'_>, position: TextPosition<'_>) -> usize
         return characters_before(text, position);
     }
     position.to_global_utf16_index()
-}
-
-/// The length of a text in UTF-16 code units.
-pub(crate) fn units(text: &str) -> usize
-    ensures { result ≡ utf16_len text.now }
-{
-    let mut count = 0usize;
-    for scalar in text.chars() {
-        count += scalar.len_utf16();
-    }
-    count
 }
