@@ -140,36 +140,30 @@ module _ (before : Option (List ℕ)) (first : ScriptReader) (left after : Optio
       of None e k = subst (λ (r : Result (Option ScriptCommand) Stop). Answers before first r next after) (sym k) (ended_well reads drops number same heard (sym e))
       of (Some u) e k = subst (λ (r : Result (Option ScriptCommand) Stop). Answers before first r next after) (sym k) (ended_inside reads number (λ n. none-some u (sym n ∙ sym e)))
 
+  -- the reading is stopped, though no line is bad
+  stopped : (stop : Stop) → stop ≢ BadLine → (o : Option (List ℕ)) → Answers o first (Err stop) next after
+  stopped stop other None = tt
+  stopped BadLine other (Some bytes) = absurd (other refl)
+  stopped Memory other (Some bytes) = (place next [], tt, (refl, tt))
+  stopped ReadFault other (Some bytes) = (place next [], tt, (refl, tt))
+  stopped WriteFault other (Some bytes) = (place next [], tt, (refl, tt))
+
   pub given_up : Answers before first (Err ReadFault) next after
-  given_up = known before
-    where
-      known : (o : Option (List ℕ)) → Answers o first (Err ReadFault) next after
-      known None = tt
-      known (Some bytes) = (place next [], tt, (refl, tt))
+  given_up = stopped ReadFault (λ e. cc) before
 
   -- memory runs out for the comment
   pub no_memory : Answers before first (Err Memory) next after
-  no_memory = known before
-    where
-      known : (o : Option (List ℕ)) → Answers o first (Err Memory) next after
-      known None = tt
-      known (Some bytes) = (place next [], tt, (refl, tt))
+  no_memory = stopped Memory (λ e. cc) before
 
   -- the next line is bad, or the reading is stopped
   pub stopped_at : (stop : Stop) → IfSome left (λ bytes. ReadsNext bytes (Err stop)) → (stop ≡ BadLine → number_of next ≡ next_number (number_of reader)) → Answers before first (Err stop) next after
   stopped_at stop reads number = known before is_at
     where
-      any : (s : Stop) (bytes : List ℕ) → s ≢ BadLine → Answers (Some bytes) first (Err s) next after
-      any BadLine bytes other = absurd (other refl)
-      any Memory bytes other = (place next [], tt, (refl, tt))
-      any ReadFault bytes other = (place next [], tt, (refl, tt))
-      any WriteFault bytes other = (place next [], tt, (refl, tt))
-
       bad : (s : Stop) (bytes : List ℕ) → IsAt (Some bytes) first left reader → IfSome left (λ bytes. ReadsNext bytes (Err s)) → (s ≡ BadLine → number_of next ≡ next_number (number_of reader)) → Answers (Some bytes) first (Err s) next after
       bad BadLine bytes at r n = let k = subst (λ o. IfSome o (λ bytes. ReadsNext bytes (Err BadLine))) at.1 r refl in (place next at.0, (place reader at.0, at.2, inr (k.0, n refl, inl k.1)), (refl, tt))
-      bad Memory bytes at r n = any Memory bytes (λ e. cc)
-      bad ReadFault bytes at r n = any ReadFault bytes (λ e. cc)
-      bad WriteFault bytes at r n = any WriteFault bytes (λ e. cc)
+      bad Memory bytes at r n = stopped Memory (λ e. cc) (Some bytes)
+      bad ReadFault bytes at r n = stopped ReadFault (λ e. cc) (Some bytes)
+      bad WriteFault bytes at r n = stopped WriteFault (λ e. cc) (Some bytes)
 
       known : (o : Option (List ℕ)) → IsAt o first left reader → Answers o first (Err stop) next after
       known None at = tt
@@ -183,9 +177,9 @@ module _ (before : Option (List ℕ)) (first : ScriptReader) (left after : Optio
       out BadLine bytes at t =
           let k = subst (λ o. IfSome o (λ bytes. ReadsNext bytes (Ok (Some line)))) at.1 reads in
           (place next at.0, (place reader at.0, at.2, inr (k.0, number, inr (line, k.1, took_none (taken (begun_of reader) line) (Err BadLine) (begun_of next) t refl))), (refl, tt))
-      out Memory bytes at t = (place next [], tt, (refl, tt))
-      out ReadFault bytes at t = (place next [], tt, (refl, tt))
-      out WriteFault bytes at t = (place next [], tt, (refl, tt))
+      out Memory bytes at t = stopped Memory (λ e. cc) (Some bytes)
+      out ReadFault bytes at t = stopped ReadFault (λ e. cc) (Some bytes)
+      out WriteFault bytes at t = stopped WriteFault (λ e. cc) (Some bytes)
 
       known : (o : Option (List ℕ)) → IsAt o first left reader → Answers o first (Err stop) next after
       known None at = tt

@@ -58,30 +58,8 @@ pub fn end_script_run<O: Write, E: Write>(
     ensures printed { Keeps (O.contents output.old) (O.contents output.new) }
 {
     match ended {
-        Ok(()) => end_run(Ok(()), script.line_number(), output, errors),
-        Err(stop) => end_stopped_run(stop, script, output, errors),
-    }
-}
-
-/// Ends a run that was stopped, over the script of this reader.
-fn end_stopped_run<O: Write, E: Write>(
-    stop: Stop,
-    script: &ScriptReader,
-    output: &mut O,
-    errors: &mut E,
-) -> u8
-    ensures bound { result ≤ 4 }
-    ensures not_one { result ≢ 1 }
-    ensures bad { stop ≡ stop_.BadLine → TellsFault script.now (E.contents errors.old) (E.contents errors.new) result }
-    ensures told { stop ≢ stop_.BadLine → Tells (E.contents errors.old) (E.contents errors.new) (told_of (number_of script.now) stop)
-        (status_of stop) result }
-    ensures printed { Keeps (O.contents output.old) (O.contents output.new) }
-{
-    match stop {
-        Stop::BadLine => end_at_fault(script, output, errors),
-        Stop::Memory | Stop::ReadFault | Stop::WriteFault => {
-            end_run(Err(stop), script.line_number(), output, errors)
-        }
+        Err(Stop::BadLine) => end_at_fault(script, output, errors),
+        _ => end_run(ended, script.line_number(), output, errors),
     }
 }
 
