@@ -1,8 +1,8 @@
 //! Small texts.
 
 use crate::sketches::Has::{
-    Bounds, Children, Direction, FontSize, Lengths, Letters, Move, Positions, Selection, Value,
-    Widths, Words,
+    Bounds, Children, Direction, FontSize, Lengths, Move, Positions, Selection, Value, Widths,
+    Words,
 };
 use crate::sketches::Sketch;
 use schema::{Role, TextDirection};

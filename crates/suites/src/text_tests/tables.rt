@@ -82,7 +82,7 @@ const STORY: Text = &[
     ),
 ];
 
-static ANSWERS: [(Text, Asked); 77] = [
+static ANSWERS: [(Text, Asked); 74] = [
     (NOTHING, Position(DocumentStart, Some((1, 0)))),
     (NOTHING, Position(DocumentEnd, Some((1, 0)))),
     (SECRET_WORDS, Position(DocumentEnd, Some((2, 2)))),
