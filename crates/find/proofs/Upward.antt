@@ -16,7 +16,7 @@ use Rattle.views.specs.declared.node.node_ref.NodeRef.{NodeRef}
 use Rattle.views.specs.Nodes.{world_at, id_at, data_at}
 use Rattle.views.specs.PlainWalks.{node_in, node_of}
 use Rattle.views.proofs.Climbing.{parent_of, parent_above, nothing_above, data_shown}
-use Rattle.views.proofs.RangeEnds.{map_reverse}
+use Rattle.views.proofs.Reversed.{map_reverse}
 use Rattle.find.specs.Printed.{label_text, role_at, name_text, names_text}
 use Rattle.find.specs.Viewed.{name_seen, later_seen, names_seen}
 

@@ -1,5 +1,7 @@
-use Rattle.std.proofs.Common.{Ok, Err, Option, refl, ap, subst, ◌∙◌}
+use Rattle.std.proofs.Common.{Ok, Err, Result, Option, refl, sym, ap, subst, ◌∙◌}
+use Rattle.std.specs.Prelude.{OnOk, IfSome}
 use Rattle.atree_script.proofs.Inputs.{err_is}
+use Rattle.model.specs.Mirror.{AreRecordsOf}
 use Rattle.model.specs.World.{World}
 use Rattle.speak.specs.Numbers.{heading_after, heading_of}
 use Rattle.speak.specs.Steps.{SaysAtEnd}
@@ -34,3 +36,11 @@ returns-clause-spoken g c =
       reports = c.in_ok-report_reply.ensures;
       says = (subst (λ (h : Option Heading). SaysAtEnd h c.step-reply.new.session heard.1 heard.0 said.0 c.write_said.result before after) headed at_end, c.write_said.ensures.mirror);
     }
+
+on_ok : {A E P : Type 0} (r : Result A E) → P → OnOk r P
+on_ok (Ok x) p = p
+on_ok (Err e) p = tt
+
+pub returns-clause-mirrored : goal.returns-clause-mirrored
+returns-clause-mirrored g c =
+    on_ok c.write_said.result (λ before. subst (λ m. IfSome m (AreRecordsOf c.step-reply.new.session)) (sym c.write_said.ensures.mirror) (c.step-reply.ensures.mirrored before))
