@@ -92,6 +92,17 @@ fn is_at(children: &[NodeId], index: usize, child: NodeId) -> bool
     }
 }
 
+/// How many new children are at an index where there was another child, or none.
+fn count_of_entering(before: &[NodeId], after: &[NodeId]) -> usize {
+    let mut count = 0usize;
+    for (index, child) in after.iter().enumerate() {
+        if !is_at(before, index, *child) {
+            count = count.saturating_add(1);
+        }
+    }
+    count
+}
+
 /// How many old children a search for a new one looks at.
 const NEARBY: usize = 64;
 
@@ -236,6 +247,8 @@ impl Comparing {
         } }
         ensures err { IfErr result (λ e. e ≡ Memory) }
     {
+        let entering = count_of_entering(lists.before, lists.after);
+        self.entered.reserve(entering)?;
         let mut next = 0;
         for index in 0..lists.after.len() {
             next = self.compare_child(lists, index, next)?;

@@ -17,6 +17,9 @@ use std::alloc::Global;
 use tree_changes::UpdateError;
 use values_by_id::{RowList, SortedRows};
 
+/// For how many more verdicts there is room than for those on the update's nodes, or on the nodes that entered a spot.
+const BESIDE: usize = 256;
+
 /// The verdict on a node that changes, or is reported without a change.
 #[derive(Clone, Copy)]
 pub(crate) enum Verdict {
@@ -188,11 +191,13 @@ impl Found {
         Ok(())
     }
 
-    /// Adds the verdict on a node, unless it is in the update and was judged there.
+    /// Adds the verdict on a node that entered a spot, unless it is in the update and was judged there. It is searched for in the update
+    /// from `near` on, and among those that entered from `entered` on.
     fn judge_unnamed(
         &self,
         id: FullNodeId,
         near: &mut usize,
+        entered: &mut usize,
         verdicts: &mut RowList<Verdict>,
     ) -> Result<(), UpdateError>
         ghost step: { Transition }
@@ -206,8 +211,7 @@ impl Found {
         if named.is_some() {
             return Ok(());
         }
-        let mut entered = *near;
-        self.judge_as(id, named, &mut entered, verdicts)
+        self.judge_as(id, named, entered, verdicts)
     }
 
     /// Adds the verdicts on the nodes that entered a spot, after those on the update's nodes.
@@ -221,8 +225,9 @@ impl Found {
         ensures err { IfErr result (λ e. e ≡ Memory) }
     {
         let mut near = 0;
+        let mut entered = 0;
         for item in self.compared.entered.entries() {
-            self.judge_unnamed(item.0, &mut near, verdicts)?;
+            self.judge_unnamed(item.0, &mut near, &mut entered, verdicts)?;
         }
         Ok(())
     }
@@ -280,8 +285,12 @@ impl Found {
         ensures gone { OnOk result (IsStrictlySortedBy full_cmp self.now.removed.gone.keys) }
         ensures err { IfErr result (λ e. e ≡ Memory) }
     {
-        // beside the update's nodes there is often one that moved to another of them
-        let count = self.compared.named.len().max(self.compared.entered.len());
+        // beside the update's nodes there are often some that moved to another of them, or those that shifted beside a few new ones
+        let named = self.compared.named.len();
+        let entered = self.compared.entered.len();
+        let count = named
+            .max(entered)
+            .saturating_add(named.min(entered).min(BESIDE));
         let mut verdicts = RowList::with_capacity(alloc, count.saturating_add(1))?;
         self.judge_named(&mut verdicts)?;
         self.judge_entered(&mut verdicts)?;

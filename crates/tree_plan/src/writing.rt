@@ -167,10 +167,11 @@ fn told_events(
     ensures told { IfOk result (λ events. ¬ (IsTrue is_first) → AreEvents verdicts.now focused.now events.items) }
     ensures err { IfErr result (λ e. e ≡ Memory) }
 {
-    let mut events = Vec::new(alloc);
     if is_first {
-        return Ok(events);
+        return Ok(Vec::new(alloc));
     }
+    // one for each verdict, and up to three for a focus that moved
+    let mut events = Vec::with_capacity(alloc, verdicts.len().saturating_add(3))?;
     push_group(verdicts, Group::Added, &mut events)?;
     push_group(verdicts, Group::Updated, &mut events)?;
     push_move(verdicts, focused.before, focused.after, &mut events)?;

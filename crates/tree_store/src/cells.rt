@@ -80,6 +80,23 @@ impl Slots {
     pub(crate) fn record(&self, id: FullNodeId) -> Option<&Record>
         ensures { option_copied result ≡ record_at self.now id }
     {
+        self.find(id)
+    }
+
+    /// The record of an id that has one. The search is inlined here, so that nothing is left of its tests of whether there is one; this
+    /// function isn't, so that walks stay short.
+    #[inline(never)]
+    pub(crate) fn known_record(&self, id: FullNodeId) -> &Record
+        requires { IsSome (record_at self.now id) }
+        ensures { Some result.now ≡ record_at self.now id }
+    {
+        self.find(id).unwrap()
+    }
+
+    #[inline(always)]
+    fn find(&self, id: FullNodeId) -> Option<&Record>
+        ensures { option_copied result ≡ record_at self.now id }
+    {
         let number = *self.index.get(&id)?;
         record_of(self.cells.get(number as usize)?)
     }

@@ -2,7 +2,7 @@
 ghost use Rattle.std.specs.Prelude.{◌≡◌, ◌<◌, ◌^◌, ◌||◌, not, ℕ, Some, IsSome, IfSome, is_some, length, option_copied, option_map, slice_get};
 ghost use Rattle.std.specs.FinMap.{get as tree_at, len as nodes_len};
 ghost use Rattle.std.specs.FinSet.{len as slots_len};
-ghost use Rattle.model.specs.World.{World, data_of, index_of, root_of, root_named};
+ghost use Rattle.model.specs.World.{World, IsNode, data_of, index_of, root_of, root_named};
 ghost use Rattle.model.specs.Focus.{IsEffectiveFocus};
 ghost use Rattle.model.specs.Forest.{IsFormed};
 ghost use Rattle.model.specs.State.{IsState};
@@ -13,7 +13,7 @@ ghost use Rattle.tree_store.specs.NameRecords.{record_of};
 use crate::names::{
     focus_in, graft_in, index_in, known_name, name_record, present_tree, root_in, tree_in,
 };
-use crate::records::{Kept, PresentTree, Tables};
+use crate::records::{Kept, PresentTree, Record, Tables};
 use model::FullNodeId;
 use schema::{Node, TreeId};
 use std::marker::Model;
@@ -85,6 +85,16 @@ impl Store {
             place: record.place,
             node: &record.node,
         })
+    }
+
+    /// The place and data of a node that is in the world, where they are kept.
+    pub fn kept_of(&self, id: FullNodeId) -> Kept<'_>
+        requires { IsNode self.now.world id }
+        ensures data { Some result.node.now ≡ data_of self.now.world id }
+        ensures place { IsPlaceOf self.now.world id result.place.now }
+    {
+        let Record { place, node } = self.tables.nodes.known_record(id);
+        Kept { place, node }
     }
 
     /// A node's place and data, where they are kept.

@@ -18,7 +18,7 @@ pub struct Laid<'a> {
 impl<'a> Laid<'a> {
     ghost use Rattle.std.specs.Prelude.{◌≡◌, ◌<◌, ◌^◌, Some, IfSome, option_copied, option_map};
     ghost use Rattle.std.specs.FinMap.{len};
-    ghost use Rattle.model.specs.World.{data_of, index_of, name_of, root_of, root_named};
+    ghost use Rattle.model.specs.World.{IsNode, data_of, index_of, name_of, root_of, root_named};
     ghost use Rattle.model.specs.Forest.{place_of, IsFormed};
     ghost use Rattle.model.specs.Focus.{IsEffectiveFocus};
     ghost use Rattle.model.specs.State.{IsState, with_host};
@@ -80,6 +80,16 @@ impl<'a> Laid<'a> {
             Some(overlay) => overlay.data(self.base, id),
             None => self.base.get(id),
         }
+    }
+
+    /// The place and data of a node that is in the state. It is never inlined, so that the look-up of a stored node stays short.
+    #[inline(never)]
+    pub(crate) fn kept_of(self, id: FullNodeId) -> Kept<'a>
+        requires { IsNode (world_laid self) id }
+        ensures data { Some result.node.now ≡ data_of (world_laid self.entry) id }
+        ensures place { result.place.now ≡ place_of (world_laid self.entry) id }
+    {
+        self.kept_near(id, &mut 0).unwrap()
     }
 
     /// A node's place and data. If there are changes of an update, the one at `near` is tried first.

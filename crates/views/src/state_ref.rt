@@ -78,17 +78,17 @@ impl<'a> StateRef<'a> {
         ask!(self, get(id))
     }
 
-    /// A node's place and data.
+    /// The place and data of a node that is in the state.
     #[inline(always)]
-    pub(crate) fn kept(self, id: FullNodeId) -> Option<Kept<'a>>
-        ensures data { option_map (λ r. r.node.now) result ≡ data_of (world_of self.entry) id }
-        ensures place { IfSome result (λ r. r.place.now ≡ place_of (world_of self.entry) id) }
+    pub(crate) fn kept_of(self, id: FullNodeId) -> Kept<'a>
+        requires { IsNode (world_of self) id }
+        ensures data { Some result.node.now ≡ data_of (world_of self.entry) id }
+        ensures place { result.place.now ≡ place_of (world_of self.entry) id }
     {
-        self.kept_near(id, &mut 0)
+        ask!(self, kept_of(id))
     }
 
     /// A node's place and data. If there are changes of an update, the one at `near` is tried first.
-    #[inline(always)]
     fn kept_near(self, id: FullNodeId, near: &mut usize) -> Option<Kept<'a>>
         ensures data { option_map (λ r. r.node.now) result ≡ data_of (world_of self.entry) id }
         ensures place { IfSome result (λ r. r.place.now ≡ place_of (world_of self.entry) id) }
@@ -154,12 +154,12 @@ impl<'a> StateRef<'a> {
         requires { IsNode (world_of self) id }
         ensures { IsView (world_of self.entry) id result }
     {
-        let found = self.kept(id).unwrap();
+        let kept = self.kept_of(id);
         NodeRef {
             state: self,
             id,
-            node: found.node,
-            place: found.place,
+            node: kept.node,
+            place: kept.place,
         }
     }
 

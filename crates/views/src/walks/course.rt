@@ -9,7 +9,6 @@ use crate::walks::ends::{
     Ends, all_ends, following_ends, preceding_ends, without_back, without_front,
 };
 use crate::walks::filter::Filter;
-use crate::walks::spot::Member;
 use model::FullNodeId;
 
 /// The nodes that a walk has left: those that a filter shows below `top`, from one end to the other. Without ends the
@@ -37,11 +36,7 @@ impl<'a> Course<'a> {
         ensures { let w = world_at node.entry in
             HasIdsLeft (F.answers filter.now) w (λ f. filtered_children f w (id_at node.entry)) result }
     {
-        let top = Member {
-            id: node.id,
-            node: node.node,
-            place: node.place,
-        };
+        let top = node.member();
         Course {
             state: node.state,
             top: node.id,
@@ -56,11 +51,7 @@ impl<'a> Course<'a> {
             HasIdsLeft (F.answers filter.now) w
             (λ f. following_filtered_siblings f w (id_at node.entry)) result }
     {
-        let member = Member {
-            id: node.id,
-            node: node.node,
-            place: node.place,
-        };
+        let member = node.member();
         match following_ends(node.state, member, filter) {
             Some((top, ends)) => Course {
                 state: node.state,
@@ -82,11 +73,7 @@ impl<'a> Course<'a> {
             HasIdsLeft (F.answers filter.now) w
             (λ f. reverse (preceding_filtered_siblings f w (id_at node.entry))) result }
     {
-        let member = Member {
-            id: node.id,
-            node: node.node,
-            place: node.place,
-        };
+        let member = node.member();
         match preceding_ends(node.state, member, filter) {
             Some((top, ends)) => Course {
                 state: node.state,
@@ -134,11 +121,7 @@ impl<'a> Course<'a> {
             BeginsDescent (F.answers filter.now) w
             (λ f. filtered_descendants f w (id_at node.entry)) result }
     {
-        let top = Member {
-            id: node.id,
-            node: node.node,
-            place: node.place,
-        };
+        let top = node.member();
         Course {
             state: node.state,
             top: node.id,

@@ -35,11 +35,7 @@ impl<'a> ChildRange<'a> {
         ensures world { range_world result ≡ world_at node.entry }
         ensures all { range_left result ≡ children (world_at node.entry) (id_at node.entry) }
     {
-        let parent = Member {
-            id: node.id,
-            node: node.node,
-            place: node.place,
-        };
+        let parent = node.member();
         ChildRange {
             state: node.state,
             parent,
@@ -53,11 +49,7 @@ impl<'a> ChildRange<'a> {
         ensures world { range_world result ≡ world_at node.entry }
         ensures empty { range_left result ≡ [] }
     {
-        let parent = Member {
-            id: node.id,
-            node: node.node,
-            place: node.place,
-        };
+        let parent = node.member();
         ChildRange {
             state: node.state,
             parent,
@@ -72,11 +64,7 @@ impl<'a> ChildRange<'a> {
         ensures siblings { let w = world_at node.entry in
             range_left result ≡ following_siblings w (id_at node.entry) }
     {
-        let member = Member {
-            id: node.id,
-            node: node.node,
-            place: node.place,
-        };
+        let member = node.member();
         match node.state.spot(member) {
             Some(spot) => ChildRange {
                 state: node.state,
@@ -94,11 +82,7 @@ impl<'a> ChildRange<'a> {
         ensures siblings { let w = world_at node.entry in
             reverse (range_left result) ≡ preceding_siblings w (id_at node.entry) }
     {
-        let member = Member {
-            id: node.id,
-            node: node.node,
-            place: node.place,
-        };
+        let member = node.member();
         match node.state.spot(member) {
             Some(spot) => ChildRange {
                 state: node.state,

@@ -39,11 +39,7 @@ fn set_top<'a, F: Filter>(node: NodeRef<'a>, filter: &F) -> Option<Member<'a>>
         FilterResult::ExcludeNode => return None,
         FilterResult::ExcludeSubtree => return None,
     }
-    let member = Member {
-        id: node.id,
-        node: node.node,
-        place: node.place,
-    };
+    let member = node.member();
     cover(node.state, member, filter)
 }
 

@@ -35,7 +35,7 @@ impl<'a> StateRef<'a> {
         ensures is { result.id ≡ id }
         ensures known { IsMember (world_of self.entry) result }
     {
-        let kept = self.kept(id).unwrap();
+        let kept = self.kept_of(id);
         Member {
             id,
             node: kept.node,

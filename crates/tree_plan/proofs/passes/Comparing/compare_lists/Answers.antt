@@ -3,7 +3,7 @@ use Rattle.std.proofs.lemmas.List.{length-map}
 use Rattle.std.proofs.lemmas.Result.{on_ok_weaker}
 use Rattle.model.specs.World.{in_tree}
 use Rattle.tree_plan.specs.declared.passes.Comparing.{Comparing}
-use Rattle.tree_plan.specs.Comparisons.{Arrivals, spots_of, Gathers, OnlyIn, OnlyInBefore, ids_before, ids_after}
+use Rattle.tree_plan.specs.Comparisons.{Arrivals, Leaves, spots_of, Gathers, OnlyIn, OnlyInBefore, ids_before, ids_after}
 use Rattle.tree_plan.proofs.Gathering.{gathers_none, gathers_next, gathers_all, none_at_zero}
 use Rattle.tree_plan.proofs.Leaving.{lists_none, lists_both}
 use Rattle.tree_plan.proofs.passes.Comparing.compare_lists.Goals as goal
@@ -11,9 +11,12 @@ use Rattle.tree_plan.proofs.passes.Comparing.compare_lists.Goals as goal
 pub loop-index-init : goal.loop-index-init
 loop-index-init c =
     let lists = c.args.lists.now in
+    let a : Comparing = c.args.self.now in
+    let same : c.reserve.new.self ≡ a.entered = c.reserve.ensures in
     record {
-      left = lists_none lists 0 c.args.self.now;
-      entered = gathers_none (OnlyInBefore 0 lists.parent (ids_after lists) (ids_before lists)) (spots_of c.args.self.now.entered) (none_at_zero lists.parent (ids_after lists) (ids_before lists));
+      left = subst (λ (es : Arrivals). Leaves lists.parent (ids_before lists) (ids_after lists) 0 0 a.left a.left a.entered es) (sym same) (lists_none lists 0 a);
+      entered = subst (λ (es : Arrivals). Gathers (OnlyInBefore 0 lists.parent (ids_after lists) (ids_before lists)) (spots_of a.entered) (spots_of es)) (sym same)
+          (gathers_none (OnlyInBefore 0 lists.parent (ids_after lists) (ids_before lists)) (spots_of a.entered) (none_at_zero lists.parent (ids_after lists) (ids_before lists)));
       rest = refl;
     }
 
