@@ -27,6 +27,14 @@ begun_at text items i x before mid after low is a k =
     subst (AppendsBeginning before after) (sym (ap (flat_map text) split ∙ flat_map-append text (take i items) (x ∷ rest)))
     (begun_after before mid after (flat_map text (take i items)) (text x ++ flat_map text rest) a (begun_of_more mid after (text x) (flat_map text rest) k))
 
+-- the texts of the first items are written, and then the next one's
+pub written_next : {T : Type 0} (text : T → List ℕ) (items : List T) (i : ℕ) (x : T) (before mid after : Option (List ℕ)) → i < length items → x ≡ get_or items i x → Appends before mid (flat_map text (take i items))
+    → Appends mid after (text x) → Appends before after (flat_map text (take (i + 1) items))
+written_next text items i x before mid after low is a b =
+    let more : take (i + 1) items ≡ take i items ++ (x ∷ []) = take-add i 1 items ∙ ap (λ l. take i items ++ take 1 l) (drop_more items i x low ∙ ap (λ y. y ∷ drop (i + 1) items) (sym is)) in
+    subst (Appends before after) (sym (ap (flat_map text) more ∙ flat_map-append text (take i items) (x ∷ []) ∙ ap (λ t. flat_map text (take i items) ++ t) (append-nil (text x))))
+    (Appends-trans before mid after (flat_map text (take i items)) (text x) a b)
+
 -- what is left of a text after its first bytes
 pub rest_is : (bytes : List ℕ) (i : ℕ) → take (length bytes - i) (drop i bytes) ≡ drop i bytes
 rest_is bytes i = take_all (length bytes - i) (drop i bytes) (omega (arith, length-drop i bytes))

@@ -91,11 +91,23 @@ fn read_part<R: BufRead>(input: &mut R, bytes: &mut Vec<u8>) -> Result<bool, Sto
         Err(error) if error.kind() == ErrorKind::Interrupted => return Ok(false),
         Err(_) => return Err(Stop::ReadFault),
     };
-    let end = line_length(shown);
-    bytes.extend_from_slice(&shown[..end])?;
-    let is_done = end == 0 || shown[end - 1] == b'\n';
+    let (part, is_done) = line_part(shown);
+    bytes.extend_from_slice(part)?;
+    let end = part.len();
     input.consume(end);
     Ok(is_done)
+}
+
+/// The bytes up to and with the first newline, or all of them, and whether the line ends there: with a newline, or with no byte.
+fn line_part(bytes: &[u8]) -> (&[u8], bool)
+    ensures front { result.0.now ≡ take (length result.0.now) bytes.now }
+    ensures bound { length result.0.now ≤ length bytes.now }
+    ensures ended { result.1 ≡ true → StopsAt result.0.now 10 × IsEmptyOrEndsWith result.0.now 10 }
+    ensures end { result.1 ≡ true → length result.0.now ≡ 0 → length bytes.now ≡ 0 }
+    ensures goes_on { result.1 ≡ false → All (λ byte. byte ≢ 10) result.0.now }
+{
+    let part = &bytes[..line_length(bytes)];
+    (part, part.is_empty() || part[part.len() - 1] == b'\n')
 }
 
 /// How many bytes there are up to and with the first newline, or at all.

@@ -1,9 +1,10 @@
 //! Reading a script's commands from its input, line by line.
 
-ghost use Rattle.std.specs.Prelude.{◌≡◌, ◌++◌, ◌∷◌, [], All, Err, IfSome, List, MatchOption, None, Ok, OnOk, Some, is_some};
+ghost use Rattle.std.specs.Prelude.{◌≡◌, ◌≢◌, ◌++◌, ◌∷◌, [], All, Err, IfSome, List, MatchOption, None, Ok, OnOk, Some, is_some};
 ghost use Rattle.line_faults.specs.Faults.{Explains};
 ghost use Rattle.schema.specs.UpdateData.{update_data};
 ghost use Rattle.script_lines.specs.Commands.{Said};
+ghost use Rattle.script_lines.specs.declared.lines.Line.TheVariants as says;
 ghost use Rattle.script_lines.specs.Comments.{comment_after};
 ghost use Rattle.script_words.specs.Reading.{Reads};
 ghost use Rattle.script_lines.specs.ReadingBack.{IsSaid, ReadsBack, script_text};
@@ -164,15 +165,8 @@ impl ScriptReader {
     {
         match line {
             Line::Nothing => Ok(None),
-            Line::Node(id, node) => {
-                let update = self.begun.take().ok_or(Stop::BadLine)?;
-                self.begun = Some(with_node(update, id, node)?);
-                Ok(None)
-            }
-            Line::End => {
-                let update = self.begun.take().ok_or(Stop::BadLine)?;
-                Ok(Some(ScriptCommand::Update(update)))
-            }
+            Line::Node(id, node) => self.take_node(id, node),
+            Line::End => self.take_end(),
             _ if self.begun.is_some() => Err(Stop::BadLine),
             Line::Update(update) => {
                 self.begun = Some(update);
@@ -182,6 +176,32 @@ impl ScriptReader {
             Line::Print => Ok(Some(ScriptCommand::Print)),
             Line::Query(query) => Ok(Some(ScriptCommand::Query(query))),
         }
+    }
+
+    /// Adds the node of a line to the update that is begun.
+    fn take_node(&mut self, id: NodeId, node: Node) -> Result<Option<ScriptCommand>, Stop>
+        ensures takes { TakesAs (taken (begun_of self.old) (says.Node id node)) result (begun_of self.new) }
+        ensures lines { self.new.lines ≡ self.old.lines }
+        ensures comment { self.new.comment ≡ self.old.comment }
+    {
+        let Some(update) = self.begun.take() else {
+            return Err(Stop::BadLine);
+        };
+        self.begun = Some(with_node(update, id, node)?);
+        Ok(None)
+    }
+
+    /// The update that is begun, which the line ends.
+    fn take_end(&mut self) -> Result<Option<ScriptCommand>, Stop>
+        ensures takes { TakesAs (taken (begun_of self.old) says.End) result (begun_of self.new) }
+        ensures memory { result ≢ Err stop_.Memory }
+        ensures lines { self.new.lines ≡ self.old.lines }
+        ensures comment { self.new.comment ≡ self.old.comment }
+    {
+        let Some(update) = self.begun.take() else {
+            return Err(Stop::BadLine);
+        };
+        Ok(Some(ScriptCommand::Update(update)))
     }
 }
 

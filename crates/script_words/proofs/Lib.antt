@@ -6,6 +6,7 @@ pub mod Cuts
 pub mod TreeNames
 pub mod Lacking
 pub mod NamedWords
+pub mod NamedTables
 pub mod CommaWords
 pub mod RoleWords
 pub mod CommaLists

@@ -10,7 +10,7 @@ ghost use Rattle.script_words.specs.Says.{SaysOther, SaysRole};
 ghost use Rattle.script_words.specs.Names.{toggled_name, truth_name, live_name, orientation_name, sort_direction_name, aria_current_name, has_popup_name, text_direction_name, text_align_name, vertical_offset_name, decoration_style_name, filter_name, side_name, move_name};
 
 use crate::tables::{
-    currents, decoration_styles, filters, lives, moves, orientations, popups, sides,
+    all_named, currents, decoration_styles, filters, lives, moves, orientations, popups, sides,
     sort_directions, text_aligns, text_directions, toggles, value_named, vertical_offsets,
 };
 use crate::words::{in_brackets, short};
@@ -67,12 +67,14 @@ pub fn side_named(word: &str) -> Option<Side>
     sides!(value_named word)
 }
 
+static MOVES: &[(&str, Move)] = moves!(all_named);
+
 /// The caret movement with this name.
 pub fn move_named(word: &str) -> Option<Move>
     ensures reads { ReadsNamed move_name word.now result }
     ensures only { IsNamed move_name word.now result }
 {
-    moves!(value_named word)
+    named(MOVES, word)
 }
 
 /// The toggle state with this name.

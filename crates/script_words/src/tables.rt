@@ -129,6 +129,13 @@ macro_rules! value_named {
     };
 }
 
+/// The names with their values.
+macro_rules! all_named {
+    (() $kind:ident { $($value:ident = $name:literal),+ }) => {
+        &[$(($name, $kind::$value)),+]
+    };
+}
+
 /// The name of a value.
 macro_rules! name_of {
     (($($of:tt)+) $kind:ident { $($value:ident = $name:literal),+ }) => {
@@ -152,6 +159,7 @@ macro_rules! all_names {
     };
 }
 
+pub(crate) use all_named;
 pub(crate) use all_names;
 pub(crate) use all_values;
 pub(crate) use currents;

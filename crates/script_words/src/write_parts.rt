@@ -272,6 +272,13 @@ impl fmt::Display for ShownRect {
     }
 }
 
+/// The corners of a rectangle.
+fn shown_rect(rect: Rect) -> ShownRect
+    ensures { corners_text result.0.0 result.0.1 result.1.0 result.1.1 ≡ rect_text rect }
+{
+    ShownRect(ShownPair(rect.x0, rect.y0), ShownPair(rect.x1, rect.y1))
+}
+
 /// Writes a field that is a rectangle, if there is one.
 pub fn write_rect<O: Write>(name: &str, value: Option<Rect>, out: &mut O) -> io::Result<()>
     ensures { OnOk result (Appends (O.contents out.old) (O.contents out.new) (word_field name.now (option_map rect_text value))) }
@@ -279,8 +286,7 @@ pub fn write_rect<O: Write>(name: &str, value: Option<Rect>, out: &mut O) -> io:
     let Some(rect) = value else {
         return Ok(());
     };
-    let Rect { x0, y0, x1, y1 } = rect;
-    let corners = ShownRect(ShownPair(x0, y0), ShownPair(x1, y1));
+    let corners = shown_rect(rect);
     write!(out, " {name}={corners}")
 }
 

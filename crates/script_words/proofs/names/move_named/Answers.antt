@@ -1,30 +1,12 @@
-use Rattle.std.proofs.Common.{◌≢◌}
-use Rattle.model.specs.declared.queries.Move.{Move}
-use Rattle.model.specs.declared.queries.Move.TheVariants as move
+use Rattle.std.proofs.Common.{refl, subst, sym, ◌∙◌}
+use Rattle.script_words.specs.NamedIn.{IsNamed}
+use Rattle.script_words.specs.NameLists.{all_moves}
 use Rattle.script_words.specs.Names.{move_name}
+use Rattle.script_words.proofs.NamedTables.{first_move, named_in_table, reads_in_table}
 use Rattle.script_words.proofs.names.move_named.Goals as goal
 
-unnamed : (c : goal.In_default) → (value : Move) → c.args.word.now ≢ move_name value
-unnamed c move.ForwardToCharacterStart e = c.in_default.not-forward_to_character_start e
-unnamed c move.ForwardToCharacterEnd e = c.in_default.not-forward_to_character_end e
-unnamed c move.BackwardToCharacterStart e = c.in_default.not-backward_to_character_start e
-unnamed c move.ForwardToFormatStart e = c.in_default.not-forward_to_format_start e
-unnamed c move.ForwardToFormatEnd e = c.in_default.not-forward_to_format_end e
-unnamed c move.BackwardToFormatStart e = c.in_default.not-backward_to_format_start e
-unnamed c move.ForwardToWordStart e = c.in_default.not-forward_to_word_start e
-unnamed c move.ForwardToWordEnd e = c.in_default.not-forward_to_word_end e
-unnamed c move.BackwardToWordStart e = c.in_default.not-backward_to_word_start e
-unnamed c move.ForwardToLineStart e = c.in_default.not-forward_to_line_start e
-unnamed c move.ForwardToLineEnd e = c.in_default.not-forward_to_line_end e
-unnamed c move.BackwardToLineStart e = c.in_default.not-backward_to_line_start e
-unnamed c move.ForwardToParagraphStart e = c.in_default.not-forward_to_paragraph_start e
-unnamed c move.ForwardToParagraphEnd e = c.in_default.not-forward_to_paragraph_end e
-unnamed c move.BackwardToParagraphStart e = c.in_default.not-backward_to_paragraph_start e
-unnamed c move.ForwardToPageStart e = c.in_default.not-forward_to_page_start e
-unnamed c move.ForwardToPageEnd e = c.in_default.not-forward_to_page_end e
-unnamed c move.DocumentEnd e = c.in_default.not-document_end e
-unnamed c move.BackwardToPageStart e = c.in_default.not-backward_to_page_start e
-unnamed c move.DocumentStart e = c.in_default.not-document_start e
+pub returns-clause-reads : goal.returns-clause-reads
+returns-clause-reads c = λ value e. c.named.ensures ∙ reads_in_table move_name _ all_moves refl refl first_move c.args.word.now value e
 
-pub returns-in_default-clause-reads : goal.returns-in_default-clause-reads
-returns-in_default-clause-reads c = λ value e. absurd (unnamed c value e)
+pub returns-clause-only : goal.returns-clause-only
+returns-clause-only c = subst (IsNamed move_name c.args.word.now) (sym c.named.ensures) (named_in_table move_name _ refl c.args.word.now)

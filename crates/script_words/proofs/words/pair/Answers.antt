@@ -1,6 +1,27 @@
-use Rattle.std.proofs.Common.{refl}
+use Rattle.std.proofs.Common.{rules, refl, ◌∙◌}
+use Rattle.std.specs.Fmt.{signed_decimal}
+use Rattle.script_words.proofs.CommaWords.{units_lack_comma, pair_cut}
 use Rattle.script_words.proofs.Numerals.{units_kept}
 use Rattle.script_words.proofs.words.pair.Goals as goal
+
+pub returns-in_err-x-clause-reads : goal.returns-in_err-x-clause-reads
+returns-in_err-x-clause-reads c = λ x y hx hy e. absurd (c.in_err-x.ensures.reads (signed_decimal x) (signed_decimal y) (units_lack_comma x hx) (e ∙ pair_cut x y))
+
+pub returns-in_err-units-clause-reads : goal.returns-in_err-units-clause-reads
+returns-in_err-units-clause-reads c = λ x y hx hy e.
+    let k = c.in_ok-x.ensures.reads (signed_decimal x) (signed_decimal y) (units_lack_comma x hx) (e ∙ pair_cut x y) in
+    let l = c.in_err-units.ensures.reads x hx k.0 in cc
+
+pub returns-in_err-units-2-clause-reads : goal.returns-in_err-units-2-clause-reads
+returns-in_err-units-2-clause-reads c = λ x y hx hy e.
+    let k = c.in_ok-x.ensures.reads (signed_decimal x) (signed_decimal y) (units_lack_comma x hx) (e ∙ pair_cut x y) in
+    let l = c.in_err-units-2.ensures.reads y hy k.1 in cc
+
+pub returns-clause-reads : goal.returns-clause-reads
+returns-clause-reads c = λ x y hx hy e.
+    let k = c.in_ok-x.ensures.reads (signed_decimal x) (signed_decimal y) (units_lack_comma x hx) (e ∙ pair_cut x y) in
+    let l = c.in_ok-units.ensures.reads x hx k.0 in
+    let m = c.in_ok-units-2.ensures.reads y hy k.1 in search rules
 
 pub returns-clause-only : goal.returns-clause-only
 returns-clause-only c =

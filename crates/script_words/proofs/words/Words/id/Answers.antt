@@ -1,0 +1,17 @@
+use Rattle.std.proofs.Common.{rules}
+use Rattle.std.specs.Fmt.{decimal}
+use Rattle.script_words.proofs.Decimals.{decimal_is_word}
+use Rattle.script_words.proofs.words.Words.id.Goals as goal
+
+pub returns-in_err-word-clause-reads : goal.returns-in_err-word-clause-reads
+returns-in_err-word-clause-reads c = λ value rest h e. absurd (c.in_err-word.ensures.reads (decimal value.0) rest (decimal_is_word value.0 h) e).0
+
+pub returns-clause-reads : goal.returns-clause-reads
+returns-clause-reads c = λ value rest h e.
+    let word = c.in_ok-word.ensures.reads (decimal value.0) rest (decimal_is_word value.0 h) e in
+    let read = c.number.ensures.reads value.0 h word.0 in search rules
+
+pub returns-in_err-number-clause-reads : goal.returns-in_err-number-clause-reads
+returns-in_err-number-clause-reads c = λ value rest h e.
+    let word = c.in_ok-word.ensures.reads (decimal value.0) rest (decimal_is_word value.0 h) e in
+    let read = c.number.ensures.reads value.0 h word.0 in search rules
