@@ -14,7 +14,7 @@ use crate::updates::Events;
 use crate::walks::{preorder, shown};
 use accesskit_consumer::filters::common_filter;
 use accesskit_consumer::{NodeRef, NodeText, TextPlaces, TextPosition, TextRoot, TextSelections, Tree};
-use schema::{Point, TreeId, TreeUpdate};
+use schema::{NodeId, Point, TreeId, TreeUpdate};
 use std::alloc::{AllocError, Global};
 
 /// What is sent again and again.
@@ -153,12 +153,12 @@ fn hit(tree: &Tree) -> u64 {
     u64::from(tree.state().view().root().node_at_point(point, &filter).is_some())
 }
 
-/// How many of the nodes are found by their ids.
-fn found(tree: &Tree, ids: Ids, nodes: u64) -> u64 {
+/// How many nodes are found by these ids.
+fn found(tree: &Tree, sought: &[NodeId]) -> u64 {
     let view = tree.state().view();
     let mut count: u64 = 0;
-    for number in 0..nodes {
-        if view.node_by_tree_local_id(ids.id(number), TreeId::root()).is_some() {
+    for id in sought {
+        if view.node_by_tree_local_id(*id, TreeId::root()).is_some() {
             count = count.saturating_add(1);
         }
     }
@@ -169,6 +169,8 @@ fn found(tree: &Tree, ids: Ids, nodes: u64) -> u64 {
 fn walk(alloc: Global, work: &str, ids: Ids, nodes: u64, count: u64) -> anyhow::Result<u64> {
     let first = if work == "find" { flat(alloc, ids, nodes)? } else { frame(alloc, ids, nodes, 0)? };
     let tree = Tree::new(alloc, first, true)?;
+    // the ids are made before, so that only the look-ups are counted
+    let sought = ids.range(alloc, 0, nodes)?;
     let mut sum: u64 = 0;
     for _ in 0..count {
         let met = match work {
@@ -176,7 +178,7 @@ fn walk(alloc: Global, work: &str, ids: Ids, nodes: u64, count: u64) -> anyhow::
             "filtered" => shown(alloc, &tree, nodes)?,
             "way-up" => ways_up(alloc, &tree, nodes)?,
             "hit" => hit(&tree),
-            "find" => found(&tree, ids, nodes),
+            "find" => found(&tree, &sought),
             _ => anyhow::bail!("there is no such work"),
         };
         sum = sum.saturating_add(met);

@@ -6,7 +6,7 @@
 //!     works IDS WORK NODES COUNT
 //!
 //! The works on updates stand in `updates`, those on walks in `walks`, an adapter's turn in `adapter`, and those on texts,
-//! which take the second form, in `texts`. The third form is that of `loads`, which say what ids their nodes have: one of
+//! which take the second form, in `text_works`. The third form is that of `loads`, which say what ids their nodes have: one of
 //! `counted`, `spread`, `alike-above`, `alike-below` and `reversed`. It prints a sum of what it met.
 #![tactic(auto)]
 
@@ -14,7 +14,7 @@ mod adapter;
 mod ids;
 mod interfaces;
 mod loads;
-mod texts;
+mod text_works;
 mod updates;
 mod walks;
 
@@ -55,12 +55,12 @@ fn main(rt: HostRuntime) -> anyhow::Result<()> {
         "mixed" => adapter::sum(alloc, nodes, second)?,
         _ => {
             let count = number(words.next())?;
-            let text = texts::Text {
+            let text = text_works::Text {
                 runs: nodes,
                 characters: second as usize,
-                shape: texts::shape_of(words.next())?,
+                shape: text_works::shape_of(words.next())?,
             };
-            texts::sum(alloc, work.as_str(), text, count)?
+            text_works::sum(alloc, work.as_str(), text, count)?
         }
     };
     println!(rt; "{sum}")?;

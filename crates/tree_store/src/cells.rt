@@ -1,5 +1,5 @@
 //! Cells by number: each keeps the slot of one id, or is free. An index gives the number of an id's cell.
-ghost use Rattle.std.specs.Prelude.{◌≡◌, ◌≢◌, ◌<◌, ◌≤◌, ◌^◌, ℕ, length, slice_get, option_copied, Some, None, is_some, IsSome, cond, IfOk, OnOk, OnErr};
+ghost use Rattle.std.specs.Prelude.{◌≡◌, ◌≢◌, ◌<◌, ◌≤◌, ◌^◌, ℕ, length, slice_get, option_copied, Some, None, is_some, IsSome, IsTrue, cond, IfOk, OnOk, OnErr};
 ghost use Rattle.std.specs.BTreeMap.{is_at};
 ghost use Rattle.std.specs.Map.{keys_of};
 ghost use Rattle.std.specs.Vec.{vec_len, vec_capacity};
@@ -10,8 +10,9 @@ ghost use Rattle.tree_changes.specs.declared.decision.NodeChange.TheVariants.{Pu
 ghost use Rattle.tree_store.specs.Cells.{no_slots, kept_in, number_of, slot_at, record_at, record_in, HasOwnCells};
 ghost use Rattle.tree_store.specs.Commits.{record_moved_to, record_after};
 
+use crate::guesses::Guesses;
 use crate::records::Record;
-use model::{FullNodeId, Place};
+use model::{FullNodeId, Place, is_same};
 use schema::{Node, NodeId, Role};
 use std::alloc::{AllocError, Global};
 use std::marker::Model;
@@ -37,6 +38,7 @@ pub(crate) struct Slots {
     index: IdIndex<u32>,
     cells: Vec<Cell>,
     free: Vec<u32>,
+    guesses: Guesses,
 }
 
 impl Model for Slots {
@@ -58,6 +60,7 @@ impl Slots {
             index: IdIndex::new(alloc),
             cells: Vec::new(alloc),
             free: Vec::new(alloc),
+            guesses: Guesses::new(alloc),
         }
     }
 
@@ -97,8 +100,42 @@ impl Slots {
     fn find(&self, id: FullNodeId) -> Option<&Record>
         ensures { option_copied result ≡ record_at self.now id }
     {
-        let number = *self.index.get(&id)?;
+        let number = self.number(id)?;
         record_of(self.cells.get(number as usize)?)
+    }
+
+    /// The number of an id's cell: the one in its row, or a guess that is right, or else the one that the index finds.
+    #[inline(always)]
+    fn number(&self, id: FullNodeId) -> Option<u32>
+        ensures { result ≡ number_of self.now id }
+    {
+        if let Some(number) = self.index.get_in_row(&id) {
+            return Some(*number);
+        }
+        let guess = self.guesses.guess(id);
+        if self.is_cell_of(guess, id) {
+            return Some(guess);
+        }
+        self.searched_number(id)
+    }
+
+    /// Whether the cell with a number has a slot and is an id's.
+    #[inline(always)]
+    fn is_cell_of(&self, number: u32, id: FullNodeId) -> bool
+        ensures { IsTrue result → number_of self.now id ≡ Some number }
+    {
+        match self.cells.get(number as usize) {
+            Some(cell) => is_same(cell.id, id) && cell.slot.is_some(),
+            None => false,
+        }
+    }
+
+    /// The number of an id's cell, as the index finds it. It is never inlined, so that walks stay short.
+    #[inline(never)]
+    fn searched_number(&self, id: FullNodeId) -> Option<u32>
+        ensures { result ≡ number_of self.now id }
+    {
+        self.index.get(&id).copied()
     }
 
     /// Whether an id has a record.
@@ -112,7 +149,8 @@ impl Slots {
     pub(crate) fn contains_key(&self, id: FullNodeId) -> bool
         ensures { result ≡ is_some (slot_at self.now id) }
     {
-        self.index.contains_key(&id)
+        self.know();
+        self.number(id).is_some()
     }
 
     /// The ids that have a slot.
@@ -154,6 +192,27 @@ impl Slots {
             slot_at self.new q ≡ cond (is_at (full_cmp id) q) (Some slot.value) (slot_at self.old q)) }
         ensures err { OnErr result (self.new ≡ self.old) }
     {
+        let number = self.give(id, slot)?;
+        self.note(id, number);
+        Ok(())
+    }
+
+    // notes the number of an id's cell, if it would be searched
+    fn note(&mut self, id: FullNodeId, number: u32)
+        ensures { self.new ≡ self.old }
+    {
+        if self.index.get_in_row(&id).is_none() {
+            self.guesses.note(self.cells.as_slice(), id, number);
+        }
+    }
+
+    // gives a cell to an id that has none, and returns its number
+    fn give(&mut self, id: FullNodeId, slot: Box<Option<Record>>) -> Result<u32, AllocError>
+        requires { slot_at self.old id ≡ None }
+        ensures ok { OnOk result ((q : FullNodeId) →
+            slot_at self.new q ≡ cond (is_at (full_cmp id) q) (Some slot.value) (slot_at self.old q)) }
+        ensures err { OnErr result (self.new ≡ self.old) }
+    {
         let Some(number) = self.free.last().copied() else {
             return self.push(id, slot);
         };
@@ -163,11 +222,11 @@ impl Slots {
             slot: Some(slot),
         };
         drop(self.free.pop());
-        Ok(())
+        Ok(number)
     }
 
-    // gives a new cell to an id that has none
-    fn push(&mut self, id: FullNodeId, slot: Box<Option<Record>>) -> Result<(), AllocError>
+    // gives a new cell to an id that has none, and returns its number
+    fn push(&mut self, id: FullNodeId, slot: Box<Option<Record>>) -> Result<u32, AllocError>
         requires { slot_at self.old id ≡ None }
         ensures ok { OnOk result ((q : FullNodeId) →
             slot_at self.new q ≡ cond (is_at (full_cmp id) q) (Some slot.value) (slot_at self.old q)) }
@@ -184,7 +243,7 @@ impl Slots {
         if self.cells.push(Cell { id, slot }).is_err() {
             unreachable!()
         }
-        Ok(())
+        Ok(number as u32)
     }
 
     /// Takes away the slot of an id, with what is in it. Nothing is allocated.
@@ -217,7 +276,7 @@ impl Slots {
         ensures nodes { (k : ℕ) → k ≢ entry → slice_get nodes.new.items k ≡ slice_get nodes.old.items k }
         ensures count { length nodes.new.items ≡ length nodes.old.items }
     {
-        match self.index.get(&id).copied() {
+        match self.number(id) {
             Some(number) => put_in(alloc, &mut self.cells[number as usize], nodes, place, entry),
             None => unreachable!(),
         }
@@ -230,7 +289,7 @@ impl Slots {
         ensures after { (q : FullNodeId) → slot_at self.new q
             ≡ cond (is_at (full_cmp id) q) (Some (record_moved_to place (record_at self.old id))) (slot_at self.old q) }
     {
-        match self.index.get(&id).copied() {
+        match self.number(id) {
             Some(number) => move_in(&mut self.cells[number as usize], place),
             None => unreachable!(),
         }

@@ -5,6 +5,7 @@
 mod cells;
 mod commit;
 mod copies;
+mod guesses;
 mod known;
 mod names;
 mod overlay;

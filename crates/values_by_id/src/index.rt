@@ -59,6 +59,14 @@ impl<V: Drop> IdIndex<V> {
         self.len
     }
 
+    /// The value at an id that has a cell of its tree's row. Where there is one, no search is needed.
+    #[inline(always)]
+    pub fn get_in_row(&self, id: &FullNodeId) -> Option<&V>
+        ensures { (value : V) → option_copied result ≡ Some value → value_at self.now id.now ≡ Some value }
+    {
+        self.rows.get(*id)
+    }
+
     /// The value at an id.
     pub fn get(&self, id: &FullNodeId) -> Option<&V>
         ensures { option_copied result ≡ value_at self.now id.now }

@@ -1,10 +1,12 @@
 -- Nodes of a world at their places, as a walk keeps them.
-use Rattle.std.specs.Prelude.{◌≡◌, Some}
+use Rattle.std.specs.Prelude.{◌≡◌, List, [], Some}
+use Rattle.std.specs.Option.{option_map_or}
 use Rattle.std.specs.Coded.{Coded-set, coded_option}
+use Rattle.schema.specs.NodeData.{NodeData}
 use Rattle.schema.specs.contracts.Node.{the_row as node_row}
 use Rattle.model.specs.declared.FullNodeId.{FullNodeId}
 use Rattle.model.specs.FullIds.{coded_full}
-use Rattle.model.specs.World.{World, Place, HasData, StandsAt, data_of, child_at}
+use Rattle.model.specs.World.{World, Place, HasData, StandsAt, data_of, child_at, root_named, at_most_one}
 use Rattle.model.specs.Forest.{place_of}
 use Rattle.views.specs.Places.{coded_place}
 use Rattle.views.specs.declared.walks.spot.Member.{Member}
@@ -14,6 +16,10 @@ use Rattle.views.specs.declared.walks.spot.Spot.{Spot}
 pub record IsMember (w : World) (m : Member) : Type 0 where
   pub known : HasData w m.id m.node.now
   pub placed : m.place.now ≡ place_of w m.id
+
+-- the children that a node has as a graft: the root of the tree that it names, if that is present
+abbrev pub grafted : World → NodeData → List FullNodeId
+grafted w d = option_map_or (λ name. at_most_one (root_named w name)) d.tree_id []
 
 abbrev pub place_at : Spot → Place
 place_at s = (s.parent.id, s.index)

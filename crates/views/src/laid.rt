@@ -84,10 +84,10 @@ impl<'a> Laid<'a> {
 
     /// The place and data of a node that is in the state. It is never inlined, so that the look-up of a stored node stays short.
     #[inline(never)]
-    pub(crate) fn kept_of(self, id: FullNodeId) -> Kept<'a>
-        requires { IsNode (world_laid self) id }
-        ensures data { Some result.node.now ≡ data_of (world_laid self.entry) id }
-        ensures place { result.place.now ≡ place_of (world_laid self.entry) id }
+    pub(crate) fn kept_of(&self, id: FullNodeId) -> Kept<'a>
+        requires { IsNode (world_laid self.now) id }
+        ensures data { Some result.node.now ≡ data_of (world_laid self.now) id }
+        ensures place { result.place.now ≡ place_of (world_laid self.now) id }
     {
         self.kept_near(id, &mut 0).unwrap()
     }

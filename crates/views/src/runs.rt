@@ -166,14 +166,37 @@ impl<'a> Run<'a> {
     pub fn step(&mut self) -> bool
         ensures { MatchBool result (IsAfter self.old self.new) (StaysLast self.old self.new) }
     {
-        self.root.state.know();
-        match self.spot_after() {
+        match self.beside() {
             Some(spot) => {
-                self.spot = spot;
+                self.go_to(spot);
+                true
+            }
+            None => self.step_by_walk(),
+        }
+    }
+
+    /// Goes on to the next run by a walk, as [`Run::step`]. It is never inlined, so that a step to a sibling stays short.
+    #[inline(never)]
+    fn step_by_walk(&mut self) -> bool
+        ensures { MatchBool result (IsAfter self.old self.new) (StaysLast self.old self.new) }
+    {
+        match self.spot_by_walk() {
+            Some(spot) => {
+                self.go_to(spot);
                 true
             }
             None => false,
         }
+    }
+
+    // goes on to the next run, which has this place
+    #[inline(always)]
+    fn go_to(&mut self, spot: Spot<'a>)
+        requires { IsSpotAfter self.old spot }
+        ensures { IsAfter self.old self.new }
+    {
+        self.root.state.know();
+        self.spot = spot;
     }
 
     /// The previous run, if there is one.

@@ -4,7 +4,7 @@ ghost use Rattle.model.specs.World.{IsNode, in_tree, children, child_at};
 ghost use Rattle.model.specs.Forest.{place_of};
 ghost use Rattle.views.specs.ShownWorlds.{world_of};
 ghost use Rattle.views.specs.Nodes.{world_at, id_at};
-ghost use Rattle.views.specs.Spots.{IsMember, IsSpot, place_at};
+ghost use Rattle.views.specs.Spots.{IsMember, IsSpot, place_at, grafted};
 
 use crate::StateRef;
 use crate::node::NodeRef;
@@ -62,8 +62,19 @@ impl<'a> StateRef<'a> {
         requires { IsMember (world_of self) parent }
         ensures { result ≡ length (children (world_of self.entry) parent.entry.id) }
     {
-        let Some(name) = parent.node.tree_id() else {
-            return parent.node.children().len();
+        match parent.node.tree_id() {
+            Some(_) => self.grafted_count(parent.node),
+            None => parent.node.children().len(),
+        }
+    }
+
+    /// The number of children of a graft. It is never inlined, so that walks stay short.
+    #[inline(never)]
+    fn grafted_count(self, graft: &'a Node) -> usize
+        ensures { result ≡ length (grafted (world_of self.entry) graft.now) }
+    {
+        let Some(name) = graft.tree_id() else {
+            return 0;
         };
         match self.subtree_root(name) {
             Some(_) => 1,
@@ -78,13 +89,22 @@ impl<'a> StateRef<'a> {
         ensures is { result ≡ child_at (world_of self.entry) (parent.entry.id, index) }
         ensures fits { IfSome result (λ _. index + 1 < 2 ^ 64) }
     {
-        let Some(name) = parent.node.tree_id() else {
-            return listed_child(parent, index);
-        };
+        match parent.node.tree_id() {
+            Some(_) => self.grafted_child(parent.node, index),
+            None => listed_child(parent, index),
+        }
+    }
+
+    /// The child of a graft with this index. It is never inlined, so that walks stay short.
+    #[inline(never)]
+    fn grafted_child(self, graft: &'a Node, index: usize) -> Option<FullNodeId>
+        ensures is { result ≡ slice_get (grafted (world_of self.entry) graft.now) index }
+        ensures fits { IfSome result (λ _. index + 1 < 2 ^ 64) }
+    {
         if index > 0 {
             return None;
         }
-        self.subtree_root(name)
+        self.subtree_root(graft.tree_id()?)
     }
 
     /// The child with this index, with its place, if the node has that many.

@@ -9,8 +9,8 @@ use Rattle.tree_store.specs.declared.cells.Cell.{Cell}
 use Rattle.tree_store.specs.Cells.{kept_in, number_of, slot_at}
 use Rattle.tree_store.specs.CellsKept.{slots_of}
 use Rattle.tree_store.proofs.CellWrites.{no_number, popped, cells_written, slots_written, free_taken}
-use Rattle.tree_store.proofs.cells.Slots.add.Goals as goal
-use Rattle.tree_store.proofs.cells.Slots.add.Goals.{In_ok-insert}
+use Rattle.tree_store.proofs.cells.Slots.give.Goals as goal
+use Rattle.tree_store.proofs.cells.Slots.give.Goals.{In_ok-insert}
 
 -- the last cell in the list of free ones is free, and the id has none
 taken : (c : In_ok-insert) → ((x : Cell) × (slice_get c.self.inside.cells.items c.in-Some.number ≡ Some x) × (kept_in x ≡ None)) × (number_of (slots_of c.self.inside) c.args.id ≡ None)
