@@ -1,6 +1,6 @@
 -- A script that is played, by what is seen of its player.
-use Rattle.std.proofs.Common.{◌≡◌, ◌⊎◌, ℕ, inl, inr, Bool, List, [], ◌∷◌, ◌++◌, Option, Some, None, sym, ap, ◌∙◌, subst}
-use Rattle.std.specs.Prelude.{MatchOption, Result, Ok, Err}
+use Rattle.std.proofs.Common.{◌≡◌, ℕ, inl, inr, Bool, List, [], ◌∷◌, Option, Some, None, sym, ap, ◌∙◌, subst}
+use Rattle.std.specs.Prelude.{MatchOption, Result, Ok}
 use Rattle.std.specs.List.{FoldsTo}
 use Rattle.model.specs.World.{World}
 use Rattle.schema.specs.declared.update.TreeUpdate.{TreeUpdate}
@@ -13,7 +13,7 @@ use Rattle.session.specs.declared.commands.Command.{Command}
 use Rattle.session.specs.declared.commands.Command.TheVariants as command
 use Rattle.atree_script.specs.Input.{Commented, start_of}
 use Rattle.atree_script.specs.Played.{PlaysOut}
-use Rattle.atree_script.specs.Playing.{Turn, Begun, FirstRefused, Ran, Asked, Printed, Stage, no_tree, SendsFirst, RunsOn, CarriesOut, GoesOn, StopsAtLast, Plays}
+use Rattle.atree_script.specs.Playing.{Turn, Begun, FirstRefused, Ran, Asked, Printed, Stage, no_tree, SendsFirst, RunsOn, CarriesOut, GoesOn, Plays}
 use Rattle.atree_script.specs.declared.playing.Played.{Played}
 
 by_tree : {A B : Type 0} {C D : World → Type 0} (o : Option World) → (A → B) → ((w : World) → C w → D w) → MatchOption o A C → MatchOption o B D

@@ -1,5 +1,5 @@
 -- How a run ends whose output has an error.
-use Rattle.std.proofs.Common.{◌≡◌, ◌⊎◌, ℕ, List, inl, inr}
+use Rattle.std.proofs.Common.{◌≡◌, ℕ, List, inl, inr}
 use Rattle.script_lines.specs.Ends.{Tells}
 use Rattle.page.specs.Reports.{Bytes}
 

@@ -4,17 +4,15 @@ use Rattle.std.specs.Prelude.{if◌then◌else◌}
 use Rattle.std.specs.Option.{option_or}
 use Rattle.model.specs.declared.FullNodeId.{FullNodeId}
 use Rattle.model.specs.World.{World}
-use Rattle.model.specs.Forest.{IsFormed}
 use Rattle.model.specs.TextRuns.{is_password}
 use Rattle.model.specs.Values.{value_of}
-use Rattle.hidden_texts.specs.Alike.{DifferInPassword}
 use Rattle.hidden_texts.specs.Hidden.{hides_value}
 use Rattle.hidden_texts.specs.Laws.{HidesAlike, ShowsAlike}
 use Rattle.hidden_texts.specs.Shown.{password_value, shown_value}
 use Rattle.hidden_texts.proofs.HiddenAlike.{typing_hides_the_same}
 use Rattle.hidden_texts.proofs.ShownAlike.{typing_shows_the_same}
 use Rattle.page.proofs.FieldsAlike.{fields_alike}
-use Rattle.page.specs.Laws.{SaysAlike, TextsMayBeShown, TypingSaysTheSame}
+use Rattle.page.specs.Laws.{TextsMayBeShown, TypingSaysTheSame}
 use Rattle.page.specs.Said.{hidden_label_word, hidden_value_word, node_value}
 use Rattle.page.specs.Written.{word_text}
 

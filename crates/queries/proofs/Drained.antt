@@ -6,7 +6,6 @@ use Rattle.model.specs.declared.filters.FilterResult.{FilterResult}
 use Rattle.model.specs.World.{World}
 use Rattle.views.specs.declared.node.node_ref.NodeRef.{NodeRef}
 use Rattle.views.specs.declared.walks.filter.ByFn.{ByFn}
-use Rattle.views.specs.Nodes.{world_at}
 use Rattle.views.specs.FilteredWalks.{WalkOf, BeginsWalk, GivesFirst}
 use Rattle.views.proofs.Drained.{all_in_world, gives_all}
 use Rattle.queries.specs.Found.{AreShown}

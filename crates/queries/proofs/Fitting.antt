@@ -1,6 +1,6 @@
 -- Which nodes fit, as a list is gone through.
 use Rattle.std.proofs.Common.{◌≡◌, ℕ, ◌+◌, ◌<◌, Bool, true, false, cond, List, [], ◌∷◌, ◌++◌, map, take, length, get_or, refl, sym, ap, subst, ◌∙◌, append-nil}
-use Rattle.std.specs.Prelude.{All, filter, Option, Some, IfOk, Result, if◌then◌else◌}
+use Rattle.std.specs.Prelude.{All, filter, Some, IfOk, Result}
 use Rattle.std.specs.Global.{Vec}
 use Rattle.std.specs.Option.{option_map_or}
 use Rattle.std.proofs.lemmas.Bool.{cond_both}

@@ -1,8 +1,7 @@
 -- What a query for one node gives, by what is found.
-use Rattle.std.proofs.Common.{◌≡◌, ℕ, ◌<◌, ◌≤◌, List, [], ◌∷◌, map, length, refl, sym, ap, subst, ◌∙◌, arith}
+use Rattle.std.proofs.Common.{◌≡◌, ◌≤◌, List, [], ◌∷◌, length, refl, sym, subst, ◌∙◌, arith}
 use Rattle.std.specs.Prelude.{Option, Some, None, Result, Ok, Err, slice_get}
 use Rattle.views.specs.declared.node.node_ref.NodeRef.{NodeRef}
-use Rattle.views.specs.Nodes.{id_at}
 use Rattle.queries.specs.declared.by.Wanted.{Wanted}
 use Rattle.queries.specs.declared.error.QueryError.{QueryError}
 use Rattle.queries.specs.declared.error.QueryError.TheVariants.{NotFound, Several, Memory}

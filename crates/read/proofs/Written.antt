@@ -6,7 +6,7 @@ use Rattle.std.specs.Io.KnownBytes.{Appends}
 use Rattle.std.proofs.KnownBytes.{Appends-trans}
 use Rattle.atree_script.specs.Replies.{text_line}
 use Rattle.texts.specs.RangeCuts.{Located}
-use Rattle.read.specs.Lines.{Span, ends_line, line_text, marks, marks_line, span_line, word_text, words_text}
+use Rattle.read.specs.Lines.{Span, ends_line, marks_line, span_line, word_text, words_text}
 use Rattle.read.specs.Shown.{index_after, shown_text}
 
 -- two numbers with a space after each

@@ -1,5 +1,5 @@
 -- A line without its end.
-use Rattle.std.proofs.Common.{◌≡◌, ◌≢◌, ℕ, ◌+◌, ◌-◌, ◌<◌, List, [], ◌∷◌, ◌++◌, length, slice_index, take, Bool, true, false, ◌&&◌, nat_lt, ◌==◌, Bor, Option, Some, None, IfSome, MatchOption, length-append, arith, eqb-true, eq-eqb, refl, sym, ap, ◌∙◌, ⊎_elim, take_all}
+use Rattle.std.proofs.Common.{◌≡◌, ◌≢◌, ℕ, ◌+◌, ◌-◌, ◌<◌, List, [], ◌∷◌, ◌++◌, length, slice_index, take, Bool, true, nat_lt, ◌==◌, Bor, Option, Some, None, IfSome, MatchOption, length-append, arith, eqb-true, eq-eqb, refl, sym, ap, ◌∙◌, ⊎_elim, take_all}
 use Rattle.std.specs.Option.{unwrap_or}
 use Rattle.std.specs.Io.BufRead.{ends_with_byte, strip_last, take_through}
 use Rattle.std.proofs.BufReadLemmas.{take_through-nil}

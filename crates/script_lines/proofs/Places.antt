@@ -9,7 +9,7 @@ use Rattle.script_lines.specs.Comments.{comment_after}
 use Rattle.script_lines.specs.InputLines.{ReadsNext, next_number, without_end}
 use Rattle.script_words.specs.Reading.{Reads}
 use Rattle.script_lines.specs.ScriptReading.{GoesTo, IsPlace, Passes, PassesLines, Place, Steps, place}
-use Rattle.script_lines.specs.Taking.{Taken, TakesAs, begun_of, comment_of, last_line, number_of, taken}
+use Rattle.script_lines.specs.Taking.{Taken, TakesAs, begun_of, comment_of, number_of, taken}
 use Rattle.script_lines.specs.declared.lines.Line.{Line}
 use Rattle.script_lines.specs.declared.lines.Line.TheVariants as says
 use Rattle.script_lines.specs.declared.reader.ScriptCommand.{ScriptCommand}

@@ -1,5 +1,5 @@
 -- A script reads back as its commands: a reader before a line that is written goes on past it as it says.
-use Rattle.std.proofs.Common.{◌≡◌, ◌≢◌, ℕ, List, [], ◌∷◌, ◌++◌, All, Bool, codes, flat_map, Option, Some, None, option_map, Result, Ok, Err, inl, inr, ⊎_elim, refl, sym, ap, subst, ◌∙◌, append_assoc, append-nil}
+use Rattle.std.proofs.Common.{◌≡◌, ◌≢◌, ℕ, List, [], ◌∷◌, ◌++◌, All, Bool, codes, flat_map, Option, Some, None, option_map, Result, Ok, Err, ⊎_elim, refl, sym, ap, subst, ◌∙◌, append_assoc, append-nil}
 use Rattle.std.specs.Io.BufRead.{drop_through, strip_last, take_through}
 use Rattle.std.proofs.BufReadLemmas.{drop_through-append, take_through-append}
 use Rattle.std.proofs.lemmas.List.Elements.{All-from_get_or, All-head, All-tail}
@@ -8,16 +8,16 @@ use Rattle.std.proofs.lemmas.Str.{IsUtf8-append}
 use Rattle.std.specs.Str.{IsUtf8}
 use Rattle.model.specs.declared.queries.Query.{Query}
 use Rattle.schema.specs.NodeData.{NodeData}
-use Rattle.schema.specs.UpdateData.{UpdateData, update_data}
+use Rattle.schema.specs.UpdateData.{UpdateData}
 use Rattle.schema.specs.declared.NodeId.{NodeId}
 use Rattle.script_lines.specs.Commands.{Said, Sends, Turns, Prints, Asks, said}
 use Rattle.script_lines.specs.InputLines.{ReadsAs, ReadsLine, without_end}
-use Rattle.script_lines.specs.LineReading.{BeginsUpdate, IsHead}
-use Rattle.script_lines.specs.Lines.{entry_line, head_args, host_text, said_lines, update_lines}
+use Rattle.script_lines.specs.LineReading.{IsHead}
+use Rattle.script_lines.specs.Lines.{entry_line, head_args, host_text, said_lines}
 use Rattle.script_nodes.specs.NodeReading.{IsNode}
 use Rattle.script_nodes.specs.NodeText.{node_line, node_text}
 use Rattle.script_lines.specs.Questions.{IsQuery, question_text}
-use Rattle.script_words.specs.Reading.{IsId, Lacks, Reads}
+use Rattle.script_words.specs.Reading.{IsId, Lacks}
 use Rattle.script_lines.specs.ReadingBack.{IsEntry, IsSaid, ReadsBack, script_text}
 use Rattle.script_lines.specs.ScriptReading.{GoesTo, IsBadNext, IsPlace, Passes, Place, Steps, place}
 use Rattle.script_lines.specs.Taking.{Taken, begun_of, goes_on, taken, with_entry}

@@ -1,5 +1,5 @@
 -- A node's line stands on one line.
-use Rattle.std.proofs.Common.{◌≡◌, ℕ, ◌<◌, ◌^◌, List, [], ◌∷◌, ◌++◌, All, Bool, true, codes, Option, Some, None, IsUtf8, MatchOption, option_map, bytes_eq, refl, sym, subst, ◌∙◌, ⊎_elim}
+use Rattle.std.proofs.Common.{ℕ, ◌<◌, ◌^◌, List, ◌++◌, All, Bool, codes, Option, Some, None, IsUtf8, MatchOption, option_map, refl}
 use Rattle.std.specs.Bool.{⊤}
 use Rattle.std.specs.Fmt.{decimal, signed_decimal}
 use Rattle.schema.specs.NodeData.{NodeData}

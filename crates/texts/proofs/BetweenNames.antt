@@ -1,6 +1,6 @@
 -- A position that is looked for by its name, in the text of another position.
-use Rattle.std.proofs.Common.{◌≡◌, ◌≤◌, ◌<◌, ℕ, zero, suc, Bool, true, false, List, [], ◌∷◌, Some, refl, sym, ap, subst, ◌∙◌, arith}
-use Rattle.std.specs.Prelude.{◌==◌, ◌↔◌, ◌&&◌, Option, None, slice_get, option_map, if◌then◌else◌}
+use Rattle.std.proofs.Common.{◌≡◌, ◌<◌, ℕ, zero, suc, Bool, true, false, List, [], ◌∷◌, Some, refl, sym, ap, subst, ◌∙◌, arith}
+use Rattle.std.specs.Prelude.{◌==◌, ◌↔◌, Option, None, slice_get, option_map, if◌then◌else◌}
 use Rattle.std.specs.List.{list_all}
 use Rattle.std.proofs.lemmas.Bool.{eqb-true}
 use Rattle.std.proofs.lemmas.Option.{same_Some}
@@ -8,7 +8,7 @@ use Rattle.schema.specs.declared.values.TextPosition.{TextPosition as Raw}
 use Rattle.model.specs.declared.FullNodeId.{FullNodeId}
 use Rattle.model.specs.Forest.{is_same}
 use Rattle.model.specs.TextRuns.{sent_runs, said_count, supports_text_ranges}
-use Rattle.model.specs.FlatText.{ShownRun, Position, flat_text, count_in}
+use Rattle.model.specs.FlatText.{ShownRun, Position, count_in}
 use Rattle.model.specs.Ranges.{Range, range_between, IsRaw, run_named, position_named}
 use Rattle.model.proofs.Forest.PlaceOf.{same_from_test, test_self}
 use Rattle.model.proofs.Text.Indexes.{eq_same}
@@ -27,7 +27,6 @@ use Rattle.texts.specs.FoundRanges.{IsRangeFound}
 use Rattle.texts.specs.Betweens.{if_one_root, between_names}
 use Rattle.texts.proofs.FlatRuns.{shown_of, shown_at_number, sent_at_number, count_at_number}
 use Rattle.texts.proofs.FoundSteps.{range_absent, range_there}
-use Rattle.texts.proofs.NamedRuns.{named_past, named_within}
 use Rattle.texts.proofs.RangeSteps.{same_text}
 use Rattle.texts.proofs.RunOrder.{number_of_one}
 

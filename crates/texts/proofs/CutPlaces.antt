@@ -3,13 +3,13 @@ use Rattle.std.proofs.Common.{◌≡◌, ℕ, zero, suc, ◌+◌, ◌-◌, ◌<�
 use Rattle.std.specs.Prelude.{◌==◌, nat_lt, filter, if◌then◌else◌}
 use Rattle.std.specs.List.{range_with_len}
 use Rattle.std.proofs.lemmas.Bool.{eqb-true, ltb-true, ltb-false}
-use Rattle.model.specs.FlatText.{FlatText, Position, IsPosition, offset, total, count_in, start_of, start_side, document_start, biased_to_start}
-use Rattle.model.specs.Ranges.{Range, is_degenerate}
+use Rattle.model.specs.FlatText.{FlatText, Position, offset, total, count_in, start_of, start_side, document_start, biased_to_start}
+use Rattle.model.specs.Ranges.{Range}
 use Rattle.model.specs.TextLaws.{IsWhole}
 use Rattle.model.proofs.Text.TextFacts.{start_next, start_bias}
 use Rattle.model.proofs.Text.Indexes.{eq_same, start_at_end}
-use Rattle.model.proofs.Text.Sides.{IsOnStartSide, start_bias_side, start_side_is, start_rises}
-use Rattle.texts.specs.Cuts.{cut_at, places_within, cut_where}
+use Rattle.model.proofs.Text.Sides.{IsOnStartSide, start_bias_side, start_side_is}
+use Rattle.texts.specs.Cuts.{cut_at, cut_where}
 
 -- numbers whose places fail are passed over
 skipped : (f : ℕ → Position) (test : Position → Bool) (from d n : ℕ) → ((k : ℕ) → from ≤ k → k < from + d → test (f k) ≡ false) →

@@ -1,17 +1,17 @@
 -- The next place past a position at which a character, a word or a line starts.
-use Rattle.std.proofs.Common.{◌≡◌, ℕ, zero, suc, ◌+◌, ◌-◌, ◌<◌, ◌≤◌, Bool, true, false, List, [], ◌∷◌, length, get_or, Some, inl, inr, refl, sym, ap, subst, ◌∙◌, arith, eq-eqb}
-use Rattle.std.specs.Prelude.{◌==◌, ◌&&◌, ◌||◌, nat_lt, Contains, IsTrue, slice_index}
+use Rattle.std.proofs.Common.{◌≡◌, ℕ, zero, suc, ◌+◌, ◌-◌, ◌<◌, ◌≤◌, Bool, true, false, List, [], ◌∷◌, length, Some, inl, inr, refl, sym, ap, subst, ◌∙◌, arith}
+use Rattle.std.specs.Prelude.{◌==◌, ◌&&◌, ◌||◌, nat_lt, IsTrue, slice_index}
 use Rattle.std.specs.Option.{option_map_or}
 use Rattle.std.specs.List.{list_any}
 use Rattle.std.proofs.lemmas.Bool.{eqb-true, eqb-false, ltb-true, ltb-false}
-use Rattle.model.specs.FlatText.{FlatText, Position, IsPosition, offset, total, count_in, start_of, start_at, end_at, start_side, document_end, biased_to_start, begins_line, ends_line, begins_paragraph, words_in, first_run, is_line_start, is_word_start, is_paragraph_start}
-use Rattle.model.specs.Moves.{forward_to_character_start, forward_to_word_start, forward_to_line_start, end_from}
+use Rattle.model.specs.FlatText.{FlatText, Position, IsPosition, offset, total, count_in, start_of, end_at, document_end, biased_to_start, begins_line, ends_line, begins_paragraph, words_in, first_run, is_line_start, is_word_start}
+use Rattle.model.specs.Moves.{forward_to_character_start, forward_to_word_start, forward_to_line_start}
 use Rattle.model.specs.TextLaws.{IsWhole}
 use Rattle.model.proofs.Text.TextFacts.{both, start_next, start_bias}
 use Rattle.model.proofs.Text.Indexes.{start_at_end}
 use Rattle.model.proofs.Text.Searching.{first_is}
 use Rattle.model.proofs.Text.WordMarks.{word_start_is_nearest}
-use Rattle.model.proofs.Text.Sides.{IsOnStartSide, start_bias_side, start_side_is, start_rises}
+use Rattle.model.proofs.Text.Sides.{IsOnStartSide, start_bias_side, start_rises}
 use Rattle.texts.proofs.CharacterMoves.{goes_to_next}
 use Rattle.texts.proofs.CutPlaces.{IsNextCut, start_side_on}
 

@@ -1,9 +1,9 @@
 -- Whether a position is before the end of a range, looked for from the start of the range on.
-use Rattle.std.proofs.Common.{◌≡◌, ℕ, ◌+◌, ◌<◌, ◌≤◌, Bool, true, false, [], length, refl, sym, ap, subst, ◌∙◌, arith}
+use Rattle.std.proofs.Common.{◌≡◌, ℕ, ◌<◌, ◌≤◌, Bool, true, false, [], length, refl, sym, ap, subst, ◌∙◌, arith}
 use Rattle.std.specs.Prelude.{◌↔◌, nat_lt}
 use Rattle.std.proofs.lemmas.Bool.{lt-ltb, le-ltb, ltb-true, ltb-false}
 use Rattle.model.specs.declared.FullNodeId.{FullNodeId}
-use Rattle.model.specs.FlatText.{Position, IsPosition, offset, start_of, biased_to_start}
+use Rattle.model.specs.FlatText.{IsPosition, offset, start_of, biased_to_start}
 use Rattle.model.proofs.Text.TextFacts.{start_bias}
 use Rattle.model.proofs.Text.Sides.{IsOnStartSide, start_bias_side}
 use Rattle.views.specs.declared.runs.Run.{Run}

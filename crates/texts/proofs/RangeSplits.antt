@@ -1,6 +1,6 @@
 -- What a walk over the parts of a range takes off its front.
-use Rattle.std.proofs.Common.{◌≡◌, ℕ, ◌<◌, ◌≤◌, Bool, true, false, [], ◌∷◌, List, map, refl, sym, ap, subst, ◌∙◌, arith}
-use Rattle.std.specs.Prelude.{◌==◌, nat_lt, if◌then◌else◌}
+use Rattle.std.proofs.Common.{◌≡◌, ◌<◌, ◌≤◌, Bool, true, false, [], ◌∷◌, List, map, refl, sym, ap, ◌∙◌, arith}
+use Rattle.std.specs.Prelude.{nat_lt, if◌then◌else◌}
 use Rattle.std.proofs.lemmas.Bool.{eqb-true, eqb-false, ltb-true, ltb-false}
 use Rattle.model.specs.declared.FullNodeId.{FullNodeId}
 use Rattle.model.specs.World.{World}
@@ -8,7 +8,6 @@ use Rattle.model.specs.FlatText.{FlatText, flat_text, Position, offset, total}
 use Rattle.model.specs.Ranges.{Range, is_degenerate}
 use Rattle.model.proofs.Text.Indexes.{offset_within}
 use Rattle.texts.specs.declared.range.TextRange.{TextRange}
-use Rattle.texts.specs.Positions.{node_text}
 use Rattle.texts.specs.TextRanges.{IsRangeOf, world_in, root_in, text_in, range_at}
 use Rattle.texts.specs.Cuts.{cut_where}
 use Rattle.texts.specs.RangeCuts.{Located, located_in, located, parts_of}

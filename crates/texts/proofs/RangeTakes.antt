@@ -10,7 +10,7 @@ use Rattle.model.proofs.Text.Sides.{start_bias_side, start_side_of_bias, start_s
 use Rattle.views.specs.declared.node.node_ref.NodeRef.{NodeRef}
 use Rattle.texts.specs.declared.position.TextPosition.{TextPosition}
 use Rattle.texts.specs.declared.range.TextRange.{TextRange}
-use Rattle.texts.specs.Positions.{IsPositionAt, IsMoved, root_at, node_text, position_text, flat_position}
+use Rattle.texts.specs.Positions.{IsPositionAt, IsMoved, node_text, position_text, flat_position}
 use Rattle.texts.specs.TextRanges.{text_in, range_at}
 use Rattle.texts.specs.RangeCuts.{Located, located}
 use Rattle.texts.proofs.CutPlaces.{IsNextCut}

@@ -7,7 +7,7 @@ use Rattle.schema.specs.NodeData.{NodeData}
 use Rattle.schema.specs.declared.NodeId.{NodeId}
 use Rattle.schema.specs.declared.TreeId.{TreeId}
 use Rattle.model.specs.declared.FullNodeId.{FullNodeId}
-use Rattle.model.specs.World.{ROOT_NAME, World, Tree, IsNode, HasData, data_of, in_tree, index_of, graft_name, root_of, root_named, focus_of, focus_named, Reached, Kept}
+use Rattle.model.specs.World.{ROOT_NAME, World, Tree, IsNode, data_of, in_tree, index_of, graft_name, root_of, root_named, focus_of, focus_named, Reached, Kept}
 use Rattle.model.specs.World as world
 use Rattle.model.specs.Focus.{OnChain, first, next, GoesOn, IsEffectiveFocus, IsFocus, Resolves}
 use Rattle.model.specs.Update.{UpdateData, FocusOnEmptyGraft, Stands, IsNamed, IsRebuild, root_after, index_for, merged_world}

@@ -1,5 +1,5 @@
 -- How what a walk in pre-order has left changes with its ends.
-use Rattle.std.proofs.Common.{◌≡◌, ◌≢◌, ℕ, ◌+◌, ◌-◌, ◌<◌, ◌≤◌, true, List, [], ◌∷◌, ◌++◌, length, take, drop, refl, sym, ◌∙◌, ap, arith, length-append, append_assoc}
+use Rattle.std.proofs.Common.{◌≡◌, ◌≢◌, ℕ, ◌+◌, ◌-◌, ◌<◌, ◌≤◌, true, List, [], ◌∷◌, ◌++◌, length, sym, ◌∙◌, ap, arith, length-append, append_assoc}
 use Rattle.std.specs.Prelude.{Option, Some, None, slice_get, slice_range, MatchOption, IfSome}
 use Rattle.std.proofs.Math.Seq.{take-length}
 use Rattle.model.specs.declared.FullNodeId.{FullNodeId}

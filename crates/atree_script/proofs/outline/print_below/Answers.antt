@@ -1,6 +1,6 @@
-use Rattle.std.proofs.Common.{[], ◌++◌, ◌∷◌, flat_map, map, ap, subst, ◌∙◌}
+use Rattle.std.proofs.Common.{[], flat_map, map, ap, subst, ◌∙◌}
 use Rattle.std.specs.Io.KnownBytes.{Appends}
-use Rattle.std.proofs.KnownBytes.{Appends-nil, Appends-trans}
+use Rattle.std.proofs.KnownBytes.{Appends-trans}
 use Rattle.std.proofs.lemmas.List.{flat_map_more}
 use Rattle.std.proofs.lemmas.Iterator.Consumers.{YieldsList-from_first, YieldsList-end}
 use Rattle.views.specs.AllNodes.{descendants_left}

@@ -1,11 +1,11 @@
 use Rattle.std.proofs.lemmas.Result.{on_ok_weaker}
 use Rattle.std.proofs.KnownBytes.{Appends-trans}
 use Rattle.std.specs.Io.KnownBytes.{Appends}
-use Rattle.std.proofs.Common.{sym, ap, subst, ◌++◌}
+use Rattle.std.proofs.Common.{subst, ◌++◌}
 use Rattle.schema.specs.RoleNames.{role_text}
 use Rattle.model.specs.Lists.{ancestors}
 use Rattle.views.specs.Nodes.{world_at, id_at, data_at}
-use Rattle.atree_script.specs.Outline.{spaces_for, focus_mark, named_line, role_of}
+use Rattle.atree_script.specs.Outline.{spaces_for, focus_mark, named_line}
 use Rattle.atree_script.proofs.TreeLines.{role_shown}
 use Rattle.atree_script.proofs.outline.print_node.Goals as goal
 

@@ -1,8 +1,7 @@
 use Rattle.std.proofs.lemmas.Result.{on_ok_weaker}
 use Rattle.std.proofs.KnownBytes.{Appends-trans}
 use Rattle.std.specs.Io.KnownBytes.{Appends}
-use Rattle.std.proofs.Common.{◌∙◌, ap, subst, flat_map}
-use Rattle.model.specs.World.{World, root_of}
+use Rattle.std.proofs.Common.{subst, flat_map}
 use Rattle.views.specs.Nodes.{world_at, id_at}
 use Rattle.views.specs.Descendants.{descendants}
 use Rattle.views.specs.ShownWorlds.{world_of}

@@ -1,4 +1,4 @@
-use Rattle.std.proofs.Common.{◌-◌, ◌≤◌, arith, drop, length, take, ◌∙◌}
+use Rattle.std.proofs.Common.{◌-◌, ◌≤◌, arith, drop, length, ◌∙◌}
 use Rattle.std.proofs.lemmas.List.{length-drop, take_all}
 use Rattle.script_lines.proofs.CommentTexts.{after_these}
 use Rattle.script_lines.proofs.comments.after_signs.Goals as goal

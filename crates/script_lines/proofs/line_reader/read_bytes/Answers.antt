@@ -1,4 +1,4 @@
-use Rattle.std.proofs.Common.{◌≡◌, ◌≢◌, ◌++◌, All, IfSome, Ok, true, false, sym, subst, rules}
+use Rattle.std.proofs.Common.{◌≡◌, ◌≢◌, All, IfSome, Ok, true, false, sym, subst, rules}
 use Rattle.std.specs.Io.BufRead.{take_through}
 use Rattle.std.specs.Io.KnownBytes.{Consumes}
 use Rattle.std.proofs.BufReadLemmas.{Consumes_through}

@@ -1,4 +1,4 @@
-use Rattle.std.proofs.Common.{◌<◌, ◌≤◌, All, arith, length, subst, sym}
+use Rattle.std.proofs.Common.{◌<◌, All, arith, length, subst, sym}
 use Rattle.std.proofs.lemmas.List.{take_all}
 use Rattle.std.proofs.lemmas.List.Elements.{All-more}
 use Rattle.script_lines.specs.ReadingBack.{HasSets, IsEntry}

@@ -1,4 +1,4 @@
-use Rattle.std.proofs.Common.{◌≡◌, ◌+◌, ◌-◌, ◌≤◌, ℕ, length, length-drop, take, drop, arith, ap, sym, subst}
+use Rattle.std.proofs.Common.{◌-◌, ◌≤◌, ℕ, length, length-drop, take, drop, arith, ap, sym, subst}
 use Rattle.std.specs.Io.KnownBytes.{Appends, WriteAppends}
 use Rattle.std.proofs.KnownBytes.{Appends-kept}
 use Rattle.script_lines.proofs.Beginnings.{begun_here, begun_past, more_written, rest_is}

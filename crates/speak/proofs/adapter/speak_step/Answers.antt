@@ -3,7 +3,7 @@ use Rattle.std.specs.Prelude.{OnOk, IfSome}
 use Rattle.atree_script.proofs.Inputs.{err_is}
 use Rattle.model.specs.Mirror.{AreRecordsOf}
 use Rattle.model.specs.World.{World}
-use Rattle.speak.specs.Numbers.{heading_after, heading_of}
+use Rattle.speak.specs.Numbers.{heading_after}
 use Rattle.speak.specs.Steps.{SaysAtEnd}
 use Rattle.speak.specs.declared.numbering.Heading.{Heading}
 use Rattle.speak.proofs.adapter.speak_step.Goals as goal

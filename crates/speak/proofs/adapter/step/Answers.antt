@@ -1,4 +1,4 @@
-use Rattle.std.proofs.Common.{◌≡◌, Option}
+use Rattle.std.proofs.Common.{Option}
 use Rattle.model.specs.Mirror.{Records}
 use Rattle.speaking.specs.declared.speaker.Speaker.{Speaker}
 use Rattle.speak.proofs.Mirrored.{mirror_follows}

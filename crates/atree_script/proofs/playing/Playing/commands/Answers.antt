@@ -1,4 +1,4 @@
-use Rattle.std.proofs.Common.{◌≡◌, ℕ, List, [], ◌∷◌, ◌++◌, Option, Result, Ok, Err, inl, inr, refl, sym, subst}
+use Rattle.std.proofs.Common.{ℕ, List, [], ◌∷◌, ◌++◌, Option, Result, Ok, Err, inl, inr, refl, sym, subst}
 use Rattle.std.proofs.lemmas.Fn.{FoldsTo-push}
 use Rattle.script_lines.specs.Taking.{comment_of}
 use Rattle.script_lines.specs.declared.reader.ScriptCommand.{ScriptCommand}

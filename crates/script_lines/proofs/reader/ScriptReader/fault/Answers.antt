@@ -1,4 +1,4 @@
-use Rattle.std.proofs.Common.{rules, ◌≡◌, Bool, List, ℕ, is_some, length, arith, sym, subst}
+use Rattle.std.proofs.Common.{rules, ◌≡◌, Bool, List, ℕ, is_some, length, arith, subst}
 use Rattle.std.proofs.lemmas.Grind.{common_steps}
 use Rattle.line_faults.specs.Faults.{Explains}
 use Rattle.line_faults.specs.declared.reasons.OtherReason.TheVariants as other

@@ -1,4 +1,4 @@
-use Rattle.std.proofs.Common.{refl, sym, ap, ◌∙◌}
+use Rattle.std.proofs.Common.{refl, ap, ◌∙◌}
 use Rattle.model.specs.Ranges.{run_named}
 use Rattle.texts.specs.RunNumbers.{number_in}
 use Rattle.texts.specs.Positions.{node_text, root_at}
