@@ -2,6 +2,7 @@
 use crate::cells::Cell;
 use model::FullNodeId;
 use std::alloc::Global;
+use std::mem;
 
 /// The number that no cell has.
 const NONE: u32 = u32::MAX;
@@ -23,7 +24,7 @@ const LEAST_SHIFT: u32 = 31;
 pub(crate) struct Guesses {
     numbers: Vec<u32>,
     shift: u32,
-    // how many were noted since the list was last found long enough
+    // how many were noted so far
     noted: usize,
 }
 
@@ -47,28 +48,40 @@ impl Guesses {
 
     /// Notes the number of an id's cell, which is one of these.
     pub(crate) fn note(&mut self, cells: &[Cell], id: FullNodeId, number: u32) {
-        if self.noted >= self.numbers.len() / 2 {
+        let half = self.numbers.len() / 2;
+        if self.noted >= half && cells.len() >= half {
             self.make_longer(cells);
         }
         self.noted = self.noted.saturating_add(1);
         self.set(id, number);
     }
 
-    // makes the list twice as long if there are half as many cells as guesses, and notes all cells anew
+    // makes the list twice as long, and puts each guess where it belongs now
     fn make_longer(&mut self, cells: &[Cell]) {
-        self.noted = cells.len();
         let len = self.numbers.len();
-        if cells.len() < len / 2 || self.shift <= LEAST_SHIFT {
+        if self.shift <= LEAST_SHIFT {
             return;
         }
         let longer = len.saturating_mul(2).max(FIRST);
         if self.numbers.resize(longer, NONE).is_err() {
             return;
         }
-        if len > 0 {
-            self.shift -= 1;
+        if len == 0 {
+            return;
         }
-        for (number, cell) in (0..NONE).zip(cells) {
+        self.shift -= 1;
+        // where a guess belongs now is not before where it was, and no guess is there that is still to be moved
+        for spot in (0..len).rev() {
+            self.put_right(cells, spot);
+        }
+    }
+
+    fn put_right(&mut self, cells: &[Cell], spot: usize) {
+        let Some(guess) = self.numbers.get_mut(spot) else {
+            return;
+        };
+        let number = mem::replace(guess, NONE);
+        if let Some(cell) = cells.get(number as usize) {
             self.set(cell.id, number);
         }
     }
