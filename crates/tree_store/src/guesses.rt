@@ -56,7 +56,7 @@ impl Guesses {
         self.set(id, number);
     }
 
-    // makes the list twice as long, and puts each guess where it belongs now
+    // makes the list twice as long, and notes all cells anew, or if there are many more, puts each guess where it belongs now
     fn make_longer(&mut self, cells: &[Cell]) {
         let len = self.numbers.len();
         if self.shift <= LEAST_SHIFT {
@@ -66,10 +66,15 @@ impl Guesses {
         if self.numbers.resize(longer, NONE).is_err() {
             return;
         }
-        if len == 0 {
+        if len > 0 {
+            self.shift -= 1;
+        }
+        if cells.len() / 4 <= len {
+            for (number, cell) in (0..NONE).zip(cells) {
+                self.set(cell.id, number);
+            }
             return;
         }
-        self.shift -= 1;
         // where a guess belongs now is not before where it was, and no guess is there that is still to be moved
         for spot in (0..len).rev() {
             self.put_right(cells, spot);
