@@ -39,6 +39,8 @@ TAKEN_AWAY = re.compile(r"has no field|is not in scope|has no `|was not admitted
 UNUSED = re.compile(r"^note: (?:\./)?(proofs/\S+): `[^`]*` is no name that rattle asks for")
 NOT_READ = re.compile(r"is not in scope|has no field|is no name|operand is missing|expected the end|cannot continue")
 OWN = re.compile(r"did not prove `")
+# (where a hole stands for the proofs of the functions that it calls, a function is proved but for these)
+IS_PROVED = re.compile(r"proved|no holes|depends on a hole in `[^`]*\.Proof\.\w+_spec`")
 UNKNOWN = re.compile(r"^rattle: error: `\w+` has no function `([^`]*)`", re.M)
 
 
@@ -112,6 +114,11 @@ def place_of(body, texts, found):
     return Place(lines, inside, is_outside, fault, inside[0] if can_copy else None)
 
 
+def is_within(body, place):
+    """Whether the wrong body changes nothing but functions that have to refuse it."""
+    return not place.is_outside and {it.path for it in place.inside} <= {*body.functions}
+
+
 def is_apart(function):
     """Whether another function of the same text may stand beside this one: not for a method of a trait, nor in a cycle of calls."""
     return not function.is_of_trait and not function.cycle
@@ -146,14 +153,24 @@ def copied(body, function, texts, number):
     return Copy(body, function, name, before, after) if is_made else None
 
 
+# What stands in place of the body and the proof of a function that no wrong body is of: a body of every type, and a hole. Nothing
+# but its contract is known of a function where another one calls it.
+NO_BODY = " loop {} "
+NO_PROOF = """use Rattle.%(crate)s.proofs.%(path)s.Statement.{statement}
+
+pub %(name)s_spec : {M : Type 1} → statement M
+%(name)s_spec = ?
+"""
+
+
 class Round:
     """Wrong bodies that are tried in one check. Each is that of a copy of its function, which stands beside it under another name, so that
     neither the function nor its callers are another's. A method of a trait can't have a copy, nor a function in a cycle of calls: of
     these no two wrong bodies are of one function, of one cycle or on one line. What changes anything outside of bodies, as a constant
-    or a type, is tried by itself."""
+    or a type, is tried by itself. In a bare round all other functions have lost their bodies, so that none of these is proved again."""
 
-    def __init__(self, texts):
-        self.texts, self.bodies, self.taken, self.is_alone = texts, [], set(), False
+    def __init__(self, texts, is_bare):
+        self.texts, self.is_bare, self.bodies, self.taken, self.is_alone = texts, is_bare, [], set(), False
         self.in_place, self.copies = {}, {}
 
     def add(self, body, place, is_alone=False):
@@ -186,11 +203,25 @@ class Round:
 
     def changed(self):
         """The texts of the files that have wrong bodies."""
-        found = dict(self.in_place)
+        found = {**self.texts, **self.in_place}
         for it in self.copies.values():
-            text = found.get(it.function.file, self.texts[it.function.file])
-            found[it.function.file] = text.replace(it.before, it.before + "\n\n" + it.after)
-        return found
+            found[it.function.file] = found[it.function.file].replace(it.before, it.before + "\n\n" + it.after)
+        for it in reversed(self.bare(found)):
+            text = found[it.file]
+            # (as many lines as there were, so that what the check says of a line is said of that line)
+            found[it.file] = text[: it.body] + NO_BODY + "\n" * text.count("\n", it.body, it.end) + text[it.end :]
+        return {path: text for path, text in found.items() if text != self.texts[path]}
+
+    def bare(self, texts):
+        """The functions of these texts, in order, that lose their bodies. The functions of a cycle of calls keep theirs."""
+        kept = {path for body in self.bodies for path in self.functions_of(body)}
+        return [it for it in sources.functions_in(texts) if it.path not in kept and not it.cycle] if self.is_bare else []
+
+    def proofs(self, crate):
+        """The proofs of the functions that have lost their bodies, by their folders."""
+        found = self.bare({**self.texts, **self.changed()})
+        named = {it.path: {"crate": crate, "path": it.path.replace("::", "."), "name": it.name} for it in found}
+        return {"proofs/" + path.replace("::", "/"): NO_PROOF % names for path, names in named.items()}
 
     def functions_of(self, body):
         """The paths of the functions that have to refuse this wrong body."""
@@ -225,9 +256,9 @@ def judged(crate, body, place, ran, found):
     states = states_of(crate, ran.said, body.functions)
     if not states:
         return UNSURE, first_lines(ran)
-    if all(text.startswith("proved") for _, text in states):
+    if all(IS_PROVED.match(text) for _, text in states):
         return PROVED, "%s: %s" % states[0]
-    name, state = next((it for it in states if not it[1].startswith("proved")), states[0])
+    name, state = next(it for it in states if not IS_PROVED.match(it[1]))
     if any("could not tell" in text for _, text in states):
         return UNSURE, "%s: %s" % (name, state)
     told = [(line, file) for line, file, text in said if text.startswith(("it is not proved", "error: "))]

@@ -186,9 +186,9 @@ def last_lines(text, count):
 RUNNING, BROKEN_OFF = set(), []
 
 
-def check(crate, room, kept, names):
+def check(crate, room, kept, names, flags=()):
     """Checks these functions of the copy of a crate in a folder, over what another folder keeps."""
-    words = [*crate.words(), "--incremental", kept]
+    words = [*crate.words(), "--incremental", kept, *flags]
     for name in names:
         words += ["--only", name]
     if BROKEN_OFF:
