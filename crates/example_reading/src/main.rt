@@ -3,10 +3,15 @@
 
 mod form;
 
-use accesskit_consumer::text::{NodeText, Text};
+use accesskit_consumer::text::{NodeText, Text, TextRange};
 use accesskit_consumer::{NodeRef, StateRef, Tree, common_filter};
 use schema::{Action, Role};
 use std::alloc::{AllocError, Global};
+
+/// Whether a node has this label.
+fn has_label(alloc: Global, node: &NodeRef, label: &str) -> Result<bool, AllocError> {
+    Ok(node.label(alloc)?.as_deref() == Some(label))
+}
 
 /// The first node with this role and label among those that are shown.
 fn find<'a>(
@@ -16,7 +21,7 @@ fn find<'a>(
     label: &str,
 ) -> Result<Option<NodeRef<'a>>, AllocError> {
     for node in state.root().filtered_descendants(common_filter) {
-        if node.role() == role && node.label(alloc)?.as_deref() == Some(label) {
+        if node.role() == role && has_label(alloc, &node, label)? {
             return Ok(Some(node));
         }
     }
@@ -47,37 +52,70 @@ fn print_button(
     Ok(())
 }
 
-/// Prints each line of the text, with the index in UTF-16 at which it starts.
-fn print_lines(rt: &impl Print, alloc: Global, text: Text) -> anyhow::Result<()> {
+/// Prints a line of a text, with the index in UTF-16 at which it starts.
+fn print_line(
+    rt: &impl Print,
+    alloc: Global,
+    number: usize,
+    line: &TextRange,
+) -> anyhow::Result<()> {
+    let start = line.start().to_global_utf16_index();
+    println!(rt; "line {number} at {start}: {:?}", line.text(alloc)?)?;
+    Ok(())
+}
+
+/// Prints each line of the text.
+fn print_lines(rt: &impl Print, alloc: Global, text: &Text) -> anyhow::Result<()> {
     let mut lines = text.lines();
     for number in 0..usize::MAX {
         let Some(line) = lines.line(number) else {
             break;
         };
-        let start = line.start().to_global_utf16_index();
-        println!(rt; "line {number} at {start}: {:?}", line.text(alloc)?)?;
+        print_line(rt, alloc, number, &line)?;
     }
+    Ok(())
+}
+
+fn print_word(rt: &impl Print, alloc: Global, word: &TextRange) -> anyhow::Result<()> {
+    println!(rt; "word {:?}", word.text(alloc)?)?;
     Ok(())
 }
 
 /// Prints the words of the text, each with what follows it up to the next one.
-fn print_words(rt: &impl Print, alloc: Global, text: Text) -> anyhow::Result<()> {
+fn print_words(rt: &impl Print, alloc: Global, text: &Text) -> anyhow::Result<()> {
     for word in text.range().words() {
-        println!(rt; "word {:?}", word.text(alloc)?)?;
+        print_word(rt, alloc, &word)?;
     }
     Ok(())
 }
 
-/// Prints how many characters the text has, as a caret goes through it.
-fn print_count(rt: &impl Print, text: Text) -> anyhow::Result<()> {
+/// How many characters the text has, as a caret goes through it.
+fn count_characters(text: &Text) -> usize {
     let mut at = text.start();
     for count in 0..usize::MAX {
         let Some(next) = at.next_character() else {
-            println!(rt; "characters {count}")?;
-            break;
+            return count;
         };
         at = next;
     }
+    usize::MAX
+}
+
+/// Prints the text by lines and words, and how many characters it has.
+fn print_text(rt: &impl Print, alloc: Global, text: &Text) -> anyhow::Result<()> {
+    print_lines(rt, alloc, text)?;
+    print_words(rt, alloc, text)?;
+    println!(rt; "characters {}", count_characters(text))?;
+    Ok(())
+}
+
+/// Prints the text of a field, and whether the field can take the focus.
+fn print_field(rt: &impl Print, alloc: Global, field: &NodeRef) -> anyhow::Result<()> {
+    if let Some(text) = field.text() {
+        print_text(rt, alloc, &text)?;
+    }
+    let can_focus = field.supports_action(Action::Focus, &common_filter);
+    println!(rt; "supports focus {can_focus}")?;
     Ok(())
 }
 
@@ -88,15 +126,7 @@ fn main(rt: HostRuntime) -> anyhow::Result<()> {
     print_button(&rt, alloc, state, "Send")?;
     print_button(&rt, alloc, state, "Discard")?;
     if let Some(field) = find(alloc, state, Role::MultilineTextInput, "Message")? {
-        if let Some(text) = field.text() {
-            print_lines(&rt, alloc, text)?;
-            print_words(&rt, alloc, text)?;
-            print_count(&rt, text)?;
-        }
-        println!(rt;
-            "supports focus {}",
-            field.supports_action(Action::Focus, &common_filter)
-        )?;
+        print_field(&rt, alloc, &field)?;
     }
     Ok(())
 }

@@ -74,12 +74,16 @@ impl TreeChangeHandler for Changes {
     }
 }
 
+/// Prints a node's id, role and label.
+fn print_node(rt: &impl Print, node: &NodeRef) -> io::Result<()> {
+    let id = node.id().node;
+    println!(rt; "node {id} {} {:?}", node.role(), node.data().label())
+}
+
 /// Prints each child of the root, and where the focus is.
 fn print_state(rt: &impl Print, state: StateRef) -> io::Result<()> {
-    for id in state.root().data().children() {
-        if let Some(child) = state.node_by_tree_local_id(*id, TreeId::root()) {
-            println!(rt; "node {id} {} {:?}", child.role(), child.data().label())?;
-        }
+    for child in state.root().children() {
+        print_node(rt, &child)?;
     }
     if let Some(focus) = state.focus() {
         println!(rt; "focus {}", focus.id().node)?;
@@ -87,24 +91,29 @@ fn print_state(rt: &impl Print, state: StateRef) -> io::Result<()> {
     Ok(())
 }
 
+/// Applies an update, and prints how many nodes have changed, or why it is refused.
+fn print_changes(rt: &impl Print, tree: &mut Tree, update: TreeUpdate) -> io::Result<()> {
+    let mut changes = Changes::default();
+    match tree.update_and_process_changes(update, &mut changes) {
+        Ok(()) => println!(rt;
+            "added {} updated {} removed {}",
+            changes.added, changes.updated, changes.removed
+        ),
+        Err(refusal) => println!(rt; "refused: {refusal}"),
+    }
+}
+
 fn main(rt: HostRuntime) -> anyhow::Result<()> {
     let alloc = rt.alloc();
     let mut tree = Tree::new(alloc, first_update(alloc)?, true)?;
     print_state(&rt, tree.state().view())?;
 
-    let mut changes = Changes::default();
     let update = next_update(alloc, &[BUTTON, INPUT])?;
-    tree.update_and_process_changes(update, &mut changes)?;
-    println!(rt;
-        "added {} updated {} removed {}",
-        changes.added, changes.updated, changes.removed
-    )?;
+    print_changes(&rt, &mut tree, update)?;
     print_state(&rt, tree.state().view())?;
 
     // Node 9 has no data: the update is refused, the tree is unchanged, and the handler is not called.
     let update = next_update(alloc, &[BUTTON, INPUT, NodeId(9)])?;
-    if let Err(refusal) = tree.update_and_process_changes(update, &mut changes) {
-        println!(rt; "refused: {refusal}")?;
-    }
+    print_changes(&rt, &mut tree, update)?;
     Ok(())
 }

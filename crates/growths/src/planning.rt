@@ -1,5 +1,6 @@
 //! A plan of an update, by look-ups in a small state.
 
+use crate::planting::push;
 use accesskit_consumer::tree::{Plan, UpdateError, plan_update};
 use schema::{Node, NodeBuilder, NodeId, Role, TreeId, TreeInfo, TreeUpdate};
 use std::alloc::{AllocError, Global};
@@ -28,32 +29,45 @@ fn graft(alloc: Global, tree: u128) -> Node {
     node
 }
 
-/// A window with a button in a toolbar, and with a graft.
+/// A window with a button in a toolbar, and with a graft,
+fn first_nodes(alloc: Global) -> Result<Vec<(NodeId, Node)>, AllocError> {
+    let mut nodes = Vec::new(alloc);
+    let window = parent(alloc, Role::Window, &[TOOLBAR, GRAFT]);
+    push(&mut nodes, WINDOW, window)?;
+    push(&mut nodes, TOOLBAR, parent(alloc, Role::Toolbar, &[BUTTON]))?;
+    push(&mut nodes, GRAFT, Ok(graft(alloc, 1)))?;
+    push(&mut nodes, BUTTON, Ok(Node::new(alloc, Role::Button)))?;
+    Ok(nodes)
+}
+
+/// as a first update.
 fn first(alloc: Global) -> Result<TreeUpdate, AllocError> {
-    let nodes = vec![in alloc;
-        (WINDOW, parent(alloc, Role::Window, &[TOOLBAR, GRAFT])?),
-        (TOOLBAR, parent(alloc, Role::Toolbar, &[BUTTON])?),
-        (GRAFT, graft(alloc, 1)),
-        (BUTTON, Node::new(alloc, Role::Button)),
-    ]?;
     Ok(TreeUpdate {
-        nodes,
+        nodes: first_nodes(alloc)?,
         tree: Some(TreeInfo::new(WINDOW)),
         tree_id: TreeId::root(),
         focus: WINDOW,
     })
 }
 
-/// The button moves into a new toolbar and gets the focus, the old toolbar is removed, and the graft names another
-/// tree.
+/// The button moves into a new toolbar, the old toolbar is removed, and the graft names another tree.
+fn next_nodes(alloc: Global) -> Result<Vec<(NodeId, Node)>, AllocError> {
+    let mut nodes = Vec::new(alloc);
+    let window = parent(alloc, Role::Window, &[GRAFT, NEW_TOOLBAR]);
+    push(&mut nodes, WINDOW, window)?;
+    push(&mut nodes, GRAFT, Ok(graft(alloc, 2)))?;
+    push(
+        &mut nodes,
+        NEW_TOOLBAR,
+        parent(alloc, Role::Toolbar, &[BUTTON]),
+    )?;
+    Ok(nodes)
+}
+
+/// The button gets the focus, too.
 fn second(alloc: Global) -> Result<TreeUpdate, AllocError> {
-    let nodes = vec![in alloc;
-        (WINDOW, parent(alloc, Role::Window, &[GRAFT, NEW_TOOLBAR])?),
-        (GRAFT, graft(alloc, 2)),
-        (NEW_TOOLBAR, parent(alloc, Role::Toolbar, &[BUTTON])?),
-    ]?;
     Ok(TreeUpdate {
-        nodes,
+        nodes: next_nodes(alloc)?,
         tree: None,
         tree_id: TreeId::root(),
         focus: BUTTON,

@@ -53,19 +53,36 @@ fn run(alloc: Global) -> Result<Node, AllocError> {
         .build()
 }
 
-pub fn update(alloc: Global) -> Result<TreeUpdate, AllocError> {
+/// Adds a node of an update, unless memory ran out while it was made.
+pub fn push(
+    nodes: &mut Vec<(NodeId, Node)>,
+    id: NodeId,
+    node: Result<Node, AllocError>,
+) -> Result<(), AllocError> {
+    nodes.push((id, node?))?;
+    Ok(())
+}
+
+fn nodes(alloc: Global) -> Result<Vec<(NodeId, Node)>, AllocError> {
+    let mut nodes = Vec::new(alloc);
+    push(&mut nodes, WINDOW, window(alloc))?;
+    push(&mut nodes, CHECK_BOX, check_box(alloc))?;
+    push(&mut nodes, LABEL, label(alloc))?;
+    push(&mut nodes, PASSWORD, password(alloc))?;
+    push(&mut nodes, RUN, run(alloc))?;
+    Ok(nodes)
+}
+
+fn info(alloc: Global) -> Result<TreeInfo, AllocError> {
     let mut info = TreeInfo::new(WINDOW);
     info.toolkit_name = Some(String::from_str(alloc, "kit")?);
-    let nodes = vec![in alloc;
-        (WINDOW, window(alloc)?),
-        (CHECK_BOX, check_box(alloc)?),
-        (LABEL, label(alloc)?),
-        (PASSWORD, password(alloc)?),
-        (RUN, run(alloc)?),
-    ]?;
+    Ok(info)
+}
+
+pub fn update(alloc: Global) -> Result<TreeUpdate, AllocError> {
     Ok(TreeUpdate {
-        nodes,
-        tree: Some(info),
+        nodes: nodes(alloc)?,
+        tree: Some(info(alloc)?),
         tree_id: TreeId::root(),
         focus: WINDOW,
     })

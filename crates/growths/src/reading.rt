@@ -2,10 +2,10 @@
 
 use crate::planning::plan;
 use crate::planting::{CHECK_BOX, PASSWORD, RUN, WINDOW, update};
-use accesskit_consumer::text::TextRange;
+use accesskit_consumer::text::{NodeText, TextRange};
 use accesskit_consumer::tree::{Mirror, Tree, UpdateError};
-use accesskit_consumer::{NodeRef, StateRef, TextRoot};
-use schema::{NodeId, TreeId, WideRect};
+use accesskit_consumer::{NodeRef, StateRef, WeakTextRange};
+use schema::{NodeId, TreeId, TreeUpdate, WideRect};
 use std::alloc::{AllocError, Global};
 
 /// A call.
@@ -80,15 +80,20 @@ fn path_from(alloc: Global, ancestor: &NodeRef, node: &NodeRef) -> Result<Answer
     Ok(Answer::Path(path))
 }
 
-/// The path to the run: from the root, or from the password.
-fn run_path(alloc: Global, state: StateRef, is_relative: bool) -> Result<Answer, AllocError> {
-    let (Some(password), Some(run)) = (node(state, PASSWORD), node(state, RUN)) else {
-        return Ok(Answer::Absent);
-    };
-    if is_relative {
-        return path_from(alloc, &password, &run);
+/// The path from the password to its run.
+fn relative_path(alloc: Global, state: StateRef) -> Result<Answer, AllocError> {
+    match (node(state, PASSWORD), node(state, RUN)) {
+        (Some(password), Some(run)) => path_from(alloc, &password, &run),
+        _ => Ok(Answer::Absent),
     }
-    Ok(Answer::Path(run.index_path(alloc)?))
+}
+
+/// The path to the run.
+fn path(alloc: Global, state: StateRef) -> Result<Answer, AllocError> {
+    match node(state, RUN) {
+        Some(run) => Ok(Answer::Path(run.index_path(alloc)?)),
+        None => Ok(Answer::Absent),
+    }
 }
 
 /// The number of pieces of a range. None is passed if an allocation fails.
@@ -105,66 +110,106 @@ fn pieces(alloc: Global, range: &TextRange) -> Result<Answer, AllocError> {
     }
 }
 
-/// The end of a weak range, or of its copy.
-fn weak_end(alloc: Global, range: &TextRange, is_copied: bool) -> Result<Answer, AllocError> {
-    let weak = range.downgrade(alloc)?;
-    let weak = if is_copied { weak.clone(alloc)? } else { weak };
+/// The end of a weak range.
+fn end_of(alloc: Global, weak: &WeakTextRange) -> Result<Answer, AllocError> {
     let (path, index) = weak.end_comparable();
     Ok(Answer::End(path.to_vec(alloc)?, *index))
+}
+
+fn downgraded(alloc: Global, range: &TextRange) -> Result<Answer, AllocError> {
+    end_of(alloc, &range.downgrade(alloc)?)
+}
+
+fn copy_of_weak(alloc: Global, weak: &WeakTextRange) -> Result<Answer, AllocError> {
+    end_of(alloc, &weak.clone(alloc)?)
+}
+
+fn copied(alloc: Global, range: &TextRange) -> Result<Answer, AllocError> {
+    copy_of_weak(alloc, &range.downgrade(alloc)?)
+}
+
+fn text(alloc: Global, range: &TextRange) -> Result<Answer, AllocError> {
+    Ok(Answer::Text(Some(range.text(alloc)?)))
+}
+
+fn boxes(alloc: Global, range: &TextRange) -> Result<Answer, AllocError> {
+    Ok(Answer::Boxes(range.bounding_boxes(alloc)?))
 }
 
 /// What is read of a range.
 fn read_range(alloc: Global, range: &TextRange, reading: Reading) -> Result<Answer, AllocError> {
     match reading {
-        Reading::Text => Ok(Answer::Text(Some(range.text(alloc)?))),
+        Reading::Text => text(alloc, range),
         Reading::TraverseText => pieces(alloc, range),
-        Reading::BoundingBoxes => Ok(Answer::Boxes(range.bounding_boxes(alloc)?)),
-        Reading::Downgrade => weak_end(alloc, range, false),
-        Reading::CloneOfDowngraded => weak_end(alloc, range, true),
+        Reading::BoundingBoxes => boxes(alloc, range),
+        Reading::Downgrade => downgraded(alloc, range),
+        Reading::CloneOfDowngraded => copied(alloc, range),
         _ => Ok(Answer::Absent),
     }
+}
+
+/// The password's whole text.
+fn whole_text<'a>(state: StateRef<'a>) -> Option<TextRange<'a>> {
+    Some(node(state, PASSWORD)?.text()?.range())
 }
 
 /// What is read of the password's whole text.
 fn read_text(alloc: Global, state: StateRef, reading: Reading) -> Result<Answer, AllocError> {
-    match node(state, PASSWORD) {
-        Some(password) if password.supports_text_ranges() => {
-            read_range(alloc, &password.document_range(), reading)
-        }
-        _ => Ok(Answer::Absent),
+    match whole_text(state) {
+        Some(range) => read_range(alloc, &range, reading),
+        None => Ok(Answer::Absent),
     }
 }
 
 /// A text of a node.
+fn text_of(alloc: Global, node: &NodeRef, reading: Reading) -> Result<Option<String>, AllocError> {
+    match reading {
+        Reading::Label => node.label(alloc),
+        Reading::Value => node.value(alloc),
+        _ => node.description(alloc),
+    }
+}
+
+/// That of the node that has one of this kind.
 fn read_node(alloc: Global, state: StateRef, reading: Reading) -> Result<Answer, AllocError> {
-    let text = match reading {
-        Reading::Label => node(state, CHECK_BOX).map(|node| node.label(alloc)),
-        Reading::Value => node(state, PASSWORD).map(|node| node.value(alloc)),
-        _ => node(state, WINDOW).map(|node| node.description(alloc)),
+    let id = match reading {
+        Reading::Label => CHECK_BOX,
+        Reading::Value => PASSWORD,
+        _ => WINDOW,
     };
-    match text {
-        Some(text) => Ok(Answer::Text(text?)),
+    match node(state, id) {
+        Some(node) => Ok(Answer::Text(text_of(alloc, &node, reading)?)),
         None => Ok(Answer::Absent),
     }
 }
 
 /// Whether a copy of an update has the nodes of the update.
-fn copy_update(alloc: Global) -> Result<Answer, AllocError> {
-    let update = update(alloc)?;
+fn copy_of(alloc: Global, update: &TreeUpdate) -> Result<Answer, AllocError> {
     let copy = update.clone(alloc)?;
     Ok(Answer::IsEqual(copy.nodes == update.nodes))
 }
 
-/// Whether the mirror's record of the run equals the tree's.
+fn copy_update(alloc: Global) -> Result<Answer, AllocError> {
+    copy_of(alloc, &update(alloc)?)
+}
+
+/// Whether the mirror's record of a node equals the tree's.
+fn mirrored(mirror: &Mirror, node: &NodeRef) -> Answer {
+    let Some(records) = mirror.records() else {
+        return Answer::Absent;
+    };
+    match records.get(&node.id()) {
+        Some(record) => Answer::IsEqual(record.node == *node.data()),
+        None => Answer::Absent,
+    }
+}
+
 fn mirror_run(alloc: Global, tree: &Tree) -> Result<Answer, AllocError> {
     let mirror = Mirror::new(alloc, tree)?;
-    let (Some(run), Some(records)) = (node(tree.state().view(), RUN), mirror.records()) else {
-        return Ok(Answer::Absent);
-    };
-    match records.get(&run.id()) {
-        Some(record) => Ok(Answer::IsEqual(record.node == *run.data())),
-        None => Ok(Answer::Absent),
-    }
+    Ok(match node(tree.state().view(), RUN) {
+        Some(run) => mirrored(&mirror, &run),
+        None => Answer::Absent,
+    })
 }
 
 /// The lengths of a plan. An update that is refused for lack of memory can be tried again.
@@ -176,6 +221,7 @@ fn plan_lengths(alloc: Global) -> Result<Answer, AllocError> {
     }
 }
 
+/// Whether a copy of the run's data is equal.
 fn copy_node(state: StateRef) -> Result<Answer, AllocError> {
     match node(state, RUN) {
         Some(run) => Ok(Answer::IsEqual(run.data().clone()? == *run.data())),
@@ -188,8 +234,8 @@ pub fn read(alloc: Global, tree: &Tree, reading: Reading) -> Result<Answer, Allo
     let state = tree.state().view();
     match reading {
         Reading::Label | Reading::Value | Reading::Description => read_node(alloc, state, reading),
-        Reading::IndexPath => run_path(alloc, state, false),
-        Reading::RelativeIndexPath => run_path(alloc, state, true),
+        Reading::IndexPath => path(alloc, state),
+        Reading::RelativeIndexPath => relative_path(alloc, state),
         Reading::CloneOfNode => copy_node(state),
         Reading::CloneOfUpdate => copy_update(alloc),
         Reading::MirrorOfTree => mirror_run(alloc, tree),

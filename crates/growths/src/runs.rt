@@ -2,9 +2,9 @@
 //! records.
 
 use accesskit_consumer::tree::Mirror;
-use accesskit_consumer::{FullNodeId, StateRef};
+use accesskit_consumer::{FullNodeId, NodeRef, StateRef};
 use schema::{Node, NodeId, Role, TreeId, TreeInfo, TreeUpdate};
-use session::{At, Command, NodeName, Query, Session, Side};
+use session::{At, Command, NodeName, Query, Reply, RunStopped, Session, Side};
 use std::alloc::{AllocError, Global};
 use std::io;
 
@@ -45,17 +45,24 @@ fn name(node: NodeId) -> NodeName {
     (node, TreeId::root())
 }
 
+fn ask(commands: &mut Vec<Command>, query: Query) -> Result<(), AllocError> {
+    commands.push(Command::Query(query))?;
+    Ok(())
+}
+
 /// An update, a change of the host's focus, and four questions.
 fn commands(alloc: Global) -> Result<Vec<Command>, AllocError> {
     let (index, side) = (0, Side::Start);
-    let commands = vec![in alloc;
-        Command::Query(Query::Children(name(WINDOW))),
-        Command::Update(next_update(alloc)?),
-        Command::Query(Query::Label(name(BUTTON))),
-        Command::HostFocus(true),
-        Command::Query(Query::Focus),
-        Command::Query(Query::Indexes(name(WINDOW), At { index, side })),
-    ]?;
+    let mut commands = Vec::new(alloc);
+    ask(&mut commands, Query::Children(name(WINDOW)))?;
+    commands.push(Command::Update(next_update(alloc)?))?;
+    ask(&mut commands, Query::Label(name(BUTTON)))?;
+    commands.push(Command::HostFocus(true))?;
+    ask(&mut commands, Query::Focus)?;
+    ask(
+        &mut commands,
+        Query::Indexes(name(WINDOW), At { index, side }),
+    )?;
     Ok(commands)
 }
 
@@ -78,33 +85,53 @@ fn print_tree(rt: &impl Print, state: StateRef) -> io::Result<()> {
 }
 
 /// Whether the mirror's record of this node equals the state's.
-fn is_mirrored(mirror: &Mirror, state: StateRef, id: FullNodeId) -> bool {
+fn has_record(mirror: &Mirror, node: &NodeRef) -> bool {
     let Some(records) = mirror.records() else {
         return false;
     };
-    match (records.get(&id), state.node_by_id(id)) {
-        (Some(record), Some(node)) => {
-            let place = match node.parent_and_index() {
-                Some((parent, index)) => Some((parent.id(), index)),
-                None => None,
-            };
-            record.node == *node.data() && record.place == place
-        }
-        (None, None) => true,
-        _ => false,
+    match records.get(&node.id()) {
+        Some(record) => record.node == *node.data() && record.place == place(node),
+        None => false,
+    }
+}
+
+fn place(node: &NodeRef) -> Option<(FullNodeId, usize)> {
+    match node.parent_and_index() {
+        Some((parent, index)) => Some((parent.id(), index)),
+        None => None,
+    }
+}
+
+/// Whether the mirror has no record of this id.
+fn lacks_record(mirror: &Mirror, id: FullNodeId) -> bool {
+    match mirror.records() {
+        Some(records) => records.get(&id).is_none(),
+        None => false,
+    }
+}
+
+/// Whether the mirror has what the state has of this id.
+fn is_mirrored(mirror: &Mirror, state: StateRef, id: FullNodeId) -> bool {
+    match state.node_by_id(id) {
+        Some(node) => has_record(mirror, &node),
+        None => lacks_record(mirror, id),
+    }
+}
+
+/// The id of the focused node.
+fn focus(state: StateRef) -> Option<FullNodeId> {
+    match state.focus() {
+        Some(node) => Some(node.id()),
+        None => None,
     }
 }
 
 /// What the mirror keeps of the tree, in words.
 fn mirrored(mirror: &Mirror, state: StateRef) -> &'static str {
-    let focus = match state.focus() {
-        Some(node) => Some(node.id()),
-        None => None,
-    };
     match mirror.focus() {
         None if mirror.records().is_some() => "records without a focus",
         None => "nothing, for want of memory",
-        Some(seen) if seen != focus => "another focus",
+        Some(seen) if seen != focus(state) => "another focus",
         Some(_) => {
             if is_mirrored(mirror, state, id(WINDOW)) && is_mirrored(mirror, state, id(BUTTON)) {
                 "the tree's records"
@@ -115,27 +142,33 @@ fn mirrored(mirror: &Mirror, state: StateRef) -> &'static str {
     }
 }
 
-/// Makes the run, with the mirror as its handler or as what follows it, and prints the replies.
-fn tell_run(
-    rt: &impl Print,
+/// Makes the run, with the mirror as its handler or as what follows it.
+fn replies(
     session: &mut Session,
     mirror: &mut Mirror,
     commands: Vec<Command>,
     is_handler: bool,
-) -> io::Result<()> {
-    let ended = if is_handler {
+) -> Result<Vec<Reply>, RunStopped> {
+    if is_handler {
         session.run(commands, mirror)
     } else {
         session.run_mirrored(commands, mirror)
-    };
-    let (ended, replies) = match ended {
-        Ok(replies) => ("done", replies),
-        Err(stopped) => ("stopped", stopped.replies),
-    };
-    for reply in &replies {
+    }
+}
+
+/// Prints the replies of a run, and how it ended.
+fn tell_replies(rt: &impl Print, ended: &str, replies: &[Reply]) -> io::Result<()> {
+    for reply in replies {
         println!(rt; "{reply:?}")?;
     }
     println!(rt; "{ended} {}", replies.len())
+}
+
+fn tell_ended(rt: &impl Print, ended: Result<Vec<Reply>, RunStopped>) -> io::Result<()> {
+    match ended {
+        Ok(replies) => tell_replies(rt, "done", &replies),
+        Err(stopped) => tell_replies(rt, "stopped", &stopped.replies),
+    }
 }
 
 /// Prints the tree, and what the mirror has of it.
@@ -145,13 +178,12 @@ fn tell_tree(rt: &impl Print, session: &Session, mirror: &Mirror) -> io::Result<
     println!(rt; "the mirror has {}", mirrored(mirror, state))
 }
 
-/// Makes the run, with the mirror as its handler or as what follows it.
+/// Makes the run, with the mirror as its handler or as what follows it, and prints what came of it.
 pub fn run(rt: &impl Print, alloc: Global, is_handler: bool) -> anyhow::Result<()> {
     let mut session = Session::new(alloc, first_update(alloc)?, false)?;
     let mut mirror = Mirror::new(alloc, session.tree())?;
     let commands = commands(alloc)?;
     println!(rt; "begun")?;
-    tell_run(rt, &mut session, &mut mirror, commands, is_handler)?;
-    tell_tree(rt, &session, &mirror)?;
-    Ok(())
+    tell_ended(rt, replies(&mut session, &mut mirror, commands, is_handler))?;
+    Ok(tell_tree(rt, &session, &mirror)?)
 }

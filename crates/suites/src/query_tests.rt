@@ -20,26 +20,56 @@ const WINDOW: &[Sketch] = &[
 ];
 
 /// The button with this label,
-fn button(alloc: Global, state: StateRef, label: &str) -> Result<NodeId, QueryError> {
-    let button = By::new().role(Role::Button).label(label);
-    Ok(state.find_one(alloc, &button)?.id().node)
+fn button<'a>(alloc: Global, state: StateRef<'a>, label: &str) -> Result<NodeRef<'a>, QueryError> {
+    state.find_one(alloc, &By::new().role(Role::Button).label(label))
 }
 
 /// the node that shows this text,
-fn showing(alloc: Global, state: StateRef, text: &str) -> Result<NodeId, QueryError> {
-    Ok(state.find_one(alloc, &By::new().text(text))?.id().node)
+fn showing<'a>(alloc: Global, state: StateRef<'a>, text: &str) -> Result<NodeRef<'a>, QueryError> {
+    state.find_one(alloc, &By::new().text(text))
 }
 
 /// the node that has this in its label,
-fn labelled(alloc: Global, state: StateRef, part: &str) -> Result<NodeId, QueryError> {
-    let labelled = By::new().label_contains(part);
-    Ok(state.find_one(alloc, &labelled)?.id().node)
+fn labelled<'a>(alloc: Global, state: StateRef<'a>, part: &str) -> Result<NodeRef<'a>, QueryError> {
+    state.find_one(alloc, &By::new().label_contains(part))
 }
 
-/// and how many buttons there are.
-fn count_buttons(alloc: Global, state: StateRef) -> Result<usize, AllocError> {
-    let buttons = state.find_all(alloc, &By::new().role(Role::Button))?;
-    Ok(buttons.len())
+/// and all buttons.
+fn buttons<'a>(alloc: Global, state: StateRef<'a>) -> Result<Vec<NodeRef<'a>>, AllocError> {
+    state.find_all(alloc, &By::new().role(Role::Button))
+}
+
+/// All nodes that are shown,
+fn all<'a>(alloc: Global, state: StateRef<'a>) -> Result<Vec<NodeRef<'a>>, AllocError> {
+    state.find_all(alloc, &By::new())
+}
+
+/// those of them that are below a node,
+fn below<'a>(alloc: Global, node: NodeRef<'a>) -> Result<Vec<NodeRef<'a>>, AllocError> {
+    node.find_all(alloc, &By::new())
+}
+
+/// all sliders, shown or not,
+fn sliders<'a>(alloc: Global, state: StateRef<'a>) -> Result<Vec<NodeRef<'a>>, AllocError> {
+    let slider = By::new().role(Role::Slider);
+    let slider = slider.filter(|_node: &NodeRef<'_>| FilterResult::Include);
+    state.find_all(alloc, &slider)
+}
+
+/// and the node with this id.
+fn with_id<'a>(alloc: Global, state: StateRef<'a>, id: NodeId) -> Result<NodeRef<'a>, QueryError> {
+    let with_id = By::new().meets(|node: &NodeRef<'_>| node.id().node == id);
+    state.find_one(alloc, &with_id)
+}
+
+/// The id of a node that was found.
+fn id(found: Result<NodeRef, QueryError>) -> Result<u64, QueryError> {
+    Ok(found?.id().node.0)
+}
+
+/// How many were found.
+fn count(found: Result<Vec<NodeRef>, AllocError>) -> Result<usize, AllocError> {
+    Ok(found?.len())
 }
 
 #[test]
@@ -47,34 +77,11 @@ fn nodes_are_found(rt: HostRuntime) -> Result<(), Fail> {
     let alloc = rt.alloc();
     let tree = planted(alloc, WINDOW)?;
     let state = tree.state().view();
-    assert!(rt; button(alloc, state, "Send now")? == NodeId(2));
-    assert!(rt; showing(alloc, state, "Two letters")? == NodeId(1));
-    assert!(rt; labelled(alloc, state, "later")? == NodeId(3));
-    assert!(rt; count_buttons(alloc, state)? == 2);
+    assert!(rt; id(button(alloc, state, "Send now"))? == 2);
+    assert!(rt; id(showing(alloc, state, "Two letters"))? == 1);
+    assert!(rt; id(labelled(alloc, state, "later"))? == 3);
+    assert!(rt; id(with_id(alloc, state, NodeId(3)))? == 3);
     Ok(())
-}
-
-/// How many nodes are shown,
-fn count_all(alloc: Global, state: StateRef) -> Result<usize, AllocError> {
-    Ok(state.find_all(alloc, &By::new())?.len())
-}
-
-/// how many of them are below the root,
-fn count_below(alloc: Global, root: NodeRef) -> Result<usize, AllocError> {
-    Ok(root.find_all(alloc, &By::new())?.len())
-}
-
-/// how many sliders there are, shown or not,
-fn count_sliders(alloc: Global, state: StateRef) -> Result<usize, AllocError> {
-    let slider = By::new().role(Role::Slider);
-    let slider = slider.filter(|_node: &NodeRef<'_>| FilterResult::Include);
-    Ok(state.find_all(alloc, &slider)?.len())
-}
-
-/// and the role of the node with this id.
-fn role_of(alloc: Global, state: StateRef, id: NodeId) -> Result<Role, QueryError> {
-    let by_id = By::new().meets(|node: &NodeRef<'_>| node.id().node == id);
-    Ok(state.find_one(alloc, &by_id)?.role())
 }
 
 #[test]
@@ -82,48 +89,74 @@ fn other_places_and_filters_are_searched(rt: HostRuntime) -> Result<(), Fail> {
     let alloc = rt.alloc();
     let tree = planted(alloc, WINDOW)?;
     let state = tree.state().view();
-    assert!(rt; count_all(alloc, state)? == 4);
-    assert!(rt; count_below(alloc, state.root())? == 3);
-    assert!(rt; count_sliders(alloc, state)? == 1);
-    assert!(rt; role_of(alloc, state, NodeId(3))? == Role::Button);
+    assert!(rt; count(buttons(alloc, state))? == 2);
+    assert!(rt; count(all(alloc, state))? == 4);
+    assert!(rt; count(below(alloc, state.root()))? == 3);
+    assert!(rt; count(sliders(alloc, state))? == 1);
     Ok(())
 }
 
-/// The message of a query that gives no node.
-fn message_of(alloc: Global, found: Result<NodeRef, QueryError>) -> Result<String, AllocError> {
+/// The only node with this role,
+fn only<'a>(alloc: Global, state: StateRef<'a>, role: Role) -> Result<NodeRef<'a>, QueryError> {
+    state.find_one(alloc, &By::new().role(role))
+}
+
+/// and with this role and label.
+fn only_labelled<'a>(
+    alloc: Global,
+    state: StateRef<'a>,
+    role: Role,
+    label: &str,
+) -> Result<NodeRef<'a>, QueryError> {
+    state.find_one(alloc, &By::new().role(role).label(label))
+}
+
+/// Whether a query that gives no node has this message.
+fn says(
+    alloc: Global,
+    found: Result<NodeRef, QueryError>,
+    message: &str,
+) -> Result<bool, AllocError> {
     match found {
-        Ok(_) => Ok(String::new(alloc)),
-        Err(error) => format!(in alloc; "{error}"),
+        Ok(_) => Ok(message.is_empty()),
+        Err(error) => Ok(format!(in alloc; "{error}")?.as_str() == message),
     }
 }
 
-/// That where no node with this role has this label,
-fn message(alloc: Global, state: StateRef, role: Role, label: &str) -> Result<String, AllocError> {
-    message_of(
-        alloc,
-        state.find_one(alloc, &By::new().role(role).label(label)),
-    )
-}
+/// A role, a label if one is asked for, and the message if there isn't one such node.
+static MESSAGES: [(Role, Option<&str>, &str); 4] = [
+    (Role::Button, Some("Send now"), ""),
+    (
+        Role::Button,
+        Some("Send"),
+        "no Button, label \"Send\"; the labels of this role are \"Send now\" \"Send later\"",
+    ),
+    (
+        Role::Slider,
+        Some("Size"),
+        "no Slider, label \"Size\"; the roles are Window Label Button",
+    ),
+    (Role::Button, None, "2 nodes fit Button: 2 3"),
+];
 
-/// and where more than one node has this role.
-fn message_of_many(alloc: Global, state: StateRef, role: Role) -> Result<String, AllocError> {
-    message_of(alloc, state.find_one(alloc, &By::new().role(role)))
+/// Whether the window says so.
+fn has_message(
+    alloc: Global,
+    state: StateRef,
+    (role, label, message): (Role, Option<&str>, &str),
+) -> Result<bool, AllocError> {
+    let found = match label {
+        Some(label) => only_labelled(alloc, state, role, label),
+        None => only(alloc, state, role),
+    };
+    says(alloc, found, message)
 }
 
 #[test]
 fn messages_help(rt: HostRuntime) -> Result<(), Fail> {
-    let alloc = rt.alloc();
-    let tree = planted(alloc, WINDOW)?;
-    let state = tree.state().view();
-    assert!(rt; message(alloc, state, Role::Button, "Send now")?.as_str() == "");
-    assert!(rt;
-        message(alloc, state, Role::Button, "Send")?.as_str()
-            == "no Button, label \"Send\"; the labels of this role are \"Send now\" \"Send later\""
-    );
-    assert!(rt;
-        message(alloc, state, Role::Slider, "Size")?.as_str()
-            == "no Slider, label \"Size\"; the roles are Window Label Button"
-    );
-    assert!(rt; message_of_many(alloc, state, Role::Button)?.as_str() == "2 nodes fit Button: 2 3");
+    let tree = planted(rt.alloc(), WINDOW)?;
+    for asked in MESSAGES {
+        assert!(rt; has_message(rt.alloc(), tree.state().view(), asked)?);
+    }
     Ok(())
 }

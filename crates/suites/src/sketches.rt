@@ -7,7 +7,7 @@ pub mod recorder;
 pub mod small_texts;
 pub mod updates;
 
-pub use fields::{Has, Spot, node_of};
+pub use fields::{Has, node_of};
 pub use growing::{
-    BROUGHT, CHANGED, Sent, Sketch, first_update, grown_by, nodes_of, planted, root_of, shown,
+    BROUGHT, CHANGED, Sent, Sketch, first_update, grown_by, nodes_of, planted, root_of, send, shown,
 };

@@ -1,4 +1,4 @@
-//! Tests of texts: a table of what is asked of small ones, and ranges that are kept over an update.
+//! Tests of texts: a table of what is asked of ranges of small ones, and ranges that are kept.
 
 mod asking;
 mod tables;

@@ -1,6 +1,5 @@
-//! Tests of trees: walks from both ends, look-ups, and what handlers see.
+//! Tests of trees: what walks ask, look-ups, and what handlers see.
 
 mod asking;
 mod counted;
-mod mixtures;
-mod walked;
+mod walks;

@@ -1,24 +1,17 @@
 //! What is sent of a node, as plain data.
 
 use crate::sketches::ids::{node_ids, tree_id};
-use schema::{Node, NodeId, Rect, Role, TextDirection, TextPosition, TextSelection, Translation};
+use schema::{Node, NodeId, Rect, Role, TextDirection, Translation};
 use std::alloc::{AllocError, Global};
 
-/// A position by the id of its run's node, and the index.
-pub type Spot = (u64, usize);
-
 /// What is sent of a node beside its role.
-#[derive(Clone, Copy)]
 pub enum Has {
     Children(&'static [u64]),
-    LabelledBy(&'static [u64]),
-    Controls(&'static [u64]),
     Graft(u128),
     Label(&'static str),
     Value(&'static str),
     Hidden,
     // runs of text
-    /// A value of so many `a`, each a character.
     /// How many bytes each character has.
     Lengths(&'static [u16]),
     /// With which characters words start.
@@ -27,7 +20,6 @@ pub enum Has {
     Next(u64),
     Positions(&'static [i32]),
     Widths(&'static [i32]),
-    Selection(Spot, Spot),
     // looks
     Bounds(i32, i32, i32, i32),
     Move(i32, i32),
@@ -35,33 +27,14 @@ pub enum Has {
     FontSize(u32),
 }
 
-/// A position as sent.
-fn sent(spot: Spot) -> TextPosition {
-    TextPosition {
-        node: NodeId(spot.0),
-        character_index: spot.1,
-    }
-}
-
-/// A selection as sent.
-fn selected(anchor: Spot, focus: Spot) -> TextSelection {
-    TextSelection {
-        anchor: sent(anchor),
-        focus: sent(focus),
-    }
-}
-
-fn give_ids(node: &mut Node, has: Has, ids: &[NodeId]) -> Result<(), AllocError> {
-    match has {
-        Has::Children(_) => node.set_children(ids),
-        Has::LabelledBy(_) => node.set_labelled_by(ids),
-        _ => node.set_controls(ids),
-    }
+fn set_children(alloc: Global, node: &mut Node, numbers: &[u64]) -> Result<(), AllocError> {
+    let children = node_ids(alloc, numbers)?;
+    node.set_children(&children)
 }
 
 /// Gives a run what it has for each character or word.
-fn give_list(node: &mut Node, has: Has) -> Result<(), AllocError> {
-    match has {
+fn give_list(node: &mut Node, has: &Has) -> Result<(), AllocError> {
+    match *has {
         Has::Lengths(lengths) => node.set_character_lengths(lengths),
         Has::Words(words) => node.set_word_starts(words),
         Has::Positions(positions) => node.set_character_positions(positions),
@@ -70,8 +43,8 @@ fn give_list(node: &mut Node, has: Has) -> Result<(), AllocError> {
     }
 }
 
-fn give_place(node: &mut Node, has: Has) {
-    match has {
+fn give_place(node: &mut Node, has: &Has) {
+    match *has {
         Has::Previous(run) => node.set_previous_on_line(NodeId(run)),
         Has::Next(run) => node.set_next_on_line(NodeId(run)),
         Has::Bounds(x0, y0, x1, y1) => node.set_bounds(Rect::new(x0, y0, x1, y1)),
@@ -81,11 +54,10 @@ fn give_place(node: &mut Node, has: Has) {
 }
 
 /// Sets the node's fields that need no allocation.
-fn give_plain(node: &mut Node, has: Has) {
-    match has {
+fn give_plain(node: &mut Node, has: &Has) {
+    match *has {
         Has::Graft(name) => node.set_tree_id(tree_id(name)),
         Has::Hidden => node.set_hidden(),
-        Has::Selection(anchor, focus) => node.set_text_selection(selected(anchor, focus)),
         Has::Direction(direction) => node.set_text_direction(direction),
         Has::FontSize(size) => node.set_font_size(size),
         _ => give_place(node, has),
@@ -93,11 +65,9 @@ fn give_plain(node: &mut Node, has: Has) {
 }
 
 /// Gives the node what it is to have.
-fn give(alloc: Global, node: &mut Node, has: Has) -> Result<(), AllocError> {
-    match has {
-        Has::Children(ids) | Has::LabelledBy(ids) | Has::Controls(ids) => {
-            give_ids(node, has, &node_ids(alloc, ids)?)
-        }
+fn give(alloc: Global, node: &mut Node, has: &Has) -> Result<(), AllocError> {
+    match *has {
+        Has::Children(numbers) => set_children(alloc, node, numbers),
         Has::Label(text) => node.set_label(text),
         Has::Value(text) => node.set_value(text),
         Has::Lengths(_) | Has::Words(_) | Has::Positions(_) | Has::Widths(_) => {
@@ -114,7 +84,7 @@ fn give(alloc: Global, node: &mut Node, has: Has) -> Result<(), AllocError> {
 pub fn node_of(alloc: Global, role: Role, having: &[Has]) -> Result<Node, AllocError> {
     let mut node = Node::new(alloc, role);
     for has in having {
-        give(alloc, &mut node, *has)?;
+        give(alloc, &mut node, has)?;
     }
     Ok(node)
 }

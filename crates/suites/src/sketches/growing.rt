@@ -6,15 +6,13 @@ use crate::sketches::recorder::Recorder;
 use schema::{Node, NodeId, Role, TreeInfo, TreeUpdate};
 use std::alloc::{AllocError, Global};
 use std::test::Fail;
-use trees::Tree;
+use trees::{Tree, TreeChangeHandler};
 use views::NodeRef;
 
 /// A node: its id, its role, and what else is sent of it.
-#[derive(Clone, Copy)]
 pub struct Sketch(pub u64, pub Role, pub &'static [Has]);
 
 /// An update of the tree with the name of this number, with the root that its tree info names. The root tree's number is 0.
-#[derive(Clone, Copy)]
 pub struct Sent {
     pub tree: u128,
     pub root: Option<u64>,
@@ -76,13 +74,28 @@ pub fn planted(alloc: Global, sketches: &[Sketch]) -> Result<Tree, Fail> {
     Ok(Tree::new(alloc, update, false)?)
 }
 
+/// Sends an update, which is accepted.
+pub fn send<H: TreeChangeHandler>(
+    alloc: Global,
+    tree: &mut Tree,
+    sent: &Sent,
+    handler: &mut H,
+) -> Result<(), Fail> {
+    let update = sent.update(alloc)?;
+    Ok(tree.update_and_process_changes(update, handler)?)
+}
+
+fn begun(alloc: Global, first: &Sent) -> Result<Tree, Fail> {
+    let update = first.update(alloc)?;
+    Ok(Tree::new(alloc, update, false)?)
+}
+
 /// The tree that the first update brings, after the others, each of which is accepted.
-pub fn grown_by(alloc: Global, sent: &[Sent], is_host_focused: bool) -> Result<Tree, Fail> {
+pub fn grown_by(alloc: Global, sent: &[Sent]) -> Result<Tree, Fail> {
     let (first, others) = sent.split_first().ok_or("no update")?;
-    let mut tree = Tree::new(alloc, first.update(alloc)?, is_host_focused)?;
+    let mut tree = begun(alloc, first)?;
     for other in others {
-        let mut recorder = Recorder::new(alloc);
-        tree.update_and_process_changes(other.update(alloc)?, &mut recorder)?;
+        send(alloc, &mut tree, other, &mut Recorder::new(alloc))?;
     }
     Ok(tree)
 }

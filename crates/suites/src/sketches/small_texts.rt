@@ -1,8 +1,7 @@
 //! Small texts.
 
 use crate::sketches::Has::{
-    Bounds, Children, Direction, FontSize, Lengths, Move, Positions, Selection, Value, Widths,
-    Words,
+    Bounds, Children, Direction, FontSize, Lengths, Move, Positions, Value, Widths, Words,
 };
 use crate::sketches::Sketch;
 use schema::{Role, TextDirection};
@@ -11,7 +10,7 @@ use schema::{Role, TextDirection};
 pub const BULLETS: &str = "\u{2022}\u{2022}\u{2022}\u{2022}";
 
 /// A root with its runs.
-pub type Text = &'static [Sketch];
+pub type SmallText = &'static [Sketch];
 
 const INPUT: Sketch = Sketch(0, Role::TextInput, &[Children(&[1])]);
 
@@ -20,10 +19,10 @@ const LINES_INPUT: Sketch = Sketch(0, Role::MultilineTextInput, &[Children(&[1, 
 const PASSWORD: Sketch = Sketch(0, Role::PasswordInput, &[Children(&[1, 2])]);
 
 /// A run of no characters, of which nothing is sent.
-pub const NOTHING: Text = &[INPUT, Sketch(1, Role::TextRun, &[])];
+pub const NOTHING: SmallText = &[INPUT, Sketch(1, Role::TextRun, &[])];
 
 /// A paragraph, and an empty run after it.
-pub const EMPTY_LAST: Text = &[
+pub const EMPTY_LAST: SmallText = &[
     LINES_INPUT,
     Sketch(
         1,
@@ -34,7 +33,7 @@ pub const EMPTY_LAST: Text = &[
 ];
 
 /// Two paragraphs, each with one word.
-pub const PARAGRAPHS: Text = &[
+pub const PARAGRAPHS: SmallText = &[
     LINES_INPUT,
     Sketch(
         1,
@@ -45,16 +44,6 @@ pub const PARAGRAPHS: Text = &[
         2,
         Role::TextRun,
         &[Value("cd"), Lengths(&[1, 1]), Words(&[0])],
-    ),
-];
-
-/// A character of four bytes between two of one.
-pub const WIDE: Text = &[
-    INPUT,
-    Sketch(
-        1,
-        Role::TextRun,
-        &[Value("a\u{1f44d}b"), Lengths(&[1, 4, 1]), Words(&[])],
     ),
 ];
 
@@ -70,38 +59,8 @@ const CD: Sketch = Sketch(
     &[Value("cd"), Lengths(&[1, 1]), Words(&[])],
 );
 
-/// Two runs of two characters each; the place where they meet is selected, from the second run to the first.
-pub const MEETING: Text = &[
-    Sketch(
-        0,
-        Role::TextInput,
-        &[Children(&[1, 2]), Selection((2, 0), (1, 2))],
-    ),
-    AB,
-    CD,
-];
-
-/// The same runs; the third character is selected, from the end of the first run.
-pub const THIRD: Text = &[
-    Sketch(
-        0,
-        Role::TextInput,
-        &[Children(&[1, 2]), Selection((1, 2), (2, 1))],
-    ),
-    AB,
-    CD,
-];
-
-/// The same runs; a selection begins in another node, and ends past the end of a run.
-pub const ELSEWHERE: Text = &[
-    Sketch(
-        0,
-        Role::TextInput,
-        &[Children(&[1, 2]), Selection((9, 0), (1, 7))],
-    ),
-    AB,
-    CD,
-];
+/// Two runs of two characters each.
+pub const MEETING: SmallText = &[Sketch(0, Role::TextInput, &[Children(&[1, 2])]), AB, CD];
 
 /// A run that is measured, and moved.
 const MEASURED: Sketch = Sketch(
@@ -119,7 +78,7 @@ const MEASURED: Sketch = Sketch(
 );
 
 /// Its root is moved, too, and says the direction of its text.
-pub const RIGHTWARD: Text = &[
+pub const RIGHTWARD: SmallText = &[
     Sketch(
         0,
         Role::TextInput,
@@ -133,7 +92,7 @@ pub const RIGHTWARD: Text = &[
 ];
 
 /// The same, from right to left.
-pub const LEFTWARD: Text = &[
+pub const LEFTWARD: SmallText = &[
     Sketch(
         0,
         Role::TextInput,
@@ -171,13 +130,13 @@ const ZW: Sketch = Sketch(
 );
 
 /// A password of four characters, of which one has two bytes,
-pub const SECRET: Text = &[PASSWORD, P_AND_UMLAUT, SS];
+pub const SECRET: SmallText = &[PASSWORD, P_AND_UMLAUT, SS];
 
 /// another one of its shape,
-pub const OTHER_RUNS: Text = &[PASSWORD, XY, ZW];
+pub const OTHER_RUNS: SmallText = &[PASSWORD, XY, ZW];
 
 /// and one more, of which a character has two scalars, and another one two units of UTF-16.
-pub const WIDE_SECRET: Text = &[
+pub const WIDE_SECRET: SmallText = &[
     PASSWORD,
     Sketch(
         1,
@@ -187,33 +146,11 @@ pub const WIDE_SECRET: Text = &[
     SS,
 ];
 
-/// A password of two paragraphs.
-pub const SECRET_LINES: Text = &[
-    PASSWORD,
-    Sketch(
-        1,
-        Role::TextRun,
-        &[Value("a\n"), Lengths(&[1, 1]), Words(&[])],
-    ),
-    Sketch(2, Role::TextRun, &[Value("b"), Lengths(&[1]), Words(&[])]),
-];
-
-/// A password that says where words start.
-pub const SECRET_WORDS: Text = &[
-    PASSWORD,
-    Sketch(
-        1,
-        Role::TextRun,
-        &[Value("p\u{e4}"), Lengths(&[1, 2]), Words(&[0, 1])],
-    ),
-    SS,
-];
-
 /// A value of its own, and no run.
-pub const OWN_VALUE: Text = &[Sketch(0, Role::MultilineTextInput, &[Value("x")])];
+pub const OWN_VALUE: SmallText = &[Sketch(0, Role::MultilineTextInput, &[Value("x")])];
 
 /// Two runs that look alike, and one of letters of another size.
-pub const SIZES: Text = &[
+pub const SIZES: SmallText = &[
     Sketch(0, Role::TextInput, &[Children(&[1, 2, 3])]),
     Sketch(1, Role::TextRun, &[Value("ab"), Lengths(&[1, 1])]),
     Sketch(2, Role::TextRun, &[Value("cd"), Lengths(&[1, 1])]),

@@ -8,36 +8,42 @@ use crate::sketches::recorder::{Id, Told, id_of, pair};
 use crate::sketches::updates::{
     CHILD_MOVED, FAMILY, INNER_DOCUMENT, INNER_MOVED, OUTER_DOCUMENT, WINDOW,
 };
-use crate::sketches::{Sent, grown_by};
+use crate::sketches::{Sent, grown_by, send};
 use std::alloc::Global;
 use std::test::Fail;
 use trees::TreeChangeHandler;
 use views::{NodeRef, StateRef};
 
 /// Where a state has a node: its parent and its first child.
-#[derive(Clone, Copy, PartialEq, Eq)]
-struct Kin(Option<Id>, Option<Id>);
+type Kin = (Option<Id>, Option<Id>);
 
-/// Where a state has the nodes that are asked for and are there.
-type Shown = [Option<Kin>; 4];
+/// Where a state has these nodes, if it has them.
+type Shown = [(Id, Option<Kin>); 4];
 
-/// What is told, and what the old and the new state show then.
-type Asked = (Told, Option<Shown>, Option<Shown>);
+/// An update after others, what is told of it, and what the old state and the new one show meanwhile.
+struct Case {
+    before: &'static [Sent],
+    sent: Sent,
+    told: &'static [Told],
+    old: Shown,
+    new: Shown,
+}
 
 /// Asks the states of the views that it is told with.
 #[derive(Drop)]
 struct Asker {
-    ids: [Id; 4],
-    asked: Vec<Asked>,
-    has_lost: bool,
+    case: &'static Case,
+    count: usize,
+    /// Whether each call was the next one, and each state showed what it has.
+    is_right: bool,
 }
 
 impl Asker {
     fn ask(&mut self, told: Told, old: Option<&NodeRef>, new: Option<&NodeRef>) {
-        let asked = (told, shown(old, self.ids), shown(new, self.ids));
-        if self.asked.push(asked).is_err() {
-            self.has_lost = true;
-        }
+        let is_next = self.case.told.get(self.count) == Some(&told);
+        let are_shown = shows(old, &self.case.old) && shows(new, &self.case.new);
+        self.is_right = self.is_right && is_next && are_shown;
+        self.count = self.count.saturating_add(1);
     }
 }
 
@@ -57,19 +63,22 @@ fn first_child(node: &NodeRef) -> Option<Id> {
 
 fn kin_in(state: StateRef, (tree, node): Id) -> Option<Kin> {
     match state.node_by_id(id(tree, node)) {
-        Some(node) => Some(Kin(parent(&node), first_child(&node))),
+        Some(node) => Some((parent(&node), first_child(&node))),
         None => None,
     }
 }
 
-fn shown(beside: Option<&NodeRef>, [first, second, third, last]: [Id; 4]) -> Option<Shown> {
-    let state = beside?.tree_state();
-    Some([
-        kin_in(state, first),
-        kin_in(state, second),
-        kin_in(state, third),
-        kin_in(state, last),
-    ])
+/// Whether the state of a view, if there is one, shows this.
+fn shows(beside: Option<&NodeRef>, shown: &Shown) -> bool {
+    let Some(node) = beside else {
+        return true;
+    };
+    for (id, kin) in shown {
+        if kin_in(node.tree_state(), *id) != *kin {
+            return false;
+        }
+    }
+    true
 }
 
 impl TreeChangeHandler for Asker {
@@ -96,42 +105,29 @@ impl TreeChangeHandler for Asker {
     }
 }
 
-/// An update after others, what is asked of both states, what is told, and what the old state and the new one show then.
-#[derive(Clone, Copy)]
-struct Case {
-    before: &'static [Sent],
-    sent: Sent,
-    ids: [Id; 4],
-    told: &'static [Told],
-    old: Shown,
-    new: Shown,
-}
-
 /// A child moves between its parents. A graft moves out of a tree that goes: the old views show that tree to the end, and
 /// the new views don't show it from the beginning.
 static CASES: [Case; 2] = [
     Case {
         before: &[FAMILY],
         sent: CHILD_MOVED,
-        ids: [(0, 0), (0, 1), (0, 2), (0, 3)],
         told: &[Updated(0, 1), Updated(0, 2), Updated(0, 3)],
         old: [
-            Some(Kin(None, Some((0, 1)))),
-            Some(Kin(Some((0, 0)), Some((0, 3)))),
-            Some(Kin(Some((0, 0)), None)),
-            Some(Kin(Some((0, 1)), None)),
+            ((0, 0), Some((None, Some((0, 1))))),
+            ((0, 1), Some((Some((0, 0)), Some((0, 3))))),
+            ((0, 2), Some((Some((0, 0)), None))),
+            ((0, 3), Some((Some((0, 1)), None))),
         ],
         new: [
-            Some(Kin(None, Some((0, 1)))),
-            Some(Kin(Some((0, 0)), None)),
-            Some(Kin(Some((0, 0)), Some((0, 3)))),
-            Some(Kin(Some((0, 2)), None)),
+            ((0, 0), Some((None, Some((0, 1))))),
+            ((0, 1), Some((Some((0, 0)), None))),
+            ((0, 2), Some((Some((0, 0)), Some((0, 3))))),
+            ((0, 3), Some((Some((0, 2)), None))),
         ],
     },
     Case {
         before: &[WINDOW, OUTER_DOCUMENT, INNER_DOCUMENT],
         sent: INNER_MOVED,
-        ids: [(0, 1), (0, 2), (1, 0), (2, 0)],
         told: &[
             Added(0, 2),
             Updated(0, 0),
@@ -141,57 +137,37 @@ static CASES: [Case; 2] = [
             Removed(1, 1),
         ],
         old: [
-            Some(Kin(Some((0, 0)), Some((1, 0)))),
-            None,
-            Some(Kin(Some((0, 1)), Some((1, 1)))),
-            Some(Kin(Some((1, 1)), Some((2, 1)))),
+            ((0, 1), Some((Some((0, 0)), Some((1, 0))))),
+            ((0, 2), None),
+            ((1, 0), Some((Some((0, 1)), Some((1, 1))))),
+            ((2, 0), Some((Some((1, 1)), Some((2, 1))))),
         ],
         new: [
-            None,
-            Some(Kin(Some((0, 0)), Some((2, 0)))),
-            None,
-            Some(Kin(Some((0, 2)), Some((2, 1)))),
+            ((0, 1), None),
+            ((0, 2), Some((Some((0, 0)), Some((2, 0))))),
+            ((1, 0), None),
+            ((2, 0), Some((Some((0, 2)), Some((2, 1))))),
         ],
     },
 ];
 
-/// Sends the update of a case.
-fn tell(alloc: Global, case: &Case, asker: &mut Asker) -> Result<(), Fail> {
-    let mut tree = grown_by(alloc, case.before, false)?;
-    let update = case.sent.update(alloc)?;
-    Ok(tree.update_and_process_changes(update, asker)?)
-}
-
-/// Sends the update of a case, and answers what was asked.
-fn ask_about(alloc: Global, case: &Case) -> Result<Asker, Fail> {
+/// Whether a handler is notified of all of a case, while each state shows what it has.
+fn is_told(alloc: Global, case: &'static Case) -> Result<bool, Fail> {
     let mut asker = Asker {
-        ids: case.ids,
-        asked: Vec::new(alloc),
-        has_lost: false,
+        case,
+        count: 0,
+        is_right: true,
     };
-    tell(alloc, case, &mut asker)?;
-    Ok(asker)
-}
-
-/// Whether all this was asked, in order.
-fn are_asked(asker: &Asker, case: &Case) -> bool {
-    for ((told, old, new), wanted) in asker.asked.iter().zip(case.told) {
-        let has_old = !matches!(told, Added(..));
-        let has_new = !matches!(told, Removed(..));
-        let are_shown = *old == has_old.then_some(case.old) && *new == has_new.then_some(case.new);
-        if told != wanted || !are_shown {
-            return false;
-        }
-    }
-    !asker.has_lost && asker.asked.len() == case.told.len()
+    let mut tree = grown_by(alloc, case.before)?;
+    send(alloc, &mut tree, &case.sent, &mut asker)?;
+    Ok(asker.is_right && asker.count == case.told.len())
 }
 
 /// Each view shows its own state, whatever the event is.
 #[test]
 fn views_show_their_states_while_told(rt: HostRuntime) -> Result<(), Fail> {
     for (row, case) in CASES.iter().enumerate() {
-        let asker = ask_about(rt.alloc(), case)?;
-        assert!(rt; are_asked(&asker, case), "row {row}");
+        assert!(rt; is_told(rt.alloc(), case)?, "row {row}");
     }
     Ok(())
 }

@@ -1,9 +1,9 @@
 //! How many look-ups an update makes.
 
-use crate::sketches::ids::id;
 use crate::sketches::recorder::{Recorder, Told};
-use crate::sketches::{Has, first_update, node_of};
-use schema::{Node, NodeBuilder, NodeId, Role, TreeId, TreeUpdate};
+use crate::sketches::{Has, first_update, node_of, shown};
+use accesskit_consumer::tree::UpdateError;
+use schema::{Node, NodeId, Role, TreeId, TreeUpdate};
 use std::alloc::{AllocError, Global};
 use std::test::Fail;
 use trees::{Steps, Tree};
@@ -32,11 +32,11 @@ fn children(shape: Shape, count: u64, id: u64) -> (u64, u64) {
 
 /// A node that has the ids from `first` on below `end` as its children.
 fn over(alloc: Global, (first, end): (u64, u64)) -> Result<Node, AllocError> {
-    let mut node = NodeBuilder::new(alloc, Role::GenericContainer);
+    let mut node = Node::new(alloc, Role::GenericContainer);
     for child in first..end {
-        node = node.child(NodeId(child));
+        node.push_child(NodeId(child))?;
     }
-    node.build()
+    Ok(node)
 }
 
 /// A tree of so many nodes.
@@ -59,24 +59,63 @@ fn naming(alloc: Global, id: u64, having: &[Has]) -> Result<TreeUpdate, AllocErr
     })
 }
 
-const LABEL: &[Has] = &[Has::Label("label")];
-
-/// Sends an update that is accepted: its events, and the number of its look-ups.
-fn count_sent(alloc: Global, mut tree: Tree, update: TreeUpdate) -> Result<(Recorder, u128), Fail> {
-    let mut recorder = Recorder::new(alloc);
-    let mut steps = Steps::new();
-    tree.update_and_process_changes_counted(update, &mut recorder, &mut steps)?;
-    Ok((recorder, steps.count()))
+/// A tree, the node of it that is named, what the node has then, the most look-ups, and how many nodes are removed, which are
+/// the next ones.
+struct Named {
+    shape: Shape,
+    count: u64,
+    id: u64,
+    having: &'static [Has],
+    most: u128,
+    removed: usize,
 }
 
-/// A tree, the node of it that is named, what the node has then, and the most look-ups. A node that has nothing loses what is
-/// below it.
-static NAMED: [(Shape, u64, u64, &[Has], u128); 4] = [
-    (Shape::Flat, 10_001, 5_000, LABEL, 80),
-    (Shape::Chain, 1_000, 999, LABEL, 16_048),
-    (Shape::Fan, 5_002, 0, &[], 80_096),
-    (Shape::Chain, 100_000, 0, &[], 1_600_064),
+/// A node that has nothing loses what is below it.
+static NAMED: [Named; 4] = [
+    Named {
+        shape: Shape::Flat,
+        count: 10_001,
+        id: 5_000,
+        having: &[Has::Label("label")],
+        most: 80,
+        removed: 0,
+    },
+    Named {
+        shape: Shape::Chain,
+        count: 1_000,
+        id: 999,
+        having: &[Has::Label("label")],
+        most: 16_048,
+        removed: 0,
+    },
+    Named {
+        shape: Shape::Fan,
+        count: 5_002,
+        id: 0,
+        having: &[],
+        most: 80_096,
+        removed: 5_001,
+    },
+    Named {
+        shape: Shape::Chain,
+        count: 100_000,
+        id: 0,
+        having: &[],
+        most: 1_600_064,
+        removed: 99_999,
+    },
 ];
+
+/// Sends an update that is accepted: the number of its look-ups.
+fn count_sent(
+    tree: &mut Tree,
+    update: TreeUpdate,
+    recorder: &mut Recorder,
+) -> Result<u128, UpdateError> {
+    let mut steps = Steps::new();
+    tree.update_and_process_changes_counted(update, recorder, &mut steps)?;
+    Ok(steps.count())
+}
 
 /// Whether a node is reported as updated, and then this many others as removed, in order from the next one on.
 fn are_told(recorder: &Recorder, named: u64, removed: usize) -> bool {
@@ -92,35 +131,40 @@ fn are_told(recorder: &Recorder, named: u64, removed: usize) -> bool {
     !recorder.has_lost && recorder.told.len() == removed.saturating_add(1)
 }
 
+/// Whether the look-ups are counted and within the bound, and the events are right.
+fn is_within(alloc: Global, named: &Named) -> Result<bool, Fail> {
+    let mut tree = tree_of(alloc, named.shape, named.count)?;
+    let mut recorder = Recorder::new(alloc);
+    let update = naming(alloc, named.id, named.having)?;
+    let made = count_sent(&mut tree, update, &mut recorder)?;
+    Ok(0 < made && made <= named.most && are_told(&recorder, named.id, named.removed))
+}
+
 #[test]
 fn look_ups_are_within_their_bound(rt: HostRuntime) -> Result<(), Fail> {
-    for (shape, count, named, having, most) in NAMED {
-        let tree = tree_of(rt.alloc(), shape, count)?;
-        let update = naming(rt.alloc(), named, having)?;
-        let (recorder, made) = count_sent(rt.alloc(), tree, update)?;
-        assert!(rt; 0 < made && made <= most, "{count}: {made}");
-        let removed = if having.is_empty() { count as usize } else { 1 };
-        assert!(rt;
-            are_told(&recorder, named, removed.saturating_sub(1)),
-            "{count}"
-        );
+    for (row, named) in NAMED.iter().enumerate() {
+        assert!(rt; is_within(rt.alloc(), named)?, "row {row}");
     }
     Ok(())
 }
 
-/// The path to the last node of a chain of so many.
-fn path_to_last(alloc: Global, count: u64) -> Result<Vec<usize>, Fail> {
-    let tree = tree_of(alloc, Shape::Chain, count)?;
-    let last = tree.state().node_by_id(id(0, count.saturating_sub(1)));
-    Ok(last.ok_or("no node")?.index_path(alloc)?)
+fn path_in(alloc: Global, tree: &Tree, node: u64) -> Result<Vec<usize>, Fail> {
+    Ok(shown(tree, 0, node)?.index_path(alloc)?)
+}
+
+fn are_first(path: &[usize]) -> bool {
+    for index in path {
+        if *index != 0 {
+            return false;
+        }
+    }
+    true
 }
 
 #[test]
 fn end_of_a_chain_has_a_path(rt: HostRuntime) -> Result<(), Fail> {
-    let path = path_to_last(rt.alloc(), 100_000)?;
-    assert!(rt; path.len() == 99_999);
-    for index in &path {
-        assert!(rt; *index == 0);
-    }
+    let tree = tree_of(rt.alloc(), Shape::Chain, 100_000)?;
+    let path = path_in(rt.alloc(), &tree, 99_999)?;
+    assert!(rt; path.len() == 99_999 && are_first(&path));
     Ok(())
 }
