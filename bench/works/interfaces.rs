@@ -33,7 +33,11 @@ fn update(ids: Ids, nodes: Vec<(NodeId, Node)>, is_first: bool) -> TreeUpdate {
     let root = ids.id(0);
     TreeUpdate {
         nodes,
-        tree: if is_first { Some(TreeInfo::new(root)) } else { None },
+        tree: if is_first {
+            Some(TreeInfo::new(root))
+        } else {
+            None
+        },
         tree_id: TreeId::root(),
         focus: root,
     }
@@ -41,7 +45,11 @@ fn update(ids: Ids, nodes: Vec<(NodeId, Node)>, is_first: bool) -> TreeUpdate {
 
 /// The label of a turn.
 fn label(turn: u64) -> &'static str {
-    if turn & 1 == 0 { "an even label" } else { "an odd label" }
+    if turn & 1 == 0 {
+        "an even label"
+    } else {
+        "an odd label"
+    }
 }
 
 fn labelled(alloc: Global, role: Role, turn: u64) -> Result<Node, AllocError> {
@@ -86,7 +94,12 @@ pub fn flat(alloc: Global, ids: Ids, buttons: u64) -> Result<TreeUpdate, AllocEr
 }
 
 /// The button in the middle gets the label of the turn.
-pub fn relabelled(alloc: Global, ids: Ids, buttons: u64, turn: u64) -> Result<TreeUpdate, AllocError> {
+pub fn relabelled(
+    alloc: Global,
+    ids: Ids,
+    buttons: u64,
+    turn: u64,
+) -> Result<TreeUpdate, AllocError> {
     let mut nodes = Vec::with_capacity(alloc, 1)?;
     nodes.push((ids.id(buttons >> 1), labelled(alloc, Role::Button, turn)?))?;
     Ok(update(ids, nodes, false))
@@ -99,16 +112,30 @@ pub fn with_group(alloc: Global, ids: Ids, buttons: u64) -> Result<TreeUpdate, A
     let past = moved.saturating_add(GROUP);
     let mut nodes = Vec::new(alloc);
     nodes.push((ids.id(0), group(alloc, ids, 1, moved)?))?;
-    nodes.push((ids.id(first), group(alloc, ids, moved, moved.saturating_add(1))?))?;
-    nodes.push((ids.id(first.saturating_add(1)), group(alloc, ids, moved, moved)?))?;
-    nodes.push((ids.id(moved), group(alloc, ids, moved.saturating_add(1), past)?))?;
+    nodes.push((
+        ids.id(first),
+        group(alloc, ids, moved, moved.saturating_add(1))?,
+    ))?;
+    nodes.push((
+        ids.id(first.saturating_add(1)),
+        group(alloc, ids, moved, moved)?,
+    ))?;
+    nodes.push((
+        ids.id(moved),
+        group(alloc, ids, moved.saturating_add(1), past)?,
+    ))?;
     push_buttons(alloc, ids, moved.saturating_add(1), past, &mut nodes)?;
     push_buttons(alloc, ids, 1, first, &mut nodes)?;
     Ok(update(ids, nodes, true))
 }
 
 /// The group goes from one parent to the other.
-pub fn regrouped(alloc: Global, ids: Ids, buttons: u64, turn: u64) -> Result<TreeUpdate, AllocError> {
+pub fn regrouped(
+    alloc: Global,
+    ids: Ids,
+    buttons: u64,
+    turn: u64,
+) -> Result<TreeUpdate, AllocError> {
     let first = buttons.saturating_add(1);
     let moved = first.saturating_add(2);
     let taken = turn & 1;
@@ -116,13 +143,20 @@ pub fn regrouped(alloc: Global, ids: Ids, buttons: u64, turn: u64) -> Result<Tre
     let left = moved.saturating_add(1).saturating_sub(taken);
     nodes.push((ids.id(first), group(alloc, ids, moved, left)?))?;
     let entered = moved.saturating_add(taken);
-    nodes.push((ids.id(first.saturating_add(1)), group(alloc, ids, moved, entered)?))?;
+    nodes.push((
+        ids.id(first.saturating_add(1)),
+        group(alloc, ids, moved, entered)?,
+    ))?;
     Ok(update(ids, nodes, false))
 }
 
 /// A node of a frame: with ten children, a rectangle, and a label that changes in each turn for one node in a hundred.
 fn framed(alloc: Global, ids: Ids, number: u64, count: u64, turn: u64) -> Result<Node, AllocError> {
-    let role = if number == 0 { Role::Window } else { Role::Button };
+    let role = if number == 0 {
+        Role::Window
+    } else {
+        Role::Button
+    };
     let mut node = labelled(alloc, role, if number % 100 == 7 { turn } else { 0 })?;
     let top = i32::try_from(number & 0xffff).unwrap_or(0);
     node.set_bounds(Rect::new(0, top, 10, top.saturating_add(1)));
@@ -158,7 +192,10 @@ fn push_rows(
         let number = row_number(row);
         let cells = number.saturating_add(1);
         let end = cells.saturating_add(CELLS);
-        nodes.push((ids.id(number), parent(alloc, ids, Role::ListItem, cells, end)?))?;
+        nodes.push((
+            ids.id(number),
+            parent(alloc, ids, Role::ListItem, cells, end)?,
+        ))?;
         for cell in cells..end {
             nodes.push((ids.id(cell), labelled(alloc, Role::Label, row)?))?;
         }
@@ -221,12 +258,21 @@ fn middle(runs: u64) -> u64 {
 
 /// A field of so many runs, with the caret in the middle one.
 fn field(alloc: Global, ids: Ids, runs: u64, caret: usize) -> Result<Node, AllocError> {
-    let mut node = parent(alloc, ids, Role::MultilineTextInput, 2, runs.saturating_add(2))?;
+    let mut node = parent(
+        alloc,
+        ids,
+        Role::MultilineTextInput,
+        2,
+        runs.saturating_add(2),
+    )?;
     let at = TextPosition {
         node: ids.id(middle(runs)),
         character_index: caret,
     };
-    node.set_text_selection(TextSelection { anchor: at, focus: at });
+    node.set_text_selection(TextSelection {
+        anchor: at,
+        focus: at,
+    });
     Ok(node)
 }
 
@@ -245,7 +291,13 @@ pub fn text(alloc: Global, ids: Ids, runs: u64) -> Result<TreeUpdate, AllocError
 pub fn typed(alloc: Global, ids: Ids, runs: u64, turn: u64) -> Result<TreeUpdate, AllocError> {
     let more = (turn & 1) as usize;
     let mut nodes = Vec::with_capacity(alloc, 2)?;
-    nodes.push((ids.id(middle(runs)), run(alloc, CHARACTERS.saturating_add(more))?))?;
-    nodes.push((ids.id(1), field(alloc, ids, runs, CARET.saturating_add(more))?))?;
+    nodes.push((
+        ids.id(middle(runs)),
+        run(alloc, CHARACTERS.saturating_add(more))?,
+    ))?;
+    nodes.push((
+        ids.id(1),
+        field(alloc, ids, runs, CARET.saturating_add(more))?,
+    ))?;
     Ok(update(ids, nodes, false))
 }

@@ -9,11 +9,15 @@
 //! point. `find` asks for each node of a flat tree by its id. How many nodes were met is the sum.
 
 use crate::ids::Ids;
-use crate::interfaces::{flat, frame, list, regrouped, relabelled, scrolled, text, typed, with_group};
+use crate::interfaces::{
+    flat, frame, list, regrouped, relabelled, scrolled, text, typed, with_group,
+};
 use crate::updates::Events;
 use crate::walks::{preorder, shown};
 use accesskit_consumer::filters::common_filter;
-use accesskit_consumer::{NodeRef, NodeText, TextPlaces, TextPosition, TextRoot, TextSelections, Tree};
+use accesskit_consumer::{
+    NodeRef, NodeText, TextPlaces, TextPosition, TextRoot, TextSelections, Tree,
+};
 use schema::{NodeId, Point, TreeId, TreeUpdate};
 use std::alloc::{AllocError, Global};
 
@@ -39,7 +43,13 @@ impl Sent {
     }
 
     /// The update of a turn, of which the first is 1.
-    fn update(self, alloc: Global, ids: Ids, nodes: u64, turn: u64) -> Result<TreeUpdate, AllocError> {
+    fn update(
+        self,
+        alloc: Global,
+        ids: Ids,
+        nodes: u64,
+        turn: u64,
+    ) -> Result<TreeUpdate, AllocError> {
         match self {
             Sent::Relabelled => relabelled(alloc, ids, nodes, turn),
             Sent::Moved => regrouped(alloc, ids, nodes, turn),
@@ -76,7 +86,11 @@ impl Read {
         let caret = match self {
             Read::Nothing => None,
             Read::Line => {
-                if field.supports_text_ranges() { field.text_selection_focus() } else { None }
+                if field.supports_text_ranges() {
+                    field.text_selection_focus()
+                } else {
+                    None
+                }
             }
             Read::LineOnce => match field.text() {
                 Some(text) => text.selection_focus(),
@@ -91,7 +105,14 @@ impl Read {
 }
 
 /// Makes the tree, sends its updates, reads after each, and says how many events were told and what was read.
-fn send(alloc: Global, sent: Sent, read: Read, ids: Ids, nodes: u64, count: u64) -> anyhow::Result<u64> {
+fn send(
+    alloc: Global,
+    sent: Sent,
+    read: Read,
+    ids: Ids,
+    nodes: u64,
+    count: u64,
+) -> anyhow::Result<u64> {
     let mut tree = Tree::new(alloc, sent.first(alloc, ids, nodes)?, true)?;
     let mut events = Events { count: 0 };
     let mut sum: u64 = 0;
@@ -150,7 +171,13 @@ fn ways_up(alloc: Global, tree: &Tree, nodes: u64) -> Result<u64, AllocError> {
 fn hit(tree: &Tree) -> u64 {
     let point = Point { x: 0, y: 3 };
     let filter = |node: &NodeRef<'_>| common_filter(node);
-    u64::from(tree.state().view().root().node_at_point(point, &filter).is_some())
+    u64::from(
+        tree.state()
+            .view()
+            .root()
+            .node_at_point(point, &filter)
+            .is_some(),
+    )
 }
 
 /// How many nodes are found by these ids.
@@ -167,7 +194,11 @@ fn found(tree: &Tree, sought: &[NodeId]) -> u64 {
 
 /// Makes the tree of a walk, and walks over it so many times.
 fn walk(alloc: Global, work: &str, ids: Ids, nodes: u64, count: u64) -> anyhow::Result<u64> {
-    let first = if work == "find" { flat(alloc, ids, nodes)? } else { frame(alloc, ids, nodes, 0)? };
+    let first = if work == "find" {
+        flat(alloc, ids, nodes)?
+    } else {
+        frame(alloc, ids, nodes, 0)?
+    };
     let tree = Tree::new(alloc, first, true)?;
     // the ids are made before, so that only the look-ups are counted
     let sought = ids.range(alloc, 0, nodes)?;
