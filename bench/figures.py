@@ -10,7 +10,7 @@ KEPT = os.path.join(HERE, "kept.json")
 
 # The ids of loads that applications send, and those that are chosen to make look-ups expensive.
 SENT_IDS = ["counted", "spread"]
-HOSTILE_IDS = ["alike-above", "alike-below", "reversed"]
+HOSTILE_IDS = ["alike-above", "alike-below", "reversed", "mixed-alike"]
 
 # The sizes of the loads, and the one of which the table of loads tells.
 SIZES = [1_000, 10_000, 100_000]

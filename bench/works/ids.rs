@@ -16,12 +16,17 @@ pub enum Ids {
     AlikeBelow,
     /// The numbers with their bits in the reverse order, so that all are alike in the lower bits.
     Reversed,
+    /// Ids that the library mixes alike in the upper bits, so that no guess of a cell is right but one.
+    MixedAlike,
 }
 
 /// The bits of a hash that the ids of a pair share, where they differ below, and where they differ above.
 const ABOVE: u64 = 0xffff_ffff_ffff_fff0;
 
 const BELOW: u64 = 0x0fff_ffff_ffff_ffff;
+
+/// The inverse of the factor by which the library mixes an id.
+const UNMIXING: u64 = 0xf1de_83e1_9937_733d;
 
 /// A hash of a number, by splitmix64: other numbers have other hashes.
 fn hash_of(number: u64) -> u64 {
@@ -41,6 +46,7 @@ impl Ids {
             Ids::AlikeAbove => (hash_of(number >> 1) & ABOVE) | lowest,
             Ids::AlikeBelow => (hash_of(number >> 1) & BELOW) | (lowest << 60),
             Ids::Reversed => number.reverse_bits(),
+            Ids::MixedAlike => number.wrapping_add(1).wrapping_mul(UNMIXING),
         })
     }
 
@@ -62,6 +68,7 @@ pub fn ids_of(word: &str) -> Option<Ids> {
         "alike-above" => Some(Ids::AlikeAbove),
         "alike-below" => Some(Ids::AlikeBelow),
         "reversed" => Some(Ids::Reversed),
+        "mixed-alike" => Some(Ids::MixedAlike),
         _ => None,
     }
 }

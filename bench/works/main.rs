@@ -7,7 +7,7 @@
 //!
 //! The works on updates stand in `updates`, those on walks in `walks`, an adapter's turn in `adapter`, and those on texts,
 //! which take the second form, in `text_works`. The third form is that of `loads`, which say what ids their nodes have: one of
-//! `counted`, `spread`, `alike-above`, `alike-below` and `reversed`. It prints a sum of what it met.
+//! `counted`, `spread`, `alike-above`, `alike-below`, `reversed` and `mixed-alike`. It prints a sum of what it met.
 #![tactic(auto)]
 
 mod adapter;
