@@ -1,10 +1,10 @@
 -- The runs of a text, and when a root has a text that can be walked by characters.
-use Rattle.std.specs.Prelude.{ℕ, ◌-◌, ◌^◌, ◌==◌, nat_lt, nat_le, Bool, true, false, ◌&&◌, ◌||◌, min, List, [], ◌∷◌, length, map, drop, take, zip, slice_get, sum_by, Option, is_none, unwrap_or, cond, if◌then◌else◌, IsTrue}
+use Rattle.std.specs.Prelude.{ℕ, ◌-◌, ◌^◌, ◌==◌, nat_lt, nat_le, Bool, true, false, ◌&&◌, ◌||◌, min, List, [], ◌∷◌, length, map, drop, take, slice_get, sum_by, Option, is_none, unwrap_or, cond, if◌then◌else◌, IsTrue}
 use Rattle.std.specs.Option.{option_map_or}
 use Rattle.std.specs.List.{list_all, ends_with}
-use Rattle.std.specs.Str.{is_utf8}
 use Rattle.schema.specs.NodeData.{NodeData, empty_node}
 use Rattle.schema.specs.Roles.{same_role}
+use Rattle.schema.specs.RunFits.{is_cut_by, neighbours, rise_below}
 use Rattle.schema.specs.declared.NodeId.{NodeId}
 use Rattle.schema.specs.declared.Role.TheVariants.{TextRun}
 use Rattle.model.specs.declared.FullNodeId.{FullNodeId}
@@ -49,11 +49,6 @@ said_count r = length r.node.character_lengths
 abbrev pub ends_with_newline : SentRun → Bool
 ends_with_newline r = ends_with (λ a b. a == b) (run_value r) (10 ∷ [])
 
--- the lengths are at least 1 and cut the text at character boundaries, with nothing left over
-abbrev pub is_cut_by : List ℕ → List ℕ → Bool
-is_cut_by bs [] = length bs == 0
-is_cut_by bs (n ∷ ns) = nat_lt 0 n && (nat_le n (length bs) && (is_utf8 (take n bs) && is_cut_by (drop n bs) ns))
-
 -- the pieces of the text that lengths cut
 abbrev pub cut_by : List ℕ → List ℕ → List (List ℕ)
 cut_by bs [] = []
@@ -62,10 +57,6 @@ cut_by bs (n ∷ ns) = take n bs ∷ cut_by (drop n bs) ns
 -- its characters, each as bytes
 abbrev pub sent_characters : SentRun → List (List ℕ)
 sent_characters r = cut_by (run_value r) r.node.character_lengths
-
--- each element but the last, beside the next one
-abbrev pub neighbours : {X : Type 0} → List X → List (X × X)
-neighbours xs = zip xs (drop 1 xs)
 
 abbrev pub is_password : World → FullNodeId → Bool
 is_password w id = says (λ d. is_password_input d.role) w id
@@ -86,8 +77,7 @@ are_cut runs = list_all (λ r. is_cut_by (run_value r) r.node.character_lengths)
 
 -- word starts rise and are numbers of characters
 abbrev pub has_rising_words : SentRun → Bool
-has_rising_words r =
-    list_all (λ p. nat_lt p.0 p.1) (neighbours r.node.word_starts) && list_all (λ k. nat_lt k (said_count r)) r.node.word_starts
+has_rising_words r = rise_below r.node.word_starts (said_count r)
 
 abbrev pub have_rising_words : List SentRun → Bool
 have_rising_words runs = list_all has_rising_words runs

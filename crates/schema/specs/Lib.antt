@@ -1,11 +1,13 @@
 pub mod Actions
 pub mod Boxes
 pub mod Drafts
+pub mod KeptTexts
 pub mod NodeData
 pub mod Parts
 pub mod RareTexts
 pub mod RoleNames
 pub mod Roles
+pub mod RunFits
 pub mod RunLists
 pub mod Same
 pub mod SameBy

@@ -17,7 +17,6 @@ impl Clone for Node {
             labelled_by: copy_of_ids(alloc, &self.labelled_by)?,
             controls: copy_of_ids(alloc, &self.controls)?,
             label: copy_of_text(alloc, &self.label)?,
-            value: copy_of_text(alloc, &self.value)?,
             texts: self.texts.copy(alloc)?,
             run: self.run.copy(alloc)?,
             plain: self.plain,

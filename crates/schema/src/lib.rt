@@ -21,7 +21,9 @@ mod numbers;
 mod plain_fields;
 mod rare_texts;
 mod roles;
+mod run_fits;
 mod run_lists;
+mod run_text;
 mod runs;
 mod styles;
 mod text_write;
@@ -36,7 +38,7 @@ pub use geometry::{Point, Rect, Translation, WideRect, WideTranslation};
 use plain_fields::PlainFields;
 use rare_texts::RareTexts;
 pub use roles::named_roles;
-use run_lists::RunLists;
+use run_text::RunText;
 use std::alloc::Global;
 use std::fmt;
 use std::marker::Model;
@@ -191,9 +193,8 @@ pub struct Node {
     labelled_by: Vec<NodeId>,
     controls: Vec<NodeId>,
     label: Option<String>,
-    value: Option<String>,
     texts: RareTexts,
-    run: RunLists,
+    run: RunText,
     plain: PlainFields,
     alloc: Global,
 }
@@ -218,7 +219,7 @@ impl Model for Node {
       next_on_line = then_some a.plain.has_next_on_line a.plain.next_on_line;
       tree_id = a.plain.tree_id;
       label = option_map string_bytes a.label;
-      value = option_map string_bytes a.value;
+      value = a.run.value;
       description = text_under Description a.texts;
       role_description = text_under RoleDescription a.texts;
       placeholder = text_under Placeholder a.texts;
@@ -264,10 +265,10 @@ impl Model for Node {
       actions = a.actions;
       child_actions = a.child_actions;
       text_selection = a.plain.text_selection;
-      character_lengths = a.run.lengths;
-      word_starts = a.run.starts;
-      character_positions = a.run.positions;
-      character_widths = a.run.widths;
+      character_lengths = a.run.lists.lengths;
+      word_starts = a.run.lists.starts;
+      character_positions = a.run.lists.positions;
+      character_widths = a.run.lists.widths;
       font_size = a.plain.font_size;
       font_weight = a.plain.font_weight;
       background_color = a.plain.background_color;
@@ -302,9 +303,8 @@ impl Node {
             labelled_by: Vec::new(alloc),
             controls: Vec::new(alloc),
             label: None,
-            value: None,
             texts: RareTexts::new(alloc),
-            run: RunLists::new(),
+            run: RunText::new(alloc),
             plain: PlainFields {
                 role,
                 ..PlainFields::EMPTY

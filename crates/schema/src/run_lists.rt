@@ -1,6 +1,6 @@
 //! The lists about a text run's characters. They are stored apart from the node, so that other nodes stay small.
 
-ghost use Rattle.std.specs.Prelude.{◌≡◌, [], None, Some, OnOk, OnErr, IfOk, option_map, option_copied};
+ghost use Rattle.std.specs.Prelude.{◌≡◌, [], None, Some, OnOk, OnErr, IfOk, IsTrue, option_map, option_copied};
 ghost use Rattle.schema.specs.RunLists.{no_lists, table_data, with_list};
 
 use std::alloc::{AllocError, Global};
@@ -69,6 +69,13 @@ impl RunLists {
         ensures { result ≡ no_lists }
     {
         RunLists { table: None }
+    }
+
+    /// Whether no list was ever set.
+    pub(crate) fn is_empty(&self) -> bool
+        ensures { IsTrue result → self.now ≡ no_lists }
+    {
+        self.table.is_none()
     }
 
     /// The length of each character, in bytes.

@@ -2,8 +2,10 @@
 //!
 //! Lengths are in units of 1/64 pixel.
 
-ghost use Rattle.std.specs.Prelude.{◌≡◌, [], None, Some, OnOk, OnErr, IfOk, option_copied};
+ghost use Rattle.std.specs.Prelude.{◌≡◌, [], None, Some, OnOk, OnErr, IfOk, IsTrue, option_copied, length, unwrap_or};
+ghost use Rattle.schema.specs.RunFits.{is_cut_by, rise_below, fit_together, run_text};
 
+use crate::run_fits::{is_cut_by, rise_below};
 use crate::run_lists::RunList;
 use crate::{Node, TextSelection};
 use std::alloc::{AllocError, Global};
@@ -34,7 +36,7 @@ impl Node {
     pub fn character_lengths(&self) -> &[u16]
         ensures { result.now ≡ self.now.character_lengths }
     {
-        self.run.lengths()
+        self.run.lists().lengths()
     }
 
     /// Sets [`Node::character_lengths`] to a copy of the list.
@@ -47,7 +49,7 @@ impl Node {
         ensures err { OnErr result (self.new ≡ self.old) }
     {
         let copy = Vec::from_slice(self.alloc, lengths)?;
-        self.run.set(self.alloc, RunList::Lengths(copy))
+        self.run.set_list(self.alloc, RunList::Lengths(copy))
     }
 
     /// Sets [`Node::character_lengths`] to these lengths, given as bytes.
@@ -60,21 +62,21 @@ impl Node {
         ensures err { OnErr result (self.new ≡ self.old) }
     {
         let copy = widened(self.alloc, lengths)?;
-        self.run.set(self.alloc, RunList::Lengths(copy))
+        self.run.set_list(self.alloc, RunList::Lengths(copy))
     }
 
     /// Clears [`Node::character_lengths`].
     pub fn clear_character_lengths(&mut self)
         ensures { self.new ≡ record self.old { character_lengths = [] } }
     {
-        self.run.clear(RunList::Lengths(Vec::new(self.alloc)));
+        self.run.clear_list(RunList::Lengths(Vec::new(self.alloc)));
     }
 
     /// The index of the first character of each word of a text run.
     pub fn word_starts(&self) -> &[u16]
         ensures { result.now ≡ self.now.word_starts }
     {
-        self.run.starts()
+        self.run.lists().starts()
     }
 
     /// Sets [`Node::word_starts`] to a copy of the list.
@@ -87,7 +89,7 @@ impl Node {
         ensures err { OnErr result (self.new ≡ self.old) }
     {
         let copy = Vec::from_slice(self.alloc, starts)?;
-        self.run.set(self.alloc, RunList::Starts(copy))
+        self.run.set_list(self.alloc, RunList::Starts(copy))
     }
 
     /// Sets [`Node::word_starts`] to these indexes, given as bytes.
@@ -100,21 +102,21 @@ impl Node {
         ensures err { OnErr result (self.new ≡ self.old) }
     {
         let copy = widened(self.alloc, starts)?;
-        self.run.set(self.alloc, RunList::Starts(copy))
+        self.run.set_list(self.alloc, RunList::Starts(copy))
     }
 
     /// Clears [`Node::word_starts`].
     pub fn clear_word_starts(&mut self)
         ensures { self.new ≡ record self.old { word_starts = [] } }
     {
-        self.run.clear(RunList::Starts(Vec::new(self.alloc)));
+        self.run.clear_list(RunList::Starts(Vec::new(self.alloc)));
     }
 
     /// Where each character of a text run begins along its line, in units of 1/64 pixel.
     pub fn character_positions(&self) -> Option<&[i32]>
         ensures { option_copied result ≡ self.now.character_positions }
     {
-        self.run.positions()
+        self.run.lists().positions()
     }
 
     /// Sets [`Node::character_positions`] to a copy of the list.
@@ -127,21 +129,21 @@ impl Node {
         ensures err { OnErr result (self.new ≡ self.old) }
     {
         let copy = Vec::from_slice(self.alloc, positions)?;
-        self.run.set(self.alloc, RunList::Positions(Some(copy)))
+        self.run.set_list(self.alloc, RunList::Positions(Some(copy)))
     }
 
     /// Clears [`Node::character_positions`].
     pub fn clear_character_positions(&mut self)
         ensures { self.new ≡ record self.old { character_positions = None } }
     {
-        self.run.clear(RunList::Positions(None));
+        self.run.clear_list(RunList::Positions(None));
     }
 
     /// The width of each character of a text run along its line, in units of 1/64 pixel.
     pub fn character_widths(&self) -> Option<&[i32]>
         ensures { option_copied result ≡ self.now.character_widths }
     {
-        self.run.widths()
+        self.run.lists().widths()
     }
 
     /// Sets [`Node::character_widths`] to a copy of the list.
@@ -154,14 +156,46 @@ impl Node {
         ensures err { OnErr result (self.new ≡ self.old) }
     {
         let copy = Vec::from_slice(self.alloc, widths)?;
-        self.run.set(self.alloc, RunList::Widths(Some(copy)))
+        self.run.set_list(self.alloc, RunList::Widths(Some(copy)))
     }
 
     /// Clears [`Node::character_widths`].
     pub fn clear_character_widths(&mut self)
         ensures { self.new ≡ record self.old { character_widths = None } }
     {
-        self.run.clear(RunList::Widths(None));
+        self.run.clear_list(RunList::Widths(None));
+    }
+
+    /// Whether the lengths of a text run's characters cut its value at character boundaries, with nothing left over. No
+    /// value is as an empty one.
+    pub fn has_fitting_lengths(&self) -> bool
+        ensures { result ≡ is_cut_by (unwrap_or self.now.value []) self.now.character_lengths }
+    {
+        is_cut_by(self.value().unwrap_or(""), self.character_lengths())
+    }
+
+    /// Whether the word starts of a text run rise, and are below its number of characters.
+    pub fn has_rising_word_starts(&self) -> bool
+        ensures { result ≡ rise_below self.now.word_starts (length self.now.character_lengths) }
+    {
+        rise_below(self.word_starts(), self.character_lengths().len())
+    }
+
+    /// Finds out whether the value and the lists about its characters fit together, and keeps that until one of them is
+    /// set. A tree does so once for each node that it keeps, so that a text is found well-formed without reading its
+    /// characters again.
+    pub fn note_fit(&mut self)
+        ensures { self.new ≡ self.old }
+    {
+        self.run.note_fit();
+    }
+
+    /// Whether [`Node::note_fit`] has found that the lengths cut the value, the word starts rise, and positions and
+    /// widths, if given, are one for each character.
+    pub fn is_known_to_fit(&self) -> bool
+        ensures { IsTrue result → IsTrue (fit_together (run_text self.now)) }
+    {
+        self.run.is_known_to_fit()
     }
 }
 

@@ -38,7 +38,7 @@ impl Node {
     pub fn value(&self) -> Option<&str>
         ensures { option_copied result ≡ self.now.value }
     {
-        self.value.as_ref().map(|text| text.as_str())
+        self.run.value()
     }
 
     /// Sets [`Node::value`] to a copy of `text`.
@@ -50,7 +50,8 @@ impl Node {
         ensures ok { OnOk result (self.new ≡ record self.old { value = Some text.now }) }
         ensures err { OnErr result (self.new ≡ self.old) }
     {
-        self.value = Some(String::from_str(self.alloc, text)?);
+        let copy = String::from_str(self.alloc, text)?;
+        self.run.set_value(copy);
         Ok(())
     }
 
@@ -58,7 +59,7 @@ impl Node {
     pub fn clear_value(&mut self)
         ensures { self.new ≡ record self.old { value = None } }
     {
-        self.value = None;
+        self.run.clear_value(self.alloc);
     }
 
     /// A description beyond the label.

@@ -9,7 +9,8 @@ use Rattle.std.proofs.lemmas.Bool.{leb-true, eqb-true}
 use Rattle.std.proofs.lemmas.List.{take_all, take-append-drop, length-append, length-take-le, length-drop, take-map, drop-map}
 use Rattle.std.proofs.lemmas.Str.{IsUtf8-from_is_utf8, IsCharBoundary-from_take, IsCharBoundary-at_seam}
 use Rattle.schema.specs.NodeData.{NodeData}
-use Rattle.model.specs.TextRuns.{run_value, said_count, sent_characters, is_cut_by, cut_by}
+use Rattle.schema.specs.RunFits.{is_cut_by}
+use Rattle.model.specs.TextRuns.{run_value, said_count, sent_characters, cut_by}
 use Rattle.model.specs.FlatText.{ShownRun, shown_character, needs_masking}
 use Rattle.model.specs.Ranges.{piece_text}
 use Rattle.model.specs.Values.{bullets}

@@ -9,7 +9,8 @@ use Rattle.std.proofs.lemmas.List.Sums.{sum_by-cons, sum_by-append, sum_by-take-
 use Rattle.std.proofs.lemmas.Option.{get_or_from_slice_get, slice_get_within}
 use Rattle.model.specs.declared.FullNodeId.{FullNodeId}
 use Rattle.model.specs.World.{World}
-use Rattle.model.specs.TextRuns.{SentRun, sent_runs, run_value, said_count, is_cut_by, sent_characters, are_cut, is_password, supports_text_ranges}
+use Rattle.schema.specs.RunFits.{is_cut_by}
+use Rattle.model.specs.TextRuns.{SentRun, sent_runs, run_value, said_count, sent_characters, are_cut, is_password, supports_text_ranges}
 use Rattle.model.specs.FlatText.{FlatText, ShownRun, characters, count, count_in, total, start_of, Position, offset, document_end, start_side, shown_character, needs_masking, shown_run, flat_text}
 use Rattle.model.specs.Moves.{length_before, global_index, holder_of, position_of}
 use Rattle.model.proofs.Text.TextFacts.{both, is_text, start_next}

@@ -3,7 +3,8 @@ use Rattle.std.proofs.Common.{◌≡◌, ℕ, zero, suc, Bool, true, List, [], �
 use Rattle.std.specs.Prelude.{slice_get}
 use Rattle.std.specs.List.{flat_map}
 use Rattle.std.proofs.lemmas.Option.{none-some, same_Some}
-use Rattle.model.specs.TextRuns.{SentRun, sent_runs, run_value, is_cut_by, are_cut}
+use Rattle.schema.specs.RunFits.{is_cut_by}
+use Rattle.model.specs.TextRuns.{SentRun, sent_runs, run_value, are_cut}
 use Rattle.model.specs.FlatText.{needs_masking}
 use Rattle.model.specs.Ranges.{Piece as PieceData, piece_text}
 use Rattle.model.proofs.Text.TextFacts.{both, is_text}

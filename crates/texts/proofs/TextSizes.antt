@@ -6,7 +6,8 @@ use Rattle.std.proofs.lemmas.Bool.{ltb-true, leb-true}
 use Rattle.std.proofs.lemmas.List.Sums.{sum_by-cons}
 use Rattle.model.specs.declared.FullNodeId.{FullNodeId}
 use Rattle.model.specs.World.{World}
-use Rattle.model.specs.TextRuns.{SentRun, sent_runs, run_value, said_count, is_cut_by, are_cut, is_password, supports_text_ranges}
+use Rattle.schema.specs.RunFits.{is_cut_by}
+use Rattle.model.specs.TextRuns.{SentRun, sent_runs, run_value, said_count, are_cut, is_password, supports_text_ranges}
 use Rattle.model.specs.FlatText.{FlatText, shown_character, needs_masking, shown_run, flat_text, count, count_in, start_of, total, offset, Position, IsPosition}
 use Rattle.model.proofs.Text.TextFacts.{both, is_text, start_next}
 use Rattle.model.proofs.Text.Sides.{start_rises}

@@ -10,7 +10,8 @@ use Rattle.std.proofs.lemmas.Bool.{ltb-true, ltb-false, leb-true, eqb-true}
 use Rattle.std.proofs.lemmas.List.{take-append-drop, map-id, take_all, length-take-le}
 use Rattle.std.proofs.lemmas.List.Sums.{sum_by-cons, sum_by-append, sum_by_push, sum_by_more, sum_by-take-le}
 use Rattle.std.proofs.lemmas.Str.{chars-nil, chars-append, chars_past_char, encodes-chars, length-encode, len_utf8_bounds, IsUtf8-nil, IsUtf8-append, IsUtf8-from_is_utf8, IsCharBoundary-from_take}
-use Rattle.model.specs.TextRuns.{SentRun, run_value, said_count, is_cut_by, cut_by}
+use Rattle.schema.specs.RunFits.{is_cut_by}
+use Rattle.model.specs.TextRuns.{SentRun, run_value, said_count, cut_by}
 use Rattle.model.specs.FlatText.{BULLET, shown_character}
 use Rattle.model.specs.Moves.{utf16_len}
 use Rattle.model.proofs.Text.TextFacts.{both}

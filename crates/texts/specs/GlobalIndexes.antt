@@ -1,6 +1,7 @@
 -- Indexes in the whole text, by what they count.
 use Rattle.std.specs.Prelude.{◌≡◌, ◌==◌, ◌||◌, ℕ, Bool, true, List, length, map, take, sum_by}
-use Rattle.model.specs.TextRuns.{SentRun, run_value, said_count, is_cut_by, sent_characters}
+use Rattle.schema.specs.RunFits.{is_cut_by}
+use Rattle.model.specs.TextRuns.{SentRun, run_value, said_count, sent_characters}
 use Rattle.model.specs.FlatText.{shown_character}
 use Rattle.model.specs.Moves.{scalar_len, utf16_len}
 use Rattle.texts.specs.declared.indexes.Units.{Units}

@@ -2,7 +2,8 @@
 use Rattle.std.specs.Prelude.{◌≡◌, ◌≤◌, ℕ, nat_le, Bool, true, ◌&&◌, List, [], ◌∷◌, length, map, drop, take, slice_range}
 use Rattle.std.specs.List.{concat}
 use Rattle.std.specs.Str.{is_utf8}
-use Rattle.model.specs.TextRuns.{run_value, said_count, sent_characters, is_cut_by}
+use Rattle.schema.specs.RunFits.{is_cut_by}
+use Rattle.model.specs.TextRuns.{run_value, said_count, sent_characters}
 use Rattle.model.specs.FlatText.{shown_character}
 use Rattle.texts.specs.declared.pieces.Piece.{Piece}
 use Rattle.views.specs.Runs.{sent_of}

@@ -355,9 +355,11 @@ fn put_record(
         Some(record) => {
             record.place = place;
             mem::swap(&mut record.node, &mut nodes[entry].1);
+            record.node.note_fit();
         }
         None => {
-            let node = take_node(nodes, entry, Node::new(alloc, Role::Unknown));
+            let mut node = take_node(nodes, entry, Node::new(alloc, Role::Unknown));
+            node.note_fit();
             *slot = Some(Record { place, node });
         }
     }

@@ -166,8 +166,9 @@ fn boxed(alloc: Global, mut nodes: Vec<(NodeId, Node)>) -> Result<Waiting, Alloc
 {
     let mut waiting = Vec::new(alloc);
     waiting.resize_with(nodes.len(), || None)?;
-    while let Some((_, node)) = nodes.pop() {
+    while let Some((_, mut node)) = nodes.pop() {
         let place = None;
+        node.note_fit();
         waiting[nodes.len()] = Some(Box::new(alloc, Some(Record { place, node }))?);
         release(&mut nodes);
     }

@@ -1,10 +1,11 @@
 -- The first defect of a text's runs: what a walk finds is what is defined, and there is none exactly where all rules are kept.
-use Rattle.std.proofs.Common.{◌≡◌, ℕ, ◌+◌, ◌^◌, Bool, true, false, List, [], ◌∷◌, length, map, refl, sym, ap, ◌∙◌}
-use Rattle.std.specs.Prelude.{◌&&◌, ◌||◌, ◌==◌, nat_lt, Option, Some, None, is_none, option_map, if◌then◌else◌}
+use Rattle.std.proofs.Common.{◌≡◌, ℕ, ◌+◌, ◌^◌, Bool, true, false, List, [], ◌∷◌, length, map, refl, sym, ap, ◌∙◌, arith}
+use Rattle.std.specs.Prelude.{ℤ, min, ◌&&◌, ◌||◌, ◌==◌, nat_lt, Option, Some, None, is_none, option_map, if◌then◌else◌}
 use Rattle.std.specs.Option.{option_or, option_map_or}
-use Rattle.std.specs.List.{list_all}
+use Rattle.std.proofs.lemmas.Bool.{and_from, and_parts, eqb-true, le-leb}
 use Rattle.schema.specs.declared.NodeId.{NodeId}
-use Rattle.model.specs.TextRuns.{SentRun, run_value, said_count, neighbours, leads_to, links_agree, is_cut_by, is_enough, is_measured, has_rising_words}
+use Rattle.schema.specs.RunFits.{is_cut_by, has_count, run_text, fit_together}
+use Rattle.model.specs.TextRuns.{SentRun, run_value, said_count, leads_to, links_agree, is_enough, is_measured, has_rising_words}
 use Rattle.views.specs.declared.runs.defects.RunDefect.{RunDefect}
 use Rattle.views.specs.declared.runs.defects.RunDefect.TheVariants.{PreviousLink, PreviousUnanswered, Tree, CharacterLengths, WordStarts, CharacterPositions, CharacterWidths, TooLong, Empty, NextLink, NextUnanswered}
 use Rattle.views.specs.declared.runs.defects.TextDefect.{TextDefect}
@@ -173,11 +174,27 @@ module _ (tree : ℕ) (password : Bool) where
 
 -- ---- rules of a run
 
-pub rising_same : (r : SentRun) (starts : List ℕ) (count : ℕ) → starts ≡ r.node.word_starts → count ≡ said_count r →
-    (list_all (λ (p : ℕ × ℕ). nat_lt p.0 p.1) (neighbours starts) && list_all (λ k. nat_lt k count) starts) ≡ has_rising_words r
-rising_same r starts count e f =
-    ap (λ ks. list_all (λ (p : ℕ × ℕ). nat_lt p.0 p.1) (neighbours ks) && list_all (λ k. nat_lt k count) ks) e
-    ∙ ap (λ n. list_all (λ (p : ℕ × ℕ). nat_lt p.0 p.1) (neighbours r.node.word_starts) && list_all (λ k. nat_lt k n) r.node.word_starts) f
+-- a list of as many numbers as there are characters is long enough
+enough_if_full : (password : Bool) (count given : ℕ) → (given == count) ≡ true → is_enough password count given ≡ true
+enough_if_full true count given e = let same = eqb-true given count e in and_from _ _ (le-leb given count (omega (arith, same))) (le-leb (min count 1) given (omega (arith, same)))
+enough_if_full false count given e = let same = eqb-true given count e in and_from _ _ (le-leb given count (omega (arith, same))) (le-leb count given (omega (arith, same)))
+
+measured_if_full : (password : Bool) (count : ℕ) (list : Option (List ℤ)) → has_count list count ≡ true →
+    option_map_or (λ xs. is_enough password count (length xs)) list true ≡ true
+measured_if_full password count None e = refl
+measured_if_full password count (Some xs) e = enough_if_full password count (length xs) e
+
+-- where a value and its lists fit together, the run breaks no rule of its own
+pub none_if_fit : (tree : ℕ) (password : Bool) (r : SentRun) → (r.id.tree == tree) ≡ true → fit_together (run_text r.node) ≡ true →
+    None ≡ own_defect tree password r
+none_if_fit tree password r here fit =
+    let cut = and_parts (is_cut_by (run_value r) r.node.character_lengths) _ fit in
+    let words = and_parts (has_rising_words r) _ cut.1 in
+    let counts = and_parts (has_count r.node.character_positions (said_count r)) (has_count r.node.character_widths (said_count r)) words.1 in
+    let placed = measured_if_full password (said_count r) r.node.character_positions counts.0 in
+    let wide = measured_if_full password (said_count r) r.node.character_widths counts.1 in
+    sym (λ i. first_of (broken (here i) Tree ∷ broken (cut.0 i) CharacterLengths ∷ broken (words.0 i) WordStarts
+    ∷ first_of (broken (placed i) CharacterPositions ∷ broken (wide i) CharacterWidths ∷ []) ∷ []))
 
 -- the third rule is the first that isn't kept, or all three are kept
 module _ (metrics : Option RunDefect) where

@@ -11,7 +11,8 @@ use Rattle.schema.specs.NodeData.{NodeData}
 use Rattle.model.specs.declared.FullNodeId.{FullNodeId}
 use Rattle.model.specs.World.{World}
 use Rattle.model.specs.RoleClasses.{is_password_input}
-use Rattle.model.specs.TextRuns.{SentRun, sent_characters, sent_runs, is_password, run_value, is_cut_by, cut_by, are_cut, supports_text_ranges}
+use Rattle.schema.specs.RunFits.{is_cut_by}
+use Rattle.model.specs.TextRuns.{SentRun, sent_characters, sent_runs, is_password, run_value, cut_by, are_cut, supports_text_ranges}
 use Rattle.model.specs.FlatText.{FlatText, are_alike, shown_character, needs_masking, shown_run, flat_text, characters, start_of, offset, document_end}
 use Rattle.model.specs.Ranges.{document_range, text_of}
 use Rattle.model.specs.Values.{bullets, document_text}

@@ -11,7 +11,8 @@ use Rattle.model.specs.declared.FullNodeId.{FullNodeId}
 use Rattle.model.specs.World.{World}
 use Rattle.model.specs.RoleClasses.{is_password_input, holds_text}
 use Rattle.model.specs.Upward.{says}
-use Rattle.model.specs.TextRuns.{SentRun, run_ids, sent_run, sent_runs, run_value, said_count, neighbours, links_agree, is_cut_by, has_rising_words, is_measured, is_password, lie_in_tree, are_cut, have_rising_words, are_empty_last, are_linked_in_order, have_size, are_measured, make_text, supports_text_ranges}
+use Rattle.schema.specs.RunFits.{neighbours, is_cut_by}
+use Rattle.model.specs.TextRuns.{SentRun, run_ids, sent_run, sent_runs, run_value, said_count, links_agree, has_rising_words, is_measured, is_password, lie_in_tree, are_cut, have_rising_words, are_empty_last, are_linked_in_order, have_size, are_measured, make_text, supports_text_ranges}
 use Rattle.model.proofs.Text.TextFacts.{both}
 use Rattle.views.specs.declared.runs.Run.{Run}
 use Rattle.views.specs.declared.node.node_ref.NodeRef.{NodeRef}

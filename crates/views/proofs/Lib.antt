@@ -34,8 +34,6 @@ pub mod Weights
 pub mod RunSteps
 pub mod RunTexts
 pub mod DocumentTexts
-pub mod RisingNumbers
-pub mod CutTexts
 pub mod DefectRules
 pub mod FitRuns
 pub mod Drained

@@ -6,7 +6,8 @@ use Rattle.model.specs.declared.FullNodeId.{FullNodeId}
 use Rattle.model.specs.World.{World}
 use Rattle.model.specs.RoleClasses.{holds_text}
 use Rattle.model.specs.Upward.{says}
-use Rattle.model.specs.TextRuns.{SentRun, sent_runs, run_value, said_count, is_password, is_cut_by, has_rising_words, is_enough, leads_to}
+use Rattle.schema.specs.RunFits.{is_cut_by}
+use Rattle.model.specs.TextRuns.{SentRun, sent_runs, run_value, said_count, is_password, has_rising_words, is_enough, leads_to}
 use Rattle.views.specs.declared.runs.defects.RunDefect.{RunDefect}
 use Rattle.views.specs.declared.runs.defects.RunDefect.TheVariants.{PreviousLink, PreviousUnanswered, Tree, CharacterLengths, WordStarts, CharacterPositions, CharacterWidths, TooLong, Empty, NextLink, NextUnanswered}
 use Rattle.views.specs.declared.runs.defects.TextDefect.{TextDefect}

@@ -1,6 +1,5 @@
 //! The runs of a text: a walk over them in order, and steps from a run to its neighbours. Nothing here allocates.
 mod defects;
-mod parts;
 mod rules;
 mod well_formed;
 

@@ -8,7 +8,8 @@ use Rattle.std.proofs.lemmas.List.Elements.{All-append, All-cons}
 use Rattle.std.proofs.lemmas.List.Sums.{sum_by-cons}
 use Rattle.model.specs.declared.FullNodeId.{FullNodeId}
 use Rattle.model.specs.World.{World}
-use Rattle.model.specs.TextRuns.{SentRun, IsText, sent_runs, is_password, is_cut_by, cut_by, run_value, are_cut}
+use Rattle.schema.specs.RunFits.{is_cut_by}
+use Rattle.model.specs.TextRuns.{SentRun, IsText, sent_runs, is_password, cut_by, run_value, are_cut}
 use Rattle.model.specs.FlatText.{BULLET, shown_character, needs_masking, shown_run, flat_text, characters}
 use Rattle.model.specs.Moves.{scalar_len, utf16_len}
 use Rattle.model.proofs.Text.TextFacts.{both}

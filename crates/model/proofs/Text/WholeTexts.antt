@@ -14,7 +14,8 @@ use Rattle.model.specs.declared.FullNodeId.{FullNodeId}
 use Rattle.model.specs.World.{World, in_tree}
 use Rattle.model.specs.RoleClasses.{holds_text}
 use Rattle.model.specs.Upward.{says}
-use Rattle.model.specs.TextRuns.{SentRun, sent_runs, cut_by, said_count, neighbours, leads_to, links_agree, has_rising_words, is_password, IsText}
+use Rattle.schema.specs.RunFits.{neighbours}
+use Rattle.model.specs.TextRuns.{SentRun, sent_runs, cut_by, said_count, leads_to, links_agree, has_rising_words, is_password, IsText}
 use Rattle.model.specs.FlatText.{FlatText, ShownRun, shown_character, needs_masking, shown_run, flat_text, count, count_in, begins_line, ends_line, words_in}
 use Rattle.model.specs.TextLaws.{IsWhole}
 

@@ -6,7 +6,6 @@ ghost use Rattle.views.specs.TextDefects.{at_run, back_defect, metrics_defect, o
 ghost use Rattle.views.specs.DefectWalks.{defect_between};
 
 use crate::runs::defects::{RunDefect, TextDefect};
-use crate::runs::parts::{is_cut_by, rise_below};
 use crate::walks::spot::Member;
 
 /// Whether there are enough numbers for the characters: one for each, or for a password at least one.
@@ -42,10 +41,13 @@ pub(crate) fn own_defect(run: Member<'_>, tree: u32, password: bool) -> Option<R
     if run.id.tree != tree {
         return Some(RunDefect::Tree);
     }
-    if !is_cut_by(run.value(), run.node.character_lengths()) {
+    if run.node.is_known_to_fit() {
+        return None;
+    }
+    if !run.node.has_fitting_lengths() {
         return Some(RunDefect::CharacterLengths);
     }
-    if !rise_below(run.node.word_starts(), run.character_count()) {
+    if !run.node.has_rising_word_starts() {
         return Some(RunDefect::WordStarts);
     }
     metrics_defect(run, password)

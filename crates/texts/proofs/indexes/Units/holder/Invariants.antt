@@ -1,6 +1,7 @@
 use Rattle.std.proofs.Common.{◌≡◌, ◌+◌, true, drop}
 use Rattle.std.specs.Str.{IsUtf8}
-use Rattle.model.specs.TextRuns.{is_cut_by, cut_by, run_value}
+use Rattle.schema.specs.RunFits.{is_cut_by}
+use Rattle.model.specs.TextRuns.{cut_by, run_value}
 use Rattle.views.specs.Runs.{sent_of}
 use Rattle.texts.specs.GlobalIndexes.{length_to}
 use Rattle.texts.proofs.indexes.Units.holder.Given as goal

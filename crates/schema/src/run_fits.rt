@@ -1,7 +1,7 @@
-//! A run's fields about its characters.
-ghost use Rattle.std.specs.Prelude.{◌≡◌, ◌==◌, ◌&&◌, nat_lt, length};
+//! Whether a run's value and the lists about its characters fit together.
+ghost use Rattle.std.specs.Prelude.{◌≡◌, ◌==◌, ◌&&◌, nat_lt, length, option_copied};
 ghost use Rattle.std.specs.List.{list_all};
-ghost use Rattle.model.specs.TextRuns.{neighbours, is_cut_by as is_cut};
+ghost use Rattle.schema.specs.RunFits.{is_cut_by, rise_below, has_count};
 
 /// Whether all lengths are 1 and all bytes are ASCII. All of them are looked at, so that the loop can be vectorised.
 fn are_single(lengths: &[u16], bytes: &[u8]) -> bool
@@ -19,7 +19,7 @@ fn are_single(lengths: &[u16], bytes: &[u8]) -> bool
 
 /// Whether all lengths are at least 1 and cut the text at character boundaries, with nothing left over.
 pub(crate) fn is_cut_by(value: &str, lengths: &[u16]) -> bool
-    ensures { result ≡ is_cut value.now lengths.now }
+    ensures { result ≡ is_cut_by value.now lengths.now }
 {
     if value.len() == lengths.len() && are_single(lengths, value.as_bytes()) {
         return true;
@@ -39,8 +39,7 @@ pub(crate) fn is_cut_by(value: &str, lengths: &[u16]) -> bool
 
 /// Whether the numbers strictly rise and are below the count.
 pub(crate) fn rise_below(numbers: &[u16], count: usize) -> bool
-    ensures { result ≡ (list_all (λ p. nat_lt p.0 p.1) (neighbours numbers.now)
-        && list_all (λ k. nat_lt k count) numbers.now) }
+    ensures { result ≡ rise_below numbers.now count }
 {
     let mut least = 0usize;
     for number in numbers {
@@ -51,4 +50,14 @@ pub(crate) fn rise_below(numbers: &[u16], count: usize) -> bool
         least = number + 1;
     }
     true
+}
+
+/// Whether a list, if there is one, has so many numbers.
+pub(crate) fn has_count(list: Option<&[i32]>, count: usize) -> bool
+    ensures { result ≡ has_count (option_copied list.entry) count }
+{
+    match list {
+        Some(list) => list.len() == count,
+        None => true,
+    }
 }

@@ -3,7 +3,7 @@ use Rattle.std.proofs.Common.{◌≡◌, ℕ, ◌+◌, ◌<◌, ◌≤◌, Bool,
 use Rattle.std.specs.Prelude.{◌&&◌, nat_lt, nat_le}
 use Rattle.std.specs.List.{list_all}
 use Rattle.std.proofs.lemmas.Bool.{ltb-true, ltb-false, leb-true, le-leb}
-use Rattle.model.specs.TextRuns.{neighbours}
+use Rattle.schema.specs.RunFits.{neighbours}
 
 abbrev pub rises : ℕ → List ℕ → Bool
 rises count ks = list_all (λ (p : ℕ × ℕ). nat_lt p.0 p.1) (neighbours ks) && list_all (λ k. nat_lt k count) ks

@@ -3,10 +3,9 @@ use Rattle.std.proofs.Common.{◌≡◌, ℕ, zero, suc, ◌+◌, ◌<◌, Bool,
 use Rattle.std.specs.Prelude.{◌==◌, ◌&&◌, nat_lt, nat_le}
 use Rattle.std.specs.List.{list_all}
 use Rattle.std.specs.Str.{is_utf8, IsUtf8, IsAscii, IsCharBoundary}
-use Rattle.std.proofs.lemmas.Bool.{lt-ltb, ltb-true, leb-true, le-leb, eqb-true}
+use Rattle.std.proofs.lemmas.Bool.{and_parts, lt-ltb, ltb-true, leb-true, le-leb, eqb-true}
 use Rattle.std.proofs.lemmas.Str.{IsUtf8-from_is_utf8, IsUtf8-from_ascii, is_utf8-from_IsUtf8, IsUtf8-take, IsCharBoundary-from_take}
-use Rattle.model.specs.TextRuns.{is_cut_by}
-use Rattle.model.proofs.Text.TextFacts.{both}
+use Rattle.schema.specs.RunFits.{is_cut_by}
 
 abbrev cut_first : List ℕ → ℕ → List ℕ → Bool
 cut_first bs n ns = nat_lt 0 n && (nat_le n (length bs) && (is_utf8 (take n bs) && is_cut_by (drop n bs) ns))
@@ -53,8 +52,8 @@ ones_cut [] [] size ones ascii = refl
 ones_cut [] (n ∷ ns) size ones ascii = absurd (let no : 0 ≡ length (n ∷ ns) = size in omega (arith, no))
 ones_cut (b ∷ bs) [] size ones ascii = absurd (let no : length (b ∷ bs) ≡ 0 = size in omega (arith, no))
 ones_cut (b ∷ bs) (n ∷ ns) size ones ascii =
-    let one = both (n == 1) (list_all (λ k. k == 1) ns) ones in
-    let small = both (nat_lt b 128) (list_all (λ k. nat_lt k 128) bs) ascii in
+    let one = and_parts (n == 1) (list_all (λ k. k == 1) ns) ones in
+    let small = and_parts (nat_lt b 128) (list_all (λ k. nat_lt k 128) bs) ascii in
     let rest : is_cut_by bs ns ≡ true = ones_cut bs ns (let e : length (b ∷ bs) ≡ length (n ∷ ns) = size in omega (arith, e)) one.1 small.1 in
     ap (λ k. cut_first (b ∷ bs) k ns) (eqb-true n 1 one.0)
     ∙ ap (λ c. c && (is_utf8 (b ∷ []) && is_cut_by bs ns)) (le-leb 1 (length (b ∷ bs)) (omega arith))

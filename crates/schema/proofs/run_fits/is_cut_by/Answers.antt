@@ -3,13 +3,13 @@ use Rattle.std.specs.Prelude.{◌==◌, nat_lt}
 use Rattle.std.specs.List.{list_all}
 use Rattle.std.specs.Str.{IsCharBoundary}
 use Rattle.std.proofs.lemmas.Str.{IsUtf8-drop}
-use Rattle.model.proofs.Text.TextFacts.{both}
-use Rattle.views.proofs.CutTexts.{one_cut, no_cut, ones_cut}
-use Rattle.views.proofs.runs.parts.is_cut_by.Goals as goal
+use Rattle.std.proofs.lemmas.Bool.{and_parts}
+use Rattle.schema.proofs.CutTexts.{one_cut, no_cut, ones_cut}
+use Rattle.schema.proofs.run_fits.is_cut_by.Goals as goal
 
 pub returns-then-are_single : goal.returns-then-are_single
 returns-then-are_single c =
-    let single = both (list_all (λ n. n == 1) c.args.lengths.now) (list_all (λ b. nat_lt b 128) c.as_bytes.result.now) (sym c.are_single.ensures ∙ c.if-are_single.true) in
+    let single = and_parts (list_all (λ n. n == 1) c.args.lengths.now) (list_all (λ b. nat_lt b 128) c.as_bytes.result.now) (sym c.are_single.ensures ∙ c.if-are_single.true) in
     sym (ones_cut c.args.value.now c.args.lengths.now c.if-value-lengths.true single.0 (sym (ap (list_all (λ b. nat_lt b 128)) c.as_bytes.ensures.value) ∙ single.1))
 
 pub split_at_checked-requires-text-self : goal.split_at_checked-requires-text-self
