@@ -129,7 +129,8 @@ impl Node {
         ensures err { OnErr result (self.new ≡ self.old) }
     {
         let copy = Vec::from_slice(self.alloc, positions)?;
-        self.run.set_list(self.alloc, RunList::Positions(Some(copy)))
+        self.run
+            .set_list(self.alloc, RunList::Positions(Some(copy)))
     }
 
     /// Clears [`Node::character_positions`].
