@@ -15,6 +15,7 @@ use Rattle.model.specs.Surgery.{Left, Entered, HasEntered, IsGraftedByNamed, Gon
 use Rattle.tree_changes.specs.declared.look_ups.TreeRecord.{TreeRecord}
 use Rattle.tree_changes.specs.LookUps.{IsPlaceOf, tree_named}
 use Rattle.tree_plan.specs.declared.passes.Opened.{Opened}
+use Rattle.tree_plan.specs.declared.passes.Opening.{Opening}
 use Rattle.tree_plan.specs.declared.passes.Arrival.{Arrival}
 use Rattle.tree_plan.specs.declared.passes.Named.{Named}
 use Rattle.tree_plan.specs.declared.passes.Compared.{Compared}
@@ -40,6 +41,10 @@ pub record IsOfName (w : World) (name : TreeId) (t : TreeRecord) : Type 0 where
   pub graft : (g : FullNodeId) → (t.graft ≡ Some g) ↔ (graft_name w g ≡ Some name)
   pub root : t.root ≡ option_map (λ t. t.root) (tree_named w name)
   pub focus : t.focus ≡ option_map (λ t. t.focus) (tree_named w name)
+
+-- the named tree, from its old record and its index and root afterwards
+abbrev pub opened_as : TreeRecord → Opening → Opened
+opened_as t o = record { «record» = t; index = o.index; root = o.root; is_first = o.is_first }
 
 -- pass 0: the named tree
 pub record HoldsOpened (w : World) (u : UpdateData) (o : Opened) : Type 0 where

@@ -8,7 +8,7 @@ ghost use Rattle.tree_changes.specs.LookUps.{IsRaisedAtLeast, IsRaisedUpTo};
 ghost use Rattle.tree_changes.specs.Changes.{overlaid_world};
 ghost use Rattle.tree_changes.specs.Decisions.{IsDecision, IsWithinWork};
 ghost use Rattle.tree_changes.specs.Refusals.{IsRefusal};
-ghost use Rattle.tree_plan.specs.Passes.{HoldsOpened, HoldsRemoved};
+ghost use Rattle.tree_plan.specs.Passes.{HoldsOpened, HoldsRemoved, opened_as};
 ghost use Rattle.tree_plan.specs.Cases.{IsCase, sent};
 ghost use Rattle.tree_plan.specs.Deciding.{AreFindings, HasBegun, IsCount, IsRemovedCount};
 ghost use Rattle.tree_plan.specs.Verdicts.{Transition};
@@ -18,8 +18,8 @@ use crate::climbing::climb_all;
 use crate::comparing::compare;
 use crate::focusing::find_focus;
 use crate::news::decide_news;
-use crate::opening::open_tree;
-use crate::passes::{Case, Opened, Removed};
+use crate::opening::{old_record, open_tree};
+use crate::passes::{Case, Opened, Opening, Removed};
 use crate::refusing::refuse_misplaced;
 use crate::regrafting::regraft;
 use crate::removing::remove;
@@ -28,7 +28,7 @@ use crate::verdicts::Found;
 use crate::writing::{told_root, write};
 use schema::TreeUpdate;
 use std::alloc::Global;
-use tree_changes::{Decision, LookUps, UpdateError};
+use tree_changes::{Decision, LookUps, TreeRecord, UpdateError};
 
 /// What goes, where each node is listed once, no listed node goes, and each of the update's nodes that got a child is reached.
 fn find_removed<L: LookUps>(look_ups: &mut L, case: &Case<'_>) -> Result<Removed, UpdateError>
@@ -62,7 +62,7 @@ fn find<L: LookUps>(
     ensures count { IfOk result (λ f.
         IsCount (L.world look_ups.old) (update_data update.now) f (L.asked look_ups.old) (L.asked look_ups.new)) }
 {
-    let told = told_root(&opened, update);
+    let told = told_root(opened.index, update);
     let compared = compare(alloc, look_ups, update, &opened)?;
     let case = Case {
         alloc,
@@ -123,11 +123,12 @@ fn decide_by_passes<L: LookUps>(
     alloc: Global,
     look_ups: &mut L,
     update: &TreeUpdate,
-    opened: Opened,
+    looked_up: &TreeRecord,
+    opening: &Opening,
     before: u128,
 ) -> Result<Decision, UpdateError>
     requires old { IsOld (L.world look_ups.old) }
-    requires opening { HoldsOpened (L.world look_ups.old) (update_data update.now) opened }
+    requires opening { HoldsOpened (L.world look_ups.old) (update_data update.now) (opened_as looked_up.now opening.now) }
     requires begun { HasBegun (L.world look_ups.old) (update_data update.now) before (L.asked look_ups.old) }
     ensures world { L.world look_ups.new ≡ L.world look_ups.old }
     ensures err { IfErr result (λ e. IsRefusal (L.world look_ups.old) (update_data update.now) e) }
@@ -138,6 +139,12 @@ fn decide_by_passes<L: LookUps>(
     ensures named { OnOk result
         (IsRaisedAtLeast (L.asked look_ups.old) (length update.now.nodes.items) (L.asked look_ups.new)) }
 {
+    let opened = Opened {
+        record: *looked_up,
+        index: opening.index,
+        root: opening.root,
+        is_first: opening.is_first,
+    };
     let findings = find(alloc, look_ups, update, opened)?;
     conclude(alloc, look_ups, update, findings, before)
 }
@@ -164,9 +171,10 @@ pub fn decide<L: LookUps>(
         (IsRaisedAtLeast (L.asked look_ups.old) (length update.now.nodes.items) (L.asked look_ups.new)) }
 {
     let before = look_ups.count();
-    let opened = open_tree(look_ups, update)?;
-    if let Some(decision) = decide_news(alloc, look_ups, update, &opened, before)? {
+    let looked_up = old_record(look_ups, update);
+    let opening = open_tree(look_ups, update, &looked_up)?;
+    if let Some(decision) = decide_news(alloc, look_ups, update, &looked_up, &opening, before)? {
         return Ok(decision);
     }
-    decide_by_passes(alloc, look_ups, update, opened, before)
+    decide_by_passes(alloc, look_ups, update, &looked_up, &opening, before)
 }

@@ -15,7 +15,7 @@ ghost use Rattle.tree_plan.specs.Passes.{HoldsRemoved, IsFocusing, IsOfName};
 ghost use Rattle.tree_plan.specs.Cases.{IsCase, sent};
 ghost use Rattle.tree_plan.specs.Aims.{IsAimOf, IsAimIn, IsEnd, Answers, AnswersHost, FindsAim, EndsWell, IsStaying};
 
-use crate::opening::is_root_tree;
+use crate::opening::has_first_index;
 use crate::passes::{Case, Compared, Focused, Opened, Removed};
 use crate::records::tree_record;
 use model::FullNodeId;
@@ -94,17 +94,17 @@ fn end_before<L: LookUps>(look_ups: &mut L) -> End
 }
 
 /// The effective focus before the update, given the record of the update's tree, which mostly is the root tree.
-pub(crate) fn end_opened<L: LookUps>(look_ups: &mut L, opened: &Opened) -> End
+pub(crate) fn end_opened<L: LookUps>(look_ups: &mut L, looked_up: &TreeRecord) -> End
     requires old { IsOld (L.world look_ups.old) }
     requires present { IsSome (get (L.world look_ups.old).trees 0) }
-    requires record { IsOfName (L.world look_ups.old) opened.now.record.id opened.now.record }
+    requires record { IsOfName (L.world look_ups.old) looked_up.now.id looked_up.now }
     ensures looks { LooksUpTo L.world L.asked look_ups.old (2 * length (L.world look_ups.old).known) look_ups.new }
     ensures end { IsEnd (L.world look_ups.old) result }
 {
-    if !is_root_tree(&opened.record.id) {
+    if !has_first_index(looked_up) {
         return end_before(look_ups);
     }
-    let Some(first) = declared_in(&opened.record) else {
+    let Some(first) = declared_in(looked_up) else {
         return end_before(look_ups);
     };
     end_from(look_ups, first)

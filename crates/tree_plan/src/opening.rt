@@ -8,9 +8,9 @@ ghost use Rattle.model.specs.Update.{IsFirst};
 ghost use Rattle.tree_changes.specs.declared.error.UpdateError.TheVariants.{MissingTreeInfo, NotRootTree, NoFirstTreeInfo, IndexesUsedUp};
 ghost use Rattle.tree_changes.specs.Refusals.{IsRefusal};
 ghost use Rattle.tree_plan.specs.Looks.{LooksUpTo};
-ghost use Rattle.tree_plan.specs.Passes.{HoldsOpened};
+ghost use Rattle.tree_plan.specs.Passes.{HoldsOpened, IsOfName, opened_as};
 
-use crate::passes::Opened;
+use crate::passes::Opening;
 use crate::records::{no_record, tree_record};
 use schema::{NodeId, TreeId, TreeInfo, TreeUpdate};
 use tree_changes::{LookUps, TreeRecord, UpdateError};
@@ -71,46 +71,67 @@ fn first_root(update: &TreeUpdate) -> Result<NodeId, UpdateError>
     Err(UpdateError::NotRootTree)
 }
 
-/// Checks that a later update is for the root tree or for one that a node grafts.
-fn open_later<L: LookUps>(look_ups: &mut L, update: &TreeUpdate) -> Result<Opened, UpdateError>
-    requires { ¬ (IsFirst (L.world look_ups.old)) }
-    ensures looks { LooksUpTo L.world L.asked look_ups.old 1 look_ups.new }
-    ensures ok { IfOk result (λ o. HoldsOpened (L.world look_ups.old) (update_data update.now) o) }
-    ensures err { IfErr result (λ e. IsRefusal (L.world look_ups.old) (update_data update.now) e) }
+/// Whether this is the record of the root tree, which has the first index.
+pub(crate) fn has_first_index(looked_up: &TreeRecord) -> bool
+    ensures { IsTrue result ↔ (looked_up.now.index ≡ Some 0) }
+{
+    looked_up.index == Some(0)
+}
+
+/// Checks that a later update is for the root tree or for one that a node grafts, given the old record of its tree.
+fn open_later<L: LookUps>(
+    look_ups: &L,
+    update: &TreeUpdate,
+    looked_up: &TreeRecord,
+) -> Result<Opening, UpdateError>
+    requires later { ¬ (IsFirst (L.world look_ups.now)) }
+    requires found { IsOfName (L.world look_ups.now) update.now.tree_id looked_up.now }
+    ensures ok { IfOk result (λ o. HoldsOpened (L.world look_ups.now) (update_data update.now) (opened_as looked_up.now o)) }
+    ensures err { IfErr result (λ e. IsRefusal (L.world look_ups.now) (update_data update.now) e) }
 {
     let known = look_ups.known_trees();
-    let found = tree_record(look_ups, &update.tree_id);
-    if !is_root_tree(&update.tree_id) {
-        if found.graft.is_none() {
+    if looked_up.graft.is_none() {
+        if !has_first_index(looked_up) {
             return Err(UpdateError::NoGraft(update.tree_id));
         }
     }
-    let root = root_after(&update.tree, &found)?;
-    let index = index_after(&found, known)?;
-    Ok(Opened {
-        record: found,
+    let root = root_after(&update.tree, looked_up)?;
+    let index = index_after(looked_up, known)?;
+    Ok(Opening {
         index,
         root,
         is_first: false,
     })
 }
 
-/// Looks up the update's tree.
-pub(crate) fn open_tree<L: LookUps>(
-    look_ups: &mut L,
-    update: &TreeUpdate,
-) -> Result<Opened, UpdateError>
+/// The old record of the update's tree, or an empty one if there isn't one.
+#[inline(never)]
+pub(crate) fn old_record<L: LookUps>(look_ups: &mut L, update: &TreeUpdate) -> TreeRecord
     ensures looks { LooksUpTo L.world L.asked look_ups.old 1 look_ups.new }
-    ensures old { IsOld (L.world look_ups.old) }
-    ensures ok { IfOk result (λ o. HoldsOpened (L.world look_ups.old) (update_data update.now) o) }
-    ensures err { IfErr result (λ e. IsRefusal (L.world look_ups.old) (update_data update.now) e) }
+    ensures record { IsOfName (L.world look_ups.old) update.now.tree_id result }
 {
     if look_ups.known_trees() > 0 {
-        return open_later(look_ups, update);
+        return tree_record(look_ups, &update.tree_id);
+    }
+    no_record(update.tree_id)
+}
+
+/// What becomes of the update's tree, given its old record.
+pub(crate) fn open_tree<L: LookUps>(
+    look_ups: &L,
+    update: &TreeUpdate,
+    looked_up: &TreeRecord,
+) -> Result<Opening, UpdateError>
+    requires found { IsOfName (L.world look_ups.now) update.now.tree_id looked_up.now }
+    ensures old { IsOld (L.world look_ups.now) }
+    ensures ok { IfOk result (λ o. HoldsOpened (L.world look_ups.now) (update_data update.now) (opened_as looked_up.now o)) }
+    ensures err { IfErr result (λ e. IsRefusal (L.world look_ups.now) (update_data update.now) e) }
+{
+    if look_ups.known_trees() > 0 {
+        return open_later(look_ups, update, looked_up);
     }
     let root = first_root(update)?;
-    Ok(Opened {
-        record: no_record(update.tree_id),
+    Ok(Opening {
         index: 0,
         root,
         is_first: true,

@@ -15,6 +15,14 @@ pub(crate) struct Opened {
     pub(crate) is_first: bool,
 }
 
+/// What an update does with its tree: its index and root afterwards.
+#[derive(Clone, Copy)]
+pub(crate) struct Opening {
+    pub(crate) index: u32,
+    pub(crate) root: NodeId,
+    pub(crate) is_first: bool,
+}
+
 /// A node of the update: its entry in the update's nodes, its old place if it is an old node, and whether its data
 /// differs from before.
 #[derive(Clone, Copy)]

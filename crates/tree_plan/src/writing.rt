@@ -180,7 +180,7 @@ fn told_events(
 }
 
 /// The record of the named tree afterwards.
-pub(crate) fn own_record(opened: &Opened, update: &TreeUpdate) -> TreeRecord
+fn own_record(opened: &Opened, update: &TreeUpdate) -> TreeRecord
     ensures { result ≡ own_record update.now.tree_id update.now.focus opened.now }
 {
     TreeRecord {
@@ -193,7 +193,7 @@ pub(crate) fn own_record(opened: &Opened, update: &TreeUpdate) -> TreeRecord
 }
 
 /// Whether two records are equal.
-pub(crate) fn is_same_record(a: &TreeRecord, b: &TreeRecord) -> bool
+fn is_same_record(a: &TreeRecord, b: &TreeRecord) -> bool
     ensures { IsTrue result ↔ (a.now ≡ b.now) }
 {
     a.index == b.index
@@ -222,15 +222,15 @@ fn tree_changes(
 }
 
 /// The root that is reported even if it is unchanged: the one in the tree info of another tree than the root tree.
-pub(crate) fn told_root(opened: &Opened, update: &TreeUpdate) -> Option<FullNodeId>
-    ensures { result ≡ told_root opened.now.index (update_data update.now).info }
+pub(crate) fn told_root(index: u32, update: &TreeUpdate) -> Option<FullNodeId>
+    ensures { result ≡ told_root index (update_data update.now).info }
 {
     let info = update.tree.as_ref()?;
-    if opened.index == 0 {
+    if index == 0 {
         return None;
     }
     Some(FullNodeId {
-        tree: opened.index,
+        tree: index,
         node: info.root,
     })
 }
