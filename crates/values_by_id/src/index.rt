@@ -1,5 +1,5 @@
 //! Values by id.
-ghost use Rattle.std.specs.Prelude.{◌≡◌, ◌<◌, ◌+◌, ◌^◌, [], length, cond, option_copied, is_some, Some, None, OnOk, OnErr, IfOk};
+ghost use Rattle.std.specs.Prelude.{◌≡◌, ◌<◌, ◌+◌, ◌^◌, [], length, cond, option_copied, Some, None, OnOk, OnErr, IfOk};
 ghost use Rattle.std.specs.Option.{option_copied_mut};
 ghost use Rattle.std.specs.Map.{keys_of};
 ghost use Rattle.model.specs.declared.FullNodeId.{FullNodeId};
@@ -75,13 +75,6 @@ impl<V: Drop> IdIndex<V> {
             Some(value) => Some(value),
             None => self.others.get(*id),
         }
-    }
-
-    /// Whether an id has a value.
-    pub fn contains_key(&self, id: &FullNodeId) -> bool
-        ensures { result ≡ is_some (value_at self.now id.now) }
-    {
-        self.get(id).is_some()
     }
 
     /// The value at an id, as a mutable reference.
