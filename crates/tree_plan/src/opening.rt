@@ -105,7 +105,6 @@ fn open_later<L: LookUps>(
 }
 
 /// The old record of the update's tree, or an empty one if there isn't one.
-#[inline(never)]
 pub(crate) fn old_record<L: LookUps>(look_ups: &mut L, update: &TreeUpdate) -> TreeRecord
     ensures looks { LooksUpTo L.world L.asked look_ups.old 1 look_ups.new }
     ensures record { IsOfName (L.world look_ups.old) update.now.tree_id result }

@@ -1,5 +1,4 @@
 use Rattle.std.proofs.Common.{◌≡◌, ◌∙◌, length, sym, subst, arith}
-use Rattle.schema.specs.UpdateData.{update_data}
 use Rattle.model.specs.World.{World}
 use Rattle.model.specs.Update.{IsFirst}
 use Rattle.tree_changes.specs.declared.look_ups.TreeRecord.{TreeRecord}
