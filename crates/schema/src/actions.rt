@@ -1,6 +1,7 @@
 //! Actions, and the sets of them that a node has.
 
-ghost use Rattle.std.specs.Prelude.{◌≡◌, ℕ, ◌<◌, ◌^◌, IsTrue, ◌↔◌, bit_or};
+ghost use Rattle.std.specs.Prelude.{◌≡◌, ◌==◌, ℕ, ◌<◌, ◌^◌, IsTrue, ◌↔◌, bit_or};
+ghost use Rattle.std.specs.Int.{bit_at};
 ghost use Rattle.schema.specs.Actions.{action_number, has_action, with_action, Gains};
 
 use crate::Node;
@@ -37,11 +38,70 @@ impl Action {
     }
 }
 
+/// How many numbers a half of a word has.
+const HALF: u128 = 1 << 64;
+
+/// A word of 128 bits, in two halves, so that a node is aligned to 64 bits.
+#[derive(Drop)]
+struct Word {
+    low: u64,
+    high: u64,
+}
+
+impl Model for Word {
+    ghost use Rattle.std.specs.Prelude.{ℕ, ◌+◌, ◌*◌, ◌^◌};
+
+    ghost Value = { ℕ };
+
+    ghost view = { λ a. a.high * 2 ^ 64 + a.low };
+}
+
+impl Word {
+    /// The word of these bits.
+    #[inline(always)]
+    fn new(bits: u128) -> Word
+        ensures { result ≡ bits }
+    {
+        Word {
+            low: (bits % HALF) as u64,
+            high: (bits / HALF) as u64,
+        }
+    }
+
+    /// Its bits.
+    #[inline(always)]
+    fn bits(&self) -> u128
+        ensures value { result ≡ self.now }
+        ensures fits { result < 2 ^ 128 }
+    {
+        u128::from(self.high) * HALF + u128::from(self.low)
+    }
+
+    /// Whether a bit is set.
+    #[inline(always)]
+    fn has(&self, place: u16) -> bool
+        requires { place < 128 }
+        ensures { result ≡ (bit_at self.now place == 1) }
+    {
+        (self.bits() >> place) & 1 == 1
+    }
+
+    /// The word with one more bit set.
+    #[inline(always)]
+    fn with(&self, place: u16) -> Word
+        requires { place < 128 }
+        ensures value { result ≡ bit_or self.now (2 ^ place) }
+        ensures fits { result < 2 ^ 128 }
+    {
+        Word::new(self.bits() | (1 << place))
+    }
+}
+
 /// A set of actions, a bit each: the first 128 in `low`, the next 128 in `high`, and the last four in `top`.
 #[derive(Drop)]
 pub(crate) struct ActionSet {
-    low: u128,
-    high: u128,
+    low: Word,
+    high: Word,
     top: u8,
 }
 
@@ -62,8 +122,8 @@ impl ActionSet {
         ensures { result ≡ 0 }
     {
         ActionSet {
-            low: 0,
-            high: 0,
+            low: Word::new(0),
+            high: Word::new(0),
             top: 0,
         }
     }
@@ -73,8 +133,8 @@ impl ActionSet {
         ensures { result ≡ self.now }
     {
         ActionSet {
-            low: self.low,
-            high: self.high,
+            low: Word::new(self.low.bits()),
+            high: Word::new(self.high.bits()),
             top: self.top,
         }
     }
@@ -85,10 +145,10 @@ impl ActionSet {
     {
         let number = action.number();
         if number < 128 {
-            return (self.low >> number) & 1 == 1;
+            return self.low.has(number);
         }
         if number < 256 {
-            return (self.high >> (number - 128)) & 1 == 1;
+            return self.high.has(number - 128);
         }
         (self.top >> (number - 256)) & 1 == 1
     }
@@ -99,9 +159,9 @@ impl ActionSet {
     {
         let number = action.number();
         if number < 128 {
-            self.low = with_bit(self.low, number);
+            self.low = self.low.with(number);
         } else if number < 256 {
-            self.high = with_bit(self.high, number - 128);
+            self.high = self.high.with(number - 128);
         } else {
             self.top = with_top_bit(self.top, number - 256);
         }
@@ -111,17 +171,10 @@ impl ActionSet {
     pub(crate) fn same(&self, other: &ActionSet) -> bool
         ensures { IsTrue result ↔ (self.now ≡ other.now) }
     {
-        self.low == other.low && self.high == other.high && self.top == other.top
+        self.low.bits() == other.low.bits()
+            && self.high.bits() == other.high.bits()
+            && self.top == other.top
     }
-}
-
-/// The bits with one more bit set.
-fn with_bit(bits: u128, place: u16) -> u128
-    requires { place < 128 }
-    ensures value { result ≡ bit_or bits (2 ^ place) }
-    ensures fits { result < 2 ^ 128 }
-{
-    bits | (1 << place)
 }
 
 /// The bits with one more bit set.

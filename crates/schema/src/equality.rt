@@ -167,7 +167,7 @@ impl Node {
     {
         self.actions.same(&other.actions)
             && self.child_actions.same(&other.child_actions)
-            && same_text_selection(self.plain.text_selection, other.plain.text_selection)
+            && same_text_selection(self.text_selection(), other.text_selection())
             && same_shorts(self.character_lengths(), other.character_lengths())
             && same_shorts(self.word_starts(), other.word_starts())
             && same_ints(self.character_positions(), other.character_positions())

@@ -264,7 +264,7 @@ impl Model for Node {
       transform = a.plain.transform;
       actions = a.actions;
       child_actions = a.child_actions;
-      text_selection = a.plain.text_selection;
+      text_selection = then_some a.plain.has_text_selection a.plain.text_selection;
       character_lengths = a.run.lists.lengths;
       word_starts = a.run.lists.starts;
       character_positions = a.run.lists.positions;

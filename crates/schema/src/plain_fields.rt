@@ -2,7 +2,8 @@
 
 use crate::{
     AriaCurrent, Color, HasPopup, Live, NodeId, Orientation, Rect, Role, SortDirection, TextAlign,
-    TextDecoration, TextDirection, TextSelection, Toggled, Translation, TreeId, VerticalOffset,
+    TextDecoration, TextDirection, TextPosition, TextSelection, Toggled, Translation, TreeId,
+    VerticalOffset,
 };
 
 /// The plain fields. Each eight-byte number has a flag beside it for whether it is set, since an `Option` would take
@@ -26,7 +27,7 @@ pub(crate) struct PlainFields {
     pub(crate) scroll_y: i64,
     pub(crate) scroll_y_min: i64,
     pub(crate) scroll_y_max: i64,
-    pub(crate) text_selection: Option<TextSelection>,
+    pub(crate) text_selection: TextSelection,
     pub(crate) bounds: Option<Rect>,
     pub(crate) transform: Option<Translation>,
     pub(crate) font_size: Option<u32>,
@@ -63,6 +64,7 @@ pub(crate) struct PlainFields {
     pub(crate) has_active_descendant: bool,
     pub(crate) has_previous_on_line: bool,
     pub(crate) has_next_on_line: bool,
+    pub(crate) has_text_selection: bool,
     pub(crate) has_level: bool,
     pub(crate) has_size_of_set: bool,
     pub(crate) has_position_in_set: bool,
@@ -99,7 +101,16 @@ impl PlainFields {
         scroll_y: 0,
         scroll_y_min: 0,
         scroll_y_max: 0,
-        text_selection: None,
+        text_selection: TextSelection {
+            anchor: TextPosition {
+                node: NodeId(0),
+                character_index: 0,
+            },
+            focus: TextPosition {
+                node: NodeId(0),
+                character_index: 0,
+            },
+        },
         bounds: None,
         transform: None,
         font_size: None,
@@ -136,6 +147,7 @@ impl PlainFields {
         has_active_descendant: false,
         has_previous_on_line: false,
         has_next_on_line: false,
+        has_text_selection: false,
         has_level: false,
         has_size_of_set: false,
         has_position_in_set: false,

@@ -15,21 +15,24 @@ impl Node {
     pub fn text_selection(&self) -> Option<TextSelection>
         ensures { result ≡ self.now.text_selection }
     {
-        self.plain.text_selection
+        self.plain
+            .has_text_selection
+            .then_some(self.plain.text_selection)
     }
 
     /// Sets [`Node::text_selection`].
     pub fn set_text_selection(&mut self, value: TextSelection)
         ensures { self.new ≡ record self.old { text_selection = Some value } }
     {
-        self.plain.text_selection = Some(value);
+        self.plain.text_selection = value;
+        self.plain.has_text_selection = true;
     }
 
     /// Clears [`Node::text_selection`].
     pub fn clear_text_selection(&mut self)
         ensures { self.new ≡ record self.old { text_selection = None } }
     {
-        self.plain.text_selection = None;
+        self.plain.has_text_selection = false;
     }
 
     /// The length of each character of a text run's value, in bytes.

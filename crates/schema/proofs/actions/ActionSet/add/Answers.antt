@@ -7,7 +7,7 @@ use Rattle.schema.proofs.actions.ActionSet.add.Goals as goal
 pub returns-then-number-lt128 : goal.returns-then-number-lt128
 returns-then-number-lt128 c =
     let low = c.self.inside.low in let high = c.self.inside.high in let top = c.self.inside.top in let n = c.number-number.result in
-    ap (λ w. (top * 2 ^ 128 + high) * 2 ^ 128 + w) c.with_bit-self-inside.ensures.value
+    ap (λ w. (top * 2 ^ 128 + high) * 2 ^ 128 + w) c.with-self-inside.ensures.value
     ∙ or_low 128 (top * 2 ^ 128 + high) low n c.if-number-lt128.true c.self.invariant.0
     ∙ ap (λ s. bit_or s (2 ^ n)) c.self.view_is ∙ ap (λ k. bit_or c.args.self.now (2 ^ k)) c.number-number.ensures.value
 
@@ -16,7 +16,7 @@ returns-then-number-lt256 c =
     let low = c.self.inside.low in let high = c.self.inside.high in let top = c.self.inside.top in let n = c.number-number.result in
     let inside : n - 128 < 128 = omega (arith, c.if-number-lt256.true) in
     let place : 128 + (n - 128) ≡ n = omega (arith, c.if-number-lt128.false) in
-    ap (λ w. (top * 2 ^ 128 + w) * 2 ^ 128 + low) c.with_bit-self-inside-then-number-lt256.ensures.value
+    ap (λ w. (top * 2 ^ 128 + w) * 2 ^ 128 + low) c.with-self-inside-then-number-lt256.ensures.value
     ∙ ap (λ w. w * 2 ^ 128 + low) (or_low 128 top high (n - 128) inside c.self.invariant.1)
     ∙ or_high 128 (top * 2 ^ 128 + high) low (n - 128) c.self.invariant.0
     ∙ ap (λ k. bit_or ((top * 2 ^ 128 + high) * 2 ^ 128 + low) (2 ^ k)) place
