@@ -3,10 +3,7 @@ use Rattle.std.proofs.Common.{◌≡◌, ℕ, ◌+◌, ◌<◌, ◌≤◌, Bool,
 use Rattle.std.specs.Prelude.{◌&&◌, nat_lt, nat_le}
 use Rattle.std.specs.List.{list_all}
 use Rattle.std.proofs.lemmas.Bool.{ltb-true, ltb-false, leb-true, le-leb}
-use Rattle.schema.specs.RunFits.{neighbours}
-
-abbrev pub rises : ℕ → List ℕ → Bool
-rises count ks = list_all (λ (p : ℕ × ℕ). nat_lt p.0 p.1) (neighbours ks) && list_all (λ k. nat_lt k count) ks
+use Rattle.schema.specs.RunFits.{neighbours, rise_below}
 
 -- each is at least this, or more than the one before it, and below the count
 abbrev pub rising_from : ℕ → ℕ → List ℕ → Bool
@@ -31,12 +28,12 @@ le_is_lt k j = go (nat_lt k j) refl
       | false ↦ λ t. t
     ] refl
 
-pub rising_is : (count : ℕ) (k : ℕ) (ks : List ℕ) → rises count (k ∷ ks) ≡ (nat_lt k count && rising_from (k + 1) count ks)
+pub rising_is : (count : ℕ) (k : ℕ) (ks : List ℕ) → rise_below (k ∷ ks) count ≡ (nat_lt k count && rising_from (k + 1) count ks)
 rising_is count k [] = refl
 rising_is count k (j ∷ ks) =
     and_moves (nat_lt k j) (list_all (λ (p : ℕ × ℕ). nat_lt p.0 p.1) (neighbours (j ∷ ks))) (nat_lt k count) (list_all (λ i. nat_lt i count) (j ∷ ks))
     ∙ ap (λ b. nat_lt k count && (nat_lt k j && b)) (rising_is count j ks) ∙ ap (λ b. nat_lt k count && (b && (nat_lt j count && rising_from (j + 1) count ks))) (sym (le_is_lt k j))
 
-pub rises_from_zero : (count : ℕ) (ks : List ℕ) → rises count ks ≡ rising_from 0 count ks
+pub rises_from_zero : (count : ℕ) (ks : List ℕ) → rise_below ks count ≡ rising_from 0 count ks
 rises_from_zero count [] = refl
 rises_from_zero count (k ∷ ks) = rising_is count k ks ∙ sym (ap (λ b. b && (nat_lt k count && rising_from (k + 1) count ks)) (le-leb 0 k (omega arith)))
