@@ -3,7 +3,7 @@ use Rattle.std.proofs.Common.{◌≡◌, ℕ, ◌<◌, ◌≤◌, Bool, true, fa
 use Rattle.std.specs.Prelude.{nat_lt, nat_le, if◌then◌else◌, sum_by, All}
 use Rattle.std.specs.Str.{chars, is_utf8}
 use Rattle.std.proofs.lemmas.List.{length-take-le}
-use Rattle.std.proofs.lemmas.Bool.{ltb-true, leb-true}
+use Rattle.std.proofs.lemmas.Bool.{and_parts, ltb-true, leb-true}
 use Rattle.std.proofs.lemmas.List.Elements.{All-append, All-cons}
 use Rattle.std.proofs.lemmas.List.Sums.{sum_by-cons}
 use Rattle.model.specs.declared.FullNodeId.{FullNodeId}
@@ -12,7 +12,6 @@ use Rattle.schema.specs.RunFits.{is_cut_by}
 use Rattle.model.specs.TextRuns.{SentRun, IsText, sent_runs, is_password, cut_by, run_value, are_cut}
 use Rattle.model.specs.FlatText.{BULLET, shown_character, needs_masking, shown_run, flat_text, characters}
 use Rattle.model.specs.Moves.{scalar_len, utf16_len}
-use Rattle.model.proofs.Text.TextFacts.{both}
 
 abbrev HasLength : List ℕ → Type 0
 HasLength c = (0 < scalar_len c) × (0 < utf16_len c)
@@ -50,9 +49,9 @@ of_shown false c h = h
 of_cut : (masked : Bool) (bs ns : List ℕ) → is_cut_by bs ns ≡ true → All HasLength (map (shown_character masked) (cut_by bs ns))
 of_cut masked bs [] e = λ k d h. absurd (omega arith)
 of_cut masked bs (n ∷ ns) e =
-    let a = both (nat_lt 0 n) _ e in
-    let b = both (nat_le n (length bs)) _ a.1 in
-    let c = both (is_utf8 (take n bs)) _ b.1 in
+    let a = and_parts (nat_lt 0 n) _ e in
+    let b = and_parts (nat_le n (length bs)) _ a.1 in
+    let c = and_parts (is_utf8 (take n bs)) _ b.1 in
     let low : 0 < n = ltb-true _ _ a.0 in
     let high : n ≤ length bs = leb-true _ _ b.0 in
     let len : length (take n bs) ≡ n = length-take-le n bs high in
@@ -62,7 +61,7 @@ module _ (w : World) (root : FullNodeId) (password masked : Bool) where
   of_runs : (runs : List SentRun) → are_cut runs ≡ true → All HasLength (characters (map (shown_run w root password masked) runs))
   of_runs [] e = λ k d h. absurd (omega arith)
   of_runs (r ∷ runs) e =
-      let c = both (is_cut_by (run_value r) r.node.character_lengths) _ e in
+      let c = and_parts (is_cut_by (run_value r) r.node.character_lengths) _ e in
       All-append HasLength (map (shown_character masked) (cut_by (run_value r) r.node.character_lengths)) (characters (map (shown_run w root password masked) runs)) (of_cut masked (run_value r) r.node.character_lengths c.0) (of_runs runs c.1)
 
 pub have_length : (w : World) (root : FullNodeId) → IsText w root → All HasLength (characters (flat_text w root))

@@ -3,7 +3,7 @@ use Rattle.std.proofs.Common.{◌≡◌, ℕ, suc, zero, ◌+◌, ◌-◌, ◌<�
 use Rattle.std.specs.Prelude.{is_some, ◌&&◌, ◌||◌, ◌==◌, nat_lt, if◌then◌else◌, sum_by, option_map, filter_map}
 use Rattle.std.specs.Option.{option_or}
 use Rattle.std.specs.List.{list_any, cons_option}
-use Rattle.std.proofs.lemmas.Bool.{ltb-true, eqb-true}
+use Rattle.std.proofs.lemmas.Bool.{and_parts, and_from, ltb-true, eqb-true}
 use Rattle.std.proofs.lemmas.List.Sums.{sum_by-cons}
 use Rattle.model.specs.declared.FullNodeId.{FullNodeId}
 use Rattle.model.specs.World.{World}
@@ -16,27 +16,23 @@ pub both : (a b : Bool) → (a && b) ≡ true → (a ≡ true) × (b ≡ true)
 both true b e = (refl, e)
 both false b e = cc
 
-together : (a b : Bool) → a ≡ true → b ≡ true → (a && b) ≡ true
-together true b e f = f
-together false b e f = e
-
 pub is_text : (w : World) (root : FullNodeId) → supports_text_ranges w root ≡ true → IsText w root
 unfolding supports_text_ranges
 is_text w root e =
     let runs = sent_runs w root in
-    let a = both (has_runs w root runs) _ e in
-    let b = both (lie_in_tree root.tree runs) _ a.1 in
-    let c = both (are_cut runs) _ b.1 in
-    let d = both (have_rising_words runs) _ c.1 in
-    let f = both (are_empty_last runs) _ d.1 in
-    let g = both (are_linked_in_order runs) _ f.1 in
-    let h = both (have_size runs) _ g.1 in
+    let a = and_parts (has_runs w root runs) _ e in
+    let b = and_parts (lie_in_tree root.tree runs) _ a.1 in
+    let c = and_parts (are_cut runs) _ b.1 in
+    let d = and_parts (have_rising_words runs) _ c.1 in
+    let f = and_parts (are_empty_last runs) _ d.1 in
+    let g = and_parts (are_linked_in_order runs) _ f.1 in
+    let h = and_parts (have_size runs) _ g.1 in
     record { runs = a.0; one_tree = b.0; cut = c.0; words = d.0; empty_last = f.0; links = g.0; size = h.0; metrics = h.1 }
 
 pub supports : (w : World) (root : FullNodeId) → IsText w root → supports_text_ranges w root ≡ true
 unfolding supports_text_ranges
 supports w root t =
-    together _ _ t.runs (together _ _ t.one_tree (together _ _ t.cut (together _ _ t.words (together _ _ t.empty_last (together _ _ t.links (together _ _ t.size t.metrics))))))
+    and_from _ _ t.runs (and_from _ _ t.one_tree (and_from _ _ t.cut (and_from _ _ t.words (and_from _ _ t.empty_last (and_from _ _ t.links (and_from _ _ t.size t.metrics))))))
 
 -- ---- values and labels
 
