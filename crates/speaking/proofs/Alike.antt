@@ -3,6 +3,7 @@ use Rattle.std.proofs.Common.{◌≡◌, ◌≢◌, ℕ, ◌⊎◌, inl, inr, Bo
 use Rattle.std.specs.Option.{option_map_or, option_or}
 use Rattle.std.specs.List.{list_any}
 use Rattle.std.proofs.lemmas.Option.{same_Some}
+use Rattle.std.proofs.lemmas.Bool.{and_parts}
 use Rattle.schema.specs.NodeData.{NodeData}
 use Rattle.schema.specs.Roles.{same_role}
 use Rattle.schema.specs.declared.Role.TheVariants.{TextRun}
@@ -52,7 +53,7 @@ use Rattle.speaking.specs.News.{Notes}
 use Rattle.speaking.specs.NodeTexts.{number_said, value_said, placeholder_said, description_said, shown, instead, state_said, listed_answer, place_from, place_said, is_edited, is_said_by_line, ShowsFocus}
 use Rattle.speaking.proofs.HeadersAlike.{column_is, row_is}
 use Rattle.speaking.proofs.LinesAlike.{caret_is}
-use Rattle.speaking.proofs.Plain.{both_true, not_true, left_false, right_false, plain_node}
+use Rattle.speaking.proofs.Plain.{not_true, left_false, right_false, plain_node}
 use Rattle.speaking.proofs.Same.{same, one_of, there}
 
 -- ---- the focus of worlds of one outline
@@ -123,8 +124,8 @@ module _ (p : FullNodeId) (w v : World) (alike : AreAlike p w v) where
     -- one that is edited isn't hidden
     open_text : is_edited w id d ≡ true → hides_text w id ≡ false
     open_text is =
-        let first = both_true (is_text_input d.role) (is_none d.numeric_value && not (hides_text w id)) is in
-        not_true (hides_text w id) (both_true (is_none d.numeric_value) (not (hides_text w id)) first.1).1
+        let first = and_parts (is_text_input d.role) (is_none d.numeric_value && not (hides_text w id)) is in
+        not_true (hides_text w id) (and_parts (is_none d.numeric_value) (not (hides_text w id)) first.1).1
 
     by_line : (b : Bool) → is_edited w id d ≡ b → is_said_by_line w id d ≡ is_said_by_line v id e
     by_line false e' =
@@ -197,10 +198,10 @@ module _ (p : FullNodeId) (w v : World) (alike : AreAlike p w v) where
 
   own_is : (id : FullNodeId) (d e : NodeData) → HasData w id d → HasData v id e → is_told (above_of w id) d ≡ true → own_text (above_of w id) d ≡ own_text (above_of v id) e
   own_is id d e h k is =
-      let first = both_true (is_live (live w id)) (not (is_text_input d.role) && (not (is_hidden w id) && (not (says_upward (λ x. x.busy) w id) && not (is_in_password w id)))) is in
-      let second = both_true (not (is_text_input d.role)) (not (is_hidden w id) && (not (says_upward (λ x. x.busy) w id) && not (is_in_password w id))) first.1 in
-      let third = both_true (not (is_hidden w id)) (not (says_upward (λ x. x.busy) w id) && not (is_in_password w id)) second.1 in
-      let fourth = both_true (not (says_upward (λ x. x.busy) w id)) (not (is_in_password w id)) third.1 in
+      let first = and_parts (is_live (live w id)) (not (is_text_input d.role) && (not (is_hidden w id) && (not (says_upward (λ x. x.busy) w id) && not (is_in_password w id)))) is in
+      let second = and_parts (not (is_text_input d.role)) (not (is_hidden w id) && (not (says_upward (λ x. x.busy) w id) && not (is_in_password w id))) first.1 in
+      let third = and_parts (not (is_hidden w id)) (not (says_upward (λ x. x.busy) w id) && not (is_in_password w id)) second.1 in
+      let fourth = and_parts (not (says_upward (λ x. x.busy) w id)) (not (is_in_password w id)) third.1 in
       let out : is_in_password w id ≡ false = not_true (is_in_password w id) fourth.1 in
       let plain : is_password w id ≡ false = plain_node w id d h (not_true (is_text_input d.role) second.0) in
       let facts : data_of w id ≡ data_of v id = data_one p w v alike.formed typed id (is_other p w v alike.formed typed id plain) out in

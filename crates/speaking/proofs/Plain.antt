@@ -9,10 +9,6 @@ use Rattle.model.specs.RoleClasses.{is_password_input, is_text_input}
 use Rattle.model.specs.TextRuns.{is_password}
 use Rattle.model.specs.World.{World, HasData}
 
-pub both_true : (a b : Bool) → (a && b) ≡ true → (a ≡ true) × (b ≡ true)
-both_true true b e = (refl, e)
-both_true false b e = absurd (let clash : false ≡ true = e in cc)
-
 pub and_false : (a b : Bool) → (a && b) ≡ false → a ≡ true → b ≡ false
 and_false true b e h = e
 and_false false b e h = cc

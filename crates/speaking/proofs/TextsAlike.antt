@@ -1,6 +1,7 @@
 -- In two worlds that differ in what is typed into a password alone, the same is said at the end of a step.
 use Rattle.std.proofs.Common.{◌≡◌, ℕ, true, false, not, ◌&&◌, Option, Some, None, is_none, ap, sym, subst, ◌∙◌}
 use Rattle.std.specs.String.{string_bytes}
+use Rattle.std.proofs.lemmas.Bool.{and_parts}
 use Rattle.schema.specs.NodeData.{NodeData}
 use Rattle.model.specs.declared.FullNodeId.{FullNodeId}
 use Rattle.model.specs.RoleClasses.{is_text_input}
@@ -14,7 +15,7 @@ use Rattle.speaking.specs.Laws.{AreAlike, SettlesAlike}
 use Rattle.speaking.specs.NodeTexts.{is_edited}
 use Rattle.speaking.proofs.Alike.{edited_is}
 use Rattle.speaking.proofs.LinesAlike.{secrets_one, many_is, line_is, edited_text_is, caret_is, caret_place_is, within_is, selected_is}
-use Rattle.speaking.proofs.Plain.{both_true, not_true}
+use Rattle.speaking.proofs.Plain.{not_true}
 use Rattle.speaking.proofs.RegionsAlike.{news_one}
 use Rattle.speaking.proofs.Same.{there, back}
 
@@ -71,8 +72,8 @@ module _ (p : FullNodeId) (w v : World) (alike : AreAlike p w v) where
 
   is_shown : (id : FullNodeId) (d : NodeData) → is_edited w id d ≡ true → hides_text w id ≡ false
   is_shown id d e =
-      let first = both_true (is_text_input d.role) (is_none d.numeric_value && not (hides_text w id)) e in
-      not_true (hides_text w id) (both_true (is_none d.numeric_value) (not (hides_text w id)) first.1).1
+      let first = and_parts (is_text_input d.role) (is_none d.numeric_value && not (hides_text w id)) e in
+      not_true (hides_text w id) (and_parts (is_none d.numeric_value) (not (hides_text w id)) first.1).1
 
   says_of : (focus node : Option FullNodeId) (held now : Option FocusedText) (x y : Speech) → IsEdited w focus node → SaysOf w node held now x y → SaysOf v node held now x y
   says_of focus None held now x y edited h = h

@@ -2,7 +2,7 @@
 use Rattle.std.proofs.Common.{◌≡◌, ◌<◌, ℕ, zero, suc, Bool, true, false, List, [], ◌∷◌, Some, refl, sym, ap, subst, ◌∙◌, arith}
 use Rattle.std.specs.Prelude.{◌==◌, ◌↔◌, Option, None, slice_get, option_map, if◌then◌else◌}
 use Rattle.std.specs.List.{list_all}
-use Rattle.std.proofs.lemmas.Bool.{eqb-true}
+use Rattle.std.proofs.lemmas.Bool.{and_parts, eqb-true}
 use Rattle.std.proofs.lemmas.Option.{same_Some}
 use Rattle.schema.specs.declared.values.TextPosition.{TextPosition as Raw}
 use Rattle.model.specs.declared.FullNodeId.{FullNodeId}
@@ -12,7 +12,7 @@ use Rattle.model.specs.FlatText.{ShownRun, Position, count_in}
 use Rattle.model.specs.Ranges.{Range, range_between, IsRaw, run_named, position_named}
 use Rattle.model.proofs.Forest.PlaceOf.{same_from_test, test_self}
 use Rattle.model.proofs.Text.Indexes.{eq_same}
-use Rattle.model.proofs.Text.TextFacts.{both, is_text}
+use Rattle.model.proofs.Text.TextFacts.{is_text}
 use Rattle.model.proofs.Worlds.Names.{position_none, position_gives}
 use Rattle.views.specs.declared.node.node_ref.NodeRef.{NodeRef}
 use Rattle.views.specs.declared.runs.Run.{Run}
@@ -32,8 +32,8 @@ use Rattle.texts.proofs.RunOrder.{number_of_one}
 
 listed_passes : {X : Type 0} (test : X → Bool) (xs : List X) (k : ℕ) (x : X) → list_all test xs ≡ true → slice_get xs k ≡ Some x → test x ≡ true
 listed_passes test [] k x all at = (let no : None ≡ Some x = at in cc)
-listed_passes test (y ∷ ys) zero x all at = sym (ap test (same_Some y x at)) ∙ (both (test y) (list_all test ys) all).0
-listed_passes test (y ∷ ys) (suc k) x all at = listed_passes test ys k x (both (test y) (list_all test ys) all).1 at
+listed_passes test (y ∷ ys) zero x all at = sym (ap test (same_Some y x at)) ∙ (and_parts (test y) (list_all test ys) all).0
+listed_passes test (y ∷ ys) (suc k) x all at = listed_passes test ys k x (and_parts (test y) (list_all test ys) all).1 at
 
 -- a run of a text is in the tree of its root
 in_tree : (r : Run) → supports_text_ranges (run_world r) (root_id r) ≡ true → (run_id r).tree ≡ (root_id r).tree

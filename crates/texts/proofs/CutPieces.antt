@@ -5,7 +5,7 @@ use Rattle.std.specs.Option.{option_map_or}
 use Rattle.std.specs.List.{concat}
 use Rattle.std.specs.Str.{is_utf8, IsUtf8, IsCharBoundary}
 use Rattle.std.proofs.Math.Seq.{take-append_seam}
-use Rattle.std.proofs.lemmas.Bool.{leb-true, eqb-true}
+use Rattle.std.proofs.lemmas.Bool.{and_parts, leb-true, eqb-true}
 use Rattle.std.proofs.lemmas.List.{take_all, take-append-drop, length-append, length-take-le, length-drop, take-map, drop-map}
 use Rattle.std.proofs.lemmas.Str.{IsUtf8-from_is_utf8, IsCharBoundary-from_take, IsCharBoundary-at_seam}
 use Rattle.schema.specs.NodeData.{NodeData}
@@ -14,7 +14,6 @@ use Rattle.model.specs.TextRuns.{run_value, said_count, sent_characters, cut_by}
 use Rattle.model.specs.FlatText.{ShownRun, shown_character, needs_masking}
 use Rattle.model.specs.Ranges.{piece_text}
 use Rattle.model.specs.Values.{bullets}
-use Rattle.model.proofs.Text.TextFacts.{both}
 use Rattle.texts.specs.declared.pieces.Piece.{Piece}
 use Rattle.views.specs.Runs.{sent_of, run_world, root_id}
 use Rattle.texts.specs.RunNumbers.{text_around}
@@ -37,14 +36,14 @@ module _ (bs ns : List ℕ) (i n : ℕ) (h : i < length ns) (e : get_or ns i 0 �
 
     pub cut_at : IsUtf8 bs → IsCharBoundary bs n
     cut_at text =
-        let a = both (nat_le n (length bs)) _ cut_parts in
-        let b = both (is_utf8 (take n bs)) _ a.1 in
+        let a = and_parts (nat_le n (length bs)) _ cut_parts in
+        let b = and_parts (is_utf8 (take n bs)) _ a.1 in
         IsCharBoundary-from_take bs n text (leb-true n (length bs) a.0) (IsUtf8-from_is_utf8 (take n bs) b.0)
 
     pub cut_next : are_cut_off (drop n bs) (drop (i + 1) ns) ≡ true
     cut_next =
-        let a = both (nat_le n (length bs)) _ cut_parts in
-        (both (is_utf8 (take n bs)) _ a.1).1
+        let a = and_parts (nat_le n (length bs)) _ cut_parts in
+        (and_parts (is_utf8 (take n bs)) _ a.1).1
 
 -- ---- of lengths that cut the whole text
 
@@ -55,9 +54,9 @@ two_true false b e f = e
 -- the first length cuts a character off, and the others cut what that leaves
 cut_on : (bs : List ℕ) (n : ℕ) (ns : List ℕ) → is_cut_by bs (n ∷ ns) ≡ true → (nat_le n (length bs) ≡ true) × (is_utf8 (take n bs) ≡ true) × (is_cut_by (drop n bs) ns ≡ true)
 cut_on bs n ns e =
-    let a = both (nat_lt 0 n) _ e in
-    let b = both (nat_le n (length bs)) _ a.1 in
-    let c = both (is_utf8 (take n bs)) _ b.1 in
+    let a = and_parts (nat_lt 0 n) _ e in
+    let b = and_parts (nat_le n (length bs)) _ a.1 in
+    let c = and_parts (is_utf8 (take n bs)) _ b.1 in
     (b.0, c.0, c.1)
 
 first_cut_off : (bs ns : List ℕ) (i : ℕ) → is_cut_by bs ns ≡ true → are_cut_off bs (take i ns) ≡ true

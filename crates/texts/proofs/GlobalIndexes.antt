@@ -3,7 +3,7 @@ use Rattle.std.proofs.Common.{◌≡◌, ℕ, zero, suc, ◌+◌, ◌-◌, ◌^�
 use Rattle.std.specs.Prelude.{◌==◌, nat_lt, Some, None, option_map, if◌then◌else◌, slice_get, sum_by}
 use Rattle.std.specs.Option.{option_or, option_map_or}
 use Rattle.std.proofs.Math.Seq.{take-append-add}
-use Rattle.std.proofs.lemmas.Bool.{eqb-true, le-ltb, lt-ltb, ltb-true}
+use Rattle.std.proofs.lemmas.Bool.{and_parts, eqb-true, le-ltb, lt-ltb, ltb-true}
 use Rattle.std.proofs.lemmas.List.{take-append-le}
 use Rattle.std.proofs.lemmas.List.Sums.{sum_by-cons, sum_by-append, sum_by-take-le}
 use Rattle.std.proofs.lemmas.Option.{get_or_from_slice_get, slice_get_within}
@@ -13,7 +13,7 @@ use Rattle.schema.specs.RunFits.{is_cut_by}
 use Rattle.model.specs.TextRuns.{SentRun, sent_runs, run_value, said_count, sent_characters, are_cut, is_password, supports_text_ranges}
 use Rattle.model.specs.FlatText.{FlatText, ShownRun, characters, count, count_in, total, start_of, Position, offset, document_end, start_side, shown_character, needs_masking, shown_run, flat_text}
 use Rattle.model.specs.Moves.{length_before, global_index, holder_of, position_of}
-use Rattle.model.proofs.Text.TextFacts.{both, is_text, start_next}
+use Rattle.model.proofs.Text.TextFacts.{is_text, start_next}
 use Rattle.model.proofs.Text.WholeTexts.{at_each}
 use Rattle.model.proofs.Text.Searching.{first_is, first_is_none}
 use Rattle.model.proofs.Text.Sides.{start_rises, start_side_is}
@@ -120,7 +120,7 @@ module _ (units : Units) (w : World) (root : FullNodeId) (password masked : Bool
   runs_le_bytes : (runs : List SentRun) → are_cut runs ≡ true → sum_by (unit_len units) (characters (map (shown_run w root password masked) runs)) ≤ sum_by (λ r. length (run_value r)) runs
   runs_le_bytes [] e = omega arith
   runs_le_bytes (r ∷ runs) e =
-      let c = both (is_cut_by (run_value r) r.node.character_lengths) _ e in
+      let c = and_parts (is_cut_by (run_value r) r.node.character_lengths) _ e in
       let rest = runs_le_bytes runs c.1 in
       let own = run_le_bytes units r masked c.0 in
       omega (arith, rest, own, sum_by-append (unit_len units) (map (shown_character masked) (sent_characters r)) (characters (map (shown_run w root password masked) runs)), sum_by-cons (λ (s : SentRun). length (run_value s)) r runs)

@@ -3,11 +3,11 @@ use Rattle.std.proofs.Common.{◌≡◌, ℕ, zero, suc, ◌+◌, ◌-◌, ◌<�
 use Rattle.std.specs.Prelude.{◌==◌, ◌&&◌, ◌||◌, nat_lt, IsTrue, slice_index}
 use Rattle.std.specs.Option.{option_map_or}
 use Rattle.std.specs.List.{list_any}
-use Rattle.std.proofs.lemmas.Bool.{eqb-true, eqb-false, ltb-true, ltb-false}
+use Rattle.std.proofs.lemmas.Bool.{and_parts, eqb-true, eqb-false, ltb-true, ltb-false}
 use Rattle.model.specs.FlatText.{FlatText, Position, IsPosition, offset, total, count_in, start_of, end_at, document_end, biased_to_start, begins_line, ends_line, begins_paragraph, words_in, first_run, is_line_start, is_word_start}
 use Rattle.model.specs.Moves.{forward_to_character_start, forward_to_word_start, forward_to_line_start}
 use Rattle.model.specs.TextLaws.{IsWhole}
-use Rattle.model.proofs.Text.TextFacts.{both, start_next, start_bias}
+use Rattle.model.proofs.Text.TextFacts.{start_next, start_bias}
 use Rattle.model.proofs.Text.Indexes.{start_at_end}
 use Rattle.model.proofs.Text.Searching.{first_is}
 use Rattle.model.proofs.Text.WordMarks.{word_start_is_nearest}
@@ -99,7 +99,7 @@ module _ (t : FlatText) (whole : IsWhole t) where
       above = omega (arith, at, past);
       side = subst (IsOnStartSide t) (sym is) (start_bias_side t (end_at t k) whole (record { run = high; index = omega arith }));
       starts_one = λ short. starts (omega (arith, at, short));
-      none = λ p there after before. not_so (is_line_start t p) (λ s. no_line p after (omega (arith, at, before)) (both (p.index == 0) (begins_line t p.run) s));
+      none = λ p there after before. not_so (is_line_start t p) (λ s. no_line p after (omega (arith, at, before)) (and_parts (p.index == 0) (begins_line t p.run) s));
     }
       where
         at : offset t (forward_to_line_start t q) ≡ start_of t (k + 1)

@@ -2,12 +2,13 @@
 use Rattle.std.proofs.Common.{◌≡◌, ℕ, zero, suc, Bool, true, List, [], ◌∷◌, ◌++◌, Some, refl, sym, ap, subst, ◌∙◌}
 use Rattle.std.specs.Prelude.{slice_get}
 use Rattle.std.specs.List.{flat_map}
+use Rattle.std.proofs.lemmas.Bool.{and_parts}
 use Rattle.std.proofs.lemmas.Option.{none-some, same_Some}
 use Rattle.schema.specs.RunFits.{is_cut_by}
 use Rattle.model.specs.TextRuns.{SentRun, sent_runs, run_value, are_cut}
 use Rattle.model.specs.FlatText.{needs_masking}
 use Rattle.model.specs.Ranges.{Piece as PieceData, piece_text}
-use Rattle.model.proofs.Text.TextFacts.{both, is_text}
+use Rattle.model.proofs.Text.TextFacts.{is_text}
 use Rattle.texts.specs.declared.range.TextRange.{TextRange}
 use Rattle.texts.specs.declared.pieces.Piece.{Piece}
 use Rattle.views.specs.Nodes.{world_at, id_at}
@@ -27,8 +28,8 @@ pieces_from r p = piece_data p ∷ pieces_past (text_in r) (range_at r) (number_
 -- the value of each run of a text is cut by its lengths
 cut_at_number : (runs : List SentRun) (n : ℕ) (s : SentRun) → are_cut runs ≡ true → slice_get runs n ≡ Some s → is_cut_by (run_value s) s.node.character_lengths ≡ true
 cut_at_number [] n s e f = absurd (none-some s f)
-cut_at_number (a ∷ runs) zero s e f = subst (λ (x : SentRun). is_cut_by (run_value x) x.node.character_lengths ≡ true) (same_Some a s f) (both (is_cut_by (run_value a) a.node.character_lengths) _ e).0
-cut_at_number (a ∷ runs) (suc n) s e f = cut_at_number runs n s (both (is_cut_by (run_value a) a.node.character_lengths) _ e).1 f
+cut_at_number (a ∷ runs) zero s e f = subst (λ (x : SentRun). is_cut_by (run_value x) x.node.character_lengths ≡ true) (same_Some a s f) (and_parts (is_cut_by (run_value a) a.node.character_lengths) _ e).0
+cut_at_number (a ∷ runs) (suc n) s e f = cut_at_number runs n s (and_parts (is_cut_by (run_value a) a.node.character_lengths) _ e).1 f
 
 module _ (r : TextRange) where
   pub part_there : (left : List PieceData) (p : Piece) → IsNextPiece r left p → IsPart p

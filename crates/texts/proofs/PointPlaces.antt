@@ -3,13 +3,13 @@ use Rattle.std.proofs.Common.{◌≡◌, ℕ, zero, suc, ◌+◌, ◌<◌, ◌�
 use Rattle.std.specs.Prelude.{ℤ, slice_get, option_map, option_and_then, unwrap_or, if◌then◌else◌}
 use Rattle.std.specs.Option.{option_map_or, option_or}
 use Rattle.std.specs.List.{list_all}
-use Rattle.std.proofs.lemmas.Bool.{leb-true}
+use Rattle.std.proofs.lemmas.Bool.{and_parts, leb-true}
 use Rattle.std.proofs.lemmas.Option.{slice_get_within, same_Some}
 use Rattle.schema.specs.declared.geometry.Point.{Point}
 use Rattle.model.specs.TextRuns.{SentRun, sent_run, sent_runs, run_ids, said_count, is_password, is_measured, is_enough, supports_text_ranges}
 use Rattle.model.specs.FlatText.{FlatText, ShownRun, Metrics, shown_character, needs_masking, shown_run, flat_text, count, Position, end_at, document_start, document_end, last_run, run_has}
 use Rattle.model.specs.Points.{is_in_run, is_ahead_of, is_past, index_at, position_at_point}
-use Rattle.model.proofs.Text.TextFacts.{both, is_text}
+use Rattle.model.proofs.Text.TextFacts.{is_text}
 use Rattle.model.proofs.Text.Searching.{last_next}
 use Rattle.views.specs.declared.node.node_ref.NodeRef.{NodeRef}
 use Rattle.views.specs.declared.runs.Run.{Run}
@@ -139,8 +139,8 @@ module _ (n : NodeRef) (point : Point) where
 
 member_passes : (p : SentRun → Bool) (xs : List SentRun) (k : ℕ) (x : SentRun) → list_all p xs ≡ true → slice_get xs k ≡ Some x → p x ≡ true
 member_passes p [] k x e at = absurd (let h = slice_get_within [] k x at in omega (arith, h))
-member_passes p (y ∷ ys) zero x e at = let same : y ≡ x = cc in ap p (sym same) ∙ (both (p y) _ e).0
-member_passes p (y ∷ ys) (suc k) x e at = member_passes p ys k x (both (p y) _ e).1 at
+member_passes p (y ∷ ys) zero x e at = let same : y ≡ x = cc in ap p (sym same) ∙ (and_parts (p y) _ e).0
+member_passes p (y ∷ ys) (suc k) x e at = member_passes p ys k x (and_parts (p y) _ e).1 at
 
 pub told_within : (r : Run) (ps : List ℤ) → supports_text_ranges (run_world r) (root_id r) ≡ true → (sent_of r).node.character_positions ≡ Some ps → length ps ≤ said_count (sent_of r)
 told_within r ps text sent =
@@ -148,8 +148,8 @@ told_within r ps text sent =
     let password = is_password w (root_id r) in
     let measured : is_measured password (sent_of r) ≡ true = member_passes (is_measured password) (sent_runs w (root_id r)) (number_in r) (sent_of r) (is_text w (root_id r) text).metrics (sent_at_number r) in
     let enough : is_enough password (said_count (sent_of r)) (length ps) ≡ true =
-    sym (ap (λ o. option_map_or (λ (ks : List ℤ). is_enough password (said_count (sent_of r)) (length ks)) o true) sent) ∙ (both _ _ measured).0 in
-    leb-true _ _ (both _ _ enough).0
+    sym (ap (λ o. option_map_or (λ (ks : List ℤ). is_enough password (said_count (sent_of r)) (length ks)) o true) sent) ∙ (and_parts _ _ measured).0 in
+    leb-true _ _ (and_parts _ _ enough).0
 
 positions_first : (password : Bool) (ps ws : Option (List ℤ)) (m : Metrics) → Some m ≡ option_and_then (λ xs. option_map (λ ys. let k : Metrics = record { positions = xs; widths = ys; are_alike = password } in k) ws) ps → ps ≡ Some m.positions
 positions_first password None ws m e = cc

@@ -2,14 +2,14 @@
 use Rattle.std.proofs.Common.{◌≡◌, ℕ, ◌+◌, ◌^◌, ◌<◌, ◌≤◌, Bool, true, List, [], ◌∷◌, length, map, take, drop, sym, ap, ◌∙◌, arith, length-drop}
 use Rattle.std.specs.Prelude.{nat_lt, nat_le, sum_by}
 use Rattle.std.specs.Str.{is_utf8}
-use Rattle.std.proofs.lemmas.Bool.{ltb-true, leb-true}
+use Rattle.std.proofs.lemmas.Bool.{and_parts, ltb-true, leb-true}
 use Rattle.std.proofs.lemmas.List.Sums.{sum_by-cons}
 use Rattle.model.specs.declared.FullNodeId.{FullNodeId}
 use Rattle.model.specs.World.{World}
 use Rattle.schema.specs.RunFits.{is_cut_by}
 use Rattle.model.specs.TextRuns.{SentRun, sent_runs, run_value, said_count, are_cut, is_password, supports_text_ranges}
 use Rattle.model.specs.FlatText.{FlatText, shown_character, needs_masking, shown_run, flat_text, count, count_in, start_of, total, offset, Position, IsPosition}
-use Rattle.model.proofs.Text.TextFacts.{both, is_text, start_next}
+use Rattle.model.proofs.Text.TextFacts.{is_text, start_next}
 use Rattle.model.proofs.Text.Sides.{start_rises}
 use Rattle.views.specs.declared.runs.Run.{Run}
 use Rattle.texts.specs.declared.position.TextPosition.{TextPosition}
@@ -22,9 +22,9 @@ use Rattle.texts.proofs.CharacterMoves.{start_of_all}
 lengths_fit : (bs ns : List ℕ) → is_cut_by bs ns ≡ true → length ns ≤ length bs
 lengths_fit bs [] e = omega arith
 lengths_fit bs (n ∷ ns) e =
-    let a = both (nat_lt 0 n) _ e in
-    let b = both (nat_le n (length bs)) _ a.1 in
-    let c = both (is_utf8 (take n bs)) _ b.1 in
+    let a = and_parts (nat_lt 0 n) _ e in
+    let b = and_parts (nat_le n (length bs)) _ a.1 in
+    let c = and_parts (is_utf8 (take n bs)) _ b.1 in
     let low : 0 < n = ltb-true _ _ a.0 in
     let high : n ≤ length bs = leb-true _ _ b.0 in
     let rest : length ns ≤ length (drop n bs) = lengths_fit (drop n bs) ns c.1 in
@@ -34,7 +34,7 @@ module _ (w : World) (root : FullNodeId) (password masked : Bool) where
   runs_fit : (runs : List SentRun) → are_cut runs ≡ true → total (map (shown_run w root password masked) runs) ≤ sum_by (λ r. length (run_value r)) runs
   runs_fit [] e = omega arith
   runs_fit (r ∷ runs) e =
-      let c = both (is_cut_by (run_value r) r.node.character_lengths) _ e in
+      let c = and_parts (is_cut_by (run_value r) r.node.character_lengths) _ e in
       let one : length r.node.character_lengths ≤ length (run_value r) = lengths_fit (run_value r) r.node.character_lengths c.0 in
       let counted : count (shown_run w root password masked r) ≡ length r.node.character_lengths = cut_count (shown_character masked) (run_value r) r.node.character_lengths in
       let rest = runs_fit runs c.1 in

@@ -6,7 +6,7 @@ use Rattle.std.specs.Char.{len_utf8}
 use Rattle.std.specs.Str.{chars, is_utf8, IsUtf8, IsCharBoundary}
 use Rattle.std.proofs.Math.Utf8.{encode, encodes}
 use Rattle.std.proofs.Math.Seq.{take-add, drop-drop}
-use Rattle.std.proofs.lemmas.Bool.{ltb-true, ltb-false, leb-true, eqb-true}
+use Rattle.std.proofs.lemmas.Bool.{and_parts, ltb-true, ltb-false, leb-true, eqb-true}
 use Rattle.std.proofs.lemmas.List.{take-append-drop, map-id, take_all, length-take-le}
 use Rattle.std.proofs.lemmas.List.Sums.{sum_by-cons, sum_by-append, sum_by_push, sum_by_more, sum_by-take-le}
 use Rattle.std.proofs.lemmas.Str.{chars-nil, chars-append, chars_past_char, encodes-chars, length-encode, len_utf8_bounds, IsUtf8-nil, IsUtf8-append, IsUtf8-from_is_utf8, IsCharBoundary-from_take}
@@ -14,7 +14,6 @@ use Rattle.schema.specs.RunFits.{is_cut_by}
 use Rattle.model.specs.TextRuns.{SentRun, run_value, said_count, cut_by}
 use Rattle.model.specs.FlatText.{BULLET, shown_character}
 use Rattle.model.specs.Moves.{utf16_len}
-use Rattle.model.proofs.Text.TextFacts.{both}
 use Rattle.texts.specs.declared.indexes.Units.{Units}
 use Rattle.texts.specs.declared.indexes.Units.TheVariants.{Scalars, Utf16}
 use Rattle.texts.specs.GlobalIndexes.{unit_len, IsCut, are_units, length_to}
@@ -135,9 +134,9 @@ record IsFirstCut (bs ns : List ℕ) (n : ℕ) : Type 0 where
 
 first_cut : (bs ns : List ℕ) (n : ℕ) → is_cut_by bs (n ∷ ns) ≡ true → IsFirstCut bs ns n
 first_cut bs ns n e =
-    let a = both (nat_lt 0 n) _ e in
-    let b = both (nat_le n (length bs)) _ a.1 in
-    let c = both (is_utf8 (take n bs)) _ b.1 in
+    let a = and_parts (nat_lt 0 n) _ e in
+    let b = and_parts (nat_le n (length bs)) _ a.1 in
+    let c = and_parts (is_utf8 (take n bs)) _ b.1 in
     record { fits = leb-true n (length bs) b.0; text = IsUtf8-from_is_utf8 (take n bs) c.0; others = c.1 }
 
 cut_length : (bs ns : List ℕ) → length (cut_by bs ns) ≡ length ns
@@ -259,7 +258,7 @@ module _ (units : Units) where
   units_le_bytes bs (n ∷ ns) masked e =
       let first = first_cut bs ns n e in
       let rest = units_le_bytes (drop n bs) ns masked first.others in
-      let low : 0 < n = ltb-true 0 n (both (nat_lt 0 n) _ e).0 in
+      let low : 0 < n = ltb-true 0 n (and_parts (nat_lt 0 n) _ e).0 in
       let high : n ≤ length bs = first.fits in
       let taken : length (take n bs) ≡ n = length-take-le n bs high in
       let own = unit_le units (take n bs) first.text in
@@ -279,7 +278,7 @@ count_fits : (bs ns : List ℕ) → is_cut_by bs ns ≡ true → length ns ≤ l
 count_fits bs [] e = omega arith
 count_fits bs (n ∷ ns) e =
     let first = first_cut bs ns n e in
-    let low : 0 < n = ltb-true 0 n (both (nat_lt 0 n) _ e).0 in
+    let low : 0 < n = ltb-true 0 n (and_parts (nat_lt 0 n) _ e).0 in
     let high = first.fits in
     omega (arith, low, high, count_fits (drop n bs) ns first.others, length-drop n bs)
 
@@ -289,7 +288,7 @@ module _ (units : Units) where
   singles bs [] (suc i) cut size h = absurd (omega (arith, h))
   singles bs (n ∷ ns) (suc i) cut size h =
       let first = first_cut bs ns n cut in
-      let low : 0 < n = ltb-true 0 n (both (nat_lt 0 n) _ cut).0 in
+      let low : 0 < n = ltb-true 0 n (and_parts (nat_lt 0 n) _ cut).0 in
       let high : n ≤ length bs = first.fits in
       let left : length ns ≤ length (drop n bs) = count_fits (drop n bs) ns first.others in
       let sized : length bs ≡ length ns + 1 = (let e : length bs ≡ length (n ∷ ns) = size in omega (arith, e)) in

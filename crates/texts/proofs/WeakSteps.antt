@@ -2,6 +2,7 @@
 use Rattle.std.proofs.Common.{◌≡◌, Bool, true, false, Some, refl, sym, ap, subst}
 use Rattle.std.specs.Prelude.{None, Option, is_some, ◌||◌, nat_lt, length}
 use Rattle.std.specs.Option.{option_map_or}
+use Rattle.std.proofs.lemmas.Bool.{and_parts}
 use Rattle.model.specs.declared.FullNodeId.{FullNodeId}
 use Rattle.model.specs.World.{World, IsNode, data_of}
 use Rattle.model.specs.Forest.{is_same}
@@ -11,7 +12,7 @@ use Rattle.model.specs.RoleClasses.{holds_text}
 use Rattle.model.specs.Upward.{says}
 use Rattle.model.specs.TextRuns.{sent_runs, supports_text_ranges}
 use Rattle.model.proofs.Forest.WaysUp.{within_is_tested}
-use Rattle.model.proofs.Text.TextFacts.{both, is_text}
+use Rattle.model.proofs.Text.TextFacts.{is_text}
 use Rattle.views.specs.declared.node.node_ref.NodeRef.{NodeRef}
 use Rattle.views.specs.declared.runs.Run.{Run}
 use Rattle.views.specs.Nodes.{world_at, id_at}
@@ -40,5 +41,5 @@ absent_no_text w id off = go (supports_text_ranges w id) refl
     go : (b : Bool) → supports_text_ranges w id ≡ b → supports_text_ranges w id ≡ false
     go false e = e
     go true e =
-        let held = both (says (λ d. holds_text d.role) w id) (nat_lt 0 (length (sent_runs w id))) (is_text w id e).runs in
+        let held = and_parts (says (λ d. holds_text d.role) w id) (nat_lt 0 (length (sent_runs w id))) (is_text w id e).runs in
         absurd (off (there (data_of w id) refl held.0))

@@ -4,7 +4,7 @@ use Rattle.std.specs.Prelude.{nat_lt, nat_le, not, bytes_eq, ◌&&◌, slice_ran
 use Rattle.std.specs.Option.{option_map_or}
 use Rattle.std.specs.List.{flat_map, concat}
 use Rattle.std.specs.Str.{is_utf8}
-use Rattle.std.proofs.lemmas.Bool.{eqb-true}
+use Rattle.std.proofs.lemmas.Bool.{and_parts, eqb-true}
 use Rattle.std.proofs.lemmas.List.{take_all, take-append-drop}
 use Rattle.std.proofs.lemmas.List.Folds.{concat-append}
 use Rattle.schema.specs.NodeData.{NodeData}
@@ -17,7 +17,7 @@ use Rattle.model.specs.FlatText.{FlatText, are_alike, shown_character, needs_mas
 use Rattle.model.specs.Ranges.{document_range, text_of}
 use Rattle.model.specs.Values.{bullets, document_text}
 use Rattle.model.specs.TextLaws.{IsWhole}
-use Rattle.model.proofs.Text.TextFacts.{both, is_text, start_next}
+use Rattle.model.proofs.Text.TextFacts.{is_text, start_next}
 use Rattle.model.proofs.Text.WholeTexts.{whole_text}
 use Rattle.model.proofs.Text.Indexes.{start_at_end, total_is}
 use Rattle.model.proofs.Text.RangeTexts.{range_text}
@@ -38,9 +38,9 @@ no_bytes (b ∷ bs) e = let h : length (b ∷ bs) ≡ 0 = eqb-true (length (b �
 plain_run : (bs ns : List ℕ) → is_cut_by bs ns ≡ true → concat (map (shown_character false) (cut_by bs ns)) ≡ bs
 plain_run bs [] e = no_bytes bs e
 plain_run bs (n ∷ ns) e =
-    let a = both (nat_lt 0 n) _ e in
-    let b = both (nat_le n (length bs)) _ a.1 in
-    let c = both (is_utf8 (take n bs)) _ b.1 in
+    let a = and_parts (nat_lt 0 n) _ e in
+    let b = and_parts (nat_le n (length bs)) _ a.1 in
+    let c = and_parts (is_utf8 (take n bs)) _ b.1 in
     ap (λ xs. take n bs ++ xs) (plain_run (drop n bs) ns c.1) ∙ take-append-drop n bs
 
 shown_run_text : (masked : Bool) (r : SentRun) → is_cut_by (run_value r) r.node.character_lengths ≡ true →
@@ -54,7 +54,7 @@ module _ (w : World) (root : FullNodeId) (password masked : Bool) where
   all_shown : (runs : List SentRun) → are_cut runs ≡ true → concat (characters (map (shown_run w root password masked) runs)) ≡ shown_of_all masked runs
   all_shown [] e = refl
   all_shown (r ∷ runs) e =
-      let c = both (is_cut_by (run_value r) r.node.character_lengths) _ e in
+      let c = and_parts (is_cut_by (run_value r) r.node.character_lengths) _ e in
       concat-append (map (shown_character masked) (cut_by (run_value r) r.node.character_lengths)) (characters (map (shown_run w root password masked) runs))
       ∙ ap (λ xs. xs ++ concat (characters (map (shown_run w root password masked) runs))) (shown_run_text masked r c.0)
       ∙ ap (λ xs. shown_of masked r ++ xs) (all_shown runs c.1)

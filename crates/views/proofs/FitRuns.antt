@@ -3,7 +3,7 @@ use Rattle.std.proofs.Common.{◌≡◌, ℕ, suc, ◌+◌, ◌-◌, ◌^◌, �
 use Rattle.std.specs.Prelude.{◌&&◌, ◌==◌, nat_lt, unwrap_or, is_none, slice_get, sum_by}
 use Rattle.std.specs.Option.{option_map_or}
 use Rattle.std.specs.List.{list_all}
-use Rattle.std.proofs.lemmas.Bool.{ltb-true, lt-ltb}
+use Rattle.std.proofs.lemmas.Bool.{and_parts, and_from, ltb-true, lt-ltb}
 use Rattle.std.proofs.lemmas.List.Sums.{sum_by-cons}
 use Rattle.schema.specs.NodeData.{NodeData, empty_node}
 use Rattle.schema.specs.declared.Role.TheVariants.{TextRun}
@@ -13,7 +13,6 @@ use Rattle.model.specs.RoleClasses.{is_password_input, holds_text}
 use Rattle.model.specs.Upward.{says}
 use Rattle.schema.specs.RunFits.{neighbours, is_cut_by}
 use Rattle.model.specs.TextRuns.{SentRun, run_ids, sent_run, sent_runs, run_value, said_count, links_agree, has_rising_words, is_measured, is_password, lie_in_tree, are_cut, have_rising_words, are_empty_last, are_linked_in_order, have_size, are_measured, make_text, supports_text_ranges}
-use Rattle.model.proofs.Text.TextFacts.{both}
 use Rattle.views.specs.declared.runs.Run.{Run}
 use Rattle.views.specs.declared.node.node_ref.NodeRef.{NodeRef}
 use Rattle.views.specs.Nodes.{world_at, id_at, data_at}
@@ -22,12 +21,8 @@ use Rattle.views.specs.Runs.{run_world, root_id, run_id, sent_of, ids_after, ids
 
 -- ---- tests
 
-together : (a b : Bool) → a ≡ true → b ≡ true → (a && b) ≡ true
-together true b e f = f
-together false b e f = e
-
 all_four : (a b c d : Bool) → a ≡ true → b ≡ true → c ≡ true → d ≡ true → (a && (b && (c && d))) ≡ true
-all_four a b c d e f g h = together a (b && (c && d)) e (together b (c && d) f (together c d g h))
+all_four a b c d e f g h = and_from a (b && (c && d)) e (and_from b (c && d) f (and_from c d g h))
 
 same_tests : (a b : Bool) → (a ≡ true → b ≡ true) → (b ≡ true → a ≡ true) → a ≡ b
 same_tests true b f g = sym (f refl)
@@ -75,62 +70,62 @@ module _ (tree : ℕ) (password : Bool) where
   one_fit : (size : ℕ) (a : SentRun) (rest : List SentRun) → AllFit tree password size (a ∷ rest) → (is_fit tree password a ≡ true) × (is_small size a ≡ true)
   one_fit size a rest all = (
     all_four (a.id.tree == tree) (is_cut_by (run_value a) a.node.character_lengths) (has_rising_words a) (is_measured password a)
-        (both (a.id.tree == tree) _ all.trees).0 (both (is_cut_by (run_value a) a.node.character_lengths) _ all.cut).0 (both (has_rising_words a) _ all.words).0 (both (is_measured password a) _ all.metrics).0,
+        (and_parts (a.id.tree == tree) _ all.trees).0 (and_parts (is_cut_by (run_value a) a.node.character_lengths) _ all.cut).0 (and_parts (has_rising_words a) _ all.words).0 (and_parts (is_measured password a) _ all.metrics).0,
     lt-ltb (size + bytes a) (2 ^ 64) (let s = all.small in omega (arith, s, sum_by-cons bytes a rest)),
   )
 
   fit_from : (size : ℕ) (a : SentRun) (rest : List SentRun) → AllFit tree password size (a ∷ rest) → are_fit_from tree password size a rest ≡ true
   fit_from size a [] all =
       let one = one_fit size a [] all in
-      together (is_fit tree password a) (is_small size a && is_none a.node.next_on_line) one.0 (together (is_small size a) (is_none a.node.next_on_line) one.1 all.last)
+      and_from (is_fit tree password a) (is_small size a && is_none a.node.next_on_line) one.0 (and_from (is_small size a) (is_none a.node.next_on_line) one.1 all.last)
   fit_from size a (b ∷ rest) all =
       let one = one_fit size a (b ∷ rest) all in
       let more : AllFit tree password (size + bytes a) (b ∷ rest) = record {
-        trees = (both (a.id.tree == tree) _ all.trees).1;
-        cut = (both (is_cut_by (run_value a) a.node.character_lengths) _ all.cut).1;
-        words = (both (has_rising_words a) _ all.words).1;
-        metrics = (both (is_measured password a) _ all.metrics).1;
-        filled = (both (nat_lt 0 (said_count a)) _ all.filled).1;
-        links = (both (links_agree a b) _ all.links).1;
+        trees = (and_parts (a.id.tree == tree) _ all.trees).1;
+        cut = (and_parts (is_cut_by (run_value a) a.node.character_lengths) _ all.cut).1;
+        words = (and_parts (has_rising_words a) _ all.words).1;
+        metrics = (and_parts (is_measured password a) _ all.metrics).1;
+        filled = (and_parts (nat_lt 0 (said_count a)) _ all.filled).1;
+        links = (and_parts (links_agree a b) _ all.links).1;
         last = sym (last_of_more a b rest) ∙ all.last;
         small = let s = all.small in omega (arith, s, sum_by-cons bytes a (b ∷ rest));
       } in
-      let beside : is_followed_by a b ≡ true = together (nat_lt 0 (said_count a)) (links_agree a b) (both (nat_lt 0 (said_count a)) _ all.filled).0 (both (links_agree a b) _ all.links).0 in
+      let beside : is_followed_by a b ≡ true = and_from (nat_lt 0 (said_count a)) (links_agree a b) (and_parts (nat_lt 0 (said_count a)) _ all.filled).0 (and_parts (links_agree a b) _ all.links).0 in
       all_four (is_fit tree password a) (is_small size a) (is_followed_by a b) (are_fit_from tree password (size + bytes a) b rest) one.0 one.1 beside (fit_from (size + bytes a) b rest more)
 
   all_from : (size : ℕ) (a : SentRun) (rest : List SentRun) → are_fit_from tree password size a rest ≡ true → AllFit tree password size (a ∷ rest)
   all_from size a [] e =
-      let fit = both (is_fit tree password a) _ e in
-      let small = both (is_small size a) _ fit.1 in
-      let t = both (a.id.tree == tree) _ fit.0 in
-      let c = both (is_cut_by (run_value a) a.node.character_lengths) _ t.1 in
-      let w = both (has_rising_words a) _ c.1 in
+      let fit = and_parts (is_fit tree password a) _ e in
+      let small = and_parts (is_small size a) _ fit.1 in
+      let t = and_parts (a.id.tree == tree) _ fit.0 in
+      let c = and_parts (is_cut_by (run_value a) a.node.character_lengths) _ t.1 in
+      let w = and_parts (has_rising_words a) _ c.1 in
       record {
-        trees = together _ _ t.0 refl;
-        cut = together _ _ c.0 refl;
-        words = together _ _ w.0 refl;
-        metrics = together _ _ w.1 refl;
+        trees = and_from _ _ t.0 refl;
+        cut = and_from _ _ c.0 refl;
+        words = and_from _ _ w.0 refl;
+        metrics = and_from _ _ w.1 refl;
         filled = refl;
         links = refl;
         last = small.1;
         small = let s = ltb-true _ _ small.0 in omega (arith, s, sum_by-cons bytes a []);
       }
   all_from size a (b ∷ rest) e =
-      let fit = both (is_fit tree password a) _ e in
-      let small = both (is_small size a) _ fit.1 in
-      let next = both (is_followed_by a b) _ small.1 in
-      let beside = both (nat_lt 0 (said_count a)) _ next.0 in
-      let t = both (a.id.tree == tree) _ fit.0 in
-      let c = both (is_cut_by (run_value a) a.node.character_lengths) _ t.1 in
-      let w = both (has_rising_words a) _ c.1 in
+      let fit = and_parts (is_fit tree password a) _ e in
+      let small = and_parts (is_small size a) _ fit.1 in
+      let next = and_parts (is_followed_by a b) _ small.1 in
+      let beside = and_parts (nat_lt 0 (said_count a)) _ next.0 in
+      let t = and_parts (a.id.tree == tree) _ fit.0 in
+      let c = and_parts (is_cut_by (run_value a) a.node.character_lengths) _ t.1 in
+      let w = and_parts (has_rising_words a) _ c.1 in
       let more = all_from (size + bytes a) b rest next.1 in
       record {
-        trees = together _ _ t.0 more.trees;
-        cut = together _ _ c.0 more.cut;
-        words = together _ _ w.0 more.words;
-        metrics = together _ _ w.1 more.metrics;
-        filled = together _ _ beside.0 more.filled;
-        links = together _ _ beside.1 more.links;
+        trees = and_from _ _ t.0 more.trees;
+        cut = and_from _ _ c.0 more.cut;
+        words = and_from _ _ w.0 more.words;
+        metrics = and_from _ _ w.1 more.metrics;
+        filled = and_from _ _ beside.0 more.filled;
+        links = and_from _ _ beside.1 more.links;
         last = last_of_more a b rest ∙ more.last;
         small = let s = more.small in omega (arith, s, sum_by-cons bytes a (b ∷ rest));
       }
@@ -143,16 +138,16 @@ text_of_runs w root a rest = same_tests _ _ there back
     there : make_text w root (a ∷ rest) ≡ true → (says (λ d. holds_text d.role) w root && (is_none a.node.previous_on_line && are_fit_from root.tree (is_password w root) 0 a rest)) ≡ true
     there e =
         let runs : List SentRun = a ∷ rest in
-        let r = both (says (λ d. holds_text d.role) w root && nat_lt 0 (length runs)) _ e in
-        let t = both (lie_in_tree root.tree runs) _ r.1 in
-        let c = both (are_cut runs) _ t.1 in
-        let d = both (have_rising_words runs) _ c.1 in
-        let f = both (are_empty_last runs) _ d.1 in
-        let l = both (are_linked runs && (is_none a.node.previous_on_line && last_ends runs)) _ f.1 in
-        let ends = both (are_linked runs) _ l.0 in
-        let outer = both (is_none a.node.previous_on_line) _ ends.1 in
-        let s = both (have_size runs) _ l.1 in
-        together _ _ (both _ _ r.0).0 (together _ _ outer.0 (fit_from root.tree (is_password w root) 0 a rest (record {
+        let r = and_parts (says (λ d. holds_text d.role) w root && nat_lt 0 (length runs)) _ e in
+        let t = and_parts (lie_in_tree root.tree runs) _ r.1 in
+        let c = and_parts (are_cut runs) _ t.1 in
+        let d = and_parts (have_rising_words runs) _ c.1 in
+        let f = and_parts (are_empty_last runs) _ d.1 in
+        let l = and_parts (are_linked runs && (is_none a.node.previous_on_line && last_ends runs)) _ f.1 in
+        let ends = and_parts (are_linked runs) _ l.0 in
+        let outer = and_parts (is_none a.node.previous_on_line) _ ends.1 in
+        let s = and_parts (have_size runs) _ l.1 in
+        and_from _ _ (and_parts _ _ r.0).0 (and_from _ _ outer.0 (fit_from root.tree (is_password w root) 0 a rest (record {
           trees = t.0;
           cut = c.0;
           words = d.0;
@@ -165,12 +160,12 @@ text_of_runs w root a rest = same_tests _ _ there back
 
     back : (says (λ d. holds_text d.role) w root && (is_none a.node.previous_on_line && are_fit_from root.tree (is_password w root) 0 a rest)) ≡ true → make_text w root (a ∷ rest) ≡ true
     back e =
-        let role = both (says (λ d. holds_text d.role) w root) _ e in
-        let first = both (is_none a.node.previous_on_line) _ role.1 in
+        let role = and_parts (says (λ d. holds_text d.role) w root) _ e in
+        let first = and_parts (is_none a.node.previous_on_line) _ role.1 in
         let all = all_from root.tree (is_password w root) 0 a rest first.1 in
-        together _ _ (together _ _ role.0 (lt-ltb 0 (length (a ∷ rest)) (omega arith)))
-        (together _ _ all.trees (together _ _ all.cut (together _ _ all.words (together _ _ all.filled (together _ _ (together _ _ all.links (together _ _ first.0 all.last))
-        (together _ _ (lt-ltb _ _ (let s = all.small in omega (arith, s))) all.metrics))))))
+        and_from _ _ (and_from _ _ role.0 (lt-ltb 0 (length (a ∷ rest)) (omega arith)))
+        (and_from _ _ all.trees (and_from _ _ all.cut (and_from _ _ all.words (and_from _ _ all.filled (and_from _ _ (and_from _ _ all.links (and_from _ _ first.0 all.last))
+        (and_from _ _ (lt-ltb _ _ (let s = all.small in omega (arith, s))) all.metrics))))))
 
 -- of none, and where the role holds no text
 both_fail : (a b : Bool) → ((a && false) && b) ≡ false

@@ -3,7 +3,7 @@ use Rattle.std.proofs.Common.{◌≡◌, Bool, true, false, cond, ◌&&◌, Opti
 use Rattle.std.specs.Prelude.{is_some, is_none, option_and_then, ◌↔◌, ◌≢◌, IsTrue}
 use Rattle.std.specs.Bool.{then_some}
 use Rattle.std.specs.Option.{option_map_or}
-use Rattle.std.proofs.lemmas.Bool.{false≢true}
+use Rattle.std.proofs.lemmas.Bool.{and_parts, false≢true}
 use Rattle.std.proofs.lemmas.Option.{none-some, same_Some}
 use Rattle.schema.specs.NodeData.{NodeData}
 use Rattle.schema.specs.declared.NodeId.{NodeId}
@@ -57,10 +57,6 @@ module _ (w : World) (id : FullNodeId) where
 
 -- ---- the focused node
 
-both : (a b : Bool) → (a && b) ≡ true → (a ≡ true) × (b ≡ true)
-both true b e = (refl, e)
-both false b e = absurd (false≢true e)
-
 module _ (w : World) (e id : FullNodeId) where
   -- where e is the effective focus
   abbrev IsIt : Type 0
@@ -99,7 +95,7 @@ pub focused_node_is_found : (w : World) → IsState w → (id : FullNodeId) → 
 focused_node_is_found w s id =
     let f = effective_focus_found s in
     let tested_as : is_focused w id ≡ (w.host_focused && is_focused_by w f.0 id) = ap (λ o. w.host_focused && option_map_or (λ e. is_focused_by w e id) o false) f.1 in (
-      (λ is. let h = both w.host_focused (is_focused_by w f.0 id) (sym tested_as ∙ is) in (h.0, f.0, f.2, tested w f.0 id (is_same id f.0) refl h.1)),
+      (λ is. let h = and_parts w.host_focused (is_focused_by w f.0 id) (sym tested_as ∙ is) in (h.0, f.0, f.2, tested w f.0 id (is_same id f.0) refl h.1)),
       (λ h.
           let e : h.1 ≡ f.0 = effective_focus_unique w h.1 f.0 h.2 f.2 in
           tested_as ∙ ap (λ b. b && is_focused_by w f.0 id) h.0 ∙ is_it w f.0 id (subst (λ x. IsIt w x id) e h.3)),

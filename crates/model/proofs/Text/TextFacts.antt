@@ -12,10 +12,6 @@ use Rattle.model.specs.FlatText.{FlatText, count, count_in, start_of, Position, 
 use Rattle.model.specs.Values.{own_value, shown_value, has_value_in_runs, document_text, value_of, has_value}
 use Rattle.model.specs.Labels.{own_label, label_part, labelled_by, joined_text, label_of, has_label}
 
-pub both : (a b : Bool) → (a && b) ≡ true → (a ≡ true) × (b ≡ true)
-both true b e = (refl, e)
-both false b e = cc
-
 pub is_text : (w : World) (root : FullNodeId) → supports_text_ranges w root ≡ true → IsText w root
 unfolding supports_text_ranges
 is_text w root e =

@@ -4,7 +4,7 @@ use Rattle.std.specs.Prelude.{not, ◌&&◌, ◌||◌, nat_lt, if◌then◌else�
 use Rattle.std.specs.Option.{option_map_or}
 use Rattle.std.specs.List.{list_all}
 use Rattle.std.specs.List.Sorted.{IsStrictlyIncreasing}
-use Rattle.std.proofs.lemmas.Bool.{ltb-true, ltb-false}
+use Rattle.std.proofs.lemmas.Bool.{and_parts, ltb-true, ltb-false}
 use Rattle.std.proofs.lemmas.List.{length-map}
 use Rattle.std.proofs.lemmas.Option.{slice_get-map, slice_get-get_or, slice_get_past}
 use Rattle.schema.specs.NodeData.{empty_node}
@@ -19,22 +19,18 @@ use Rattle.model.specs.TextRuns.{SentRun, sent_runs, cut_by, said_count, leads_t
 use Rattle.model.specs.FlatText.{FlatText, ShownRun, shown_character, needs_masking, shown_run, flat_text, count, count_in, begins_line, ends_line, words_in}
 use Rattle.model.specs.TextLaws.{IsWhole}
 
-both : (a b : Bool) → (a && b) ≡ true → (a ≡ true) × (b ≡ true)
-both true b e = (refl, e)
-both false b e = cc
-
 -- ---- lists
 
 pub at_each : {X : Type 0} (test : X → Bool) (xs : List X) (r : ℕ) (d : X) → list_all test xs ≡ true → r < length xs → test (get_or xs r d) ≡ true
 at_each test [] r d e h = absurd (omega arith)
-at_each test (x ∷ xs) zero d e h = (both (test x) _ e).0
-at_each test (x ∷ xs) (suc r) d e h = at_each test xs r d (both (test x) _ e).1 (omega arith)
+at_each test (x ∷ xs) zero d e h = (and_parts (test x) _ e).0
+at_each test (x ∷ xs) (suc r) d e h = at_each test xs r d (and_parts (test x) _ e).1 (omega arith)
 
 at_neighbours : {X : Type 0} (test : X × X → Bool) (xs : List X) (r : ℕ) (d : X) → list_all test (neighbours xs) ≡ true → suc r < length xs → test (get_or xs r d, get_or xs (suc r) d) ≡ true
 at_neighbours test [] r d e h = absurd (omega arith)
 at_neighbours test (x ∷ []) r d e h = absurd (omega arith)
-at_neighbours test (x ∷ y ∷ ys) zero d e h = (both (test (x, y)) _ e).0
-at_neighbours test (x ∷ y ∷ ys) (suc r) d e h = at_neighbours test (y ∷ ys) r d (both (test (x, y)) _ e).1 (omega arith)
+at_neighbours test (x ∷ y ∷ ys) zero d e h = (and_parts (test (x, y)) _ e).0
+at_neighbours test (x ∷ y ∷ ys) (suc r) d e h = at_neighbours test (y ∷ ys) r d (and_parts (test (x, y)) _ e).1 (omega arith)
 
 -- ---- runs
 
@@ -44,7 +40,7 @@ some_run = record { id = in_tree 0 (record { 0 = 0 }); node = empty_node TextRun
 linked_same : (n p : Option NodeId) (a b : SentRun) → ((is_none n && is_none p) || (leads_to n b && leads_to p a)) ≡ true → not (is_some p) ≡ not (is_some n)
 linked_same None None a b e = refl
 linked_same None (Some q) a b e = let f : false ≡ true = e in cc
-linked_same (Some m) None a b e = let f : (leads_to (Some m) b && false) ≡ true = e in let g = both (leads_to (Some m) b) false f in let h : false ≡ true = g.1 in cc
+linked_same (Some m) None a b e = let f : (leads_to (Some m) b && false) ≡ true = e in let g = and_parts (leads_to (Some m) b) false f in let h : false ≡ true = g.1 in cc
 linked_same (Some m) (Some q) a b e = refl
 
 cut_count : (g : List ℕ → List ℕ) (bs ns : List ℕ) → length (map g (cut_by bs ns)) ≡ length ns
@@ -101,10 +97,10 @@ whole_text w root text =
     let runs = sent_runs w root in
     let pw = is_password w root in
     let m = needs_masking w root in
-    let some : 0 < length runs = ltb-true _ _ (both (says (λ d. holds_text d.role) w root) _ text.runs).1 in
+    let some : 0 < length runs = ltb-true _ _ (and_parts (says (λ d. holds_text d.role) w root) _ text.runs).1 in
     let same : length (shown w root pw m runs) ≡ length runs = length_shown w root pw m runs in
-    let links = both (list_all (λ (p : SentRun × SentRun). links_agree p.0 p.1) (neighbours runs)) _ text.links in
-    let ends = both (option_map_or (λ (r : SentRun). is_none r.node.previous_on_line) (slice_get runs 0) true) _ links.1 in
+    let links = and_parts (list_all (λ (p : SentRun × SentRun). links_agree p.0 p.1) (neighbours runs)) _ text.links in
+    let ends = and_parts (option_map_or (λ (r : SentRun). is_none r.node.previous_on_line) (slice_get runs 0) true) _ links.1 in
     record {
       some = omega (arith, some, same);
       empty_last = λ r h.
@@ -136,7 +132,7 @@ whole_text w root text =
     words_in_run r k true e h =
         let at : r < length (sent_runs w root) = ltb-true _ _ e in
         let ws = words_at w root (is_password w root) (needs_masking w root) (sent_runs w root) r at in
-        let fits = both (list_all (λ (p : ℕ × ℕ). nat_lt p.0 p.1) (neighbours (get_or (sent_runs w root) r some_run).node.word_starts)) _ (rules_of r at) in
+        let fits = and_parts (list_all (λ (p : ℕ × ℕ). nat_lt p.0 p.1) (neighbours (get_or (sent_runs w root) r some_run).node.word_starts)) _ (rules_of r at) in
         let within = within_of (is_password w root) (get_or (sent_runs w root) r some_run).node.word_starts (said_count (get_or (sent_runs w root) r some_run)) k fits.1 (subst (λ (xs : List ℕ). k < length xs) ws h) in
         omega (arith, within, ap (λ (xs : List ℕ). slice_index xs k) ws, count_at w root (is_password w root) (needs_masking w root) (sent_runs w root) r at)
     words_in_run r k false e h =
@@ -146,6 +142,6 @@ whole_text w root text =
     rising : (r : ℕ) (b : Bool) → nat_lt r (length (sent_runs w root)) ≡ b → IsStrictlyIncreasing (words_in (shown w root (is_password w root) (needs_masking w root) (sent_runs w root)) r)
     rising r true e =
         let at : r < length (sent_runs w root) = ltb-true _ _ e in
-        let fits = both (list_all (λ (p : ℕ × ℕ). nat_lt p.0 p.1) (neighbours (get_or (sent_runs w root) r some_run).node.word_starts)) _ (rules_of r at) in
+        let fits = and_parts (list_all (λ (p : ℕ × ℕ). nat_lt p.0 p.1) (neighbours (get_or (sent_runs w root) r some_run).node.word_starts)) _ (rules_of r at) in
         subst IsStrictlyIncreasing (sym (words_at w root (is_password w root) (needs_masking w root) (sent_runs w root) r at)) (rise_of (is_password w root) (get_or (sent_runs w root) r some_run).node.word_starts fits.0)
     rising r false e = let out = ltb-false _ _ e in no_rise _ (no_words_past w root (is_password w root) (needs_masking w root) (sent_runs w root) r (omega (arith, out)))
