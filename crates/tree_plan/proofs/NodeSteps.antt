@@ -19,8 +19,8 @@ use Rattle.tree_plan.proofs.IdMaps.{Put, some_is}
 pub data_compared : (id : FullNodeId) (n : Named) (xs : List FullNodeId) (graft now : Option TreeId) (d : NodeData) (a b c : Comparing) (entries : List (FullNodeId × Named))
     → now ≡ d.tree_id → Put id (Some n) (at a.named) (at entries) → (IsSome (at a.named id) → length entries ≡ length a.named)
     → Leaves id xs (child_ids id d) 0 (length xs) a.left b.left a.entered b.entered → Gathers (OnlyIn id (child_ids id d) xs) (spots_of a.entered) (spots_of b.entered)
-    → b ≡ record { named = entries; left = b.left; entered = b.entered; grafted = a.grafted; lost = a.lost; gained = a.gained }
-    → c ≡ record { named = b.named; left = b.left; entered = b.entered; grafted = b.grafted; lost = c.lost; gained = c.gained }
+    → b ≡ record a { named = entries; left = b.left; entered = b.entered }
+    → c ≡ record b { lost = c.lost; gained = c.gained }
     → ChangesGraft graft now b c → ComparesData id n xs graft d a c
 data_compared id n xs graft now d a b c entries is put count left entered first second grafts = record {
   named = subst (λ m. Put id (Some n) (at a.named) (at m)) (sym map_is) put;
@@ -49,7 +49,7 @@ data_compared id n xs graft now d a b c entries is put count left entered first 
 -- a node is compared: its graft first, and then its data
 pub node_compared : (w : World) (id : FullNodeId) (entry : ℕ) (d : NodeData) (a b c : Comparing) (n : Named) (xs : List FullNodeId) (graft : Option TreeId)
     → TakesGraft id d (at_name a.grafted) (at_name b.grafted)
-    → b ≡ record { named = a.named; left = a.left; entered = a.entered; grafted = b.grafted; lost = a.lost; gained = a.gained }
+    → b ≡ record a { grafted = b.grafted }
     → c.grafted ≡ b.grafted → IsEntryOf w id entry d n → xs ≡ listed_ids w id → graft ≡ graft_name w id → ComparesData id n xs graft d b c → ComparesNode w id entry d a c
 node_compared w id entry d a b c n xs graft takes first stays is lists grafts h = record {
   grafted = subst (λ m. TakesGraft id d (at_name a.grafted) (at_name m)) (sym stays) takes;

@@ -50,6 +50,36 @@ pub(crate) fn take(
     }
 }
 
+/// Among so many nodes a search takes less than a list of where each is.
+const FEW: usize = 16;
+
+/// Whether the update's nodes ascend by their ids.
+fn are_in_order(named: &[(FullNodeId, Named)]) -> bool {
+    for (row, item) in named.iter().enumerate() {
+        if item.1.entry != row {
+            return false;
+        }
+    }
+    true
+}
+
+/// Of each entry of the update's nodes, its index among those sorted by id; none if they are in one order, or few.
+fn rows_of(alloc: Global, named: &[(FullNodeId, Named)]) -> Result<Vec<usize>, UpdateError>
+    ensures err { IfErr result (λ e. e ≡ Memory) }
+{
+    let mut rows = Vec::new(alloc);
+    if named.len() <= FEW || are_in_order(named) {
+        return Ok(rows);
+    }
+    rows.resize(named.len(), 0)?;
+    for (row, item) in named.iter().enumerate() {
+        if let Some(found) = rows.get_mut(item.1.entry) {
+            *found = row;
+        }
+    }
+    Ok(rows)
+}
+
 /// The child at an index of a list.
 fn child_at(parent: FullNodeId, children: &[NodeId], index: usize) -> Option<FullNodeId>
     ensures { result ≡ slice_get (map (in_tree parent.tree) children.now) index }
@@ -304,6 +334,14 @@ impl Comparing {
         Ok(())
     }
 
+    /// Where the search for the node of an entry starts.
+    fn row_of(&self, entry: usize) -> usize {
+        match self.rows.get(entry) {
+            Some(row) => *row,
+            None => entry,
+        }
+    }
+
     /// Compares a node's data with what it listed and grafted before.
     fn compare_data(
         &mut self,
@@ -318,7 +356,7 @@ impl Comparing {
         ensures rest { self.new.grafted ≡ self.old.grafted }
         ensures err { IfErr result (λ e. e ≡ Memory) }
     {
-        let mut near = named.entry;
+        let mut near = self.row_of(named.entry);
         self.named.change_near(id, named, &mut near);
         let lists = Lists {
             parent: id,
@@ -378,8 +416,10 @@ impl Comparing {
         ensures ok { IfOk result (λ c. BeginsComparing opened.now named c) }
         ensures err { IfErr result (λ e. e ≡ Memory) }
     {
+        let rows = rows_of(alloc, named.entries())?;
         let mut comparing = Comparing {
             named,
+            rows,
             left: RowList::new(alloc),
             entered: RowList::new(alloc),
             grafted: BTreeMap::new(alloc),
@@ -399,6 +439,7 @@ impl Comparing {
     {
         let Comparing {
             named,
+            rows: _,
             left,
             entered,
             grafted,

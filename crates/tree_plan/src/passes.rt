@@ -44,6 +44,8 @@ pub(crate) struct Arrival {
 #[derive(Drop)]
 pub(crate) struct Comparing {
     pub(crate) named: SortedRows<Named>,
+    /// Of each entry of the update's nodes, the index in `named` at which its search starts; empty if they are in one order, or few.
+    pub(crate) rows: Vec<usize>,
     /// The nodes that left a spot, with the spot, without those that have only shifted.
     pub(crate) left: RowList<Option<Place>>,
     /// The nodes that entered a spot.
