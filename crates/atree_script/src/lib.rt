@@ -8,7 +8,6 @@ mod printer;
 mod refusals;
 mod replies;
 mod run;
-mod sides;
 
 pub use ending::{Teller, count_after, next_number, report_refusal, report_reply, tell_as_asked};
 pub use playing::{Played, Player, play, run_told, stopped_by};
@@ -20,4 +19,4 @@ pub use script_lines::{
     end_run, end_script_run, is_like_a_file, miscounted, number, read_option, role_named,
     run_program, run_without_arguments, tell_no_memory, tree_named, unknown_word, write_quoted,
 };
-pub use sides::write_sides;
+pub use script_words::sides::write_sides;

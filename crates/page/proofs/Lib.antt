@@ -1,17 +1,4 @@
-pub mod Carrying
 pub mod Ended
-pub mod FactsKnown
 pub mod Failing
-pub mod FieldsAlike
-pub mod FieldsTold
-pub mod Focused
-pub mod Hiding
 pub mod Items
-pub mod LeftOut
-pub mod Opened
 pub mod Reporting
-pub mod SaidAlike
-pub mod SameRuns
-pub mod Shared
-pub mod Told
-pub mod Viewed

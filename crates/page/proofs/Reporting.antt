@@ -14,8 +14,8 @@ use Rattle.session.specs.declared.commands.Command.{Command}
 use Rattle.session.specs.declared.commands.Reply.{Reply}
 use Rattle.session.proofs.StepEvents.{step_differences}
 use Rattle.session.specs.Replied.{IsStep}
-use Rattle.page.specs.declared.found.Facts.{Facts}
-use Rattle.page.specs.Found.{AreReady, IsOfStep}
+use Rattle.page_states.specs.declared.found.Facts.{Facts}
+use Rattle.page_states.specs.Found.{AreReady, IsOfStep}
 use Rattle.page.specs.Reports.{Report, Reports}
 
 seen_there : (w : World) (id : Option FullNodeId) → IfSome (option_map (seen_in w) id) (λ n. n.world ≡ w)

@@ -1,15 +1,4 @@
-pub mod Again
-pub mod Differences
 pub mod Endings
-pub mod Found
-pub mod Known
-pub mod Laws
-pub mod Named
-pub mod Places
 pub mod Reports
-pub mod Said
 pub mod Shown
-pub mod Sources
 pub mod States
-pub mod Texts
-pub mod Written

@@ -11,15 +11,15 @@ use Rattle.session.specs.Replied.{IsStep}
 use Rattle.session.specs.declared.commands.Command.{Command}
 use Rattle.session.specs.declared.commands.Reply.{Reply}
 use Rattle.views.specs.Nodes.{seen_node}
-use Rattle.page.specs.declared.found.View.{View}
-use Rattle.page.specs.declared.marks.Mark.{Mark}
-use Rattle.page.specs.declared.marks.Mark.TheVariants.{Added, Updated}
-use Rattle.page.specs.declared.marks.Tally.{Tally}
+use Rattle.page_states.specs.declared.found.View.{View}
+use Rattle.page_states.specs.declared.marks.Mark.{Mark}
+use Rattle.page_states.specs.declared.marks.Mark.TheVariants.{Added, Updated}
+use Rattle.page.specs.declared.tally.Tally.{Tally}
 use Rattle.page.specs.declared.sections.Outcome.{Outcome}
-use Rattle.page.specs.Differences.{TellsDifferences}
-use Rattle.page.specs.Found.{IsRight, view_seen}
-use Rattle.page.specs.Named.{name_text, linked_text}
-use Rattle.page.specs.Said.{arrow}
+use Rattle.page_states.specs.Differences.{TellsDifferences}
+use Rattle.page_states.specs.Found.{IsRight, view_seen}
+use Rattle.page_states.specs.Named.{name_text, linked_text}
+use Rattle.page_states.specs.Said.{arrow}
 use Rattle.page.specs.States.{counted, is_quiet, outcome_of}
 
 abbrev pub Bytes : Type 0

@@ -9,11 +9,11 @@ use Rattle.atree_script.specs.Scripts.{Writes}
 use Rattle.model.specs.World.{World}
 use Rattle.script_lines.specs.Ends.{Tells, status_at_end}
 use Rattle.script_words.specs.declared.stops.Stop.{Stop}
-use Rattle.script_words.specs.declared.stops.Stop.TheVariants.{Memory, WriteFault}
+use Rattle.script_words.specs.declared.stops.Stop.TheVariants.{WriteFault}
 use Rattle.session.specs.declared.commands.Command.{Command}
-use Rattle.page.specs.declared.faults.Fault.{Fault}
-use Rattle.page.specs.declared.faults.Fault.TheVariants as fault
-use Rattle.page.specs.declared.marks.Tally.{Tally}
+use Rattle.page_states.specs.declared.faults.Fault.{Fault}
+use Rattle.page_states.specs.Faults.{stop_of}
+use Rattle.page.specs.declared.tally.Tally.{Tally}
 use Rattle.page.specs.declared.sections.Cause.{Cause}
 use Rattle.page.specs.declared.sections.Cause.TheVariants.{Update}
 use Rattle.page.specs.declared.sections.Outcome.{Outcome}
@@ -33,11 +33,6 @@ pub record Pages : Type 0 where
 
 abbrev pub pages_of : ℕ → List Titled → Bytes → Pages
 pages_of updates states written = record { updates = updates; states = states; written = written }
-
--- why a page is not written further
-abbrev pub stop_of : Fault → Stop
-stop_of fault.Memory = Memory
-stop_of fault.Output = WriteFault
 
 abbrev pub summary : Cause → Outcome → Tally → Summary
 summary cause outcome tally = record { cause = cause; outcome = outcome; tally = tally }

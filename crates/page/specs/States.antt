@@ -9,7 +9,7 @@ use Rattle.session.specs.declared.commands.Command.TheVariants as command
 use Rattle.session.specs.declared.commands.Reply.{Reply}
 use Rattle.session.specs.declared.commands.Reply.TheVariants as reply
 use Rattle.tree_changes.specs.RefusalTexts.{refusal_text}
-use Rattle.page.specs.declared.marks.Tally.{Tally}
+use Rattle.page.specs.declared.tally.Tally.{Tally}
 use Rattle.page.specs.declared.sections.Cause.{Cause}
 use Rattle.page.specs.declared.sections.Cause.TheVariants.{Update, HostOn, HostOff}
 use Rattle.page.specs.declared.sections.Outcome.{Outcome}

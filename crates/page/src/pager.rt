@@ -24,20 +24,15 @@ ghost use Rattle.page.specs.Shown.{
 ghost use Rattle.page.specs.States.{next_number, updates_after};
 ghost use Rattle.page.specs.declared.sections.Outcome.TheVariants.{Begun, Refused};
 
-use crate::again::{Kept, kept_of, ways_of};
-use crate::faults::Fault;
-use crate::looks::looks_of;
-use crate::marks::{Marks, Tally};
-use crate::outline::write_outline;
-use crate::picture::{frame_of, write_picture};
-use crate::places::places;
 use crate::reported::{Reported, report_step};
 use crate::sections::{
     Cause, Outcome, Summary, Titled, begin_state, cause_of, write_end, write_head, write_outcome,
 };
 use crate::stops::{Ending, end_told, ending_of};
+use crate::tally::Tally;
 use accesskit_consumer::{StateRef, UpdateError};
 use atree_script::{Played, Player, Program, Stop, end_run, play};
+use page_states::{Fault, Kept, Marks, write_state};
 use session::{Command, Query, Session};
 use std::alloc::Global;
 use std::collections::BTreeMap;
@@ -380,26 +375,4 @@ fn write_tree<O: Write>(
         }
         Outcome::Same | Outcome::Refused(_) => Ok(()),
     }
-}
-
-/// Writes the outline of a state, and its picture beside it, and keeps what is shown.
-fn write_state<O: Write>(
-    alloc: Global,
-    number: u64,
-    state: StateRef,
-    marks: &Marks,
-    kept: &mut Kept,
-    output: &mut O,
-) -> Result<(), Fault> {
-    let places = places(alloc, state, marks)?;
-    let frame = frame_of(&places);
-    let looks = looks_of(alloc, state, frame, &places)?;
-    let ways = ways_of(alloc, kept, &places, &looks)?;
-    output.write_all(b"<div class=\"state\">\n")?;
-    write_outline(number, &places, &looks, &ways, output)?;
-    let focus = state.focus();
-    write_picture(number, frame, &places, &looks, &ways, focus, output)?;
-    output.write_all(b"</div>\n")?;
-    *kept = kept_of(alloc, number, &places, looks, &ways)?;
-    Ok(())
 }

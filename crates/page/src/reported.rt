@@ -5,19 +5,19 @@ ghost use Rattle.model.specs.Events.{Event, Told};
 ghost use Rattle.model.specs.World.{World};
 ghost use Rattle.session.specs.Replied.{IsStep};
 ghost use Rattle.views.specs.Nodes.{seen_node, seen_through, world_at};
-ghost use Rattle.page.specs.Found.{AreReady, AreRightIf, IsOfStep, IsSeenIn};
-ghost use Rattle.page.specs.Named.{name_text, linked_text};
+ghost use Rattle.page_states.specs.Found.{AreReady, AreRightIf, IsOfStep, IsSeenIn};
+ghost use Rattle.page_states.specs.Named.{name_text, linked_text};
 ghost use Rattle.page.specs.Reports.{item_begun, item_ended, list_begun, list_ended, new_focus, old_focus, report_of, Reports, ReportsAdded, ReportsFocus, ReportsRemoved, ReportsStep, ReportsUpdated, TellsUpdated};
-ghost use Rattle.page.specs.Said.{arrow};
+ghost use Rattle.page_states.specs.Said.{arrow};
 
-use crate::differences::write_differences;
-use crate::faults::Fault;
-use crate::found::{Found, View, view_if, view_of};
-use crate::marks::{Mark, Marks, Tally};
-use crate::names::{write_linked_name, write_name};
 use crate::sections::{Outcome, outcome_of};
+use crate::tally::Tally;
 use accesskit_consumer::{NodeRef, TreeChangeHandler};
 use html::write_element;
+use page_states::{
+    Fault, Found, Mark, Marks, View, view_if, view_of, write_differences, write_linked_name,
+    write_name,
+};
 use session::{Command, Reply, Session};
 use std::alloc::{AllocError, Global};
 use std::io::{self, Write};

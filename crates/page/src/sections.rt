@@ -35,9 +35,9 @@ ghost use Rattle.page.specs.States.{
   why_text,
 };
 
-use crate::marks::Tally;
 use crate::sheet::SHEET;
 use crate::stops::Ending;
+use crate::tally::Tally;
 use accesskit_consumer::UpdateError;
 use atree_script::Stop;
 use html::write_escaped_bytes;

@@ -10,6 +10,7 @@ mod items;
 pub mod name_lists;
 pub mod names;
 pub mod quoted;
+pub mod sides;
 pub mod stops;
 mod tables;
 mod unquoting;

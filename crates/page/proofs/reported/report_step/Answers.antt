@@ -5,7 +5,7 @@ use Rattle.model.specs.Events.{Told}
 use Rattle.session.specs.Replied.{IsStep}
 use Rattle.session.specs.declared.commands.Reply.{Reply}
 use Rattle.page.specs.Reports.{Reports, list_ended, report_of}
-use Rattle.page.specs.declared.marks.Tally.{Tally}
+use Rattle.page.specs.declared.tally.Tally.{Tally}
 use Rattle.page.proofs.Reporting.{no_fault}
 use Rattle.page.proofs.reported.report_step.Goals as goal
 

@@ -1,6 +1,6 @@
 use Rattle.std.proofs.Common.{◌++◌, codes}
 use Rattle.std.proofs.KnownBytes.{Appends-trans}
-use Rattle.page.specs.Named.{linked_text}
+use Rattle.page_states.specs.Named.{linked_text}
 use Rattle.page.specs.Reports.{item_begun, item_ended}
 use Rattle.page.proofs.reported.write_added.Goals as goal
 

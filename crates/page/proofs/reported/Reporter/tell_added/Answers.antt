@@ -2,8 +2,8 @@ use Rattle.std.proofs.Common.{ℕ, Some, ap, subst}
 use Rattle.std.specs.BTreeMap.{Updates}
 use Rattle.model.specs.declared.FullNodeId.{FullNodeId}
 use Rattle.model.specs.FullIds.{full_cmp}
-use Rattle.page.specs.declared.marks.Mark.TheVariants.{Added}
-use Rattle.page.specs.declared.marks.Tally.{Tally}
+use Rattle.page_states.specs.declared.marks.Mark.TheVariants.{Added}
+use Rattle.page.specs.declared.tally.Tally.{Tally}
 use Rattle.page.proofs.reported.Reporter.tell_added.Goals as goal
 
 pub returns-clause-told : goal.returns-clause-told

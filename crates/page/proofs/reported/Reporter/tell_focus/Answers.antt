@@ -1,5 +1,5 @@
 use Rattle.std.proofs.Common.{ℕ, refl, ap}
-use Rattle.page.specs.declared.marks.Tally.{Tally}
+use Rattle.page.specs.declared.tally.Tally.{Tally}
 use Rattle.page.proofs.reported.Reporter.tell_focus.Goals as goal
 
 pub returns-clause-told : goal.returns-clause-told

@@ -1,5 +1,5 @@
 use Rattle.std.proofs.Common.{refl, sym, subst, ◌∙◌}
-use Rattle.page.specs.Found.{AreRightIf}
+use Rattle.page_states.specs.Found.{AreRightIf}
 use Rattle.page.proofs.Failing.{done, none_is, stays, told_rightly}
 use Rattle.page.proofs.reported.ReporterTreeChangeHandler.node_removed.Goals as goal
 

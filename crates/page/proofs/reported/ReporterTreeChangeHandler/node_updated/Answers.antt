@@ -1,6 +1,6 @@
 use Rattle.std.proofs.Common.{refl, sym, subst, ◌∙◌}
 use Rattle.views.specs.Nodes.{world_at}
-use Rattle.page.specs.Found.{AreReady, AreRightIf}
+use Rattle.page_states.specs.Found.{AreReady, AreRightIf}
 use Rattle.page.proofs.Failing.{done, none_is, stays, told_rightly}
 use Rattle.page.proofs.reported.ReporterTreeChangeHandler.node_updated.Goals as goal
 

@@ -1,0 +1,13 @@
+pub mod Carrying
+pub mod FactsKnown
+pub mod FieldsAlike
+pub mod FieldsTold
+pub mod Focused
+pub mod Hiding
+pub mod LeftOut
+pub mod Opened
+pub mod SaidAlike
+pub mod SameRuns
+pub mod Shared
+pub mod Told
+pub mod Viewed

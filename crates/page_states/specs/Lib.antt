@@ -1,0 +1,12 @@
+pub mod Again
+pub mod Differences
+pub mod Faults
+pub mod Found
+pub mod Known
+pub mod Laws
+pub mod Named
+pub mod Places
+pub mod Said
+pub mod Sources
+pub mod Texts
+pub mod Written

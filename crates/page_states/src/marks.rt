@@ -1,0 +1,32 @@
+//! The effect of an update on nodes.
+
+use std::collections::BTreeMap;
+use views::FullNodeId;
+
+/// The effect of an update on a node of the new state.
+#[derive(Clone, Copy, Debug, PartialEq, Eq)]
+pub enum Mark {
+    Added,
+    Updated,
+}
+
+/// The nodes that an update added or updated.
+pub type Marks = BTreeMap<FullNodeId, Mark>;
+
+impl Mark {
+    /// The class of the element that shows the node.
+    pub(crate) fn class(self) -> &'static str {
+        match self {
+            Mark::Added => "a",
+            Mark::Updated => "u",
+        }
+    }
+
+    /// The word shown for the node.
+    pub(crate) fn word(self) -> &'static str {
+        match self {
+            Mark::Added => "added",
+            Mark::Updated => "updated",
+        }
+    }
+}
