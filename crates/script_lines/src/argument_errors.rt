@@ -7,7 +7,7 @@ ghost use Rattle.script_lines.specs.ArgumentErrors.{IsNoOption, IsUnknownOption,
 ghost use Rattle.script_lines.specs.declared.argument_errors.ArgumentError.TheVariants.{Memory};
 
 use line_text::nearest;
-use std::alloc::{AllocError, AllocFailed, Global};
+use std::alloc::{AllocError, Global};
 
 /// The option that every program has.
 const HELP: &str = "--help";
@@ -57,14 +57,6 @@ impl From<AllocError> for ArgumentError {
     ghost from_gives = { λ _ error. error ≡ Memory };
 
     fn from(_refused: AllocError) -> ArgumentError {
-        ArgumentError::Memory
-    }
-}
-
-impl<T: Drop> From<AllocFailed<T>> for ArgumentError {
-    ghost from_gives = { λ _ error. error ≡ Memory };
-
-    fn from(_refused: AllocFailed<T>) -> ArgumentError {
         ArgumentError::Memory
     }
 }

@@ -107,7 +107,9 @@ fn words_given(rt: &HostRuntime) -> Result<Vec<String>, ArgumentError> {
     match env::args(rt) {
         Ok(args) => {
             for word in args.skip(1) {
-                words.push(word)?;
+                if words.push(word).is_err() {
+                    return Err(ArgumentError::Memory);
+                }
             }
             Ok(words)
         }
