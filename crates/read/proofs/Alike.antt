@@ -5,6 +5,7 @@ use Rattle.std.specs.List.{flat_map, range_with_len}
 use Rattle.std.specs.Option.{option_map_or}
 use Rattle.std.proofs.lemmas.Bool.{lt-ltb, or_parts}
 use Rattle.schema.specs.NodeData.{NodeData}
+use Rattle.schema.specs.declared.values.TextPosition.{TextPosition}
 use Rattle.schema.specs.declared.values.TextSelection.{TextSelection}
 use Rattle.model.specs.declared.FullNodeId.{FullNodeId}
 use Rattle.model.specs.World.{World, data_of}
@@ -136,19 +137,16 @@ module _ (p : FullNodeId) (w v : World) (formed : IsFormed w) (alike : DifferInP
   selections_of : selection_of w p ≡ selection_of v p
   selections_of i = if alike.texts i then raw_selections i p else None
 
+  ends : (end : TextSelection → TextPosition) (o : Option TextSelection)
+      → option_and_then (λ (s : TextSelection). nearest_named (flat_text w p) (end s)) o ≡ option_and_then (λ (s : TextSelection). nearest_named (flat_text v p) (end s)) o
+  ends end None = refl
+  ends end (Some s) = text_one (λ t. nearest_named t (end s)) (λ t. nearest t (end s))
+
   anchors : selection_anchor w p ≡ selection_anchor v p
-  anchors = (λ i. option_and_then (λ s. nearest_named (flat_text w p) s.anchor) (selections_of i)) ∙ go (selection_of v p)
-    where
-      go : (o : Option TextSelection) → option_and_then (λ (s : TextSelection). nearest_named (flat_text w p) s.anchor) o ≡ option_and_then (λ (s : TextSelection). nearest_named (flat_text v p) s.anchor) o
-      go None = refl
-      go (Some s) = text_one (λ t. nearest_named t s.anchor) (λ t. nearest t s.anchor)
+  anchors = (λ i. option_and_then (λ s. nearest_named (flat_text w p) s.anchor) (selections_of i)) ∙ ends (λ s. s.anchor) (selection_of v p)
 
   foci : selection_focus w p ≡ selection_focus v p
-  foci = (λ i. option_and_then (λ s. nearest_named (flat_text w p) s.focus) (selections_of i)) ∙ go (selection_of v p)
-    where
-      go : (o : Option TextSelection) → option_and_then (λ (s : TextSelection). nearest_named (flat_text w p) s.focus) o ≡ option_and_then (λ (s : TextSelection). nearest_named (flat_text v p) s.focus) o
-      go None = refl
-      go (Some s) = text_one (λ t. nearest_named t s.focus) (λ t. nearest t s.focus)
+  foci = (λ i. option_and_then (λ s. nearest_named (flat_text w p) s.focus) (selections_of i)) ∙ ends (λ s. s.focus) (selection_of v p)
 
   selections : selection w p ≡ selection v p
   selections = (λ i. option_and_then (λ a. option_map (range_between (flat_text w p) a) (foci i)) (anchors i)) ∙ go (selection_anchor v p) (selection_focus v p)
