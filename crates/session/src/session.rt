@@ -1,11 +1,13 @@
 //! Sessions and their runs.
 ghost use Rattle.std.specs.Prelude.{◌≡◌, IsTrue, List, IfOk, OnErr, IfErr, IfSome, IsSomeAnd};
 ghost use Rattle.schema.specs.UpdateData.{update_data};
+ghost use Rattle.model.specs.Codes.{coded_world};
 ghost use Rattle.model.specs.Events.{Event, Told};
 ghost use Rattle.model.specs.Mirror.{AreRecordsOf, MirrorsWhileKept};
 ghost use Rattle.model.specs.Run.{Begins, Does, ToUpdate, ToHostFocus, Accepted};
-ghost use Rattle.model.specs.State.{empty_world};
+ghost use Rattle.model.specs.State.{empty_world, IsState};
 ghost use Rattle.model.specs.Queries.{takes_memory};
+ghost use Rattle.model.specs.World.{World};
 ghost use Rattle.tree_changes.specs.Refusals.{IsRefusal};
 ghost use Rattle.trees.specs.Replies.{reply_of};
 ghost use Rattle.session.specs.Replied.{reply_said, IsAnswer, RunsAs, IsStep, IsAlike, IsAlikeStep};
@@ -37,10 +39,6 @@ pub struct Session {
 }
 
 impl Model for Session {
-    ghost use Rattle.model.specs.World.{World};
-    ghost use Rattle.model.specs.Codes.{coded_world};
-    ghost use Rattle.model.specs.State.{IsState};
-
     ghost Value = { World };
 
     ghost coded = { coded_world };
