@@ -1,8 +1,7 @@
 //! The program `atree`: runs a script from standard input, and prints events, answers and the tree.
 #![tactic(auto)]
 
-use atree_script::{Program, run_program, run_script};
-use std::alloc::Global;
+use atree_script::{Program, Streams, run_program, run_script};
 use std::io::{BufRead, Write};
 use std::process::ExitCode;
 
@@ -10,14 +9,8 @@ use std::process::ExitCode;
 struct Atree;
 
 impl Program for Atree {
-    fn run<R: BufRead, O: Write, E: Write>(
-        &self,
-        alloc: Global,
-        input: &mut R,
-        output: &mut O,
-        errors: &mut E,
-    ) -> u8 {
-        run_script(alloc, input, output, errors)
+    fn run<R: BufRead, O: Write, E: Write>(&self, streams: &mut Streams<R, O, E>) -> u8 {
+        run_script(streams)
     }
 }
 

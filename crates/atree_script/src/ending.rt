@@ -10,7 +10,8 @@ use crate::playing::{Played, Player, play, stopped_by};
 use accesskit_consumer::node::NodeRef;
 use accesskit_consumer::tree::{TreeChangeHandler, UpdateError};
 use script_lines::{
-    Arguments, Manual, Program, Stop, end_run, read_arguments, run_program, tell_script_stop,
+    Arguments, Manual, Program, Stop, Streams, end_run, read_arguments, run_program,
+    tell_script_stop,
 };
 use session::{Command, Query, Reply, Session};
 use std::alloc::{AllocError, Global};
@@ -199,41 +200,24 @@ struct Telling<T> {
 }
 
 impl<T: Teller> Program for Telling<T> {
-    fn run<R: BufRead, O: Write, E: Write>(
-        &self,
-        alloc: Global,
-        input: &mut R,
-        output: &mut O,
-        errors: &mut E,
-    ) -> u8 {
-        tell_script(&self.teller, alloc, input, output, errors)
+    /// Reads a script and prints what was asked about the tree that it leaves, or that there isn't one. Returns the exit
+    /// status: 0 if what was asked for exists, and 1 if it doesn't; 2, 3 and 4 are as for [`crate::run_script`].
+    fn run<R: BufRead, O: Write, E: Write>(&self, streams: &mut Streams<R, O, E>) -> u8 {
+        let alloc = streams.alloc;
+        let session = match read_script(alloc, &mut streams.input, &mut streams.errors) {
+            Ok(session) => session,
+            Err(status) => return status,
+        };
+        let (is_there, ended) = match told(&self.teller, alloc, &session, &mut streams.output) {
+            Ok(is_there) => (is_there, Ok(())),
+            Err(stop) => (true, Err(stop)),
+        };
+        let status = end_run(ended, 0, &mut streams.output, &mut streams.errors);
+        if status == 0 && !is_there {
+            return NOT_THERE;
+        }
+        status
     }
-}
-
-/// Reads a script and prints what was asked about the tree that it leaves, or that there isn't one. Returns the exit
-/// status: 0 if what was asked for exists, and 1 if it doesn't; 2, 3 and 4 are as for [`crate::run_script`].
-fn tell_script<T: Teller, R: BufRead, O: Write, E: Write>(
-    teller: &T,
-    alloc: Global,
-    input: &mut R,
-    output: &mut O,
-    errors: &mut E,
-) -> u8
-    ensures { result ≤ 4 }
-{
-    let session = match read_script(alloc, input, errors) {
-        Ok(session) => session,
-        Err(status) => return status,
-    };
-    let (is_there, ended) = match told(teller, alloc, &session, output) {
-        Ok(is_there) => (is_there, Ok(())),
-        Err(stop) => (true, Err(stop)),
-    };
-    let status = end_run(ended, 0, output, errors);
-    if status == 0 && !is_there {
-        return NOT_THERE;
-    }
-    status
 }
 
 /// Prints what was asked about the tree, or that there isn't one.

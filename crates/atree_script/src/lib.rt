@@ -16,7 +16,7 @@ pub use replies::write_text;
 pub use run::run_script;
 pub use script_lines::{
     ArgumentError, ArgumentKind, Arguments, Manual, Program, ScriptCommand, ScriptReader, Stop,
-    end_run, end_script_run, is_like_a_file, miscounted, number, read_option, role_named,
+    Streams, end_run, end_script_run, is_like_a_file, miscounted, number, read_option, role_named,
     run_program, run_without_arguments, tell_no_memory, tree_named, unknown_word, write_quoted,
 };
 pub use script_words::sides::write_sides;

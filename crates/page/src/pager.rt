@@ -31,7 +31,7 @@ use crate::sections::{
 use crate::stops::{Ending, end_told, ending_of};
 use crate::tally::Tally;
 use accesskit_consumer::{StateRef, UpdateError};
-use atree_script::{Played, Player, Program, Stop, end_run, play};
+use atree_script::{Played, Player, Program, Stop, Streams, end_run, play};
 use page_states::{Fault, Kept, Marks, write_state};
 use session::{Command, Query, Session};
 use std::alloc::Global;
@@ -49,20 +49,16 @@ impl Program for Page {
     /// `errors` too. Unless an output has an error, the page is completed in each case and says why it ended; after an
     /// error of an output nothing more is written. Each refused update is reported on `errors` too, by its number among
     /// the updates. If memory runs out in an update, the update is refused and the script goes on.
-    fn run<R: BufRead, O: Write, E: Write>(
-        &self,
-        alloc: Global,
-        input: &mut R,
-        output: &mut O,
-        errors: &mut E,
-    ) -> u8
+    fn run<R: BufRead, O: Write, E: Write>(&self, streams: &mut Streams<R, O, E>) -> u8
         ensures bound { result ≤ 4 }
         ensures not_one { result ≢ 1 }
-        ensures shows { ShowsScript (R.remaining input.old) (O.contents output.old) (O.contents output.new)
-            (E.contents errors.old) (E.contents errors.new) result }
+        ensures shows { ShowsScript (R.remaining streams.old.input) (O.contents streams.old.output)
+            (O.contents streams.new.output) (E.contents streams.old.errors) (E.contents streams.new.errors) result }
     {
+        let output = &mut streams.output;
+        let errors = &mut streams.errors;
         match write_head(output) {
-            Ok(()) => show_script(alloc, input, output, errors),
+            Ok(()) => show_script(streams.alloc, &mut streams.input, output, errors),
             Err(_) => end_run(Err(Stop::WriteFault), 0, output, errors),
         }
     }

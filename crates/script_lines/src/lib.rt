@@ -22,7 +22,7 @@ pub use argument_errors::{
 pub use arguments::{Arguments, Manual, NoArguments, read_arguments, read_option};
 pub use ends::{end_run, end_script_run, tell_no_memory, tell_script_stop, tell_stop};
 pub use line_faults::{FieldSet, LineFault, OtherReason, Reason, column, suggestion, write_fault};
-pub use program::{Program, run_program, run_without_arguments};
+pub use program::{Program, Streams, run_program, run_without_arguments};
 pub use read_back::lines_are_read_back;
 pub use reader::{ScriptCommand, ScriptReader};
 pub use script_words::names::role_named;

@@ -10,16 +10,19 @@ use std::cell::RefCell;
 use std::io::{self, BufRead, BufReader, Write};
 use std::process::ExitCode;
 
+/// What a program has to work with: memory, the script that it reads, and the outputs that it writes.
+#[derive(Drop)]
+pub struct Streams<R, O, E> {
+    pub alloc: Global,
+    pub input: R,
+    pub output: O,
+    pub errors: E,
+}
+
 /// A program that reads a script.
 pub trait Program {
     /// Runs it and returns the exit status: that of [`crate::end_run`], or 1 if what was asked for doesn't exist.
-    fn run<R: BufRead, O: Write, E: Write>(
-        &self,
-        alloc: Global,
-        input: &mut R,
-        output: &mut O,
-        errors: &mut E,
-    ) -> u8
+    fn run<R: BufRead, O: Write, E: Write>(&self, streams: &mut Streams<R, O, E>) -> u8
         ensures { result ≤ 4 };
 }
 
@@ -31,12 +34,17 @@ pub fn run_program<P: Program>(rt: &HostRuntime, program: &P) -> ExitCode {
         return ExitCode::from(tell_no_memory(&mut errors));
     };
     let output = RefCell::new(output);
-    let Ok(mut input) = BufReader::new(alloc, FlushingInput::new(rt.reader(), &output)) else {
+    let Ok(input) = BufReader::new(alloc, FlushingInput::new(rt.reader(), &output)) else {
         return ExitCode::from(tell_no_memory(&mut errors));
     };
-    let mut shared = SharedOutput::new(&output);
-    let status = program.run(alloc, &mut input, &mut shared, &mut errors);
-    drop(input);
+    let mut streams = Streams {
+        alloc,
+        input,
+        output: SharedOutput::new(&output),
+        errors,
+    };
+    let status = program.run(&mut streams);
+    drop(streams);
     // What a failed write left in the buffer must not be written again.
     output.into_inner().discard();
     ExitCode::from(status)

@@ -14,7 +14,7 @@ use accesskit_consumer::StateRef;
 use accesskit_consumer::node::FullNodeId;
 use accesskit_consumer::tree::{Mirror, UpdateError};
 use atree_script::{
-    Played, Player, Program, Stop, end_script_run, play, report_refusal, report_reply,
+    Played, Player, Program, Stop, Streams, end_script_run, play, report_refusal, report_reply,
 };
 use session::{Command, Query, Reply, Session};
 use speaking::Speaker;
@@ -34,55 +34,35 @@ impl Program for Speak {
     /// [`atree_script::run_script`]; of a bad line the column is reported too, and what is wrong in it. An update that
     /// runs out of memory ends the run too, since what it would have said is lost. Queries and `print` in the script say
     /// nothing.
-    fn run<R: BufRead, O: Write, E: Write>(
-        &self,
-        alloc: Global,
-        input: &mut R,
-        output: &mut O,
-        errors: &mut E,
-    ) -> u8
+    fn run<R: BufRead, O: Write, E: Write>(&self, streams: &mut Streams<R, O, E>) -> u8
         ensures bound { result ≤ 4 }
         ensures not_one { result ≢ 1 }
-        ensures speaks { SpeaksScript self.now.is_numbered (R.remaining input.old) (O.contents output.old) (O.contents output.new)
-            (E.contents errors.old) (E.contents errors.new) result }
+        ensures speaks { SpeaksScript self.now.is_numbered (R.remaining streams.old.input) (O.contents streams.old.output)
+            (O.contents streams.new.output) (E.contents streams.old.errors) (E.contents streams.new.errors) result }
     {
-        speak_script(self.is_numbered, alloc, input, output, errors)
+        let output = &mut streams.output;
+        let errors = &mut streams.errors;
+        let mut adapter = Adapter {
+            alloc: streams.alloc,
+            numbering: Numbering::none_yet(self.is_numbered),
+            told: None,
+            output: &mut *output,
+            errors: &mut *errors,
+        };
+        let played = play_aloud(streams.alloc, &mut streams.input, &mut adapter);
+        let Adapter {
+            alloc: _,
+            numbering: _,
+            told,
+            output: spoken,
+            errors: reported,
+        } = adapter;
+        drop(told);
+        // These do nothing. The proof reads from them what the streams have.
+        let _ = &*spoken;
+        let _ = &*reported;
+        end_script_run(played.ended, &played.script, output, errors)
     }
-}
-
-/// Runs a script, and writes what a screen reader would say of it. Returns the exit status.
-fn speak_script<R: BufRead, O: Write, E: Write>(
-    is_numbered: bool,
-    alloc: Global,
-    input: &mut R,
-    output: &mut O,
-    errors: &mut E,
-) -> u8
-    ensures bound { result ≤ 4 }
-    ensures not_one { result ≢ 1 }
-    ensures speaks { SpeaksScript is_numbered (R.remaining input.old) (O.contents output.old) (O.contents output.new)
-        (E.contents errors.old) (E.contents errors.new) result }
-{
-    let mut adapter = Adapter {
-        alloc,
-        numbering: Numbering::none_yet(is_numbered),
-        told: None,
-        output: &mut *output,
-        errors: &mut *errors,
-    };
-    let played = play_aloud(alloc, input, &mut adapter);
-    let Adapter {
-        alloc: _,
-        numbering: _,
-        told,
-        output: spoken,
-        errors: reported,
-    } = adapter;
-    drop(told);
-    // These do nothing. The proof reads from them what the streams have.
-    let _ = &*spoken;
-    let _ = &*reported;
-    end_script_run(played.ended, &played.script, output, errors)
 }
 
 /// Plays a script, and writes what a screen reader would say of it.
