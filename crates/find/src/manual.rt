@@ -7,10 +7,7 @@ pub(crate) const MANUAL: Manual = Manual {
     name: "find",
     arguments: " ROLE [LABEL]",
     option: None,
-    help: HELP,
-};
-
-const HELP: &str = "\
+    help: "\
 Prints the visible nodes with a role, and a label if one is given, of the tree that a script leaves: the value of
 each, its path, its bounds, and what is on top at its centre. The script is read from standard input.
 
@@ -22,4 +19,5 @@ For example:
 
 Exit status: 0 if exactly one node was found, and 1 if none or several were; 2 for a bad line of the script, or wrong
 arguments; 3 if a stream failed; 4 if memory ran out.
-";
+",
+};

@@ -7,10 +7,7 @@ pub(crate) const MANUAL: Manual = Manual {
     name: "page",
     arguments: "",
     option: None,
-    help: HELP,
-};
-
-const HELP: &str = "\
+    help: "\
 Writes an HTML page with each state of a script's tree: the events that led to it, the tree as an outline, and a
 picture of its boxes. The script is read from standard input. There are no arguments.
 
@@ -19,4 +16,5 @@ For example:
 
 Exit status: 0 at the end of the script; 2 for a bad line, or for an argument; 3 if a stream failed; 4 if memory ran
 out.
-";
+",
+};

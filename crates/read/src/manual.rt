@@ -7,10 +7,7 @@ pub(crate) const MANUAL: Manual = Manual {
     name: "read",
     arguments: " ID TREE",
     option: None,
-    help: HELP,
-};
-
-const HELP: &str = "\
+    help: "\
 Prints a text of the tree that a script leaves, as a screen reader steps through it: the selection, and each line
 with its words and characters. The script is read from standard input.
 
@@ -22,4 +19,5 @@ For example:
 
 Exit status: 0 if there is such a text, and 1 if there isn't; 2 for a bad line of the script, or wrong arguments; 3
 if a stream failed; 4 if memory ran out.
-";
+",
+};

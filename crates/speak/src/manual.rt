@@ -7,10 +7,7 @@ pub(crate) const MANUAL: Manual = Manual {
     name: "speak",
     arguments: " [--numbered]",
     option: Some("--numbered"),
-    help: HELP,
-};
-
-const HELP: &str = "\
+    help: "\
 Prints what a small screen reader would say at each step of a script: of the focus, of what changes in the focused
 node, and of live regions. The script is read from standard input. Refused updates are reported on standard error.
 
@@ -22,4 +19,5 @@ For example:
 
 Exit status: 0 at the end of the script; 2 for a bad line, or for an argument; 3 if a stream failed; 4 if memory ran
 out, also in an update.
-";
+",
+};
