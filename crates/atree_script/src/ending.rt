@@ -186,9 +186,9 @@ const NOT_THERE: u8 = 1;
 /// [`script_lines::read_arguments`] says that it is not to run. The exit status is 0 if what was asked for exists, and 1 if it doesn't;
 /// 2, 3 and 4 are as for [`crate::run_script`].
 pub fn tell_as_asked<T: Teller + Arguments>(rt: &HostRuntime, manual: &Manual) -> ExitCode {
-    let asked: Result<T, u8> = read_arguments(rt, manual);
+    let asked: Result<(bool, T), u8> = read_arguments(rt, manual);
     match asked {
-        Ok(teller) => run_program(rt, &Telling { teller }),
+        Ok((_, teller)) => run_program(rt, &Telling { teller }),
         Err(status) => ExitCode::from(status),
     }
 }

@@ -15,8 +15,9 @@ pub use printer::ShownId;
 pub use replies::write_text;
 pub use run::run_script;
 pub use script_lines::{
-    ArgumentError, ArgumentKind, Arguments, Manual, Program, ScriptCommand, ScriptReader, Stop,
-    Streams, end_run, end_script_run, is_like_a_file, miscounted, number, read_option, role_named,
-    run_program, run_without_arguments, tell_no_memory, tree_named, unknown_word, write_quoted,
+    ArgumentError, ArgumentKind, Arguments, Manual, NoArguments, Program, ScriptCommand,
+    ScriptReader, Stop, Streams, end_run, end_script_run, is_like_a_file, miscounted, number,
+    read_arguments, role_named, run_program, run_without_arguments, tell_no_memory, tree_named,
+    unknown_word, write_quoted,
 };
 pub use script_words::sides::write_sides;

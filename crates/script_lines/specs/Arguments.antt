@@ -1,9 +1,9 @@
 -- What a program says of itself and of its arguments.
-use Rattle.std.specs.Prelude.{ℕ, List, [], ◌∷◌, ◌++◌, codes, Bool, true, false, if◌then◌else◌, MatchOption, Option, Some, None, option_copied, Result, Ok, Err, MatchResult, ◌≡◌}
+use Rattle.std.specs.Prelude.{ℕ, List, [], ◌∷◌, ◌++◌, codes, Bool, true, false, if◌then◌else◌, Option, Some, None, option_copied, Result, Ok, Err, MatchResult, ◌≡◌}
 use Rattle.std.specs.Str.{bytes_eq}
 use Rattle.std.specs.String.{string_bytes}
 use Rattle.line_text.specs.Shown.{shown}
-use Rattle.script_lines.specs.ArgumentErrors.{ReadsNone, ReadsWords, options_with}
+use Rattle.script_lines.specs.ArgumentErrors.{ReadsWords, options_with}
 use Rattle.script_lines.specs.Ends.{Tells, told_of}
 use Rattle.script_lines.specs.declared.argument_errors.ArgumentError.{ArgumentError}
 use Rattle.script_lines.specs.declared.argument_errors.ArgumentError.TheVariants.{Help, Count, File, Unknown, NotUtf8, Memory}
@@ -68,30 +68,19 @@ TellsError manual Help out out' err err' status = Tells out out' (manual_text ma
 TellsError manual Memory out out' err err' status = Tells err err' (told_of 0 stop.Memory) 4 status × (out' ≡ out)
 TellsError manual error out out' err err' status = Tells err err' (wrong_text manual error) 2 status × (out' ≡ out)
 
--- What is answered to words, by a program that reads them so: it runs with what they mean, and nothing is told; or the reason why not
--- is told, and the result is the exit status.
-abbrev pub Answers : {A : Type 0} → (List (List ℕ) → Result A ArgumentError → Type 0) → Manual → List (List ℕ) → Result A ℕ → Bytes → Bytes
-    → Bytes → Bytes → Type 0
+-- whether the option, if there is one, is the first of the words; and the words after it, or else all of them
+abbrev pub after_option : Option (List ℕ) → List (List ℕ) → Bool × List (List ℕ)
+after_option None words = (false, words)
+after_option (Some option) [] = (false, [])
+after_option (Some option) (first ∷ others) = if bytes_eq first option then (true, others) else (false, first ∷ others)
+
+-- What is answered to words, by a program that reads those after its option so: it runs with whether the option is given, and with what
+-- they mean, and nothing is told; or the reason why not is told, and the result is the exit status.
+abbrev pub Answers : {A : Type 0} → (List (List ℕ) → Result A ArgumentError → Type 0) → Manual → List (List ℕ) → Result (Bool × A) ℕ
+    → Bytes → Bytes → Bytes → Bytes → Type 0
 Answers reads manual words result out out' err err' =
+    let given = after_option (option_copied manual.option) words in
     MatchResult result
-    (λ asked. ReadsWords reads (options manual) words (Ok asked) × (out' ≡ out) × (err' ≡ err))
-    (λ status. (error : ArgumentError) × ReadsWords reads (options manual) words (Err error)
+    (λ asked. (asked.0 ≡ given.0) × ReadsWords reads (options manual) given.1 (Ok asked.1) × (out' ≡ out) × (err' ≡ err))
+    (λ status. (error : ArgumentError) × ReadsWords reads (options manual) given.1 (Err error)
     × TellsError manual error out out' err err' status)
-
--- the words after the option, if there is one and it is the first
-abbrev pub after_option : Option (List ℕ) → List (List ℕ) → Option (List (List ℕ))
-after_option None words = None
-after_option (Some option) [] = None
-after_option (Some option) (first ∷ others) = if bytes_eq first option then Some others else None
-
--- what is answered to words by a program without arguments: whether its option is given, if there are none
-abbrev pub AnswersOthers : Bool → Manual → List (List ℕ) → Result Bool ℕ → Bytes → Bytes → Bytes → Bytes → Type 0
-AnswersOthers given manual words (Ok answer) out out' err err' = (answer ≡ given) × (words ≡ []) × (out' ≡ out) × (err' ≡ err)
-AnswersOthers given manual words (Err status) out out' err err' =
-    (error : ArgumentError) × ReadsWords ReadsNone (options manual) words (Err error) × TellsError manual error out out' err err' status
-
--- what is answered to words by a program whose only argument is an option, which comes first
-abbrev pub AnswersOption : Manual → List (List ℕ) → Result Bool ℕ → Bytes → Bytes → Bytes → Bytes → Type 0
-AnswersOption manual words result out out' err err' =
-    MatchOption (after_option (option_copied manual.option) words) (AnswersOthers false manual words result out out' err err')
-    (λ others. AnswersOthers true manual others result out out' err err')

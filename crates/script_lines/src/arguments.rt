@@ -1,10 +1,10 @@
 //! The arguments of a program, and what it says of itself.
 
-ghost use Rattle.std.specs.Prelude.{◌≡◌, ◌≤◌, ◌≢◌, ℕ, IfErr, List, OnOk, Result, map, option_copied, option_map};
+ghost use Rattle.std.specs.Prelude.{◌≡◌, ◌≤◌, ◌≢◌, ℕ, IfErr, List, OnOk, Result, map, option_copied};
 ghost use Rattle.std.specs.Io.KnownBytes.{Appends};
 ghost use Rattle.std.specs.String.{string_bytes};
 ghost use Rattle.script_lines.specs.ArgumentErrors.{ReadsNone, ReadsWords};
-ghost use Rattle.script_lines.specs.Arguments.{after_option, options, Answers, AnswersOption, AnswersOthers, TellsError, call_text, error_text, hint_text, kind_text, manual_text, near_text, unknown_text, usage_text, wrong_text};
+ghost use Rattle.script_lines.specs.Arguments.{after_option, options, Answers, TellsError, call_text, error_text, hint_text, kind_text, manual_text, near_text, unknown_text, usage_text, wrong_text};
 ghost use Rattle.script_lines.specs.Ends.{Tells};
 ghost use Rattle.script_lines.specs.declared.argument_errors.ArgumentError.{ArgumentError as AnError};
 
@@ -60,14 +60,15 @@ impl Arguments for NoArguments {
     }
 }
 
-/// Reads the program's arguments. If the first of them is `--help`, its manual is printed on standard output. Wrong arguments are reported
-/// on standard error, with the usage. If the script would have to be typed, that is said on standard error too.
+/// Reads the program's arguments: whether the option that its manual names is the first of them, and the meaning of the other words. If
+/// `--help` comes first, its manual is printed on standard output. Wrong arguments are reported on standard error, with the usage. If
+/// the script would have to be typed, that is said on standard error too.
 ///
 /// # Errors
 ///
 /// Returns the exit status if the program is not to run: 0 once its manual is printed, 2 for wrong arguments, 3 if a stream failed, and 4
 /// if memory runs out.
-pub fn read_arguments<A: Arguments>(rt: &HostRuntime, manual: &Manual) -> Result<A, u8>
+pub fn read_arguments<A: Arguments>(rt: &HostRuntime, manual: &Manual) -> Result<(bool, A), u8>
     ensures { IfErr result (λ status. (status ≤ 4) × (status ≢ 1)) }
 {
     let mut output = io::writer(rt);
@@ -79,26 +80,6 @@ pub fn read_arguments<A: Arguments>(rt: &HostRuntime, manual: &Manual) -> Result
     let asked = answer_words(rt.alloc(), &words, manual, &mut output, &mut errors)?;
     note_terminal(rt, &mut errors)?;
     Ok(asked)
-}
-
-/// Reads the arguments of a program whose only argument is the option that its manual names, and returns whether it is given, as the first
-/// word. The other words are read as by [`read_arguments`] for a program without arguments.
-///
-/// # Errors
-///
-/// Returns the exit status if the program is not to run, as [`read_arguments`] does.
-pub fn read_option(rt: &HostRuntime, manual: &Manual) -> Result<bool, u8>
-    ensures { IfErr result (λ status. (status ≤ 4) × (status ≢ 1)) }
-{
-    let mut output = io::writer(rt);
-    let mut errors = rt.stderr();
-    let words = match words_given(rt) {
-        Ok(words) => words,
-        Err(error) => return Err(tell_error(&error, manual, &mut output, &mut errors)),
-    };
-    let is_given = answer_option(rt.alloc(), &words, manual, &mut output, &mut errors)?;
-    note_terminal(rt, &mut errors)?;
-    Ok(is_given)
 }
 
 /// The words that follow the program's name.
@@ -133,8 +114,8 @@ fn write_terminal<E: Write>(errors: &mut E) -> io::Result<()> {
     errors.write_all(b"the script is read from this terminal; Ctrl-D ends it\n")
 }
 
-/// The meaning of a program's words. If the program is not to run, its manual is printed, or what is wrong
-/// with them is reported.
+/// Whether a program's option is the first of its words, and the meaning of the others. If the program is not to run, its manual is
+/// printed, or what is wrong with the words is reported.
 ///
 /// # Errors
 ///
@@ -145,73 +126,26 @@ fn answer_words<A: Arguments, O: Write, E: Write>(
     manual: &Manual,
     output: &mut O,
     errors: &mut E,
-) -> Result<A, u8>
+) -> Result<(bool, A), u8>
     ensures bound { IfErr result (λ status. (status ≤ 4) × (status ≢ 1)) }
     ensures answers { Answers A.reads manual.now (map string_bytes words.now) result (O.contents output.old) (O.contents output.new)
         (E.contents errors.old) (E.contents errors.new) }
 {
-    match asked_for(alloc, manual, words) {
-        Ok(asked) => Ok(asked),
+    let (is_given, others) = after_option(manual.option, words);
+    match asked_for(alloc, manual, others) {
+        Ok(asked) => Ok((is_given, asked)),
         Err(error) => Err(tell_error(&error, manual, output, errors)),
     }
 }
 
-/// Whether a program's option is the first of its words. If the program is not to run, its manual is printed, or what is wrong with
-/// the other words is reported.
-///
-/// # Errors
-///
-/// Returns the exit status if the program is not to run.
-fn answer_option<O: Write, E: Write>(
-    alloc: Global,
-    words: &[String],
-    manual: &Manual,
-    output: &mut O,
-    errors: &mut E,
-) -> Result<bool, u8>
-    ensures bound { IfErr result (λ status. (status ≤ 4) × (status ≢ 1)) }
-    ensures answers { AnswersOption manual.now (map string_bytes words.now) result (O.contents output.old)
-        (O.contents output.new) (E.contents errors.old) (E.contents errors.new) }
-{
-    match after_option(manual.option, words) {
-        Some(others) => answer_others(true, alloc, others, manual, output, errors),
-        None => answer_others(false, alloc, words, manual, output, errors),
-    }
-}
-
-/// The words after the option, if there is one and it is the first.
-fn after_option<'a>(option: Option<&str>, words: &'a [String]) -> Option<&'a [String]>
-    ensures { option_map (λ others. map string_bytes others.now) result
+/// Whether the option, if there is one, is the first of the words, and the words after it, or else all of them.
+fn after_option<'a>(option: Option<&str>, words: &'a [String]) -> (bool, &'a [String])
+    ensures { (result.0, map string_bytes result.1.now)
         ≡ after_option (option_copied option.entry) (map string_bytes words.now) }
 {
-    let option = option?;
-    match words {
-        [first, others @ ..] if first.as_str() == option => Some(others),
-        _ => None,
-    }
-}
-
-/// Whether the option is given, if there are no other words. If the program is not to run, its manual is printed, or what is wrong with
-/// the words is reported.
-///
-/// # Errors
-///
-/// Returns the exit status if the program is not to run.
-fn answer_others<O: Write, E: Write>(
-    is_given: bool,
-    alloc: Global,
-    words: &[String],
-    manual: &Manual,
-    output: &mut O,
-    errors: &mut E,
-) -> Result<bool, u8>
-    ensures bound { IfErr result (λ status. (status ≤ 4) × (status ≢ 1)) }
-    ensures answers { AnswersOthers is_given manual.now (map string_bytes words.now) result (O.contents output.old) (O.contents output.new)
-        (E.contents errors.old) (E.contents errors.new) }
-{
-    match answer_words(alloc, words, manual, output, errors) {
-        Ok(NoArguments) => Ok(is_given),
-        Err(status) => Err(status),
+    match (option, words) {
+        (Some(option), [first, others @ ..]) if first.as_str() == option => (true, others),
+        _ => (false, words),
     }
 }
 

@@ -19,7 +19,7 @@ mod writer;
 pub use argument_errors::{
     ArgumentError, ArgumentKind, UnknownWord, is_like_a_file, miscounted, unknown_word,
 };
-pub use arguments::{Arguments, Manual, NoArguments, read_arguments, read_option};
+pub use arguments::{Arguments, Manual, NoArguments, read_arguments};
 pub use ends::{end_run, end_script_run, tell_no_memory, tell_script_stop, tell_stop};
 pub use line_faults::{FieldSet, LineFault, OtherReason, Reason, column, suggestion, write_fault};
 pub use program::{Program, Streams, run_program, run_without_arguments};

@@ -56,9 +56,8 @@ pub fn run_without_arguments<P: Program>(
     manual: &Manual,
     program: &P,
 ) -> ExitCode {
-    let asked: Result<NoArguments, u8> = read_arguments(rt, manual);
-    match asked {
-        Ok(NoArguments) => run_program(rt, program),
+    match read_arguments(rt, manual) {
+        Ok((_, NoArguments)) => run_program(rt, program),
         Err(status) => ExitCode::from(status),
     }
 }

@@ -7,12 +7,12 @@ mod numbering;
 
 use crate::adapter::Speak;
 use crate::manual::MANUAL;
-use atree_script::{read_option, run_program};
+use atree_script::{NoArguments, read_arguments, run_program};
 use std::process::ExitCode;
 
 fn main(rt: HostRuntime) -> ExitCode {
-    match read_option(&rt, &MANUAL) {
-        Ok(is_numbered) => run_program(&rt, &Speak { is_numbered }),
+    match read_arguments(&rt, &MANUAL) {
+        Ok((is_numbered, NoArguments)) => run_program(&rt, &Speak { is_numbered }),
         Err(status) => ExitCode::from(status),
     }
 }
