@@ -46,22 +46,17 @@ impl<'a, E: Write> Player for Reading<'a, E> {
     ghost turns = { λ s turn result t. (t.errors.ghost_name ≡ s.errors.ghost_name)
         × Reports (s.updates, E.contents s.errors.now) turn result (t.updates, E.contents t.errors.now) };
 
-    fn begin(&mut self, _comment: &[u8], _session: &Session) -> Result<(), Stop> {
+    fn begin(&mut self, _: &[u8], _session: &Session) -> Result<(), Stop> {
         self.updates = next_number(self.updates);
         Ok(())
     }
 
-    fn refuse(&mut self, _comment: &[u8], refusal: UpdateError) -> Result<(), Stop> {
+    fn refuse(&mut self, _: &[u8], refusal: UpdateError) -> Result<(), Stop> {
         self.updates = next_number(self.updates);
         report_refusal(self.updates, refusal, self.errors)
     }
 
-    fn run(
-        &mut self,
-        _comment: &[u8],
-        session: &mut Session,
-        command: Command,
-    ) -> Result<(), Stop> {
+    fn run(&mut self, _: &[u8], session: &mut Session, command: Command) -> Result<(), Stop> {
         self.updates = count_after(self.updates, &command);
         run_reported(session, command, self.updates, self.errors)
     }

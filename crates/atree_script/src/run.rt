@@ -60,23 +60,18 @@ impl<'a, O: Write> Player for Writing<'a, O> {
     ghost turns = { λ s turn result t. (t.output.ghost_name ≡ s.output.ghost_name)
         × Prints (O.contents s.output.now) turn result (O.contents t.output.now) };
 
-    fn begin(&mut self, _comment: &[u8], _session: &Session) -> Result<(), Stop> {
+    fn begin(&mut self, _: &[u8], _session: &Session) -> Result<(), Stop> {
         self.output.write_all(b"ok\n")?;
         Ok(())
     }
 
     /// Prints why the update is refused, also if memory ran out.
-    fn refuse(&mut self, _comment: &[u8], refusal: UpdateError) -> Result<(), Stop> {
+    fn refuse(&mut self, _: &[u8], refusal: UpdateError) -> Result<(), Stop> {
         write_refusal(refusal, self.output)?;
         Ok(())
     }
 
-    fn run(
-        &mut self,
-        _comment: &[u8],
-        session: &mut Session,
-        command: Command,
-    ) -> Result<(), Stop> {
+    fn run(&mut self, _: &[u8], session: &mut Session, command: Command) -> Result<(), Stop> {
         run_command(session, command, self.output)
     }
 

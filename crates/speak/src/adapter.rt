@@ -49,7 +49,7 @@ impl Program for Speak {
             output: &mut *output,
             errors: &mut *errors,
         };
-        let played = play_aloud(streams.alloc, &mut streams.input, &mut adapter);
+        let played = play_aloud(&mut streams.input, &mut adapter);
         let Adapter {
             alloc: _,
             numbering: _,
@@ -67,7 +67,6 @@ impl Program for Speak {
 
 /// Plays a script, and writes what a screen reader would say of it.
 fn play_aloud<R: BufRead, O: Write, E: Write>(
-    alloc: Global,
     input: &mut R,
     adapter: &mut Adapter<'_, '_, O, E>,
 ) -> Played
@@ -78,7 +77,7 @@ fn play_aloud<R: BufRead, O: Write, E: Write>(
         let after = aloud_of b.numbering b.told (O.contents b.output.now) (E.contents b.errors.now) in
         PlaysOut Utters (R.remaining input.old) before result after }
 {
-    play(alloc, input, adapter)
+    play(adapter.alloc, input, adapter)
 }
 
 /// A speaker, a mirror, and the streams to which speech and refusals are written.
@@ -97,7 +96,7 @@ impl<'a, 'b, O: Write, E: Write> Player for Adapter<'a, 'b, O, E> {
         × Utters (aloud_of s.numbering s.told (O.contents s.output.now) (E.contents s.errors.now)) turn result
         (aloud_of t.numbering t.told (O.contents t.output.now) (E.contents t.errors.now)) };
 
-    fn begin(&mut self, _comment: &[u8], session: &Session) -> Result<(), Stop> {
+    fn begin(&mut self, _: &[u8], session: &Session) -> Result<(), Stop> {
         self.numbering = self.numbering.after_one();
         let heading = self.numbering.first_heading();
         let mut told = begun(self.alloc, session)?;
@@ -107,17 +106,12 @@ impl<'a, 'b, O: Write, E: Write> Player for Adapter<'a, 'b, O, E> {
     }
 
     /// Reports the refusal. An update that runs out of memory ends the run, since what it would have said is lost.
-    fn refuse(&mut self, _comment: &[u8], refusal: UpdateError) -> Result<(), Stop> {
+    fn refuse(&mut self, _: &[u8], refusal: UpdateError) -> Result<(), Stop> {
         self.numbering = self.numbering.after_one();
         report_refusal(self.numbering.updates, refusal, self.errors)
     }
 
-    fn run(
-        &mut self,
-        _comment: &[u8],
-        session: &mut Session,
-        command: Command,
-    ) -> Result<(), Stop> {
+    fn run(&mut self, _: &[u8], session: &mut Session, command: Command) -> Result<(), Stop> {
         self.numbering = self.numbering.after_command(&command);
         match &mut self.told {
             Some(told) => speak_step(
