@@ -146,7 +146,8 @@ impl ScriptReader {
 
     /// Keeps what the last line is to the comment before the next command.
     fn note_comment(&mut self) -> Result<(), Stop>
-        ensures noted { Reads result (λ _. comment_of self.new ≡ comment_after (begun_of self.old) (comment_of self.old) (last_line self.old)) }
+        ensures noted { Reads result (λ _. comment_of self.new
+            ≡ comment_after (begun_of self.old) (comment_of self.old) (last_line self.old)) }
         ensures lines { self.new.lines ≡ self.old.lines }
         ensures begun { self.new.begun ≡ self.old.begun }
     {
