@@ -32,10 +32,8 @@ pub struct TextLines<'a> {
     ghost text: { HasText root } by { HasText-prop root },
     ghost starts: { IsRunPlace (world_at root) (id_at root) first } by { IsRunPlace-prop (world_at root) (id_at root) first },
     ghost ends: { IsRunPlace (world_at root) (id_at root) last } by { IsRunPlace-prop (world_at root) (id_at root) last },
-    ghost begins_line: { BeginsLine (node_text root) line (number_at root first) }
-        by { BeginsLine-prop (node_text root) line (number_at root first) },
-    ghost ends_line: { EndsLine (node_text root) (number_at root first) (number_at root last) }
-        by { EndsLine-prop (node_text root) (number_at root first) (number_at root last) },
+    ghost begins_line: { BeginsLine (node_text root) line (number_at root first) } by { BeginsLine-prop (node_text root) line (number_at root first) },
+    ghost ends_line: { EndsLine (node_text root) (number_at root first) (number_at root last) } by { EndsLine-prop (node_text root) (number_at root first) (number_at root last) },
 }
 
 impl<'a> TextLines<'a> {
