@@ -10,7 +10,9 @@ struct Atree;
 
 impl Program for Atree {
     fn run<R: BufRead, O: Write, E: Write>(&self, streams: &mut Streams<R, O, E>) -> u8 {
-        run_script(streams)
+        let output = &mut streams.output;
+        let errors = &mut streams.errors;
+        run_script(streams.alloc, &mut streams.input, output, errors)
     }
 }
 

@@ -13,7 +13,7 @@ use crate::printer::Printer;
 use crate::refusals::write_refusal;
 use crate::replies::write_reply;
 use accesskit_consumer::tree::UpdateError;
-use script_lines::{Stop, Streams, end_run};
+use script_lines::{Stop, end_run};
 use session::{Command, Query, Reply, Session};
 use std::alloc::{AllocError, Global};
 use std::io::{BufRead, Write};
@@ -22,20 +22,24 @@ use std::io::{BufRead, Write};
 /// a bad line, whose number is reported on `errors`; 3 for an error of the input or an output, after which nothing more
 /// is written; 4 if memory runs out while a line is read or carried out, which is reported on `errors` too. What was
 /// printed before remains printed. If memory runs out in an update, the update is refused and the script goes on.
-pub fn run_script<R: BufRead, O: Write, E: Write>(streams: &mut Streams<R, O, E>) -> u8
+pub fn run_script<R: BufRead, O: Write, E: Write>(
+    alloc: Global,
+    input: &mut R,
+    output: &mut O,
+    errors: &mut E,
+) -> u8
     ensures bound { result ≤ 4 }
     ensures not_one { result ≢ 1 }
-    ensures runs { RunsScript (R.remaining streams.old.input) (O.contents streams.old.output) (O.contents streams.new.output)
-        (E.contents streams.old.errors) (E.contents streams.new.errors) result }
+    ensures runs { RunsScript (R.remaining input.old) (O.contents output.old) (O.contents output.new) (E.contents errors.old)
+        (E.contents errors.new) result }
 {
-    let output = &mut streams.output;
     let mut writing = Writing {
         output: &mut *output,
     };
-    let played = play_printed(streams.alloc, &mut streams.input, &mut writing);
+    let played = play_printed(alloc, input, &mut writing);
     // This does nothing. The proof reads from it what the output has.
     let _ = &*writing.output;
-    end_run(played.ended, played.number, output, &mut streams.errors)
+    end_run(played.ended, played.number, output, errors)
 }
 
 /// Plays a script, and prints the effects of each command.

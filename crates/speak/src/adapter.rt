@@ -40,29 +40,46 @@ impl Program for Speak {
         ensures speaks { SpeaksScript self.now.is_numbered (R.remaining streams.old.input) (O.contents streams.old.output)
             (O.contents streams.new.output) (E.contents streams.old.errors) (E.contents streams.new.errors) result }
     {
+        let input = &mut streams.input;
         let output = &mut streams.output;
         let errors = &mut streams.errors;
-        let mut adapter = Adapter {
-            alloc: streams.alloc,
-            numbering: Numbering::none_yet(self.is_numbered),
-            told: None,
-            output: &mut *output,
-            errors: &mut *errors,
-        };
-        let played = play_aloud(&mut streams.input, &mut adapter);
-        let Adapter {
-            alloc: _,
-            numbering: _,
-            told,
-            output: spoken,
-            errors: reported,
-        } = adapter;
-        drop(told);
-        // These do nothing. The proof reads from them what the streams have.
-        let _ = &*spoken;
-        let _ = &*reported;
-        end_script_run(played.ended, &played.script, output, errors)
+        speak_script(self.is_numbered, streams.alloc, input, output, errors)
     }
+}
+
+/// Runs a script, and writes what a screen reader would say of it. Returns the exit status.
+fn speak_script<R: BufRead, O: Write, E: Write>(
+    is_numbered: bool,
+    alloc: Global,
+    input: &mut R,
+    output: &mut O,
+    errors: &mut E,
+) -> u8
+    ensures bound { result ≤ 4 }
+    ensures not_one { result ≢ 1 }
+    ensures speaks { SpeaksScript is_numbered (R.remaining input.old) (O.contents output.old) (O.contents output.new)
+        (E.contents errors.old) (E.contents errors.new) result }
+{
+    let mut adapter = Adapter {
+        alloc,
+        numbering: Numbering::none_yet(is_numbered),
+        told: None,
+        output: &mut *output,
+        errors: &mut *errors,
+    };
+    let played = play_aloud(input, &mut adapter);
+    let Adapter {
+        alloc: _,
+        numbering: _,
+        told,
+        output: spoken,
+        errors: reported,
+    } = adapter;
+    drop(told);
+    // These do nothing. The proof reads from them what the streams have.
+    let _ = &*spoken;
+    let _ = &*reported;
+    end_script_run(played.ended, &played.script, output, errors)
 }
 
 /// Plays a script, and writes what a screen reader would say of it.

@@ -4,16 +4,16 @@ use Rattle.script_lines.specs.Ends.{Tells, told_at_end, status_at_end}
 use Rattle.atree_script.specs.Played.{PlaysOut}
 use Rattle.speak.specs.Spoken.{aloud_of, Utters, ReportsEnd}
 use Rattle.speak.specs.declared.numbering.Numbering.{Numbering}
-use Rattle.speak.proofs.adapter.SpeakProgram.run.Goals as goal
+use Rattle.speak.proofs.adapter.speak_script.Goals as goal
 
 pub returns-clause-speaks : goal.returns-clause-speaks
 returns-clause-speaks g c =
     let h = c.play_aloud-played.ensures in
     let played = c.play_aloud-played.result in
     let spoken = c.play_aloud-played.new.adapter in
-    let input = g.R.Read.remaining c.args.streams.now.input in
-    let before = g.O.Write.contents c.args.streams.now.output in
-    let told_before = g.E.Write.contents c.args.streams.now.errors in
+    let input = g.R.Read.remaining c.args.input.now in
+    let before = g.O.Write.contents c.args.output.now in
+    let told_before = g.E.Write.contents c.args.errors.now in
     let reported = g.E.Write.contents c.errors-1.given.0 in
     let errors = g.E.Write.contents c.end_script_run.new.errors in
     let end = aloud_of spoken.numbering spoken.told (g.O.Write.contents spoken.output.now) (g.E.Write.contents spoken.errors.now) in
