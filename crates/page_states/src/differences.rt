@@ -51,6 +51,10 @@ use std::io::{self, Write};
 use views::{FullNodeId, NodeRef};
 
 /// Writes how two states of a node differ, as far as a page shows it.
+///
+/// # Errors
+///
+/// Returns `Fault::Memory` if memory runs out, and `Fault::Output` if the output has an error.
 pub fn write_differences<O: Write>(
     alloc: Global,
     old: View,

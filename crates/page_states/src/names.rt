@@ -15,6 +15,10 @@ use std::io::{self, Write};
 use views::{FullNodeId, NodeRef};
 
 /// Writes the node's role, its label or else its value, and its id.
+///
+/// # Errors
+///
+/// Returns `Fault::Memory` if memory runs out, and `Fault::Output` if the output has an error.
 pub fn write_name<O: Write>(alloc: Global, view: View, out: &mut O) -> Result<(), Fault>
     ensures { OnOk result (Appends (O.contents out.old) (O.contents out.new) (name_text view.entry)) }
 {
@@ -25,6 +29,10 @@ pub fn write_name<O: Write>(alloc: Global, view: View, out: &mut O) -> Result<()
 }
 
 /// Writes the same, with the id as a link to where a state shows the node.
+///
+/// # Errors
+///
+/// Returns `Fault::Memory` if memory runs out, and `Fault::Output` if the output has an error.
 pub fn write_linked_name<O: Write>(
     alloc: Global,
     state: u64,

@@ -12,6 +12,10 @@ use std::io::Write;
 use views::StateRef;
 
 /// Writes the outline of a state, and its picture beside it, and keeps what is shown.
+///
+/// # Errors
+///
+/// Returns `Fault::Memory` if memory runs out, and `Fault::Output` if the output has an error.
 pub fn write_state<O: Write>(
     alloc: Global,
     number: u64,
