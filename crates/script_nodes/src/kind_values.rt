@@ -46,6 +46,7 @@ pub(crate) fn text_value(
 }
 
 /// A list of nodes, which the node doesn't have yet.
+#[tactic(auto, using(script_words::proofs::CommaWords::ids_is_word))]
 pub(crate) fn ids_value(
     alloc: Global,
     words: &mut Words,
@@ -80,6 +81,7 @@ pub(crate) fn id_value(words: &mut Words, field: IdField, node: &mut Node) -> Re
 }
 
 /// A list of numbers, which the node doesn't have yet.
+#[tactic(auto, using(script_words::proofs::CommaWords::numbers_is_word))]
 pub(crate) fn numbers_value(
     alloc: Global,
     words: &mut Words,
@@ -100,6 +102,7 @@ pub(crate) fn numbers_value(
 }
 
 /// A list of numbers in units of 1/64 pixel, which the node doesn't have yet.
+#[tactic(auto, using(script_words::proofs::CommaWords::units_is_word))]
 pub(crate) fn units_value(
     alloc: Global,
     words: &mut Words,
@@ -119,6 +122,7 @@ pub(crate) fn units_value(
 }
 
 /// A flag that may be unset, which the node doesn't have yet.
+#[tactic(auto, using(script_words::proofs::NamedWords::truth_is_word))]
 pub(crate) fn bool_value(words: &mut Words, field: BoolField, node: &mut Node) -> Result<(), Stop>
     ensures reads { TakesAny truth_name words.old words.new result
         (bool_at field node.old ≡ None) (λ value. node.new ≡ with_bool field (Some value) node.old) }
@@ -133,6 +137,7 @@ pub(crate) fn bool_value(words: &mut Words, field: BoolField, node: &mut Node) -
 }
 
 /// A colour, which the node doesn't have yet.
+#[tactic(auto, using(script_words::proofs::CommaWords::color_is_word))]
 pub(crate) fn color_value(words: &mut Words, field: ColorField, node: &mut Node) -> Result<(), Stop>
     ensures reads { TakesFit IsColor color_text words.old words.new result
         (color_at field node.old ≡ None) (λ value. node.new ≡ with_color field (Some value) node.old) }
@@ -147,6 +152,7 @@ pub(crate) fn color_value(words: &mut Words, field: ColorField, node: &mut Node)
 }
 
 /// A line above, through or below text, which the node doesn't have yet.
+#[tactic(auto, using(script_words::proofs::CommaWords::decoration_is_word))]
 pub(crate) fn decoration_value(
     words: &mut Words,
     field: DecorationField,
@@ -197,6 +203,7 @@ pub(crate) fn count_value(words: &mut Words, field: CountField, node: &mut Node)
 }
 
 /// A set of actions, which the node doesn't have yet.
+#[tactic(auto, using(crate::proofs::ActionSets::action_list_is_word))]
 pub(crate) fn actions_value(
     alloc: Global,
     words: &mut Words,

@@ -30,6 +30,7 @@ pub(crate) fn tree_value(words: &mut Words, node: &mut Node) -> Result<(), Stop>
 }
 
 /// The node's rectangle, which wasn't set yet.
+#[tactic(auto, using(script_words::proofs::CommaWords::rect_is_word))]
 pub(crate) fn bounds_value(words: &mut Words, node: &mut Node) -> Result<(), Stop>
     ensures reads { TakesFit IsRect rect_text words.old words.new result
         (node.old.bounds ≡ None) (λ value. node.new ≡ record node.old { bounds = Some value }) }
@@ -43,6 +44,7 @@ pub(crate) fn bounds_value(words: &mut Words, node: &mut Node) -> Result<(), Sto
 }
 
 /// By how much the node and its subtree are shifted, which wasn't set yet.
+#[tactic(auto, using(script_words::proofs::CommaWords::translation_is_word))]
 pub(crate) fn transform_value(words: &mut Words, node: &mut Node) -> Result<(), Stop>
     ensures reads { TakesFit IsTranslation translation_text words.old words.new result
         (node.old.transform ≡ None) (λ value. node.new ≡ record node.old { transform = Some value }) }
@@ -56,6 +58,7 @@ pub(crate) fn transform_value(words: &mut Words, node: &mut Node) -> Result<(), 
 }
 
 /// The selection in the node's text, which wasn't set yet.
+#[tactic(auto, using(script_words::proofs::CommaWords::selection_is_word))]
 pub(crate) fn selection_value(words: &mut Words, node: &mut Node) -> Result<(), Stop>
     ensures reads { TakesFit IsSelection selection_text words.old words.new result
         (node.old.text_selection ≡ None) (λ value. node.new ≡ record node.old { text_selection = Some value }) }
@@ -82,6 +85,7 @@ pub(crate) fn font_size_value(words: &mut Words, node: &mut Node) -> Result<(), 
 }
 
 /// The weight of a text, which wasn't set yet.
+#[tactic(auto, using(script_words::proofs::Decimals::decimal_is_word))]
 pub(crate) fn font_weight_value(words: &mut Words, node: &mut Node) -> Result<(), Stop>
     ensures reads { TakesFit IsShort decimal words.old words.new result
         (node.old.font_weight ≡ None) (λ value. node.new ≡ record node.old { font_weight = Some value }) }
@@ -95,6 +99,7 @@ pub(crate) fn font_weight_value(words: &mut Words, node: &mut Node) -> Result<()
 }
 
 /// The toggle state of a control, which wasn't set yet.
+#[tactic(auto, using(script_words::proofs::NamedWords::toggled_is_word))]
 pub(crate) fn toggled_value(words: &mut Words, node: &mut Node) -> Result<(), Stop>
     ensures reads { TakesAny toggled_name words.old words.new result
         (node.old.toggled ≡ None) (λ value. node.new ≡ record node.old { toggled = Some value }) }
@@ -108,6 +113,7 @@ pub(crate) fn toggled_value(words: &mut Words, node: &mut Node) -> Result<(), St
 }
 
 /// How changes are announced, which wasn't set yet.
+#[tactic(auto, using(script_words::proofs::NamedWords::live_is_word))]
 pub(crate) fn live_value(words: &mut Words, node: &mut Node) -> Result<(), Stop>
     ensures reads { TakesAny live_name words.old words.new result
         (node.old.live ≡ None) (λ value. node.new ≡ record node.old { live = Some value }) }
@@ -121,6 +127,7 @@ pub(crate) fn live_value(words: &mut Words, node: &mut Node) -> Result<(), Stop>
 }
 
 /// The axis of a control, which wasn't set yet.
+#[tactic(auto, using(script_words::proofs::NamedWords::orientation_is_word))]
 pub(crate) fn orientation_value(words: &mut Words, node: &mut Node) -> Result<(), Stop>
     ensures reads { TakesAny orientation_name words.old words.new result
         (node.old.orientation ≡ None) (λ value. node.new ≡ record node.old { orientation = Some value }) }
@@ -134,6 +141,7 @@ pub(crate) fn orientation_value(words: &mut Words, node: &mut Node) -> Result<()
 }
 
 /// The sort order, which wasn't set yet.
+#[tactic(auto, using(script_words::proofs::NamedWords::sort_direction_is_word))]
 pub(crate) fn sort_direction_value(words: &mut Words, node: &mut Node) -> Result<(), Stop>
     ensures reads { TakesAny sort_direction_name words.old words.new result
         (node.old.sort_direction ≡ None) (λ value. node.new ≡ record node.old { sort_direction = Some value }) }
@@ -147,6 +155,7 @@ pub(crate) fn sort_direction_value(words: &mut Words, node: &mut Node) -> Result
 }
 
 /// Which kind of current item the node is, which wasn't set yet.
+#[tactic(auto, using(script_words::proofs::NamedWords::aria_current_is_word))]
 pub(crate) fn aria_current_value(words: &mut Words, node: &mut Node) -> Result<(), Stop>
     ensures reads { TakesAny aria_current_name words.old words.new result
         (node.old.aria_current ≡ None) (λ value. node.new ≡ record node.old { aria_current = Some value }) }
@@ -160,6 +169,7 @@ pub(crate) fn aria_current_value(words: &mut Words, node: &mut Node) -> Result<(
 }
 
 /// The kind of popup that the node opens, which wasn't set yet.
+#[tactic(auto, using(script_words::proofs::NamedWords::has_popup_is_word))]
 pub(crate) fn has_popup_value(words: &mut Words, node: &mut Node) -> Result<(), Stop>
     ensures reads { TakesAny has_popup_name words.old words.new result
         (node.old.has_popup ≡ None) (λ value. node.new ≡ record node.old { has_popup = Some value }) }
@@ -173,6 +183,7 @@ pub(crate) fn has_popup_value(words: &mut Words, node: &mut Node) -> Result<(), 
 }
 
 /// The direction of a text, which wasn't set yet.
+#[tactic(auto, using(script_words::proofs::NamedWords::text_direction_is_word))]
 pub(crate) fn text_direction_value(words: &mut Words, node: &mut Node) -> Result<(), Stop>
     ensures reads { TakesAny text_direction_name words.old words.new result
         (node.old.text_direction ≡ None) (λ value. node.new ≡ record node.old { text_direction = Some value }) }
@@ -186,6 +197,7 @@ pub(crate) fn text_direction_value(words: &mut Words, node: &mut Node) -> Result
 }
 
 /// How a text is aligned, which wasn't set yet.
+#[tactic(auto, using(script_words::proofs::NamedWords::text_align_is_word))]
 pub(crate) fn text_align_value(words: &mut Words, node: &mut Node) -> Result<(), Stop>
     ensures reads { TakesAny text_align_name words.old words.new result
         (node.old.text_align ≡ None) (λ value. node.new ≡ record node.old { text_align = Some value }) }
@@ -199,6 +211,7 @@ pub(crate) fn text_align_value(words: &mut Words, node: &mut Node) -> Result<(),
 }
 
 /// Whether text is superscript or subscript, which wasn't set yet.
+#[tactic(auto, using(script_words::proofs::NamedWords::vertical_offset_is_word))]
 pub(crate) fn vertical_offset_value(words: &mut Words, node: &mut Node) -> Result<(), Stop>
     ensures reads { TakesAny vertical_offset_name words.old words.new result
         (node.old.vertical_offset ≡ None) (λ value. node.new ≡ record node.old { vertical_offset = Some value }) }

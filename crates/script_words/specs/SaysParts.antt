@@ -18,16 +18,18 @@ use Rattle.script_words.specs.Says.{SaysAction, SaysNumber, SaysSigned}
 abbrev pub SaysBoth : List ℕ → ℕ → (List ℕ → Type 0) → (List ℕ → Type 0) → Type 0
 SaysBoth word c First Second = (first : List ℕ) × (second : List ℕ) × (word ≡ first ++ (c ∷ second)) × First first × Second second
 
--- a comma is between each of four parts and the next one
-abbrev pub SaysFour : List ℕ → (List ℕ → Type 0) → (List ℕ → Type 0) → (List ℕ → Type 0) → (List ℕ → Type 0) → Type 0
-SaysFour word First Second Third Fourth = SaysBoth word 44 First (λ rest. SaysBoth rest 44 Second (λ rest. SaysBoth rest 44 Third Fourth))
+-- two values with a comma between them, each said in this way; and four of them
+abbrev pub SaysTwo : {T : Type 0} → (List ℕ → T → Type 0) → List ℕ → T → T → Type 0
+SaysTwo Says word x y = SaysBoth word 44 (λ part. Says part x) (λ part. Says part y)
+
+abbrev pub SaysFour : {T : Type 0} → (List ℕ → T → Type 0) → List ℕ → T → T → T → T → Type 0
+SaysFour Says word a b c d = SaysBoth word 44 (λ part. Says part a) (λ rest. SaysBoth rest 44 (λ part. Says part b) (λ rest. SaysTwo Says rest c d))
 
 abbrev pub SaysPair : List ℕ → ℤ → ℤ → Type 0
-SaysPair word x y = SaysBoth word 44 (λ part. SaysSigned part x) (λ part. SaysSigned part y)
+SaysPair = SaysTwo SaysSigned
 
 abbrev pub SaysRect : List ℕ → Rect → Type 0
-SaysRect word r =
-    SaysFour word (λ part. SaysSigned part r.x0) (λ part. SaysSigned part r.y0) (λ part. SaysSigned part r.x1) (λ part. SaysSigned part r.y1)
+SaysRect word r = SaysFour SaysSigned word r.x0 r.y0 r.x1 r.y1
 
 abbrev pub SaysTranslation : List ℕ → Translation → Type 0
 SaysTranslation word t = SaysPair word t.x t.y
@@ -36,14 +38,13 @@ abbrev pub SaysPlace : List ℕ → TextPosition → Type 0
 SaysPlace word p = SaysBoth word 58 (λ part. SaysNumber part p.node.0) (λ part. SaysNumber part p.character_index)
 
 abbrev pub SaysSelection : List ℕ → TextSelection → Type 0
-SaysSelection word s = SaysBoth word 44 (λ part. SaysPlace part s.anchor) (λ part. SaysPlace part s.focus)
+SaysSelection word s = SaysTwo SaysPlace word s.anchor s.focus
 
 abbrev pub SaysBytes : List ℕ → ℕ → ℕ → Type 0
-SaysBytes word x y = SaysBoth word 44 (λ part. SaysNumber part x) (λ part. SaysNumber part y)
+SaysBytes = SaysTwo SaysNumber
 
 abbrev pub SaysColor : List ℕ → Color → Type 0
-SaysColor word c =
-    SaysFour word (λ part. SaysNumber part c.red) (λ part. SaysNumber part c.green) (λ part. SaysNumber part c.blue) (λ part. SaysNumber part c.alpha)
+SaysColor word c = SaysFour SaysNumber word c.red c.green c.blue c.alpha
 
 abbrev pub SaysDecoration : List ℕ → TextDecoration → Type 0
 SaysDecoration word d = SaysBoth word 44 (λ part. part ≡ decoration_style_name d.style) (λ rest. SaysColor rest d.color)

@@ -68,6 +68,7 @@ impl<'a> Words<'a> {
     }
 
     /// Reads the next word as a node's id.
+    #[tactic(auto, using(crate::proofs::Decimals::decimal_is_word))]
     pub fn id(&mut self) -> Result<NodeId, Stop>
         ensures reads { ReadsFit IsId id_text self.old result self.new }
         ensures shorter { OnOk result (left (unread self.new) < left (unread self.old)) }
@@ -97,6 +98,7 @@ impl<'a> Words<'a> {
 
     /// Reads the next word, if there is one, as a filter, which must be the last word. The default is the common
     /// filter.
+    #[tactic(auto, using(crate::proofs::NamedWords::filter_is_word))]
     pub fn filter(&mut self) -> Result<NamedFilter, Stop>
         ensures reads { ReadsAny filter_name self.old result self.new }
     {
@@ -107,6 +109,7 @@ impl<'a> Words<'a> {
     }
 
     /// Reads the next word as a number, with a minus sign if it is negative.
+    #[tactic(auto, using(crate::proofs::Decimals::signed_is_word))]
     pub fn signed(&mut self) -> Result<i64, Stop>
         ensures reads { ReadsFit IsNumber signed_decimal self.old result self.new }
         ensures shorter { OnOk result (left (unread self.new) < left (unread self.old)) }
@@ -124,6 +127,7 @@ impl<'a> Words<'a> {
     }
 
     /// Reads the next word as a number of four bytes.
+    #[tactic(auto, using(crate::proofs::Decimals::decimal_is_word))]
     pub fn narrow(&mut self) -> Result<u32, Stop>
         ensures reads { ReadsFit IsNarrow decimal self.old result self.new }
         ensures shorter { OnOk result (left (unread self.new) < left (unread self.old)) }
@@ -162,6 +166,7 @@ impl<'a> Words<'a> {
     }
 
     /// Reads the next word as a caret movement.
+    #[tactic(auto, using(crate::proofs::NamedWords::move_is_word))]
     pub fn movement(&mut self) -> Result<Move, Stop>
         ensures reads { ReadsAny move_name self.old result self.new }
     {
