@@ -20,12 +20,12 @@ use Rattle.views.specs.Nodes.{world_at, id_at}
 use Rattle.views.specs.Runs.{text_root_of, run_world, root_id, run_id, sent_of}
 use Rattle.texts.specs.declared.position.TextPosition.{TextPosition}
 use Rattle.texts.specs.declared.range.TextRange.{TextRange}
-use Rattle.texts.specs.RunNumbers.{number_in}
+use Rattle.text_boundaries.specs.RunNumbers.{number_in}
 use Rattle.texts.specs.Positions.{root_at, node_text, position_text, flat_position}
 use Rattle.texts.specs.TextRanges.{IsRangeOf}
 use Rattle.texts.specs.FoundRanges.{IsRangeFound}
 use Rattle.texts.specs.Betweens.{if_one_root, between_names}
-use Rattle.texts.proofs.FlatRuns.{shown_of, shown_at_number, sent_at_number, count_at_number}
+use Rattle.text_boundaries.proofs.FlatRuns.{shown_of, shown_at_number, sent_at_number, count_at_number}
 use Rattle.texts.proofs.FoundSteps.{range_absent, range_there}
 use Rattle.texts.proofs.RangeSteps.{same_text}
 use Rattle.texts.proofs.RunOrder.{number_of_one}

@@ -8,10 +8,11 @@ use Rattle.model.proofs.Text.TextFacts.{start_next, start_bias, end_bias}
 use Rattle.model.proofs.Text.Sides.{start_rises, start_bias_side}
 use Rattle.views.specs.Runs.{sent_of}
 use Rattle.texts.specs.declared.position.TextPosition.{TextPosition}
-use Rattle.texts.specs.RunNumbers.{number_in}
+use Rattle.text_boundaries.specs.RunNumbers.{number_in}
 use Rattle.texts.specs.Characters.{has_character_after, has_character_before}
 use Rattle.texts.specs.Positions.{root_at, node_text, position_text, flat_position, IsPositionAt}
-use Rattle.texts.proofs.FlatRuns.{count_at_number, text_is_whole, is_position}
+use Rattle.text_boundaries.proofs.FlatRuns.{count_at_number}
+use Rattle.texts.proofs.FlatPositions.{text_is_whole, is_position}
 use Rattle.texts.proofs.PositionSteps.{room_after, room_before}
 use Rattle.texts.proofs.CharacterMoves.{start_of_all}
 

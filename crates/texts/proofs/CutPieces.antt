@@ -16,10 +16,10 @@ use Rattle.model.specs.Ranges.{piece_text}
 use Rattle.model.specs.Values.{bullets}
 use Rattle.texts.specs.declared.pieces.Piece.{Piece}
 use Rattle.views.specs.Runs.{sent_of, run_world, root_id}
-use Rattle.texts.specs.RunNumbers.{text_around}
+use Rattle.text_boundaries.specs.RunNumbers.{text_around}
 use Rattle.texts.specs.Pieces.{piece_data}
 use Rattle.texts.specs.PieceTexts.{are_cut_off, left_by, IsPart, sent_part, shown_piece}
-use Rattle.texts.proofs.FlatRuns.{cut_count, shown_at_number}
+use Rattle.text_boundaries.proofs.FlatRuns.{cut_count, shown_at_number}
 
 -- ---- length by length
 

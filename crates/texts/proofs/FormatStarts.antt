@@ -14,13 +14,13 @@ use Rattle.views.specs.declared.runs.Run.{Run}
 use Rattle.views.specs.declared.node.node_ref.NodeRef.{NodeRef}
 use Rattle.views.specs.Nodes.{world_at, id_at}
 use Rattle.views.specs.Runs.{run_world, text_root_of, run_id, run_of, sent_of, ids_after, ids_before, IsAfter, IsPreviousRun}
-use Rattle.texts.specs.RunNumbers.{number_in, text_around}
+use Rattle.text_boundaries.specs.RunNumbers.{number_in, text_around}
 use Rattle.texts.specs.Positions.{node_text}
 use Rattle.texts.specs.declared.looks.Look.TheVariants.{Direction}
 use Rattle.texts.specs.declared.formats.TheConstants.{FORMAT}
 use Rattle.texts.specs.Looks.{AreSame}
 use Rattle.texts.specs.Formats.{style_at}
-use Rattle.texts.proofs.FlatRuns.{shown_of, shown_at_number, runs_counted, last_number, first_number, number_next, number_previous, more_runs}
+use Rattle.text_boundaries.proofs.FlatRuns.{shown_of, shown_at_number, runs_counted, last_number, first_number, number_next, number_previous, more_runs}
 
 -- ---- one format
 

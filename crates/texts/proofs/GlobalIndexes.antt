@@ -24,10 +24,10 @@ use Rattle.texts.specs.declared.position.TextPosition.{TextPosition}
 use Rattle.views.specs.declared.runs.Run.{Run}
 use Rattle.views.specs.Nodes.{world_at, id_at}
 use Rattle.views.specs.Runs.{text_root_of, run_world, root_id, sent_of, ids_before, ids_after, IsPreviousRun, IsAfter}
-use Rattle.texts.specs.RunNumbers.{number_in, text_around}
+use Rattle.text_boundaries.specs.RunNumbers.{number_in, text_around}
 use Rattle.texts.specs.Positions.{node_text, position_text, flat_position}
 use Rattle.texts.specs.GlobalIndexes.{unit_len, IsCut, length_to, length_of}
-use Rattle.texts.proofs.FlatRuns.{sent_at_number, shown_at_number, count_at_number, runs_counted, first_number, last_number, number_next, number_previous}
+use Rattle.text_boundaries.proofs.FlatRuns.{sent_at_number, shown_at_number, count_at_number, runs_counted, first_number, last_number, number_next, number_previous}
 use Rattle.texts.proofs.TextEnds.{at_document_end}
 use Rattle.texts.proofs.UnitCounts.{run_le_bytes}
 

@@ -1,11 +1,9 @@
+pub mod FlatPositions
 pub mod Along
 pub mod PointPlaces
 pub mod PieceBoxes
-pub mod FlatRuns
-pub mod RunSteps
 pub mod CharacterMoves
 pub mod PositionSteps
-pub mod BoundarySearches
 pub mod WordMarks
 pub mod RunWords
 pub mod FormatStarts

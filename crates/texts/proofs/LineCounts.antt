@@ -12,9 +12,10 @@ use Rattle.model.proofs.Text.TextFacts.{start_next}
 use Rattle.views.specs.declared.runs.Run.{Run}
 use Rattle.texts.specs.declared.position.TextPosition.{TextPosition}
 use Rattle.views.specs.Runs.{text_root_of, ids_before, IsPreviousRun}
-use Rattle.texts.specs.RunNumbers.{number_in, text_around}
+use Rattle.text_boundaries.specs.RunNumbers.{number_in, text_around}
 use Rattle.texts.specs.Positions.{root_at, node_text, position_text, flat_position}
-use Rattle.texts.proofs.FlatRuns.{shown_of, shown_at_number, first_number, number_previous, text_is_whole, is_position}
+use Rattle.text_boundaries.proofs.FlatRuns.{shown_of, shown_at_number, first_number, number_previous}
+use Rattle.texts.proofs.FlatPositions.{text_is_whole, is_position}
 use Rattle.texts.proofs.TextSizes.{offset_fits}
 
 abbrev pub lines_before : TextPosition → Run → ℕ

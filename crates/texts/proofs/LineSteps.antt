@@ -13,12 +13,12 @@ use Rattle.texts.specs.declared.position.TextPosition.{TextPosition}
 use Rattle.texts.specs.declared.range.TextRange.{TextRange}
 use Rattle.views.specs.Nodes.{world_at, id_at}
 use Rattle.views.specs.Runs.{text_root_of, run_world, root_id, sent_of, ids_after, IsFirstOf, IsAfter}
-use Rattle.texts.specs.RunNumbers.{number_in, text_around}
+use Rattle.text_boundaries.specs.RunNumbers.{number_in, text_around}
 use Rattle.texts.specs.Positions.{root_at, node_text, flat_position, IsPositionAt}
 use Rattle.texts.specs.Lines.{lines_from}
 use Rattle.texts.specs.TextRanges.{IsRangeOf}
 use Rattle.texts.specs.FoundRanges.{IsRangeFound}
-use Rattle.texts.proofs.FlatRuns.{count_at_number, runs_counted, first_number, last_number, number_next, more_runs}
+use Rattle.text_boundaries.proofs.FlatRuns.{count_at_number, runs_counted, first_number, last_number, number_next, more_runs}
 use Rattle.texts.proofs.FoundSteps.{range_absent}
 use Rattle.texts.proofs.LineRanges.{IsHead, head_of, next_line, line_order, line_ends, line_is_empty, line_has_some, none_from}
 

@@ -1,6 +1,6 @@
 -- The line that a search found, and the ones after it.
-use Rattle.std.proofs.Common.{◌≡◌, ℕ, ◌+◌, ◌<◌, ◌≤◌, [], length, Some, sym, ap, subst, ◌∙◌, arith, inl, inr}
-use Rattle.std.specs.Prelude.{◌-◌, slice_get}
+use Rattle.std.proofs.Common.{◌≡◌, ℕ, ◌+◌, ◌<◌, ◌≤◌, Bool, true, false, [], length, Some, sym, ap, subst, ◌∙◌, arith, inl, inr}
+use Rattle.std.specs.Prelude.{◌-◌, MatchBool, slice_get}
 use Rattle.model.specs.FlatText.{first_run, begins_line, ends_line, lines}
 use Rattle.views.specs.declared.node.node_ref.NodeRef.{NodeRef}
 use Rattle.views.specs.declared.runs.Run.{Run}
@@ -9,10 +9,10 @@ use Rattle.views.specs.Nodes.{world_at, id_at}
 use Rattle.views.specs.RunPlaces.{runs_before}
 use Rattle.views.specs.Runs.{text_root_of, ids_after, IsAfter}
 use Rattle.texts.specs.declared.text_lines.TextLines.{TextLines}
-use Rattle.texts.specs.RunNumbers.{number_in, text_around}
+use Rattle.text_boundaries.specs.RunNumbers.{number_in, text_around}
 use Rattle.texts.specs.Positions.{node_text}
 use Rattle.texts.specs.Lines.{lines_from, number_at, BeginsLine}
-use Rattle.texts.specs.LineWalks.{IsAtLastLine, IsNearest}
+use Rattle.texts.specs.LineWalks.{IsAtLastLine, IsLineStep, IsNearest}
 use Rattle.texts.proofs.LineSteps.{IsAtLine, line_rises, line_there, no_more_lines, last_line, next_at_line}
 
 pub begins_here : (n : NodeRef) (line : ℕ) (r : Run) → IsAtLine n line r → BeginsLine (text_around r) line (number_in r)
@@ -78,3 +78,10 @@ module _ (l : TextLines) where
   pub found_it : (index : ℕ) → IsNearest index l → index ≤ l.line → l.line ≡ index
   found_it index (inl is) past = is
   found_it index (inr (less, _)) past = absurd (omega (arith, less, past))
+
+-- what a step from a line to the next one tells
+pub went_on : (done : Bool) {r s : Run} (step : IsLineStep done r s) → done ≡ true → IsAfter step.last s
+went_on done {r} {s} step e = subst (λ (b : Bool). MatchBool b (IsAfter step.last s) (ids_after step.last ≡ [])) e step.next
+
+pub ended : (done : Bool) {r s : Run} (step : IsLineStep done r s) → done ≡ false → ids_after step.last ≡ []
+ended done {r} {s} step e = subst (λ (b : Bool). MatchBool b (IsAfter step.last s) (ids_after step.last ≡ [])) e step.next

@@ -14,13 +14,13 @@ use Rattle.texts.specs.declared.looks.Look.{Look}
 use Rattle.views.specs.Nodes.{world_at, id_at}
 use Rattle.views.specs.Runs.{text_root_of, run_id, run_of, sent_of}
 use Rattle.texts.specs.Positions.{node_text}
-use Rattle.texts.specs.RunNumbers.{number_in}
+use Rattle.text_boundaries.specs.RunNumbers.{number_in}
 use Rattle.texts.specs.TextRanges.{world_in, text_in, range_at}
 use Rattle.texts.specs.Pieces.{pieces_past, IsNextPiece}
 use Rattle.texts.specs.Looks.{AreSame}
 use Rattle.texts.specs.RangeProperties.{SomeDiffer}
 use Rattle.views.proofs.Focusing.{is_not}
-use Rattle.texts.proofs.FlatRuns.{shown_of, shown_at_number}
+use Rattle.text_boundaries.proofs.FlatRuns.{shown_of, shown_at_number}
 use Rattle.texts.proofs.PieceSteps.{pieces_from, as_next}
 
 -- the runs of these pieces

@@ -13,10 +13,10 @@ use Rattle.views.specs.declared.node.node_ref.NodeRef.{NodeRef}
 use Rattle.views.specs.declared.runs.Run.{Run}
 use Rattle.views.specs.Nodes.{world_at, id_at}
 use Rattle.views.specs.Runs.{text_root_of, run_id, sent_of, ids_after, IsFirstOf, IsAfter}
-use Rattle.texts.specs.RunNumbers.{number_in}
+use Rattle.text_boundaries.specs.RunNumbers.{number_in}
 use Rattle.texts.specs.Positions.{node_text}
 use Rattle.texts.proofs.TextEnds.{counted_in}
-use Rattle.texts.proofs.FlatRuns.{shown_of, shown_at_number, first_number, last_number, number_next}
+use Rattle.text_boundaries.proofs.FlatRuns.{shown_of, shown_at_number, first_number, last_number, number_next}
 
 module _ {X : Type 0} (test : X → Bool) (xs : List X) where
   -- none of the first so many passes

@@ -17,13 +17,13 @@ use Rattle.texts.specs.declared.range.TextRange.{TextRange}
 use Rattle.texts.specs.declared.pieces.Piece.{Piece}
 use Rattle.views.specs.Nodes.{world_at}
 use Rattle.views.specs.Runs.{text_root_of, run_of, sent_of}
-use Rattle.texts.specs.RunNumbers.{number_in}
+use Rattle.text_boundaries.specs.RunNumbers.{number_in}
 use Rattle.texts.specs.Positions.{node_text}
 use Rattle.texts.specs.TextRanges.{world_in, root_in, text_in, range_at}
 use Rattle.texts.specs.Pieces.{piece_data, pieces_past, IsNextPiece}
 use Rattle.texts.specs.PieceTexts.{shown_piece}
 use Rattle.texts.specs.Traversals.{longest, IsEnough, IsCallWith, PassesAll}
-use Rattle.texts.proofs.FlatRuns.{shown_at_number}
+use Rattle.text_boundaries.proofs.FlatRuns.{shown_at_number}
 use Rattle.texts.proofs.PieceSteps.{pieces_from, shown_there}
 
 -- ---- bullets

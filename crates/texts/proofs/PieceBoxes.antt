@@ -11,13 +11,13 @@ use Rattle.model.specs.Ranges.{Piece as PieceData, pieces, piece_rect, piece_box
 use Rattle.texts.specs.declared.range.TextRange.{TextRange}
 use Rattle.texts.specs.declared.pieces.Piece.{Piece}
 use Rattle.views.specs.Runs.{text_root_of, sent_of}
-use Rattle.texts.specs.RunNumbers.{number_in, text_around}
+use Rattle.text_boundaries.specs.RunNumbers.{number_in, text_around}
 use Rattle.texts.specs.Positions.{node_text}
 use Rattle.texts.specs.TextRanges.{text_in, range_at}
 use Rattle.texts.specs.Pieces.{piece_data, pieces_past}
 use Rattle.texts.specs.Measures.{shown_in}
 use Rattle.texts.specs.Boxes.{box_of}
-use Rattle.texts.proofs.FlatRuns.{shown_at_number}
+use Rattle.text_boundaries.proofs.FlatRuns.{shown_at_number}
 use Rattle.texts.proofs.PointPlaces.{count_shown}
 
 -- ---- a box

@@ -8,7 +8,7 @@ use Rattle.model.specs.Ranges.{Piece as PieceData}
 use Rattle.texts.specs.declared.range.TextRange.{TextRange}
 use Rattle.texts.specs.declared.pieces.Piece.{Piece}
 use Rattle.views.specs.Writes.{bullet_calls}
-use Rattle.texts.specs.RunNumbers.{number_in}
+use Rattle.text_boundaries.specs.RunNumbers.{number_in}
 use Rattle.texts.specs.TextRanges.{world_in, root_in, text_in, range_at}
 use Rattle.texts.specs.Pieces.{piece_data, pieces_past, IsNextPiece}
 use Rattle.texts.specs.TextCalls.{piece_calls, part_calls}

@@ -14,11 +14,11 @@ use Rattle.texts.specs.declared.pieces.Piece.{Piece}
 use Rattle.views.specs.Nodes.{world_at, id_at}
 use Rattle.views.specs.Runs.{run_world, root_id, sent_of}
 use Rattle.texts.specs.Positions.{node_text}
-use Rattle.texts.specs.RunNumbers.{number_in}
+use Rattle.text_boundaries.specs.RunNumbers.{number_in}
 use Rattle.texts.specs.TextRanges.{text_in, range_at}
 use Rattle.texts.specs.Pieces.{piece_data, pieces_past, IsNextPiece}
 use Rattle.texts.specs.PieceTexts.{IsPart, shown_piece}
-use Rattle.texts.proofs.FlatRuns.{sent_at_number}
+use Rattle.text_boundaries.proofs.FlatRuns.{sent_at_number}
 use Rattle.texts.proofs.CutPieces.{text_of_part}
 
 -- a piece and those past it

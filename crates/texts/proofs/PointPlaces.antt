@@ -17,11 +17,11 @@ use Rattle.texts.specs.declared.points.PointTest.{PointTest}
 use Rattle.texts.specs.declared.points.PointTest.TheVariants.{Inside, Past}
 use Rattle.views.specs.Nodes.{world_at, id_at}
 use Rattle.views.specs.Runs.{text_root_of, run_world, root_id, sent_of, ids_after, ids_before, IsFirstOf, IsPreviousRun}
-use Rattle.texts.specs.RunNumbers.{number_in}
+use Rattle.text_boundaries.specs.RunNumbers.{number_in}
 use Rattle.texts.specs.Positions.{node_text}
 use Rattle.texts.specs.Measures.{shown_in}
 use Rattle.texts.specs.PointTests.{passes, last_passing}
-use Rattle.texts.proofs.FlatRuns.{shown_at_number, runs_counted, cut_count, first_number, last_number, number_previous, sent_at_number}
+use Rattle.text_boundaries.proofs.FlatRuns.{shown_at_number, runs_counted, cut_count, first_number, last_number, number_previous, sent_at_number}
 
 -- ---- a run as its text has it
 

@@ -4,9 +4,10 @@ use Rattle.model.specs.TextRuns.{said_count}
 use Rattle.model.specs.FlatText.{count_in, total, offset, biased_to_start, biased_to_end}
 use Rattle.texts.specs.declared.position.TextPosition.{TextPosition}
 use Rattle.views.specs.Runs.{sent_of}
-use Rattle.texts.specs.RunNumbers.{number_in}
+use Rattle.text_boundaries.specs.RunNumbers.{number_in}
 use Rattle.texts.specs.Positions.{root_at, node_text, position_text, flat_position, IsPositionAt}
-use Rattle.texts.proofs.FlatRuns.{count_at_number, text_is_whole, is_position}
+use Rattle.text_boundaries.proofs.FlatRuns.{count_at_number}
+use Rattle.texts.proofs.FlatPositions.{text_is_whole, is_position}
 use Rattle.texts.proofs.CharacterMoves.{character_follows, character_precedes}
 
 module _ (p b : TextPosition) where

@@ -6,9 +6,9 @@ use Rattle.model.specs.TextRuns.{said_count}
 use Rattle.model.specs.FlatText.{count_in, is_document_end}
 use Rattle.texts.specs.declared.position.TextPosition.{TextPosition}
 use Rattle.views.specs.Runs.{sent_of}
-use Rattle.texts.specs.RunNumbers.{number_in}
+use Rattle.text_boundaries.specs.RunNumbers.{number_in}
 use Rattle.texts.specs.Positions.{position_text, flat_position}
-use Rattle.texts.proofs.FlatRuns.{runs_counted, count_at_number}
+use Rattle.text_boundaries.proofs.FlatRuns.{runs_counted, count_at_number}
 
 pub differs : (a b : ℕ) → (a ≡ b → ⊥) → (a == b) ≡ false
 differs a b apart = go (a == b) refl

@@ -11,11 +11,12 @@ use Rattle.views.specs.Runs.{text_root_of, run_id, ids_after, IsAfter}
 use Rattle.views.proofs.Focusing.{is_not}
 use Rattle.texts.specs.declared.position.TextPosition.{TextPosition}
 use Rattle.texts.specs.declared.range.TextRange.{TextRange}
-use Rattle.texts.specs.RunNumbers.{number_in, text_around}
+use Rattle.text_boundaries.specs.RunNumbers.{number_in, text_around}
 use Rattle.texts.specs.Positions.{IsPositionAt, root_at, node_text, position_text, flat_position}
 use Rattle.texts.specs.TextRanges.{text_in, range_at}
 use Rattle.texts.proofs.CharacterTests.{same_test}
-use Rattle.texts.proofs.FlatRuns.{runs_counted, last_number, number_next, is_position}
+use Rattle.text_boundaries.proofs.FlatRuns.{runs_counted, last_number, number_next}
+use Rattle.texts.proofs.FlatPositions.{is_position}
 use Rattle.texts.proofs.RangeRuns.{one_number, one_id, range_whole, end_is_position, start_is_position}
 use Rattle.texts.proofs.RunOrder.{runs_tell}
 use Rattle.texts.proofs.TextEnds.{then_at}

@@ -13,12 +13,13 @@ use Rattle.texts.specs.declared.range.TextRange.{TextRange}
 use Rattle.texts.specs.declared.pieces.Piece.{Piece}
 use Rattle.views.specs.Nodes.{world_at, id_at}
 use Rattle.views.specs.Runs.{text_root_of, run_id, sent_of, IsAfter}
-use Rattle.texts.specs.RunNumbers.{number_in}
+use Rattle.text_boundaries.specs.RunNumbers.{number_in}
 use Rattle.texts.specs.Positions.{IsPositionAt, root_at, node_text, position_text, flat_position}
 use Rattle.texts.specs.TextRanges.{text_in, range_at}
 use Rattle.texts.specs.Pieces.{piece_data, last_passed, pieces_past, IsUpTo, IsLastPassed, IsNextPiece}
 use Rattle.views.proofs.Focusing.{is_not}
-use Rattle.texts.proofs.FlatRuns.{count_at_number, number_next, text_is_whole, is_position}
+use Rattle.text_boundaries.proofs.FlatRuns.{count_at_number, number_next}
+use Rattle.texts.proofs.FlatPositions.{text_is_whole, is_position}
 use Rattle.texts.proofs.TextEnds.{then_at}
 use Rattle.texts.proofs.RunOrder.{number_of_one, one_of_number}
 use Rattle.texts.proofs.RangePieces.{apart_by_run, one_run_one_place, runs_in_order, last_of_caret, last_of_some, caret_alone, first_in_range, next_in_range, none_past_last, piece_order, piece_within}

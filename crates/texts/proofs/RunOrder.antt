@@ -15,9 +15,10 @@ use Rattle.texts.specs.declared.position.TextPosition.{TextPosition}
 use Rattle.views.specs.Nodes.{world_at, id_at}
 use Rattle.views.specs.Runs.{text_root_of, run_world, root_id, run_id, ids_after, ids_before, IsAfter, IsPreviousRun}
 use Rattle.views.specs.RunPlaces.{runs_before}
-use Rattle.texts.specs.RunNumbers.{number_in, text_around}
+use Rattle.text_boundaries.specs.RunNumbers.{number_in, text_around}
 use Rattle.texts.specs.Positions.{IsPositionAt, root_at, node_text, position_text, flat_position}
-use Rattle.texts.proofs.FlatRuns.{id_at_number, runs_counted, last_number, first_number, number_next, number_previous, text_is_whole, is_position}
+use Rattle.text_boundaries.proofs.FlatRuns.{id_at_number, runs_counted, last_number, first_number, number_next, number_previous}
+use Rattle.texts.proofs.FlatPositions.{text_is_whole, is_position}
 
 -- two runs of one root in one state are one run exactly if they have one number
 module _ (p q : Run) (worlds : run_world p ≡ run_world q) (roots : root_id p ≡ root_id q) where

@@ -15,11 +15,12 @@ use Rattle.views.specs.declared.runs.Run.{Run}
 use Rattle.texts.specs.declared.position.TextPosition.{TextPosition}
 use Rattle.views.specs.Nodes.{world_at, id_at, data_at}
 use Rattle.views.specs.Runs.{run_world, root_id, text_root_of, sent_of, ids_after, ids_before, IsAfter, IsPreviousRun}
-use Rattle.texts.specs.RunNumbers.{number_in, text_around}
+use Rattle.text_boundaries.specs.RunNumbers.{number_in, text_around}
 use Rattle.texts.specs.Positions.{IsPositionAt, root_at, node_text, position_text, flat_position}
 use Rattle.texts.proofs.TextEnds.{then_at}
 use Rattle.texts.proofs.CharacterMoves.{same_place}
-use Rattle.texts.proofs.FlatRuns.{shown_at_number, count_at_number, runs_counted, last_number, first_number, number_next, more_runs, number_previous, text_is_whole, is_position}
+use Rattle.text_boundaries.proofs.FlatRuns.{shown_at_number, count_at_number, runs_counted, last_number, first_number, number_next, more_runs, number_previous}
+use Rattle.texts.proofs.FlatPositions.{text_is_whole, is_position}
 use Rattle.texts.proofs.WordMarks.{IsPast, IsBack, past_all, paragraph_after, first_after, past_next, back_all, paragraph_before, last_before, back_previous}
 
 -- ---- words

@@ -10,10 +10,10 @@ use Rattle.views.specs.declared.runs.Run.{Run}
 use Rattle.texts.specs.declared.position.TextPosition.{TextPosition}
 use Rattle.views.specs.Nodes.{world_at, id_at}
 use Rattle.views.specs.Runs.{text_root_of, sent_of, IsLastOf, IsAfter, IsPreviousRun}
-use Rattle.texts.specs.RunNumbers.{number_in}
+use Rattle.text_boundaries.specs.RunNumbers.{number_in}
 use Rattle.texts.specs.Positions.{root_at, node_text, position_text, flat_position, IsPositionAt, IsMoved}
 use Rattle.views.proofs.FitRuns.{no_runs_no_text}
-use Rattle.texts.proofs.FlatRuns.{count_at_number, last_number, more_runs, number_next, number_previous}
+use Rattle.text_boundaries.proofs.FlatRuns.{count_at_number, last_number, more_runs, number_next, number_previous}
 use Rattle.texts.proofs.CharacterMoves.{same_place, goes_to_next, goes_to_previous}
 
 -- the run that was found

@@ -14,9 +14,10 @@ use Rattle.model.proofs.Text.Sides.{start_rises}
 use Rattle.views.specs.declared.runs.Run.{Run}
 use Rattle.texts.specs.declared.position.TextPosition.{TextPosition}
 use Rattle.views.specs.Runs.{run_world, root_id, text_root_of, sent_of, IsPreviousRun}
-use Rattle.texts.specs.RunNumbers.{number_in}
+use Rattle.text_boundaries.specs.RunNumbers.{number_in}
 use Rattle.texts.specs.Positions.{root_at, node_text, position_text, flat_position}
-use Rattle.texts.proofs.FlatRuns.{cut_count, is_position, count_at_number, number_previous}
+use Rattle.text_boundaries.proofs.FlatRuns.{cut_count, count_at_number, number_previous}
+use Rattle.texts.proofs.FlatPositions.{is_position}
 use Rattle.texts.proofs.CharacterMoves.{start_of_all}
 
 lengths_fit : (bs ns : List ℕ) → is_cut_by bs ns ≡ true → length ns ≤ length bs

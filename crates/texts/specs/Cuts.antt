@@ -1,5 +1,5 @@
 -- The parts of a range: words, lines, and characters.
-use Rattle.std.specs.Prelude.{ℕ, ◌+◌, ◌-◌, Bool, true, List, [], ◌∷◌, map, filter, if◌then◌else◌}
+use Rattle.std.specs.Prelude.{◌+◌, ◌-◌, Bool, true, List, [], ◌∷◌, map, filter, if◌then◌else◌}
 use Rattle.std.specs.List.{range_with_len}
 use Rattle.model.specs.FlatText.{FlatText, Position, offset, start_side, is_word_start, is_line_start}
 use Rattle.model.specs.Ranges.{Range, is_degenerate}

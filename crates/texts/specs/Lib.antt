@@ -5,10 +5,8 @@ pub mod Measures
 pub mod PointTests
 pub mod Boxes
 pub mod TextRoots
-pub mod RunNumbers
 pub mod Positions
 pub mod Lines
-pub mod Marks
 pub mod SameKeys
 pub mod SamePositions
 pub mod Edges

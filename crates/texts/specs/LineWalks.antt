@@ -7,7 +7,7 @@ use Rattle.views.specs.declared.runs.Run.{Run}
 use Rattle.views.specs.RunPlaces.{runs_after}
 use Rattle.views.specs.Runs.{text_root_of, ids_after, IsAfter}
 use Rattle.texts.specs.declared.text_lines.TextLines.{TextLines}
-use Rattle.texts.specs.RunNumbers.{number_in, text_around}
+use Rattle.text_boundaries.specs.RunNumbers.{number_in, text_around}
 
 -- the node whose lines they are
 abbrev pub lines_root : TextLines → NodeRef

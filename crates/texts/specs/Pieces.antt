@@ -9,7 +9,7 @@ use Rattle.texts.specs.declared.range.TextRange.{TextRange}
 use Rattle.texts.specs.declared.pieces.Piece.{Piece}
 use Rattle.views.specs.declared.runs.Run.{Run}
 use Rattle.views.specs.Runs.{text_root_of, run_id, sent_of}
-use Rattle.texts.specs.RunNumbers.{number_in}
+use Rattle.text_boundaries.specs.RunNumbers.{number_in}
 use Rattle.texts.specs.TextRanges.{text_in, range_at}
 
 -- the piece as the model has it

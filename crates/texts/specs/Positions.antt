@@ -4,7 +4,7 @@ use Rattle.model.specs.FlatText.{FlatText, flat_text, Position}
 use Rattle.views.specs.declared.node.node_ref.NodeRef.{NodeRef}
 use Rattle.texts.specs.declared.position.TextPosition.{TextPosition}
 use Rattle.views.specs.Nodes.{world_at, id_at}
-use Rattle.texts.specs.RunNumbers.{number_in}
+use Rattle.text_boundaries.specs.RunNumbers.{number_in}
 
 -- the node whose text it is, and the text
 abbrev pub root_at : TextPosition → NodeRef

@@ -5,7 +5,7 @@ ghost use Rattle.model.specs.Geometry.{whole_rect, moved_rect};
 ghost use Rattle.model.specs.Ranges.{cut_along, piece_rect, piece_box, bounding_boxes};
 ghost use Rattle.views.specs.Reach.{IsInReach};
 ghost use Rattle.views.specs.Runs.{sent_of};
-ghost use Rattle.texts.specs.RunNumbers.{text_around};
+ghost use Rattle.text_boundaries.specs.RunNumbers.{text_around};
 ghost use Rattle.texts.specs.TextRanges.{text_in, range_at};
 ghost use Rattle.texts.specs.Pieces.{piece_data};
 ghost use Rattle.texts.specs.Measures.{measures, IsAlong};

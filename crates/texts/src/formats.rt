@@ -6,7 +6,7 @@ ghost use Rattle.model.specs.Moves.{start_before, forward_to_format_start, forwa
 ghost use Rattle.views.specs.Nodes.{world_at};
 ghost use Rattle.texts.specs.Formats.{style_at};
 ghost use Rattle.views.specs.Runs.{IsAfter};
-ghost use Rattle.texts.specs.RunNumbers.{number_in, text_around};
+ghost use Rattle.text_boundaries.specs.RunNumbers.{number_in, text_around};
 ghost use Rattle.texts.specs.Positions.{IsMoved, position_text, flat_position};
 ghost use Rattle.texts.specs.Secrets.{IsMovedInEach};
 

@@ -2,7 +2,6 @@
 #![tactic(auto)]
 
 mod betweens;
-mod boundaries;
 mod boxes;
 mod characters;
 mod edges;

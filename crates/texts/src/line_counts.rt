@@ -4,8 +4,8 @@ ghost use Rattle.model.specs.Moves.{to_line_index};
 ghost use Rattle.texts.specs.Positions.{root_at, position_text, flat_position};
 ghost use Rattle.texts.specs.Secrets.{InEachText};
 
-use crate::boundaries::ends_line;
 use crate::position::TextPosition;
+use text_boundaries::ends_line;
 
 impl TextPosition<'_> {
     /// The number of the position's line, counted from 0: the number of lines that end before the position's run.

@@ -5,15 +5,15 @@ ghost use Rattle.model.specs.FlatText.{total, start_of, start_at, end_at, docume
 ghost use Rattle.views.specs.Nodes.{world_at, id_at};
 ghost use Rattle.texts.specs.Positions.{node_text};
 ghost use Rattle.views.specs.Runs.{text_root_of, run_world, root_id};
-ghost use Rattle.texts.specs.RunNumbers.{number_in, text_around};
+ghost use Rattle.text_boundaries.specs.RunNumbers.{number_in, text_around};
 ghost use Rattle.texts.specs.LineWalks.{IsLineStep};
 ghost use Rattle.texts.specs.TextRanges.{IsRangeOf};
 ghost use Rattle.texts.specs.FoundRanges.{IsRangeFound, range_of_line};
 
-use crate::boundaries::{Mark, ends_line, last_of};
 use crate::ends::document_end;
 use crate::position::TextPosition;
 use crate::range::TextRange;
+use text_boundaries::{Mark, ends_line, last_of};
 use views::NodeRef;
 use views::runs::Run;
 

@@ -1,12 +1,12 @@
 //! Movements by line, paragraph and page.
 ghost use Rattle.std.specs.Prelude.{◌+◌};
 ghost use Rattle.model.specs.Moves.{end_from, start_before, forward_to_line_start, forward_to_line_end, backward_to_line_start, forward_to_paragraph_start, forward_to_paragraph_end, backward_to_paragraph_start, forward_to_page_start, forward_to_page_end, backward_to_page_start};
-ghost use Rattle.texts.specs.Marks.{begins_at, ends_at};
+ghost use Rattle.text_boundaries.specs.Marks.{begins_at, ends_at};
 ghost use Rattle.texts.specs.Positions.{IsMoved};
 ghost use Rattle.texts.specs.Secrets.{IsMovedInEach};
 
-use crate::boundaries::{Mark, first_of, last_of};
 use crate::position::TextPosition;
+use text_boundaries::{Mark, first_of, last_of};
 
 impl<'a> TextPosition<'a> {
     /// The end of the line or the paragraph of the position's run.

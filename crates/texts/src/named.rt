@@ -4,7 +4,7 @@ ghost use Rattle.model.specs.TextRuns.{supports_text_ranges};
 ghost use Rattle.model.specs.Ranges.{run_named, position_named, nearest_named};
 ghost use Rattle.views.specs.Nodes.{world_at, id_at};
 ghost use Rattle.views.specs.Runs.{text_root_of, run_id};
-ghost use Rattle.texts.specs.RunNumbers.{number_in};
+ghost use Rattle.text_boundaries.specs.RunNumbers.{number_in};
 ghost use Rattle.texts.specs.Positions.{node_text};
 ghost use Rattle.texts.specs.FoundRanges.{IsAtFound};
 

@@ -4,7 +4,7 @@ ghost use Rattle.model.specs.Forest.{is_same as is_same_id};
 ghost use Rattle.model.specs.FlatText.{offset, position_cmp};
 ghost use Rattle.views.specs.Nodes.{world_at, id_at};
 ghost use Rattle.views.specs.Runs.{run_world, root_id, run_id};
-ghost use Rattle.texts.specs.RunNumbers.{number_in};
+ghost use Rattle.text_boundaries.specs.RunNumbers.{number_in};
 ghost use Rattle.texts.specs.Positions.{root_at, position_text, flat_position};
 
 use crate::position::TextPosition;

@@ -2,7 +2,7 @@
 ghost use Rattle.std.specs.Prelude.{◌≡◌, [], MatchOption, true, false};
 ghost use Rattle.model.specs.Ranges.{is_degenerate, piece_in, pieces};
 ghost use Rattle.views.specs.Runs.{text_root_of};
-ghost use Rattle.texts.specs.RunNumbers.{number_in};
+ghost use Rattle.text_boundaries.specs.RunNumbers.{number_in};
 ghost use Rattle.texts.specs.TextRanges.{text_in, range_at};
 ghost use Rattle.texts.specs.Pieces.{IsLastPassed, IsNextPiece, IsUpTo, piece_data, pieces_past};
 

@@ -7,7 +7,7 @@ ghost use Rattle.model.specs.Points.{is_in_run, distance, index_at, box_in_root,
 ghost use Rattle.views.specs.Nodes.{world_at, id_at};
 ghost use Rattle.views.specs.Reach.{IsInReach};
 ghost use Rattle.views.specs.Runs.{text_root_of, run_world, root_id, sent_of};
-ghost use Rattle.texts.specs.RunNumbers.{number_in};
+ghost use Rattle.text_boundaries.specs.RunNumbers.{number_in};
 ghost use Rattle.texts.specs.Positions.{IsPositionAt, node_text};
 ghost use Rattle.views.specs.SeenPoints.{wide_of};
 ghost use Rattle.texts.specs.Measures.{shown_in};

@@ -5,10 +5,10 @@ ghost use Rattle.model.specs.Ranges.{IsRaw};
 ghost use Rattle.views.specs.Nodes.{world_at, id_at};
 ghost use Rattle.texts.specs.Positions.{root_at, position_text, flat_position};
 
-use crate::boundaries::{
+use crate::position::TextPosition;
+use text_boundaries::{
     begins_line, begins_paragraph, ends_line, ends_paragraph, is_first, is_last,
 };
-use crate::position::TextPosition;
 use views::NodeRef;
 
 impl<'a> TextPosition<'a> {

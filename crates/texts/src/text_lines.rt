@@ -5,16 +5,16 @@ ghost use Rattle.views.specs.Nodes.{world_at, id_at};
 ghost use Rattle.views.specs.RunPlaces.{IsRunPlace, IsRunPlace-prop};
 ghost use Rattle.views.specs.Runs.{text_root_of, run_world, root_id};
 ghost use Rattle.texts.specs.TextRoots.{HasText, HasText-prop};
-ghost use Rattle.texts.specs.RunNumbers.{number_in, text_around};
+ghost use Rattle.text_boundaries.specs.RunNumbers.{number_in, text_around};
 ghost use Rattle.texts.specs.Positions.{node_text};
 ghost use Rattle.texts.specs.Lines.{number_at, BeginsLine, BeginsLine-prop, EndsLine, EndsLine-prop};
 ghost use Rattle.texts.specs.TextRanges.{range_at};
 ghost use Rattle.texts.specs.FoundRanges.{IsRangeFound, range_of_line};
 ghost use Rattle.texts.specs.Secrets.{InEachText};
 
-use crate::boundaries::{Mark, last_of};
 use crate::line_ranges::{range_past, range_to};
 use crate::range::TextRange;
+use text_boundaries::{Mark, last_of};
 use views::NodeRef;
 use views::runs::Run;
 use views::walks::spot::Spot;

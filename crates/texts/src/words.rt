@@ -3,12 +3,12 @@ ghost use Rattle.std.specs.Prelude.{◌≡◌, ◌==◌, nat_lt, reverse, find};
 ghost use Rattle.std.specs.List.{list_any};
 ghost use Rattle.model.specs.FlatText.{biased_to_start, biased_to_end, words_in, is_word_start};
 ghost use Rattle.model.specs.Moves.{forward_to_word_start, forward_to_word_end, backward_to_word_start};
-ghost use Rattle.texts.specs.RunNumbers.{number_in, text_around};
+ghost use Rattle.text_boundaries.specs.RunNumbers.{number_in, text_around};
 ghost use Rattle.texts.specs.Positions.{IsMoved, position_text, flat_position};
 ghost use Rattle.texts.specs.Secrets.{IsMovedInEach};
 
-use crate::boundaries::{Mark, begins_after};
 use crate::position::TextPosition;
+use text_boundaries::{Mark, begins_after};
 use views::runs::Run;
 
 /// Whether a number is among these.

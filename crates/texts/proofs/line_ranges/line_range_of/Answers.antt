@@ -4,9 +4,9 @@ use Rattle.model.specs.FlatText.{lines, start_at, end_at}
 use Rattle.model.specs.Ranges.{Range}
 use Rattle.views.specs.Nodes.{world_at, id_at}
 use Rattle.views.specs.Runs.{IsFirstOf}
-use Rattle.texts.specs.RunNumbers.{number_in}
+use Rattle.text_boundaries.specs.RunNumbers.{number_in}
 use Rattle.texts.specs.Positions.{node_text}
-use Rattle.texts.proofs.RunSteps.{ended, went_on}
+use Rattle.texts.proofs.LineWalks.{ended, went_on}
 use Rattle.texts.proofs.TextEnds.{run_found, some_run}
 use Rattle.texts.proofs.LineRanges.{line_is_there}
 use Rattle.texts.proofs.LineSteps.{at_first_line, line_rises, line_there, no_more_lines, last_line, next_at_line, fewer_left}

@@ -1,5 +1,5 @@
 use Rattle.std.proofs.Common.{◌-◌, length, ◌∙◌}
-use Rattle.texts.specs.RunNumbers.{number_in, text_around}
+use Rattle.text_boundaries.specs.RunNumbers.{number_in, text_around}
 use Rattle.texts.proofs.LineRanges.{caret_is_there}
 use Rattle.texts.proofs.line_ranges.range_past.Goals as goal
 

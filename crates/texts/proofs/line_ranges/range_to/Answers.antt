@@ -2,7 +2,7 @@ use Rattle.std.proofs.Common.{◌≡◌, ◌≤◌, ◌+◌, ap, ◌∙◌, arit
 use Rattle.model.specs.FlatText.{start_of, start_at, count_in}
 use Rattle.model.proofs.Text.Sides.{start_rises}
 use Rattle.views.specs.Nodes.{world_at, id_at}
-use Rattle.texts.specs.RunNumbers.{number_in, text_around}
+use Rattle.text_boundaries.specs.RunNumbers.{number_in, text_around}
 use Rattle.texts.proofs.TextEnds.{counted_in}
 use Rattle.texts.proofs.line_ranges.range_to.Goals as goal
 

@@ -1,7 +1,7 @@
 use Rattle.std.proofs.Common.{sym, ◌∙◌}
-use Rattle.texts.specs.declared.boundaries.Mark.TheVariants.{Line}
-use Rattle.texts.proofs.BoundarySearches.{closes_here, ends_here, ends_later}
-use Rattle.texts.proofs.RunSteps.{stepped, stayed, fewer_after}
+use Rattle.text_boundaries.specs.declared.Mark.TheVariants.{Line}
+use Rattle.text_boundaries.proofs.BoundarySearches.{closes_here, ends_here, ends_later}
+use Rattle.text_boundaries.proofs.RunSteps.{stepped, stayed, fewer_after}
 use Rattle.texts.proofs.line_ranges.step_line.Goals as goal
 
 pub returns-then-not-step : goal.returns-then-not-step

@@ -1,7 +1,7 @@
 use Rattle.std.proofs.Common.{◌≡◌, length}
 use Rattle.model.specs.FlatText.{first_run, ends_line}
 use Rattle.views.specs.Runs.{text_root_of, ids_after}
-use Rattle.texts.specs.RunNumbers.{number_in, text_around}
+use Rattle.text_boundaries.specs.RunNumbers.{number_in, text_around}
 use Rattle.texts.proofs.line_ranges.step_line.Given as goal
 
 abbrev pub invariant-loop-ends : goal.invariant-loop-ends

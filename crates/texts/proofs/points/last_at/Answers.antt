@@ -1,6 +1,6 @@
 use Rattle.std.proofs.Common.{sym, ap, ◌∙◌}
 use Rattle.std.specs.Prelude.{option_map}
-use Rattle.texts.specs.RunNumbers.{number_in}
+use Rattle.text_boundaries.specs.RunNumbers.{number_in}
 use Rattle.texts.proofs.PointPlaces.{no_runs_empty, none_passes, from_last, passes_here, passes_before, passes_nowhere}
 use Rattle.texts.proofs.points.last_at.Goals as goal
 

@@ -1,6 +1,6 @@
 use Rattle.std.proofs.Common.{◌≡◌, ◌+◌, length}
 use Rattle.views.specs.Runs.{text_root_of, ids_before}
-use Rattle.texts.specs.RunNumbers.{number_in}
+use Rattle.text_boundaries.specs.RunNumbers.{number_in}
 use Rattle.texts.specs.PointTests.{last_passing}
 use Rattle.texts.proofs.PointPlaces.{last_before}
 use Rattle.texts.proofs.points.last_at.Given as goal

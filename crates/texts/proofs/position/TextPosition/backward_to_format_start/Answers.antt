@@ -3,7 +3,7 @@ use Rattle.model.specs.FlatText.{FlatText, Position, biased_to_end, begins_forma
 use Rattle.model.specs.Moves.{start_before}
 use Rattle.texts.specs.Positions.{root_at, position_text, flat_position}
 use Rattle.texts.proofs.TextEnds.{then_at}
-use Rattle.texts.proofs.FlatRuns.{text_is_whole}
+use Rattle.texts.proofs.FlatPositions.{text_is_whole}
 use Rattle.texts.proofs.FormatStarts.{from_end_side}
 use Rattle.texts.proofs.Secrecy.{moved_in_each}
 use Rattle.model.specs.Moves.{backward_to_format_start}

@@ -1,5 +1,5 @@
 use Rattle.model.specs.FlatText.{biased_to_end}
-use Rattle.texts.proofs.FlatRuns.{first_number}
+use Rattle.text_boundaries.proofs.FlatRuns.{first_number}
 use Rattle.texts.proofs.TextEnds.{stays, goes_back}
 use Rattle.texts.proofs.CharacterMoves.{stays_past_start, stays_first}
 use Rattle.texts.proofs.position.TextPosition.biased_to_end.Goals as goal

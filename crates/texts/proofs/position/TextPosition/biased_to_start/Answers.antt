@@ -1,6 +1,6 @@
 use Rattle.std.proofs.Common.{refl, sym, ◌∙◌}
 use Rattle.model.specs.FlatText.{biased_to_start}
-use Rattle.texts.proofs.FlatRuns.{count_at_number, last_number}
+use Rattle.text_boundaries.proofs.FlatRuns.{count_at_number, last_number}
 use Rattle.texts.proofs.TextEnds.{stays, goes_on}
 use Rattle.texts.proofs.CharacterMoves.{stays_within, stays_last}
 use Rattle.texts.proofs.position.TextPosition.biased_to_start.Goals as goal

@@ -4,7 +4,7 @@ use Rattle.std.proofs.lemmas.Option.{same_Some}
 use Rattle.model.specs.Lists.{IsWithin}
 use Rattle.views.specs.Nodes.{world_at, id_at}
 use Rattle.views.specs.Runs.{run_id}
-use Rattle.texts.proofs.FlatRuns.{shown_at_number}
+use Rattle.text_boundaries.proofs.FlatRuns.{shown_at_number}
 use Rattle.texts.proofs.WeakSteps.{view_within}
 use Rattle.texts.proofs.position.TextPosition.comparable.Goals as goal
 

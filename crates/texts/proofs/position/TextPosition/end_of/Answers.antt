@@ -1,6 +1,6 @@
-use Rattle.texts.specs.RunNumbers.{number_in}
+use Rattle.text_boundaries.specs.RunNumbers.{number_in}
 use Rattle.texts.specs.Positions.{root_at, position_text}
-use Rattle.texts.specs.Marks.{ends_at}
+use Rattle.text_boundaries.specs.Marks.{ends_at}
 use Rattle.texts.proofs.TextEnds.{at_end_from}
 use Rattle.texts.proofs.position.TextPosition.end_of.Goals as goal
 

@@ -1,6 +1,6 @@
 use Rattle.std.proofs.Common.{◌+◌, sym, ap, ◌∙◌, arith}
 use Rattle.texts.specs.Positions.{position_text, flat_position}
-use Rattle.texts.proofs.FlatRuns.{text_is_whole, is_position}
+use Rattle.texts.proofs.FlatPositions.{text_is_whole, is_position}
 use Rattle.texts.proofs.PositionSteps.{room_after}
 use Rattle.texts.proofs.CharacterMoves.{same_place, character_end}
 use Rattle.texts.proofs.Secrecy.{moved_in_each}

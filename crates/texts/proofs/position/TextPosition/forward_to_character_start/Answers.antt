@@ -1,7 +1,7 @@
 use Rattle.std.proofs.Common.{sym, ap, ◌∙◌}
 use Rattle.model.specs.FlatText.{biased_to_start}
 use Rattle.texts.specs.Positions.{node_text, position_text, flat_position}
-use Rattle.texts.proofs.FlatRuns.{text_is_whole, is_position}
+use Rattle.texts.proofs.FlatPositions.{text_is_whole, is_position}
 use Rattle.texts.proofs.CharacterMoves.{character_start}
 use Rattle.texts.proofs.Secrecy.{moved_in_each}
 use Rattle.model.specs.Moves.{forward_to_character_start}

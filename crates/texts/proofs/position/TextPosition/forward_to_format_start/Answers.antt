@@ -1,6 +1,6 @@
 use Rattle.std.proofs.Common.{◌+◌, ◌∙◌}
 use Rattle.model.specs.FlatText.{begins_format}
-use Rattle.texts.specs.RunNumbers.{number_in}
+use Rattle.text_boundaries.specs.RunNumbers.{number_in}
 use Rattle.texts.specs.Positions.{root_at, position_text}
 use Rattle.texts.proofs.TextEnds.{at_document_end}
 use Rattle.texts.proofs.FormatStarts.{starts_nowhere, at_no_start, sought_next, found_next}

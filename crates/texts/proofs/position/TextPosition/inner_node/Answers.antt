@@ -1,7 +1,7 @@
 use Rattle.std.proofs.Common.{Some, sym, ap, ◌∙◌}
 use Rattle.std.specs.Prelude.{option_map}
 use Rattle.model.specs.TextRuns.{SentRun}
-use Rattle.texts.proofs.FlatRuns.{shown_at_number}
+use Rattle.text_boundaries.proofs.FlatRuns.{shown_at_number}
 use Rattle.texts.proofs.position.TextPosition.inner_node.Goals as goal
 
 pub returns-clause-run : goal.returns-clause-run

@@ -1,5 +1,5 @@
 use Rattle.std.proofs.Common.{sym, ap, ◌==◌, ◌∙◌}
-use Rattle.texts.proofs.FlatRuns.{count_at_number}
+use Rattle.text_boundaries.proofs.FlatRuns.{count_at_number}
 use Rattle.texts.proofs.position.TextPosition.is_at_run_end.Goals as goal
 
 pub returns : goal.returns

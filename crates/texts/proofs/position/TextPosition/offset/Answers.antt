@@ -1,8 +1,8 @@
 use Rattle.std.proofs.Common.{◌≡◌, refl, ap, ◌∙◌, arith}
 use Rattle.model.specs.FlatText.{start_of}
-use Rattle.texts.specs.RunNumbers.{number_in}
+use Rattle.text_boundaries.specs.RunNumbers.{number_in}
 use Rattle.texts.specs.Positions.{position_text}
-use Rattle.texts.proofs.FlatRuns.{first_number}
+use Rattle.text_boundaries.proofs.FlatRuns.{first_number}
 use Rattle.texts.proofs.TextSizes.{offset_fits, one_less}
 use Rattle.texts.proofs.position.TextPosition.offset.Goals as goal
 

@@ -1,7 +1,7 @@
 use Rattle.std.proofs.Common.{◌≡◌, ◌+◌, length}
 use Rattle.model.specs.FlatText.{start_of, offset}
 use Rattle.views.specs.Runs.{text_root_of, ids_before}
-use Rattle.texts.specs.RunNumbers.{number_in}
+use Rattle.text_boundaries.specs.RunNumbers.{number_in}
 use Rattle.texts.specs.Positions.{root_at, position_text, flat_position}
 use Rattle.texts.proofs.position.TextPosition.offset.Given as goal
 

@@ -1,7 +1,7 @@
 use Rattle.std.proofs.Common.{◌+◌}
-use Rattle.texts.specs.RunNumbers.{number_in}
+use Rattle.text_boundaries.specs.RunNumbers.{number_in}
 use Rattle.texts.specs.Positions.{position_text}
-use Rattle.texts.specs.Marks.{begins_at}
+use Rattle.text_boundaries.specs.Marks.{begins_at}
 use Rattle.texts.proofs.TextEnds.{at_start_before}
 use Rattle.texts.proofs.position.TextPosition.start_of.Goals as goal
 

@@ -1,6 +1,6 @@
 use Rattle.std.proofs.Common.{◌+◌, ◌∙◌}
 use Rattle.model.specs.FlatText.{begins_format}
-use Rattle.texts.specs.RunNumbers.{number_in}
+use Rattle.text_boundaries.specs.RunNumbers.{number_in}
 use Rattle.texts.specs.Positions.{position_text}
 use Rattle.texts.proofs.TextEnds.{at_start_before}
 use Rattle.texts.proofs.FormatStarts.{started_here, sought_previous}

@@ -1,7 +1,7 @@
 use Rattle.std.proofs.Common.{Some, refl, sym, ap, ◌∙◌}
 use Rattle.std.specs.Prelude.{option_map}
 use Rattle.model.specs.declared.FullNodeId.{FullNodeId}
-use Rattle.texts.proofs.FlatRuns.{shown_at_number}
+use Rattle.text_boundaries.proofs.FlatRuns.{shown_at_number}
 use Rattle.texts.proofs.position.TextPosition.to_raw.Goals as goal
 
 pub returns : goal.returns

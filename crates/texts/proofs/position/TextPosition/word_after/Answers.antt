@@ -1,9 +1,9 @@
 use Rattle.std.proofs.Common.{◌≡◌, nat_lt, find, Some, refl, ap, ◌∙◌}
 use Rattle.std.specs.Prelude.{slice_get}
 use Rattle.model.specs.FlatText.{words_in}
-use Rattle.texts.specs.RunNumbers.{number_in, text_around}
+use Rattle.text_boundaries.specs.RunNumbers.{number_in, text_around}
 use Rattle.texts.specs.Positions.{position_text, flat_position}
-use Rattle.texts.proofs.FlatRuns.{text_is_whole}
+use Rattle.texts.proofs.FlatPositions.{text_is_whole}
 use Rattle.texts.proofs.WordMarks.{word_after_found, none_after_found}
 use Rattle.texts.proofs.RunWords.{on_start, word_within, first_within, last_run_past, paragraph_next, word_next, past_run, text_there}
 use Rattle.texts.proofs.position.TextPosition.word_after.Goals as goal

@@ -1,6 +1,6 @@
 use Rattle.std.proofs.Common.{nat_lt, find, reverse, refl, ap, ◌∙◌, arith}
 use Rattle.texts.specs.Positions.{position_text, flat_position}
-use Rattle.texts.proofs.FlatRuns.{text_is_whole}
+use Rattle.texts.proofs.FlatPositions.{text_is_whole}
 use Rattle.texts.proofs.WordMarks.{word_before_found, none_before_found}
 use Rattle.texts.proofs.RunWords.{on_end, below_within, word_previous, back_run, text_there}
 use Rattle.texts.proofs.position.TextPosition.word_before.Goals as goal

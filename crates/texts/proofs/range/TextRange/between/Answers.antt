@@ -1,6 +1,6 @@
 use Rattle.std.proofs.Common.{refl, ap, ◌∙◌}
 use Rattle.model.specs.Ranges.{run_named}
-use Rattle.texts.specs.RunNumbers.{number_in}
+use Rattle.text_boundaries.specs.RunNumbers.{number_in}
 use Rattle.texts.specs.Positions.{node_text, root_at}
 use Rattle.texts.proofs.BetweenNames.{same_roots, none_named_so, found_by_name, run_is_there, index_within, found_in_one_state}
 use Rattle.texts.proofs.NamedRuns.{named_past, named_within}

@@ -1,5 +1,5 @@
 use Rattle.std.proofs.Common.{of_calls}
-use Rattle.texts.specs.RunNumbers.{number_in}
+use Rattle.text_boundaries.specs.RunNumbers.{number_in}
 use Rattle.texts.specs.TextRanges.{text_in, range_at}
 use Rattle.texts.specs.Pieces.{pieces_past}
 use Rattle.texts.proofs.PieceSteps.{pieces_from, as_next, part_there}

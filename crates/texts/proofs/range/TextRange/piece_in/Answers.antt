@@ -2,7 +2,7 @@ use Rattle.std.proofs.Common.{◌≡◌, refl, ap, sym, ◌∙◌}
 use Rattle.std.specs.Prelude.{if◌then◌else◌}
 use Rattle.model.specs.Ranges.{piece_in}
 use Rattle.model.specs.FlatText.{count_in}
-use Rattle.texts.specs.RunNumbers.{number_in}
+use Rattle.text_boundaries.specs.RunNumbers.{number_in}
 use Rattle.texts.specs.TextRanges.{text_in, range_at}
 use Rattle.texts.proofs.TextEnds.{counted_in}
 use Rattle.texts.proofs.RangeRuns.{start_position, end_position, named_here, named_elsewhere, same_piece}

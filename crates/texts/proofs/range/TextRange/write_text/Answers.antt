@@ -3,7 +3,7 @@ use Rattle.std.specs.List.{flat_map}
 use Rattle.model.specs.Ranges.{piece_text, pieces, text_of}
 use Rattle.model.proofs.Text.Secrets.{one_text}
 use Rattle.views.specs.Nodes.{world_at, id_at}
-use Rattle.texts.specs.RunNumbers.{number_in}
+use Rattle.text_boundaries.specs.RunNumbers.{number_in}
 use Rattle.texts.specs.TextRanges.{text_in, range_at}
 use Rattle.texts.specs.Pieces.{pieces_past}
 use Rattle.texts.specs.PieceTexts.{shown_piece}

@@ -3,7 +3,7 @@ use Rattle.std.specs.Prelude.{slice_get}
 use Rattle.model.specs.FlatText.{lines, start_at, end_at}
 use Rattle.model.specs.Ranges.{Range}
 use Rattle.views.specs.Nodes.{world_at, id_at}
-use Rattle.texts.specs.RunNumbers.{number_in}
+use Rattle.text_boundaries.specs.RunNumbers.{number_in}
 use Rattle.texts.specs.Positions.{node_text}
 use Rattle.texts.proofs.LineRanges.{line_is_there}
 use Rattle.texts.proofs.LineWalks.{end_of, rises, there, no_more, at_end, found_last, found_it}

@@ -2,20 +2,21 @@
 use Rattle.std.proofs.Common.{◌≡◌, ℕ, ◌+◌, ◌-◌, ◌<◌, Bool, true, false, cond, [], length, Some, refl, sym, ap, ◌∙◌, arith, eq-eqb}
 use Rattle.std.specs.Prelude.{◌==◌, ◌||◌}
 use Rattle.std.proofs.lemmas.Bool.{eqb-true}
-use Rattle.model.specs.FlatText.{FlatText, first_run, last_run, begins_line, begins_paragraph, closes_paragraph}
+use Rattle.model.specs.FlatText.{FlatText, flat_text, first_run, last_run, begins_line, begins_paragraph, closes_paragraph}
 use Rattle.model.specs.TextLaws.{IsWhole}
 use Rattle.model.specs.TextRuns.{supports_text_ranges}
 use Rattle.model.proofs.Text.TextFacts.{is_text}
 use Rattle.model.proofs.Text.WholeTexts.{whole_text}
 use Rattle.model.proofs.Text.Searching.{first_next, last_next}
 use Rattle.views.specs.declared.runs.Run.{Run}
-use Rattle.texts.specs.declared.boundaries.Mark.{Mark}
-use Rattle.texts.specs.declared.boundaries.Mark.TheVariants.{Line, Paragraph}
+use Rattle.text_boundaries.specs.declared.Mark.{Mark}
+use Rattle.text_boundaries.specs.declared.Mark.TheVariants.{Line, Paragraph}
 use Rattle.views.specs.Runs.{run_world, root_id, text_root_of, ids_after, ids_before, IsAfter, IsPreviousRun}
-use Rattle.texts.specs.RunNumbers.{number_in, text_around}
-use Rattle.texts.specs.Positions.{node_text}
-use Rattle.texts.specs.Marks.{begins_at, ends_at, closes_at}
-use Rattle.texts.proofs.FlatRuns.{runs_counted, last_number, first_number, number_next, number_previous, more_runs}
+use Rattle.text_boundaries.specs.RunNumbers.{number_in, text_around}
+use Rattle.views.specs.declared.node.node_ref.NodeRef.{NodeRef}
+use Rattle.views.specs.Nodes.{world_at, id_at}
+use Rattle.text_boundaries.specs.Marks.{begins_at, ends_at, closes_at}
+use Rattle.text_boundaries.proofs.FlatRuns.{runs_counted, last_number, first_number, number_next, number_previous, more_runs}
 
 pub turned : (r s : Run) → IsPreviousRun r s → IsAfter s r
 turned r s before = record { root = sym before.root; after = before.after; before = before.before }
@@ -66,7 +67,7 @@ module _ (self : Run) (text : supports_text_ranges (run_world self) (root_id sel
 
   module _ (run : Run) (same : text_root_of run ≡ text_root_of self) where
     same_length : length (text_around run) ≡ length (text_around self)
-    same_length = ap (λ n. length (node_text n)) same
+    same_length = ap (λ (n : NodeRef). length (flat_text (world_at n) (id_at n))) same
 
     in_text : number_in run < length (text_around self)
     in_text = let n = runs_counted run in omega (arith, n, same_length)
@@ -88,7 +89,7 @@ module _ (self : Run) (text : supports_text_ranges (run_world self) (root_id sel
         last_next (length (text_around self)) (number_in run) (back m) in_text ∙ ap (λ x. cond x (Some (number_in run)) (last_run (text_around self) (number_in run) (back m))) e
 
     pub closes_here : (m : Mark) → closes_at m (text_around run) (number_in run) ≡ true → first_run (text_around self) (number_in run) (ends_at m (text_around self)) ≡ Some (number_in run)
-    closes_here m e = step_forth m true (closing_ends (text_around self) m (number_in run) (sym (ap (λ n. closes_at m (node_text n) (number_in run)) same) ∙ e))
+    closes_here m e = step_forth m true (closing_ends (text_around self) m (number_in run) (sym (ap (λ (n : NodeRef). closes_at m (flat_text (world_at n) (id_at n)) (number_in run)) same) ∙ e))
 
     pub ends_here : (m : Mark) → ids_after run ≡ [] → first_run (text_around self) (number_in run) (ends_at m (text_around self)) ≡ Some (number_in run)
     ends_here m e = step_forth m true (last_one_ends (text_around self) whole m (number_in run) (last_number run e ∙ same_length))
@@ -96,11 +97,11 @@ module _ (self : Run) (text : supports_text_ranges (run_world self) (root_id sel
     pub ends_later : (m : Mark) (s : Run) → IsAfter run s → closes_at m (text_around run) (number_in run) ≡ false →
         first_run (text_around self) (number_in run) (ends_at m (text_around self)) ≡ first_run (text_around self) (number_in s) (ends_at m (text_around self))
     ends_later m s after e =
-        step_forth m false (open_goes_on (text_around self) m (number_in run) (let more = more_runs run s after in omega (arith, more, same_length)) (sym (ap (λ n. closes_at m (node_text n) (number_in run)) same) ∙ e))
+        step_forth m false (open_goes_on (text_around self) m (number_in run) (let more = more_runs run s after in omega (arith, more, same_length)) (sym (ap (λ (n : NodeRef). closes_at m (flat_text (world_at n) (id_at n)) (number_in run)) same) ∙ e))
         ∙ ap (λ k. first_run (text_around self) k (forth m)) (sym (number_next run s after))
 
     pub begins_here : (m : Mark) → begins_at m (text_around run) (number_in run) ≡ true → last_run (text_around self) (number_in run + 1) (begins_at m (text_around self)) ≡ Some (number_in run)
-    begins_here m e = step_back m true (sym (ap (λ n. begins_at m (node_text n) (number_in run)) same) ∙ e)
+    begins_here m e = step_back m true (sym (ap (λ (n : NodeRef). begins_at m (flat_text (world_at n) (id_at n)) (number_in run)) same) ∙ e)
 
     pub starts_here : (m : Mark) → ids_before run ≡ [] → last_run (text_around self) (number_in run + 1) (begins_at m (text_around self)) ≡ Some (number_in run)
     starts_here m e = step_back m true (first_one_begins (text_around self) whole m (number_in run) (first_number run e))
@@ -108,4 +109,4 @@ module _ (self : Run) (text : supports_text_ranges (run_world self) (root_id sel
     pub begins_before : (m : Mark) (s : Run) → IsPreviousRun run s → begins_at m (text_around run) (number_in run) ≡ false →
         last_run (text_around self) (number_in run + 1) (begins_at m (text_around self)) ≡ last_run (text_around self) (number_in s + 1) (begins_at m (text_around self))
     begins_before m s before e =
-        step_back m false (sym (ap (λ n. begins_at m (node_text n) (number_in run)) same) ∙ e) ∙ ap (λ k. last_run (text_around self) k (back m)) (sym (number_previous run s before))
+        step_back m false (sym (ap (λ (n : NodeRef). begins_at m (flat_text (world_at n) (id_at n)) (number_in run)) same) ∙ e) ∙ ap (λ k. last_run (text_around self) k (back m)) (sym (number_previous run s before))

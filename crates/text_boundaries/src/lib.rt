@@ -1,43 +1,47 @@
-//! Where lines and paragraphs begin and end, by a run and its neighbours.
+//! Where lines and paragraphs of a text begin and end, by a run and its neighbours.
+#![tactic(auto)]
+
 ghost use Rattle.std.specs.Prelude.{◌≡◌, ◌+◌, ◌==◌, true, Some, length};
 ghost use Rattle.model.specs.TextRuns.{supports_text_ranges};
 ghost use Rattle.model.specs.FlatText.{first_run, last_run, begins_line, ends_line, begins_paragraph, ends_paragraph, closes_paragraph};
 ghost use Rattle.views.specs.Runs.{text_root_of, run_world, root_id, IsAfter};
-ghost use Rattle.texts.specs.RunNumbers.{number_in, text_around};
-ghost use Rattle.texts.specs.Marks.{begins_at, ends_at, closes_at};
+ghost use Rattle.text_boundaries.specs.RunNumbers.{number_in, text_around};
+ghost use Rattle.text_boundaries.specs.Marks.{begins_at, ends_at, closes_at};
 
 use views::runs::Run;
 
 /// A part of a text that consists of whole runs.
 #[derive(Clone, Copy)]
-pub(crate) enum Mark {
+pub enum Mark {
+    /// A line.
     Line,
+    /// A paragraph: it ends with a newline, or with the text.
     Paragraph,
 }
 
 /// Whether a line ends with the run.
-pub(crate) fn ends_line(run: Run<'_>) -> bool
+pub fn ends_line(run: Run<'_>) -> bool
     ensures { result ≡ ends_line (text_around run.entry) (number_in run.entry) }
 {
     run.node().next_on_line().is_none()
 }
 
 /// Whether a line ends with the run, by a newline.
-pub(crate) fn closes_paragraph(run: Run<'_>) -> bool
+pub fn closes_paragraph(run: Run<'_>) -> bool
     ensures { result ≡ closes_paragraph (text_around run.entry) (number_in run.entry) }
 {
     ends_line(run) && run.ends_with_newline()
 }
 
 /// Whether a line begins with the run.
-pub(crate) fn begins_line(run: Run<'_>) -> bool
+pub fn begins_line(run: Run<'_>) -> bool
     ensures { result ≡ begins_line (text_around run.entry) (number_in run.entry) }
 {
     run.node().previous_on_line().is_none()
 }
 
 /// Whether it is the first run.
-pub(crate) fn is_first(run: Run<'_>) -> bool
+pub fn is_first(run: Run<'_>) -> bool
     ensures { result ≡ (number_in run.entry == 0) }
 {
     let Some(_previous) = run.previous() else {
@@ -47,7 +51,7 @@ pub(crate) fn is_first(run: Run<'_>) -> bool
 }
 
 /// Whether it is the last run.
-pub(crate) fn is_last(run: Run<'_>) -> bool
+pub fn is_last(run: Run<'_>) -> bool
     ensures { result ≡ (number_in run.entry + 1 == length (text_around run.entry)) }
 {
     let Some(_next) = run.next() else {
@@ -57,7 +61,7 @@ pub(crate) fn is_last(run: Run<'_>) -> bool
 }
 
 /// Whether a paragraph begins with the run.
-pub(crate) fn begins_paragraph(run: Run<'_>) -> bool
+pub fn begins_paragraph(run: Run<'_>) -> bool
     ensures { result ≡ begins_paragraph (text_around run.entry) (number_in run.entry) }
 {
     let Some(previous) = run.previous() else {
@@ -67,7 +71,7 @@ pub(crate) fn begins_paragraph(run: Run<'_>) -> bool
 }
 
 /// Whether a paragraph ends with the run.
-pub(crate) fn ends_paragraph(run: Run<'_>) -> bool
+pub fn ends_paragraph(run: Run<'_>) -> bool
     ensures { result ≡ ends_paragraph (text_around run.entry) (number_in run.entry) }
 {
     is_last(run) || closes_paragraph(run)
@@ -84,7 +88,7 @@ fn closes(run: Run<'_>, mark: Mark) -> bool
 }
 
 /// Whether a line or a paragraph begins with the run, which follows another one.
-pub(crate) fn begins_after<'a>(run: Run<'a>, mark: Mark, previous: Run<'a>) -> bool
+pub fn begins_after<'a>(run: Run<'a>, mark: Mark, previous: Run<'a>) -> bool
     requires { IsAfter previous run }
     ensures { result ≡ begins_at mark (text_around run.entry) (number_in run.entry) }
 {
@@ -96,7 +100,7 @@ pub(crate) fn begins_after<'a>(run: Run<'a>, mark: Mark, previous: Run<'a>) -> b
 
 /// The first run, from this one on, that ends a line or a paragraph.
 #[inline(always)]
-pub(crate) fn last_of<'a>(start: Run<'a>, mark: Mark) -> Run<'a>
+pub fn last_of<'a>(start: Run<'a>, mark: Mark) -> Run<'a>
     requires { supports_text_ranges (run_world start) (root_id start) ≡ true }
     ensures same { text_root_of result ≡ text_root_of start.entry }
     ensures found { let t = text_around start.entry in
@@ -114,7 +118,7 @@ pub(crate) fn last_of<'a>(start: Run<'a>, mark: Mark) -> Run<'a>
 }
 
 /// The last run, up to this one, that begins a line or a paragraph.
-pub(crate) fn first_of<'a>(start: Run<'a>, mark: Mark) -> Run<'a>
+pub fn first_of<'a>(start: Run<'a>, mark: Mark) -> Run<'a>
     requires { supports_text_ranges (run_world start) (root_id start) ≡ true }
     ensures same { text_root_of result ≡ text_root_of start.entry }
     ensures found { let t = text_around start.entry in

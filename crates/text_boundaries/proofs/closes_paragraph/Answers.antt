@@ -1,9 +1,9 @@
 use Rattle.std.proofs.Common.{sym, ap, ◌∙◌}
 use Rattle.std.specs.Prelude.{◌&&◌}
 use Rattle.model.specs.FlatText.{run_has}
-use Rattle.texts.specs.RunNumbers.{number_in, text_around}
-use Rattle.texts.proofs.FlatRuns.{newline_at_number}
-use Rattle.texts.proofs.boundaries.closes_paragraph.Goals as goal
+use Rattle.text_boundaries.specs.RunNumbers.{number_in, text_around}
+use Rattle.text_boundaries.proofs.FlatRuns.{newline_at_number}
+use Rattle.text_boundaries.proofs.closes_paragraph.Goals as goal
 
 pub returns-then-ends_line : goal.returns-then-ends_line
 returns-then-ends_line c =

@@ -1,8 +1,8 @@
 -- What begins and ends at a run of a text.
 use Rattle.std.specs.Prelude.{ℕ, Bool}
 use Rattle.model.specs.FlatText.{FlatText, begins_line, ends_line, begins_paragraph, ends_paragraph, closes_paragraph}
-use Rattle.texts.specs.declared.boundaries.Mark.{Mark}
-use Rattle.texts.specs.declared.boundaries.Mark.TheVariants.{Line, Paragraph}
+use Rattle.text_boundaries.specs.declared.Mark.{Mark}
+use Rattle.text_boundaries.specs.declared.Mark.TheVariants.{Line, Paragraph}
 
 -- one begins at the run
 abbrev pub begins_at : Mark → FlatText → ℕ → Bool

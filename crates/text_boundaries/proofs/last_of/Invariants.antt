@@ -1,9 +1,9 @@
 use Rattle.std.proofs.Common.{◌≡◌, length}
 use Rattle.model.specs.FlatText.{first_run}
 use Rattle.views.specs.Runs.{text_root_of, ids_after}
-use Rattle.texts.specs.RunNumbers.{number_in, text_around}
-use Rattle.texts.specs.Marks.{ends_at}
-use Rattle.texts.proofs.boundaries.last_of.Given as goal
+use Rattle.text_boundaries.specs.RunNumbers.{number_in, text_around}
+use Rattle.text_boundaries.specs.Marks.{ends_at}
+use Rattle.text_boundaries.proofs.last_of.Given as goal
 
 abbrev pub invariant-loop-mark : goal.invariant-loop-mark
 invariant-loop-mark l = record {

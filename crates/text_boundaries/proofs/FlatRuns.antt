@@ -5,15 +5,10 @@ use Rattle.std.specs.Option.{option_map_or}
 use Rattle.std.proofs.lemmas.List.{length-map}
 use Rattle.std.proofs.lemmas.Option.{slice_get-map}
 use Rattle.model.specs.TextRuns.{sent_run, sent_runs, run_ids, cut_by, said_count, ends_with_newline, is_password}
-use Rattle.model.specs.FlatText.{ShownRun, shown_character, needs_masking, shown_run, flat_text, count, count_in, begins_line, ends_line, run_has, IsPosition}
-use Rattle.model.specs.TextLaws.{IsWhole}
-use Rattle.model.proofs.Text.TextFacts.{is_text}
-use Rattle.model.proofs.Text.WholeTexts.{whole_text}
+use Rattle.model.specs.FlatText.{ShownRun, shown_character, needs_masking, shown_run, flat_text, count, count_in, begins_line, ends_line, run_has}
 use Rattle.views.specs.declared.runs.Run.{Run}
-use Rattle.texts.specs.declared.position.TextPosition.{TextPosition}
 use Rattle.views.specs.Runs.{run_world, root_id, run_id, sent_of, ids_after, ids_before, IsAfter, IsPreviousRun}
-use Rattle.texts.specs.RunNumbers.{number_in, text_around}
-use Rattle.texts.specs.Positions.{position_text, flat_position}
+use Rattle.text_boundaries.specs.RunNumbers.{number_in, text_around}
 use Rattle.views.proofs.FitRuns.{sent_known}
 
 -- a test that isn't true exactly of what is there is true of nothing
@@ -83,10 +78,3 @@ module _ (r : Run) where
 
     pub number_previous : IsPreviousRun r s → number_in s + 1 ≡ number_in r
     number_previous before = let e = ap length before.before in omega (arith, e, length-append (ids_before s) (run_id s ∷ []))
-
-module _ (p : TextPosition) where
-  pub text_is_whole : IsWhole (position_text p)
-  text_is_whole = whole_text (run_world p.run) (root_id p.run) (is_text (run_world p.run) (root_id p.run) p.text)
-
-  pub is_position : IsPosition (position_text p) (flat_position p)
-  is_position = record { run = (let n = runs_counted p.run in omega (arith, n)); index = (let c = count_at_number p.run in let i = p.within in omega (arith, c, i)) }

@@ -1,9 +1,9 @@
 use Rattle.std.proofs.Common.{Some, sym, ap, ◌∙◌}
 use Rattle.views.specs.Runs.{text_root_of}
-use Rattle.texts.specs.RunNumbers.{number_in}
-use Rattle.texts.proofs.BoundarySearches.{closes_here, ends_here, ends_later}
-use Rattle.texts.proofs.RunSteps.{stepped, stayed, fewer_after}
-use Rattle.texts.proofs.boundaries.last_of.Goals as goal
+use Rattle.text_boundaries.specs.RunNumbers.{number_in}
+use Rattle.text_boundaries.proofs.BoundarySearches.{closes_here, ends_here, ends_later}
+use Rattle.text_boundaries.proofs.RunSteps.{stepped, stayed, fewer_after}
+use Rattle.text_boundaries.proofs.last_of.Goals as goal
 
 pub returns-then-closes-clause-found : goal.returns-then-closes-clause-found
 returns-then-closes-clause-found c =

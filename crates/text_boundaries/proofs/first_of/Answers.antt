@@ -1,6 +1,6 @@
 use Rattle.std.proofs.Common.{sym, ◌∙◌}
-use Rattle.texts.proofs.BoundarySearches.{turned, begins_here, starts_here, begins_before}
-use Rattle.texts.proofs.boundaries.first_of.Goals as goal
+use Rattle.text_boundaries.proofs.BoundarySearches.{turned, begins_here, starts_here, begins_before}
+use Rattle.text_boundaries.proofs.first_of.Goals as goal
 
 pub begins_after-requires : goal.begins_after-requires
 begins_after-requires c = turned c.loop-previous.run c.in-Some.previous c.in-Some.ensures

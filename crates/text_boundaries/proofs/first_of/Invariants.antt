@@ -1,9 +1,9 @@
 use Rattle.std.proofs.Common.{◌≡◌, ◌+◌, length}
 use Rattle.model.specs.FlatText.{last_run}
 use Rattle.views.specs.Runs.{text_root_of, ids_before}
-use Rattle.texts.specs.RunNumbers.{number_in, text_around}
-use Rattle.texts.specs.Marks.{begins_at}
-use Rattle.texts.proofs.boundaries.first_of.Given as goal
+use Rattle.text_boundaries.specs.RunNumbers.{number_in, text_around}
+use Rattle.text_boundaries.specs.Marks.{begins_at}
+use Rattle.text_boundaries.proofs.first_of.Given as goal
 
 abbrev pub invariant-loop-previous : goal.invariant-loop-previous
 invariant-loop-previous l = record {

@@ -1,0 +1,3 @@
+pub mod FlatRuns
+pub mod RunSteps
+pub mod BoundarySearches

@@ -1,0 +1,2 @@
+pub mod RunNumbers
+pub mod Marks
