@@ -1,21 +1,16 @@
--- Calls that may fail, and what is kept of that.
-use Rattle.std.proofs.Common.{◌≡◌, true, false, Option, Some, None, Result, Ok, is_some, refl, subst}
+-- A call that is made where nothing has failed before, and what is kept of its failure.
+use Rattle.std.proofs.Common.{◌≡◌, Bool, true, false, not, Option, Some, None, Result, Ok, Err, is_some, refl, ap, ◌∙◌}
 use Rattle.std.specs.Prelude.{IfNone, OnOk}
+use Rattle.std.specs.Result.{result_err}
 
 -- after a failure there is one
-pub stays : {F : Type 0} (A : Type 0) (fault : Option F) → is_some fault ≡ true → IfNone fault A
-stays A None e = absurd (let clash : false ≡ true = e in cc)
-stays A (Some fault) e = tt
+pub stays : {F : Type 0} (A : Type 0) (fault : Option F) (none : Bool) → is_some fault ≡ not none → none ≡ false → IfNone fault A
+stays A None none is e = absurd (let clash : false ≡ true = is ∙ ap not e in cc)
+stays A (Some fault) none is e = tt
 
-pub none_is : {F : Type 0} (fault : Option F) → is_some fault ≡ false → fault ≡ None
-none_is None e = refl
-none_is (Some fault) e = absurd (let clash : true ≡ false = e in cc)
-
--- what a call ensures that succeeded
-pub done : {F P : Type 0} (r : Result Unit F) → r ≡ Ok tt → OnOk r P → P
-done {P = P} r e h = subst (λ x. OnOk x P) e h
-
--- where no failure is kept, the call succeeded
-pub told_rightly : {F A B : Type 0} (r : Result Unit F) (fault : Option F) → IfNone fault (r ≡ Ok tt) → B → (r ≡ Ok tt → A) → IfNone fault (B × A)
-told_rightly r None e none told = (none, told e)
-told_rightly r (Some fault) e none told = tt
+-- where no failure is kept, the call succeeded; and what else it ensures
+pub heard : {F O K : Type 0} (A : Type 0) → O → K → (before : Option F) (told : Result Unit F) (after : Option F) (none : Bool) → is_some before ≡ not none → none ≡ true →
+    after ≡ result_err told → OnOk told A → O × K × IfNone after ((before ≡ None) × A)
+heard A o k None (Ok done) after none is e kept told = (o, k, rw kept (refl, told))
+heard A o k None (Err fault) after none is e kept told = (o, k, rw kept tt)
+heard A o k (Some fault) told after none is e kept holds = absurd (let clash : true ≡ false = is ∙ ap not e in cc)

@@ -1,6 +1,5 @@
 -- What a reporter has told of events.
 use Rattle.std.proofs.Common.{◌≡◌, ℕ, List, [], ◌∷◌, map, Option, Some, None, Result, refl, sym, ap, ◌∙◌, subst}
-use Rattle.std.specs.BTreeMap.{BTreeMap}
 use Rattle.std.specs.Prelude.{IfNone, IfSome, option_map}
 use Rattle.std.specs.declared.alloc.AllocError.{AllocError}
 use Rattle.atree_script.proofs.Printing.{without, before_it}
@@ -14,9 +13,8 @@ use Rattle.session.specs.declared.commands.Command.{Command}
 use Rattle.session.specs.declared.commands.Reply.{Reply}
 use Rattle.session.proofs.StepEvents.{step_differences}
 use Rattle.session.specs.Replied.{IsStep}
-use Rattle.page_states.specs.declared.found.Facts.{Facts}
 use Rattle.page_states.specs.Found.{AreReady, IsOfStep}
-use Rattle.page.specs.Reports.{Report, Reports}
+use Rattle.page.specs.Reports.{Known, Report, Reports, ReportsRightly}
 
 seen_there : (w : World) (id : Option FullNodeId) → IfSome (option_map (seen_in w) id) (λ n. n.world ≡ w)
 seen_there w None = tt
@@ -30,14 +28,9 @@ of_step old new (Removed id) = refl
 
 -- ---- a reporter's output by its name, the state that it tells of, what it has told, what it has found out, and its fault
 
-abbrev Known : Type 0
-Known = Option (BTreeMap FullNodeId Facts)
-
 module _ {S N F : Type 0} (name : S → N) (state : S → ℕ) (has : S → Report) (before after : S → Known) (fault : S → Option F) where
-  -- an event is told rightly, if what was found out is right
   abbrev pub TellsRightly : S → Event → S → Type 0
-  TellsRightly s e t =
-      (old new : World) → IsOfStep old new e → AreReady old new (before s) (after s) → Reports (state s) (has s) e (has t) × AreReady old new (before t) (after t)
+  TellsRightly s e t = ReportsRightly (state s) (has s) (before s, after s) e (has t) (before t, after t)
 
   abbrev pub ReportsEvent : S → Event → S → Type 0
   ReportsEvent s e t = (name t ≡ name s) × (state t ≡ state s) × IfNone (fault t) ((fault s ≡ None) × TellsRightly s e t)

@@ -11,13 +11,14 @@ use Rattle.session.specs.Replied.{IsStep}
 use Rattle.session.specs.declared.commands.Command.{Command}
 use Rattle.session.specs.declared.commands.Reply.{Reply}
 use Rattle.views.specs.Nodes.{seen_node}
+use Rattle.page_states.specs.declared.found.Facts.{Facts}
 use Rattle.page_states.specs.declared.found.View.{View}
 use Rattle.page_states.specs.declared.marks.Mark.{Mark}
 use Rattle.page_states.specs.declared.marks.Mark.TheVariants.{Added, Updated}
 use Rattle.page.specs.declared.tally.Tally.{Tally}
 use Rattle.page.specs.declared.sections.Outcome.{Outcome}
 use Rattle.page_states.specs.Differences.{TellsDifferences}
-use Rattle.page_states.specs.Found.{IsRight, view_seen}
+use Rattle.page_states.specs.Found.{AreReady, IsOfStep, IsRight, view_seen}
 use Rattle.page_states.specs.Named.{name_text, linked_text}
 use Rattle.page_states.specs.Said.{arrow}
 use Rattle.page.specs.States.{counted, is_quiet, outcome_of}
@@ -27,6 +28,10 @@ Bytes = Option (List ℕ)
 
 abbrev pub Marked : Type 0
 Marked = BTreeMap FullNodeId Mark
+
+-- what was found out about the nodes of a state, if anything
+abbrev pub Known : Type 0
+Known = Option (BTreeMap FullNodeId Facts)
 
 -- what is written of a step's events so far, how many there were of each kind, and the marks of the nodes that they added and updated
 pub record Report : Type 0 where
@@ -116,6 +121,11 @@ Reports state s (NodeAdded new) t = ReportsAdded state s new t
 Reports state s (NodeUpdated old new) t = ReportsUpdated state s old new t
 Reports state s (FocusMoved old new) t = ReportsFocus state s old new t
 Reports state s (NodeRemoved old) t = ReportsRemoved s old t
+
+-- an event of a step is told, and what was found out about the worlds before and after the step stays right
+abbrev pub ReportsRightly : ℕ → Report → Known × Known → Event → Report → Known × Known → Type 0
+ReportsRightly state s found e t kept = (old new : World) → IsOfStep old new e → AreReady old new found.0 found.1
+    → Reports state s e t × AreReady old new kept.0 kept.1
 
 -- no event yet
 abbrev pub no_tally : Tally

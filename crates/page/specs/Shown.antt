@@ -1,5 +1,5 @@
 -- What a page shows of a script, command by command.
-use Rattle.std.specs.Prelude.{◌≡◌, ◌⊎◌, ℕ, List, [], ◌∷◌, ◌++◌, Option, Some, None, MatchOption, MatchResult, Result, Ok, Err, ⊤}
+use Rattle.std.specs.Prelude.{◌≡◌, ◌⊎◌, ℕ, List, [], ◌∷◌, ◌++◌, MatchOption, MatchResult, Result, Ok, ⊤}
 use Rattle.std.specs.Io.KnownBytes.{Appends, Keeps}
 use Rattle.atree_script.specs.Input.{Commented, start_of}
 use Rattle.atree_script.specs.declared.playing.Played.{Played}
@@ -87,6 +87,9 @@ pub record ShowsStep (title : List ℕ) (cause : Cause) (outcome : Outcome) (s :
 -- a page, and the bytes that are reported on standard error
 abbrev pub Shown : Type 0
 Shown = Pages × Bytes
+
+abbrev pub shown_of : ℕ → List Titled → Bytes → Bytes → Shown
+shown_of updates states written told = (pages_of updates states written, told)
 
 -- what is reported of a state: of a refused update its number among the updates, and why it is refused
 abbrev pub report_text : Cause → Outcome → List ℕ

@@ -11,7 +11,7 @@ ghost use Rattle.page.specs.Shown.{
   OrStops,
   PagesFrom,
   RefusesFirst,
-  Shown,
+  shown_of,
   Shows,
   ShowsFirst,
   ShowsScript,
@@ -110,16 +110,9 @@ fn play_shown<R: BufRead, O: Write, E: Write>(
 ) -> Played
     ensures output { pager.new.output.ghost_name ≡ pager.old.output.ghost_name }
     ensures errors { pager.new.errors.ghost_name ≡ pager.old.errors.ghost_name }
-    ensures plays { let before : Shown = (
-      pages_of pager.old.updates pager.old.states.items
-          (O.contents pager.old.output.now),
-      E.contents pager.old.errors.now,
-    ) in
-        let after : Shown = (
-          pages_of pager.new.updates pager.new.states.items
-              (O.contents pager.new.output.now),
-          E.contents pager.new.errors.now,
-        ) in
+    ensures plays { let a = pager.old in let b = pager.new in
+        let before = shown_of a.updates a.states.items (O.contents a.output.now) (E.contents a.errors.now) in
+        let after = shown_of b.updates b.states.items (O.contents b.output.now) (E.contents b.errors.now) in
         PlaysOut Shows (R.remaining input.old) before result after }
 {
     play(alloc, input, pager)
@@ -152,8 +145,8 @@ struct Pager<'a, 'b, O, E> {
 
 impl<'a, 'b, O: Write, E: Write> Player for Pager<'a, 'b, O, E> {
     ghost turns = { λ s turn result t. (t.output.ghost_name ≡ s.output.ghost_name) × (t.errors.ghost_name ≡ s.errors.ghost_name)
-        × Shows (pages_of s.updates s.states.items (O.contents s.output.now), E.contents s.errors.now) turn result
-        (pages_of t.updates t.states.items (O.contents t.output.now), E.contents t.errors.now) };
+        × Shows (shown_of s.updates s.states.items (O.contents s.output.now) (E.contents s.errors.now)) turn result
+        (shown_of t.updates t.states.items (O.contents t.output.now) (E.contents t.errors.now)) };
 
     /// Shows the first state, which has no events.
     fn begin(&mut self, comment: &[u8], session: &Session) -> Result<(), Stop> {
@@ -206,16 +199,9 @@ impl<'a, 'b, O: Write, E: Write> Pager<'a, 'b, O, E> {
     ) -> Result<(), Stop>
         ensures output { self.new.output.ghost_name ≡ self.old.output.ghost_name }
         ensures errors { self.new.errors.ghost_name ≡ self.old.errors.ghost_name }
-        ensures shows { let before : Shown = (
-          pages_of self.old.updates self.old.states.items
-              (O.contents self.old.output.now),
-          E.contents self.old.errors.now,
-        ) in
-            let after : Shown = (
-              pages_of self.new.updates self.new.states.items
-                  (O.contents self.new.output.now),
-              E.contents self.new.errors.now,
-            ) in
+        ensures shows { let a = self.old in let b = self.new in
+            let before = shown_of a.updates a.states.items (O.contents a.output.now) (E.contents a.errors.now) in
+            let after = shown_of b.updates b.states.items (O.contents b.output.now) (E.contents b.errors.now) in
             OrStops result (ShowsTurn title.now cause before session.old command session.new after) (after.1 ≡ before.1) }
     {
         let outcome = self.show_step(title, cause, session, command)?;

@@ -1,13 +1,12 @@
 //! Writing each event of an update as it is reported.
 ghost use Rattle.std.specs.Prelude.{◌≡◌, ◌++◌, codes, List, None, IfNone, IfOk, Ok, OnOk};
 ghost use Rattle.std.specs.Io.KnownBytes.{Appends};
-ghost use Rattle.model.specs.Events.{Event, Told};
-ghost use Rattle.model.specs.World.{World};
+ghost use Rattle.model.specs.Events.{Event, NodeAdded, NodeUpdated, FocusMoved, NodeRemoved, Told};
 ghost use Rattle.session.specs.Replied.{IsStep};
-ghost use Rattle.views.specs.Nodes.{seen_node, seen_through, world_at};
-ghost use Rattle.page_states.specs.Found.{AreReady, AreRightIf, IsOfStep, IsSeenIn};
+ghost use Rattle.views.specs.Nodes.{seen_node, seen_through};
+ghost use Rattle.page_states.specs.Found.{AreReady};
 ghost use Rattle.page_states.specs.Named.{name_text, linked_text};
-ghost use Rattle.page.specs.Reports.{item_begun, item_ended, list_begun, list_ended, new_focus, old_focus, report_of, Reports, ReportsAdded, ReportsFocus, ReportsRemoved, ReportsStep, ReportsUpdated, TellsUpdated};
+ghost use Rattle.page.specs.Reports.{item_begun, item_ended, list_begun, list_ended, new_focus, old_focus, report_of, Reports, ReportsRightly, ReportsStep, TellsUpdated};
 ghost use Rattle.page_states.specs.Said.{arrow};
 
 use crate::sections::{Outcome, outcome_of};
@@ -251,10 +250,8 @@ impl<'a, O: Write> Reporter<'a, O> {
         ensures kept { (self.new.state ≡ self.old.state) × (self.new.fault ≡ self.old.fault) }
         ensures told { let before = report_of (O.contents self.old.out.now) self.old.tally self.old.marks in
             let after = report_of (O.contents self.new.out.now) self.new.tally self.new.marks in
-            AreRightIf (world_at node.now) self.old.after → OnOk result (ReportsAdded self.old.state before (seen_node node.now) after) }
-        ensures found { let w = world_at node.now in
-            AreRightIf w self.old.after → OnOk result (AreRightIf w self.new.after) }
-        ensures others { self.new.before ≡ self.old.before }
+            let event = NodeAdded (seen_node node.now) in
+            OnOk result (ReportsRightly self.old.state before (self.old.before, self.old.after) event after (self.new.before, self.new.after)) }
     {
         let view = view_of(self.alloc, &mut self.after, node)?;
         write_added(self.alloc, self.state, self.tally, view, self.out)?;
@@ -269,10 +266,8 @@ impl<'a, O: Write> Reporter<'a, O> {
         ensures kept { (self.new.state ≡ self.old.state) × (self.new.fault ≡ self.old.fault) }
         ensures told { let before = report_of (O.contents self.old.out.now) self.old.tally self.old.marks in
             let after = report_of (O.contents self.new.out.now) self.new.tally self.new.marks in
-            AreReady (world_at old.now) (world_at new.now) self.old.before self.old.after →
-            OnOk result (ReportsUpdated self.old.state before (seen_node old.now) (seen_node new.now) after) }
-        ensures found { let o = world_at old.now in let n = world_at new.now in
-            AreReady o n self.old.before self.old.after → OnOk result (AreReady o n self.new.before self.new.after) }
+            let event = NodeUpdated (seen_node old.now) (seen_node new.now) in
+            OnOk result (ReportsRightly self.old.state before (self.old.before, self.old.after) event after (self.new.before, self.new.after)) }
     {
         let earlier = view_of(self.alloc, &mut self.before, old)?;
         let later = view_of(self.alloc, &mut self.after, new)?;
@@ -288,10 +283,8 @@ impl<'a, O: Write> Reporter<'a, O> {
         ensures kept { (self.new.state ≡ self.old.state) × (self.new.fault ≡ self.old.fault) }
         ensures told { let before = report_of (O.contents self.old.out.now) self.old.tally self.old.marks in
             let after = report_of (O.contents self.new.out.now) self.new.tally self.new.marks in
-            (o n : World) → IsSeenIn o old.entry → IsSeenIn n new.entry → AreReady o n self.old.before self.old.after →
-            OnOk result (ReportsFocus self.old.state before (seen_through old.entry) (seen_through new.entry) after) }
-        ensures found { (o n : World) → IsSeenIn o old.entry → IsSeenIn n new.entry → AreReady o n self.old.before self.old.after →
-            OnOk result (AreReady o n self.new.before self.new.after) }
+            let event = FocusMoved (seen_through old.entry) (seen_through new.entry) in
+            OnOk result (ReportsRightly self.old.state before (self.old.before, self.old.after) event after (self.new.before, self.new.after)) }
     {
         let earlier = view_if(self.alloc, &mut self.before, old)?;
         let later = view_if(self.alloc, &mut self.after, new)?;
@@ -306,10 +299,8 @@ impl<'a, O: Write> Reporter<'a, O> {
         ensures kept { (self.new.state ≡ self.old.state) × (self.new.fault ≡ self.old.fault) }
         ensures told { let before = report_of (O.contents self.old.out.now) self.old.tally self.old.marks in
             let after = report_of (O.contents self.new.out.now) self.new.tally self.new.marks in
-            AreRightIf (world_at node.now) self.old.before → OnOk result (ReportsRemoved before (seen_node node.now) after) }
-        ensures found { let w = world_at node.now in
-            AreRightIf w self.old.before → OnOk result (AreRightIf w self.new.before) }
-        ensures others { self.new.after ≡ self.old.after }
+            let event = NodeRemoved (seen_node node.now) in
+            OnOk result (ReportsRightly self.old.state before (self.old.before, self.old.after) event after (self.new.before, self.new.after)) }
     {
         let view = view_of(self.alloc, &mut self.before, node)?;
         write_removed(self.alloc, self.tally, view, self.out)?;
@@ -318,52 +309,34 @@ impl<'a, O: Write> Reporter<'a, O> {
     }
 }
 
-/// What went wrong, if anything did.
-fn fault_of(told: Result<(), Fault>) -> Option<Fault>
-    ensures { IfNone result (told ≡ Ok tt) }
-{
-    match told {
-        Ok(()) => None,
-        Err(fault) => Some(fault),
-    }
-}
-
 impl<'a, O: Write> TreeChangeHandler for Reporter<'a, O> {
     ghost steps = { λ s e t. (t.out.ghost_name ≡ s.out.ghost_name) × (t.state ≡ s.state)
         × IfNone t.fault ((s.fault ≡ None)
-        × ((old new : World) → IsOfStep old new e → AreReady old new s.before s.after →
-        Reports s.state (report_of (O.contents s.out.now) s.tally s.marks) e (report_of (O.contents t.out.now) t.tally t.marks)
-        × AreReady old new t.before t.after)) };
+        × (let before = report_of (O.contents s.out.now) s.tally s.marks in
+        let after = report_of (O.contents t.out.now) t.tally t.marks in
+        ReportsRightly s.state before (s.before, s.after) e after (t.before, t.after))) };
 
     fn node_added(&mut self, node: &NodeRef) {
-        if self.fault.is_some() {
-            return;
+        if self.fault.is_none() {
+            self.fault = self.tell_added(node).err();
         }
-        let told = self.tell_added(node);
-        self.fault = fault_of(told);
     }
 
     fn node_updated(&mut self, old_node: &NodeRef, new_node: &NodeRef) {
-        if self.fault.is_some() {
-            return;
+        if self.fault.is_none() {
+            self.fault = self.tell_updated(old_node, new_node).err();
         }
-        let told = self.tell_updated(old_node, new_node);
-        self.fault = fault_of(told);
     }
 
     fn focus_moved(&mut self, old_node: Option<&NodeRef>, new_node: Option<&NodeRef>) {
-        if self.fault.is_some() {
-            return;
+        if self.fault.is_none() {
+            self.fault = self.tell_focus(old_node, new_node).err();
         }
-        let told = self.tell_focus(old_node, new_node);
-        self.fault = fault_of(told);
     }
 
     fn node_removed(&mut self, node: &NodeRef) {
-        if self.fault.is_some() {
-            return;
+        if self.fault.is_none() {
+            self.fault = self.tell_removed(node).err();
         }
-        let told = self.tell_removed(node);
-        self.fault = fault_of(told);
     }
 }

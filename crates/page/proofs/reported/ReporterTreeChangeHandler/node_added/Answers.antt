@@ -1,21 +1,10 @@
-use Rattle.std.proofs.Common.{refl, sym, subst, ◌∙◌}
-use Rattle.page_states.specs.Found.{AreRightIf}
-use Rattle.page.proofs.Failing.{done, none_is, stays, told_rightly}
+use Rattle.std.proofs.Common.{refl}
+use Rattle.page.proofs.Failing.{heard, stays}
 use Rattle.page.proofs.reported.ReporterTreeChangeHandler.node_added.Goals as goal
 
-pub returns-then-is_some : goal.returns-then-is_some
-returns-then-is_some g c = (refl, refl, stays _ c.args.self.now.fault (sym c.is_some.ensures ∙ c.if-is_some.true))
+pub returns-else-is_none : goal.returns-else-is_none
+returns-else-is_none g c = (refl, refl, stays _ c.args.self.now.fault c.is_none.result c.is_none.ensures c.if-is_none.false)
 
-pub returns : goal.returns
-returns g c =
-    let s = c.args.self.now in
-    let told = c.tell_added-told in
-    let none = none_is s.fault (sym c.is_some.ensures ∙ c.if-is_some.false) in (
-      told.ensures.output,
-      told.ensures.kept.0,
-      told_rightly told.result c.fault_of-self.result c.fault_of-self.ensures none (λ e old new of ready.
-          let right = subst (λ w. AreRightIf w s.after) (sym of) ready.1 in (
-            done told.result e (told.ensures.told right),
-            (subst (AreRightIf old) (sym told.ensures.others) ready.0, subst (λ w. AreRightIf w told.new.self.after) of (done told.result e (told.ensures.found right))),
-          )),
-    )
+pub returns-then-is_none : goal.returns-then-is_none
+returns-then-is_none g c =
+    heard _ c.tell_added.ensures.output c.tell_added.ensures.kept.0 c.args.self.now.fault c.tell_added.result _ c.is_none.result c.is_none.ensures c.if-is_none.true c.err-self.ensures.value c.tell_added.ensures.told
