@@ -1,5 +1,5 @@
 -- The node of an update that was begun last, and what it becomes.
-use Rattle.std.proofs.Common.{◌≡◌, ◌-◌, ◌<◌, ℕ, true, false, List, length, get_or, Option, Some, None, option_and_then, Result, Ok, Err, refl, sym, ap, ◌∙◌, subst, arith}
+use Rattle.std.proofs.Common.{◌≡◌, ◌-◌, ◌<◌, ℕ, Bool, true, false, List, length, get_or, Option, Some, None, option_and_then, Result, Ok, Err, refl, sym, ap, ◌∙◌, subst, arith}
 use Rattle.std.proofs.lemmas.List.{set-get_or}
 use Rattle.std.proofs.lemmas.Option.{slice_get_read}
 use Rattle.std.specs.List.{slice_get, slice_set}
@@ -70,15 +70,15 @@ module _ (u : UpdateData) (len : ℕ) (is_len : len ≡ length u.nodes) (some : 
       unset_by (Some m) becomes = absurd (cc becomes.0)
 
       -- where it has the value
-      pub is_set : Becomes (with_given value which entry.1) true entry.1 n
+      pub is_set : (b : Bool) → b ≡ true → Becomes (with_given value which entry.1) b entry.1 n
           → Changes (with_value number value u) u (Ok tt) (put (entry.0, n))
-      is_set becomes =
+      is_set b e becomes =
           subst (λ (r : Result UpdateData BuildError). Changes r u (Ok tt) (put (entry.0, n))) (sym known)
-          (set_by (with_given value which entry.1) becomes)
+          (set_by (with_given value which entry.1) (subst (λ (b : Bool). Becomes (with_given value which entry.1) b entry.1 n) e becomes))
 
       -- and where it hasn't
-      pub is_unset : Becomes (with_given value which entry.1) false entry.1 n
+      pub is_unset : (b : Bool) → b ≡ false → Becomes (with_given value which entry.1) b entry.1 n
           → Changes (with_value number value u) u (Err NoSuch) (put (entry.0, n))
-      is_unset becomes =
+      is_unset b e becomes =
           subst (λ (r : Result UpdateData BuildError). Changes r u (Err NoSuch) (put (entry.0, n))) (sym known)
-          (unset_by (with_given value which entry.1) becomes)
+          (unset_by (with_given value which entry.1) (subst (λ (b : Bool). Becomes (with_given value which entry.1) b entry.1 n) e becomes))

@@ -25,39 +25,18 @@ inert_byte byte page no_markup no_amp inert = (no_markup, λ amp. absurd (no_amp
 inert_letter : (letter : ℕ) (page : List ℕ) → letter ≢ 60 → letter ≢ 62 → letter ≢ 34 → letter ≢ 39 → letter ≢ 38 → IsInert page → IsInert (letter ∷ page)
 inert_letter letter page a b c d e inert = inert_byte letter page (a, b, c, d) e inert
 
-inert_lt : (page : List ℕ) → IsInert page → IsInert (codes "&lt;" ++ page)
-inert_lt page inert = grind (arith, inert_letter)
-
-inert_gt : (page : List ℕ) → IsInert page → IsInert (codes "&gt;" ++ page)
-inert_gt page inert = grind (arith, inert_letter)
-
-inert_amp : (page : List ℕ) → IsInert page → IsInert (codes "&amp;" ++ page)
-inert_amp page inert = grind (arith, inert_letter)
-
-inert_quot : (page : List ℕ) → IsInert page → IsInert (codes "&quot;" ++ page)
-inert_quot page inert = grind (arith, inert_letter)
-
-inert_apos : (page : List ℕ) → IsInert page → IsInert (codes "&#39;" ++ page)
-inert_apos page inert = grind (arith, inert_letter)
-
-inert_cr : (page : List ℕ) → IsInert page → IsInert (codes "&#13;" ++ page)
-inert_cr page inert = grind (arith, inert_letter)
-
-inert_replacement : (page : List ℕ) → IsInert page → IsInert (replacement ++ page)
-inert_replacement page inert = grind (arith, inert_letter)
-
 pub nothing_is_markup : NothingIsMarkup
 nothing_is_markup [] = tt
 nothing_is_markup (byte ∷ text) =
     let inert = nothing_is_markup text in
     by_cases (λ piece. IsInert (piece ++ escaped text)) byte
-    (λ _. inert_lt _ inert)
-    (λ _. inert_gt _ inert)
-    (λ _. inert_amp _ inert)
-    (λ _. inert_quot _ inert)
-    (λ _. inert_apos _ inert)
-    (λ _. inert_cr _ inert)
-    (λ _. inert_replacement _ inert)
+    (λ _. grind (arith, inert_letter))
+    (λ _. grind (arith, inert_letter))
+    (λ _. grind (arith, inert_letter))
+    (λ _. grind (arith, inert_letter))
+    (λ _. grind (arith, inert_letter))
+    (λ _. grind (arith, inert_letter))
+    (λ _. grind (arith, inert_letter))
     (λ plain shown. inert_byte byte _ plain shown.no_entity inert)
 
 -- an entity before what shows a text shows its byte before that text

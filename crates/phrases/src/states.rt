@@ -1,5 +1,5 @@
 //! Words for the state of a node.
-ghost use Rattle.std.specs.Prelude.{◌≡◌, Some, option_copied, option_map};
+ghost use Rattle.std.specs.Prelude.{ℕ, ◌≡◌, Bool, List, Some, option_copied, option_map};
 ghost use Rattle.phrases.specs.States.{checked_word, pressed_word, switched_word, toggled_word, expanded_word, selected_word, popup_word, after_comma, where_it_is, new_word, same_flag, same_toggle, flag_word, live_word};
 
 use schema::{HasPopup, Live, Toggled};
@@ -207,28 +207,30 @@ pub fn toggled_change(
     }
 }
 
+/// A flag that is set, or not, if it wasn't so before.
+fn new_flag(old: Option<bool>, new: Option<bool>) -> Option<bool>
+    ensures { (word : Bool → List ℕ) → option_map word result ≡ new_word same_flag word old new }
+{
+    match (old, new) {
+        (Some(old), Some(new)) if old == new => None,
+        _ => new,
+    }
+}
+
 /// What is said of a node that was expanded or collapsed.
 pub fn expanded_change(old: Option<bool>, new: Option<bool>) -> Option<&'static str>
     ensures { option_copied result ≡ new_word same_flag expanded_word old new }
 {
-    match (old, new) {
-        (_, None) => None,
-        (None, Some(is_expanded)) => Some(expanded_word(is_expanded)),
-        (Some(old), Some(new)) if old == new => None,
-        (Some(_), Some(new)) => Some(expanded_word(new)),
-    }
+    let is_expanded = new_flag(old, new)?;
+    Some(expanded_word(is_expanded))
 }
 
 /// What is said of a node that was selected or deselected.
 pub fn selected_change(old: Option<bool>, new: Option<bool>) -> Option<&'static str>
     ensures { option_copied result ≡ new_word same_flag selected_word old new }
 {
-    match (old, new) {
-        (_, None) => None,
-        (None, Some(is_selected)) => Some(selected_word(is_selected)),
-        (Some(old), Some(new)) if old == new => None,
-        (Some(_), Some(new)) => Some(selected_word(new)),
-    }
+    let is_selected = new_flag(old, new)?;
+    Some(selected_word(is_selected))
 }
 
 /// What is said of a changed flag: one word if it is now set, and another if it no longer is.

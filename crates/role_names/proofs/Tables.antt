@@ -1,10 +1,11 @@
 -- The table of roles that are sent by a number, looked up both ways.
 use Rattle.std.proofs.Common.{◌≡◌, ◌<◌, ℕ, List, length, Option, Some, None, refl, sym, ap, ◌∙◌, arith}
-use Rattle.std.specs.Prelude.{Bool, true, false, ◌==◌, nat_lt, option_map, IfSome}
+use Rattle.std.specs.Prelude.{Bool, true, false, ◌&&◌, ◌==◌, nat_lt, option_map, IfSome}
 use Rattle.std.specs.Borrow.{Bor}
 use Rattle.std.specs.Option.{option_map_or}
 use Rattle.std.specs.List.{list_all}
 use Rattle.std.specs.Str.{bytes_eq}
+use Rattle.std.proofs.lemmas.Bool.{and_parts}
 use Rattle.std.proofs.lemmas.Bool.Decides.{Decides-eqb, nat_tests}
 use Rattle.std.proofs.lemmas.Slice.Eq.{bytes_eq-Decides}
 use Rattle.std.proofs.lemmas.Option.{same_Some}
@@ -29,21 +30,18 @@ is_from_256 e = nat_lt 255 e.0
 abbrev has_word : ℕ × List ℕ × List ℕ → Bool
 has_word e = nat_lt 0 (length e.2)
 
-all_back_by_name : list_all is_back_by_name other_roles ≡ true
-unfolding other_roles
-all_back_by_name = refl
+-- what holds of each entry
+abbrev fits : ℕ × List ℕ × List ℕ → Bool
+fits e = (is_back_by_name e && is_back_by_number e) && (is_from_256 e && has_word e)
 
-all_back_by_number : list_all is_back_by_number other_roles ≡ true
+all_fit : list_all fits other_roles ≡ true
 unfolding other_roles
-all_back_by_number = refl
+all_fit = refl
 
-all_from_256 : list_all is_from_256 other_roles ≡ true
-unfolding other_roles
-all_from_256 = refl
-
-all_have_words : list_all has_word other_roles ≡ true
-unfolding other_roles
-all_have_words = refl
+fit_parts : (e : ℕ × List ℕ × List ℕ) → fits e ≡ true → ((is_back_by_name e ≡ true) × (is_back_by_number e ≡ true)) × ((is_from_256 e ≡ true) × (has_word e ≡ true))
+fit_parts e fit =
+    let both = and_parts (is_back_by_name e && is_back_by_number e) (is_from_256 e && has_word e) fit in
+    (and_parts (is_back_by_name e) (is_back_by_number e) both.0, and_parts (is_from_256 e) (has_word e) both.1)
 
 number_is : (o : Option (ℕ × List ℕ × List ℕ)) (n : ℕ) → option_map_or (λ e. e.0 == n) o false ≡ true → option_map (λ e. e.0) o ≡ Some n
 number_is None n none = cc
@@ -60,8 +58,8 @@ number_back number name is = cases (numbered number) refl is
     cases : (o : Option (ℕ × List ℕ × List ℕ)) → numbered number ≡ o → option_map (λ e. e.1) o ≡ Some name → number_named name ≡ Some number
     cases None found none = cc
     cases (Some e) found same =
-        let has = found_has is_back_by_name (λ e. e.0 == number) other_roles e all_back_by_name found in
-        let here : number_named e.1 ≡ Some e.0 = number_is (named e.1) e.0 has.0 in
+        let has = found_has fits (λ e. e.0 == number) other_roles e all_fit found in
+        let here : number_named e.1 ≡ Some e.0 = number_is (named e.1) e.0 (fit_parts e has.0).0.0 in
         let is_number : e.0 ≡ number = (Decides-eqb e.0 number).0 has.1 in
         ap number_named (sym (same_Some e.1 name same)) ∙ here ∙ ap Some is_number
 
@@ -72,8 +70,8 @@ name_back number name is = cases (named name) refl is
     cases : (o : Option (ℕ × List ℕ × List ℕ)) → named name ≡ o → option_map (λ e. e.0) o ≡ Some number → name_of number ≡ Some name
     cases None found none = cc
     cases (Some e) found same =
-        let has = found_has is_back_by_number (λ e. bytes_eq e.1 name) other_roles e all_back_by_number found in
-        let here : name_of e.0 ≡ Some e.1 = name_is (numbered e.0) e.1 has.0 in
+        let has = found_has fits (λ e. bytes_eq e.1 name) other_roles e all_fit found in
+        let here : name_of e.0 ≡ Some e.1 = name_is (numbered e.0) e.1 (fit_parts e has.0).0.1 in
         let is_name : e.1 ≡ name = (bytes_eq-Decides e.1 name).0 has.1 in
         ap name_of (sym (same_Some e.0 number same)) ∙ here ∙ ap Some is_name
 
@@ -86,8 +84,8 @@ no_name_below number below = cases (numbered number) refl
     cases : (o : Option (ℕ × List ℕ × List ℕ)) → numbered number ≡ o → option_map (λ e. e.1) o ≡ None
     cases None found = refl
     cases (Some e) found =
-        let has = found_has is_from_256 (λ e. e.0 == number) other_roles e all_from_256 found in
-        absurd (too_low e.0 number below has.0 ((Decides-eqb e.0 number).0 has.1))
+        let has = found_has fits (λ e. e.0 == number) other_roles e all_fit found in
+        absurd (too_low e.0 number below (fit_parts e has.0).1.0 ((Decides-eqb e.0 number).0 has.1))
 
 positive : (n : ℕ) → nat_lt 0 n ≡ true → 0 < n
 positive n is = grind (arith, nat_tests)
@@ -96,8 +94,8 @@ positive n is = grind (arith, nat_tests)
 pub entry_has_word : (o : Option (ℕ × Bor (List ℕ) × Bor (List ℕ))) (number : ℕ) → option_map entry_of o ≡ numbered number → IfSome o (λ entry. 0 < length entry.2.now)
 entry_has_word None number is = tt
 entry_has_word (Some entry) number is =
-    let has = found_has has_word (λ e. e.0 == number) other_roles (entry_of entry) all_have_words (sym is) in
-    positive (length entry.2.now) has.0
+    let has = found_has fits (λ e. e.0 == number) other_roles (entry_of entry) all_fit (sym is) in
+    positive (length entry.2.now) (fit_parts (entry_of entry) has.0).1.1
 
 pub words_there : (number : ℕ) → IfSome (word_of number) (λ word. 0 < length word)
 words_there number = cases (numbered number) refl
@@ -105,8 +103,8 @@ words_there number = cases (numbered number) refl
     cases : (o : Option (ℕ × List ℕ × List ℕ)) → numbered number ≡ o → IfSome (option_map (λ e. e.2) o) (λ word. 0 < length word)
     cases None found = tt
     cases (Some e) found =
-        let has = found_has has_word (λ e. e.0 == number) other_roles e all_have_words found in
-        positive (length e.2) has.0
+        let has = found_has fits (λ e. e.0 == number) other_roles e all_fit found in
+        positive (length e.2) (fit_parts e has.0).1.1
 
 pub new_names : (role : Role) → number_named (role_name role) ≡ None
 unfolding other_roles

@@ -105,7 +105,7 @@ fn write_later<O: Write>(
     let mut is_within = is_last_within;
     while let Some(node) = left.pop() {
         write_next(alloc, node, is_within, out)?;
-        is_within = node.is_password_input() || is_within;
+        is_within = node.is_password_input() | is_within;
     }
     Ok(())
 }

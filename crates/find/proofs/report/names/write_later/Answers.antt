@@ -10,17 +10,6 @@ loop-node-init g c = record { names = none_written (g.O.Write.contents c.args.ou
 pub write_next-requires : goal.write_next-requires
 write_next-requires g c = (goes_down c.loop-node.left.items c.pop.new.self.items c.in-Some.node c.loop-node.is_within c.in-Some.ensures.items c.loop-node.invariant.way).within
 
-pub loop-node-preserved-then-is_password_input : goal.loop-node-preserved-then-is_password_input
-loop-node-preserved-then-is_password_input g c =
-    let old = c.loop-node.left.items in
-    let left = c.pop.new.self.items in
-    let n = c.in-Some.node in
-    let b = c.loop-node.is_within in
-    record {
-      names = next_written (g.O.Write.contents c.args.out.now) (g.O.Write.contents c.loop-node.out) (g.O.Write.contents c.write_next.new.out) c.args.nodes.items old left n c.in-Some.ensures.items c.loop-node.invariant.names c.in_ok-write_next.ensures;
-      way = subst (IsWayDown left) (sym c.if-is_password_input.true) (subst (λ p. IsWayDown left (p || b)) (sym c.is_password_input.ensures ∙ c.if-is_password_input.true) (goes_down old left n b c.in-Some.ensures.items c.loop-node.invariant.way).next);
-    }
-
 pub loop-node-preserved : goal.loop-node-preserved
 loop-node-preserved g c =
     let old = c.loop-node.left.items in
@@ -29,7 +18,7 @@ loop-node-preserved g c =
     let b = c.loop-node.is_within in
     record {
       names = next_written (g.O.Write.contents c.args.out.now) (g.O.Write.contents c.loop-node.out) (g.O.Write.contents c.write_next.new.out) c.args.nodes.items old left n c.in-Some.ensures.items c.loop-node.invariant.names c.in_ok-write_next.ensures;
-      way = subst (λ p. IsWayDown left (p || b)) (sym c.is_password_input.ensures ∙ c.if-is_password_input.false) (goes_down old left n b c.in-Some.ensures.items c.loop-node.invariant.way).next;
+      way = subst (λ p. IsWayDown left (p || b)) (sym c.is_password_input-is_within.ensures) (goes_down old left n b c.in-Some.ensures.items c.loop-node.invariant.way).next;
     }
 
 pub returns : goal.returns
