@@ -34,8 +34,9 @@ TELL = {
 # What the prover says of a place, and of a function. A proof file that names what an edit took away isn't read, what cites it isn't
 # admitted, and an answer to what is no longer asked isn't used: the goals that then are left show nothing.
 SAID = re.compile(r"^(?:note: )?(?:\./)?((?:src|specs|proofs)/\S+?):(\d+):(\d+): (.*)$")
-# (the prover breaks a long message after the name of a record or module, before `has no field`)
-TAKEN_AWAY = re.compile(r"has no field|is not in scope|has no `|was not admitted|(?:record|module) `[^`]*`$")
+# (the prover breaks a long message after the name of a record or module, and the names that it has in place of the one, before
+# `has no field`)
+TAKEN_AWAY = re.compile(r"has no field|is not in scope|has no `|was not admitted|(?:record|module) `[^`]*`(?: \(nearest: [^)]*\))?$")
 UNUSED = re.compile(r"^note: (?:\./)?(proofs/\S+): `[^`]*` is no name that rattle asks for")
 NOT_READ = re.compile(r"is not in scope|has no field|is no name|operand is missing|expected the end|cannot continue")
 OWN = re.compile(r"did not prove `")
