@@ -1,6 +1,5 @@
 //! Properties of a node that are computed from its parent's, so that a walk down a tree needn't climb from each node.
-ghost use Rattle.std.specs.Prelude.{◌≡◌, ◌+ℤ◌, int_lt, None, Some, IfSome};
-ghost use Rattle.std.specs.Int.{int_min, int_max};
+ghost use Rattle.std.specs.Prelude.{◌≡◌, ◌+ℤ◌, None, Some, IfSome};
 ghost use Rattle.model.specs.Geometry.{transform, bounding_box, whole_rect, moved_rect};
 ghost use Rattle.model.specs.Filters.{is_hidden as is_hidden_in, is_transparent, first_answer, base_filter, common_filter};
 ghost use Rattle.model.specs.FocusFound.{is_focused};
@@ -14,7 +13,7 @@ use crate::sources::{Source, source_of};
 use hidden_texts::is_in_password;
 use schema::{Rect, Role, Translation, WideRect, WideTranslation};
 use views::filters::{FilterResult, common_filter};
-use views::node::geometry::ordered;
+use views::node::geometry::{meets, ordered};
 use views::{FullNodeId, NodeRef};
 
 /// The properties of a node that the page shows or that the nodes below it need.
@@ -269,22 +268,8 @@ fn is_clear(frame: Option<Option<WideRect>>, rect: Option<WideRect>) -> bool
         (None, _) => false,
         (Some(None), _) => true,
         (Some(Some(_)), None) => true,
-        (Some(Some(frame)), Some(rect)) => meets_across(rect, frame) && meets_along(rect, frame),
+        (Some(Some(frame)), Some(rect)) => meets(rect, frame),
     }
-}
-
-/// Whether the rectangles overlap on the first axis.
-fn meets_across(a: WideRect, b: WideRect) -> bool
-    ensures { result ≡ int_lt (int_max a.x0 b.x0) (int_min a.x1 b.x1) }
-{
-    a.x0.max(b.x0) < a.x1.min(b.x1)
-}
-
-/// Whether the rectangles overlap on the second axis.
-fn meets_along(a: WideRect, b: WideRect) -> bool
-    ensures { result ≡ int_lt (int_max a.y0 b.y0) (int_min a.y1 b.y1) }
-{
-    a.y0.max(b.y0) < a.y1.min(b.y1)
 }
 
 /// What clips the nodes below a node, if that is known.

@@ -172,7 +172,7 @@ fn meets_along(a: WideRect, b: WideRect) -> bool
 }
 
 /// Whether the rectangles overlap.
-pub(crate) fn meets(a: WideRect, b: WideRect) -> bool
+pub fn meets(a: WideRect, b: WideRect) -> bool
     ensures { result ≡ meets a b }
 {
     meets_across(a, b) && meets_along(a, b)
