@@ -2,8 +2,8 @@
 
 Checks that only read come first. Then `rt ci` proves the crates, builds the programs and runs what tests there are; as soon as it has
 built the programs that another check needs, that check runs beside it, with a lower priority. So do the wrong bodies of each crate
-that is proved. Where there are four processors or more, another run proves the longest chain of crates ahead of it, two processors for
-each proof. A line for each crate says how far the proofs are. All that a check prints is kept in .check/, and what failed is printed
+that is proved. Another run proves the longest chain of crates ahead of it, or with fewer than four processors the first of that chain: two
+processors for each proof. A line for each crate says how far the proofs are. All that a check prints is kept in .check/, and what failed is printed
 at the end.
 
 The last line is `N passed, M failed`.
@@ -37,8 +37,8 @@ READING = [
     "checks/wrong --read",
 ]
 PROVING = "rt ci"
-# The crate that most of the longest chain of crates leads up to.
-AHEAD = "texts"
+# The crate that most of the longest chain of crates leads up to, and the first of that chain.
+AHEAD, FIRST = "texts", "schema"
 # What runs on programs that `rt ci` has built, or on a static library that it has proved, with those crates.
 ON_PROGRAMS = {
     "checks/run-scripts": {"atree"},
@@ -183,15 +183,17 @@ class Gate:
 
     @contextlib.contextmanager
     def proving_ahead(self):
-        """Has a run of its own prove the crates up to `AHEAD`. It has little to do at once, so that each of its proofs gets two processors
-        where there are four or more, which `rt ci` gives to no proof that others wait beside. The run over all crates waits for what
-        this one proves, and takes it as it is; what fails here is tried again there, and told."""
-        if PROCESSORS < 4 or self.memory < 4 or "RT_JOBS" in os.environ:
+        """Has a run of its own prove the crates up to `AHEAD`, or, with fewer than four processors, `FIRST`, which nearly all others wait
+        for. It has little to do at once, so that each of its proofs gets two processors, which `rt ci` gives to no proof that others
+        wait beside. The run over all crates waits for what this one proves, and takes it as it is; what fails here is tried again
+        there, and told."""
+        if PROCESSORS < 2 or self.memory < 4 or "RT_JOBS" in os.environ:
             yield
             return
+        ahead = AHEAD if PROCESSORS >= 4 else FIRST
         with open(os.path.join(LOGS, "ahead.log"), "w", encoding="utf-8") as kept:
             how = {"stdin": subprocess.DEVNULL, "stdout": kept, "stderr": subprocess.STDOUT}
-            child = subprocess.Popen([*PROVING.split(), AHEAD], cwd=TOP, preexec_fn=lambda: os.setpgid(0, 0), **how)
+            child = subprocess.Popen([*PROVING.split(), ahead], cwd=TOP, preexec_fn=lambda: os.setpgid(0, 0), **how)
             try:
                 yield
             finally:
