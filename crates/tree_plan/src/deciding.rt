@@ -8,7 +8,7 @@ ghost use Rattle.tree_changes.specs.LookUps.{IsRaisedAtLeast, IsRaisedUpTo};
 ghost use Rattle.tree_changes.specs.Changes.{overlaid_world};
 ghost use Rattle.tree_changes.specs.Decisions.{IsDecision, IsWithinWork};
 ghost use Rattle.tree_changes.specs.Refusals.{IsRefusal};
-ghost use Rattle.tree_plan.specs.Passes.{HoldsOpened, HoldsRemoved, opened_as};
+ghost use Rattle.tree_plan.specs.Passes.{HoldsOpened, HoldsRemoved};
 ghost use Rattle.tree_plan.specs.Cases.{IsCase, sent};
 ghost use Rattle.tree_plan.specs.Deciding.{AreFindings, HasBegun, IsCount, IsRemovedCount};
 ghost use Rattle.tree_plan.specs.Verdicts.{Transition};
@@ -19,7 +19,7 @@ use crate::comparing::compare;
 use crate::focusing::find_focus;
 use crate::news::decide_news;
 use crate::opening::{old_record, open_tree};
-use crate::passes::{Case, Opened, Opening, Removed};
+use crate::passes::{Case, Opened, Removed};
 use crate::refusing::refuse_misplaced;
 use crate::regrafting::regraft;
 use crate::removing::remove;
@@ -28,7 +28,7 @@ use crate::verdicts::Found;
 use crate::writing::{told_root, write};
 use schema::TreeUpdate;
 use std::alloc::Global;
-use tree_changes::{Decision, LookUps, TreeRecord, UpdateError};
+use tree_changes::{Decision, LookUps, UpdateError};
 
 /// What goes, where each node is listed once, no listed node goes, and each of the update's nodes that got a child is reached.
 fn find_removed<L: LookUps>(look_ups: &mut L, case: &Case<'_>) -> Result<Removed, UpdateError>
@@ -123,12 +123,11 @@ fn decide_by_passes<L: LookUps>(
     alloc: Global,
     look_ups: &mut L,
     update: &TreeUpdate,
-    looked_up: &TreeRecord,
-    opening: &Opening,
+    opened: Opened,
     before: u128,
 ) -> Result<Decision, UpdateError>
     requires old { IsOld (L.world look_ups.old) }
-    requires opening { HoldsOpened (L.world look_ups.old) (update_data update.now) (opened_as looked_up.now opening.now) }
+    requires opening { HoldsOpened (L.world look_ups.old) (update_data update.now) opened }
     requires begun { HasBegun (L.world look_ups.old) (update_data update.now) before (L.asked look_ups.old) }
     ensures world { L.world look_ups.new ≡ L.world look_ups.old }
     ensures err { IfErr result (λ e. IsRefusal (L.world look_ups.old) (update_data update.now) e) }
@@ -139,12 +138,6 @@ fn decide_by_passes<L: LookUps>(
     ensures named { OnOk result
         (IsRaisedAtLeast (L.asked look_ups.old) (length update.now.nodes.items) (L.asked look_ups.new)) }
 {
-    let opened = Opened {
-        record: *looked_up,
-        index: opening.index,
-        root: opening.root,
-        is_first: opening.is_first,
-    };
     let findings = find(alloc, look_ups, update, opened)?;
     conclude(alloc, look_ups, update, findings, before)
 }
@@ -173,8 +166,14 @@ pub fn decide<L: LookUps>(
     let before = look_ups.count();
     let looked_up = old_record(look_ups, update);
     let opening = open_tree(look_ups, update, &looked_up)?;
-    if let Some(decision) = decide_news(alloc, look_ups, update, &looked_up, &opening, before)? {
+    let opened = Opened {
+        record: looked_up,
+        index: opening.index,
+        root: opening.root,
+        is_first: opening.is_first,
+    };
+    if let Some(decision) = decide_news(alloc, look_ups, update, &opened, before)? {
         return Ok(decision);
     }
-    decide_by_passes(alloc, look_ups, update, &looked_up, &opening, before)
+    decide_by_passes(alloc, look_ups, update, opened, before)
 }
