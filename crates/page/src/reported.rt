@@ -251,7 +251,8 @@ impl<'a, O: Write> Reporter<'a, O> {
         ensures told { let before = report_of (O.contents self.old.out.now) self.old.tally self.old.marks in
             let after = report_of (O.contents self.new.out.now) self.new.tally self.new.marks in
             let event = NodeAdded (seen_node node.now) in
-            OnOk result (ReportsRightly self.old.state before (self.old.before, self.old.after) event after (self.new.before, self.new.after)) }
+            OnOk result
+            (ReportsRightly self.old.state before (self.old.before, self.old.after) event after (self.new.before, self.new.after)) }
     {
         let view = view_of(self.alloc, &mut self.after, node)?;
         write_added(self.alloc, self.state, self.tally, view, self.out)?;
@@ -267,7 +268,8 @@ impl<'a, O: Write> Reporter<'a, O> {
         ensures told { let before = report_of (O.contents self.old.out.now) self.old.tally self.old.marks in
             let after = report_of (O.contents self.new.out.now) self.new.tally self.new.marks in
             let event = NodeUpdated (seen_node old.now) (seen_node new.now) in
-            OnOk result (ReportsRightly self.old.state before (self.old.before, self.old.after) event after (self.new.before, self.new.after)) }
+            OnOk result
+            (ReportsRightly self.old.state before (self.old.before, self.old.after) event after (self.new.before, self.new.after)) }
     {
         let earlier = view_of(self.alloc, &mut self.before, old)?;
         let later = view_of(self.alloc, &mut self.after, new)?;
@@ -284,7 +286,8 @@ impl<'a, O: Write> Reporter<'a, O> {
         ensures told { let before = report_of (O.contents self.old.out.now) self.old.tally self.old.marks in
             let after = report_of (O.contents self.new.out.now) self.new.tally self.new.marks in
             let event = FocusMoved (seen_through old.entry) (seen_through new.entry) in
-            OnOk result (ReportsRightly self.old.state before (self.old.before, self.old.after) event after (self.new.before, self.new.after)) }
+            OnOk result
+            (ReportsRightly self.old.state before (self.old.before, self.old.after) event after (self.new.before, self.new.after)) }
     {
         let earlier = view_if(self.alloc, &mut self.before, old)?;
         let later = view_if(self.alloc, &mut self.after, new)?;
@@ -300,7 +303,8 @@ impl<'a, O: Write> Reporter<'a, O> {
         ensures told { let before = report_of (O.contents self.old.out.now) self.old.tally self.old.marks in
             let after = report_of (O.contents self.new.out.now) self.new.tally self.new.marks in
             let event = NodeRemoved (seen_node node.now) in
-            OnOk result (ReportsRightly self.old.state before (self.old.before, self.old.after) event after (self.new.before, self.new.after)) }
+            OnOk result
+            (ReportsRightly self.old.state before (self.old.before, self.old.after) event after (self.new.before, self.new.after)) }
     {
         let view = view_of(self.alloc, &mut self.before, node)?;
         write_removed(self.alloc, self.tally, view, self.out)?;

@@ -10,7 +10,8 @@ use Rattle.model.specs.Values.{value_of}
 use Rattle.hidden_texts.specs.Hidden.{has_password_below, hides_value, is_in_password}
 use Rattle.page_states.specs.declared.sources.Source.{Source}
 
--- its value is the text of its runs, if they make one: it has no value of its own, and its role holds text, neither a password nor more than a line
+-- its value is the text of its runs, if they make one: it has no value of its own, and its role holds text, neither a
+-- password nor more than a line
 abbrev pub reads_runs : NodeData → Bool
 reads_runs d = (holds_text d.role && is_none d.value) && not (is_password_input d.role || is_multiline d.role)
 

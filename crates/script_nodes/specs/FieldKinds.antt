@@ -73,14 +73,17 @@ text_field text.Label = field_of (codes "label") (λ n. n.label) (λ value n. re
 text_field text.Value = field_of (codes "value") (λ n. n.value) (λ value n. record n { value = value })
 text_field text.Description = field_of (codes "description") (λ n. n.description) (λ value n. record n { description = value })
 text_field text.Placeholder = field_of (codes "placeholder") (λ n. n.placeholder) (λ value n. record n { placeholder = value })
-text_field text.RoleDescription = field_of (codes "role_description") (λ n. n.role_description) (λ value n. record n { role_description = value })
+text_field text.RoleDescription =
+    field_of (codes "role_description") (λ n. n.role_description) (λ value n. record n { role_description = value })
 text_field text.Url = field_of (codes "url") (λ n. n.url) (λ value n. record n { url = value })
 text_field text.AuthorId = field_of (codes "author_id") (λ n. n.author_id) (λ value n. record n { author_id = value })
 text_field text.HtmlId = field_of (codes "html_id") (λ n. n.html_id) (λ value n. record n { html_id = value })
 text_field text.ClassName = field_of (codes "class_name") (λ n. n.class_name) (λ value n. record n { class_name = value })
 text_field text.BrailleLabel = field_of (codes "braille_label") (λ n. n.braille_label) (λ value n. record n { braille_label = value })
-text_field text.BrailleRoleDescription = field_of (codes "braille_role_description") (λ n. n.braille_role_description) (λ value n. record n { braille_role_description = value })
-text_field text.ColumnIndexText = field_of (codes "column_index_text") (λ n. n.column_index_text) (λ value n. record n { column_index_text = value })
+text_field text.BrailleRoleDescription =
+    field_of (codes "braille_role_description") (λ n. n.braille_role_description) (λ value n. record n { braille_role_description = value })
+text_field text.ColumnIndexText =
+    field_of (codes "column_index_text") (λ n. n.column_index_text) (λ value n. record n { column_index_text = value })
 text_field text.RowIndexText = field_of (codes "row_index_text") (λ n. n.row_index_text) (λ value n. record n { row_index_text = value })
 text_field text.FontFamily = field_of (codes "font_family") (λ n. n.font_family) (λ value n. record n { font_family = value })
 text_field text.Language = field_of (codes "language") (λ n. n.language) (λ value n. record n { language = value })
@@ -101,10 +104,12 @@ flag_field flag.ReadOnly = field_of (codes "read_only") (λ n. n.read_only) (λ 
 flag_field flag.Required = field_of (codes "required") (λ n. n.required) (λ value n. record n { required = value })
 flag_field flag.Modal = field_of (codes "modal") (λ n. n.modal) (λ value n. record n { modal = value })
 flag_field flag.Busy = field_of (codes "busy") (λ n. n.busy) (λ value n. record n { busy = value })
-flag_field flag.Multiselectable = field_of (codes "multiselectable") (λ n. n.multiselectable) (λ value n. record n { multiselectable = value })
+flag_field flag.Multiselectable =
+    field_of (codes "multiselectable") (λ n. n.multiselectable) (λ value n. record n { multiselectable = value })
 flag_field flag.Italic = field_of (codes "italic") (λ n. n.italic) (λ value n. record n { italic = value })
 flag_field flag.LiveAtomic = field_of (codes "live_atomic") (λ n. n.live_atomic) (λ value n. record n { live_atomic = value })
-flag_field flag.TouchTransparent = field_of (codes "touch_transparent") (λ n. n.touch_transparent) (λ value n. record n { touch_transparent = value })
+flag_field flag.TouchTransparent =
+    field_of (codes "touch_transparent") (λ n. n.touch_transparent) (λ value n. record n { touch_transparent = value })
 
 abbrev pub flag_at : FlagField → NodeData → Bool
 flag_at which = (flag_field which).at
@@ -115,7 +120,8 @@ with_flag which = (flag_field which).put
 -- ---- lists of numbers
 
 abbrev pub numbers_field : NumbersField → NodeField (List ℕ)
-numbers_field numbers.CharacterLengths = field_of (codes "chars") (λ n. n.character_lengths) (λ value n. record n { character_lengths = value })
+numbers_field numbers.CharacterLengths =
+    field_of (codes "chars") (λ n. n.character_lengths) (λ value n. record n { character_lengths = value })
 numbers_field numbers.WordStarts = field_of (codes "words") (λ n. n.word_starts) (λ value n. record n { word_starts = value })
 
 abbrev pub numbers_at : NumbersField → NodeData → List ℕ
@@ -127,8 +133,10 @@ with_numbers which = (numbers_field which).put
 -- ---- lists of numbers in units of 1/64 pixel
 
 abbrev pub units_field : UnitsField → NodeField (Option (List ℤ))
-units_field units.CharacterPositions = field_of (codes "character_positions") (λ n. n.character_positions) (λ value n. record n { character_positions = value })
-units_field units.CharacterWidths = field_of (codes "character_widths") (λ n. n.character_widths) (λ value n. record n { character_widths = value })
+units_field units.CharacterPositions =
+    field_of (codes "character_positions") (λ n. n.character_positions) (λ value n. record n { character_positions = value })
+units_field units.CharacterWidths =
+    field_of (codes "character_widths") (λ n. n.character_widths) (λ value n. record n { character_widths = value })
 
 abbrev pub units_at : UnitsField → NodeData → Option (List ℤ)
 units_at which = (units_field which).at
@@ -151,8 +159,10 @@ with_bool which = (bool_field which).put
 -- ---- colours
 
 abbrev pub color_field : ColorField → NodeField (Option Color)
-color_field color.Background = field_of (codes "background_color") (λ n. n.background_color) (λ value n. record n { background_color = value })
-color_field color.Foreground = field_of (codes "foreground_color") (λ n. n.foreground_color) (λ value n. record n { foreground_color = value })
+color_field color.Background =
+    field_of (codes "background_color") (λ n. n.background_color) (λ value n. record n { background_color = value })
+color_field color.Foreground =
+    field_of (codes "foreground_color") (λ n. n.foreground_color) (λ value n. record n { foreground_color = value })
 
 abbrev pub color_at : ColorField → NodeData → Option Color
 color_at which = (color_field which).at
@@ -164,7 +174,8 @@ with_color which = (color_field which).put
 
 abbrev pub decoration_field : DecorationField → NodeField (Option TextDecoration)
 decoration_field decoration.Overline = field_of (codes "overline") (λ n. n.overline) (λ value n. record n { overline = value })
-decoration_field decoration.Strikethrough = field_of (codes "strikethrough") (λ n. n.strikethrough) (λ value n. record n { strikethrough = value })
+decoration_field decoration.Strikethrough =
+    field_of (codes "strikethrough") (λ n. n.strikethrough) (λ value n. record n { strikethrough = value })
 decoration_field decoration.Underline = field_of (codes "underline") (λ n. n.underline) (λ value n. record n { underline = value })
 
 abbrev pub decoration_at : DecorationField → NodeData → Option TextDecoration
@@ -179,8 +190,10 @@ abbrev pub number_field : NumberField → NodeField (Option ℤ)
 number_field number.NumericValue = field_of (codes "number") (λ n. n.numeric_value) (λ value n. record n { numeric_value = value })
 number_field number.MinNumericValue = field_of (codes "min") (λ n. n.min_numeric_value) (λ value n. record n { min_numeric_value = value })
 number_field number.MaxNumericValue = field_of (codes "max") (λ n. n.max_numeric_value) (λ value n. record n { max_numeric_value = value })
-number_field number.NumericValueStep = field_of (codes "step") (λ n. n.numeric_value_step) (λ value n. record n { numeric_value_step = value })
-number_field number.NumericValueJump = field_of (codes "jump") (λ n. n.numeric_value_jump) (λ value n. record n { numeric_value_jump = value })
+number_field number.NumericValueStep =
+    field_of (codes "step") (λ n. n.numeric_value_step) (λ value n. record n { numeric_value_step = value })
+number_field number.NumericValueJump =
+    field_of (codes "jump") (λ n. n.numeric_value_jump) (λ value n. record n { numeric_value_jump = value })
 number_field number.ScrollX = field_of (codes "scroll_x") (λ n. n.scroll_x) (λ value n. record n { scroll_x = value })
 number_field number.ScrollXMin = field_of (codes "scroll_x_min") (λ n. n.scroll_x_min) (λ value n. record n { scroll_x_min = value })
 number_field number.ScrollXMax = field_of (codes "scroll_x_max") (λ n. n.scroll_x_max) (λ value n. record n { scroll_x_max = value })

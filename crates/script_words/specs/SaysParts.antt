@@ -23,7 +23,8 @@ abbrev pub SaysTwo : {T : Type 0} → (List ℕ → T → Type 0) → List ℕ �
 SaysTwo Says word x y = SaysBoth word 44 (λ part. Says part x) (λ part. Says part y)
 
 abbrev pub SaysFour : {T : Type 0} → (List ℕ → T → Type 0) → List ℕ → T → T → T → T → Type 0
-SaysFour Says word a b c d = SaysBoth word 44 (λ part. Says part a) (λ rest. SaysBoth rest 44 (λ part. Says part b) (λ rest. SaysTwo Says rest c d))
+SaysFour Says word a b c d =
+    SaysBoth word 44 (λ part. Says part a) (λ rest. SaysBoth rest 44 (λ part. Says part b) (λ rest. SaysTwo Says rest c d))
 
 abbrev pub SaysPair : List ℕ → ℤ → ℤ → Type 0
 SaysPair = SaysTwo SaysSigned

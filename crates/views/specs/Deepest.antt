@@ -24,6 +24,6 @@ IsDeepest step id None = step id ≡ None
 IsDeepest step id (Some last) = (next : FullNodeId) × (step id ≡ Some next) × LeadsToEnd step next last
 
 -- by a function that the filter follows in this world, the steps go where it shows
-abbrev pub LeadsByFilter : (NodeRef → FilterResult → Type 0) → ((FullNodeId → FilterResult) → World → FullNodeId → Option FullNodeId) → World
-    → (FullNodeId → Option FullNodeId) → Type 0
+abbrev pub LeadsByFilter : (NodeRef → FilterResult → Type 0) → ((FullNodeId → FilterResult) → World → FullNodeId → Option FullNodeId)
+    → World → (FullNodeId → Option FullNodeId) → Type 0
 LeadsByFilter answers shown w step = (f : FullNodeId → FilterResult) × Follows answers w f × (step ≡ shown f w)

@@ -31,7 +31,8 @@ IsOver c = c.ends ≡ None
 
 -- the walk is in this world, and by each f that the filter follows it is on its course and has these ids left
 pub record HasLeft (On : (FullNodeId → FilterResult) → Course → Type 0) (left : (FullNodeId → FilterResult) → Course → List FullNodeId)
-    (answers : NodeRef → FilterResult → Type 0) (w : World) (ids : (FullNodeId → FilterResult) → List FullNodeId) (c : Course) : Type 0 where
+    (answers : NodeRef → FilterResult → Type 0) (w : World) (ids : (FullNodeId → FilterResult) → List FullNodeId) (c : Course)
+    : Type 0 where
   pub world : walked_world c ≡ w
   pub list : (f : FullNodeId → FilterResult) → Follows answers w f → On f c × (left f c ≡ ids f)
 
