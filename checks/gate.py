@@ -223,7 +223,8 @@ class Gate:
                 elif FAILURES.search(line) and not REFUSED.match(line):
                     self.say(line[:MOST_COLUMNS])
 
-            self.run(PROVING, on_line=hear)
+            # (so that what proves ahead has a processor for each of its checks whenever it can use one)
+            self.run(PROVING, 5, on_line=hear)
         for command in waiting:
             self.ended.append((command, 0, 0, 1, 1, "the programs that it needs are not built"))
 

@@ -286,7 +286,7 @@ impl Comparing {
         self.leave(lists, next, lists.before.len())
     }
 
-    /// Refuses a graft with children or of the root tree.
+    /// Refuses a graft with children, one of the root tree, and one of a tree that another node of the update is a graft of.
     fn take_graft(&mut self, id: FullNodeId, node: &Node) -> Result<(), UpdateError>
         ensures ok { OnOk result
             (TakesGraft id node.now (at_name self.old.grafted) (at_name self.new.grafted)) }
