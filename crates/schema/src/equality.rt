@@ -288,10 +288,18 @@ impl Node {
     fn same_actions(&self, other: &Node) -> bool
         ensures { IsTrue result ↔ SameActions self.now other.now }
     {
-        self.actions.same(&other.actions) && self.child_actions.same(&other.child_actions)
+        self.actions.same(
+            self.plain.action_top,
+            &other.actions,
+            other.plain.action_top,
+        ) && self.child_actions.same(
+            self.plain.child_action_top,
+            &other.child_actions,
+            other.plain.child_action_top,
+        )
     }
 
-    /// Whether the value and the lists about its characters agree. Most nodes have none.
+    /// Whether the value and the lists about its characters agree. Most nodes lack them.
     #[inline(always)]
     fn same_runs(&self, other: &Node) -> bool
         ensures { IsTrue result ↔ SameRuns self.now other.now }

@@ -33,7 +33,7 @@ mod update;
 mod values;
 
 pub use actions::Action;
-use actions::ActionSet;
+use actions::ActionWords;
 pub use builder::NodeBuilder;
 pub use geometry::{Point, Rect, Translation, WideRect, WideTranslation};
 use marks::Marks;
@@ -194,8 +194,8 @@ pub struct Node {
     label: String,
     run: RunText,
     rare: RarePart,
-    actions: ActionSet,
-    child_actions: ActionSet,
+    actions: ActionWords,
+    child_actions: ActionWords,
     plain: PlainFields,
     alloc: Global,
 }
@@ -203,6 +203,7 @@ pub struct Node {
 impl Model for Node {
     ghost use Rattle.std.specs.Bool.{then_some};
     ghost use Rattle.std.specs.String.{string_bytes};
+    ghost use Rattle.schema.specs.Actions.{set_with};
     ghost use Rattle.schema.specs.NodeData.{NodeData};
     ghost use Rattle.schema.specs.RareTexts.{text_under};
     ghost use Rattle.schema.specs.declared.rare_texts.RareText.TheVariants.{Description, RoleDescription, Placeholder, Url, AuthorId, HtmlId, ClassName, BrailleLabel, BrailleRoleDescription, ColumnIndexText, RowIndexText, FontFamily, Language};
@@ -262,8 +263,8 @@ impl Model for Node {
       scroll_y_max = then_some a.marks.scroll_y_max a.plain.scroll_y_max;
       bounds = then_some a.marks.bounds a.plain.bounds;
       transform = then_some a.marks.transform a.plain.transform;
-      actions = a.actions;
-      child_actions = a.child_actions;
+      actions = set_with a.plain.action_top a.actions;
+      child_actions = set_with a.plain.child_action_top a.child_actions;
       text_selection = then_some a.marks.text_selection a.plain.text_selection;
       character_lengths = a.run.lists.lengths;
       word_starts = a.run.lists.starts;
@@ -289,10 +290,11 @@ impl Model for Node {
 }
 
 /// A tree may have a hundred thousand nodes.
-const _: () = prove!(size_of::<Node>() <= 424);
+const _: () = prove!(size_of::<Node>() <= 408);
 
 impl Node {
     /// A node with this role and all other fields empty. Texts and lists that are set later are allocated from `alloc`.
+    #[inline]
     pub fn new(alloc: Global, role: Role) -> Node
         ensures { result ≡ empty_node role }
     {
@@ -302,8 +304,8 @@ impl Node {
             label: String::new(alloc),
             run: RunText::new(),
             rare: RarePart::new(),
-            actions: ActionSet::new(),
-            child_actions: ActionSet::new(),
+            actions: ActionWords::new(),
+            child_actions: ActionWords::new(),
             plain: PlainFields::new(role),
             alloc,
         }

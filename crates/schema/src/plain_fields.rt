@@ -38,7 +38,7 @@ const NO_DECORATION: TextDecoration = TextDecoration {
     color: NO_COLOR,
 };
 
-/// The plain fields, the largest first. Whether one is set is one of the node's marks, since an `Option` would take up to eight
+/// The plain fields, the largest first, and the last four bits of each set of actions. Whether one is set is one of the node's marks, since an `Option` would take up to eight
 /// bytes more; what a field holds that isn't set means nothing.
 #[derive(Clone, Copy)]
 pub(crate) struct PlainFields {
@@ -68,6 +68,8 @@ pub(crate) struct PlainFields {
     pub(crate) font_size: u32,
     pub(crate) role: Role,
     pub(crate) font_weight: u16,
+    pub(crate) action_top: u8,
+    pub(crate) child_action_top: u8,
     pub(crate) overline: TextDecoration,
     pub(crate) strikethrough: TextDecoration,
     pub(crate) underline: TextDecoration,
@@ -86,8 +88,11 @@ pub(crate) struct PlainFields {
 
 impl PlainFields {
     /// This role, and no other field set.
+    #[inline(always)]
     pub(crate) fn new(role: Role) -> PlainFields
-        ensures { result.role ≡ role }
+        ensures role { result.role ≡ role }
+        ensures action_top { result.action_top ≡ 0 }
+        ensures child_action_top { result.child_action_top ≡ 0 }
     {
         PlainFields {
             active_descendant: NodeId(0),
@@ -116,6 +121,8 @@ impl PlainFields {
             font_size: 0,
             role,
             font_weight: 0,
+            action_top: 0,
+            child_action_top: 0,
             overline: NO_DECORATION,
             strikethrough: NO_DECORATION,
             underline: NO_DECORATION,
