@@ -53,6 +53,7 @@ next_number cells free later i b f low test is = go (slice_get cells i) refl tes
       where
         outside : CellView → slice_get cells i ≡ None → ⊥
         outside d e = let j : Some (get_or cells i d) ≡ None = sym (slice_get-get_or cells i d low) ∙ e in cc
+
         none_id : FullNodeId
         none_id = record { tree = 0; node = record { 0 = 0 } }
     go (Some c) e t = by b t is

@@ -393,12 +393,7 @@ fn put_listed(
 }
 
 // swaps the data in a slot with an entry's, or puts the entry's there
-fn put_in(
-    alloc: Global,
-    slot: &mut Option<Node>,
-    nodes: &mut Vec<(NodeId, Node)>,
-    entry: usize,
-)
+fn put_in(alloc: Global, slot: &mut Option<Node>, nodes: &mut Vec<(NodeId, Node)>, entry: usize)
     requires { entry < length nodes.old.items }
     ensures slot { slot.new ≡ entry_data nodes.old.items entry }
     ensures nodes { (k : ℕ) → k ≢ entry → slice_get nodes.new.items k ≡ slice_get nodes.old.items k }

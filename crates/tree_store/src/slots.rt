@@ -80,12 +80,7 @@ fn put_place(slots: &mut Slots, id: FullNodeId, place: Option<Place>)
     }
 }
 
-fn write(
-    slots: &mut Slots,
-    nodes: &mut Vec<(NodeId, Node)>,
-    id: FullNodeId,
-    change: NodeChange,
-)
+fn write(slots: &mut Slots, nodes: &mut Vec<(NodeId, Node)>, id: FullNodeId, change: NodeChange)
     requires slot { IsSome (slot_at slots.old id) }
     requires entry { IfSome (entry_of change) (λ k. k < length nodes.old.items) }
     ensures records { (q : FullNodeId) → record_at slots.new q
