@@ -36,7 +36,7 @@ class Tree(NamedTuple):
 
 
 class Notes:
-    """What was mended or left out: each on standard error when it occurs first, and counted."""
+    """What was mended or left out: each on standard error when it occurs first, and counted once for each place."""
 
     MOST = 8
 
@@ -44,14 +44,14 @@ class Notes:
         self.program, self.out, self.counts, self.said = program, out, Counter(), set()
 
     def note(self, what, where=""):
-        """Notes a mend of this kind at this place. Of one kind the first few places are printed."""
-        self.counts[what] += 1
-        of_kind = sum(kind == what for kind, _ in self.said)
-        if (what, where) in self.said or of_kind >= self.MOST:
+        """Notes a mend of this kind at this place. Of a kind the first few places are printed."""
+        if (what, where) in self.said:
             return
         self.said.add((what, where))
-        more = " (more of these are only counted)" if of_kind == self.MOST - 1 else ""
-        self.say(f"{what}{': ' if where else ''}{where}{more}")
+        self.counts[what] += 1
+        if self.counts[what] <= self.MOST:
+            more = " (more of these are only counted)" if self.counts[what] == self.MOST else ""
+            self.say(f"{what}{': ' if where else ''}{where}{more}")
 
     def say(self, line):
         print(f"{self.program}: {line}", file=self.out or sys.stderr, flush=True)
@@ -180,6 +180,7 @@ FIELDS = {
     "language": text_word,
     "text_direction": choice_word("left_to_right", "right_to_left"),
 }
+ORDER = {name: place for place, name in enumerate(FIELDS)}
 # Those that name other nodes, which have to be in the tree.
 LISTS_OF_NODES, NAMES_OF_NODES = ("labelled", "controls"), ("active", "prev", "next")
 
@@ -237,13 +238,13 @@ def line_of(id, node, children, is_there, notes):
     """The line of a node, with fields in their order."""
     fields = {**node.fields, "children": children or None}
     words = [f"node {id} {role_word(node.role)}"]
-    for name, word_of in FIELDS.items():
-        value = fields.get(name)
-        if name in LISTS_OF_NODES and value:
+    for name in sorted((name for name in fields if not is_left_out(node, name, fields[name])), key=ORDER.__getitem__):
+        value = fields[name]
+        if name in LISTS_OF_NODES:
             value = [other for other in value if other in is_there]
-        if is_left_out(node, name, value) or name in NAMES_OF_NODES and value not in is_there:
+        if value == [] or name in NAMES_OF_NODES and value not in is_there:
             continue
-        word = word_of(value)
+        word = FIELDS[name](value)
         if word is None:
             notes.note("a value that a script can't have: left out", f"{name} of {id}")
         else:
