@@ -16,8 +16,10 @@ import threading
 import time
 from typing import NamedTuple
 
-from replays.kept import DATA, TOP, seen_controls
+from replays.kept import DATA, seen_controls
+from runs.program import HERE
 
+TOP = os.path.join(HERE, "..")
 RECORDERS = os.path.join(TOP, "tools")
 NEEDED = ("xvfb-run", "dbus-run-session", "xdotool", "openbox", "import")
 WIDTH, HEIGHT = 1280, 900
@@ -56,9 +58,6 @@ SUBJECTS = {
     "calculator": Subject("gnome-calculator", "gnome-calculator", "gnome-calculator", [
         "type 12*3", *keys("Return Tab Tab Tab space Tab Tab ctrl+question Escape"),
     ]),
-    "gtk4-widget-factory": Subject("gtk-4-examples", "gtk4-widget-factory", "gtk4-widget-factory", [
-        *keys("Tab Tab"), "type Ada", *keys("Tab Tab space Tab space Tab Tab Tab Tab shift+Tab"),
-    ]),
     "featherpad": Subject("featherpad", "featherpad --standalone", "featherpad", [
         "type The quick brown fox", *keys("Return"), "type second line", *keys("Home shift+End Up ctrl+Left alt+f Down Down Escape Escape ctrl+f"),
         "type fox", *keys("Escape ctrl+End"),
@@ -67,10 +66,10 @@ SUBJECTS = {
         *keys("Tab Tab Tab Down Tab Tab space Tab Tab Right Right Tab Tab shift+Tab"),
     ], "--again 1"),
     "chromium": Subject("chromium", f"chromium --no-sandbox --no-first-run --force-renderer-accessibility --user-data-dir=PROFILE file://{PAGES}/order.html", "chromium", [
-        *keys("Tab"), "type Ada", *keys("Tab"), "type secret", *keys("Tab space Tab Tab Down Tab"), "type x", *keys("Tab Right Tab Return"),
+        "type Ada", *keys("Tab"), "type secret", *keys("Tab space Tab Tab Down Tab"), "type x", *keys("Tab Right Tab Return"),
     ], start=8),
     "firefox": Subject("firefox-esr", f"firefox-esr --no-remote --profile PROFILE file://{PAGES}/order.html", "firefox", [
-        *keys("Tab"), "type Ada", *keys("Tab"), "type secret", *keys("Tab space Tab Tab Down Tab"), "type x", *keys("Tab Right Tab Return"),
+        "type Ada", *keys("Tab"), "type secret", *keys("Tab space Tab Tab Down Tab"), "type x", *keys("Tab Right Tab Return"),
     ], start=10),
 }
 # By what toolkits know, when they are started, that they are read.
@@ -197,7 +196,7 @@ class Session:
         found, controls = 0, seen_controls(self.name)
         for control in controls:
             ran = subprocess.run([self.programs["find"], *control.words()], input=script, capture_output=True, check=False)
-            fault = control.fault(ran.stdout.decode(errors="replace"), ran.returncode)
+            fault = control.fault(ran.stdout.decode(errors="replace"))
             if fault:
                 print(f"{self.name}: {control}: {fault}")
             found += not fault

@@ -17,6 +17,9 @@ LONGEST_MEASURED, MOST_MEASURED = 200, 60
 EDITED_ROLES = ("entry", "text", "password-text", "terminal", "document-text", "spin-button", "autocomplete", "date-editor", "editbar")
 PROPERTIES = {"Accessible": ("Name", "Description", "Parent", "ChildCount", "AccessibleId")}
 PROPERTIES["Value"] = ("CurrentValue", "MinimumValue", "MaximumValue", "MinimumIncrement", "Text")
+# Toolkits that can be asked for all properties at once: Qt 5 crashes at that, and Chromium where a slider is.
+AT_ONCE = {"Accessible": ("gtk", "GTK"), "Value": ()}
+WINDOWS = {"frame", "window", "dialog", "alert", "file-chooser", "font-chooser", "color-chooser"}
 
 
 class Wrong(Exception):
@@ -160,9 +163,9 @@ class Accessibles:
         yield from self.asked_properties("properties", "Accessible")
 
     def asked_properties(self, field, interface):
-        """All properties at once, but of Qt 5, which crashes at that, one by one."""
+        """All properties at once, or one by one."""
         of = f"org.a11y.atspi.{interface}"
-        if self.toolkit != "Qt":
+        if self.toolkit in AT_ONCE[interface]:
             yield field, Question("Properties", "GetAll", "s", (of,)), properties
         else:
             for name in PROPERTIES[interface]:
@@ -238,6 +241,11 @@ class Accessibles:
             else:
                 setattr(found, field, value)
 
+    def ask(self, path, question):
+        """The value that one accessible answers, if it answers."""
+        answer = self.source.ask([(path, question)])[0]
+        return answer[0] if isinstance(answer, (list, tuple)) and answer else None
+
     def load(self, paths):
         """Asks these accessibles, and what is new below them, level by level."""
         level, seen = list(paths), set(paths)
@@ -306,6 +314,10 @@ class Accessibles:
             return None
         return above if name == self.owner and above in self.known and above != path else None
 
+    def is_window(self, found):
+        """Whether this is a window: by its role or, as a dialog of Qt 6 is a filler, by the application that has it."""
+        return found.role in WINDOWS or found.role in ("filler", "panel") and found.path in self.known[ROOT].children
+
     def ancestors(self, path):
         """The accessibles above one, nearest first."""
         seen = {path}
@@ -325,8 +337,7 @@ class Accessibles:
 
     def begin(self):
         """Reads all there is: whether the application answers."""
-        asked = Question("Properties", "Get", "ss", ("org.a11y.atspi.Application", "ToolkitName"))
-        answer = self.source.ask([(ROOT, asked)])[0]
-        self.toolkit = answer[0] if answer and isinstance(answer[0], str) else ""
+        toolkit = self.ask(ROOT, Question("Properties", "Get", "ss", ("org.a11y.atspi.Application", "ToolkitName")))
+        self.toolkit = toolkit if isinstance(toolkit, str) else ""
         self.load([ROOT])
         return ROOT in self.known

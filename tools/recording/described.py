@@ -3,14 +3,12 @@
 import hashlib
 import re
 
-from recording.accessibles import box
-from recording.accessibles import Wrong, number
+from recording.accessibles import Wrong, box, number
 from recording.names import CHOICE_OF_ATSPI, CHOICES, FLAG_OF_ATSPI, LANDMARKS, ROLE_OF_ATSPI, TEXT_OF_ATSPI
 from recording.script import Node, Tree, pixels, thousandths
 from recording.sources import ROOT
 from recording.texts import from_utf16, pieces, run_ids, selection_in, text_nodes
 
-WINDOWS = {"frame", "window", "dialog", "alert", "file-chooser", "font-chooser", "color-chooser"}
 # Those that clip what is in them, and those whose parts outside of them aren't hidden, but scrolled out.
 CLIPS = {"scroll-pane", "viewport", "text", "terminal"}
 SCROLLS = CLIPS | {"frame", "window", "dialog", "list", "list-box", "table", "tree", "tree-table"}
@@ -86,7 +84,7 @@ class Description:
             new = [child for child in dict.fromkeys(found.children) if child in self.known and child not in seen]
             seen.update(new)
             todo += [(child, inner) for child in reversed(new)]
-        is_active = any(found.role in WINDOWS and "active" in found.states for found in self.known.values())
+        is_active = any("active" in found.states and self.all_of.is_window(found) for found in self.known.values())
         return Tree(0, self.ids.of(focus) if focus else 0, self.nodes, is_active)
 
     def add(self, found, places):
@@ -138,6 +136,8 @@ class Description:
             return "MenuListOption"
         if kind == "list-item" and "selectable" in found.states:
             return "ListBoxOption"
+        if kind in ("filler", "panel") and self.all_of.is_window(found):
+            return "Window"
         return ROLE_OF_ATSPI.get(kind, "GenericContainer")
 
     def is_entry(self, path):
@@ -249,7 +249,7 @@ class Description:
     def put_place(self, found, fields, places):
         """Box and move: a window's place on the screen is its move. Gives what is known of where the children are."""
         corner, clip, extents = places.corner, places.clip, found.extents
-        if extents and corner is None and found.role in WINDOWS:
+        if extents and corner is None and self.all_of.is_window(found):
             corner = extents[:2]
             fields["move"], fields["bounds"] = pixels(*corner), pixels(0, 0, *extents[2:])
         elif extents:

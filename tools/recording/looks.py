@@ -83,9 +83,9 @@ def elements(snapshot):
     return {id: one for id, one in found.items() if len(one) > 1}
 
 
-def keep(keeper, seen):
+def keep(keeper, seen, title):
     """Keeps a look as a step of a recording: what differs from the last one."""
-    keeper.step("look", ())
+    keeper.step("look", [title])
     for of, values in (("nodes", seen.nodes), ("elements", seen.elements)):
         gone = [id for (kind, id), value in keeper.answers.items() if kind == of and value is not None and id not in values]
         for id in gone:

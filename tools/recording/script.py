@@ -257,8 +257,8 @@ def line_of(id, node, children, is_there, notes):
 class Script:
     """A script that is being written."""
 
-    def __init__(self, out, notes):
-        self.out, self.notes = out, notes
+    def __init__(self, out, notes, has_titles=False):
+        self.out, self.notes, self.has_titles = out, notes, has_titles
         self.lines, self.root, self.focus, self.is_active = {}, None, None, None
         self.updates, self.written = 0, 0
 
@@ -276,7 +276,7 @@ class Script:
         is_update = bool(changed) or focus != self.focus or is_first or len(lines) != len(self.lines)
         text = []
         if is_update:
-            text += ["", "# " + "".join(c if c.isprintable() else " " for c in title)] if title else []
+            text += ["", "# " + "".join(c if c.isprintable() else " " for c in title)] if title and self.has_titles else []
             head = f"update root focus={focus}" + (f" root={tree.root}" if is_first else "")
             text.append(head + (f" toolkit={text_word(toolkit)}" if is_first and toolkit else ""))
             text += [*changed, "end"]

@@ -3,7 +3,7 @@
 from typing import NamedTuple
 
 from recording.accessibles import Accessibles, Question, Wrong, reference
-from recording.described import WINDOWS, Description, Ids
+from recording.described import Description, Ids
 from recording.sources import ATSPI, ROOT
 
 # GTK 3 sends thousands of these, which say nothing.
@@ -42,8 +42,8 @@ class Turns:
         self.source, self.script, self.notes = source, script, notes
         self.all_of, self.ids = Accessibles(source, notes), Ids(notes)
         self.focus, self.was, self.unlisted, self.active, self.later = None, None, None, {}, {}
-        # What an accessible that nothing lists calls its parent.
-        self.above = {}
+        # What an accessible that nothing lists calls its parent; and whether the focus is only where a caret has moved.
+        self.above, self.is_guessed = {}, False
 
     # ---- steps
 
@@ -106,12 +106,12 @@ class Turns:
                 # (what it scrolls has moved)
                 moved[above] = None
         if is_state and event.detail == "focused" and event.one or event.name == "Focus":
-            self.focus = event.path
+            self.focus, self.is_guessed = event.path, False
         elif event.name == "ActiveDescendantChanged":
             self.take_active(event, told)
-        elif self.focus is None and event.name.startswith("Text"):
+        elif event.name == "TextCaretMoved" and (self.focus is None or self.is_guessed):
             # (GTK 4 doesn't say at first where the focus is)
-            self.focus = event.path
+            self.focus, self.is_guessed = event.path, True
 
     def take_active(self, event, told):
         try:
@@ -146,7 +146,7 @@ class Turns:
 
         def rank(path):
             above = [known[path], *self.all_of.ancestors(path)]
-            is_active = any("active" in one.states and one.role in WINDOWS for one in above)
+            is_active = any("active" in one.states and self.all_of.is_window(one) for one in above)
             return is_active, "focusable" in known[path].states, known[path].edits(), len(above), path
 
         return max(found, key=rank, default=None)
@@ -163,9 +163,8 @@ class Turns:
         return [path] if path and path != self.focus and path in self.all_of.known else []
 
     def asked_parent(self, path):
-        answer = self.source.ask([(path, Question("Properties", "Get", "ss", (f"{ATSPI}Accessible", "Parent")))])[0]
         try:
-            name, above = reference(answer[0]) if answer else ("", None)
+            name, above = reference(self.all_of.ask(path, Question("Properties", "Get", "ss", (f"{ATSPI}Accessible", "Parent"))))
         except Wrong:
             return None
         return above if name == self.source.owner and above != path else None
@@ -176,19 +175,23 @@ class Turns:
         path = self.focus
         if path and self.ids.of(path) not in nodes and path not in self.above and self.source.is_waiting():
             return self.was
-        for _ in range(HIGHEST):
-            if not path or self.ids.of(path) in nodes:
-                break
+        seen = set()
+        while path and path not in seen and self.ids.of(path) not in nodes:
+            seen.add(path)
             path = self.above.get(path)
+        path = None if path in seen else path
         if path != self.focus and self.focus != self.unlisted:
             self.notes.note("the focus isn't listed: it is put on the nearest above it", f"{self.focus}, {path or ROOT}")
             self.unlisted = self.focus
-        return path if path and self.ids.of(path) in nodes else None
+        return path
 
     # ---- writing
 
     def write(self, title=None):
-        """Writes what has changed."""
+        """Writes what has changed, if the application still answers."""
+        if ROOT not in self.all_of.known:
+            self.notes.note("the application itself is gone, or silent")
+            return False
         tree = Description(self.all_of, self.ids, self.active, self.notes).tree(None)
         self.was = self.listed_focus(tree.nodes)
         focus = self.ids.of(self.was) if self.was else tree.root
