@@ -22,6 +22,7 @@ from recording.turns import Turns
 from runs.program import HERE
 
 DATA = os.path.join(HERE, "recorded")
+FIELDS_OF_TEXT = ("textbox", "searchbox")
 # What an application has as a place of something that isn't on the screen.
 NOWHERE = -(2**30)
 
@@ -106,23 +107,27 @@ def faults_of_box(world, id, box):
 
 def faults_of_application(kept, world):
     """What of the answers isn't in the first update: by a plain walk through the answers, each accessible has its node, with its name and
-    its place. How many were looked at comes first."""
+    its place, or, if its path has no number, some node has its name. How many were looked at comes first."""
     answers, todo, seen, faults = kept.steps[0]["answers"], [ROOT], {ROOT}, []
+    said = {text for id in world.nodes for text in (label_of(world, id), value_of(world, id)) if text}
     while todo:
         path = todo.pop()
         of = answers.get(path, {})
         properties = next((of[key][0] for key in of if key.startswith("Properties.GetAll['org.a11y.atspi.Accessible")), {})
         name, end = properties.get("Name", ""), path.rpartition("/")[2]
         id = node_named(world, int(end), ROOT_TREE) if end.isdigit() else None
+        is_class = re.fullmatch("(Gtk|Adw)[A-Z][A-Za-z]+", name)
         if id:
             extents = of.get("Component.GetExtents[0]")
-            is_class = re.fullmatch("(Gtk|Adw)[A-Z][A-Za-z]+", name)
             if name and not is_class and not is_said(world, id, name):
                 faults.append(f"node {id[1]} doesn't say {name!r}")
             if extents and min(extents[0][:2]) > NOWHERE and min(extents[0][2:]) > 0 and path != ROOT:
                 faults += faults_of_box(world, id, extents[0])
         elif end.isdigit():
             faults.append(f"{path} has no node")
+        elif name and not is_class and not said & {name, name.strip(), name[: len(name) // 2]}:
+            # (GTK 4 has the name of a label twice)
+            faults.append(f"no node says {name!r}")
         new = [child for name, child in (of.get("Accessible.GetChildren") or [[]])[0] if child not in seen and child in answers]
         new = [child for child in new if answers[child].get("Accessible.GetRole")]
         seen.update(new)
@@ -130,12 +135,22 @@ def faults_of_application(kept, world):
     return len(seen), faults
 
 
+def below(nodes, node):
+    """What is below a node of a page."""
+    for child in node["children"]:
+        if child in nodes:
+            yield child
+            yield from below(nodes, nodes[child])
+
+
 def faults_of_page(kept, world):
     """The same of a page: each node that isn't ignored, with its name and the box of its element."""
     step = kept.steps[0]["answers"]
     scroll, count, faults = step["page"]["shape"][:2], 0, []
+    # (what is in a field is its text)
+    parts = {child for node in step["nodes"].values() if node["role"] in FIELDS_OF_TEXT for child in below(step["nodes"], node)}
     for key, node in step["nodes"].items():
-        if node.get("ignored") or node["role"] == "InlineTextBox" or int(key) < 0:
+        if node.get("ignored") or node["role"] == "InlineTextBox" or int(key) < 0 or key in parts:
             continue
         count += 1
         id = node_named(world, int(key), ROOT_TREE)
@@ -183,13 +198,16 @@ class Control(NamedTuple):
 
 
 def seen_controls(name):
-    """What a person sees: lines `ROLE "LABEL" X,Y`."""
+    """What a person sees: lines `ROLE "LABEL" X,Y`. A line `corner X,Y` says where a window is of which the toolkit doesn't know that."""
     path = os.path.join(DATA, f"{name}.seen")
     if not os.path.exists(path):
         return []
     with open(path, encoding="utf-8") as file:
-        lines = re.findall(r'^(\w+) "(.*)" (\d+),(\d+)$', file.read(), re.M)
-    return [Control(role, label, int(x), int(y)) for role, label, x, y in lines]
+        text = file.read()
+    corner = re.search(r"^corner (\d+),(\d+)$", text, re.M)
+    left, top = map(int, corner.groups()) if corner else (0, 0)
+    lines = re.findall(r'^(\w+) "(.*)" (\d+),(\d+)$', text, re.M)
+    return [Control(role, label, int(x) - left, int(y) - top) for role, label, x, y in lines]
 
 
 def faults_of_seen(name, script):
@@ -212,7 +230,8 @@ def check_one(name):
     yield "no answer is of a wrong type", [line for line in notes.splitlines() if "wrong type" in line]
     yield f"{count} answers are in the first update", faults if count > 20 else [f"only {count} were looked at"]
     controls = seen_controls(name)
-    yield f"{len(controls)} controls are found where they are seen", list(faults_of_seen(name, script)) or ([] if len(controls) >= 10 else ["too few"])
+    faults = list(faults_of_seen(name, script))
+    yield f"{len(controls)} controls are found where they are seen", faults or ([] if len(controls) >= 10 else ["too few"])
 
 
 def nodes_of(name):

@@ -23,14 +23,15 @@ TOP = os.path.join(HERE, "..")
 RECORDERS = os.path.join(TOP, "tools")
 NEEDED = ("xvfb-run", "dbus-run-session", "xdotool", "openbox", "import")
 WIDTH, HEIGHT = 1280, 900
+CORNER = (100, 60)
 PAGES = os.path.join(DATA, "pages")
 # A step is done so many seconds after the one before.
 PAUSE = 0.7
 
 
 class Subject(NamedTuple):
-    """What is recorded: the package of Debian that has it, its command, its name for the recorder, the recorder's further arguments, and the
-    steps."""
+    """What is recorded: the package of Debian that has it, its command, its name for the recorder, and the steps; besides, the recorder's
+    further arguments, and seconds until it has started."""
 
     package: str
     command: str
@@ -44,37 +45,30 @@ def keys(words):
     return [f"key {word}" for word in words.split()]
 
 
+ORDER = f"file://{PAGES}/order.html"
+FORM = "zenity --forms --text Who --add-entry User --add-password Code --add-combo Place --combo-values Here|There"
+CHROMIUM = "chromium --no-sandbox --no-first-run --force-renderer-accessibility --user-data-dir=PROFILE"
+WRITING = ["type The quick brown fox", "key Return", "type second line", *keys("Home shift+End Up ctrl+Left alt+f Down Down Escape")]
+ORDERING = ["type Ada", "key Tab", "type secret", *keys("Tab space Tab Tab Down Tab"), "type x", *keys("Tab Right Tab Return")]
+FACTORY = [*keys("Tab Tab"), "type Ada", *keys("Tab Tab space Tab Tab space space Tab Tab Tab Tab Right Tab Tab Tab shift+Tab")]
+CALCULATING = ["type 12*3", *keys("Return Tab Tab Tab space Tab Tab ctrl+question Escape")]
+ENTERING = ["type ada", "key Tab", "type secret", *keys("Tab space Down Return Tab Tab")]
+SEARCHING = ["key ctrl+f", "type fox"]
 SUBJECTS = {
-    "widget-factory": Subject("gtk-3-examples", "gtk3-widget-factory", "gtk3-widget-factory", [
-        *keys("Tab Tab"), "type Ada", *keys("Tab Tab space Tab Tab space space Tab Tab Tab Tab Right Tab Tab Tab shift+Tab"),
-    ]),
-    "mousepad": Subject("mousepad", "mousepad --disable-server", "mousepad", [
-        "type The quick brown fox", *keys("Return"), "type second line", *keys("Home shift+End Up ctrl+Left alt+f Down Down Escape ctrl+f"),
-        "type fox", *keys("Escape ctrl+End"),
-    ]),
-    "zenity": Subject("zenity", "zenity --forms --text Who --add-entry User --add-password Code --add-combo Place --combo-values Here|There", "zenity", [
-        "type ada", *keys("Tab"), "type secret", *keys("Tab space Down Return Tab Tab"),
-    ]),
-    "calculator": Subject("gnome-calculator", "gnome-calculator", "gnome-calculator", [
-        "type 12*3", *keys("Return Tab Tab Tab space Tab Tab ctrl+question Escape"),
-    ]),
-    "featherpad": Subject("featherpad", "featherpad --standalone", "featherpad", [
-        "type The quick brown fox", *keys("Return"), "type second line", *keys("Home shift+End Up ctrl+Left alt+f Down Down Escape Escape ctrl+f"),
-        "type fox", *keys("Escape ctrl+End"),
-    ], "--again 1"),
-    "qt6ct": Subject("qt6ct", "qt6ct", "qt6ct", [
-        *keys("Tab Tab Tab Down Tab Tab space Tab Tab Right Right Tab Tab shift+Tab"),
-    ], "--again 1"),
-    "chromium": Subject("chromium", f"chromium --no-sandbox --no-first-run --force-renderer-accessibility --user-data-dir=PROFILE file://{PAGES}/order.html", "chromium", [
-        "type Ada", *keys("Tab"), "type secret", *keys("Tab space Tab Tab Down Tab"), "type x", *keys("Tab Right Tab Return"),
-    ], start=8),
-    "firefox": Subject("firefox-esr", f"firefox-esr --no-remote --profile PROFILE file://{PAGES}/order.html", "firefox", [
-        "type Ada", *keys("Tab"), "type secret", *keys("Tab space Tab Tab Down Tab"), "type x", *keys("Tab Right Tab Return"),
-    ], start=10),
+    "widget-factory": Subject("gtk-3-examples", "gtk3-widget-factory", "gtk3-widget-factory", FACTORY),
+    "mousepad": Subject("mousepad", "mousepad --disable-server", "mousepad", WRITING + SEARCHING),
+    "zenity": Subject("zenity", FORM, "zenity", ENTERING),
+    "calculator": Subject("gnome-calculator", "gnome-calculator", "gnome-calculator", CALCULATING),
+    "featherpad": Subject("featherpad", "featherpad --standalone", "featherpad", WRITING + keys("Escape ctrl+f Escape ctrl+End")),
+    "qt6ct": Subject("qt6ct", "qt6ct", "qt6ct", keys("Tab Tab Tab Down Tab Tab space Tab Tab Right Right Tab Tab shift+Tab")),
+    "chromium": Subject("chromium", f"{CHROMIUM} {ORDER}", "chromium", ORDERING, start=8),
+    "firefox": Subject("firefox-esr", f"firefox-esr --no-remote --profile PROFILE {ORDER}", "firefox", ORDERING, start=10),
 }
+# So that Firefox shows no page of its own beside.
+PREFERENCES = {"browser.aboutwelcome.enabled": "false", "datareporting.policy.dataSubmissionEnabled": "false"}
 # By what toolkits know, when they are started, that they are read.
-ENVIRONMENT = dict(LC_ALL="C.UTF-8", QT_LINUX_ACCESSIBILITY_ALWAYS_ON="1", QT_ACCESSIBILITY="1", GNOME_ACCESSIBILITY="1", GTK_MODULES="gail:atk-bridge")
-ENVIRONMENT.update(MOZ_DISABLE_CONTENT_SANDBOX="1", NO_AT_BRIDGE="0", GDK_BACKEND="x11", QT_QPA_PLATFORM="xcb", QT_QPA_PLATFORMTHEME="qt6ct")
+ENVIRONMENT = dict(LC_ALL="C.UTF-8", QT_LINUX_ACCESSIBILITY_ALWAYS_ON="1", QT_ACCESSIBILITY="1", GNOME_ACCESSIBILITY="1")
+ENVIRONMENT.update(GTK_MODULES="gail:atk-bridge", NO_AT_BRIDGE="0", GDK_BACKEND="x11", QT_QPA_PLATFORM="xcb", QT_QPA_PLATFORMTHEME="qt6ct")
 
 
 class Result(NamedTuple):
@@ -90,15 +84,15 @@ class Result(NamedTuple):
     delays: list
     found: int
     sought: int
-    said: list
 
     def row(self):
         delays = f"{statistics.median(self.delays):.0f} ({max(self.delays):.0f}), {len(self.delays)}" if self.delays else "-"
-        cells = [self.name, self.package, self.nodes, self.first, self.updates, self.refused, self.check, delays, f"{self.found} of {self.sought}"]
-        return f"| {' | '.join(map(str, cells))} |"
+        cells = [self.name, self.package, self.nodes, self.first, self.updates, self.refused, self.check, delays]
+        return f"| {' | '.join(map(str, cells))} | {self.found} of {self.sought} |"
 
 
-HEAD = "| recording | package | nodes first | ms for them | updates | refused | a fresh reading | key to speech, ms: median (most), keys | found |"
+HEAD = "| recording | package | nodes first | ms for them | updates | refused | a fresh reading | key to speech, ms: median (most), keys "
+HEAD += "| found |"
 
 
 class Session:
@@ -118,11 +112,16 @@ class Session:
         home = self.path("home")
         shutil.rmtree(home, ignore_errors=True)
         os.makedirs(home)
+        with open(os.path.join(home, "user.js"), "w", encoding="utf-8") as file:
+            file.writelines(f'user_pref("{name}", {value});\n' for name, value in PREFERENCES.items())
         os.environ.update(ENVIRONMENT, HOME=home)
         how = {"stdin": subprocess.DEVNULL, "stdout": subprocess.DEVNULL, "stderr": open(self.path("application.log"), "w")}
         command = [word.replace("PROFILE", home) for word in self.subject.command.split()]
         self.running = [subprocess.Popen(words, start_new_session=True, **how) for words in (["openbox"], command)]
         time.sleep(self.subject.start)
+        # (a window manager may put it elsewhere each time, and a person has seen it here)
+        subprocess.run(["xdotool", "getactivewindow", "windowmove", "--sync", *map(str, CORNER)], check=False, stderr=subprocess.DEVNULL)
+        time.sleep(1)
 
     def record(self):
         """Starts the recorder, with its script to a file and to `speak`."""
@@ -189,7 +188,8 @@ class Session:
         check = re.search(r"check: (.*)", errors)
         found, sought = self.find(script)
         updates = len(re.findall(rb"^update ", script, re.M))
-        return Result(self.name, self.subject.package, nodes, first, updates, refused, check[1] if check else "none", delays, found, sought, self.said)
+        counts = updates, refused, check[1] if check else "none", delays, found, sought
+        return Result(self.name, self.subject.package, nodes, first, *counts)
 
     def find(self, script):
         """How many of the controls that a person sees `find` finds, each where it is."""

@@ -144,6 +144,10 @@ class Accessible:
         return "Text" in self.interfaces and (self.role in EDITED_ROLES or "editable" in self.states)
 
 
+def said_of(found):
+    return found.properties.get("Name"), found.properties.get("ChildCount")
+
+
 class Accessibles:
     """The accessibles that are known of an application, by their paths."""
 
@@ -283,17 +287,19 @@ class Accessibles:
     def own(self, some):
         return [path for one in some if one for name, path in [one] if name == self.owner and path != NOTHING]
 
-    def look(self, paths):
+    def look(self, paths, is_whole=False):
         """Asks these accessibles again where they are and in which states, and those with a place in a set for that: which of them have
-        changed."""
+        changed. If the look is a whole one, those with another name or another number of children are read again."""
         some = [self.known[path] for path in paths if path in self.known]
         before = [(found.extents, found.states, found.attributes) for found in some]
+        said = [said_of(found) for found in some]
         for found in some:
             found.extents = None
-        self.fill(some, self.asked_again)
+        self.fill(some, self.asked_wholly if is_whole else self.asked_again)
         changed = [found.path for found, was in zip(some, before) if was != (found.extents, found.states, found.attributes)]
         for path in [found.path for found in some if found.is_gone()]:
             self.known.pop(path, None)
+        self.load([found.path for found, was in zip(some, said) if said_of(found) != was and not found.is_gone()])
         return changed
 
     def asked_again(self, found):
@@ -302,6 +308,12 @@ class Accessibles:
             yield "extents", Question("Component", "GetExtents", "u", (0,)), box
         if "posinset" in found.attributes:
             yield "attributes", Question("Accessible", "GetAttributes"), text_map
+
+    def asked_wholly(self, found):
+        yield from self.asked_again(found)
+        for name in ("Name", "ChildCount"):
+            asked = Question("Properties", "Get", "ss", ("org.a11y.atspi.Accessible", name))
+            yield ("properties", name), asked, lambda value: value
 
     # ---- relatives
 

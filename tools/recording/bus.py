@@ -80,7 +80,8 @@ class Bus:
             if chosen:
                 return chosen[-1]
             if time.monotonic() > end:
-                raise Missing(f"no application {word} on the accessibility bus; there are: {', '.join(name for name, _ in found) or 'none'}")
+                others = ", ".join(name for name, _ in found) or "none"
+                raise Missing(f"no application {word} on the accessibility bus; there are: {others}")
             time.sleep(0.1)
 
 

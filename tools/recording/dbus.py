@@ -12,6 +12,7 @@ from urllib.parse import unquote
 
 # How many calls are under way at once, and seconds without any answer after which what is asked is given up.
 AT_ONCE, LONGEST_SILENCE = 400, 3.0
+LONGEST = 1 << 27
 CALL, ANSWER, ERROR, SIGNAL = 1, 2, 3, 4
 # Header fields by their numbers.
 PATH, INTERFACE, MEMBER, ANSWERS, DESTINATION, SENDER, SIGNATURE = 1, 2, 3, 5, 6, 7, 8
@@ -49,7 +50,8 @@ def text_field(number, kind, text):
 def header_fields(name, interface, method, signature):
     """The fields of a call's header but for the path."""
     found = b""
-    for number, kind, text in ((DESTINATION, b"s", name), (INTERFACE, b"s", interface), (MEMBER, b"s", method), (SIGNATURE, b"g", signature)):
+    texts = (DESTINATION, b"s", name), (INTERFACE, b"s", interface), (MEMBER, b"s", method), (SIGNATURE, b"g", signature)
+    for number, kind, text in texts:
         if text:
             found = aligned(found, 8) + text_field(number, kind, text)
     return aligned(found, 8)
@@ -142,6 +144,8 @@ def reader(kind):
         return array_reader(kind[1:])
     if kind[0] in "({":
         parts = [reader(part) for part in types(kind[1:-1])]
+        if not parts:
+            raise ValueError
 
         def read(data, at):
             at, found = -(-at // 8) * 8, []
@@ -162,6 +166,8 @@ def array_reader(kind):
         length, at = int.from_bytes(data[at : at + 4], "little"), at + 4
         at, found = -(-at // size) * size, []
         end = at + length
+        if end > len(data):
+            raise ValueError
         while at < end:
             value, at = item(data, at)
             found.append(value)
@@ -197,6 +203,8 @@ def length_of(data, at):
     if data[at] != ord("l"):
         raise BusError("a message in another byte order")
     body, _, fields = struct.unpack_from("<III", data, at + 4)
+    if body + fields > LONGEST:
+        raise BusError("a message of more than 128 MiB")
     return 16 + -(-fields // 8) * 8 + body
 
 

@@ -138,15 +138,23 @@ class Description:
             return "ListBoxOption"
         if kind in ("filler", "panel") and self.all_of.is_window(found):
             return "Window"
+        if kind == "panel" and self.name_of(found):
+            return "Group"
         return ROLE_OF_ATSPI.get(kind, "GenericContainer")
 
     def is_entry(self, path):
         return path in self.known and self.known[path].role in ("entry", "text")
 
     def name_of(self, found):
-        """The name. GTK 4 names a widget that has no name by its class."""
+        """The name. GTK 4 names a widget that has no name by its class, and one that has a label by that twice."""
         name = found.property("Name").strip()
-        return "" if self.toolkit == "GTK" and re.fullmatch("(Gtk|Adw)[A-Z][A-Za-z]+", name) else name
+        if self.toolkit == "GTK":
+            labels = [self.known[path].property("Name") for path in self.related(found, "labelled-by")]
+            if labels and name == f"{labels[0]} {labels[0]}":
+                return labels[0]
+            if re.fullmatch("(Gtk|Adw)[A-Z][A-Za-z]+", name):
+                return ""
+        return name
 
     def put_texts(self, found, fields, kind, name):
         """Label, value and description."""

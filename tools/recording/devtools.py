@@ -17,7 +17,8 @@ WORLD = "recorder"
 LISTENER = """
 (() => {
     const tell = () => changed("");
-    const names = ["selectionchange", "input", "change", "focusin", "focusout", "scroll", "toggle", "load", "transitionend", "animationend"];
+    const names = ["selectionchange", "input", "change", "focusin", "focusout", "scroll", "toggle", "load"];
+    names.push("transitionend", "animationend");
     for (const name of names) addEventListener(name, tell, {capture: true, passive: true});
     addEventListener("resize", tell);
     new MutationObserver(tell).observe(document, {subtree: true, childList: true, attributes: true, characterData: true});

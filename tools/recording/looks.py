@@ -5,6 +5,7 @@ A page may have anything in it, and a browser may change what it answers. What i
 
 from typing import NamedTuple
 
+from recording.names import CHOICE_OF_DEVTOOLS, TEXT_OF_DEVTOOLS
 from recording.script import clean
 
 # The field that has the focus: what is typed there, unless it is a password, and its selection, in UTF-16 code units.
@@ -17,8 +18,7 @@ FIELD = """(() => {
 SHAPE = "[scrollX, scrollY, innerWidth, innerHeight, document.documentElement.scrollWidth, document.documentElement.scrollHeight]"
 SNAPSHOT = {"computedStyles": ["overflow-x", "overflow-y"]}
 # Attributes of elements that are read.
-ATTRIBUTES = {"id", "class", "type", "placeholder", "aria-placeholder", "aria-roledescription", "aria-valuetext", "aria-posinset", "aria-setsize"}
-ATTRIBUTES |= {"aria-sort", "aria-current", "aria-rowindextext", "aria-colindextext", "aria-braillelabel", "aria-brailleroledescription", "lang"}
+ATTRIBUTES = {"type", "aria-valuetext", "aria-posinset", "aria-setsize", *TEXT_OF_DEVTOOLS, *CHOICE_OF_DEVTOOLS}
 
 
 class Look(NamedTuple):
@@ -102,5 +102,5 @@ def kept_look(kept):
     nodes, found = kept.answers.get("nodes", {}), kept.answers.get("elements", {})
     root, shape, field = (kept.answers.get("page", {}).get(name) for name in ("order", "shape", "field"))
     nodes = {id: node for id, node in nodes.items() if node is not None}
-    first = [one for one in root or [] if one in nodes]
+    first = [one for one in root if isinstance(one, str) and one in nodes] if isinstance(root, list) else []
     return Look({**{id: nodes[id] for id in first}, **nodes}, {id: one for id, one in found.items() if one is not None}, shape, field)

@@ -9,10 +9,12 @@ Unknown                | unknown invalid extended                               
 Window                 | frame window                                               |
 ScrollView             | scroll-pane viewport                                       |
 Paragraph              | paragraph                                                  | paragraph
-GenericContainer       | panel filler redundant-object                              | generic none presentation LayoutTable LayoutTableRow LayoutTableCell
+GenericContainer       | panel filler redundant-object                              | generic none presentation
+GenericContainer       |                                                            | LayoutTable LayoutTableRow LayoutTableCell
 Label                  | label static accelerator-label                             | StaticText LabelText Legend
 Image                  | image icon image-map animation desktop-icon                | image img
-Document               | document-frame document-text document-email document-presentation document-spreadsheet page | document
+Document               | document-frame document-text document-email page           | document
+Document               | document-presentation document-spreadsheet                 |
 Terminal               | terminal                                                   |
 TextInput              | entry text editbar                                         | textbox
 SearchInput            |                                                            | searchbox

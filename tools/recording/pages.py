@@ -5,8 +5,10 @@ from recording.script import Node, Tree, pixels, thousandths
 from recording.texts import LONGEST_TEXT, from_utf16, run_ids, run_node, pieces, selection_in, text_nodes
 
 # What a field of HTML of the type is.
-INPUTS = dict(password="PasswordInput", email="EmailInput", search="SearchInput", url="UrlInput", tel="PhoneNumberInput", number="SpinButton")
-EDITS = {"TextInput", "MultilineTextInput", "PasswordInput", "EmailInput", "SearchInput", "UrlInput", "PhoneNumberInput", "EditableComboBox"}
+INPUTS = dict(password="PasswordInput", email="EmailInput", search="SearchInput", url="UrlInput", tel="PhoneNumberInput")
+INPUTS["number"] = "SpinButton"
+EDITS = {"TextInput", "MultilineTextInput", "PasswordInput", "EmailInput", "SearchInput", "UrlInput", "PhoneNumberInput"}
+EDITS.add("EditableComboBox")
 CLICKED = {"Button", "CheckBox", "Link", "MenuItem", "MenuItemCheckBox", "MenuItemRadio", "RadioButton", "Switch", "Tab", "ListBoxOption"}
 CLICKED |= {"TreeItem", "ComboBox", "DisclosureTriangle", "MenuListOption", "ColorWell"}
 STEPPED = {"Slider", "SpinButton"}
@@ -35,7 +37,8 @@ class Page:
     def __init__(self, seen, notes):
         self.seen, self.notes, self.nodes, self.focus = seen, notes, {}, None
         self.raw = {key: node for key, node in seen.nodes.items() if isinstance(node, dict) and id_of(key) is not None}
-        self.by_element = {node.get("of"): id_of(key) for key, node in self.raw.items() if isinstance(node.get("of"), int) and not node.get("ignored")}
+        shown = ((key, node) for key, node in self.raw.items() if not node.get("ignored"))
+        self.by_element = {node["of"]: id_of(key) for key, node in shown if isinstance(node.get("of"), int)}
 
     def tree(self):
         """The whole tree, or `None` if there is none to be seen."""
@@ -231,8 +234,8 @@ class Page:
             if not value:
                 continue
             node = run_node(pieces(value)[0])
-            place = next((one for one in boxes if one[0] <= at < one[0] + max(1, one[1])), boxes[min(count, len(boxes) - 1)] if boxes else None)
-            node.fields["bounds"] = edges(place[2]) if place else None
+            places = [one for one in boxes if one[0] <= at < one[0] + max(1, one[1])] or boxes[count : count + 1] or boxes[-1:]
+            node.fields["bounds"] = edges(places[0][2]) if places else None
             self.nodes[run] = node
             found.append(run)
             at += len(value.encode("utf-16-le", "replace")) // 2

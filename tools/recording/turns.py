@@ -65,16 +65,21 @@ class Turns:
                 self.all_of.known.pop(event.path, None)
         moved.update(dict.fromkeys(self.all_of.look(resized)))
         changed = self.look_below(moved)
-        self.all_of.load(dict.fromkeys([*self.edited(changed), *(path for path in told if path in self.all_of.known), *self.around_focus()]))
+        known = [path for path in told if path in self.all_of.known]
+        self.all_of.load(dict.fromkeys([*self.edited(changed), *known, *self.around_focus()]))
         titles = dict.fromkeys(f"{event[0]} {event[1]}".strip() for event in events)
         self.write("; ".join(titles)[:120])
+
+    def sweep(self, _=()):
+        """Has all looked at that is known: no toolkit reports everything."""
+        self.later.update(dict.fromkeys(self.all_of.known))
 
     def settle(self, _=()):
         """Looks at some of what may have moved."""
         some = list(self.later)[:PIECE]
         for path in some:
             del self.later[path]
-        self.all_of.load(self.edited(self.all_of.look(some)))
+        self.all_of.load(self.edited(self.all_of.look(some, is_whole=True)))
         self.write("places")
 
     def again(self, _=()):
