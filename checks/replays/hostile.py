@@ -29,7 +29,7 @@ def listing(*numbers):
 def answers(role, name, children=(), states=SHOWN, interfaces=(), **more):
     """What an accessible of the toy answers."""
     found = {ROLE: [role], STATE: [[states, 0]], "Accessible.GetInterfaces": [[f"org.a11y.atspi.{one}" for one in interfaces]]}
-    found |= {"Accessible.GetRelationSet": [[]], "Accessible.GetAttributes": [{}], CHILDREN: listing(*children)}
+    found.update({"Accessible.GetRelationSet": [[]], "Accessible.GetAttributes": [{}], CHILDREN: listing(*children)})
     return {**found, NAME: [{"Name": name, "Description": "", "ChildCount": len(children), "AccessibleId": ""}], **more}
 
 
@@ -39,7 +39,7 @@ def application():
     text = {TEXT: ["ab"], "Properties.Get['org.a11y.atspi.Text', 'CaretOffset']": [1], "Text.GetSelection[0]": [0, 0]}
     window = answers(FRAME, "Desk", (2, 3), SHOWN | 1 << 1, ("Component",), **place)
     entry = answers(ENTRY, "Name", (), SHOWN | 1 << 7 | 1 << 11 | 1 << 12, ("Text", "EditableText"), **text)
-    of = [answers(APPLICATION, "toy", (1,)) | {TOOLKIT: ["gtk"]}, window, answers(BUTTON, "OK"), entry]
+    of = [answers(APPLICATION, "toy", (1,), **{TOOLKIT: ["gtk"]}), window, answers(BUTTON, "OK"), entry]
     return {path(number): one for number, one in enumerate(of)}
 
 

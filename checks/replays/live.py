@@ -120,7 +120,11 @@ class Session:
         self.running = [subprocess.Popen(words, start_new_session=True, **how) for words in (["openbox"], command)]
         time.sleep(self.subject.start)
         # (a window manager may put it elsewhere each time, and a person has seen it here)
-        subprocess.run(["xdotool", "getactivewindow", "windowmove", "--sync", *map(str, CORNER)], check=False, stderr=subprocess.DEVNULL)
+        move = ["xdotool", "getactivewindow", "windowmove", *map(str, CORNER)]
+        for _ in range(40):
+            if subprocess.run(move, check=False, stderr=subprocess.DEVNULL).returncode == 0:
+                break
+            time.sleep(0.5)
         time.sleep(1)
 
     def record(self):

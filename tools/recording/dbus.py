@@ -15,7 +15,7 @@ AT_ONCE, LONGEST_SILENCE = 400, 3.0
 LONGEST = 1 << 27
 CALL, ANSWER, ERROR, SIGNAL = 1, 2, 3, 4
 # Header fields by their numbers.
-PATH, INTERFACE, MEMBER, ANSWERS, DESTINATION, SENDER, SIGNATURE = 1, 2, 3, 5, 6, 7, 8
+PATH, INTERFACE, MEMBER, ANSWERS, DESTINATION, SIGNATURE = 1, 2, 3, 5, 6, 8
 
 
 class BusError(Exception):
@@ -115,7 +115,7 @@ def read_variant(data, at):
 
 READERS = dict(y=fixed("<B", 1), n=fixed("<h", 2), q=fixed("<H", 2), i=fixed("<i", 4), u=fixed("<I", 4), x=fixed("<q", 8), t=fixed("<Q", 8))
 READERS.update(d=fixed("<d", 8), h=fixed("<I", 4), b=read_bool, s=read_text, o=read_text, g=read_signature, v=read_variant)
-ALIGNMENT = dict(y=1, g=1, v=1, n=2, q=2, x=8, t=8, d=8) | {"(": 8, "{": 8}
+ALIGNMENT = {**dict(y=1, g=1, v=1, n=2, q=2, x=8, t=8, d=8), "(": 8, "{": 8}
 
 
 def types(signature):

@@ -30,6 +30,10 @@ class BrowserError(Exception):
     """There is no browser, or it has failed."""
 
 
+class BrowserEnded(BrowserError):
+    """The browser has ended, as when its window is closed."""
+
+
 def browsers():
     """The browsers that there are, as paths."""
     return [path for path in map(shutil.which, BROWSERS) if path]
@@ -66,7 +70,7 @@ class Browser:
             return False
         some = os.read(self.back, 1 << 20)
         if not some:
-            raise BrowserError("the browser has ended")
+            raise BrowserEnded("the browser has ended")
         while b"\0" in some:
             end, _, some = some.partition(b"\0")
             self.messages.append(json.loads(b"".join([*self.parts, end])))
@@ -84,7 +88,7 @@ class Browser:
             while data:
                 data = data[os.write(self.to, data) :]
         except BrokenPipeError as error:
-            raise BrowserError("the browser has ended") from error
+            raise BrowserEnded("the browser has ended") from error
         return self.count
 
     def ask(self, *calls):

@@ -5,6 +5,7 @@ A page may have anything in it, and a browser may change what it answers. What i
 
 from typing import NamedTuple
 
+from recording.devtools import BrowserError
 from recording.names import CHOICE_OF_DEVTOOLS, TEXT_OF_DEVTOOLS
 from recording.script import clean
 
@@ -36,9 +37,12 @@ def look(browser):
     calls = [("Accessibility.getFullAXTree", {}), ("DOMSnapshot.captureSnapshot", SNAPSHOT)]
     calls += [("Runtime.evaluate", {"expression": text, "returnByValue": True}) for text in (SHAPE, FIELD)]
     tree, layout, shape, field = browser.ask(*calls)
-    nodes = {str(node["nodeId"]): plain(node) for node in (tree or {}).get("nodes", []) if "nodeId" in node}
     shape, field = (one["result"].get("value") if one and "result" in one else None for one in (shape, field))
-    return Look(nodes, elements(layout) if layout else {}, shape, field)
+    try:
+        nodes = {str(node["nodeId"]): plain(node) for node in (tree or {}).get("nodes", [])}
+        return Look(nodes, elements(layout) if layout else {}, shape, field)
+    except (AttributeError, IndexError, KeyError, TypeError) as error:
+        raise BrowserError(f"the browser answers in a way that isn't known: {error!r}") from error
 
 
 def value_of(value):
@@ -54,7 +58,7 @@ def value_of(value):
 def plain(node):
     """A node of the accessibility tree, with its values."""
     found = {"role": value_of(node.get("role")), "children": node.get("childIds", [])}
-    found |= {name: value_of(node[name]) for name in ("name", "description", "value") if name in node}
+    found.update((name, value_of(node[name])) for name in ("name", "description", "value") if name in node)
     found["of"] = node.get("backendDOMNodeId")
     if node.get("ignored"):
         found["ignored"] = True
