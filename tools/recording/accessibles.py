@@ -289,7 +289,7 @@ class Accessibles:
 
     def look(self, paths, is_whole=False):
         """Asks these accessibles again where they are and in which states, and those with a place in a set for that: which of them have
-        changed. If the look is a whole one, those with another name or another number of children are read again."""
+        changed. A whole look asks for values too, and has those with another name or another number of children read again."""
         some = [self.known[path] for path in paths if path in self.known]
         before = [(found.extents, found.states, found.attributes) for found in some]
         said = [said_of(found) for found in some]
@@ -314,6 +314,8 @@ class Accessibles:
         for name in ("Name", "ChildCount"):
             asked = Question("Properties", "Get", "ss", ("org.a11y.atspi.Accessible", name))
             yield ("properties", name), asked, lambda value: value
+        if "Value" in found.interfaces:
+            yield from self.asked_properties("amounts", "Value")
 
     # ---- relatives
 

@@ -9,6 +9,8 @@ from recording.turns import Event
 
 DBUS, PROPERTIES = "org.freedesktop.DBus", "org.freedesktop.DBus.Properties"
 STATUS = ("IsEnabled", "ScreenReaderEnabled")
+# Seconds in which the accessibility bus has to start.
+STARTING = 20
 KINDS = ["children-changed", "property-change", "state-changed", "text-changed", "text-caret-moved", "text-selection-changed"]
 KINDS += ["bounds-changed", "visible-data-changed", "active-descendant-changed", "selection-changed", "model-changed", "attributes-changed"]
 KINDS = [f"object:{kind}" for kind in KINDS] + ["window:", "document:", "focus:"]
@@ -38,7 +40,7 @@ class Bus:
             self.session = Connection(session_address())
         except BusError as error:
             raise Missing(f"the session bus can't be reached: {error}") from error
-        answer = self.session.ask([Call("org.a11y.Bus", "/org/a11y/bus", "org.a11y.Bus", "GetAddress")])[0]
+        answer = self.session.ask([Call("org.a11y.Bus", "/org/a11y/bus", "org.a11y.Bus", "GetAddress")], STARTING)[0]
         if not answer or not answer[0]:
             raise Missing("there is no accessibility bus on this session bus: install at-spi2-core")
         try:

@@ -276,8 +276,8 @@ class Connection:
         elif found.kind in (ANSWER, ERROR) and found.fields.get(ANSWERS) in self.answers:
             self.answers[found.fields[ANSWERS]] = found.body if found.kind == ANSWER else None
 
-    def ask(self, calls):
-        """The answers to these calls in order: a tuple of values each, or `None` for an error and for no answer."""
+    def ask(self, calls, patience=LONGEST_SILENCE):
+        """The answers to these calls in order: a tuple of values each, or `None` for an error, and for no answer in so many seconds."""
         waiting, serials, sent, last = object(), [], 0, time.monotonic()
         self.count += len(calls)
         while True:
@@ -290,9 +290,9 @@ class Connection:
                 sent, self.serial = sent + len(some), self.serial + len(some)
             elif not left and all(self.answers[serial] is not waiting for serial in serials):
                 break
-            if self.receive(LONGEST_SILENCE):
+            if self.receive(patience):
                 last = time.monotonic()
-            elif time.monotonic() - last >= LONGEST_SILENCE:
+            elif time.monotonic() - last >= patience:
                 break
         found = [self.answers.pop(serial, None) for serial in serials] + [None] * (len(calls) - len(serials))
         return [None if answer is waiting else answer for answer in found]
