@@ -35,6 +35,7 @@ READING = [
     "checks/trust",
     "checks/turned --read",
     "checks/wrong --read",
+    "checks/recorders",
 ]
 PROVING = "rt ci"
 # The crate that most of the longest chain of crates leads up to, and the first of that chain.
@@ -48,6 +49,7 @@ ON_PROGRAMS = {
     "checks/converse": {"atree", "find", "page", "record", "speak"},
     "checks/from-c": {"fed_tree_c"},
     "checks/refused-growths": {"atree", "growths"},
+    "checks/recorders --programs": {"atree", "find", "speak"},
     "tools/check-documents --programs": {"atree", "find", "page", "read", "record", "speak"},
 }
 WRONG = "checks/wrong --jobs 1"
