@@ -1,4 +1,5 @@
-"""The proved accessibility tree in a Python process, by the shared library that `./build --library` leaves in lib/.
+"""The proved accessibility tree in a Python process, by the shared library: the one beside this module, as in a release, or the one that
+`./build --library` leaves in lib/, by its path.
 
 A tree is fed with the lines of a script (docs/SCRIPT.md), or sent updates that are built call by call, and read by the ids of its nodes.
 It is for one thread at a time. It needs nothing beyond the standard library. docs/FROM_C.md says what is proved of the library; these
@@ -7,6 +8,10 @@ declarations of its calls are not.
 
 import ctypes
 from collections import namedtuple
+from pathlib import Path
+
+__version__ = "0.1.0"
+LIBRARY = str(Path(__file__).with_name("libaccesskit_proved.so"))
 
 Id = namedtuple("Id", "tree node")
 # `old` and `new` are ids, or None; `kind` is one of KINDS.
@@ -96,6 +101,14 @@ class _Position(ctypes.Structure):
     _fields_ = [("run", ctypes.c_uint64), *((name, ctypes.c_size_t) for name in Position._fields[1:5]), ("is_end", ctypes.c_bool)]
 
 
+def version(library=LIBRARY):
+    """The version of the library: its three numbers."""
+    call = ctypes.CDLL(library).ak_version
+    call.restype = ctypes.c_uint32
+    number = call()
+    return number // 10_000, number // 100 % 100, number % 100
+
+
 class Closed(ValueError):
     """The tree is closed."""
 
@@ -119,7 +132,7 @@ class Refused(ValueError):
 class Tree:
     """A tree, which has nothing until it is fed. Use it in a `with`, or call `close`."""
 
-    def __init__(self, library):
+    def __init__(self, library=LIBRARY):
         self._calls = ctypes.CDLL(library)
         for name in ("open", "feed", "event_count", "event", "root", "focus", "host_focus"):
             getattr(self._calls, f"ak_tree_{name}").restype = ctypes.c_uint8

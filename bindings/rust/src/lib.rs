@@ -58,6 +58,7 @@ mod raw {
         pub is_end: bool,
     }
     extern "C" {
+        pub fn ak_version() -> u32;
         pub fn ak_tree_open(tree: &mut Tree) -> u8;
         pub fn ak_tree_close(tree: &mut Tree);
         pub fn ak_tree_feed(tree: &mut Tree, lines: *const u8, length: usize, stop: &mut Stop) -> u8;
@@ -108,6 +109,13 @@ mod raw {
         pub fn ak_text_selection_focus(tree: &mut Tree, node: u64, tree_index: u32, focus: &mut Position) -> u8;
         pub fn ak_text_between(tree: &mut Tree, node: u64, tree_index: u32, from: usize, to: usize, buffer: *mut u8, room: usize, length: &mut usize) -> u8;
     }
+}
+
+/// The version of the library that is linked: its three numbers.
+pub fn version() -> (u32, u32, u32) {
+    // SAFETY: the call has no precondition.
+    let number = unsafe { raw::ak_version() };
+    (number / 10_000, number / 100 % 100, number % 100)
 }
 
 /// A rectangle, in units of 1/64 pixel. An edge beyond 64 bits is the nearest number within them.
