@@ -12,7 +12,7 @@ use Rattle.script_lines.specs.declared.argument_errors.ArgumentKind.TheVariants 
 use Rattle.script_lines.specs.declared.argument_errors.UnknownWord.{UnknownWord}
 use Rattle.script_lines.specs.declared.arguments.Manual.{Manual}
 use Rattle.script_words.specs.declared.stops.Stop.TheVariants as stop
-use Rattle.version.specs.Version.{version_text}
+use Rattle.version.specs.Version.{version_line}
 
 -- the bytes of a stream, where they are known
 abbrev Bytes : Type 0
@@ -25,10 +25,6 @@ call_text manual = manual.name.now ++ manual.arguments.now ++ codes " < SCRIPT"
 -- what is printed for `--help`
 abbrev pub manual_text : Manual → List ℕ
 manual_text manual = call_text manual ++ codes "\n\n" ++ manual.help.now
-
--- what is printed for `--version`
-abbrev pub version_line : Manual → List ℕ
-version_line manual = manual.name.now ++ codes " (accesskit-proved) " ++ version_text ++ codes "\n"
 
 -- a program's options
 abbrev pub options : Manual → List (List ℕ)
@@ -70,7 +66,7 @@ wrong_text manual error = error_text error ++ usage_text manual
 -- what is told where a program is not to run, on which stream, and its exit status
 abbrev pub TellsError : Manual → ArgumentError → Bytes → Bytes → Bytes → Bytes → ℕ → Type 0
 TellsError manual Help out out' err err' status = Tells out out' (manual_text manual) 0 status × (err' ≡ err)
-TellsError manual Version out out' err err' status = Tells out out' (version_line manual) 0 status × (err' ≡ err)
+TellsError manual Version out out' err err' status = Tells out out' (version_line manual.name.now) 0 status × (err' ≡ err)
 TellsError manual Memory out out' err err' status = Tells err err' (told_of 0 stop.Memory) 4 status × (out' ≡ out)
 TellsError manual error out out' err err' status = Tells err err' (wrong_text manual error) 2 status × (out' ≡ out)
 

@@ -4,8 +4,9 @@ ghost use Rattle.std.specs.Prelude.{◌≡◌, ◌≤◌, ◌≢◌, ℕ, IfErr,
 ghost use Rattle.std.specs.Io.KnownBytes.{Appends};
 ghost use Rattle.std.specs.String.{string_bytes};
 ghost use Rattle.script_lines.specs.ArgumentErrors.{ReadsNone, ReadsWords};
-ghost use Rattle.script_lines.specs.Arguments.{after_option, options, Answers, TellsError, call_text, error_text, hint_text, kind_text, manual_text, near_text, unknown_text, usage_text, version_line, wrong_text};
+ghost use Rattle.script_lines.specs.Arguments.{after_option, options, Answers, TellsError, call_text, error_text, hint_text, kind_text, manual_text, near_text, unknown_text, usage_text, wrong_text};
 ghost use Rattle.script_lines.specs.Ends.{Tells};
+ghost use Rattle.version.specs.Version.{version_line};
 ghost use Rattle.script_lines.specs.declared.argument_errors.ArgumentError.{ArgumentError as AnError};
 
 use crate::argument_errors::{
@@ -223,22 +224,12 @@ fn write_call<O: Write>(manual: &Manual, output: &mut O) -> io::Result<()>
 fn tell_version<O: Write>(manual: &Manual, output: &mut O) -> u8
     ensures bound { result ≤ 4 }
     ensures not_one { result ≢ 1 }
-    ensures told { Tells (O.contents output.old) (O.contents output.new) (version_line manual.now) 0 result }
+    ensures told { Tells (O.contents output.old) (O.contents output.new) (version_line manual.now.name.now) 0 result }
 {
-    if write_version_line(manual, output).is_err() || output.flush().is_err() {
+    if write_version(manual.name, output).is_err() || output.flush().is_err() {
         return FAULT;
     }
     DONE
-}
-
-/// Writes a program's name and version.
-fn write_version_line<O: Write>(manual: &Manual, output: &mut O) -> io::Result<()>
-    ensures { OnOk result (Appends (O.contents output.old) (O.contents output.new) (version_line manual.now)) }
-{
-    output.write_all(manual.name.as_bytes())?;
-    output.write_all(b" (accesskit-proved) ")?;
-    write_version(output)?;
-    output.write_all(b"\n")
 }
 
 /// Reports what is wrong with a program's arguments, with the usage, and returns the exit status.

@@ -3,7 +3,7 @@
 
 ghost use Rattle.std.specs.Prelude.{◌≡◌, OnOk};
 ghost use Rattle.std.specs.Io.KnownBytes.{Appends};
-ghost use Rattle.version.specs.Version.{version_number, version_text};
+ghost use Rattle.version.specs.Version.{line_of, version_line, version_number, version_text};
 
 use std::io::{self, Write};
 
@@ -13,6 +13,8 @@ pub const MAJOR: u32 = 0;
 pub const MINOR: u32 = 1;
 /// Counts those that only repair.
 pub const PATCH: u32 = 0;
+/// The three with dots between them; `tools/version` writes it.
+const VERSION: &str = "0.1.0";
 
 // (so that no two versions have the same number)
 const _: () = prove!(MINOR < 100 && PATCH < 100);
@@ -24,9 +26,26 @@ pub fn version_number() -> u32
     MAJOR * 10_000 + MINOR * 100 + PATCH
 }
 
-/// Writes the version, its three numbers with dots between them.
-pub fn write_version<W: Write>(output: &mut W) -> io::Result<()>
-    ensures { OnOk result (Appends (W.contents output.old) (W.contents output.new) version_text) }
+/// The version as text, its three numbers with dots between them.
+pub fn version_text() -> &'static str
+    ensures { result.now ≡ version_text }
 {
-    write!(output, "{MAJOR}.{MINOR}.{PATCH}")
+    VERSION
+}
+
+/// Writes a line with a program's name and the version.
+pub fn write_version<W: Write>(name: &str, output: &mut W) -> io::Result<()>
+    ensures { OnOk result (Appends (W.contents output.old) (W.contents output.new) (version_line name.now)) }
+{
+    write_line(name, version_text(), output)
+}
+
+/// Writes a line with a program's name and a version.
+fn write_line<W: Write>(name: &str, version: &str, output: &mut W) -> io::Result<()>
+    ensures { OnOk result (Appends (W.contents output.old) (W.contents output.new) (line_of name.now version.now)) }
+{
+    output.write_all(name.as_bytes())?;
+    output.write_all(b" (accesskit-proved) ")?;
+    output.write_all(version.as_bytes())?;
+    output.write_all(b"\n")
 }
