@@ -1,4 +1,5 @@
 pub mod Actions
+pub mod Adding
 pub mod Boxes
 pub mod Drafts
 pub mod KeptTexts

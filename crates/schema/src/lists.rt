@@ -26,6 +26,13 @@ impl Node {
         Ok(())
     }
 
+    /// Sets [`Node::children`] to this list, which is not copied.
+    pub fn take_children(&mut self, ids: Vec<NodeId>)
+        ensures { self.new ≡ record self.old { children = ids.items } }
+    {
+        self.children = ids;
+    }
+
     /// Adds an id at the end of [`Node::children`].
     ///
     /// # Errors
@@ -63,6 +70,19 @@ impl Node {
         ensures err { OnErr result (self.new ≡ self.old) }
     {
         self.labelled_by = Vec::from_slice(self.alloc, ids)?;
+        Ok(())
+    }
+
+    /// Sets [`Node::labelled_by`] to this list, which is not copied.
+    ///
+    /// # Errors
+    ///
+    /// Returns `AllocError` if memory runs out; the node is then unchanged.
+    pub fn take_labelled_by(&mut self, ids: Vec<NodeId>) -> Result<(), AllocError>
+        ensures ok { OnOk result (self.new ≡ record self.old { labelled_by = ids.items }) }
+        ensures err { OnErr result (self.new ≡ self.old) }
+    {
+        self.labelled_by = ids;
         Ok(())
     }
 
@@ -104,6 +124,19 @@ impl Node {
         ensures err { OnErr result (self.new ≡ self.old) }
     {
         self.controls = Vec::from_slice(self.alloc, ids)?;
+        Ok(())
+    }
+
+    /// Sets [`Node::controls`] to this list, which is not copied.
+    ///
+    /// # Errors
+    ///
+    /// Returns `AllocError` if memory runs out; the node is then unchanged.
+    pub fn take_controls(&mut self, ids: Vec<NodeId>) -> Result<(), AllocError>
+        ensures ok { OnOk result (self.new ≡ record self.old { controls = ids.items }) }
+        ensures err { OnErr result (self.new ≡ self.old) }
+    {
+        self.controls = ids;
         Ok(())
     }
 

@@ -68,6 +68,18 @@ impl Node {
         self.run.set_list(self.alloc, RunList::Lengths(copy))
     }
 
+    /// Sets [`Node::character_lengths`] to this list, which is not copied.
+    ///
+    /// # Errors
+    ///
+    /// Returns `AllocError` if memory runs out; the node is then unchanged.
+    pub fn take_character_lengths(&mut self, lengths: Vec<u16>) -> Result<(), AllocError>
+        ensures ok { OnOk result (self.new ≡ record self.old { character_lengths = lengths.items }) }
+        ensures err { OnErr result (self.new ≡ self.old) }
+    {
+        self.run.set_list(self.alloc, RunList::Lengths(lengths))
+    }
+
     /// Clears [`Node::character_lengths`].
     pub fn clear_character_lengths(&mut self)
         ensures { self.new ≡ record self.old { character_lengths = [] } }
@@ -108,6 +120,18 @@ impl Node {
         self.run.set_list(self.alloc, RunList::Starts(copy))
     }
 
+    /// Sets [`Node::word_starts`] to this list, which is not copied.
+    ///
+    /// # Errors
+    ///
+    /// Returns `AllocError` if memory runs out; the node is then unchanged.
+    pub fn take_word_starts(&mut self, starts: Vec<u16>) -> Result<(), AllocError>
+        ensures ok { OnOk result (self.new ≡ record self.old { word_starts = starts.items }) }
+        ensures err { OnErr result (self.new ≡ self.old) }
+    {
+        self.run.set_list(self.alloc, RunList::Starts(starts))
+    }
+
     /// Clears [`Node::word_starts`].
     pub fn clear_word_starts(&mut self)
         ensures { self.new ≡ record self.old { word_starts = [] } }
@@ -136,6 +160,19 @@ impl Node {
             .set_list(self.alloc, RunList::Positions(Some(copy)))
     }
 
+    /// Sets [`Node::character_positions`] to this list, which is not copied.
+    ///
+    /// # Errors
+    ///
+    /// Returns `AllocError` if memory runs out; the node is then unchanged.
+    pub fn take_character_positions(&mut self, positions: Vec<i32>) -> Result<(), AllocError>
+        ensures ok { OnOk result (self.new ≡ record self.old { character_positions = Some positions.items }) }
+        ensures err { OnErr result (self.new ≡ self.old) }
+    {
+        self.run
+            .set_list(self.alloc, RunList::Positions(Some(positions)))
+    }
+
     /// Clears [`Node::character_positions`].
     pub fn clear_character_positions(&mut self)
         ensures { self.new ≡ record self.old { character_positions = None } }
@@ -161,6 +198,18 @@ impl Node {
     {
         let copy = Vec::from_slice(self.alloc, widths)?;
         self.run.set_list(self.alloc, RunList::Widths(Some(copy)))
+    }
+
+    /// Sets [`Node::character_widths`] to this list, which is not copied.
+    ///
+    /// # Errors
+    ///
+    /// Returns `AllocError` if memory runs out; the node is then unchanged.
+    pub fn take_character_widths(&mut self, widths: Vec<i32>) -> Result<(), AllocError>
+        ensures ok { OnOk result (self.new ≡ record self.old { character_widths = Some widths.items }) }
+        ensures err { OnErr result (self.new ≡ self.old) }
+    {
+        self.run.set_list(self.alloc, RunList::Widths(Some(widths)))
     }
 
     /// Clears [`Node::character_widths`].

@@ -1,6 +1,6 @@
 //! The texts of a node.
 
-ghost use Rattle.std.specs.Prelude.{◌≡◌, None, Some, OnOk, OnErr, option_copied};
+ghost use Rattle.std.specs.Prelude.{◌≡◌, None, Some, OnOk, OnErr, option_copied, string_bytes};
 
 use crate::Node;
 use crate::rare_texts::RareText;
@@ -25,6 +25,13 @@ impl Node {
     {
         self.label = Some(String::from_str(self.alloc, text)?);
         Ok(())
+    }
+
+    /// Sets [`Node::label`] to this text, which is not copied.
+    pub fn take_label(&mut self, text: String)
+        ensures { self.new ≡ record self.old { label = Some (string_bytes text) } }
+    {
+        self.label = Some(text);
     }
 
     /// Clears [`Node::label`].
@@ -55,6 +62,19 @@ impl Node {
         Ok(())
     }
 
+    /// Sets [`Node::value`] to this text, which is not copied.
+    ///
+    /// # Errors
+    ///
+    /// Returns `AllocError` if memory runs out; the node is then unchanged.
+    pub fn take_value(&mut self, text: String) -> Result<(), AllocError>
+        ensures ok { OnOk result (self.new ≡ record self.old { value = Some (string_bytes text) }) }
+        ensures err { OnErr result (self.new ≡ self.old) }
+    {
+        self.run.set_value(text);
+        Ok(())
+    }
+
     /// Clears [`Node::value`].
     pub fn clear_value(&mut self)
         ensures { self.new ≡ record self.old { value = None } }
@@ -80,6 +100,18 @@ impl Node {
     {
         let copy = String::from_str(self.alloc, text)?;
         self.texts.set(RareText::Description, copy)
+    }
+
+    /// Sets [`Node::description`] to this text, which is not copied.
+    ///
+    /// # Errors
+    ///
+    /// Returns `AllocError` if memory runs out; the node is then unchanged.
+    pub fn take_description(&mut self, text: String) -> Result<(), AllocError>
+        ensures ok { OnOk result (self.new ≡ record self.old { description = Some (string_bytes text) }) }
+        ensures err { OnErr result (self.new ≡ self.old) }
+    {
+        self.texts.set(RareText::Description, text)
     }
 
     /// Clears [`Node::description`].
@@ -109,6 +141,18 @@ impl Node {
         self.texts.set(RareText::RoleDescription, copy)
     }
 
+    /// Sets [`Node::role_description`] to this text, which is not copied.
+    ///
+    /// # Errors
+    ///
+    /// Returns `AllocError` if memory runs out; the node is then unchanged.
+    pub fn take_role_description(&mut self, text: String) -> Result<(), AllocError>
+        ensures ok { OnOk result (self.new ≡ record self.old { role_description = Some (string_bytes text) }) }
+        ensures err { OnErr result (self.new ≡ self.old) }
+    {
+        self.texts.set(RareText::RoleDescription, text)
+    }
+
     /// Clears [`Node::role_description`].
     pub fn clear_role_description(&mut self)
         ensures { self.new ≡ record self.old { role_description = None } }
@@ -134,6 +178,18 @@ impl Node {
     {
         let copy = String::from_str(self.alloc, text)?;
         self.texts.set(RareText::Placeholder, copy)
+    }
+
+    /// Sets [`Node::placeholder`] to this text, which is not copied.
+    ///
+    /// # Errors
+    ///
+    /// Returns `AllocError` if memory runs out; the node is then unchanged.
+    pub fn take_placeholder(&mut self, text: String) -> Result<(), AllocError>
+        ensures ok { OnOk result (self.new ≡ record self.old { placeholder = Some (string_bytes text) }) }
+        ensures err { OnErr result (self.new ≡ self.old) }
+    {
+        self.texts.set(RareText::Placeholder, text)
     }
 
     /// Clears [`Node::placeholder`].
@@ -163,6 +219,18 @@ impl Node {
         self.texts.set(RareText::Url, copy)
     }
 
+    /// Sets [`Node::url`] to this text, which is not copied.
+    ///
+    /// # Errors
+    ///
+    /// Returns `AllocError` if memory runs out; the node is then unchanged.
+    pub fn take_url(&mut self, text: String) -> Result<(), AllocError>
+        ensures ok { OnOk result (self.new ≡ record self.old { url = Some (string_bytes text) }) }
+        ensures err { OnErr result (self.new ≡ self.old) }
+    {
+        self.texts.set(RareText::Url, text)
+    }
+
     /// Clears [`Node::url`].
     pub fn clear_url(&mut self)
         ensures { self.new ≡ record self.old { url = None } }
@@ -188,6 +256,18 @@ impl Node {
     {
         let copy = String::from_str(self.alloc, text)?;
         self.texts.set(RareText::AuthorId, copy)
+    }
+
+    /// Sets [`Node::author_id`] to this text, which is not copied.
+    ///
+    /// # Errors
+    ///
+    /// Returns `AllocError` if memory runs out; the node is then unchanged.
+    pub fn take_author_id(&mut self, text: String) -> Result<(), AllocError>
+        ensures ok { OnOk result (self.new ≡ record self.old { author_id = Some (string_bytes text) }) }
+        ensures err { OnErr result (self.new ≡ self.old) }
+    {
+        self.texts.set(RareText::AuthorId, text)
     }
 
     /// Clears [`Node::author_id`].
@@ -217,6 +297,18 @@ impl Node {
         self.texts.set(RareText::HtmlId, copy)
     }
 
+    /// Sets [`Node::html_id`] to this text, which is not copied.
+    ///
+    /// # Errors
+    ///
+    /// Returns `AllocError` if memory runs out; the node is then unchanged.
+    pub fn take_html_id(&mut self, text: String) -> Result<(), AllocError>
+        ensures ok { OnOk result (self.new ≡ record self.old { html_id = Some (string_bytes text) }) }
+        ensures err { OnErr result (self.new ≡ self.old) }
+    {
+        self.texts.set(RareText::HtmlId, text)
+    }
+
     /// Clears [`Node::html_id`].
     pub fn clear_html_id(&mut self)
         ensures { self.new ≡ record self.old { html_id = None } }
@@ -242,6 +334,18 @@ impl Node {
     {
         let copy = String::from_str(self.alloc, text)?;
         self.texts.set(RareText::ClassName, copy)
+    }
+
+    /// Sets [`Node::class_name`] to this text, which is not copied.
+    ///
+    /// # Errors
+    ///
+    /// Returns `AllocError` if memory runs out; the node is then unchanged.
+    pub fn take_class_name(&mut self, text: String) -> Result<(), AllocError>
+        ensures ok { OnOk result (self.new ≡ record self.old { class_name = Some (string_bytes text) }) }
+        ensures err { OnErr result (self.new ≡ self.old) }
+    {
+        self.texts.set(RareText::ClassName, text)
     }
 
     /// Clears [`Node::class_name`].
@@ -271,6 +375,18 @@ impl Node {
         self.texts.set(RareText::BrailleLabel, copy)
     }
 
+    /// Sets [`Node::braille_label`] to this text, which is not copied.
+    ///
+    /// # Errors
+    ///
+    /// Returns `AllocError` if memory runs out; the node is then unchanged.
+    pub fn take_braille_label(&mut self, text: String) -> Result<(), AllocError>
+        ensures ok { OnOk result (self.new ≡ record self.old { braille_label = Some (string_bytes text) }) }
+        ensures err { OnErr result (self.new ≡ self.old) }
+    {
+        self.texts.set(RareText::BrailleLabel, text)
+    }
+
     /// Clears [`Node::braille_label`].
     pub fn clear_braille_label(&mut self)
         ensures { self.new ≡ record self.old { braille_label = None } }
@@ -296,6 +412,18 @@ impl Node {
     {
         let copy = String::from_str(self.alloc, text)?;
         self.texts.set(RareText::BrailleRoleDescription, copy)
+    }
+
+    /// Sets [`Node::braille_role_description`] to this text, which is not copied.
+    ///
+    /// # Errors
+    ///
+    /// Returns `AllocError` if memory runs out; the node is then unchanged.
+    pub fn take_braille_role_description(&mut self, text: String) -> Result<(), AllocError>
+        ensures ok { OnOk result (self.new ≡ record self.old { braille_role_description = Some (string_bytes text) }) }
+        ensures err { OnErr result (self.new ≡ self.old) }
+    {
+        self.texts.set(RareText::BrailleRoleDescription, text)
     }
 
     /// Clears [`Node::braille_role_description`].
@@ -325,6 +453,18 @@ impl Node {
         self.texts.set(RareText::ColumnIndexText, copy)
     }
 
+    /// Sets [`Node::column_index_text`] to this text, which is not copied.
+    ///
+    /// # Errors
+    ///
+    /// Returns `AllocError` if memory runs out; the node is then unchanged.
+    pub fn take_column_index_text(&mut self, text: String) -> Result<(), AllocError>
+        ensures ok { OnOk result (self.new ≡ record self.old { column_index_text = Some (string_bytes text) }) }
+        ensures err { OnErr result (self.new ≡ self.old) }
+    {
+        self.texts.set(RareText::ColumnIndexText, text)
+    }
+
     /// Clears [`Node::column_index_text`].
     pub fn clear_column_index_text(&mut self)
         ensures { self.new ≡ record self.old { column_index_text = None } }
@@ -350,6 +490,18 @@ impl Node {
     {
         let copy = String::from_str(self.alloc, text)?;
         self.texts.set(RareText::RowIndexText, copy)
+    }
+
+    /// Sets [`Node::row_index_text`] to this text, which is not copied.
+    ///
+    /// # Errors
+    ///
+    /// Returns `AllocError` if memory runs out; the node is then unchanged.
+    pub fn take_row_index_text(&mut self, text: String) -> Result<(), AllocError>
+        ensures ok { OnOk result (self.new ≡ record self.old { row_index_text = Some (string_bytes text) }) }
+        ensures err { OnErr result (self.new ≡ self.old) }
+    {
+        self.texts.set(RareText::RowIndexText, text)
     }
 
     /// Clears [`Node::row_index_text`].
@@ -379,6 +531,18 @@ impl Node {
         self.texts.set(RareText::FontFamily, copy)
     }
 
+    /// Sets [`Node::font_family`] to this text, which is not copied.
+    ///
+    /// # Errors
+    ///
+    /// Returns `AllocError` if memory runs out; the node is then unchanged.
+    pub fn take_font_family(&mut self, text: String) -> Result<(), AllocError>
+        ensures ok { OnOk result (self.new ≡ record self.old { font_family = Some (string_bytes text) }) }
+        ensures err { OnErr result (self.new ≡ self.old) }
+    {
+        self.texts.set(RareText::FontFamily, text)
+    }
+
     /// Clears [`Node::font_family`].
     pub fn clear_font_family(&mut self)
         ensures { self.new ≡ record self.old { font_family = None } }
@@ -404,6 +568,18 @@ impl Node {
     {
         let copy = String::from_str(self.alloc, text)?;
         self.texts.set(RareText::Language, copy)
+    }
+
+    /// Sets [`Node::language`] to this text, which is not copied.
+    ///
+    /// # Errors
+    ///
+    /// Returns `AllocError` if memory runs out; the node is then unchanged.
+    pub fn take_language(&mut self, text: String) -> Result<(), AllocError>
+        ensures ok { OnOk result (self.new ≡ record self.old { language = Some (string_bytes text) }) }
+        ensures err { OnErr result (self.new ≡ self.old) }
+    {
+        self.texts.set(RareText::Language, text)
     }
 
     /// Clears [`Node::language`].
