@@ -36,6 +36,7 @@ READING = [
     "checks/trust",
     "checks/turned --read",
     "checks/wrong --read",
+    "checks/recorders",
 ]
 PROVING = "rt ci"
 # The crate that most of the longest chain of crates leads up to, and the first of that chain.
@@ -51,6 +52,7 @@ ON_PROGRAMS = {
     # (after the check before this one, which leaves the archive)
     "checks/release": {"atree", "fed_tree_c", "find", "page", "read", "record", "speak"},
     "checks/refused-growths": {"atree", "growths"},
+    "checks/recorders --programs": {"atree", "find", "speak"},
     "tools/check-documents --programs": {"atree", "find", "page", "read", "record", "speak"},
 }
 WRONG = "checks/wrong --jobs 1"
