@@ -197,10 +197,12 @@ class Update:
             said, kept = [(self._calls.ak_update_node, (whole(id, 0, U64, "id"), number))], []
             for name, value in fields.items():
                 self._add(name, value, said, kept)
-            if self._said is None:
+            # (another thread may be sending it: then it has all of this node, or nothing)
+            unsent = self._said
+            if unsent is None:
                 raise ValueError("the update is sent already")
-            self._kept += kept
-            self._said += said
+            self._kept.extend(kept)
+            unsent.extend(said)
             return self
 
     def _add(self, name: str, value: Any, said: List[Said], kept: List[array[int]]) -> None:
