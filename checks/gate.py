@@ -29,6 +29,7 @@ READING = [
     "tools/index --check",
     "tools/fields --check",
     "tools/crates --check",
+    "tools/version --check",
     "tools/check-documents --docstrings",
     "checks/names",
     "checks/header",
@@ -48,6 +49,8 @@ ON_PROGRAMS = {
     **{f"checks/run-programs {it}": {it} for it in sorted(os.listdir(os.path.join(TOP, "checks", "programs")))},
     "checks/converse": {"atree", "find", "page", "record", "speak"},
     "checks/from-c": {"fed_tree_c"},
+    # (after the check before this one, which leaves the archive)
+    "checks/release": {"atree", "fed_tree_c", "find", "page", "read", "record", "speak"},
     "checks/refused-growths": {"atree", "growths"},
     "checks/recorders --programs": {"atree", "find", "speak"},
     "tools/check-documents --programs": {"atree", "find", "page", "read", "record", "speak"},

@@ -1,6 +1,7 @@
 """A small adapter in Python: it feeds a tree with two updates, and prints what the second changed and what the tree then says.
 
     PYTHONPATH=bindings/python python3 examples/adapter/adapter.py lib/libaccesskit_proved.so
+    python3 examples/adapter/adapter.py    # where a release's package is installed, which has the library inside
 """
 
 import sys
@@ -22,7 +23,7 @@ def print_node(tree: Tree, id: Id) -> None:
     print(f"{id.tree}:{id.node} {tree.role(id)} {tree.label(id) or ''}")
 
 
-with Tree(sys.argv[1]) as tree:
+with Tree(*sys.argv[1:]) as tree:
     tree.feed(FIRST)
     try:
         tree.feed(BAD)

@@ -49,11 +49,12 @@ from ._names import (
 )
 from ._tree import Bounds, Event, Position, Tree
 from ._update import Update
+from ._version import __version__, version
 
 __all__ = [
     "Action", "AriaCurrent", "BadLine", "Bounds", "Closed", "Error", "Event", "EventKind", "EventsLost", "FIELDS", "Filter", "FilterResult",
     "Flag", "FocusMissing", "FocusOnEmptyGraft", "GraftWithChildren", "GraftedTwice", "HasPopup", "Id", "IndexesUsedUp", "ListedTwice",
     "Live", "MissingData", "MissingTreeInfo", "Move", "NamedTwice", "NoFirstTreeInfo", "NoGraft", "NoMemory", "NotReached", "NotRootTree",
     "Orientation", "Position", "Refused", "Role", "RootTreeGrafted", "SortDirection", "Style", "TextAlign", "TextDirection", "Toggled",
-    "Tree", "Update", "VerticalOffset",
+    "Tree", "Update", "VerticalOffset", "__version__", "version",
 ]

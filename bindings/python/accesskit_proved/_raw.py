@@ -50,8 +50,9 @@ LENT = (c_void_p, c_size_t)
 LIST = (*LENT, SIZE)
 PLACE = POINTER(Position)
 
-# What each call takes. All but `ak_tree_close` answer with a status.
+# What each call takes. All but those of GIVES answer with a status.
 CALLS: Dict[str, Tuple[Any, ...]] = {
+    "ak_version": (),
     "ak_tree_open": (TREE,),
     "ak_tree_close": (TREE,),
     "ak_tree_feed": (TREE, *LENT, POINTER(Stop)),
@@ -103,6 +104,8 @@ CALLS: Dict[str, Tuple[Any, ...]] = {
     "ak_text_between": (*NODE, c_size_t, c_size_t, *LIST),
 }
 
+GIVES: Dict[str, Any] = {"ak_version": c_uint32, "ak_tree_close": None}
+
 _loaded: Dict[str, ctypes.CDLL] = {}
 
 
@@ -115,7 +118,7 @@ def load(path: str) -> ctypes.CDLL:
             call = getattr(found, name, None)
             if call is None:
                 raise OSError(f"{path}: not this library, or not of this version: it has no {name}")
-            call.argtypes, call.restype = takes, None if name == "ak_tree_close" else c_uint8
+            call.argtypes, call.restype = takes, GIVES.get(name, c_uint8)
         found = _loaded.setdefault(path, found)
     return found
 

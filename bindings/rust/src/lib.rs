@@ -16,3 +16,10 @@ pub use names::*;
 pub use raw::{Bounds, Position};
 pub use tree::{Event, Id, Tree};
 pub use updates::{Color, Place, TreeName, Update};
+
+/// The version of the library that is linked: its three numbers.
+pub fn version() -> (u32, u32, u32) {
+    // SAFETY: the call has no precondition.
+    let number = unsafe { raw::ak_version() };
+    (number / 10_000, number / 100 % 100, number % 100)
+}

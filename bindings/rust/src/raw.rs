@@ -52,6 +52,7 @@ pub struct Position {
     pub is_end: bool,
 }
 extern "C" {
+    pub fn ak_version() -> u32;
     pub fn ak_tree_open(tree: &mut Tree) -> u8;
     pub fn ak_tree_close(tree: &mut Tree);
     pub fn ak_tree_feed(tree: &mut Tree, lines: *const u8, length: usize, stop: &mut Stop) -> u8;

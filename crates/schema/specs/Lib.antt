@@ -3,8 +3,10 @@ pub mod Adding
 pub mod Boxes
 pub mod Drafts
 pub mod KeptTexts
+pub mod Marks
 pub mod NodeData
 pub mod Parts
+pub mod RarePart
 pub mod RareTexts
 pub mod RoleNames
 pub mod Roles
