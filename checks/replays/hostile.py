@@ -124,6 +124,16 @@ end
     yield "two paths with one number", recording(same), other, "two paths with one id"
 
 
+def late_case():
+    """A list that isn't answered at first, and is when all is looked at."""
+    steps = [{"step": "begin", "given": [], "answers": changed(1, CHILDREN=None)}, {"step": "sweep", "given": [], "answers": {}}]
+    steps.append({"step": "settle", "given": [], "answers": {path(1): {CHILDREN: listing(2, 3)}}})
+    lines = DESK.splitlines(True)
+    first = [lines[0], lines[1], lines[2].replace(b"focus=3", b"focus=0"), lines[3], lines[4].replace(b"children=2,3 ", b""), *lines[8:]]
+    then = [b"\n# places\nupdate root focus=0\n", *lines[4:8], b"end\n"]
+    yield "a list that is answered late", Kept({"application": "toy", "owner": ":1.9", "steps": steps}), b"".join(first + then), ""
+
+
 DESK_ALONE = b"""
 # as it was found
 update root focus=0 root=0 toolkit="gtk"
@@ -271,7 +281,7 @@ def damage():
 
 def check():
     """The checks: what each is about, and what is wrong."""
-    for name, kept, expected, noted in [*small_cases(), *page_cases()]:
+    for name, kept, expected, noted in [*small_cases(), *late_case(), *page_cases()]:
         script, notes = replay(kept)
         faults = [] if script == expected else [f"it is written as\n{script.decode()}"]
         yield name, faults + ([] if noted in notes else [f"it is noted as {notes!r}"]) + refusals(script)

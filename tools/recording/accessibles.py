@@ -123,7 +123,8 @@ class Accessible:
         self.path, self.role, self.states, self.interfaces, self.children = path, None, None, set(), []
         self.relations, self.attributes, self.properties, self.amounts, self.extents = {}, {}, {}, {}, None
         self.text, self.caret, self.selection, self.actions, self.url, self.chosen = None, None, None, [], None, None
-        self.lines = {}
+        # (whether its children were asked for, and not answered: perhaps the application was busy)
+        self.lines, self.is_partial = {}, False
 
     def is_gone(self):
         return self.role is None or self.states is None or "defunct" in self.states
@@ -232,6 +233,7 @@ class Accessibles:
         answers = self.source.ask([(found.path, question) for found, _, question, _ in asked])
         for (found, field, question, check), answer in zip(asked, answers):
             if answer is None:
+                found.is_partial = found.is_partial or field == "children"
                 continue
             try:
                 need(len(items(answer)) >= 1)
@@ -289,7 +291,8 @@ class Accessibles:
 
     def look(self, paths, is_whole=False):
         """Asks these accessibles again where they are and in which states, and those with a place in a set for that: which of them have
-        changed. A whole look asks for values too, and has those with another name or another number of children read again."""
+        changed. A whole look asks for values too, and has those with another name or another number of children read again, and
+        those whose children weren't answered."""
         some = [self.known[path] for path in paths if path in self.known]
         before = [(found.extents, found.states, found.attributes) for found in some]
         said = [said_of(found) for found in some]
@@ -299,7 +302,8 @@ class Accessibles:
         changed = [found.path for found, was in zip(some, before) if was != (found.extents, found.states, found.attributes)]
         for path in [found.path for found in some if found.is_gone()]:
             self.known.pop(path, None)
-        self.load([found.path for found, was in zip(some, said) if said_of(found) != was and not found.is_gone()])
+        again = [found for found, was in zip(some, said) if said_of(found) != was or is_whole and found.is_partial]
+        self.load([found.path for found in again if not found.is_gone()])
         return changed
 
     def asked_again(self, found):
