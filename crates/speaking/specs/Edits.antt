@@ -14,7 +14,7 @@ use Rattle.model.specs.World.{World, HasData}
 use Rattle.hidden_texts.specs.Shown.{shown_value}
 use Rattle.phrases.specs.declared.differences.Change.{Change}
 use Rattle.phrases.specs.declared.sayings.Saying.TheVariants.{Changed}
-use Rattle.phrases.specs.Differences.{IsDifference}
+use Rattle.phrases.specs.Differences.{IsEdit}
 use Rattle.phrases.specs.Sayings.{saying, caret_line, selected_line, unselected_line}
 use Rattle.phrases.specs.States.{same_flag}
 use Rattle.phrases.specs.Voices.{Speech, said_later, all_said}
@@ -78,7 +78,7 @@ pub record SaysMoves (w : World) (id : FullNodeId) (before now : FocusedText) (v
 -- a text that was focused before: what was removed and typed, or else where the caret and the selection moved
 pub record SaysEdit (w : World) (id : FullNodeId) (before now : FocusedText) (v u : Speech) : Type 0 where
   pub typed : string_bytes before.text ≢ string_bytes now.text →
-      (c : Change) × IsDifference (string_bytes before.text) (string_bytes now.text) c.removed.now c.typed.now
+      (c : Change) × IsEdit now.caret (string_bytes before.text) (string_bytes now.text) c.removed.now c.typed.now
       × (u ≡ said_later v (saying (Changed c)))
   pub same : string_bytes before.text ≡ string_bytes now.text → SaysMoves w id before now v u
 

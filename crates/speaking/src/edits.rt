@@ -242,7 +242,7 @@ fn say_edit(
     ensures { let n = node.entry in
         OnOk result (SaysEdit (world_at n) (id_at n) before.now now.now voice.old voice.new) }
 {
-    match edit(before.text.as_str(), now.text.as_str()) {
+    match edit(before.text.as_str(), now.text.as_str(), now.caret) {
         Some(change) => voice.say_later(Saying::Changed(change)),
         None => say_moves(alloc, voice, node, before, now),
     }
