@@ -8,7 +8,8 @@ declarations of its calls are not.
 import ctypes
 from collections import namedtuple
 
-Id = namedtuple("Id", "tree node")
+# A node's id in its tree, and the index of that tree: 0 is the root tree.
+Id = namedtuple("Id", "node tree")
 # `old` and `new` are ids, or None; `kind` is one of KINDS.
 Event = namedtuple("Event", "kind old new")
 KINDS = ("added", "updated", "removed", "focus")
@@ -56,6 +57,8 @@ ROLES = tuple(
     " ProgressIndicator RootWebArea Term Timer Toolbar Tooltip Comment Tab ListBoxOption MenuListOption ListGrid Menu MenuBar Tree".split()
 )
 ACTIONS = ("Click", "Focus", "Increment", "Decrement")
+# From where roles and actions without a name are counted.
+OTHER_ROLES, OTHER_ACTIONS = 65536, 256
 CHOICES = {
     "toggled": ("true", "false", "mixed"),
     "live": ("off", "polite", "assertive"),
@@ -182,8 +185,8 @@ class Tree:
             raise MemoryError
         for index in range(count.value):
             self._calls.ak_tree_event(ctypes.byref(self._tree), ctypes.c_size_t(index), ctypes.byref(event))
-            old = Id(event.old_tree, event.old_node) if event.has_old else None
-            new = Id(event.new_tree, event.new_node) if event.has_new else None
+            old = Id(event.old_node, event.old_tree) if event.has_old else None
+            new = Id(event.new_node, event.new_tree) if event.has_new else None
             events.append(Event(KINDS[event.kind], old, new))
         return events
 
@@ -193,7 +196,7 @@ class Tree:
 
     def _id(self, call, *asked):
         found = self._one(call, _Id(), *asked)
-        return None if found is None else Id(found.tree, found.node)
+        return None if found is None else Id(found.node, found.tree)
 
     def root(self):
         return self._id(self._calls.ak_tree_root)
@@ -221,7 +224,7 @@ class Tree:
 
     def _ids(self, call, id, *asked):
         found = self._list(call, _Id, *_node(id), *asked)
-        return None if found is None else [Id(it.tree, it.node) for it in found]
+        return None if found is None else [Id(it.node, it.tree) for it in found]
 
     def children(self, id):
         return self._ids(self._calls.ak_node_children, id)
@@ -230,7 +233,7 @@ class Tree:
         return self._text(self._calls.ak_node_role, id)
 
     def role_number(self, id):
-        """The number of the node's role: its place in ROLES, or how many those are and the number of another role."""
+        """The number of the node's role: its place in ROLES, or OTHER_ROLES and the number of another role."""
         found = self._one(self._calls.ak_node_role_number, ctypes.c_uint32(), *_node(id))
         return None if found is None else found.value
 
@@ -255,7 +258,7 @@ class Tree:
 
     def filter(self, id, filter="common"):
         """The answer of a filter, one of FILTERS, for the node: one of FILTER_RESULTS."""
-        found = self._one(self._calls.ak_node_filter, ctypes.c_uint8(), *_node(id), _number(FILTERS, filter))
+        found = self._one(self._calls.ak_node_filter, ctypes.c_uint32(), *_node(id), _number(FILTERS, filter))
         return None if found is None else FILTER_RESULTS[found.value]
 
     def hit(self, id, x, y, filter="common"):
@@ -318,18 +321,18 @@ class Update:
         """A node, with fields by their names in a script: `node(1, "Button", label="Send", bounds=(0, 0, 64, 64), disabled=True)`. A role
         or an action without a name is a number. A flag is True; a line above, through or below text is `("wavy", 255, 0, 0, 255)`, a
         selection the run and the character of both of its ends, `(4, 1, 5, 0)`, a grafted tree a `uuid.UUID`."""
-        number = len(ROLES) + role if isinstance(role, int) else ROLES.index(role)
+        number = OTHER_ROLES + role if isinstance(role, int) else ROLES.index(role)
         self._says("node", ctypes.c_uint64(id), ctypes.c_uint32(number))
         for name, value in fields.items():
             self._set(name, value)
         return self
 
     def _set(self, name, value):
-        kind, field = FIELDS[name], ctypes.c_uint8(list(FIELDS).index(name))
+        kind, field = FIELDS[name], ctypes.c_uint32(list(FIELDS).index(name))
         if kind == "action":
             for action in value:
-                number = len(ACTIONS) + action if isinstance(action, int) else ACTIONS.index(action)
-                self._says("action", field, ctypes.c_uint16(number))
+                number = OTHER_ACTIONS + action if isinstance(action, int) else ACTIONS.index(action)
+                self._says("action", field, ctypes.c_uint32(number))
         elif kind == "choice":
             self._says("choice", field, _number(CHOICES[name], value))
         elif kind != "flag":
@@ -391,4 +394,4 @@ def _node(id):
 
 
 def _number(names, name):
-    return ctypes.c_uint8(names.index(name))
+    return ctypes.c_uint32(names.index(name))

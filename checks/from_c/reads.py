@@ -7,7 +7,7 @@ ROOT = 0
 
 
 def node(number):
-    return Id(ROOT, number)
+    return Id(number, ROOT)
 
 
 def number(id):

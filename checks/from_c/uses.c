@@ -161,7 +161,7 @@ static void shown(void) {
     ak_bounds box = {7, 7, 7, 7};
     ak_id id = {7, 7}, ids[4];
     bool is_set = true;
-    uint8_t answer = 7;
+    ak_filter_result answer = 7;
     uint32_t number = 7;
     size_t count = 7;
     CHECK(ak_node_bounds(&tree, 2, 0, &box) == AK_CLOSED && ak_node_flag(&tree, 7, 0, AK_DISABLED, &is_set) == AK_CLOSED);
@@ -171,8 +171,8 @@ static void shown(void) {
     feed_reads(&tree);
     CHECK(ak_node_bounds(&tree, 6, 0, &box) == AK_NOTHING && ak_node_bounds(&tree, 99, 0, &box) == AK_NOTHING);
     CHECK(ak_node_flag(&tree, 99, 0, AK_HIDDEN, &is_set) == AK_NOTHING && ak_node_flag(&tree, 2, 0, AK_INVOCABLE + 1, &is_set) == AK_NOTHING);
-    CHECK(ak_node_flag(&tree, 2, 0, 255, &is_set) == AK_NOTHING && ak_node_filter(&tree, 2, 0, AK_COMMON_WITH_ROOT + 1, &answer) == AK_NOTHING);
-    CHECK(ak_node_hit(&tree, 1, 0, 20, 20, 255, &id) == AK_NOTHING && ak_node_hit(&tree, 1, 0, INT64_MIN, INT64_MAX, AK_ALL, &id) == AK_NOTHING);
+    CHECK(ak_node_flag(&tree, 2, 0, 256, &is_set) == AK_NOTHING && ak_node_filter(&tree, 2, 0, AK_COMMON_WITH_ROOT + 1, &answer) == AK_NOTHING);
+    CHECK(ak_node_hit(&tree, 1, 0, 20, 20, 257, &id) == AK_NOTHING && ak_node_hit(&tree, 1, 0, INT64_MIN, INT64_MAX, AK_ALL, &id) == AK_NOTHING);
     CHECK(ak_node_filtered_parent(&tree, 1, 0, AK_ALL, &id) == AK_NOTHING && ak_node_filtered_children(&tree, 1, 0, 9, ids, 4, &count) == AK_NOTHING);
     CHECK(ak_node_role_number(&tree, 99, 0, &number) == AK_NOTHING && ak_node_role_number(&tree, 2, 1, &number) == AK_NOTHING);
     CHECK(box.x0 == 7 && box.y1 == 7 && is_set && answer == 7 && count == 7 && id.node == 7 && id.tree == 7 && number == 7);
@@ -209,7 +209,7 @@ static void texts(void) {
     feed_reads(&tree);
     CHECK(ak_text_position(&tree, 3, 0, 7, false, &at) == AK_NOTHING && ak_text_position(&tree, 3, 0, SIZE_MAX, true, &at) == AK_NOTHING);
     CHECK(ak_text_position(&tree, 2, 0, 0, false, &at) == AK_NOTHING && ak_text_move(&tree, 99, 0, 0, false, AK_DOCUMENT_END, &at) == AK_NOTHING);
-    CHECK(ak_text_move(&tree, 3, 0, 0, false, AK_DOCUMENT_START + 1, &at) == AK_NOTHING && ak_text_move(&tree, 3, 0, 0, false, 255, &at) == AK_NOTHING);
+    CHECK(ak_text_move(&tree, 3, 0, 0, false, AK_DOCUMENT_START + 1, &at) == AK_NOTHING && ak_text_move(&tree, 3, 0, 0, false, 256, &at) == AK_NOTHING);
     CHECK(ak_text_move(&tree, 3, 0, 6, false, AK_FORWARD_TO_CHARACTER_END, &at) == AK_NOTHING);
     CHECK(ak_text_move(&tree, 3, 0, 0, false, AK_BACKWARD_TO_CHARACTER_START, &at) == AK_NOTHING && is_at(&at, 7, 7, 7, true) == false && at.run == 7);
     CHECK(ak_text_between(&tree, 3, 0, 0, 7, text, 8, &length) == AK_NOTHING && ak_text_between(&tree, 3, 0, SIZE_MAX, 0, text, 8, &length) == AK_NOTHING);
@@ -308,8 +308,12 @@ static void updates(void) {
     CHECK(ak_update_toolkit_version(&tree, uuid, 0) == AK_OUT_OF_PLACE && ak_update_root(&tree, 1) == AK_DONE);
     CHECK(ak_update_toolkit_name(&tree, (const uint8_t *)"\xff", 1) == AK_NOTHING && ak_update_toolkit_name(&tree, NULL, 0) == AK_DONE);
     CHECK(ak_update_node(&tree, 1, AK_ROLE_OTHER + 65536) == AK_NOTHING && ak_update_node(&tree, 1, UINT32_MAX) == AK_NOTHING && label(&tree, "x") == AK_OUT_OF_PLACE);
+    CHECK(ak_update_node(&tree, 1, AK_ROLE_TREE + 1) == AK_NOTHING && ak_update_node(&tree, 1, AK_ROLE_OTHER - 1) == AK_NOTHING);
     CHECK(ak_update_node(&tree, 1, AK_ROLE_OTHER + 65535) == AK_DONE && label(&tree, "\xc3") == AK_NOTHING && ak_update_flag(&tree, AK_FIELD_LABEL) == AK_NOTHING);
     CHECK(ak_update_flag(&tree, AK_FIELD_CHILD_ACTIONS + 1) == AK_NOTHING && ak_update_choice(&tree, AK_FIELD_TOGGLED, AK_TOGGLED_MIXED + 1) == AK_NOTHING);
+    CHECK(ak_update_flag(&tree, 256 + AK_FIELD_HIDDEN) == AK_NOTHING && ak_update_choice(&tree, AK_FIELD_LIVE, 256) == AK_NOTHING);
+    CHECK(ak_update_action(&tree, AK_FIELD_ACTIONS, AK_ACTION_DECREMENT + 1) == AK_NOTHING && ak_update_action(&tree, AK_FIELD_ACTIONS, 255) == AK_NOTHING);
+    CHECK(ak_update_decoration(&tree, AK_FIELD_OVERLINE, 256, 1, 2, 3, 4) == AK_NOTHING && ak_update_action(&tree, AK_FIELD_ACTIONS, 65536) == AK_NOTHING);
     CHECK(ak_update_action(&tree, AK_FIELD_ACTIONS, AK_ACTION_OTHER + 256) == AK_NOTHING && ak_update_tree(&tree, AK_FIELD_TREE, uuid, 0) == AK_NOTHING);
     CHECK(ak_update_count(&tree, AK_FIELD_FONT_WEIGHT, 65536) == AK_NOTHING && ak_update_decoration(&tree, AK_FIELD_OVERLINE, 5, 1, 2, 3, 4) == AK_NOTHING);
     CHECK(ak_update_send(&tree, &stop) == AK_REFUSED && stop.rule == AK_FOCUS_MISSING && stop.node == 9 && stop.done == 0 && stop.line == 0);

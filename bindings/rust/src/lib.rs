@@ -67,23 +67,23 @@ mod raw {
         pub fn ak_update_toolkit_name(tree: &mut Tree, text: *const u8, length: usize) -> u8;
         pub fn ak_update_toolkit_version(tree: &mut Tree, text: *const u8, length: usize) -> u8;
         pub fn ak_update_node(tree: &mut Tree, node: u64, role: u32) -> u8;
-        pub fn ak_update_ids(tree: &mut Tree, field: u8, ids: *const u64, count: usize) -> u8;
-        pub fn ak_update_id(tree: &mut Tree, field: u8, id: u64) -> u8;
-        pub fn ak_update_text(tree: &mut Tree, field: u8, text: *const u8, length: usize) -> u8;
-        pub fn ak_update_flag(tree: &mut Tree, field: u8) -> u8;
-        pub fn ak_update_bool(tree: &mut Tree, field: u8, is_so: bool) -> u8;
-        pub fn ak_update_choice(tree: &mut Tree, field: u8, choice: u8) -> u8;
-        pub fn ak_update_number(tree: &mut Tree, field: u8, number: i64) -> u8;
-        pub fn ak_update_count(tree: &mut Tree, field: u8, count: usize) -> u8;
-        pub fn ak_update_numbers(tree: &mut Tree, field: u8, numbers: *const u16, count: usize) -> u8;
-        pub fn ak_update_units(tree: &mut Tree, field: u8, units: *const i32, count: usize) -> u8;
-        pub fn ak_update_action(tree: &mut Tree, field: u8, action: u16) -> u8;
-        pub fn ak_update_tree(tree: &mut Tree, field: u8, tree_id: *const u8, length: usize) -> u8;
-        pub fn ak_update_rect(tree: &mut Tree, field: u8, x0: i32, y0: i32, x1: i32, y1: i32) -> u8;
-        pub fn ak_update_translation(tree: &mut Tree, field: u8, x: i32, y: i32) -> u8;
-        pub fn ak_update_selection(tree: &mut Tree, field: u8, anchor: u64, anchor_character: usize, focus: u64, focus_character: usize) -> u8;
-        pub fn ak_update_color(tree: &mut Tree, field: u8, red: u8, green: u8, blue: u8, alpha: u8) -> u8;
-        pub fn ak_update_decoration(tree: &mut Tree, field: u8, style: u8, red: u8, green: u8, blue: u8, alpha: u8) -> u8;
+        pub fn ak_update_ids(tree: &mut Tree, field: u32, ids: *const u64, count: usize) -> u8;
+        pub fn ak_update_id(tree: &mut Tree, field: u32, id: u64) -> u8;
+        pub fn ak_update_text(tree: &mut Tree, field: u32, text: *const u8, length: usize) -> u8;
+        pub fn ak_update_flag(tree: &mut Tree, field: u32) -> u8;
+        pub fn ak_update_bool(tree: &mut Tree, field: u32, is_so: bool) -> u8;
+        pub fn ak_update_choice(tree: &mut Tree, field: u32, choice: u32) -> u8;
+        pub fn ak_update_number(tree: &mut Tree, field: u32, number: i64) -> u8;
+        pub fn ak_update_count(tree: &mut Tree, field: u32, count: usize) -> u8;
+        pub fn ak_update_numbers(tree: &mut Tree, field: u32, numbers: *const u16, count: usize) -> u8;
+        pub fn ak_update_units(tree: &mut Tree, field: u32, units: *const i32, count: usize) -> u8;
+        pub fn ak_update_action(tree: &mut Tree, field: u32, action: u32) -> u8;
+        pub fn ak_update_tree(tree: &mut Tree, field: u32, tree_id: *const u8, length: usize) -> u8;
+        pub fn ak_update_rect(tree: &mut Tree, field: u32, x0: i32, y0: i32, x1: i32, y1: i32) -> u8;
+        pub fn ak_update_translation(tree: &mut Tree, field: u32, x: i32, y: i32) -> u8;
+        pub fn ak_update_selection(tree: &mut Tree, field: u32, anchor: u64, anchor_character: usize, focus: u64, focus_character: usize) -> u8;
+        pub fn ak_update_color(tree: &mut Tree, field: u32, red: u8, green: u8, blue: u8, alpha: u8) -> u8;
+        pub fn ak_update_decoration(tree: &mut Tree, field: u32, style: u32, red: u8, green: u8, blue: u8, alpha: u8) -> u8;
         pub fn ak_update_send(tree: &mut Tree, stop: &mut Stop) -> u8;
         pub fn ak_tree_event_count(tree: &mut Tree, count: &mut usize) -> u8;
         pub fn ak_tree_event(tree: &mut Tree, index: usize, event: &mut Event) -> u8;
@@ -97,13 +97,13 @@ mod raw {
         pub fn ak_node_text(tree: &mut Tree, node: u64, tree_index: u32, buffer: *mut u8, room: usize, length: &mut usize) -> u8;
         pub fn ak_node_role_number(tree: &mut Tree, node: u64, tree_index: u32, number: &mut u32) -> u8;
         pub fn ak_node_bounds(tree: &mut Tree, node: u64, tree_index: u32, bounds: &mut Bounds) -> u8;
-        pub fn ak_node_flag(tree: &mut Tree, node: u64, tree_index: u32, flag: u8, is_set: &mut bool) -> u8;
-        pub fn ak_node_filter(tree: &mut Tree, node: u64, tree_index: u32, filter: u8, answer: &mut u8) -> u8;
-        pub fn ak_node_hit(tree: &mut Tree, node: u64, tree_index: u32, x: i64, y: i64, filter: u8, hit: &mut Id) -> u8;
-        pub fn ak_node_filtered_parent(tree: &mut Tree, node: u64, tree_index: u32, filter: u8, parent: &mut Id) -> u8;
-        pub fn ak_node_filtered_children(tree: &mut Tree, node: u64, tree_index: u32, filter: u8, buffer: *mut Id, room: usize, count: &mut usize) -> u8;
+        pub fn ak_node_flag(tree: &mut Tree, node: u64, tree_index: u32, flag: u32, is_set: &mut bool) -> u8;
+        pub fn ak_node_filter(tree: &mut Tree, node: u64, tree_index: u32, filter: u32, answer: &mut u32) -> u8;
+        pub fn ak_node_hit(tree: &mut Tree, node: u64, tree_index: u32, x: i64, y: i64, filter: u32, hit: &mut Id) -> u8;
+        pub fn ak_node_filtered_parent(tree: &mut Tree, node: u64, tree_index: u32, filter: u32, parent: &mut Id) -> u8;
+        pub fn ak_node_filtered_children(tree: &mut Tree, node: u64, tree_index: u32, filter: u32, buffer: *mut Id, room: usize, count: &mut usize) -> u8;
         pub fn ak_text_position(tree: &mut Tree, node: u64, tree_index: u32, index: usize, is_end: bool, position: &mut Position) -> u8;
-        pub fn ak_text_move(tree: &mut Tree, node: u64, tree_index: u32, index: usize, is_end: bool, movement: u8, position: &mut Position) -> u8;
+        pub fn ak_text_move(tree: &mut Tree, node: u64, tree_index: u32, index: usize, is_end: bool, movement: u32, position: &mut Position) -> u8;
         pub fn ak_text_selection_anchor(tree: &mut Tree, node: u64, tree_index: u32, anchor: &mut Position) -> u8;
         pub fn ak_text_selection_focus(tree: &mut Tree, node: u64, tree_index: u32, focus: &mut Position) -> u8;
         pub fn ak_text_between(tree: &mut Tree, node: u64, tree_index: u32, from: usize, to: usize, buffer: *mut u8, room: usize, length: &mut usize) -> u8;
@@ -192,11 +192,11 @@ pub enum Move {
     DocumentStart,
 }
 
-/// A node's id: the index of its tree, and its id there.
+/// A node's id in its tree, and the index of that tree: 0 is the root tree.
 #[derive(Clone, Copy, Debug, PartialEq, Eq, Hash)]
 pub struct Id {
-    pub tree: u32,
     pub node: u64,
+    pub tree: u32,
 }
 
 /// A change.
@@ -268,8 +268,8 @@ impl Tree {
         if unsafe { raw::ak_tree_event(&mut self.raw, index, &mut event) } != DONE {
             return None;
         }
-        let old = event.has_old.then_some(Id { tree: event.old_tree, node: event.old_node });
-        let new = event.has_new.then_some(Id { tree: event.new_tree, node: event.new_node });
+        let old = event.has_old.then_some(Id { node: event.old_node, tree: event.old_tree });
+        let new = event.has_new.then_some(Id { node: event.new_node, tree: event.new_tree });
         match event.kind {
             0 => new.map(Event::Added),
             1 => new.map(Event::Updated),
@@ -299,7 +299,7 @@ impl Tree {
     }
 
     fn id(&mut self, call: impl Fn(&mut raw::Tree, &mut raw::Id) -> u8) -> Option<Id> {
-        self.one(call).map(|id: raw::Id| Id { tree: id.tree, node: id.node })
+        self.one(call).map(|id: raw::Id| Id { node: id.node, tree: id.tree })
     }
 
     pub fn children(&mut self, of: Id) -> Result<Option<Vec<Id>>, Error> {
@@ -308,7 +308,7 @@ impl Tree {
 
     fn ids(&mut self, call: impl Fn(&mut raw::Tree, &mut [raw::Id], &mut usize) -> u8) -> Result<Option<Vec<Id>>, Error> {
         let found = self.list(call)?;
-        Ok(found.map(|ids| ids.iter().map(|id| Id { tree: id.tree, node: id.node }).collect()))
+        Ok(found.map(|ids| ids.iter().map(|id| Id { node: id.node, tree: id.tree }).collect()))
     }
 
     /// The node's rectangle after all translations.
@@ -317,26 +317,26 @@ impl Tree {
     }
 
     pub fn flag(&mut self, of: Id, flag: Flag) -> Option<bool> {
-        self.one(|tree, is_set| unsafe { raw::ak_node_flag(tree, of.node, of.tree, flag as u8, is_set) })
+        self.one(|tree, is_set| unsafe { raw::ak_node_flag(tree, of.node, of.tree, flag as u32, is_set) })
     }
 
     pub fn filter(&mut self, of: Id, filter: Filter) -> Option<FilterResult> {
-        let answer = self.one(|tree, answer| unsafe { raw::ak_node_filter(tree, of.node, of.tree, filter as u8, answer) })?;
-        [FilterResult::Include, FilterResult::ExcludeNode, FilterResult::ExcludeSubtree].get(usize::from(answer)).copied()
+        let answer = self.one(|tree, answer| unsafe { raw::ak_node_filter(tree, of.node, of.tree, filter as u32, answer) })?;
+        [FilterResult::Include, FilterResult::ExcludeNode, FilterResult::ExcludeSubtree].get(answer as usize).copied()
     }
 
     /// The node at a point in the coordinates of a node, among this one and those below it.
     pub fn hit(&mut self, within: Id, x: i64, y: i64, filter: Filter) -> Option<Id> {
-        self.id(|tree, id| unsafe { raw::ak_node_hit(tree, within.node, within.tree, x, y, filter as u8, id) })
+        self.id(|tree, id| unsafe { raw::ak_node_hit(tree, within.node, within.tree, x, y, filter as u32, id) })
     }
 
     pub fn filtered_parent(&mut self, of: Id, filter: Filter) -> Option<Id> {
-        self.id(|tree, id| unsafe { raw::ak_node_filtered_parent(tree, of.node, of.tree, filter as u8, id) })
+        self.id(|tree, id| unsafe { raw::ak_node_filtered_parent(tree, of.node, of.tree, filter as u32, id) })
     }
 
     pub fn filtered_children(&mut self, of: Id, filter: Filter) -> Result<Option<Vec<Id>>, Error> {
         self.ids(|tree, buffer, count| unsafe {
-            raw::ak_node_filtered_children(tree, of.node, of.tree, filter as u8, buffer.as_mut_ptr(), buffer.len(), count)
+            raw::ak_node_filtered_children(tree, of.node, of.tree, filter as u32, buffer.as_mut_ptr(), buffer.len(), count)
         })
     }
 
@@ -348,7 +348,7 @@ impl Tree {
 
     /// Where a movement of the caret from there ends.
     pub fn text_move(&mut self, of: Id, index: usize, is_end: bool, by: Move) -> Option<Position> {
-        self.one(|tree, position| unsafe { raw::ak_text_move(tree, of.node, of.tree, index, is_end, by as u8, position) })
+        self.one(|tree, position| unsafe { raw::ak_text_move(tree, of.node, of.tree, index, is_end, by as u32, position) })
     }
 
     /// The fixed end of the selection in the node's text.

@@ -21,80 +21,80 @@ impl TreeName {
 /// A field of a node, by its name in a script; docs/SCRIPT.md explains them. Each call of [`Update`] is for those of one kind.
 #[derive(Clone, Copy, Debug, PartialEq, Eq)]
 pub enum Field {
-    Children,
-    Labelled,
-    Controls,
-    Tree,
-    Active,
-    Label,
-    Value,
-    Description,
-    Placeholder,
-    RoleDescription,
-    Url,
-    AuthorId,
-    HtmlId,
-    ClassName,
-    BrailleLabel,
-    BrailleRoleDescription,
-    ColumnIndexText,
-    RowIndexText,
-    FontFamily,
-    Language,
-    Hidden,
-    Clips,
-    Disabled,
-    ReadOnly,
-    Required,
-    Modal,
-    Busy,
-    Multiselectable,
-    Italic,
-    LiveAtomic,
-    TouchTransparent,
-    Bounds,
-    Move,
-    Selection,
-    Chars,
-    Words,
-    CharacterPositions,
-    CharacterWidths,
-    Prev,
-    Next,
-    Toggled,
-    Expanded,
-    Selected,
-    Live,
-    Orientation,
-    SortDirection,
-    AriaCurrent,
-    HasPopup,
-    FontSize,
-    FontWeight,
-    BackgroundColor,
-    ForegroundColor,
-    Overline,
-    Strikethrough,
-    Underline,
-    TextDirection,
-    TextAlign,
-    VerticalOffset,
-    Number,
-    Min,
-    Max,
-    Step,
-    Jump,
-    Level,
-    SetSize,
-    Position,
-    ScrollX,
-    ScrollXMin,
-    ScrollXMax,
-    ScrollY,
-    ScrollYMin,
-    ScrollYMax,
-    Actions,
-    ChildActions,
+    Children = 0,
+    Labelled = 1,
+    Controls = 2,
+    Tree = 3,
+    Active = 4,
+    Label = 5,
+    Value = 6,
+    Description = 7,
+    Placeholder = 8,
+    RoleDescription = 9,
+    Url = 10,
+    AuthorId = 11,
+    HtmlId = 12,
+    ClassName = 13,
+    BrailleLabel = 14,
+    BrailleRoleDescription = 15,
+    ColumnIndexText = 16,
+    RowIndexText = 17,
+    FontFamily = 18,
+    Language = 19,
+    Hidden = 20,
+    Clips = 21,
+    Disabled = 22,
+    ReadOnly = 23,
+    Required = 24,
+    Modal = 25,
+    Busy = 26,
+    Multiselectable = 27,
+    Italic = 28,
+    LiveAtomic = 29,
+    TouchTransparent = 30,
+    Bounds = 31,
+    Move = 32,
+    Selection = 33,
+    Chars = 34,
+    Words = 35,
+    CharacterPositions = 36,
+    CharacterWidths = 37,
+    Prev = 38,
+    Next = 39,
+    Toggled = 40,
+    Expanded = 41,
+    Selected = 42,
+    Live = 43,
+    Orientation = 44,
+    SortDirection = 45,
+    AriaCurrent = 46,
+    HasPopup = 47,
+    FontSize = 48,
+    FontWeight = 49,
+    BackgroundColor = 50,
+    ForegroundColor = 51,
+    Overline = 52,
+    Strikethrough = 53,
+    Underline = 54,
+    TextDirection = 55,
+    TextAlign = 56,
+    VerticalOffset = 57,
+    Number = 58,
+    Min = 59,
+    Max = 60,
+    Step = 61,
+    Jump = 62,
+    Level = 63,
+    SetSize = 64,
+    Position = 65,
+    ScrollX = 66,
+    ScrollXMin = 67,
+    ScrollXMax = 68,
+    ScrollY = 69,
+    ScrollYMin = 70,
+    ScrollYMax = 71,
+    Actions = 72,
+    ChildActions = 73,
 }
 
 /// A role of a node.
@@ -181,13 +181,13 @@ impl Role {
 
     /// A role without a name, by its number: that of a heading is 328.
     pub const fn other(number: u16) -> Role {
-        Role(72 + number as u32)
+        Role(65536 + number as u32)
     }
 }
 
 /// What a node can be asked to do.
 #[derive(Clone, Copy, Debug, PartialEq, Eq)]
-pub struct Action(u16);
+pub struct Action(u32);
 
 impl Action {
     pub const CLICK: Action = Action(0);
@@ -197,7 +197,7 @@ impl Action {
 
     /// An action without a name, by a number of your own.
     pub const fn other(number: u8) -> Action {
-        Action(4 + number as u16)
+        Action(256 + number as u32)
     }
 }
 
@@ -301,15 +301,15 @@ pub enum VerticalOffset {
 /// A value of a field that has few: its type names the field.
 pub trait Choice {
     const FIELD: Field;
-    fn number(self) -> u8;
+    fn number(self) -> u32;
 }
 
 macro_rules! choices {
     ($($name:ident)*) => {
         $(impl Choice for $name {
             const FIELD: Field = Field::$name;
-            fn number(self) -> u8 {
-                self as u8
+            fn number(self) -> u32 {
+                self as u32
             }
         })*
     };
@@ -395,86 +395,86 @@ impl Update<'_> {
     }
 
     pub fn ids(&mut self, field: Field, ids: &[u64]) -> Result<&mut Self, Error> {
-        self.says(|tree| unsafe { raw::ak_update_ids(tree, field as u8, ids.as_ptr(), ids.len()) })
+        self.says(|tree| unsafe { raw::ak_update_ids(tree, field as u32, ids.as_ptr(), ids.len()) })
     }
 
     pub fn id(&mut self, field: Field, id: u64) -> Result<&mut Self, Error> {
-        self.says(|tree| unsafe { raw::ak_update_id(tree, field as u8, id) })
+        self.says(|tree| unsafe { raw::ak_update_id(tree, field as u32, id) })
     }
 
     pub fn text(&mut self, field: Field, text: &str) -> Result<&mut Self, Error> {
-        self.says(|tree| unsafe { raw::ak_update_text(tree, field as u8, text.as_ptr(), text.len()) })
+        self.says(|tree| unsafe { raw::ak_update_text(tree, field as u32, text.as_ptr(), text.len()) })
     }
 
     /// Sets a flag that has no value, as `Field::Disabled`.
     pub fn flag(&mut self, field: Field) -> Result<&mut Self, Error> {
-        self.says(|tree| unsafe { raw::ak_update_flag(tree, field as u8) })
+        self.says(|tree| unsafe { raw::ak_update_flag(tree, field as u32) })
     }
 
     /// `Field::Expanded` or `Field::Selected`.
     pub fn bool(&mut self, field: Field, is_so: bool) -> Result<&mut Self, Error> {
-        self.says(|tree| unsafe { raw::ak_update_bool(tree, field as u8, is_so) })
+        self.says(|tree| unsafe { raw::ak_update_bool(tree, field as u32, is_so) })
     }
 
     /// One of the values of a field that has few, as `Toggled::Mixed`.
     pub fn choose<C: Choice>(&mut self, choice: C) -> Result<&mut Self, Error> {
-        self.says(|tree| unsafe { raw::ak_update_choice(tree, C::FIELD as u8, choice.number()) })
+        self.says(|tree| unsafe { raw::ak_update_choice(tree, C::FIELD as u32, choice.number()) })
     }
 
     /// A number, as `Field::Min`, in the field's unit.
     pub fn number(&mut self, field: Field, number: i64) -> Result<&mut Self, Error> {
-        self.says(|tree| unsafe { raw::ak_update_number(tree, field as u8, number) })
+        self.says(|tree| unsafe { raw::ak_update_number(tree, field as u32, number) })
     }
 
     /// A count, or `Field::FontSize` or `Field::FontWeight`.
     pub fn count(&mut self, field: Field, count: usize) -> Result<&mut Self, Error> {
-        self.says(|tree| unsafe { raw::ak_update_count(tree, field as u8, count) })
+        self.says(|tree| unsafe { raw::ak_update_count(tree, field as u32, count) })
     }
 
     /// `Field::Chars` or `Field::Words`.
     pub fn numbers(&mut self, field: Field, numbers: &[u16]) -> Result<&mut Self, Error> {
-        self.says(|tree| unsafe { raw::ak_update_numbers(tree, field as u8, numbers.as_ptr(), numbers.len()) })
+        self.says(|tree| unsafe { raw::ak_update_numbers(tree, field as u32, numbers.as_ptr(), numbers.len()) })
     }
 
     /// `Field::CharacterPositions` or `Field::CharacterWidths`, in units of 1/64 pixel.
     pub fn units(&mut self, field: Field, units: &[i32]) -> Result<&mut Self, Error> {
-        self.says(|tree| unsafe { raw::ak_update_units(tree, field as u8, units.as_ptr(), units.len()) })
+        self.says(|tree| unsafe { raw::ak_update_units(tree, field as u32, units.as_ptr(), units.len()) })
     }
 
     /// Adds an action to `Field::Actions` or `Field::ChildActions`.
     pub fn action(&mut self, field: Field, action: Action) -> Result<&mut Self, Error> {
-        self.says(|tree| unsafe { raw::ak_update_action(tree, field as u8, action.0) })
+        self.says(|tree| unsafe { raw::ak_update_action(tree, field as u32, action.0) })
     }
 
     /// The tree that is grafted at the node.
     pub fn graft(&mut self, uuid: &[u8; 16]) -> Result<&mut Self, Error> {
-        self.says(|tree| unsafe { raw::ak_update_tree(tree, Field::Tree as u8, uuid.as_ptr(), uuid.len()) })
+        self.says(|tree| unsafe { raw::ak_update_tree(tree, Field::Tree as u32, uuid.as_ptr(), uuid.len()) })
     }
 
     /// The node's rectangle, in units of 1/64 pixel.
     pub fn bounds(&mut self, x0: i32, y0: i32, x1: i32, y1: i32) -> Result<&mut Self, Error> {
-        self.says(|tree| unsafe { raw::ak_update_rect(tree, Field::Bounds as u8, x0, y0, x1, y1) })
+        self.says(|tree| unsafe { raw::ak_update_rect(tree, Field::Bounds as u32, x0, y0, x1, y1) })
     }
 
     /// By how much the node and its subtree are shifted, in units of 1/64 pixel.
     pub fn shift(&mut self, x: i32, y: i32) -> Result<&mut Self, Error> {
-        self.says(|tree| unsafe { raw::ak_update_translation(tree, Field::Move as u8, x, y) })
+        self.says(|tree| unsafe { raw::ak_update_translation(tree, Field::Move as u32, x, y) })
     }
 
     /// The selection in the node's text: its fixed end, and the end that moves.
     pub fn selection(&mut self, anchor: Place, focus: Place) -> Result<&mut Self, Error> {
-        let field = Field::Selection as u8;
+        let field = Field::Selection as u32;
         self.says(|tree| unsafe { raw::ak_update_selection(tree, field, anchor.run, anchor.character, focus.run, focus.character) })
     }
 
     /// `Field::BackgroundColor` or `Field::ForegroundColor`.
     pub fn color(&mut self, field: Field, color: Color) -> Result<&mut Self, Error> {
-        self.says(|tree| unsafe { raw::ak_update_color(tree, field as u8, color.red, color.green, color.blue, color.alpha) })
+        self.says(|tree| unsafe { raw::ak_update_color(tree, field as u32, color.red, color.green, color.blue, color.alpha) })
     }
 
     /// `Field::Overline`, `Field::Strikethrough` or `Field::Underline`.
     pub fn decoration(&mut self, field: Field, style: Style, color: Color) -> Result<&mut Self, Error> {
         let Color { red, green, blue, alpha } = color;
-        self.says(|tree| unsafe { raw::ak_update_decoration(tree, field as u8, style as u8, red, green, blue, alpha) })
+        self.says(|tree| unsafe { raw::ak_update_decoration(tree, field as u32, style as u32, red, green, blue, alpha) })
     }
 }

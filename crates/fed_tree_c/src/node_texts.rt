@@ -38,7 +38,7 @@ fn position_in(fed: &FedTree, index: usize, is_end: bool, id: FullNodeId) -> Opt
 /// Where the movement with this number ends.
 fn position_after(
     fed: &FedTree,
-    number: u8,
+    number: u32,
     index: usize,
     is_end: bool,
     id: FullNodeId,
@@ -123,7 +123,7 @@ pub extern "C" fn ak_text_move(
     tree_index: u32,
     index: usize,
     is_end: bool,
-    movement: u8,
+    movement: u32,
     position: &mut AkPosition,
 ) -> u8
     ensures kept { tree.new.block.fed ≡ tree.old.block.fed }

@@ -11,7 +11,7 @@ ghost use Rattle.fed_tree_c.specs.Records.{bounds_of, id_of, node_id};
 
 use crate::buffers::give_ids;
 use crate::handle::Handle;
-use crate::numbers::{answer_number, filter_numbered, flag_numbered};
+use crate::numbers::{answer_number, filter_numbered, flag_numbered, role_code};
 use crate::records::{AkBounds, AkId, CLOSED, give, id_of, node_id};
 use fed_tree::FedTree;
 use model::FullNodeId;
@@ -54,11 +54,11 @@ fn role_number_in(fed: &FedTree, id: FullNodeId) -> Option<u32>
     ensures { result ≡ role_number_in id fed.now }
 {
     let role = fed.role(id)?;
-    Some(role.number())
+    Some(role_code(role))
 }
 
 /// The answer to the flag with this number.
-fn flag_in(fed: &FedTree, number: u8, id: FullNodeId) -> Option<bool>
+fn flag_in(fed: &FedTree, number: u32, id: FullNodeId) -> Option<bool>
     ensures { result ≡ flag_in number id fed.now }
 {
     let flag = flag_numbered(number)?;
@@ -66,7 +66,7 @@ fn flag_in(fed: &FedTree, number: u8, id: FullNodeId) -> Option<bool>
 }
 
 /// The number of the filter's answer for the node.
-fn answer_in(fed: &FedTree, number: u8, id: FullNodeId) -> Option<u8>
+fn answer_in(fed: &FedTree, number: u32, id: FullNodeId) -> Option<u32>
     ensures { result ≡ answer_in number id fed.now }
 {
     let filter = filter_numbered(number)?;
@@ -75,7 +75,7 @@ fn answer_in(fed: &FedTree, number: u8, id: FullNodeId) -> Option<u8>
 }
 
 /// The node at the point, by the filter with this number.
-fn hit_in(fed: &FedTree, number: u8, point: Point, id: FullNodeId) -> Option<AkId>
+fn hit_in(fed: &FedTree, number: u32, point: Point, id: FullNodeId) -> Option<AkId>
     ensures { result ≡ hit_in number point.x point.y id fed.now }
 {
     let filter = filter_numbered(number)?;
@@ -84,7 +84,7 @@ fn hit_in(fed: &FedTree, number: u8, point: Point, id: FullNodeId) -> Option<AkI
 }
 
 /// The nearest ancestor that the filter with this number includes.
-fn filtered_parent_in(fed: &FedTree, number: u8, id: FullNodeId) -> Option<AkId>
+fn filtered_parent_in(fed: &FedTree, number: u32, id: FullNodeId) -> Option<AkId>
     ensures { result ≡ filtered_parent_in number id fed.now }
 {
     let filter = filter_numbered(number)?;
@@ -95,7 +95,7 @@ fn filtered_parent_in(fed: &FedTree, number: u8, id: FullNodeId) -> Option<AkId>
 /// The nodes that the filter with this number shows in place of the node's children.
 fn filtered_children_in(
     fed: &FedTree,
-    number: u8,
+    number: u32,
     id: FullNodeId,
 ) -> Result<Option<Vec<FullNodeId>>, AllocError>
     ensures { IfOk result (λ ids. option_map (λ found. found.items) ids
@@ -157,7 +157,7 @@ pub extern "C" fn ak_node_flag(
     tree: &mut Handle,
     node: u64,
     tree_index: u32,
-    flag: u8,
+    flag: u32,
     is_set: &mut bool,
 ) -> u8
     ensures kept { tree.new.block.fed ≡ tree.old.block.fed }
@@ -179,8 +179,8 @@ pub extern "C" fn ak_node_filter(
     tree: &mut Handle,
     node: u64,
     tree_index: u32,
-    filter: u8,
-    answer: &mut u8,
+    filter: u32,
+    answer: &mut u32,
 ) -> u8
     ensures kept { tree.new.block.fed ≡ tree.old.block.fed }
     ensures answer { Answers tree.old.block.fed (answer_in filter (node_id node tree_index)) result answer.old answer.new }
@@ -203,7 +203,7 @@ pub extern "C" fn ak_node_hit(
     tree_index: u32,
     x: i64,
     y: i64,
-    filter: u8,
+    filter: u32,
     hit: &mut AkId,
 ) -> u8
     ensures kept { tree.new.block.fed ≡ tree.old.block.fed }
@@ -228,7 +228,7 @@ pub extern "C" fn ak_node_filtered_parent(
     tree: &mut Handle,
     node: u64,
     tree_index: u32,
-    filter: u8,
+    filter: u32,
     parent: &mut AkId,
 ) -> u8
     ensures kept { tree.new.block.fed ≡ tree.old.block.fed }
@@ -254,7 +254,7 @@ pub extern "C" fn ak_node_filtered_children(
     tree: &mut Handle,
     node: u64,
     tree_index: u32,
-    filter: u8,
+    filter: u32,
     buffer: &mut [AkId],
     count: &mut usize,
 ) -> u8
