@@ -1,5 +1,5 @@
 -- What is asked of a tree.
-use Rattle.std.specs.Prelude.{◌≡◌, ℕ, ℤ, Bool, List, length, slice_get, Option, Some, None, MatchOption, map, option_map, option_and_then}
+use Rattle.std.specs.Prelude.{◌≡◌, ℕ, ℤ, Bool, List, length, slice_get, is_some, Option, Some, None, MatchOption, map, option_map, option_and_then, if◌then◌else◌}
 use Rattle.schema.specs.RoleNames.{role_text}
 use Rattle.model.specs.World.{children, root_of}
 use Rattle.model.specs.Forest.{place_of}
@@ -19,6 +19,7 @@ use Rattle.fed_tree.specs.Flags.{says}
 use Rattle.fed_tree.specs.Reads.{read_of}
 use Rattle.session.specs.Texts.{in_text, text_from}
 use Rattle.fed_tree.specs.Texts.{place_at, place_after, place_found}
+use Rattle.fed_tree_c.specs.Answers.{LOST, NOTHING}
 use Rattle.fed_tree_c.specs.Numbers.{all_flags, all_filters, all_moves, answer_number, at_index, role_code}
 use Rattle.fed_tree_c.specs.Records.{bounds_of, event_of, id_of, position_of}
 use Rattle.fed_tree_c.specs.declared.records.AkBounds.{AkBounds}
@@ -53,6 +54,10 @@ IsFocusIn handle found = MatchOption (option_and_then (λ fed. fed.world) handle
 
 abbrev pub event_at : ℕ → Fed → Option AkEvent
 event_at index fed = option_map event_of (option_and_then (λ events. slice_get events index) fed.events)
+
+-- where there is no event with an index: there are fewer, or they are lost
+abbrev pub lack_of_event : Fed → ℕ
+lack_of_event fed = if is_some fed.events then NOTHING else LOST
 
 abbrev pub event_count : Fed → Option ℕ
 event_count fed = option_map length fed.events

@@ -263,5 +263,10 @@ pub extern "C" fn ak_update_decoration(
         blue,
         alpha,
     };
-    set_value(alloc, tree, field, FieldValue::Decoration(byte_of(style), color))
+    set_value(
+        alloc,
+        tree,
+        field,
+        FieldValue::Decoration(byte_of(style), color),
+    )
 }
