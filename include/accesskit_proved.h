@@ -3,7 +3,7 @@
  * A tree is fed with the lines of a script (docs/SCRIPT.md), or sent updates that are built call by call; it keeps what they changed as
  * events, and is read by the ids of its nodes.
  * A call returns one of the answers below. It writes through its last pointers only if it returns AK_DONE, and AK_NO_MEMORY leaves the
- * tree as it was (ak_tree_feed says how far it went).
+ * tree as it was (ak_tree_feed says how far it went). AK_CLOSED is answered by each call of a closed tree.
  *
  * What a caller owes, and nothing checks:
  *  - An ak_tree begins as AK_TREE_CLOSED, which a closed one may be set to again. Else only these calls change it, and it isn't copied or
@@ -26,9 +26,11 @@ extern "C" {
 
 /* The numbers stay: programs are built with them, so what is new gets a number that none had before. Where a call takes one of these types,
  * C takes a name of another with a warning (-Wenum-conversion, which -Wextra has), and C++ doesn't. */
-/* The answers. */
+/* The answers: it is done; memory ran out; the tree is closed; there is no such thing in the tree, or the node has none; a line is bad; an
+ * update is refused; an update isn't begun, or none of its nodes; the tree hasn't the node; a number means nothing, or a text or an id isn't
+ * what it has to be; the events are lost. */
 typedef enum { AK_DONE = 0, AK_NO_MEMORY = 1, AK_CLOSED = 2, AK_NOTHING = 3, AK_BAD_LINE = 4, AK_REFUSED = 5,
-               AK_OUT_OF_PLACE = 6 } ak_answer;
+               AK_OUT_OF_PLACE = 6, AK_NO_NODE = 7, AK_NO_SUCH = 8, AK_LOST = 9 } ak_answer;
 /* What an event is. */
 typedef enum { AK_ADDED = 0, AK_UPDATED = 1, AK_REMOVED = 2, AK_FOCUS_MOVED = 3 } ak_kind;
 /* The rules that a refused update breaks; docs/SCRIPT.md explains them. */
@@ -126,14 +128,22 @@ typedef struct { uint64_t node; uint32_t tree; } ak_id;
 /* A change, and the node before and after it: 0 where there is none. */
 typedef struct { uint64_t old_node; uint64_t new_node; uint32_t old_tree; uint32_t new_tree; uint8_t kind; bool has_old; bool has_new; } ak_event;
 /* `line`: the number of the bad line, from 1. `done`: how many commands were carried out before an update was refused, or memory
- * ran out. `node` and `rule`: what the refusal names. All else is 0. */
-typedef struct { uint64_t line; uint64_t done; uint64_t node; uint8_t rule; } ak_stop;
+ * ran out. Of a refusal `rule` is its rule, one of ak_rule, `node` the node that the rule is about, and `tree_id` the bytes of the UUID of
+ * the tree that AK_GRAFTED_TWICE, AK_NO_GRAFT, AK_NO_FIRST_TREE_INFO and AK_FOCUS_ON_EMPTY_GRAFT are about. All else is 0. */
+typedef struct { uint64_t line; uint64_t done; uint64_t node; uint8_t tree_id[16]; uint8_t rule; } ak_stop;
 /* A rectangle, in units of 1/64 pixel. An edge beyond 64 bits is the nearest number within them. */
 typedef struct { int64_t x0; int64_t y0; int64_t x1; int64_t y1; } ak_bounds;
 /* A position in a text by all its names: its run, and how many of the run's characters are before it; how many scalars and how many
  * UTF-16 code units of the text are before it; its line, from 0. Where two runs meet, `is_end` is the end of the first; with `index` it
  * names the position. */
 typedef struct { uint64_t run; size_t character; size_t index; size_t utf16_index; size_t line; bool is_end; } ak_position;
+/* Values of fields. Rectangles and translations are in units of 1/64 pixel. A selection has its fixed end and the end that moves, each a run
+ * and how many of its characters are before it. `alpha` is the opacity. `style` is one of ak_style. */
+typedef struct { int32_t x0; int32_t y0; int32_t x1; int32_t y1; } ak_rect;
+typedef struct { int32_t x; int32_t y; } ak_translation;
+typedef struct { uint64_t anchor; size_t anchor_character; uint64_t focus; size_t focus_character; } ak_selection;
+typedef struct { uint8_t red; uint8_t green; uint8_t blue; uint8_t alpha; } ak_color;
+typedef struct { uint32_t style; ak_color color; } ak_decoration;
 
 /* Opens a tree that has nothing yet; what it held is freed. AK_DONE or AK_NO_MEMORY. */
 uint8_t ak_tree_open(ak_tree *tree);
@@ -144,6 +154,9 @@ void ak_tree_close(ak_tree *tree);
  * AK_BAD_LINE nothing is carried out. On AK_REFUSED the update has changed nothing, and what comes after it isn't carried out.
  * `stop` is written unless the tree is closed. */
 uint8_t ak_tree_feed(ak_tree *tree, const uint8_t *lines, size_t length, ak_stop *stop);
+/* The name of a rule, as a script's output has it: MissingData. It is cut off at `room`, and `length` says how long it is. It needs no tree.
+ * AK_NO_SUCH: no rule has this number. */
+uint8_t ak_rule_name(ak_rule rule, uint8_t *buffer, size_t room, size_t *length);
 
 /* An update without lines. It is begun, then its nodes one by one, each followed by its fields; then it is sent. What a line of a script
  * says can be said so, and the library keeps the begun update with the tree.
@@ -156,7 +169,7 @@ uint8_t ak_tree_feed(ak_tree *tree, const uint8_t *lines, size_t length, ak_stop
  * action. ak_update_count sets a count, and the size and the weight of a text, ak_update_choice one of few values, ak_update_tree the tree
  * that is grafted at the node. `field` is one of the AK_FIELD numbers.
  *
- * AK_OUT_OF_PLACE: no update is begun; for a field, none of its nodes; for a toolkit, no root. AK_NOTHING: no field with this number has
+ * AK_OUT_OF_PLACE: no update is begun; for a field, none of its nodes; for a toolkit, no root. AK_NO_SUCH: no field with this number has
  * such a value; there is no such role, action or choice; a text isn't UTF-8; an id of a tree hasn't 16 bytes; a number is out of range.
  * With these, and with AK_NO_MEMORY, the begun update is as it was. */
 uint8_t ak_update_begin(ak_tree *tree, const uint8_t *tree_id, size_t length, uint64_t focus);
@@ -190,8 +203,8 @@ uint8_t ak_update_send(ak_tree *tree, ak_stop *stop);
 uint8_t ak_tree_host_focus(ak_tree *tree, bool is_focused);
 
 /* What the last lines, the last update that was sent, or the last change of the host's focus has changed, in order. The update that makes
- * the tree has no events. AK_NOTHING: memory for an event ran out then, and the tree is to be read anew; or there is no event with this
- * index. */
+ * the tree has no events. AK_NOTHING: there is no event with this index. AK_LOST: memory for an event ran out then, and the tree is to be
+ * read anew. */
 uint8_t ak_tree_event_count(ak_tree *tree, size_t *count);
 uint8_t ak_tree_event(ak_tree *tree, size_t index, ak_event *event);
 
@@ -199,8 +212,9 @@ uint8_t ak_tree_event(ak_tree *tree, size_t index, ak_event *event);
 uint8_t ak_tree_root(ak_tree *tree, ak_id *root);
 uint8_t ak_tree_focus(ak_tree *tree, ak_id *focus);
 
-/* Of a node. AK_NOTHING: the tree hasn't the node; it has no parent, label, value or text. Lists are cut off at `room`, and
- * `count` and `length` say how long they are; texts are UTF-8 without an end mark. */
+/* Of a node. AK_NO_NODE: the tree hasn't the node. AK_NOTHING: it has no parent, label, value or text. Lists are cut off at `room`, and
+ * `count` and `length` say how long they are; texts are UTF-8 without an end mark. Of a password ak_node_value and ak_node_text answer a
+ * bullet for each character. */
 uint8_t ak_node_parent(ak_tree *tree, uint64_t node, uint32_t tree_index, ak_id *parent);
 uint8_t ak_node_children(ak_tree *tree, uint64_t node, uint32_t tree_index, ak_id *buffer, size_t room, size_t *count);
 uint8_t ak_node_role(ak_tree *tree, uint64_t node, uint32_t tree_index, uint8_t *buffer, size_t room, size_t *length);
@@ -208,9 +222,9 @@ uint8_t ak_node_label(ak_tree *tree, uint64_t node, uint32_t tree_index, uint8_t
 uint8_t ak_node_value(ak_tree *tree, uint64_t node, uint32_t tree_index, uint8_t *buffer, size_t room, size_t *length);
 uint8_t ak_node_text(ak_tree *tree, uint64_t node, uint32_t tree_index, uint8_t *buffer, size_t room, size_t *length);
 
-/* Where a node lies, what it is, and what a filter shows. A role's number is one of AK_ROLE. AK_NOTHING: the tree hasn't the node; it
- * has no box; no flag or filter has this number; nothing is hit; no ancestor is included. A point is in the node's coordinates and in
- * units of 1/64 pixel; what is hit is the node or one below it. The filtered children are the nodes that the filter shows in place of
+/* Where a node lies, what it is, and what a filter shows. A role's number is one of AK_ROLE. AK_NO_SUCH: no flag or filter has this number.
+ * AK_NO_NODE: the tree hasn't the node. AK_NOTHING: it has no box; nothing is hit; no ancestor is included. A point is in the node's
+ * coordinates and in units of 1/64 pixel; what is hit is the node or one below it. The filtered children are the nodes that the filter shows in place of
  * the children. */
 uint8_t ak_node_role_number(ak_tree *tree, uint64_t node, uint32_t tree_index, uint32_t *number);
 uint8_t ak_node_bounds(ak_tree *tree, uint64_t node, uint32_t tree_index, ak_bounds *bounds);
@@ -221,13 +235,37 @@ uint8_t ak_node_filtered_parent(ak_tree *tree, uint64_t node, uint32_t tree_inde
 uint8_t ak_node_filtered_children(ak_tree *tree, uint64_t node, uint32_t tree_index, ak_filter filter, ak_id *buffer, size_t room, size_t *count);
 
 /* In the text of a node's runs, by an index that counts its scalars, and, where two runs meet there, the end of the first or the start of
- * the second. AK_NOTHING: the node has no text; the index is past its end; no movement has this number; there is no character to move by;
- * there is no selection. The selection's moving end, its focus, is where the caret is. */
+ * the second. AK_NO_SUCH: no movement has this number. AK_NO_NODE: the tree hasn't the node. AK_NOTHING: it has no text; the index is past
+ * its end; there is no character to move by; there is no selection. The selection's moving end, its focus, is where the caret is. */
 uint8_t ak_text_position(ak_tree *tree, uint64_t node, uint32_t tree_index, size_t index, bool is_end, ak_position *position);
 uint8_t ak_text_move(ak_tree *tree, uint64_t node, uint32_t tree_index, size_t index, bool is_end, ak_move movement, ak_position *position);
 uint8_t ak_text_selection_anchor(ak_tree *tree, uint64_t node, uint32_t tree_index, ak_position *anchor);
 uint8_t ak_text_selection_focus(ak_tree *tree, uint64_t node, uint32_t tree_index, ak_position *focus);
 uint8_t ak_text_between(ak_tree *tree, uint64_t node, uint32_t tree_index, size_t from, size_t to, uint8_t *buffer, size_t room, size_t *length);
+
+/* A field of a node as the last update of the node set it, by the call for its kind of value: as in an update, but that ak_field_flag is
+ * also for those that may be unset, and that ak_field_actions answers the whole set. What the library makes of fields, as of those of
+ * ancestors, is not here. A list or a set that isn't set is empty, and a flag isn't set. AK_NO_SUCH: no field with this number has such a
+ * value. AK_NO_NODE: the tree hasn't the node. AK_NOTHING: the node has no value there. Lists are cut off at `room`.
+ *
+ * Beware: ak_field_text answers what was sent. Of AK_FIELD_VALUE of a password, and of its text runs, that is what is typed into it. Only
+ * ak_node_value and ak_node_text mask it. */
+uint8_t ak_field_text(ak_tree *tree, uint64_t node, uint32_t tree_index, ak_field field, uint8_t *buffer, size_t room, size_t *length);
+uint8_t ak_field_ids(ak_tree *tree, uint64_t node, uint32_t tree_index, ak_field field, uint64_t *buffer, size_t room, size_t *count);
+uint8_t ak_field_id(ak_tree *tree, uint64_t node, uint32_t tree_index, ak_field field, uint64_t *id);
+uint8_t ak_field_flag(ak_tree *tree, uint64_t node, uint32_t tree_index, ak_field field, bool *is_set);
+uint8_t ak_field_choice(ak_tree *tree, uint64_t node, uint32_t tree_index, ak_field field, uint32_t *choice);
+uint8_t ak_field_number(ak_tree *tree, uint64_t node, uint32_t tree_index, ak_field field, int64_t *number);
+uint8_t ak_field_count(ak_tree *tree, uint64_t node, uint32_t tree_index, ak_field field, size_t *count);
+uint8_t ak_field_numbers(ak_tree *tree, uint64_t node, uint32_t tree_index, ak_field field, uint16_t *buffer, size_t room, size_t *count);
+uint8_t ak_field_units(ak_tree *tree, uint64_t node, uint32_t tree_index, ak_field field, int32_t *buffer, size_t room, size_t *count);
+uint8_t ak_field_actions(ak_tree *tree, uint64_t node, uint32_t tree_index, ak_field field, uint32_t *buffer, size_t room, size_t *count);
+uint8_t ak_field_tree(ak_tree *tree, uint64_t node, uint32_t tree_index, ak_field field, uint8_t *buffer, size_t room, size_t *length);
+uint8_t ak_field_rect(ak_tree *tree, uint64_t node, uint32_t tree_index, ak_field field, ak_rect *rect);
+uint8_t ak_field_translation(ak_tree *tree, uint64_t node, uint32_t tree_index, ak_field field, ak_translation *translation);
+uint8_t ak_field_selection(ak_tree *tree, uint64_t node, uint32_t tree_index, ak_field field, ak_selection *selection);
+uint8_t ak_field_color(ak_tree *tree, uint64_t node, uint32_t tree_index, ak_field field, ak_color *color);
+uint8_t ak_field_decoration(ak_tree *tree, uint64_t node, uint32_t tree_index, ak_field field, ak_decoration *decoration);
 
 #ifdef __cplusplus
 }

@@ -7,6 +7,7 @@ declarations of its calls are not.
 
 import ctypes
 from collections import namedtuple
+from uuid import UUID
 
 # A node's id in its tree, and the index of that tree: 0 is the root tree.
 Id = namedtuple("Id", "node tree")
@@ -71,7 +72,7 @@ CHOICES = {
     "vertical_offset": ("subscript", "superscript"),
     "style": ("solid", "dotted", "dashed", "double", "wavy"),
 }
-DONE, NO_MEMORY, CLOSED, NOTHING, BAD_LINE, REFUSED, OUT_OF_PLACE = range(7)
+DONE, NO_MEMORY, CLOSED, NOTHING, BAD_LINE, REFUSED, OUT_OF_PLACE, NO_NODE, NO_SUCH, LOST = range(10)
 
 
 class _Tree(ctypes.Structure):
@@ -88,7 +89,8 @@ class _Event(ctypes.Structure):
 
 
 class _Stop(ctypes.Structure):
-    _fields_ = [("line", ctypes.c_uint64), ("done", ctypes.c_uint64), ("node", ctypes.c_uint64), ("rule", ctypes.c_uint8)]
+    _fields_ = [("line", ctypes.c_uint64), ("done", ctypes.c_uint64), ("node", ctypes.c_uint64)]
+    _fields_ += [("tree_id", ctypes.c_uint8 * 16), ("rule", ctypes.c_uint8)]
 
 
 class _Bounds(ctypes.Structure):
@@ -97,6 +99,26 @@ class _Bounds(ctypes.Structure):
 
 class _Position(ctypes.Structure):
     _fields_ = [("run", ctypes.c_uint64), *((name, ctypes.c_size_t) for name in Position._fields[1:5]), ("is_end", ctypes.c_bool)]
+
+
+class _Rect(ctypes.Structure):
+    _fields_ = [(name, ctypes.c_int32) for name in ("x0", "y0", "x1", "y1")]
+
+
+class _Translation(ctypes.Structure):
+    _fields_ = [("x", ctypes.c_int32), ("y", ctypes.c_int32)]
+
+
+class _Selection(ctypes.Structure):
+    _fields_ = [("anchor", ctypes.c_uint64), ("anchor_character", ctypes.c_size_t), ("focus", ctypes.c_uint64), ("focus_character", ctypes.c_size_t)]
+
+
+class _Color(ctypes.Structure):
+    _fields_ = [(name, ctypes.c_uint8) for name in ("red", "green", "blue", "alpha")]
+
+
+class _Decoration(ctypes.Structure):
+    _fields_ = [("style", ctypes.c_uint32), ("color", _Color)]
 
 
 class Closed(ValueError):
@@ -112,11 +134,12 @@ class BadLine(ValueError):
 
 
 class Refused(ValueError):
-    """An update was refused, after `done` commands: it breaks the rule with this number, at this node."""
+    """An update was refused, after `done` commands: it breaks the rule with this number and this name. `node` is the node or `tree` the
+    `uuid.UUID` of the tree that the rule is about, as far as it is about one; else 0 and that of the root tree."""
 
-    def __init__(self, stop):
-        super().__init__(f"rule {stop.rule}, node {stop.node}")
-        self.done, self.rule, self.node = stop.done, stop.rule, stop.node
+    def __init__(self, stop, name):
+        self.done, self.rule, self.name, self.node, self.tree = stop.done, stop.rule, name, stop.node, UUID(bytes=bytes(stop.tree_id))
+        super().__init__(f"{name}, tree {self.tree}" if self.tree.int else f"{name}, node {self.node}")
 
 
 class Tree:
@@ -135,6 +158,9 @@ class Tree:
             getattr(self._calls, f"ak_text_{name}").restype = ctypes.c_uint8
         for name in ("begin", "root", "toolkit_name", "toolkit_version", "node", "send", *FIELDS.values()):
             getattr(self._calls, f"ak_update_{name}").restype = ctypes.c_uint8
+        for name in _READ:
+            getattr(self._calls, f"ak_field_{name}").restype = ctypes.c_uint8
+        self._calls.ak_rule_name.restype = ctypes.c_uint8
         self._tree = _Tree(None, False)
         self._has(self._calls.ak_tree_open(ctypes.byref(self._tree)))
 
@@ -157,6 +183,8 @@ class Tree:
             raise MemoryError
         if status == CLOSED:
             raise Closed
+        if status == NO_SUCH:
+            raise ValueError("no such value")
         return status == DONE
 
     def feed(self, lines):
@@ -166,8 +194,13 @@ class Tree:
         if status == BAD_LINE:
             raise BadLine(stop.line)
         if status == REFUSED:
-            raise Refused(stop)
+            raise self._refused(stop)
         self._has(status)
+
+    def _refused(self, stop):
+        name, length = (ctypes.c_uint8 * 64)(), ctypes.c_size_t()
+        self._calls.ak_rule_name(ctypes.c_uint32(stop.rule), name, ctypes.c_size_t(64), ctypes.byref(length))
+        return Refused(stop, bytes(name[: length.value]).decode())
 
     def update(self, focus, root=None, tree=None, toolkit=None, version=None):
         """Begins an update of a tree: of the root tree, or of the one with this `uuid.UUID`. One that was begun before is forgotten. The
@@ -271,6 +304,16 @@ class Tree:
     def filtered_children(self, id, filter="common"):
         return self._ids(self._calls.ak_node_filtered_children, id, _number(FILTERS, filter))
 
+    def field(self, id, name):
+        """What the node has in a field, one of FIELDS, as its last update set it, in the form in which `Update.node` takes it; None if it
+        has nothing there. Beware: of `value` of a password, and of its text runs, that is what is typed into it; `value` and `text` of
+        this class mask it."""
+        kind = "flag" if FIELDS[name] == "bool" else "actions" if FIELDS[name] == "action" else FIELDS[name]
+        call, of, seen = getattr(self._calls, f"ak_field_{kind}"), *_READ[kind]
+        asked = *_node(id), ctypes.c_uint32(list(FIELDS).index(name))
+        found = self._list(call, of, *asked) if kind in _LISTS else self._one(call, of(), *asked)
+        return None if found is None else seen(name, found)
+
     def _position(self, call, id, *asked):
         found = self._one(call, _Position(), *_node(id), *asked)
         return None if found is None else Position(*(getattr(found, name) for name in Position._fields))
@@ -314,8 +357,7 @@ class Update:
         status = getattr(self._tree._calls, f"ak_update_{name}")(ctypes.byref(self._tree._tree), *said)
         if status == OUT_OF_PLACE:
             raise ValueError("out of place")
-        if not self._tree._has(status):
-            raise ValueError("no such value")
+        self._tree._has(status)
 
     def node(self, id, role, **fields):
         """A node, with fields by their names in a script: `node(1, "Button", label="Send", bounds=(0, 0, 64, 64), disabled=True)`. A role
@@ -347,7 +389,7 @@ class Update:
         if status == OUT_OF_PLACE:
             raise ValueError("out of place")
         if status == REFUSED:
-            raise Refused(stop)
+            raise self._tree._refused(stop)
         self._tree._has(status)
 
 
@@ -386,6 +428,28 @@ _VALUES = {
     "color": lambda value: _each(ctypes.c_uint8, value),
     "decoration": lambda value: [_number(CHOICES["style"], value[0]), *_each(ctypes.c_uint8, value[1:])],
     "selection": lambda value: [_fits(of, it) for of, it in zip((ctypes.c_uint64, ctypes.c_size_t) * 2, value)],
+}
+
+
+# What the calls that read fields write, and what is made of it.
+_LISTS = ("text", "ids", "numbers", "units", "actions", "tree")
+_READ = {
+    "text": (ctypes.c_uint8, lambda name, found: bytes(found).decode()),
+    "ids": (ctypes.c_uint64, lambda name, found: list(found)),
+    "id": (ctypes.c_uint64, lambda name, found: found.value),
+    "flag": (ctypes.c_bool, lambda name, found: found.value),
+    "choice": (ctypes.c_uint32, lambda name, found: CHOICES[name][found.value]),
+    "number": (ctypes.c_int64, lambda name, found: found.value),
+    "count": (ctypes.c_size_t, lambda name, found: found.value),
+    "numbers": (ctypes.c_uint16, lambda name, found: list(found)),
+    "units": (ctypes.c_int32, lambda name, found: list(found)),
+    "actions": (ctypes.c_uint32, lambda name, found: [ACTIONS[it] if it < OTHER_ACTIONS else it - OTHER_ACTIONS for it in found]),
+    "tree": (ctypes.c_uint8, lambda name, found: UUID(bytes=bytes(found))),
+    "rect": (_Rect, lambda name, found: (found.x0, found.y0, found.x1, found.y1)),
+    "translation": (_Translation, lambda name, found: (found.x, found.y)),
+    "selection": (_Selection, lambda name, found: (found.anchor, found.anchor_character, found.focus, found.focus_character)),
+    "color": (_Color, lambda name, found: (found.red, found.green, found.blue, found.alpha)),
+    "decoration": (_Decoration, lambda name, it: (CHOICES["style"][it.style], it.color.red, it.color.green, it.color.blue, it.color.alpha)),
 }
 
 

@@ -5,6 +5,7 @@
 //! library's.
 use std::marker::PhantomData;
 
+mod fields;
 mod updates;
 pub use updates::*;
 
@@ -37,6 +38,7 @@ mod raw {
         pub line: u64,
         pub done: u64,
         pub node: u64,
+        pub tree_id: [u8; 16],
         pub rule: u8,
     }
     #[repr(C)]
@@ -56,6 +58,42 @@ mod raw {
         pub utf16_index: usize,
         pub line: usize,
         pub is_end: bool,
+    }
+    #[repr(C)]
+    #[derive(Clone, Copy, Debug, Default, PartialEq, Eq)]
+    pub struct Rect {
+        pub x0: i32,
+        pub y0: i32,
+        pub x1: i32,
+        pub y1: i32,
+    }
+    #[repr(C)]
+    #[derive(Clone, Copy, Debug, Default, PartialEq, Eq)]
+    pub struct Translation {
+        pub x: i32,
+        pub y: i32,
+    }
+    #[repr(C)]
+    #[derive(Default)]
+    pub struct Selection {
+        pub anchor: u64,
+        pub anchor_character: usize,
+        pub focus: u64,
+        pub focus_character: usize,
+    }
+    #[repr(C)]
+    #[derive(Clone, Copy, Debug, Default, PartialEq, Eq)]
+    pub struct Color {
+        pub red: u8,
+        pub green: u8,
+        pub blue: u8,
+        pub alpha: u8,
+    }
+    #[repr(C)]
+    #[derive(Default)]
+    pub struct Decoration {
+        pub style: u32,
+        pub color: Color,
     }
     extern "C" {
         pub fn ak_tree_open(tree: &mut Tree) -> u8;
@@ -106,9 +144,35 @@ mod raw {
         pub fn ak_text_move(tree: &mut Tree, node: u64, tree_index: u32, index: usize, is_end: bool, movement: u32, position: &mut Position) -> u8;
         pub fn ak_text_selection_anchor(tree: &mut Tree, node: u64, tree_index: u32, anchor: &mut Position) -> u8;
         pub fn ak_text_selection_focus(tree: &mut Tree, node: u64, tree_index: u32, focus: &mut Position) -> u8;
+        pub fn ak_rule_name(rule: u32, buffer: *mut u8, room: usize, length: &mut usize) -> u8;
+        pub fn ak_field_text(tree: &mut Tree, node: u64, tree_index: u32, field: u32, buffer: *mut u8, room: usize, length: &mut usize) -> u8;
+        pub fn ak_field_ids(tree: &mut Tree, node: u64, tree_index: u32, field: u32, buffer: *mut u64, room: usize, count: &mut usize) -> u8;
+        pub fn ak_field_numbers(tree: &mut Tree, node: u64, tree_index: u32, field: u32, buffer: *mut u16, room: usize, count: &mut usize) -> u8;
+        pub fn ak_field_units(tree: &mut Tree, node: u64, tree_index: u32, field: u32, buffer: *mut i32, room: usize, count: &mut usize) -> u8;
+        pub fn ak_field_actions(tree: &mut Tree, node: u64, tree_index: u32, field: u32, buffer: *mut u32, room: usize, count: &mut usize) -> u8;
+        pub fn ak_field_tree(tree: &mut Tree, node: u64, tree_index: u32, field: u32, buffer: *mut u8, room: usize, length: &mut usize) -> u8;
+        pub fn ak_field_id(tree: &mut Tree, node: u64, tree_index: u32, field: u32, id: &mut u64) -> u8;
+        pub fn ak_field_flag(tree: &mut Tree, node: u64, tree_index: u32, field: u32, is_set: &mut bool) -> u8;
+        pub fn ak_field_choice(tree: &mut Tree, node: u64, tree_index: u32, field: u32, choice: &mut u32) -> u8;
+        pub fn ak_field_number(tree: &mut Tree, node: u64, tree_index: u32, field: u32, number: &mut i64) -> u8;
+        pub fn ak_field_count(tree: &mut Tree, node: u64, tree_index: u32, field: u32, count: &mut usize) -> u8;
+        pub fn ak_field_rect(tree: &mut Tree, node: u64, tree_index: u32, field: u32, rect: &mut Rect) -> u8;
+        pub fn ak_field_translation(tree: &mut Tree, node: u64, tree_index: u32, field: u32, translation: &mut Translation) -> u8;
+        pub fn ak_field_selection(tree: &mut Tree, node: u64, tree_index: u32, field: u32, selection: &mut Selection) -> u8;
+        pub fn ak_field_color(tree: &mut Tree, node: u64, tree_index: u32, field: u32, color: &mut Color) -> u8;
+        pub fn ak_field_decoration(tree: &mut Tree, node: u64, tree_index: u32, field: u32, decoration: &mut Decoration) -> u8;
         pub fn ak_text_between(tree: &mut Tree, node: u64, tree_index: u32, from: usize, to: usize, buffer: *mut u8, room: usize, length: &mut usize) -> u8;
     }
 }
+
+/// A rectangle as it was sent, in units of 1/64 pixel.
+pub use raw::Rect;
+
+/// By how much a node and its subtree are shifted, in units of 1/64 pixel.
+pub use raw::Translation;
+
+/// A colour, each part from 0 to 255; `alpha` is the opacity.
+pub use raw::Color;
 
 /// A rectangle, in units of 1/64 pixel. An edge beyond 64 bits is the nearest number within them.
 pub use raw::Bounds;
@@ -215,8 +279,9 @@ pub enum Error {
     NoMemory { done: u64 },
     /// The line with this number, counted from 1, is bad. Nothing was carried out.
     BadLine(u64),
-    /// An update was refused, after so many commands: it breaks the rule with this number, at this node.
-    Refused { done: u64, rule: u8, node: u64 },
+    /// An update was refused, after so many commands: it breaks the rule with this number, which [`rule_name`] names. `node` is the node
+    /// or `tree_id` the UUID of the tree that the rule is about, as far as it is about one; else zeros.
+    Refused { done: u64, rule: u8, node: u64, tree_id: [u8; 16] },
     /// Of an update that is built: the field has no such value. Nothing has changed.
     NoSuch,
     /// A field was said before a node was begun, or a toolkit before the root. Nothing has changed.
@@ -248,7 +313,7 @@ impl Tree {
         match unsafe { raw::ak_tree_feed(&mut self.raw, lines.as_ptr(), lines.len(), &mut stop) } {
             DONE => Ok(()),
             BAD_LINE => Err(Error::BadLine(stop.line)),
-            REFUSED => Err(Error::Refused { done: stop.done, rule: stop.rule, node: stop.node }),
+            REFUSED => Err(stop.refused()),
             _ => Err(Error::NoMemory { done: stop.done }),
         }
     }
@@ -418,13 +483,28 @@ impl Tree {
     }
 }
 
+impl raw::Stop {
+    /// The refusal that it tells.
+    pub(crate) fn refused(&self) -> Error {
+        Error::Refused { done: self.done, rule: self.rule, node: self.node, tree_id: self.tree_id }
+    }
+}
+
+/// The name of the rule with this number, as `MissingData`, if there is one.
+pub fn rule_name(rule: u8) -> Option<String> {
+    let (mut name, mut length) = ([0; 64], 0);
+    // SAFETY: the declaration is that of the library, and the pointer goes with its length.
+    let is_rule = unsafe { raw::ak_rule_name(u32::from(rule), name.as_mut_ptr(), name.len(), &mut length) } == DONE;
+    is_rule.then(|| String::from_utf8_lossy(&name[..length]).into_owned())
+}
+
 type TextCall = unsafe extern "C" fn(&mut raw::Tree, u64, u32, *mut u8, usize, &mut usize) -> u8;
 
 const DONE: u8 = 0;
 const NO_MEMORY: u8 = 1;
-const NOTHING: u8 = 3;
 const BAD_LINE: u8 = 4;
 const REFUSED: u8 = 5;
+const NO_SUCH: u8 = 8;
 
 impl Drop for Tree {
     fn drop(&mut self) {

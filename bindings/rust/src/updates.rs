@@ -1,5 +1,5 @@
 //! Updates that are built call by call, without lines: what they say, by types, and [`Update`], which says it.
-use crate::{raw, Error, Tree, DONE, NOTHING, NO_MEMORY, REFUSED};
+use crate::{raw, Color, Error, Tree, DONE, NO_MEMORY, NO_SUCH, REFUSED};
 
 /// The name of a tree, in an update.
 #[derive(Clone, Copy, Debug, PartialEq, Eq)]
@@ -187,7 +187,7 @@ impl Role {
 
 /// What a node can be asked to do.
 #[derive(Clone, Copy, Debug, PartialEq, Eq)]
-pub struct Action(u32);
+pub struct Action(pub(crate) u32);
 
 impl Action {
     pub const CLICK: Action = Action(0);
@@ -199,15 +199,6 @@ impl Action {
     pub const fn other(number: u8) -> Action {
         Action(256 + number as u32)
     }
-}
-
-/// A colour, each part from 0 to 255; `alpha` is the opacity.
-#[derive(Clone, Copy, Debug, PartialEq, Eq)]
-pub struct Color {
-    pub red: u8,
-    pub green: u8,
-    pub blue: u8,
-    pub alpha: u8,
 }
 
 /// How a line above, through or below text is drawn.
@@ -299,23 +290,38 @@ pub enum VerticalOffset {
 }
 
 /// A value of a field that has few: its type names the field.
-pub trait Choice {
+pub trait Choice: Sized {
     const FIELD: Field;
     fn number(self) -> u32;
+    /// The value with this number.
+    fn numbered(number: u32) -> Option<Self>;
 }
 
 macro_rules! choices {
-    ($($name:ident)*) => {
+    ($($name:ident { $($value:ident)* })*) => {
         $(impl Choice for $name {
             const FIELD: Field = Field::$name;
             fn number(self) -> u32 {
                 self as u32
             }
+            fn numbered(number: u32) -> Option<Self> {
+                [$($name::$value),*].get(number as usize).copied()
+            }
         })*
     };
 }
 
-choices! { Toggled Live Orientation SortDirection AriaCurrent HasPopup TextDirection TextAlign VerticalOffset }
+choices! {
+    Toggled { True False Mixed }
+    Live { Off Polite Assertive }
+    Orientation { Horizontal Vertical }
+    SortDirection { Ascending Descending Other }
+    AriaCurrent { False True Page Step Location Date Time }
+    HasPopup { Menu Listbox Tree Grid Dialog }
+    TextDirection { LeftToRight RightToLeft TopToBottom BottomToTop }
+    TextAlign { Left Right Center Justify }
+    VerticalOffset { Subscript Superscript }
+}
 
 /// A place in a text run: the run's id, and how many of its characters are before it.
 #[derive(Clone, Copy, Debug, PartialEq, Eq)]
@@ -343,7 +349,7 @@ impl Tree {
         let mut stop = raw::Stop::default();
         match unsafe { raw::ak_update_send(&mut self.raw, &mut stop) } {
             DONE => Ok(()),
-            REFUSED => Err(Error::Refused { done: stop.done, rule: stop.rule, node: stop.node }),
+            REFUSED => Err(stop.refused()),
             NO_MEMORY => Err(Error::NoMemory { done: stop.done }),
             _ => Err(Error::OutOfPlace),
         }
@@ -362,7 +368,7 @@ impl Tree {
 fn said(status: u8) -> Result<(), Error> {
     match status {
         DONE => Ok(()),
-        NOTHING => Err(Error::NoSuch),
+        NO_SUCH => Err(Error::NoSuch),
         NO_MEMORY => Err(Error::NoMemory { done: 0 }),
         _ => Err(Error::OutOfPlace),
     }

@@ -96,12 +96,19 @@ fn numbered_fields() -> &'static [(u32, Field)]
     &NUMBERED_FIELDS
 }
 
+/// What has this number in a table.
+fn at_number<T: Copy>(table: &[T], number: u32) -> Option<T>
+    ensures { result ≡ slice_get table.now number }
+{
+    table.get(number as usize).copied()
+}
+
 /// The field with this number.
 pub fn field_numbered(number: u32) -> Option<Field>
     ensures { result ≡ slice_get numbered_fields number }
 {
-    match numbered_fields().get(number as usize) {
-        Some((_, field)) => Some(*field),
+    match at_number(numbered_fields(), number) {
+        Some((_, field)) => Some(field),
         None => None,
     }
 }
