@@ -139,7 +139,7 @@ class Refused(ValueError):
 
     def __init__(self, stop, name):
         self.done, self.rule, self.name, self.node, self.tree = stop.done, stop.rule, name, stop.node, UUID(bytes=bytes(stop.tree_id))
-        super().__init__(f"{name}, tree {self.tree}" if self.tree.int else f"{name}, node {self.node}")
+        super().__init__(f"rule {stop.rule}, node {stop.node}")
 
 
 class Tree:

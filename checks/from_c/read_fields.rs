@@ -74,7 +74,8 @@ fn value(tree: &mut Tree, id: Id, field: Field) -> Result<Option<String>, Error>
         _ if fields::COUNTS.contains(&field) => tree.field_count(id, field).map(|it| it.to_string()),
         _ if fields::BOOLS.contains(&field) => tree.field_flag(id, field).map(|it| it.to_string()),
         _ if fields::COLORS.contains(&field) => tree.field_color(id, field).map(|it| format!("{},{},{},{}", it.red, it.green, it.blue, it.alpha)),
-        _ => tree.field_decoration(id, field).map(style),
+        _ if fields::DECORATIONS.contains(&field) => tree.field_decoration(id, field).map(style),
+        _ => None,
     })
 }
 

@@ -1,5 +1,5 @@
 -- What C learns where a tree is opened, and of lines that were fed.
-use Rattle.std.specs.Prelude.{◌≡◌, ◌⊎◌, ℕ, zero, suc, List, [], ◌∷◌, codes, false, slice_get, Option, Some, None, Result, Ok, Err}
+use Rattle.std.specs.Prelude.{◌≡◌, ◌⊎◌, ◌==◌, ◌-◌, ℕ, List, [], ◌∷◌, codes, false, slice_get, Option, Some, None, Result, Ok, Err, if◌then◌else◌}
 use Rattle.schema.specs.TreeIds.{root_tree_id}
 use Rattle.fed_tree.specs.Fed.{Fed}
 use Rattle.fed_tree.specs.Feeding.{Feeds}
@@ -93,8 +93,7 @@ rule_names =
 
 -- the name of the rule with this number, counted from 1
 abbrev pub rule_name : ℕ → Option (List ℕ)
-rule_name zero = None
-rule_name (suc before) = slice_get rule_names before
+rule_name number = if number == 0 then None else slice_get rule_names (number - 1)
 
 abbrev pub status_of : Result Unit FeedError → ℕ
 status_of (Ok done) = DONE

@@ -93,7 +93,7 @@ fn moves() -> &'static [Move]
 }
 
 /// What has this number in a table.
-fn numbered<T: Copy>(table: &[T], number: u32) -> Option<T>
+pub(crate) fn numbered<T: Copy>(table: &[T], number: u32) -> Option<T>
     ensures { result ≡ slice_get table.now number }
 {
     table.get(number as usize).copied()

@@ -1,9 +1,10 @@
 //! The export that names the rules that refused updates break.
-ghost use Rattle.std.specs.Prelude.{◌≡◌, map, option_copied};
+ghost use Rattle.std.specs.Prelude.{◌≡◌, map, option_copied, slice_get};
 ghost use Rattle.fed_tree_c.specs.Answers.{GivesList, NO_SUCH};
 ghost use Rattle.fed_tree_c.specs.Stops.{rule_name, rule_names};
 
 use crate::buffers::fill;
+use crate::numbers::numbered;
 use crate::records::{DONE, NO_SUCH};
 
 /// The names of the rules, in the order of their numbers.
@@ -31,6 +32,14 @@ fn rule_names() -> &'static [&'static str]
     &RULES
 }
 
+/// The name at this place in the list.
+#[tactic(auto, using(crate::proofs::Rules::name_at_place))]
+fn name_at(place: u32) -> Option<&'static str>
+    ensures { option_copied result ≡ slice_get rule_names place }
+{
+    numbered(rule_names(), place)
+}
+
 /// The name of the rule with this number, counted from 1.
 fn rule_name(number: u32) -> Option<&'static str>
     ensures { option_copied result ≡ rule_name number }
@@ -38,7 +47,7 @@ fn rule_name(number: u32) -> Option<&'static str>
     if number == 0 {
         return None;
     }
-    rule_names().get(number as usize - 1).copied()
+    name_at(number - 1)
 }
 
 /// The name of the rule with this number, as far as there is room for it, and its length.
