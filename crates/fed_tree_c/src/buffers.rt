@@ -3,7 +3,7 @@ ghost use Rattle.std.specs.Prelude.{◌≡◌, ◌⊎◌, IfOk, MatchResult, opt
 ghost use Rattle.fed_tree_c.specs.Answers.{GivesList, IsNoMemory, filled, lack_where};
 ghost use Rattle.fed_tree_c.specs.Records.{id_of};
 
-use crate::asked::lack_where;
+use crate::found::lack_where;
 use crate::records::{AkId, DONE, NO_MEMORY, id_of};
 use fed_tree::FedTree;
 use model::FullNodeId;

@@ -3,7 +3,6 @@ ghost use Rattle.std.specs.Prelude.{◌≡◌, is_some};
 ghost use Rattle.fed_tree_c.specs.Fields.{AnswersField, choice_of, color_of, count_of, decoration_of, field_in, flag_of, id_of_field, number_of, reads_by, rect_of, selection_of, translation_of};
 ghost use Rattle.fed_tree_c.specs.Records.{node_id};
 
-use crate::asked::give_at;
 use crate::choice_numbers::{
     aria_current_number, has_popup_number, live_number, orientation_number, sort_direction_number,
     text_align_number, text_direction_number, toggled_number, vertical_offset_number,
@@ -12,6 +11,7 @@ use crate::field_records::{
     AkColor, AkDecoration, AkRect, AkSelection, AkTranslation, color_seen, decoration_seen,
     rect_seen, selection_seen, translation_seen,
 };
+use crate::found::give_at;
 use crate::handle::Handle;
 use crate::records::{CLOSED, node_id};
 use fed_tree::FedTree;

@@ -1,7 +1,6 @@
 //! Exports for C, as `accesskit_proved.h` declares them: a `FedTree` behind a handle that C holds by value.
 #![tactic(auto)]
 
-mod asked;
 mod block;
 mod buffers;
 mod choice_numbers;
@@ -10,6 +9,7 @@ mod feed;
 mod field_lists;
 mod field_records;
 mod fields;
+mod found;
 mod handle;
 mod node_texts;
 mod nodes;

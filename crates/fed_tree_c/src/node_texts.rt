@@ -6,8 +6,8 @@ ghost use Rattle.fed_tree_c.specs.Numbers.{all_moves};
 ghost use Rattle.fed_tree_c.specs.Questions.{position_after, position_in, selection_anchor_in, selection_focus_in, text_between_in};
 ghost use Rattle.fed_tree_c.specs.Records.{node_id, position_of};
 
-use crate::asked::give_at;
 use crate::buffers::give_text_at;
+use crate::found::give_at;
 use crate::handle::Handle;
 use crate::numbers::{at_index, move_numbered};
 use crate::records::{AkPosition, CLOSED, node_id};

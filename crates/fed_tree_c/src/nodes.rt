@@ -4,8 +4,8 @@ ghost use Rattle.fed_tree_c.specs.Answers.{Answers, AnswersList, lack_at};
 ghost use Rattle.fed_tree_c.specs.Questions.{children_in, label_in, parent_in, role_in, text_in, value_in};
 ghost use Rattle.fed_tree_c.specs.Records.{node_id};
 
-use crate::asked::give_id_at;
 use crate::buffers::{give_ids_at, give_text_at};
+use crate::found::give_id_at;
 use crate::handle::Handle;
 use crate::records::{AkId, CLOSED, node_id};
 use std::alloc::Global;

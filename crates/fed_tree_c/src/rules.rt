@@ -33,7 +33,7 @@ fn rule_names() -> &'static [&'static str]
 }
 
 /// The name at this place in the list.
-#[tactic(auto, using(crate::proofs::Rules::name_at_place))]
+#[tactic(auto, using(crate::proofs::RuleNames::name_at_place))]
 fn name_at(place: u32) -> Option<&'static str>
     ensures { option_copied result ≡ slice_get rule_names place }
 {

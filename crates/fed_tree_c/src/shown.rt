@@ -9,8 +9,8 @@ ghost use Rattle.fed_tree_c.specs.Numbers.{all_filters, all_flags};
 ghost use Rattle.fed_tree_c.specs.Questions.{answer_in, bounds_in, filtered_children_in, filtered_parent_in, flag_in, hit_in, role_number_in};
 ghost use Rattle.fed_tree_c.specs.Records.{bounds_of, id_of, node_id};
 
-use crate::asked::give_at;
 use crate::buffers::give_ids_at;
+use crate::found::give_at;
 use crate::handle::Handle;
 use crate::numbers::{answer_number, filter_numbered, flag_numbered, role_code};
 use crate::records::{AkBounds, AkId, CLOSED, id_of, node_id};
