@@ -48,7 +48,8 @@ static unsigned long called(ak_tree *tree, int work, uint64_t node, uint64_t tur
     ak_bounds bounds;
     ak_position position;
     bool is_set = false;
-    uint8_t text[64], answer = 9;
+    ak_filter_result answer = AK_EXCLUDE_NODE;
+    uint8_t text[64];
     size_t count = 0;
     switch (work) {
     case COUNT: return ak_tree_event_count(tree, &count) == AK_DONE;
