@@ -5,7 +5,7 @@
 
 import sys
 
-from accesskit_proved import BadLine, Refused, Tree
+from accesskit_proved import BadLine, Id, Refused, Tree
 
 FIRST = """host on
 update root focus=2 root=1
@@ -18,7 +18,7 @@ SECOND = 'update root focus=3\nnode 1 Window label="Mail" children=3\nend\n'
 BAD = "update root focus=3\nnode 1 Window children=3,4\nend\n"
 
 
-def print_node(tree, id):
+def print_node(tree: Tree, id: Id) -> None:
     print(f"{id.tree}:{id.node} {tree.role(id)} {tree.label(id) or ''}")
 
 
@@ -35,9 +35,10 @@ with Tree(sys.argv[1]) as tree:
     tree.feed(SECOND)
     for event in tree.events():
         print(event.kind, event.old.node if event.old else 0, event.new.node if event.new else 0)
-    root = tree.root()
-    print_node(tree, root)
-    for child in tree.children(root):
-        print_node(tree, child)
-    focus = tree.focus()
-    print(f"focus {focus.tree}:{focus.node}")
+    root, focus = tree.root(), tree.focus()
+    if root:
+        print_node(tree, root)
+        for child in tree.children(root) or ():
+            print_node(tree, child)
+    if focus:
+        print(f"focus {focus.tree}:{focus.node}")

@@ -1,0 +1,62 @@
+"""The proved accessibility tree in a Python process, by the shared library that `./build --library` leaves in lib/.
+
+A `Tree` is fed with the lines of a script (docs/SCRIPT.md), or sent updates that are built call by call, and read by the ids of its nodes.
+It needs nothing beyond the standard library. docs/FROM_C.md says what is proved of the library; these declarations of its calls are not.
+"""
+
+from ._checks import Id
+from ._errors import (
+    BadLine,
+    Closed,
+    Error,
+    EventsLost,
+    FocusMissing,
+    FocusOnEmptyGraft,
+    GraftedTwice,
+    GraftWithChildren,
+    IndexesUsedUp,
+    ListedTwice,
+    MissingData,
+    MissingTreeInfo,
+    NamedTwice,
+    NoFirstTreeInfo,
+    NoGraft,
+    NoMemory,
+    NoNode,
+    NotReached,
+    NotRootTree,
+    Refused,
+    RootTreeGrafted,
+)
+from ._fields import Bounds, Color, Decoration, Selection, Translation
+from ._names import (
+    FIELDS,
+    Action,
+    AriaCurrent,
+    EventKind,
+    Filter,
+    FilterResult,
+    Flag,
+    HasPopup,
+    Live,
+    Move,
+    Orientation,
+    Role,
+    SortDirection,
+    Style,
+    TextAlign,
+    TextDirection,
+    Toggled,
+    VerticalOffset,
+)
+from ._texts import Position
+from ._tree import Event, Tree
+from ._update import Update
+
+__all__ = [
+    "Action", "AriaCurrent", "BadLine", "Bounds", "Closed", "Color", "Decoration", "Error", "Event", "EventKind", "EventsLost", "FIELDS",
+    "Filter", "FilterResult", "Flag", "FocusMissing", "FocusOnEmptyGraft", "GraftWithChildren", "GraftedTwice", "HasPopup", "Id",
+    "IndexesUsedUp", "ListedTwice", "Live", "MissingData", "MissingTreeInfo", "Move", "NamedTwice", "NoFirstTreeInfo", "NoGraft",
+    "NoMemory", "NoNode", "NotReached", "NotRootTree", "Orientation", "Position", "Refused", "Role", "RootTreeGrafted", "Selection",
+    "SortDirection", "Style", "TextAlign", "TextDirection", "Toggled", "Translation", "Tree", "Update", "VerticalOffset",
+]

@@ -1,0 +1,159 @@
+//! A tree, which is fed and read.
+use crate::errors::{Error, DONE};
+use crate::raw;
+use std::fmt;
+use std::marker::PhantomData;
+
+/// A node's id in its tree, and the index of that tree: 0 is the root tree.
+#[derive(Clone, Copy, Debug, PartialEq, Eq, PartialOrd, Ord, Hash)]
+pub struct Id {
+    pub node: u64,
+    pub tree: u32,
+}
+
+/// A change.
+#[derive(Clone, Copy, Debug, PartialEq, Eq, Hash)]
+pub enum Event {
+    Added(Id),
+    Updated(Id),
+    Removed(Id),
+    FocusMoved { old: Option<Id>, new: Option<Id> },
+}
+
+/// A tree, which has nothing until it is fed. It is neither `Send` nor `Sync`, and what reads it takes `&mut self`, as the library does.
+pub struct Tree {
+    // (boxed, since the library's handle is to stay where it is)
+    pub(crate) raw: Box<raw::Tree>,
+    _stays: PhantomData<*mut u8>,
+}
+
+impl fmt::Debug for Tree {
+    fn fmt(&self, f: &mut fmt::Formatter<'_>) -> fmt::Result {
+        f.debug_struct("Tree").finish_non_exhaustive()
+    }
+}
+
+impl Tree {
+    /// A tree without nodes. It fails only if memory runs out.
+    pub fn new() -> Result<Tree, Error> {
+        let mut raw = Box::new(raw::Tree { at: std::ptr::null_mut(), is_there: false });
+        // SAFETY (of each call below): the declarations are those of the library, references are valid and apart, a pointer goes with
+        // the length of what it points to, and the handle began closed and is changed by the library alone.
+        if unsafe { raw::ak_tree_open(&mut raw) } == DONE {
+            Ok(Tree { raw, _stays: PhantomData })
+        } else {
+            Err(Error::NoMemory { done: 0 })
+        }
+    }
+
+    /// Carries out whole commands.
+    pub fn feed(&mut self, lines: &str) -> Result<(), Error> {
+        let mut stop = raw::Stop::default();
+        let status = unsafe { raw::ak_tree_feed(&mut self.raw, lines.as_ptr(), lines.len(), &mut stop) };
+        Error::check(status, &stop)
+    }
+
+    /// Says whether the host window has the focus.
+    pub fn set_host_focus(&mut self, is_focused: bool) -> Result<(), Error> {
+        match unsafe { raw::ak_tree_host_focus(&mut self.raw, is_focused) } {
+            DONE => Ok(()),
+            _ => Err(Error::EventsLost),
+        }
+    }
+
+    /// What the last lines, the last update or the last change of the host's focus has changed, in order.
+    pub fn events(&mut self) -> Result<Vec<Event>, Error> {
+        let count = self.one(|tree, count| unsafe { raw::ak_tree_event_count(tree, count) })?.unwrap_or_default();
+        let mut events = Vec::new();
+        events.try_reserve_exact(count).map_err(|_| Error::NoMemory { done: 0 })?;
+        for index in 0..count {
+            let event = self.one(|tree, event| unsafe { raw::ak_tree_event(tree, index, event) })?;
+            events.extend(event.and_then(Event::of));
+        }
+        Ok(events)
+    }
+
+    /// The root tree's root.
+    pub fn root(&mut self) -> Result<Option<Id>, Error> {
+        self.id(|tree, id| unsafe { raw::ak_tree_root(tree, id) })
+    }
+
+    /// What has the focus, while the host has it.
+    pub fn focus(&mut self) -> Result<Option<Id>, Error> {
+        self.id(|tree, id| unsafe { raw::ak_tree_focus(tree, id) })
+    }
+
+    /// One value, if there is one.
+    pub(crate) fn one<T: Default>(&mut self, call: impl FnOnce(&mut raw::Tree, &mut T) -> u8) -> Result<Option<T>, Error> {
+        let mut found = T::default();
+        Ok(Error::is_there(call(&mut self.raw, &mut found))?.then_some(found))
+    }
+
+    /// One value, which each node has.
+    pub(crate) fn each<T: Default>(&mut self, call: impl FnOnce(&mut raw::Tree, &mut T) -> u8) -> Result<T, Error> {
+        self.one(call)?.ok_or(Error::NoNode)
+    }
+
+    pub(crate) fn id(&mut self, call: impl FnOnce(&mut raw::Tree, &mut raw::Id) -> u8) -> Result<Option<Id>, Error> {
+        Ok(self.one(call)?.map(Id::from))
+    }
+
+    /// A list of any length, if there is one: asked for again with room for all of it where there wasn't enough.
+    pub(crate) fn list<T: Clone + Default>(&mut self, call: impl Fn(&mut raw::Tree, &mut [T], &mut usize) -> u8) -> Result<Option<Vec<T>>, Error> {
+        let (mut buffer, mut length) = (Vec::new(), 64);
+        while length > buffer.len() {
+            buffer.try_reserve_exact(length - buffer.len()).map_err(|_| Error::NoMemory { done: 0 })?;
+            buffer.resize(length, T::default());
+            if !Error::is_there(call(&mut self.raw, &mut buffer, &mut length))? {
+                return Ok(None);
+            }
+        }
+        buffer.truncate(length);
+        Ok(Some(buffer))
+    }
+
+    /// A list, which each node has.
+    pub(crate) fn all<T: Clone + Default>(&mut self, call: impl Fn(&mut raw::Tree, &mut [T], &mut usize) -> u8) -> Result<Vec<T>, Error> {
+        self.list(call)?.ok_or(Error::NoNode)
+    }
+
+    pub(crate) fn ids(&mut self, call: impl Fn(&mut raw::Tree, &mut [raw::Id], &mut usize) -> u8) -> Result<Vec<Id>, Error> {
+        Ok(self.all(call)?.into_iter().map(Id::from).collect())
+    }
+
+    pub(crate) fn text_in(&mut self, call: impl Fn(&mut raw::Tree, &mut [u8], &mut usize) -> u8) -> Result<Option<String>, Error> {
+        let bytes = self.list(call)?;
+        Ok(bytes.and_then(|bytes| String::from_utf8(bytes).ok()))
+    }
+
+    pub(crate) fn text_by(&mut self, call: TextCall, of: Id) -> Result<Option<String>, Error> {
+        self.text_in(|tree, buffer, length| unsafe { call(tree, of.node, of.tree, buffer.as_mut_ptr(), buffer.len(), length) })
+    }
+}
+
+pub(crate) type TextCall = unsafe extern "C" fn(&mut raw::Tree, u64, u32, *mut u8, usize, &mut usize) -> u8;
+
+impl From<raw::Id> for Id {
+    fn from(id: raw::Id) -> Id {
+        Id { node: id.node, tree: id.tree }
+    }
+}
+
+impl Event {
+    fn of(event: raw::Event) -> Option<Event> {
+        let old = event.has_old.then_some(Id { node: event.old_node, tree: event.old_tree });
+        let new = event.has_new.then_some(Id { node: event.new_node, tree: event.new_tree });
+        match event.kind {
+            0 => new.map(Event::Added),
+            1 => new.map(Event::Updated),
+            2 => old.map(Event::Removed),
+            _ => Some(Event::FocusMoved { old, new }),
+        }
+    }
+}
+
+impl Drop for Tree {
+    fn drop(&mut self) {
+        unsafe { raw::ak_tree_close(&mut self.raw) }
+    }
+}
