@@ -53,14 +53,13 @@ fn node_named(why: UpdateError) -> u64
 fn tree_named(why: UpdateError) -> [u8; 16]
     ensures { result ≡ tree_named why }
 {
-    let tree = match why {
+    match why {
         UpdateError::GraftedTwice(tree)
         | UpdateError::NoGraft(tree)
         | UpdateError::NoFirstTreeInfo(tree)
-        | UpdateError::FocusOnEmptyGraft(tree) => tree,
-        _ => TreeId::root(),
-    };
-    tree.0.into_bytes()
+        | UpdateError::FocusOnEmptyGraft(tree) => tree.0.into_bytes(),
+        _ => TreeId::root().0.into_bytes(),
+    }
 }
 
 /// The number of the answer to lines that were fed.
