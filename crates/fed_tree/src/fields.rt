@@ -9,6 +9,7 @@ use schema::Node;
 impl FedTree {
     /// The node's data, as the last update of it set it; `None` if the tree doesn't have the node. Of a password these are the texts that
     /// were sent.
+    #[tactic(auto, using(crate::proofs::Found::data_found))]
     pub fn data(&self, id: FullNodeId) -> Option<&Node>
         ensures { option_map (λ node. node.now) result ≡ data_in self.now.world id }
     {
