@@ -5,22 +5,29 @@
 #include <stdlib.h>
 #include <string.h>
 
+/* What the buttons have where fields are read: one of each kind but the tree, of which each has to be another. */
+static const char fields[] = " active=2 controls=2,3 move=1,2 selection=2:0,2:0 chars=1,1 character_widths=1,2 toggled=true number=5 level=2"
+                             " foreground_color=1,2,3,4 underline=wavy,1,2,3,4 actions=Click,Focus";
+
 /* A window of buttons, one below another, each of 10 by 1 pixels. */
-static char *first_lines(unsigned long nodes, size_t *length) {
-    char *lines = malloc(120 * (size_t)nodes + 400), *at = lines;
+static char *first_lines(unsigned long nodes, const char *others, size_t *length) {
+    char *lines = malloc((120 + strlen(others)) * (size_t)nodes + 400), *at = lines;
     at += sprintf(at, "host on\nupdate root focus=1 root=1\nnode 1 Window bounds=0,0,640,%lu children=2", 64 * nodes);
     for (unsigned long n = 3; n <= nodes; n++) at += sprintf(at, ",%lu", n);
     at += sprintf(at, "\n");
     for (unsigned long n = 2; n <= nodes; n++)
-        at += sprintf(at, "node %lu Button label=\"Button %lu\" bounds=0,%lu,640,%lu\n", n, n, 64 * (n - 2), 64 * (n - 1));
+        at += sprintf(at, "node %lu Button label=\"Button %lu\" bounds=0,%lu,640,%lu%s\n", n, n, 64 * (n - 2), 64 * (n - 1), others);
     at += sprintf(at, "end\n");
     *length = (size_t)(at - lines);
     return lines;
 }
 
 static const char *const works[] = {"none", "count", "root", "parent", "flag", "label",
-                                    "bounds", "filter", "move", "hit", "relabel", "build"};
-enum { NONE, COUNT, ROOT, PARENT, FLAG, LABEL, BOUNDS, FILTER, MOVE, HIT, RELABEL, BUILD, WORKS };
+                                    "bounds", "filter", "move", "hit", "relabel", "build", "no_node",
+                                    "field_text", "field_ids", "field_id", "field_flag", "field_choice", "field_number", "field_count", "field_numbers",
+                                    "field_units", "field_actions", "field_rect", "field_translation", "field_selection", "field_color", "field_decoration"};
+enum { NONE, COUNT, ROOT, PARENT, FLAG, LABEL, BOUNDS, FILTER, MOVE, HIT, RELABEL, BUILD, NO_NODE, F_TEXT, F_IDS, F_ID, F_FLAG, F_CHOICE, F_NUMBER,
+       F_COUNT, F_NUMBERS, F_UNITS, F_ACTIONS, F_RECT, F_TRANSLATION, F_SELECTION, F_COLOR, F_DECORATION, WORKS };
 
 static unsigned long relabelled(ak_tree *tree, uint64_t turn) {
     static const char *const lines[] = {"update root focus=1\nnode 7 Button label=\"Button 0\" bounds=0,320,640,384\nend\n",
@@ -43,12 +50,47 @@ static unsigned long built(ak_tree *tree, uint64_t turn) {
     return ak_tree_event_count(tree, &count) == AK_DONE ? count : 0;
 }
 
+static bool is_field_read(ak_tree *tree, int work, uint64_t node) {
+    uint8_t text[64];
+    uint64_t ids[8], id;
+    uint16_t numbers[8];
+    int32_t units[8];
+    uint32_t actions[8], choice;
+    int64_t number;
+    size_t count;
+    bool is_set;
+    ak_rect rect;
+    ak_translation by;
+    ak_selection selection;
+    ak_color color;
+    ak_decoration line;
+    switch (work) {
+    case F_TEXT: return ak_field_text(tree, node, 0, AK_FIELD_LABEL, text, sizeof text, &count) == AK_DONE;
+    case F_IDS: return ak_field_ids(tree, node, 0, AK_FIELD_CONTROLS, ids, 8, &count) == AK_DONE;
+    case F_ID: return ak_field_id(tree, node, 0, AK_FIELD_ACTIVE, &id) == AK_DONE;
+    case F_FLAG: return ak_field_flag(tree, node, 0, AK_FIELD_DISABLED, &is_set) == AK_DONE;
+    case F_CHOICE: return ak_field_choice(tree, node, 0, AK_FIELD_TOGGLED, &choice) == AK_DONE;
+    case F_NUMBER: return ak_field_number(tree, node, 0, AK_FIELD_NUMBER, &number) == AK_DONE;
+    case F_COUNT: return ak_field_count(tree, node, 0, AK_FIELD_LEVEL, &count) == AK_DONE;
+    case F_NUMBERS: return ak_field_numbers(tree, node, 0, AK_FIELD_CHARS, numbers, 8, &count) == AK_DONE;
+    case F_UNITS: return ak_field_units(tree, node, 0, AK_FIELD_CHARACTER_WIDTHS, units, 8, &count) == AK_DONE;
+    case F_ACTIONS: return ak_field_actions(tree, node, 0, AK_FIELD_ACTIONS, actions, 8, &count) == AK_DONE;
+    case F_RECT: return ak_field_rect(tree, node, 0, AK_FIELD_BOUNDS, &rect) == AK_DONE;
+    case F_TRANSLATION: return ak_field_translation(tree, node, 0, AK_FIELD_MOVE, &by) == AK_DONE;
+    case F_SELECTION: return ak_field_selection(tree, node, 0, AK_FIELD_SELECTION, &selection) == AK_DONE;
+    case F_COLOR: return ak_field_color(tree, node, 0, AK_FIELD_FOREGROUND_COLOR, &color) == AK_DONE;
+    case F_DECORATION: return ak_field_decoration(tree, node, 0, AK_FIELD_UNDERLINE, &line) == AK_DONE;
+    default: return false;
+    }
+}
+
 static unsigned long called(ak_tree *tree, int work, uint64_t node, uint64_t turn) {
     ak_id id = {0, 0};
     ak_bounds bounds;
     ak_position position;
     bool is_set = false;
-    uint8_t text[64], answer = 9;
+    ak_filter_result answer = AK_EXCLUDE_NODE;
+    uint8_t text[64];
     size_t count = 0;
     switch (work) {
     case COUNT: return ak_tree_event_count(tree, &count) == AK_DONE;
@@ -62,7 +104,8 @@ static unsigned long called(ak_tree *tree, int work, uint64_t node, uint64_t tur
     case HIT: return ak_node_hit(tree, 1, 0, 320, 64 * (int64_t)(node - 2) + 32, AK_COMMON, &id) == AK_DONE && id.node == node;
     case RELABEL: return relabelled(tree, turn);
     case BUILD: return built(tree, turn);
-    default: return 0;
+    case NO_NODE: return ak_node_parent(tree, node + 1000000, 0, &id) == AK_NO_NODE;
+    default: return is_field_read(tree, work, node);
     }
 }
 
@@ -73,7 +116,7 @@ int main(int count, char **words) {
     if (work == WORKS) return 2;
     uint64_t times = strtoul(words[2], NULL, 10), nodes = strtoul(words[3], NULL, 10), sum = 0;
     size_t length;
-    char *lines = first_lines(nodes, &length);
+    char *lines = first_lines(nodes, work > NO_NODE ? fields : "", &length);
     ak_tree tree = AK_TREE_CLOSED;
     ak_stop stop;
     if (ak_tree_open(&tree) != AK_DONE || ak_tree_feed(&tree, (const uint8_t *)lines, length, &stop) != AK_DONE) return 1;

@@ -3,10 +3,11 @@
  * A tree is fed with the lines of a script (docs/SCRIPT.md), or sent updates that are built call by call; it keeps what they changed as
  * events, and is read by the ids of its nodes.
  * A call returns one of the answers below. It writes through its last pointers only if it returns AK_DONE, and AK_NO_MEMORY leaves the
- * tree as it was (ak_tree_feed says how far it went).
+ * tree as it was (ak_tree_feed says how far it went). AK_CLOSED is answered by each call of a closed tree.
  *
  * What a caller owes, and nothing checks:
- *  - An ak_tree begins as AK_TREE_CLOSED. Only these calls change it, and it isn't copied or moved while it is open.
+ *  - An ak_tree begins as AK_TREE_CLOSED, which a closed one may be set to again. Else only these calls change it, and it isn't copied or
+ *    moved while it is open.
  *  - A pointer is valid, aligned and not null, and points to no memory that another pointer of the same call points to.
  *  - `lines`, `text` and `tree_id` have `length` bytes, `ids`, `numbers` and `units` `count` items, and `buffer` has room for `room` items,
  *    all below 2^63 bytes; with 0 of them the pointer may be null.
@@ -31,86 +32,126 @@ extern "C" {
 /* The version of the library in the process, as a number like AK_VERSION: 10203 is 1.2.3. */
 uint32_t ak_version(void);
 
-enum { AK_DONE = 0, AK_NO_MEMORY = 1, AK_CLOSED = 2, AK_NOTHING = 3, AK_BAD_LINE = 4, AK_REFUSED = 5, AK_OUT_OF_PLACE = 6 };
-enum { AK_ADDED = 0, AK_UPDATED = 1, AK_REMOVED = 2, AK_FOCUS_MOVED = 3 };
+/* The numbers stay: programs are built with them, so what is new gets a number that none had before. Where a call takes one of these types,
+ * C takes a name of another with a warning (-Wenum-conversion, which -Wextra has), and C++ doesn't. */
+/* The answers: it is done; memory ran out; the tree is closed; there is no such thing in the tree, or the node has none; a line is bad; an
+ * update is refused; an update isn't begun, or none of its nodes; the tree hasn't the node; a number means nothing, or a text or an id isn't
+ * what it has to be; the events are lost. */
+typedef enum { AK_DONE = 0, AK_NO_MEMORY = 1, AK_CLOSED = 2, AK_NOTHING = 3, AK_BAD_LINE = 4, AK_REFUSED = 5,
+               AK_OUT_OF_PLACE = 6, AK_NO_NODE = 7, AK_NO_SUCH = 8, AK_LOST = 9 } ak_answer;
+/* What an event is. */
+typedef enum { AK_ADDED = 0, AK_UPDATED = 1, AK_REMOVED = 2, AK_FOCUS_MOVED = 3 } ak_kind;
 /* The rules that a refused update breaks; docs/SCRIPT.md explains them. */
-enum { AK_MISSING_TREE_INFO = 1, AK_NOT_ROOT_TREE, AK_MISSING_DATA, AK_NOT_REACHED, AK_NAMED_TWICE, AK_LISTED_TWICE, AK_ROOT_TREE_GRAFTED,
-       AK_GRAFT_WITH_CHILDREN, AK_GRAFTED_TWICE, AK_NO_GRAFT, AK_NO_FIRST_TREE_INFO, AK_FOCUS_MISSING, AK_FOCUS_ON_EMPTY_GRAFT, AK_INDEXES_USED_UP };
-
-/* The flags: each is the library's call of that name, as is_hidden or supports_toggle. From AK_FOCUSABLE on the common filter counts. */
-enum { AK_HIDDEN = 0, AK_DISABLED, AK_BUSY, AK_MODAL, AK_REQUIRED, AK_MULTISELECTABLE, AK_LIVE_ATOMIC, AK_TOUCH_TRANSPARENT, AK_CLIPS_CHILDREN,
-       AK_ITALIC, AK_READ_ONLY, AK_READ_ONLY_SUPPORTED, AK_TEXT_INPUT, AK_MULTILINE, AK_PASSWORD_INPUT, AK_DIALOG, AK_ITEM_LIKE, AK_GRAFT,
-       AK_SELECTABLE, AK_SUPPORTS_TOGGLE, AK_SUPPORTS_EXPAND_COLLAPSE, AK_SUPPORTS_URL, AK_SUPPORTS_TEXT_RANGES, AK_FOCUSABLE, AK_CLICKABLE,
-       AK_SUPPORTS_INCREMENT, AK_SUPPORTS_DECREMENT, AK_INVOCABLE };
+typedef enum { AK_MISSING_TREE_INFO = 1, AK_NOT_ROOT_TREE = 2, AK_MISSING_DATA = 3, AK_NOT_REACHED = 4, AK_NAMED_TWICE = 5,
+               AK_LISTED_TWICE = 6, AK_ROOT_TREE_GRAFTED = 7, AK_GRAFT_WITH_CHILDREN = 8, AK_GRAFTED_TWICE = 9, AK_NO_GRAFT = 10,
+               AK_NO_FIRST_TREE_INFO = 11, AK_FOCUS_MISSING = 12, AK_FOCUS_ON_EMPTY_GRAFT = 13, AK_INDEXES_USED_UP = 14 } ak_rule;
+/* The flags: each is the library's call of that name, as is_hidden or supports_toggle. From AK_FOCUSABLE to AK_INVOCABLE the common filter
+ * counts. */
+typedef enum { AK_HIDDEN = 0, AK_DISABLED = 1, AK_BUSY = 2, AK_MODAL = 3, AK_REQUIRED = 4, AK_MULTISELECTABLE = 5, AK_LIVE_ATOMIC = 6,
+               AK_TOUCH_TRANSPARENT = 7, AK_CLIPS_CHILDREN = 8, AK_ITALIC = 9, AK_READ_ONLY = 10, AK_READ_ONLY_SUPPORTED = 11,
+               AK_TEXT_INPUT = 12, AK_MULTILINE = 13, AK_PASSWORD_INPUT = 14, AK_DIALOG = 15, AK_ITEM_LIKE = 16, AK_GRAFT = 17,
+               AK_SELECTABLE = 18, AK_SUPPORTS_TOGGLE = 19, AK_SUPPORTS_EXPAND_COLLAPSE = 20, AK_SUPPORTS_URL = 21,
+               AK_SUPPORTS_TEXT_RANGES = 22, AK_FOCUSABLE = 23, AK_CLICKABLE = 24, AK_SUPPORTS_INCREMENT = 25, AK_SUPPORTS_DECREMENT = 26,
+               AK_INVOCABLE = 27 } ak_flag;
 /* Filters, and their answers: the node is included, excluded alone, or excluded with its subtree. */
-enum { AK_ALL = 0, AK_COMMON, AK_COMMON_WITH_ROOT };
-enum { AK_INCLUDE = 0, AK_EXCLUDE_NODE, AK_EXCLUDE_SUBTREE };
+typedef enum { AK_ALL = 0, AK_COMMON = 1, AK_COMMON_WITH_ROOT = 2 } ak_filter;
+typedef enum { AK_INCLUDE = 0, AK_EXCLUDE_NODE = 1, AK_EXCLUDE_SUBTREE = 2 } ak_filter_result;
 /* Movements of the caret. */
-enum { AK_FORWARD_TO_CHARACTER_START = 0, AK_FORWARD_TO_CHARACTER_END, AK_BACKWARD_TO_CHARACTER_START, AK_FORWARD_TO_FORMAT_START,
-       AK_FORWARD_TO_FORMAT_END, AK_BACKWARD_TO_FORMAT_START, AK_FORWARD_TO_WORD_START, AK_FORWARD_TO_WORD_END, AK_BACKWARD_TO_WORD_START,
-       AK_FORWARD_TO_LINE_START, AK_FORWARD_TO_LINE_END, AK_BACKWARD_TO_LINE_START, AK_FORWARD_TO_PARAGRAPH_START, AK_FORWARD_TO_PARAGRAPH_END,
-       AK_BACKWARD_TO_PARAGRAPH_START, AK_FORWARD_TO_PAGE_START, AK_FORWARD_TO_PAGE_END, AK_DOCUMENT_END, AK_BACKWARD_TO_PAGE_START,
-       AK_DOCUMENT_START };
+typedef enum { AK_FORWARD_TO_CHARACTER_START = 0, AK_FORWARD_TO_CHARACTER_END = 1, AK_BACKWARD_TO_CHARACTER_START = 2,
+               AK_FORWARD_TO_FORMAT_START = 3, AK_FORWARD_TO_FORMAT_END = 4, AK_BACKWARD_TO_FORMAT_START = 5, AK_FORWARD_TO_WORD_START = 6,
+               AK_FORWARD_TO_WORD_END = 7, AK_BACKWARD_TO_WORD_START = 8, AK_FORWARD_TO_LINE_START = 9, AK_FORWARD_TO_LINE_END = 10,
+               AK_BACKWARD_TO_LINE_START = 11, AK_FORWARD_TO_PARAGRAPH_START = 12, AK_FORWARD_TO_PARAGRAPH_END = 13,
+               AK_BACKWARD_TO_PARAGRAPH_START = 14, AK_FORWARD_TO_PAGE_START = 15, AK_FORWARD_TO_PAGE_END = 16, AK_DOCUMENT_END = 17,
+               AK_BACKWARD_TO_PAGE_START = 18, AK_DOCUMENT_START = 19 } ak_move;
+/* The fields of a node, by their names in a script; docs/SCRIPT.md explains them, and which range their values have. */
+typedef enum { AK_FIELD_CHILDREN = 0, AK_FIELD_LABELLED = 1, AK_FIELD_CONTROLS = 2, AK_FIELD_TREE = 3, AK_FIELD_ACTIVE = 4,
+               AK_FIELD_LABEL = 5, AK_FIELD_VALUE = 6, AK_FIELD_DESCRIPTION = 7, AK_FIELD_PLACEHOLDER = 8, AK_FIELD_ROLE_DESCRIPTION = 9,
+               AK_FIELD_URL = 10, AK_FIELD_AUTHOR_ID = 11, AK_FIELD_HTML_ID = 12, AK_FIELD_CLASS_NAME = 13, AK_FIELD_BRAILLE_LABEL = 14,
+               AK_FIELD_BRAILLE_ROLE_DESCRIPTION = 15, AK_FIELD_COLUMN_INDEX_TEXT = 16, AK_FIELD_ROW_INDEX_TEXT = 17,
+               AK_FIELD_FONT_FAMILY = 18, AK_FIELD_LANGUAGE = 19, AK_FIELD_HIDDEN = 20, AK_FIELD_CLIPS = 21, AK_FIELD_DISABLED = 22,
+               AK_FIELD_READ_ONLY = 23, AK_FIELD_REQUIRED = 24, AK_FIELD_MODAL = 25, AK_FIELD_BUSY = 26, AK_FIELD_MULTISELECTABLE = 27,
+               AK_FIELD_ITALIC = 28, AK_FIELD_LIVE_ATOMIC = 29, AK_FIELD_TOUCH_TRANSPARENT = 30, AK_FIELD_BOUNDS = 31, AK_FIELD_MOVE = 32,
+               AK_FIELD_SELECTION = 33, AK_FIELD_CHARS = 34, AK_FIELD_WORDS = 35, AK_FIELD_CHARACTER_POSITIONS = 36,
+               AK_FIELD_CHARACTER_WIDTHS = 37, AK_FIELD_PREV = 38, AK_FIELD_NEXT = 39, AK_FIELD_TOGGLED = 40, AK_FIELD_EXPANDED = 41,
+               AK_FIELD_SELECTED = 42, AK_FIELD_LIVE = 43, AK_FIELD_ORIENTATION = 44, AK_FIELD_SORT_DIRECTION = 45,
+               AK_FIELD_ARIA_CURRENT = 46, AK_FIELD_HAS_POPUP = 47, AK_FIELD_FONT_SIZE = 48, AK_FIELD_FONT_WEIGHT = 49,
+               AK_FIELD_BACKGROUND_COLOR = 50, AK_FIELD_FOREGROUND_COLOR = 51, AK_FIELD_OVERLINE = 52, AK_FIELD_STRIKETHROUGH = 53,
+               AK_FIELD_UNDERLINE = 54, AK_FIELD_TEXT_DIRECTION = 55, AK_FIELD_TEXT_ALIGN = 56, AK_FIELD_VERTICAL_OFFSET = 57,
+               AK_FIELD_NUMBER = 58, AK_FIELD_MIN = 59, AK_FIELD_MAX = 60, AK_FIELD_STEP = 61, AK_FIELD_JUMP = 62, AK_FIELD_LEVEL = 63,
+               AK_FIELD_SET_SIZE = 64, AK_FIELD_POSITION = 65, AK_FIELD_SCROLL_X = 66, AK_FIELD_SCROLL_X_MIN = 67,
+               AK_FIELD_SCROLL_X_MAX = 68, AK_FIELD_SCROLL_Y = 69, AK_FIELD_SCROLL_Y_MIN = 70, AK_FIELD_SCROLL_Y_MAX = 71,
+               AK_FIELD_ACTIONS = 72, AK_FIELD_CHILD_ACTIONS = 73 } ak_field;
+/* Roles, as a uint32_t. One without a name is AK_ROLE_OTHER and its number, up to 65535: AK_ROLE_OTHER + 328 is a heading. */
+typedef enum { AK_ROLE_UNKNOWN = 0, AK_ROLE_WINDOW = 1, AK_ROLE_SCROLL_VIEW = 2, AK_ROLE_PARAGRAPH = 3, AK_ROLE_GENERIC_CONTAINER = 4,
+               AK_ROLE_TEXT_RUN = 5, AK_ROLE_LABEL = 6, AK_ROLE_IMAGE = 7, AK_ROLE_DOCUMENT = 8, AK_ROLE_TERMINAL = 9,
+               AK_ROLE_TEXT_INPUT = 10, AK_ROLE_MULTILINE_TEXT_INPUT = 11, AK_ROLE_SEARCH_INPUT = 12, AK_ROLE_DATE_INPUT = 13,
+               AK_ROLE_DATE_TIME_INPUT = 14, AK_ROLE_WEEK_INPUT = 15, AK_ROLE_MONTH_INPUT = 16, AK_ROLE_TIME_INPUT = 17,
+               AK_ROLE_EMAIL_INPUT = 18, AK_ROLE_NUMBER_INPUT = 19, AK_ROLE_PASSWORD_INPUT = 20, AK_ROLE_PHONE_NUMBER_INPUT = 21,
+               AK_ROLE_URL_INPUT = 22, AK_ROLE_EDITABLE_COMBO_BOX = 23, AK_ROLE_SPIN_BUTTON = 24, AK_ROLE_LIST_BOX = 25,
+               AK_ROLE_TAB_LIST = 26, AK_ROLE_ALERT_DIALOG = 27, AK_ROLE_DIALOG = 28, AK_ROLE_COMBO_BOX = 29,
+               AK_ROLE_DISCLOSURE_TRIANGLE = 30, AK_ROLE_TREE_ITEM = 31, AK_ROLE_BUTTON = 32, AK_ROLE_CHECK_BOX = 33,
+               AK_ROLE_DEFAULT_BUTTON = 34, AK_ROLE_LINK = 35, AK_ROLE_MENU_ITEM = 36, AK_ROLE_MENU_ITEM_CHECK_BOX = 37,
+               AK_ROLE_MENU_ITEM_RADIO = 38, AK_ROLE_RADIO_BUTTON = 39, AK_ROLE_DOC_BACK_LINK = 40, AK_ROLE_DOC_BIBLIO_REF = 41,
+               AK_ROLE_DOC_GLOSS_REF = 42, AK_ROLE_DOC_NOTE_REF = 43, AK_ROLE_COLOR_WELL = 44, AK_ROLE_GRID = 45,
+               AK_ROLE_MENU_LIST_POPUP = 46, AK_ROLE_RADIO_GROUP = 47, AK_ROLE_SLIDER = 48, AK_ROLE_SWITCH = 49, AK_ROLE_TREE_GRID = 50,
+               AK_ROLE_ARTICLE = 51, AK_ROLE_DEFINITION = 52, AK_ROLE_DESCRIPTION_LIST = 53, AK_ROLE_GRAPHICS_DOCUMENT = 54,
+               AK_ROLE_LIST = 55, AK_ROLE_LIST_ITEM = 56, AK_ROLE_PDF_ROOT = 57, AK_ROLE_PROGRESS_INDICATOR = 58,
+               AK_ROLE_ROOT_WEB_AREA = 59, AK_ROLE_TERM = 60, AK_ROLE_TIMER = 61, AK_ROLE_TOOLBAR = 62, AK_ROLE_TOOLTIP = 63,
+               AK_ROLE_COMMENT = 64, AK_ROLE_TAB = 65, AK_ROLE_LIST_BOX_OPTION = 66, AK_ROLE_MENU_LIST_OPTION = 67, AK_ROLE_LIST_GRID = 68,
+               AK_ROLE_MENU = 69, AK_ROLE_MENU_BAR = 70, AK_ROLE_TREE = 71, AK_ROLE_OTHER = 65536 } ak_role;
+/* Actions, as a uint32_t. Another one is AK_ACTION_OTHER and its number, up to 255. */
+typedef enum { AK_ACTION_CLICK = 0, AK_ACTION_FOCUS = 1, AK_ACTION_INCREMENT = 2, AK_ACTION_DECREMENT = 3,
+               AK_ACTION_OTHER = 256 } ak_action;
+/* The values of the fields that have few, each type named after its field, and the styles of a line above, through or below text. */
+typedef enum { AK_TOGGLED_TRUE = 0, AK_TOGGLED_FALSE = 1, AK_TOGGLED_MIXED = 2 } ak_toggled;
+typedef enum { AK_LIVE_OFF = 0, AK_LIVE_POLITE = 1, AK_LIVE_ASSERTIVE = 2 } ak_live;
+typedef enum { AK_ORIENTATION_HORIZONTAL = 0, AK_ORIENTATION_VERTICAL = 1 } ak_orientation;
+typedef enum { AK_SORT_DIRECTION_ASCENDING = 0, AK_SORT_DIRECTION_DESCENDING = 1, AK_SORT_DIRECTION_OTHER = 2 } ak_sort_direction;
+typedef enum { AK_ARIA_CURRENT_FALSE = 0, AK_ARIA_CURRENT_TRUE = 1, AK_ARIA_CURRENT_PAGE = 2, AK_ARIA_CURRENT_STEP = 3,
+               AK_ARIA_CURRENT_LOCATION = 4, AK_ARIA_CURRENT_DATE = 5, AK_ARIA_CURRENT_TIME = 6 } ak_aria_current;
+typedef enum { AK_HAS_POPUP_MENU = 0, AK_HAS_POPUP_LISTBOX = 1, AK_HAS_POPUP_TREE = 2, AK_HAS_POPUP_GRID = 3,
+               AK_HAS_POPUP_DIALOG = 4 } ak_has_popup;
+typedef enum { AK_TEXT_DIRECTION_LEFT_TO_RIGHT = 0, AK_TEXT_DIRECTION_RIGHT_TO_LEFT = 1, AK_TEXT_DIRECTION_TOP_TO_BOTTOM = 2,
+               AK_TEXT_DIRECTION_BOTTOM_TO_TOP = 3 } ak_text_direction;
+typedef enum { AK_TEXT_ALIGN_LEFT = 0, AK_TEXT_ALIGN_RIGHT = 1, AK_TEXT_ALIGN_CENTER = 2, AK_TEXT_ALIGN_JUSTIFY = 3 } ak_text_align;
+typedef enum { AK_VERTICAL_OFFSET_SUBSCRIPT = 0, AK_VERTICAL_OFFSET_SUPERSCRIPT = 1 } ak_vertical_offset;
+typedef enum { AK_STYLE_SOLID = 0, AK_STYLE_DOTTED = 1, AK_STYLE_DASHED = 2, AK_STYLE_DOUBLE = 3, AK_STYLE_WAVY = 4 } ak_style;
 
-/* For updates that are built call by call. The fields of a node, by their names in a script and in its order; docs/SCRIPT.md explains them,
- * and which range their values have. */
-enum { AK_FIELD_CHILDREN = 0, AK_FIELD_LABELLED, AK_FIELD_CONTROLS, AK_FIELD_TREE, AK_FIELD_ACTIVE, AK_FIELD_LABEL, AK_FIELD_VALUE,
-       AK_FIELD_DESCRIPTION, AK_FIELD_PLACEHOLDER, AK_FIELD_ROLE_DESCRIPTION, AK_FIELD_URL, AK_FIELD_AUTHOR_ID, AK_FIELD_HTML_ID,
-       AK_FIELD_CLASS_NAME, AK_FIELD_BRAILLE_LABEL, AK_FIELD_BRAILLE_ROLE_DESCRIPTION, AK_FIELD_COLUMN_INDEX_TEXT, AK_FIELD_ROW_INDEX_TEXT,
-       AK_FIELD_FONT_FAMILY, AK_FIELD_LANGUAGE, AK_FIELD_HIDDEN, AK_FIELD_CLIPS, AK_FIELD_DISABLED, AK_FIELD_READ_ONLY, AK_FIELD_REQUIRED,
-       AK_FIELD_MODAL, AK_FIELD_BUSY, AK_FIELD_MULTISELECTABLE, AK_FIELD_ITALIC, AK_FIELD_LIVE_ATOMIC, AK_FIELD_TOUCH_TRANSPARENT,
-       AK_FIELD_BOUNDS, AK_FIELD_MOVE, AK_FIELD_SELECTION, AK_FIELD_CHARS, AK_FIELD_WORDS, AK_FIELD_CHARACTER_POSITIONS,
-       AK_FIELD_CHARACTER_WIDTHS, AK_FIELD_PREV, AK_FIELD_NEXT, AK_FIELD_TOGGLED, AK_FIELD_EXPANDED, AK_FIELD_SELECTED, AK_FIELD_LIVE,
-       AK_FIELD_ORIENTATION, AK_FIELD_SORT_DIRECTION, AK_FIELD_ARIA_CURRENT, AK_FIELD_HAS_POPUP, AK_FIELD_FONT_SIZE, AK_FIELD_FONT_WEIGHT,
-       AK_FIELD_BACKGROUND_COLOR, AK_FIELD_FOREGROUND_COLOR, AK_FIELD_OVERLINE, AK_FIELD_STRIKETHROUGH, AK_FIELD_UNDERLINE,
-       AK_FIELD_TEXT_DIRECTION, AK_FIELD_TEXT_ALIGN, AK_FIELD_VERTICAL_OFFSET, AK_FIELD_NUMBER, AK_FIELD_MIN, AK_FIELD_MAX, AK_FIELD_STEP,
-       AK_FIELD_JUMP, AK_FIELD_LEVEL, AK_FIELD_SET_SIZE, AK_FIELD_POSITION, AK_FIELD_SCROLL_X, AK_FIELD_SCROLL_X_MIN, AK_FIELD_SCROLL_X_MAX,
-       AK_FIELD_SCROLL_Y, AK_FIELD_SCROLL_Y_MIN, AK_FIELD_SCROLL_Y_MAX, AK_FIELD_ACTIONS, AK_FIELD_CHILD_ACTIONS };
-/* Roles. One without a name is AK_ROLE_OTHER and its number, up to 65535: AK_ROLE_OTHER + 328 is a heading. */
-enum { AK_ROLE_UNKNOWN = 0, AK_ROLE_WINDOW, AK_ROLE_SCROLL_VIEW, AK_ROLE_PARAGRAPH, AK_ROLE_GENERIC_CONTAINER, AK_ROLE_TEXT_RUN,
-       AK_ROLE_LABEL, AK_ROLE_IMAGE, AK_ROLE_DOCUMENT, AK_ROLE_TERMINAL, AK_ROLE_TEXT_INPUT, AK_ROLE_MULTILINE_TEXT_INPUT,
-       AK_ROLE_SEARCH_INPUT, AK_ROLE_DATE_INPUT, AK_ROLE_DATE_TIME_INPUT, AK_ROLE_WEEK_INPUT, AK_ROLE_MONTH_INPUT, AK_ROLE_TIME_INPUT,
-       AK_ROLE_EMAIL_INPUT, AK_ROLE_NUMBER_INPUT, AK_ROLE_PASSWORD_INPUT, AK_ROLE_PHONE_NUMBER_INPUT, AK_ROLE_URL_INPUT,
-       AK_ROLE_EDITABLE_COMBO_BOX, AK_ROLE_SPIN_BUTTON, AK_ROLE_LIST_BOX, AK_ROLE_TAB_LIST, AK_ROLE_ALERT_DIALOG, AK_ROLE_DIALOG,
-       AK_ROLE_COMBO_BOX, AK_ROLE_DISCLOSURE_TRIANGLE, AK_ROLE_TREE_ITEM, AK_ROLE_BUTTON, AK_ROLE_CHECK_BOX, AK_ROLE_DEFAULT_BUTTON,
-       AK_ROLE_LINK, AK_ROLE_MENU_ITEM, AK_ROLE_MENU_ITEM_CHECK_BOX, AK_ROLE_MENU_ITEM_RADIO, AK_ROLE_RADIO_BUTTON, AK_ROLE_DOC_BACK_LINK,
-       AK_ROLE_DOC_BIBLIO_REF, AK_ROLE_DOC_GLOSS_REF, AK_ROLE_DOC_NOTE_REF, AK_ROLE_COLOR_WELL, AK_ROLE_GRID, AK_ROLE_MENU_LIST_POPUP,
-       AK_ROLE_RADIO_GROUP, AK_ROLE_SLIDER, AK_ROLE_SWITCH, AK_ROLE_TREE_GRID, AK_ROLE_ARTICLE, AK_ROLE_DEFINITION,
-       AK_ROLE_DESCRIPTION_LIST, AK_ROLE_GRAPHICS_DOCUMENT, AK_ROLE_LIST, AK_ROLE_LIST_ITEM, AK_ROLE_PDF_ROOT, AK_ROLE_PROGRESS_INDICATOR,
-       AK_ROLE_ROOT_WEB_AREA, AK_ROLE_TERM, AK_ROLE_TIMER, AK_ROLE_TOOLBAR, AK_ROLE_TOOLTIP, AK_ROLE_COMMENT, AK_ROLE_TAB,
-       AK_ROLE_LIST_BOX_OPTION, AK_ROLE_MENU_LIST_OPTION, AK_ROLE_LIST_GRID, AK_ROLE_MENU, AK_ROLE_MENU_BAR, AK_ROLE_TREE, AK_ROLE_OTHER };
-/* Actions. Another one is AK_ACTION_OTHER and its number, up to 255. */
-enum { AK_ACTION_CLICK = 0, AK_ACTION_FOCUS, AK_ACTION_INCREMENT, AK_ACTION_DECREMENT, AK_ACTION_OTHER };
-/* The values of the fields that have few, each named after its field, and the styles of a line above, through or below text. */
-enum { AK_TOGGLED_TRUE = 0, AK_TOGGLED_FALSE, AK_TOGGLED_MIXED };
-enum { AK_LIVE_OFF = 0, AK_LIVE_POLITE, AK_LIVE_ASSERTIVE };
-enum { AK_ORIENTATION_HORIZONTAL = 0, AK_ORIENTATION_VERTICAL };
-enum { AK_SORT_DIRECTION_ASCENDING = 0, AK_SORT_DIRECTION_DESCENDING, AK_SORT_DIRECTION_OTHER };
-enum { AK_ARIA_CURRENT_FALSE = 0, AK_ARIA_CURRENT_TRUE, AK_ARIA_CURRENT_PAGE, AK_ARIA_CURRENT_STEP, AK_ARIA_CURRENT_LOCATION,
-       AK_ARIA_CURRENT_DATE, AK_ARIA_CURRENT_TIME };
-enum { AK_HAS_POPUP_MENU = 0, AK_HAS_POPUP_LISTBOX, AK_HAS_POPUP_TREE, AK_HAS_POPUP_GRID, AK_HAS_POPUP_DIALOG };
-enum { AK_TEXT_DIRECTION_LEFT_TO_RIGHT = 0, AK_TEXT_DIRECTION_RIGHT_TO_LEFT, AK_TEXT_DIRECTION_TOP_TO_BOTTOM,
-       AK_TEXT_DIRECTION_BOTTOM_TO_TOP };
-enum { AK_TEXT_ALIGN_LEFT = 0, AK_TEXT_ALIGN_RIGHT, AK_TEXT_ALIGN_CENTER, AK_TEXT_ALIGN_JUSTIFY };
-enum { AK_VERTICAL_OFFSET_SUBSCRIPT = 0, AK_VERTICAL_OFFSET_SUPERSCRIPT };
-enum { AK_STYLE_SOLID = 0, AK_STYLE_DOTTED, AK_STYLE_DASHED, AK_STYLE_DOUBLE, AK_STYLE_WAVY };
+#if defined(__cplusplus)
+static_assert(sizeof(ak_filter_result) == sizeof(uint32_t), "the library was built without -fshort-enums");
+#elif defined(__STDC_VERSION__) && __STDC_VERSION__ >= 201112L
+_Static_assert(sizeof(ak_filter_result) == sizeof(uint32_t), "the library was built without -fshort-enums");
+#endif
 
 typedef struct { void *at; bool is_there; } ak_tree;
-#define AK_TREE_CLOSED { 0, false }
+/* All zeros, as a static ak_tree is without it. */
+#ifdef __cplusplus
+#define AK_TREE_CLOSED (ak_tree{ nullptr, false })
+#else
+#define AK_TREE_CLOSED ((ak_tree){ 0, false })
+#endif
 
 /* A node's id in its tree, and the index of that tree: 0 is the root tree. */
 typedef struct { uint64_t node; uint32_t tree; } ak_id;
 /* A change, and the node before and after it: 0 where there is none. */
 typedef struct { uint64_t old_node; uint64_t new_node; uint32_t old_tree; uint32_t new_tree; uint8_t kind; bool has_old; bool has_new; } ak_event;
 /* `line`: the number of the bad line, from 1. `done`: how many commands were carried out before an update was refused, or memory
- * ran out. `node` and `rule`: what the refusal names. All else is 0. */
-typedef struct { uint64_t line; uint64_t done; uint64_t node; uint8_t rule; } ak_stop;
+ * ran out. Of a refusal `rule` is its rule, one of ak_rule, `node` the node that the rule is about, and `tree_id` the bytes of the UUID of
+ * the tree that AK_GRAFTED_TWICE, AK_NO_GRAFT, AK_NO_FIRST_TREE_INFO and AK_FOCUS_ON_EMPTY_GRAFT are about. All else is 0. */
+typedef struct { uint64_t line; uint64_t done; uint64_t node; uint8_t tree_id[16]; uint8_t rule; } ak_stop;
 /* A rectangle, in units of 1/64 pixel. An edge beyond 64 bits is the nearest number within them. */
 typedef struct { int64_t x0; int64_t y0; int64_t x1; int64_t y1; } ak_bounds;
 /* A position in a text by all its names: its run, and how many of the run's characters are before it; how many scalars and how many
  * UTF-16 code units of the text are before it; its line, from 0. Where two runs meet, `is_end` is the end of the first; with `index` it
  * names the position. */
 typedef struct { uint64_t run; size_t character; size_t index; size_t utf16_index; size_t line; bool is_end; } ak_position;
+/* Values of fields. Rectangles and translations are in units of 1/64 pixel. A selection has its fixed end and the end that moves, each a run
+ * and how many of its characters are before it. `alpha` is the opacity. `style` is one of ak_style. */
+typedef struct { int32_t x0; int32_t y0; int32_t x1; int32_t y1; } ak_rect;
+typedef struct { int32_t x; int32_t y; } ak_translation;
+typedef struct { uint64_t anchor; size_t anchor_character; uint64_t focus; size_t focus_character; } ak_selection;
+typedef struct { uint8_t red; uint8_t green; uint8_t blue; uint8_t alpha; } ak_color;
+typedef struct { uint32_t style; ak_color color; } ak_decoration;
 
 /* Opens a tree that has nothing yet; what it held is freed. AK_DONE or AK_NO_MEMORY. */
 uint8_t ak_tree_open(ak_tree *tree);
@@ -121,6 +162,9 @@ void ak_tree_close(ak_tree *tree);
  * AK_BAD_LINE nothing is carried out. On AK_REFUSED the update has changed nothing, and what comes after it isn't carried out.
  * `stop` is written unless the tree is closed. */
 uint8_t ak_tree_feed(ak_tree *tree, const uint8_t *lines, size_t length, ak_stop *stop);
+/* The name of a rule, as a script's output has it: MissingData. It is cut off at `room`, and `length` says how long it is. It needs no tree.
+ * AK_NO_SUCH: no rule has this number. */
+uint8_t ak_rule_name(ak_rule rule, uint8_t *buffer, size_t room, size_t *length);
 
 /* An update without lines. It is begun, then its nodes one by one, each followed by its fields; then it is sent. What a line of a script
  * says can be said so, and the library keeps the begun update with the tree.
@@ -133,7 +177,7 @@ uint8_t ak_tree_feed(ak_tree *tree, const uint8_t *lines, size_t length, ak_stop
  * action. ak_update_count sets a count, and the size and the weight of a text, ak_update_choice one of few values, ak_update_tree the tree
  * that is grafted at the node. `field` is one of the AK_FIELD numbers.
  *
- * AK_OUT_OF_PLACE: no update is begun; for a field, none of its nodes; for a toolkit, no root. AK_NOTHING: no field with this number has
+ * AK_OUT_OF_PLACE: no update is begun; for a field, none of its nodes; for a toolkit, no root. AK_NO_SUCH: no field with this number has
  * such a value; there is no such role, action or choice; a text isn't UTF-8; an id of a tree hasn't 16 bytes; a number is out of range.
  * With these, and with AK_NO_MEMORY, the begun update is as it was. */
 uint8_t ak_update_begin(ak_tree *tree, const uint8_t *tree_id, size_t length, uint64_t focus);
@@ -141,23 +185,23 @@ uint8_t ak_update_root(ak_tree *tree, uint64_t root);
 uint8_t ak_update_toolkit_name(ak_tree *tree, const uint8_t *text, size_t length);
 uint8_t ak_update_toolkit_version(ak_tree *tree, const uint8_t *text, size_t length);
 uint8_t ak_update_node(ak_tree *tree, uint64_t node, uint32_t role);
-uint8_t ak_update_ids(ak_tree *tree, uint8_t field, const uint64_t *ids, size_t count);
-uint8_t ak_update_id(ak_tree *tree, uint8_t field, uint64_t id);
-uint8_t ak_update_text(ak_tree *tree, uint8_t field, const uint8_t *text, size_t length);
-uint8_t ak_update_flag(ak_tree *tree, uint8_t field);
-uint8_t ak_update_bool(ak_tree *tree, uint8_t field, bool is_so);
-uint8_t ak_update_choice(ak_tree *tree, uint8_t field, uint8_t choice);
-uint8_t ak_update_number(ak_tree *tree, uint8_t field, int64_t number);
-uint8_t ak_update_count(ak_tree *tree, uint8_t field, size_t count);
-uint8_t ak_update_numbers(ak_tree *tree, uint8_t field, const uint16_t *numbers, size_t count);
-uint8_t ak_update_units(ak_tree *tree, uint8_t field, const int32_t *units, size_t count);
-uint8_t ak_update_action(ak_tree *tree, uint8_t field, uint16_t action);
-uint8_t ak_update_tree(ak_tree *tree, uint8_t field, const uint8_t *tree_id, size_t length);
-uint8_t ak_update_rect(ak_tree *tree, uint8_t field, int32_t x0, int32_t y0, int32_t x1, int32_t y1);
-uint8_t ak_update_translation(ak_tree *tree, uint8_t field, int32_t x, int32_t y);
-uint8_t ak_update_selection(ak_tree *tree, uint8_t field, uint64_t anchor, size_t anchor_character, uint64_t focus, size_t focus_character);
-uint8_t ak_update_color(ak_tree *tree, uint8_t field, uint8_t red, uint8_t green, uint8_t blue, uint8_t alpha);
-uint8_t ak_update_decoration(ak_tree *tree, uint8_t field, uint8_t style, uint8_t red, uint8_t green, uint8_t blue, uint8_t alpha);
+uint8_t ak_update_ids(ak_tree *tree, ak_field field, const uint64_t *ids, size_t count);
+uint8_t ak_update_id(ak_tree *tree, ak_field field, uint64_t id);
+uint8_t ak_update_text(ak_tree *tree, ak_field field, const uint8_t *text, size_t length);
+uint8_t ak_update_flag(ak_tree *tree, ak_field field);
+uint8_t ak_update_bool(ak_tree *tree, ak_field field, bool is_so);
+uint8_t ak_update_choice(ak_tree *tree, ak_field field, uint32_t choice);
+uint8_t ak_update_number(ak_tree *tree, ak_field field, int64_t number);
+uint8_t ak_update_count(ak_tree *tree, ak_field field, size_t count);
+uint8_t ak_update_numbers(ak_tree *tree, ak_field field, const uint16_t *numbers, size_t count);
+uint8_t ak_update_units(ak_tree *tree, ak_field field, const int32_t *units, size_t count);
+uint8_t ak_update_action(ak_tree *tree, ak_field field, uint32_t action);
+uint8_t ak_update_tree(ak_tree *tree, ak_field field, const uint8_t *tree_id, size_t length);
+uint8_t ak_update_rect(ak_tree *tree, ak_field field, int32_t x0, int32_t y0, int32_t x1, int32_t y1);
+uint8_t ak_update_translation(ak_tree *tree, ak_field field, int32_t x, int32_t y);
+uint8_t ak_update_selection(ak_tree *tree, ak_field field, uint64_t anchor, size_t anchor_character, uint64_t focus, size_t focus_character);
+uint8_t ak_update_color(ak_tree *tree, ak_field field, uint8_t red, uint8_t green, uint8_t blue, uint8_t alpha);
+uint8_t ak_update_decoration(ak_tree *tree, ak_field field, uint32_t style, uint8_t red, uint8_t green, uint8_t blue, uint8_t alpha);
 /* Carries out the begun update as ak_tree_feed carries out one, and answers as it does, with the same `stop` and events. No update is begun
  * then, whatever is answered, but for AK_OUT_OF_PLACE: none was, and nothing is written. */
 uint8_t ak_update_send(ak_tree *tree, ak_stop *stop);
@@ -167,8 +211,8 @@ uint8_t ak_update_send(ak_tree *tree, ak_stop *stop);
 uint8_t ak_tree_host_focus(ak_tree *tree, bool is_focused);
 
 /* What the last lines, the last update that was sent, or the last change of the host's focus has changed, in order. The update that makes
- * the tree has no events. AK_NOTHING: memory for an event ran out then, and the tree is to be read anew; or there is no event with this
- * index. */
+ * the tree has no events. AK_NOTHING: there is no event with this index. AK_LOST: memory for an event ran out then, and the tree is to be
+ * read anew. */
 uint8_t ak_tree_event_count(ak_tree *tree, size_t *count);
 uint8_t ak_tree_event(ak_tree *tree, size_t index, ak_event *event);
 
@@ -176,8 +220,9 @@ uint8_t ak_tree_event(ak_tree *tree, size_t index, ak_event *event);
 uint8_t ak_tree_root(ak_tree *tree, ak_id *root);
 uint8_t ak_tree_focus(ak_tree *tree, ak_id *focus);
 
-/* Of a node. AK_NOTHING: the tree hasn't the node; it has no parent, label, value or text. Lists are cut off at `room`, and
- * `count` and `length` say how long they are; texts are UTF-8 without an end mark. */
+/* Of a node. AK_NO_NODE: the tree hasn't the node. AK_NOTHING: it has no parent, label, value or text. Lists are cut off at `room`, and
+ * `count` and `length` say how long they are; texts are UTF-8 without an end mark. Of a password ak_node_value and ak_node_text answer a
+ * bullet for each character. */
 uint8_t ak_node_parent(ak_tree *tree, uint64_t node, uint32_t tree_index, ak_id *parent);
 uint8_t ak_node_children(ak_tree *tree, uint64_t node, uint32_t tree_index, ak_id *buffer, size_t room, size_t *count);
 uint8_t ak_node_role(ak_tree *tree, uint64_t node, uint32_t tree_index, uint8_t *buffer, size_t room, size_t *length);
@@ -185,26 +230,50 @@ uint8_t ak_node_label(ak_tree *tree, uint64_t node, uint32_t tree_index, uint8_t
 uint8_t ak_node_value(ak_tree *tree, uint64_t node, uint32_t tree_index, uint8_t *buffer, size_t room, size_t *length);
 uint8_t ak_node_text(ak_tree *tree, uint64_t node, uint32_t tree_index, uint8_t *buffer, size_t room, size_t *length);
 
-/* Where a node lies, what it is, and what a filter shows. A role's number is one of AK_ROLE. AK_NOTHING: the tree hasn't the node; it
- * has no box; no flag or filter has this number; nothing is hit; no ancestor is included. A point is in the node's coordinates and in
- * units of 1/64 pixel; what is hit is the node or one below it. The filtered children are the nodes that the filter shows in place of
+/* Where a node lies, what it is, and what a filter shows. A role's number is one of AK_ROLE. AK_NO_SUCH: no flag or filter has this number.
+ * AK_NO_NODE: the tree hasn't the node. AK_NOTHING: it has no box; nothing is hit; no ancestor is included. A point is in the node's
+ * coordinates and in units of 1/64 pixel; what is hit is the node or one below it. The filtered children are the nodes that the filter shows in place of
  * the children. */
 uint8_t ak_node_role_number(ak_tree *tree, uint64_t node, uint32_t tree_index, uint32_t *number);
 uint8_t ak_node_bounds(ak_tree *tree, uint64_t node, uint32_t tree_index, ak_bounds *bounds);
-uint8_t ak_node_flag(ak_tree *tree, uint64_t node, uint32_t tree_index, uint8_t flag, bool *is_set);
-uint8_t ak_node_filter(ak_tree *tree, uint64_t node, uint32_t tree_index, uint8_t filter, uint8_t *answer);
-uint8_t ak_node_hit(ak_tree *tree, uint64_t node, uint32_t tree_index, int64_t x, int64_t y, uint8_t filter, ak_id *hit);
-uint8_t ak_node_filtered_parent(ak_tree *tree, uint64_t node, uint32_t tree_index, uint8_t filter, ak_id *parent);
-uint8_t ak_node_filtered_children(ak_tree *tree, uint64_t node, uint32_t tree_index, uint8_t filter, ak_id *buffer, size_t room, size_t *count);
+uint8_t ak_node_flag(ak_tree *tree, uint64_t node, uint32_t tree_index, ak_flag flag, bool *is_set);
+uint8_t ak_node_filter(ak_tree *tree, uint64_t node, uint32_t tree_index, ak_filter filter, ak_filter_result *answer);
+uint8_t ak_node_hit(ak_tree *tree, uint64_t node, uint32_t tree_index, int64_t x, int64_t y, ak_filter filter, ak_id *hit);
+uint8_t ak_node_filtered_parent(ak_tree *tree, uint64_t node, uint32_t tree_index, ak_filter filter, ak_id *parent);
+uint8_t ak_node_filtered_children(ak_tree *tree, uint64_t node, uint32_t tree_index, ak_filter filter, ak_id *buffer, size_t room, size_t *count);
 
 /* In the text of a node's runs, by an index that counts its scalars, and, where two runs meet there, the end of the first or the start of
- * the second. AK_NOTHING: the node has no text; the index is past its end; no movement has this number; there is no character to move by;
- * there is no selection. The selection's moving end, its focus, is where the caret is. */
+ * the second. AK_NO_SUCH: no movement has this number. AK_NO_NODE: the tree hasn't the node. AK_NOTHING: it has no text; the index is past
+ * its end; there is no character to move by; there is no selection. The selection's moving end, its focus, is where the caret is. */
 uint8_t ak_text_position(ak_tree *tree, uint64_t node, uint32_t tree_index, size_t index, bool is_end, ak_position *position);
-uint8_t ak_text_move(ak_tree *tree, uint64_t node, uint32_t tree_index, size_t index, bool is_end, uint8_t movement, ak_position *position);
+uint8_t ak_text_move(ak_tree *tree, uint64_t node, uint32_t tree_index, size_t index, bool is_end, ak_move movement, ak_position *position);
 uint8_t ak_text_selection_anchor(ak_tree *tree, uint64_t node, uint32_t tree_index, ak_position *anchor);
 uint8_t ak_text_selection_focus(ak_tree *tree, uint64_t node, uint32_t tree_index, ak_position *focus);
 uint8_t ak_text_between(ak_tree *tree, uint64_t node, uint32_t tree_index, size_t from, size_t to, uint8_t *buffer, size_t room, size_t *length);
+
+/* A field of a node as the last update of the node set it, by the call for its kind of value: as in an update, but that ak_field_flag is
+ * also for those that may be unset, and that ak_field_actions answers the whole set. What the library makes of fields, as of those of
+ * ancestors, is not here. A list or a set that isn't set is empty, and a flag isn't set. AK_NO_SUCH: no field with this number has such a
+ * value. AK_NO_NODE: the tree hasn't the node. AK_NOTHING: the node has no value there. Lists are cut off at `room`.
+ *
+ * Beware: ak_field_text answers what was sent. Of AK_FIELD_VALUE of a password, and of its text runs, that is what is typed into it. Only
+ * ak_node_value and ak_node_text mask it. */
+uint8_t ak_field_text(ak_tree *tree, uint64_t node, uint32_t tree_index, ak_field field, uint8_t *buffer, size_t room, size_t *length);
+uint8_t ak_field_ids(ak_tree *tree, uint64_t node, uint32_t tree_index, ak_field field, uint64_t *buffer, size_t room, size_t *count);
+uint8_t ak_field_id(ak_tree *tree, uint64_t node, uint32_t tree_index, ak_field field, uint64_t *id);
+uint8_t ak_field_flag(ak_tree *tree, uint64_t node, uint32_t tree_index, ak_field field, bool *is_set);
+uint8_t ak_field_choice(ak_tree *tree, uint64_t node, uint32_t tree_index, ak_field field, uint32_t *choice);
+uint8_t ak_field_number(ak_tree *tree, uint64_t node, uint32_t tree_index, ak_field field, int64_t *number);
+uint8_t ak_field_count(ak_tree *tree, uint64_t node, uint32_t tree_index, ak_field field, size_t *count);
+uint8_t ak_field_numbers(ak_tree *tree, uint64_t node, uint32_t tree_index, ak_field field, uint16_t *buffer, size_t room, size_t *count);
+uint8_t ak_field_units(ak_tree *tree, uint64_t node, uint32_t tree_index, ak_field field, int32_t *buffer, size_t room, size_t *count);
+uint8_t ak_field_actions(ak_tree *tree, uint64_t node, uint32_t tree_index, ak_field field, uint32_t *buffer, size_t room, size_t *count);
+uint8_t ak_field_tree(ak_tree *tree, uint64_t node, uint32_t tree_index, ak_field field, uint8_t *buffer, size_t room, size_t *length);
+uint8_t ak_field_rect(ak_tree *tree, uint64_t node, uint32_t tree_index, ak_field field, ak_rect *rect);
+uint8_t ak_field_translation(ak_tree *tree, uint64_t node, uint32_t tree_index, ak_field field, ak_translation *translation);
+uint8_t ak_field_selection(ak_tree *tree, uint64_t node, uint32_t tree_index, ak_field field, ak_selection *selection);
+uint8_t ak_field_color(ak_tree *tree, uint64_t node, uint32_t tree_index, ak_field field, ak_color *color);
+uint8_t ak_field_decoration(ak_tree *tree, uint64_t node, uint32_t tree_index, ak_field field, ak_decoration *decoration);
 
 #ifdef __cplusplus
 }

@@ -3,6 +3,7 @@ beside it, with those words in its message, and then `N passed, M failed`. Nothi
 """
 
 import copy
+import ctypes
 import gc
 import inspect
 import math
@@ -186,6 +187,9 @@ CALLS = {
     "an id that is a number": (lambda tree: tree.label(2), TypeError, "id: expected an Id"),
     "an id that is a tuple": (lambda tree: tree.label((0, 2)), TypeError, "id: expected an Id"),
     "an id that is None": (lambda tree: tree.children(None), TypeError, "id: expected an Id"),
+    "a field without a name": (lambda tree: tree.field(BUTTON, "lable"), ValueError, "name: expected one of children, labelled"),
+    "a field by its number": (lambda tree: tree.field(BUTTON, 0), TypeError, "name: expected one of children, labelled"),
+    "a field in a list": (lambda tree: tree.field(BUTTON, ["label"]), TypeError, "name: expected one of children"),
     "an id of one part": (lambda tree: tree.label(short_id()), ValueError, ""),
     "a node of 65 bits": (lambda tree: tree.label(Id(tree=0, node=LARGE)), ValueError, "id.node: expected a whole number from 0 to"),
     "a node below 0": (lambda tree: tree.label(Id(tree=0, node=-1)), ValueError, "id.node"),
@@ -242,20 +246,21 @@ CALLS = {
 # Updates that break a rule, by the exception that has its name.
 FIRST = "update root focus=1 root=1\nnode 1 Window children=2\nnode 2 GenericContainer tree=00000000-0000-0000-0000-000000000007\nend\n"
 INNER = "00000000-0000-0000-0000-000000000007"
+ROOT = UUID(int=0)
 REFUSALS = {
-    "MissingTreeInfo": ("", "update root focus=1\nnode 1 Window\nend\n"),
-    "NotRootTree": ("", f"update {INNER} focus=1 root=1\nnode 1 Window\nend\n"),
-    "MissingData": ("", "update root focus=1 root=1\nnode 1 Window children=2\nend\n"),
-    "NotReached": (FIRST, "update root focus=1\nnode 9 Button\nend\n"),
-    "NamedTwice": (FIRST, "update root focus=1\nnode 1 Window children=2\nnode 1 Window children=2\nend\n"),
-    "ListedTwice": (FIRST, "update root focus=1\nnode 1 Window children=2,3\nnode 3 Button children=2\nend\n"),
-    "RootTreeGrafted": (FIRST, "update root focus=1\nnode 2 GenericContainer tree=root\nend\n"),
-    "GraftWithChildren": (FIRST, f"update root focus=1\nnode 2 GenericContainer tree={INNER} children=3\nnode 3 Button\nend\n"),
-    "GraftedTwice": (FIRST, f"update root focus=1\nnode 1 Window children=2,3\nnode 3 Image tree={INNER}\nend\n"),
-    "NoGraft": (FIRST, "update 00000000-0000-0000-0000-000000000008 focus=1 root=1\nnode 1 Window\nend\n"),
-    "NoFirstTreeInfo": (FIRST, f"update {INNER} focus=1\nnode 1 Window\nend\n"),
-    "FocusMissing": (FIRST, "update root focus=9\nend\n"),
-    "FocusOnEmptyGraft": (FIRST, "update root focus=2\nend\n"),
+    "MissingTreeInfo": ("", "update root focus=1\nnode 1 Window\nend\n", None),
+    "NotRootTree": ("", f"update {INNER} focus=1 root=1\nnode 1 Window\nend\n", None),
+    "MissingData": ("", "update root focus=1 root=1\nnode 1 Window children=2\nend\n", 2),
+    "NotReached": (FIRST, "update root focus=1\nnode 9 Button\nend\n", 9),
+    "NamedTwice": (FIRST, "update root focus=1\nnode 1 Window children=2\nnode 1 Window children=2\nend\n", 1),
+    "ListedTwice": (FIRST, "update root focus=1\nnode 1 Window children=2,3\nnode 3 Button children=2\nend\n", 2),
+    "RootTreeGrafted": (FIRST, "update root focus=1\nnode 2 GenericContainer tree=root\nend\n", 2),
+    "GraftWithChildren": (FIRST, f"update root focus=1\nnode 2 GenericContainer tree={INNER} children=3\nnode 3 Button\nend\n", 2),
+    "GraftedTwice": (FIRST, f"update root focus=1\nnode 1 Window children=2,3\nnode 3 Image tree={INNER}\nend\n", UUID(INNER)),
+    "NoGraft": (FIRST, "update 00000000-0000-0000-0000-000000000008 focus=1 root=1\nnode 1 Window\nend\n", UUID(int=8)),
+    "NoFirstTreeInfo": (FIRST, f"update {INNER} focus=1\nnode 1 Window\nend\n", UUID(INNER)),
+    "FocusMissing": (FIRST, "update root focus=9\nend\n", 9),
+    "FocusOnEmptyGraft": (FIRST, "update root focus=2\nend\n", UUID(INNER)),
 }
 
 
@@ -314,8 +319,10 @@ def calls(checks):
         for what, (call, kind, words) in CALLS.items():
             checks.raises(what, lambda: call(tree), kind, words)
         checks.that(seen(tree) == before, "a bad call changes the tree")
-        absent = tree.label(ABSENT), tree.children(ABSENT), tree.flag(ABSENT, "hidden")
-        checks.that(absent == (None, None, None), f"a node that isn't there: {absent}")
+        for name, given in members(tree):
+            if given[:1] in ((BUTTON,), (FIELD,)):
+                asked = lambda: getattr(tree, name)(ABSENT, *given[1:])
+                checks.raises(f"{name} of a node that isn't there", asked, accesskit_proved.NoNode, "no node 99 in tree 0")
 
 
 class Index:
@@ -382,16 +389,30 @@ def updates(checks):
         checks.that(tree.label(BUTTON) == "Once", "an update that is sent in its with")
 
 
+def library_name(rule):
+    """The name that the library has for a rule."""
+    name, length = ctypes.create_string_buffer(64), ctypes.c_size_t()
+    Tree(LIBRARY)._calls.ak_rule_name(rule, name, 64, length)
+    return name.raw[: length.value].decode()
+
+
 def refusals(checks):
     """An exception for each rule that lines can break, and one that a caller makes."""
-    for name, (before, lines) in REFUSALS.items():
+    for name, (before, lines, about) in REFUSALS.items():
         with Tree(LIBRARY) as tree:
             tree.feed(before)
-            checks.raises(name, lambda: tree.feed(lines), getattr(accesskit_proved, name), name)
+            checks.raises(name, lambda: tree.feed(lines), getattr(accesskit_proved, name), name, str(about or name))
+            try:
+                tree.feed(lines)
+            except Refused as refused:
+                found = refused.node, refused.tree, refused.done
+                checks.that(found == ((None, about, 0) if isinstance(about, UUID) else (about, None, 0)), f"{name} is about {found}")
     rules = Refused.__subclasses__()
+    checks.that([library_name(it.RULE) for it in rules] == [it.__name__ for it in rules], "the library's names of rules")
     checks.that(sorted(it.RULE for it in rules) == list(range(1, 15)), "each rule has one exception")
     checks.that({it.__name__ for it in rules} == REFUSALS.keys() | {"IndexesUsedUp"}, "the rules' names")
-    for error in (accesskit_proved.MissingData(4, 1), accesskit_proved.BadLine(3), accesskit_proved.NoMemory(2), Closed()):
+    inner, errors = UUID(INNER), accesskit_proved
+    for error in (errors.MissingData(4, ROOT), errors.NoGraft(0, inner, 1), errors.BadLine(3), errors.NoMemory(2), errors.NoNode(BUTTON), Closed()):
         again = pickle.loads(pickle.dumps(error))
         checks.that((type(again), str(again), vars(again)) == (type(error), str(error), vars(error)), f"{error!r} pickled")
         checks.that(isinstance(error, Error), f"{error!r} is an Error")
@@ -403,7 +424,7 @@ def members(tree):
     for name in "parent children role role_name label value text bounds filter filtered_parent filtered_children".split():
         yield name, (BUTTON,)
     yield from ((name, (FIELD,)) for name in ("text_selection_anchor", "text_selection_focus"))
-    yield from (("flag", (BUTTON, "hidden")), ("hit", (BUTTON, 0, 0)), ("text_position", (FIELD, 0)), ("text_between", (FIELD, 0, 1)))
+    yield from (("field", (BUTTON, "label")), ("flag", (BUTTON, "hidden")), ("hit", (BUTTON, 0, 0)), ("text_position", (FIELD, 0)), ("text_between", (FIELD, 0, 1)))
     yield from (("text_move", (FIELD, 0, "document_end")), ("feed", ("host on\n",)), ("set_host_focus", (True,)), ("update", (2,)))
 
 
@@ -413,7 +434,7 @@ def closed(checks):
     tree.close()
     tree.close()
     checks.that(tree.closed, "a closed tree")
-    known = {name for name, it in vars(Tree).items() if inspect.isfunction(it) and not name.startswith("_")}
+    known = {name for name, it in inspect.getmembers(Tree, inspect.isfunction) if not name.startswith("_")}
     others = known ^ {name for name, _ in members(tree)}
     checks.that(others == {"close"}, f"the calls of a closed tree that aren't tried: {others}")
     for name, given in members(tree):
@@ -539,7 +560,7 @@ def documented(checks):
     for name in accesskit_proved.__all__:
         it = getattr(accesskit_proved, name)
         checks.that(name == "FIELDS" or (inspect.getdoc(it) and it.__doc__), f"{name} has no docstring")
-        for part, value in vars(it).items() if inspect.isclass(it) else ():
+        for part, value in inspect.getmembers(it) if inspect.isclass(it) else ():
             if not part.startswith("_") and (inspect.isfunction(value) or isinstance(value, property)):
                 checks.that(value.__doc__, f"{name}.{part} has no docstring")
     checks.that(len(FIELDS) > 70 and accesskit_proved.__doc__, "the package has no docstring")

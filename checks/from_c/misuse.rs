@@ -1,7 +1,7 @@
 //! Uses the crate for Rust as it shouldn't be used, as far as its types let one, and its errors and names as Rust's users expect them.
 //! It ends with how many checks passed.
 use accesskit_proved::{Action, Bounds, Color, Error, Event, Field, Filter, Flag, HasPopup, Id, Move, Place, Position, Refusal, Role};
-use accesskit_proved::{Style, Toggled, Tree, TreeName, Update};
+use accesskit_proved::{rule_name, Style, Toggled, Tree, TreeName, Update};
 use std::collections::{BTreeSet, HashSet};
 use std::fmt::Debug;
 use std::hash::Hash;
@@ -30,6 +30,9 @@ node 2 GenericContainer tree=00000000-0000-0000-0000-000000000007
 end
 ";
 
+const INNER: [u8; 16] = [0, 0, 0, 0, 0, 0, 0, 0, 0, 0, 0, 0, 0, 0, 0, 7];
+const OTHER: [u8; 16] = [0, 0, 0, 0, 0, 0, 0, 0, 0, 0, 0, 0, 0, 0, 0, 8];
+
 /// Updates that break a rule: what is fed before, the lines, the refusal, and what it says of the update.
 const REFUSALS: [(&str, &str, Refusal, &str); 13] = [
     ("", "update root focus=1\nnode 1 Window\nend\n", Refusal::MissingTreeInfo, "says no root"),
@@ -48,13 +51,13 @@ const REFUSALS: [(&str, &str, Refusal, &str); 13] = [
     (
         FIRST,
         "update root focus=1\nnode 1 Window children=2,3\nnode 3 Image tree=00000000-0000-0000-0000-000000000007\nend\n",
-        Refusal::GraftedTwice,
-        "two grafts",
+        Refusal::GraftedTwice(INNER),
+        "two grafts of the tree 00000000-0000-0000-0000-000000000007",
     ),
-    (FIRST, "update 00000000-0000-0000-0000-000000000008 focus=1 root=1\nnode 1 Window\nend\n", Refusal::NoGraft, "no node grafts"),
-    (FIRST, "update 00000000-0000-0000-0000-000000000007 focus=1\nnode 1 Window\nend\n", Refusal::NoFirstTreeInfo, "says no root"),
+    (FIRST, "update 00000000-0000-0000-0000-000000000008 focus=1 root=1\nnode 1 Window\nend\n", Refusal::NoGraft(OTHER), "the tree 00000000-0000-0000-0000-000000000008, which no node grafts"),
+    (FIRST, "update 00000000-0000-0000-0000-000000000007 focus=1\nnode 1 Window\nend\n", Refusal::NoFirstTreeInfo(INNER), "0007, and says no root"),
     (FIRST, "update root focus=9\nend\n", Refusal::FocusMissing(9), "focus on node 9"),
-    (FIRST, "update root focus=2\nend\n", Refusal::FocusOnEmptyGraft, "isn't present"),
+    (FIRST, "update root focus=2\nend\n", Refusal::FocusOnEmptyGraft(INNER), "isn't present"),
 ];
 
 fn refusals(checks: &mut Checks) -> Result<(), Error> {
@@ -63,9 +66,13 @@ fn refusals(checks: &mut Checks) -> Result<(), Error> {
         tree.feed(before)?;
         checks.same(words, tree.feed(lines), Err(Error::Refused { done: 0, why }));
         checks.same(words, why.to_string().contains(words), true);
-        checks.same(words, tree.root().is_some(), !before.is_empty());
+        checks.same(words, tree.root()?.is_some(), !before.is_empty());
+        let named = (1..=14).filter_map(rule_name).find(|name| format!("{why:?}").split('(').next() == Some(name));
+        checks.same("the library's name of a rule", named.is_some(), true);
     }
-    checks.same("a node of a refusal", (Refusal::NotReached(9).node(), Refusal::NoGraft.node()), (Some(9), None));
+    checks.same("names of rules", (rule_name(0), rule_name(15), (1..=14).filter_map(rule_name).count()), (None, None, 14));
+    checks.same("a node of a refusal", (Refusal::NotReached(9).node(), Refusal::NoGraft(INNER).node()), (Some(9), None));
+    checks.same("a tree of a refusal", (Refusal::NotReached(9).tree(), Refusal::NoGraft(INNER).tree()), (None, Some(INNER)));
     Ok(())
 }
 
@@ -83,9 +90,13 @@ fn parts_of_updates(checks: &mut Checks) -> Result<(), Error> {
     checks.same("its label", tree.label(id)?, Some("a\0b".into()));
     checks.same("a bad line", tree.feed("host on\nwhat\n"), Err(Error::BadLine(2)));
     let absent = Id { tree: u32::MAX, node: u64::MAX };
-    let answers = (tree.label(absent)?, tree.children(absent)?, tree.flag(absent, Flag::Hidden));
-    checks.same("a node that isn't there", answers, (None, None, None));
-    checks.same("an index that isn't there", tree.text_position(id, usize::MAX, true), None);
+    checks.same("a label of no node", tree.label(absent), Err(Error::NoNode));
+    checks.same("children of no node", tree.children(absent), Err(Error::NoNode));
+    checks.same("a flag of no node", tree.flag(absent, Flag::Hidden), Err(Error::NoNode));
+    checks.same("a field of no node", tree.field_text(absent, Field::Label), Err(Error::NoNode));
+    checks.same("a field that isn't set", tree.field_text(id, Field::Url), Ok(None));
+    checks.same("a field of another kind that is read", tree.field_number(id, Field::Label), Err(Error::NoSuch));
+    checks.same("an index that isn't there", tree.text_position(id, usize::MAX, true), Ok(None));
     Ok(())
 }
 
@@ -101,10 +112,10 @@ fn traits(checks: &mut Checks) -> Result<(), Box<dyn std::error::Error>> {
     (is_plain::<Role>(), is_plain::<Action>(), is_plain::<Field>(), is_plain::<Flag>(), is_plain::<Filter>(), is_plain::<Move>());
     (is_plain::<Style>(), is_plain::<Toggled>(), is_plain::<HasPopup>(), is_plain::<Color>(), is_plain::<Place>(), is_plain::<TreeName>());
     (is_shown::<Tree>(), is_shown::<Update>());
-    let ids: HashSet<_> = Tree::new()?.root().into_iter().chain([Id { tree: 0, node: 1 }; 2]).collect();
+    let ids: HashSet<_> = Tree::new()?.root()?.into_iter().chain([Id { tree: 0, node: 1 }; 2]).collect();
     checks.same("ids in a set", ids.len(), 1);
-    let ordered: BTreeSet<_> = [Id { tree: 1, node: 0 }, Id { tree: 0, node: 2 }, Id { tree: 0, node: 1 }].into();
-    checks.same("ids in order", ordered.iter().map(|id| (id.tree, id.node)).collect::<Vec<_>>(), vec![(0, 1), (0, 2), (1, 0)]);
+    let ordered: BTreeSet<_> = [Id { tree: 0, node: 2 }, Id { tree: 1, node: 1 }, Id { tree: 0, node: 1 }].into();
+    checks.same("ids in order", ordered.iter().map(|id| (id.node, id.tree)).collect::<Vec<_>>(), vec![(1, 0), (1, 1), (2, 0)]);
     let error: Box<dyn std::error::Error> = Error::BadLine(3).into();
     checks.same("an error as any other", error.to_string(), "line 3 is bad".into());
     let refused = Error::Refused { done: 1, why: Refusal::NamedTwice(4) };
@@ -126,7 +137,7 @@ fn roles(checks: &mut Checks) -> Result<(), Box<dyn std::error::Error>> {
     tree.feed("update root focus=1 root=1\nnode 1 Window children=2\nnode 2 Other(328)\nend\n")?;
     for (node, role) in [(1, Role::WINDOW), (2, Role::other(328))] {
         let id = Id { tree: 0, node };
-        checks.same("a role that is read", (tree.role(id), tree.role_name(id)?), (Some(role), Some(role.to_string())));
+        checks.same("a role that is read", (tree.role(id)?, tree.role_name(id)?), (role, role.to_string()));
     }
     Ok(())
 }

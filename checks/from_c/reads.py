@@ -1,17 +1,24 @@
 """Reads a tree by the calls of the module for Python that the adapter doesn't use: `reads.py LIBRARY SCRIPT` prints reads.told."""
 
 import sys
-from accesskit_proved import Id, Role, Tree
+from accesskit_proved import Id, NoNode, Role, Tree
 
 ROOT = 0
 
 
 def node(number):
-    return Id(ROOT, number)
+    return Id(number, ROOT)
 
 
 def number(id):
     return "none" if id is None else id.node
+
+
+def role_of(tree, id):
+    try:
+        return tree.role(id)
+    except NoNode:
+        return "none"
 
 
 def words(values):
@@ -30,7 +37,7 @@ def main(library, script):
         tree.feed(lines.read())
         for it, name in ((2, "Button"), (8, "CheckBox")):
             print(f"role {it}: {'as named' if tree.role(node(it)) is Role(name) else 'another'}")
-        print(f"role 99: {'none' if tree.role(node(99)) is None else 'some'}")
+        print(f"role 99: {role_of(tree, node(99))}")
         for it in (2, 3, 6):
             bounds = tree.bounds(node(it))
             print(f"bounds {it}: {words(bounds) if bounds else 'none'}")

@@ -9,8 +9,17 @@ fn number(id: Option<Id>) -> String {
     id.map_or("none".into(), |id| id.node.to_string())
 }
 
-fn numbers(ids: Option<Vec<Id>>) -> String {
-    ids.unwrap_or_default().iter().map(|id| id.node.to_string()).collect::<Vec<_>>().join(" ")
+fn numbers(ids: Vec<Id>) -> String {
+    ids.iter().map(|id| id.node.to_string()).collect::<Vec<_>>().join(" ")
+}
+
+/// What is read of a node, if the tree has it.
+fn of_node<T>(answer: Result<T, Error>) -> Result<Option<T>, Error> {
+    match answer {
+        Ok(it) => Ok(Some(it)),
+        Err(Error::NoNode) => Ok(None),
+        Err(other) => Err(other),
+    }
 }
 
 fn place(position: Option<Position>) -> String {
@@ -20,26 +29,25 @@ fn place(position: Option<Position>) -> String {
     })
 }
 
-fn yes(said: Option<bool>) -> &'static str {
-    if said == Some(true) { "yes" } else { "no" }
+fn yes(said: bool) -> &'static str {
+    if said { "yes" } else { "no" }
 }
 
-fn answer(answer: Option<FilterResult>) -> &'static str {
+fn answer(answer: FilterResult) -> &'static str {
     match answer {
-        Some(FilterResult::Include) => "include",
-        Some(FilterResult::ExcludeNode) => "exclude_node",
-        Some(FilterResult::ExcludeSubtree) => "exclude_subtree",
-        None => "none",
+        FilterResult::Include => "include",
+        FilterResult::ExcludeNode => "exclude_node",
+        FilterResult::ExcludeSubtree => "exclude_subtree",
     }
 }
 
 fn shown(tree: &mut Tree) -> Result<(), Error> {
     let role = |is: bool| if is { "as named" } else { "another" };
-    println!("role 2: {}", role(tree.role(node(2)) == Some(Role::BUTTON)));
-    println!("role 8: {}", role(tree.role(node(8)) == Some(Role::CHECK_BOX)));
-    println!("role 99: {}", if tree.role(node(99)).is_none() { "none" } else { "some" });
+    println!("role 2: {}", role(tree.role(node(2))? == Role::BUTTON));
+    println!("role 8: {}", role(tree.role(node(8))? == Role::CHECK_BOX));
+    println!("role 99: {}", of_node(tree.role(node(99)))?.map_or("none".into(), |role| role.to_string()));
     for it in [2, 3, 6] {
-        let bounds = tree.bounds(node(it)).map_or("none".into(), |it| format!("{} {} {} {}", it.x0, it.y0, it.x1, it.y1));
+        let bounds = tree.bounds(node(it))?.map_or("none".into(), |it| format!("{} {} {} {}", it.x0, it.y0, it.x1, it.y1));
         println!("bounds {it}: {bounds}");
     }
     for (name, flag, first, second) in [
@@ -48,29 +56,29 @@ fn shown(tree: &mut Tree) -> Result<(), Error> {
         ("focusable", Flag::Focusable, 2, 8),
         ("supports_text_ranges", Flag::SupportsTextRanges, 3, 2),
     ] {
-        println!("{name} {first} {second}: {} {}", yes(tree.flag(node(first), flag)), yes(tree.flag(node(second), flag)));
+        println!("{name} {first} {second}: {} {}", yes(tree.flag(node(first), flag)?), yes(tree.flag(node(second), flag)?));
     }
     for (x, y) in [(20, 20), (310, 210), (600, 600), (1000, 1000)] {
-        println!("hit {x} {y}: {}", number(tree.hit(node(1), x, y, Filter::Common)));
+        println!("hit {x} {y}: {}", number(tree.hit(node(1), x, y, Filter::Common)?));
     }
-    let answers: Vec<_> = [2, 6, 7, 8].iter().map(|it| answer(tree.filter(node(*it), Filter::Common))).collect();
-    println!("filters: {}", answers.join(" "));
+    let answers: Result<Vec<_>, Error> = [2, 6, 7, 8].iter().map(|it| tree.filter(node(*it), Filter::Common).map(answer)).collect();
+    println!("filters: {}", answers?.join(" "));
     println!("filtered children of 1: {}", numbers(tree.filtered_children(node(1), Filter::Common)?));
     println!("all children of 1: {}", numbers(tree.filtered_children(node(1), Filter::All)?));
-    println!("filtered parent of 8: {}", number(tree.filtered_parent(node(8), Filter::Common)));
+    println!("filtered parent of 8: {}", number(tree.filtered_parent(node(8), Filter::Common)?));
     Ok(())
 }
 
 fn text(tree: &mut Tree) -> Result<(), Error> {
-    println!("at 4: {}", place(tree.text_position(node(3), 4, false)));
-    println!("at end 4: {}", place(tree.text_position(node(3), 4, true)));
-    println!("at 7: {}", place(tree.text_position(node(3), 7, false)));
-    println!("word from 0: {}", place(tree.text_move(node(3), 0, false, Move::ForwardToWordStart)));
-    println!("word end from 3: {}", place(tree.text_move(node(3), 3, false, Move::ForwardToWordEnd)));
-    println!("word from 4: {}", place(tree.text_move(node(3), 4, false, Move::ForwardToWordStart)));
-    println!("character from 6: {}", place(tree.text_move(node(3), 6, false, Move::ForwardToCharacterStart)));
+    println!("at 4: {}", place(tree.text_position(node(3), 4, false)?));
+    println!("at end 4: {}", place(tree.text_position(node(3), 4, true)?));
+    println!("at 7: {}", place(tree.text_position(node(3), 7, false)?));
+    println!("word from 0: {}", place(tree.text_move(node(3), 0, false, Move::ForwardToWordStart)?));
+    println!("word end from 3: {}", place(tree.text_move(node(3), 3, false, Move::ForwardToWordEnd)?));
+    println!("word from 4: {}", place(tree.text_move(node(3), 4, false, Move::ForwardToWordStart)?));
+    println!("character from 6: {}", place(tree.text_move(node(3), 6, false, Move::ForwardToCharacterStart)?));
     for (name, it) in [("selected", 3), ("selected in 2", 2)] {
-        println!("{name}: {}, {}", place(tree.text_selection_anchor(node(it))), place(tree.text_selection_focus(node(it))));
+        println!("{name}: {}, {}", place(tree.text_selection_anchor(node(it))?), place(tree.text_selection_focus(node(it))?));
     }
     for (from, to) in [(1, 5), (4, 6), (5, 4), (0, 7)] {
         let said = tree.text_between(node(3), from, to)?.unwrap_or("none".into());

@@ -5,7 +5,7 @@ an error is needed, or else it is one. The file isn't run.
 from typing import List, Optional, Union
 from uuid import UUID
 
-from accesskit_proved import Event, EventKind, Filter, Flag, Id, Move, Position, Role, Toggled, Tree, Update
+from accesskit_proved import Color, Event, EventKind, Filter, Flag, Id, Move, Position, Role, Toggled, Tree, Update
 
 tree = Tree("libaccesskit_proved.so")
 update: Update = tree.update(1, root=1, tree=UUID(int=7), toolkit="Kit", version="1")
@@ -15,11 +15,18 @@ events: List[Event] = tree.events()
 root: Optional[Id] = tree.root()
 if root:
     label: Optional[str] = tree.label(root)
-    role: Union[Role, int, None] = tree.role(root)
-    children: Optional[List[Id]] = tree.filtered_children(root, Filter.COMMON)
+    role: Union[Role, int] = tree.role(root)
+    children: List[Id] = tree.filtered_children(root, Filter.COMMON)
     position: Optional[Position] = tree.text_move(root, 0, Move.DOCUMENT_END, is_end=True)
-    hidden: Optional[bool] = tree.flag(root, Flag.HIDDEN) or tree.flag(root, "hidden")
+    hidden: bool = tree.flag(root, Flag.HIDDEN) or tree.flag(root, "hidden")
     tree.hit(root, 0, 0, "all")
+    url: Optional[str] = tree.field(root, "url")
+    labelled: List[int] = tree.field(root, "labelled")
+    toggled: Optional[Toggled] = tree.field(root, "toggled")
+    color: Optional[Color] = tree.field(root, "background_color")
+    busy: bool = tree.field(root, "busy")
+    number: int = tree.field(root, "number")  # type: ignore[assignment]
+    tree.field(root, 5)  # type: ignore[call-overload]
     tree.label(root.node)  # type: ignore[arg-type]
     tree.hit(root, 0.5, 0)  # type: ignore[arg-type]
     tree.hit(root, 0)  # type: ignore[call-arg]

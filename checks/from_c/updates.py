@@ -121,7 +121,7 @@ def main(library, path):
         print("refused:", refused(built.update(9).send))
         built.update(2).node(5, "Button", label="Fro").node(5, "Button")
         built.update(2).node(5, "Button", label="To").send()
-        print("label:", built.label(Id(0, 5)))
+        print("label:", built.label(Id(5, 0)))
         built.set_host_focus(True)
         print("host has the focus:", told(built.events()))
 

@@ -102,7 +102,7 @@ fn all(script: &str) -> Result<(), Error> {
     println!("built, then fed: {}", told(feed(&mut built, script)?));
     feed(&mut fed, script)?;
     println!("fed, then built: {}", told(build(&mut fed)?));
-    println!("root and focus: {}, {}", named(built.root()), named(built.focus()));
+    println!("root and focus: {}, {}", named(built.root()?), named(built.focus()?));
     relabel(&mut built, "More")?;
     println!("relabelled by calls: {}", told(built.events()?));
     fed.feed("update root focus=2\nnode 5 Button label=\"More\"\nend\n")?;

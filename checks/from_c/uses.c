@@ -58,7 +58,7 @@ static void tell(ak_tree *tree, char *told, size_t room) {
 
 static void closed_handles(void) {
     ak_tree tree = AK_TREE_CLOSED;
-    ak_stop stop = {7, 7, 7, 7};
+    ak_stop stop = {.line = 7, .done = 7, .node = 7, .rule = 7};
     ak_event event;
     ak_id id = {7, 7};
     size_t count = 7;
@@ -72,7 +72,7 @@ static void closed_handles(void) {
         CHECK(count == 7 && byte == 7 && id.node == 7);
         ak_tree_close(&tree);
         CHECK(ak_tree_open(&tree) == AK_DONE && ak_tree_open(&tree) == AK_DONE);
-        CHECK(ak_tree_root(&tree, &id) == AK_NOTHING && ak_node_role(&tree, 1, 0, &byte, 1, &count) == AK_NOTHING);
+        CHECK(ak_tree_root(&tree, &id) == AK_NOTHING && ak_node_role(&tree, 1, 0, &byte, 1, &count) == AK_NO_NODE);
         CHECK(ak_tree_event_count(&tree, &count) == AK_DONE && count == 0);
         count = 7;
         ak_tree_close(&tree);
@@ -126,7 +126,7 @@ static void rooms(void) {
         for (size_t i = 0; i < 4; i++) CHECK(i < room && i < 3 ? ids[i].node == i + 2 && ids[i].tree == 0 : ids[i].node == 0x0909090909090909);
     }
     CHECK(ak_node_children(&tree, 1, 0, NULL, 0, &length) == AK_DONE && length == 3);
-    CHECK(ak_node_label(&tree, 99, 0, text, 8, &length) == AK_NOTHING && ak_node_label(&tree, 2, 4000000000, text, 8, &length) == AK_NOTHING);
+    CHECK(ak_node_label(&tree, 99, 0, text, 8, &length) == AK_NO_NODE && ak_node_label(&tree, 2, 4000000000, text, 8, &length) == AK_NO_NODE);
     CHECK(ak_node_value(&tree, 4, 0, text, 8, &length) == AK_DONE && length == 4 && memcmp(text, "five", 4) == 0);
     CHECK(ak_node_value(&tree, 2, 0, text, 8, &length) == AK_NOTHING && ak_node_text(&tree, 2, 0, text, 8, &length) == AK_NOTHING);
     CHECK(ak_node_parent(&tree, 1, 0, ids) == AK_NOTHING && ak_node_parent(&tree, 4, 0, ids) == AK_DONE && ids[0].node == 1);
@@ -161,7 +161,7 @@ static void shown(void) {
     ak_bounds box = {7, 7, 7, 7};
     ak_id id = {7, 7}, ids[4];
     bool is_set = true;
-    uint8_t answer = 7;
+    ak_filter_result answer = 7;
     uint32_t number = 7;
     size_t count = 7;
     CHECK(ak_node_bounds(&tree, 2, 0, &box) == AK_CLOSED && ak_node_flag(&tree, 7, 0, AK_DISABLED, &is_set) == AK_CLOSED);
@@ -169,12 +169,14 @@ static void shown(void) {
     CHECK(ak_node_role_number(&tree, 2, 0, &number) == AK_CLOSED);
     CHECK(ak_node_filtered_parent(&tree, 8, 0, AK_COMMON, &id) == AK_CLOSED && ak_node_filtered_children(&tree, 1, 0, AK_COMMON, ids, 4, &count) == AK_CLOSED);
     feed_reads(&tree);
-    CHECK(ak_node_bounds(&tree, 6, 0, &box) == AK_NOTHING && ak_node_bounds(&tree, 99, 0, &box) == AK_NOTHING);
-    CHECK(ak_node_flag(&tree, 99, 0, AK_HIDDEN, &is_set) == AK_NOTHING && ak_node_flag(&tree, 2, 0, AK_INVOCABLE + 1, &is_set) == AK_NOTHING);
-    CHECK(ak_node_flag(&tree, 2, 0, 255, &is_set) == AK_NOTHING && ak_node_filter(&tree, 2, 0, AK_COMMON_WITH_ROOT + 1, &answer) == AK_NOTHING);
-    CHECK(ak_node_hit(&tree, 1, 0, 20, 20, 255, &id) == AK_NOTHING && ak_node_hit(&tree, 1, 0, INT64_MIN, INT64_MAX, AK_ALL, &id) == AK_NOTHING);
-    CHECK(ak_node_filtered_parent(&tree, 1, 0, AK_ALL, &id) == AK_NOTHING && ak_node_filtered_children(&tree, 1, 0, 9, ids, 4, &count) == AK_NOTHING);
-    CHECK(ak_node_role_number(&tree, 99, 0, &number) == AK_NOTHING && ak_node_role_number(&tree, 2, 1, &number) == AK_NOTHING);
+    CHECK(ak_node_bounds(&tree, 6, 0, &box) == AK_NOTHING && ak_node_bounds(&tree, 99, 0, &box) == AK_NO_NODE);
+    CHECK(ak_node_flag(&tree, 99, 0, AK_HIDDEN, &is_set) == AK_NO_NODE && ak_node_flag(&tree, 2, 0, AK_INVOCABLE + 1, &is_set) == AK_NO_SUCH);
+    CHECK(ak_node_flag(&tree, 2, 0, 256, &is_set) == AK_NO_SUCH && ak_node_filter(&tree, 2, 0, AK_COMMON_WITH_ROOT + 1, &answer) == AK_NO_SUCH);
+    CHECK(ak_node_filter(&tree, 99, 0, AK_COMMON, &answer) == AK_NO_NODE && ak_node_hit(&tree, 99, 0, 1, 1, AK_ALL, &id) == AK_NO_NODE);
+    CHECK(ak_node_hit(&tree, 1, 0, 20, 20, 257, &id) == AK_NO_SUCH && ak_node_hit(&tree, 1, 0, INT64_MIN, INT64_MAX, AK_ALL, &id) == AK_NOTHING);
+    CHECK(ak_node_filtered_parent(&tree, 1, 0, AK_ALL, &id) == AK_NOTHING && ak_node_filtered_children(&tree, 1, 0, 9, ids, 4, &count) == AK_NO_SUCH);
+    CHECK(ak_node_filtered_parent(&tree, 2, 1, AK_ALL, &id) == AK_NO_NODE && ak_node_filtered_children(&tree, 99, 0, AK_ALL, ids, 4, &count) == AK_NO_NODE);
+    CHECK(ak_node_role_number(&tree, 99, 0, &number) == AK_NO_NODE && ak_node_role_number(&tree, 2, 1, &number) == AK_NO_NODE);
     CHECK(box.x0 == 7 && box.y1 == 7 && is_set && answer == 7 && count == 7 && id.node == 7 && id.tree == 7 && number == 7);
     CHECK(ak_node_role_number(&tree, 2, 0, &number) == AK_DONE && number == AK_ROLE_BUTTON);
     CHECK(ak_node_role_number(&tree, 8, 0, &number) == AK_DONE && number == AK_ROLE_CHECK_BOX);
@@ -208,13 +210,14 @@ static void texts(void) {
     CHECK(ak_text_between(&tree, 3, 0, 0, 1, text, 8, &length) == AK_CLOSED && length == 7);
     feed_reads(&tree);
     CHECK(ak_text_position(&tree, 3, 0, 7, false, &at) == AK_NOTHING && ak_text_position(&tree, 3, 0, SIZE_MAX, true, &at) == AK_NOTHING);
-    CHECK(ak_text_position(&tree, 2, 0, 0, false, &at) == AK_NOTHING && ak_text_move(&tree, 99, 0, 0, false, AK_DOCUMENT_END, &at) == AK_NOTHING);
-    CHECK(ak_text_move(&tree, 3, 0, 0, false, AK_DOCUMENT_START + 1, &at) == AK_NOTHING && ak_text_move(&tree, 3, 0, 0, false, 255, &at) == AK_NOTHING);
+    CHECK(ak_text_position(&tree, 2, 0, 0, false, &at) == AK_NOTHING && ak_text_move(&tree, 99, 0, 0, false, AK_DOCUMENT_END, &at) == AK_NO_NODE);
+    CHECK(ak_text_move(&tree, 3, 0, 0, false, AK_DOCUMENT_START + 1, &at) == AK_NO_SUCH && ak_text_move(&tree, 3, 0, 0, false, 256, &at) == AK_NO_SUCH);
     CHECK(ak_text_move(&tree, 3, 0, 6, false, AK_FORWARD_TO_CHARACTER_END, &at) == AK_NOTHING);
     CHECK(ak_text_move(&tree, 3, 0, 0, false, AK_BACKWARD_TO_CHARACTER_START, &at) == AK_NOTHING && is_at(&at, 7, 7, 7, true) == false && at.run == 7);
     CHECK(ak_text_between(&tree, 3, 0, 0, 7, text, 8, &length) == AK_NOTHING && ak_text_between(&tree, 3, 0, SIZE_MAX, 0, text, 8, &length) == AK_NOTHING);
+    CHECK(ak_text_between(&tree, 99, 0, 0, 1, text, 8, &length) == AK_NO_NODE && ak_text_position(&tree, 99, 0, 0, true, &at) == AK_NO_NODE);
     CHECK(length == 7 && text[0] == 0);
-    CHECK(ak_text_selection_anchor(&tree, 2, 0, &at) == AK_NOTHING && ak_text_selection_focus(&tree, 99, 0, &at) == AK_NOTHING && at.run == 7);
+    CHECK(ak_text_selection_anchor(&tree, 2, 0, &at) == AK_NOTHING && ak_text_selection_focus(&tree, 99, 0, &at) == AK_NO_NODE && at.run == 7);
     CHECK(ak_text_selection_anchor(&tree, 3, 0, &at) == AK_DONE && is_at(&at, 4, 1, 1, false));
     CHECK(ak_text_selection_focus(&tree, 3, 0, &at) == AK_DONE && is_at(&at, 5, 1, 5, false) && at.utf16_index == 5);
     CHECK(ak_text_position(&tree, 3, 0, 4, false, &at) == AK_DONE && is_at(&at, 5, 0, 4, false));
@@ -242,6 +245,66 @@ static void texts(void) {
         CHECK(answer == AK_DONE ? length == 3 : answer == AK_NO_MEMORY && length == 9 && ids[0].node == 9);
     }
     until_failure = -1;
+    ak_tree_close(&tree);
+}
+
+/* The calls that read fields, where read_fields.c doesn't look: closed, numbers that mean nothing, small rooms, a password, and growths. */
+static void fields(void) {
+    static const char login[] = "update root focus=1 root=1\nnode 1 PasswordInput value=\"ab\" children=2,3 actions=Click,Focus,Other(3)\n"
+                                "node 2 TextRun value=\"pin\" chars=1,1,1 words=0\nnode 3 GenericContainer expanded=false\nend\n";
+    ak_tree tree = AK_TREE_CLOSED;
+    ak_stop stop;
+    ak_rect rect = {7, 7, 7, 7};
+    uint8_t text[8] = {0};
+    uint64_t ids[2] = {7, 7};
+    uint32_t actions[4] = {7, 7, 7, 7}, choice = 7;
+    size_t length = 7;
+    bool is_set = true;
+    CHECK(ak_field_text(&tree, 1, 0, AK_FIELD_VALUE, text, 8, &length) == AK_CLOSED && ak_field_rect(&tree, 1, 0, AK_FIELD_BOUNDS, &rect) == AK_CLOSED);
+    CHECK(ak_field_text(&tree, 1, 0, 256, text, 8, &length) == AK_CLOSED && ak_field_ids(&tree, 1, 0, AK_FIELD_CHILDREN, ids, 2, &length) == AK_CLOSED);
+    CHECK(ak_tree_open(&tree) == AK_DONE && ak_field_text(&tree, 1, 0, AK_FIELD_VALUE, text, 8, &length) == AK_NO_NODE);
+    CHECK(feed(&tree, login, &stop) == AK_DONE && ak_field_rect(&tree, 1, 0, AK_FIELD_BOUNDS, &rect) == AK_NOTHING);
+    CHECK(ak_field_rect(&tree, 9, 0, AK_FIELD_BOUNDS, &rect) == AK_NO_NODE && ak_field_rect(&tree, 9, 0, AK_FIELD_MOVE, &rect) == AK_NO_SUCH);
+    CHECK(ak_field_text(&tree, 1, 0, AK_FIELD_CHILD_ACTIONS + 1, text, 8, &length) == AK_NO_SUCH && ak_field_flag(&tree, 1, 0, 256 + AK_FIELD_HIDDEN, &is_set) == AK_NO_SUCH);
+    CHECK(ak_field_choice(&tree, 1, 0, AK_FIELD_LIVE, &choice) == AK_NOTHING && ak_field_text(&tree, 1, 0, AK_FIELD_LABEL, text, 8, &length) == AK_NOTHING);
+    CHECK(rect.x0 == 7 && rect.y1 == 7 && text[0] == 0 && length == 7 && choice == 7 && is_set && ids[0] == 7);
+    CHECK(ak_field_flag(&tree, 3, 0, AK_FIELD_EXPANDED, &is_set) == AK_DONE && !is_set && ak_field_flag(&tree, 3, 0, AK_FIELD_SELECTED, &is_set) == AK_NOTHING);
+    CHECK(ak_field_text(&tree, 1, 0, AK_FIELD_VALUE, text, 1, &length) == AK_DONE && length == 2 && text[0] == 'a' && text[1] == 0);
+    CHECK(ak_field_text(&tree, 2, 0, AK_FIELD_VALUE, text, 8, &length) == AK_DONE && length == 3 && memcmp(text, "pin", 3) == 0);
+    CHECK(ak_node_value(&tree, 1, 0, text, 8, &length) == AK_DONE && text[0] == 0xe2);
+    CHECK(ak_field_ids(&tree, 1, 0, AK_FIELD_CHILDREN, ids, 1, &length) == AK_DONE && length == 2 && ids[0] == 2 && ids[1] == 7);
+    CHECK(ak_field_ids(&tree, 2, 0, AK_FIELD_CHILDREN, NULL, 0, &length) == AK_DONE && length == 0);
+    for (long growth = 0; growth < 20; growth++) {
+        until_failure = growth;
+        length = 9;
+        uint8_t answer = ak_field_actions(&tree, 1, 0, AK_FIELD_ACTIONS, actions, 4, &length);
+        CHECK(answer == AK_DONE ? length == 3 && actions[1] == AK_ACTION_FOCUS && actions[2] == AK_ACTION_OTHER + 3 : answer == AK_NO_MEMORY && length == 9);
+        until_failure = growth;
+        length = 9;
+        answer = ak_field_ids(&tree, 1, 0, AK_FIELD_CHILDREN, ids, 2, &length);
+        CHECK(answer == AK_DONE ? length == 2 && ids[1] == 3 : answer == AK_NO_MEMORY && length == 9);
+    }
+    until_failure = 0;
+    CHECK(ak_field_text(&tree, 2, 0, AK_FIELD_VALUE, text, 8, &length) == AK_DONE && length == 3);
+    until_failure = -1;
+    ak_tree_close(&tree);
+}
+
+/* The names of rules, and what refusals name. */
+static void rules(void) {
+    ak_tree tree = AK_TREE_CLOSED;
+    ak_stop stop;
+    uint8_t name[32] = {0};
+    size_t length = 7;
+    CHECK(ak_rule_name(0, name, 32, &length) == AK_NO_SUCH && ak_rule_name(AK_INDEXES_USED_UP + 1, name, 32, &length) == AK_NO_SUCH && length == 7);
+    CHECK(ak_rule_name(256 + AK_MISSING_DATA, name, 32, &length) == AK_NO_SUCH && ak_rule_name(UINT32_MAX, name, 32, &length) == AK_NO_SUCH && name[0] == 0);
+    CHECK(ak_rule_name(AK_INDEXES_USED_UP, name, 5, &length) == AK_DONE && length == 13 && memcmp(name, "Index", 6) == 0);
+    CHECK(ak_tree_open(&tree) == AK_DONE && feed(&tree, "update root focus=1 root=1\nnode 1 Window\nend\n", &stop) == AK_DONE && stop.tree_id[15] == 0);
+    CHECK(feed(&tree, "update 01000000-0000-0000-0000-000000000007 focus=1 root=1\nnode 1 Window\nend\n", &stop) == AK_REFUSED && stop.node == 0);
+    CHECK(stop.rule == AK_NO_GRAFT && stop.tree_id[0] == 1 && stop.tree_id[15] == 7 && ak_rule_name(stop.rule, name, 32, &length) == AK_DONE);
+    CHECK(length == 7 && memcmp(name, "NoGraft", 7) == 0);
+    CHECK(feed(&tree, "update root focus=1\nnode 1 Window children=5\nend\n", &stop) == AK_REFUSED && stop.node == 5 && stop.tree_id[0] == 0);
+    CHECK(stop.rule == AK_MISSING_DATA && ak_rule_name(stop.rule, name, 32, &length) == AK_DONE && memcmp(name, "MissingData", length) == 0);
     ak_tree_close(&tree);
 }
 
@@ -294,7 +357,7 @@ static void updates(void) {
     static const uint8_t uuid[16] = {1};
     char fed[4000], built[4000];
     ak_tree tree = AK_TREE_CLOSED, other = AK_TREE_CLOSED;
-    ak_stop stop = {7, 7, 7, 7};
+    ak_stop stop = {.line = 7, .rule = 7};
     ak_event event;
     CHECK(ak_update_begin(&tree, NULL, 0, 1) == AK_CLOSED && ak_update_root(&tree, 1) == AK_CLOSED && ak_update_node(&tree, 1, 0) == AK_CLOSED);
     CHECK(ak_update_begin(&tree, uuid, 3, 1) == AK_CLOSED && ak_update_node(&tree, 1, UINT32_MAX) == AK_CLOSED && label(&tree, "\xff") == AK_CLOSED);
@@ -303,15 +366,19 @@ static void updates(void) {
     CHECK(ak_tree_open(&tree) == AK_DONE && ak_tree_open(&other) == AK_DONE);
     CHECK(ak_update_root(&tree, 1) == AK_OUT_OF_PLACE && ak_update_node(&tree, 1, AK_ROLE_WINDOW) == AK_OUT_OF_PLACE && label(&tree, "x") == AK_OUT_OF_PLACE);
     CHECK(ak_update_toolkit_name(&tree, uuid, 0) == AK_OUT_OF_PLACE && ak_update_send(&tree, &stop) == AK_OUT_OF_PLACE && stop.line == 7);
-    CHECK(ak_update_begin(&tree, uuid, 15, 1) == AK_NOTHING && ak_update_root(&tree, 1) == AK_OUT_OF_PLACE);
+    CHECK(ak_update_begin(&tree, uuid, 15, 1) == AK_NO_SUCH && ak_update_root(&tree, 1) == AK_OUT_OF_PLACE);
     CHECK(ak_update_begin(&tree, NULL, 0, 9) == AK_DONE && label(&tree, "x") == AK_OUT_OF_PLACE && ak_update_flag(&tree, 255) == AK_OUT_OF_PLACE);
     CHECK(ak_update_toolkit_version(&tree, uuid, 0) == AK_OUT_OF_PLACE && ak_update_root(&tree, 1) == AK_DONE);
-    CHECK(ak_update_toolkit_name(&tree, (const uint8_t *)"\xff", 1) == AK_NOTHING && ak_update_toolkit_name(&tree, NULL, 0) == AK_DONE);
-    CHECK(ak_update_node(&tree, 1, AK_ROLE_OTHER + 65536) == AK_NOTHING && ak_update_node(&tree, 1, UINT32_MAX) == AK_NOTHING && label(&tree, "x") == AK_OUT_OF_PLACE);
-    CHECK(ak_update_node(&tree, 1, AK_ROLE_OTHER + 65535) == AK_DONE && label(&tree, "\xc3") == AK_NOTHING && ak_update_flag(&tree, AK_FIELD_LABEL) == AK_NOTHING);
-    CHECK(ak_update_flag(&tree, AK_FIELD_CHILD_ACTIONS + 1) == AK_NOTHING && ak_update_choice(&tree, AK_FIELD_TOGGLED, AK_TOGGLED_MIXED + 1) == AK_NOTHING);
-    CHECK(ak_update_action(&tree, AK_FIELD_ACTIONS, AK_ACTION_OTHER + 256) == AK_NOTHING && ak_update_tree(&tree, AK_FIELD_TREE, uuid, 0) == AK_NOTHING);
-    CHECK(ak_update_count(&tree, AK_FIELD_FONT_WEIGHT, 65536) == AK_NOTHING && ak_update_decoration(&tree, AK_FIELD_OVERLINE, 5, 1, 2, 3, 4) == AK_NOTHING);
+    CHECK(ak_update_toolkit_name(&tree, (const uint8_t *)"\xff", 1) == AK_NO_SUCH && ak_update_toolkit_name(&tree, NULL, 0) == AK_DONE);
+    CHECK(ak_update_node(&tree, 1, AK_ROLE_OTHER + 65536) == AK_NO_SUCH && ak_update_node(&tree, 1, UINT32_MAX) == AK_NO_SUCH && label(&tree, "x") == AK_OUT_OF_PLACE);
+    CHECK(ak_update_node(&tree, 1, AK_ROLE_TREE + 1) == AK_NO_SUCH && ak_update_node(&tree, 1, AK_ROLE_OTHER - 1) == AK_NO_SUCH);
+    CHECK(ak_update_node(&tree, 1, AK_ROLE_OTHER + 65535) == AK_DONE && label(&tree, "\xc3") == AK_NO_SUCH && ak_update_flag(&tree, AK_FIELD_LABEL) == AK_NO_SUCH);
+    CHECK(ak_update_flag(&tree, AK_FIELD_CHILD_ACTIONS + 1) == AK_NO_SUCH && ak_update_choice(&tree, AK_FIELD_TOGGLED, AK_TOGGLED_MIXED + 1) == AK_NO_SUCH);
+    CHECK(ak_update_flag(&tree, 256 + AK_FIELD_HIDDEN) == AK_NO_SUCH && ak_update_choice(&tree, AK_FIELD_LIVE, 256) == AK_NO_SUCH);
+    CHECK(ak_update_action(&tree, AK_FIELD_ACTIONS, AK_ACTION_DECREMENT + 1) == AK_NO_SUCH && ak_update_action(&tree, AK_FIELD_ACTIONS, 255) == AK_NO_SUCH);
+    CHECK(ak_update_decoration(&tree, AK_FIELD_OVERLINE, 256, 1, 2, 3, 4) == AK_NO_SUCH && ak_update_action(&tree, AK_FIELD_ACTIONS, 65536) == AK_NO_SUCH);
+    CHECK(ak_update_action(&tree, AK_FIELD_ACTIONS, AK_ACTION_OTHER + 256) == AK_NO_SUCH && ak_update_tree(&tree, AK_FIELD_TREE, uuid, 0) == AK_NO_SUCH);
+    CHECK(ak_update_count(&tree, AK_FIELD_FONT_WEIGHT, 65536) == AK_NO_SUCH && ak_update_decoration(&tree, AK_FIELD_OVERLINE, 5, 1, 2, 3, 4) == AK_NO_SUCH);
     CHECK(ak_update_send(&tree, &stop) == AK_REFUSED && stop.rule == AK_FOCUS_MISSING && stop.node == 9 && stop.done == 0 && stop.line == 0);
     CHECK(ak_update_send(&tree, &stop) == AK_OUT_OF_PLACE && ak_tree_host_focus(&tree, true) == AK_DONE && events_of(&tree) == 0);
     CHECK(ak_update_begin(&tree, uuid, 16, 1) == AK_DONE && ak_update_node(&tree, 1, 0) == AK_DONE);
@@ -359,7 +426,7 @@ static void growths_of_calls(void) {
         if (answer == AK_DONE) CHECK(strcmp(told, after) == 0 && events_of(&tree) > 0);
         else if (stop.done == 1) {
             was_lost = true;
-            CHECK(answer == AK_NO_MEMORY && strcmp(told, after) == 0 && ak_tree_event_count(&tree, &count) == AK_NOTHING);
+            CHECK(answer == AK_NO_MEMORY && strcmp(told, after) == 0 && ak_tree_event_count(&tree, &count) == AK_LOST);
         } else {
             was_unsent = true;
             CHECK(answer == AK_NO_MEMORY && strcmp(told, before) == 0 && events_of(&tree) == 0 && ak_update_send(&tree, &stop) == AK_OUT_OF_PLACE);
@@ -372,7 +439,9 @@ static void growths_of_calls(void) {
         answer = ak_tree_host_focus(&tree, false);
         until_failure = -1;
         ak_id id;
-        CHECK(answer == AK_NO_MEMORY && ak_tree_event_count(&tree, &count) == AK_NOTHING && ak_tree_focus(&tree, &id) == AK_NOTHING);
+        ak_event event;
+        CHECK(answer == AK_NO_MEMORY && ak_tree_event_count(&tree, &count) == AK_LOST && ak_tree_event(&tree, 0, &event) == AK_LOST);
+        CHECK(ak_tree_focus(&tree, &id) == AK_NOTHING);
         ak_tree_close(&tree);
     }
     CHECK(has_wanted && was_unsent && was_lost);
@@ -437,6 +506,8 @@ int main(int count, char **words) {
     rooms();
     shown();
     texts();
+    fields();
+    rules();
     updates();
     growths();
     growths_of_calls();

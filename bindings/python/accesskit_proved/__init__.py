@@ -22,11 +22,13 @@ from ._errors import (
     NoFirstTreeInfo,
     NoGraft,
     NoMemory,
+    NoNode,
     NotReached,
     NotRootTree,
     Refused,
     RootTreeGrafted,
 )
+from ._fields import Bounds, Color, Decoration, Selection, Translation
 from ._names import (
     FIELDS,
     Action,
@@ -47,14 +49,15 @@ from ._names import (
     Toggled,
     VerticalOffset,
 )
-from ._tree import Bounds, Event, Position, Tree
+from ._texts import Position
+from ._tree import Event, Tree
 from ._update import Update
 from ._version import __version__, version
 
 __all__ = [
-    "Action", "AriaCurrent", "BadLine", "Bounds", "Closed", "Error", "Event", "EventKind", "EventsLost", "FIELDS", "Filter", "FilterResult",
-    "Flag", "FocusMissing", "FocusOnEmptyGraft", "GraftWithChildren", "GraftedTwice", "HasPopup", "Id", "IndexesUsedUp", "ListedTwice",
-    "Live", "MissingData", "MissingTreeInfo", "Move", "NamedTwice", "NoFirstTreeInfo", "NoGraft", "NoMemory", "NotReached", "NotRootTree",
-    "Orientation", "Position", "Refused", "Role", "RootTreeGrafted", "SortDirection", "Style", "TextAlign", "TextDirection", "Toggled",
-    "Tree", "Update", "VerticalOffset", "__version__", "version",
+    "Action", "AriaCurrent", "BadLine", "Bounds", "Closed", "Color", "Decoration", "Error", "Event", "EventKind", "EventsLost", "FIELDS",
+    "Filter", "FilterResult", "Flag", "FocusMissing", "FocusOnEmptyGraft", "GraftWithChildren", "GraftedTwice", "HasPopup", "Id",
+    "IndexesUsedUp", "ListedTwice", "Live", "MissingData", "MissingTreeInfo", "Move", "NamedTwice", "NoFirstTreeInfo", "NoGraft",
+    "NoMemory", "NoNode", "NotReached", "NotRootTree", "Orientation", "Position", "Refused", "Role", "RootTreeGrafted", "Selection",
+    "SortDirection", "Style", "TextAlign", "TextDirection", "Toggled", "Translation", "Tree", "Update", "VerticalOffset", "__version__", "version",
 ]

@@ -16,10 +16,10 @@ I32, I64 = 2**31 - 1, 2**63 - 1
 
 
 class Id(NamedTuple):
-    """A node's id: the index of its tree, of which 0 is the root tree, and its id there."""
+    """A node's id in its tree, and the index of that tree, of which 0 is the root tree."""
 
-    tree: int
     node: int
+    tree: int = 0
 
 
 def _shown(value: object) -> str:
@@ -84,12 +84,12 @@ def tree_id(value: object, name: str) -> bytes:
 def node(value: object, name: str = "id") -> Tuple[int, int]:
     """The number of a node and the index of its tree."""
     if type(value) is Id:
-        tree, number = value
+        number, tree = value
         if type(tree) is int and type(number) is int and 0 <= number <= U64 and 0 <= tree <= U32:
             return number, tree
     if not isinstance(value, Id) or tuple.__len__(value) != 2:
-        _wrong_type(name, "an Id(tree, node)", value)
-    tree, number = tuple.__iter__(value)
+        _wrong_type(name, "an Id(node, tree)", value)
+    number, tree = tuple.__iter__(value)
     return whole(number, 0, U64, f"{name}.node"), whole(tree, 0, U32, f"{name}.tree")
 
 

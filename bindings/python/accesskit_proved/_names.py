@@ -309,4 +309,4 @@ CHOICES: Dict[str, Type[_Name]] = {
     "style": Style,
 }
 # From where roles and actions without a name are numbered.
-OTHER_ROLE, OTHER_ACTION = len(Role), len(Action)
+OTHER_ROLE, OTHER_ACTION = 65536, 256

@@ -7,10 +7,10 @@ from __future__ import annotations
 
 import ctypes
 import os
-from ctypes import POINTER, c_bool, c_int32, c_int64, c_size_t, c_uint8, c_uint16, c_uint32, c_uint64, c_void_p
+from ctypes import POINTER, c_bool, c_int32, c_int64, c_size_t, c_uint8, c_uint32, c_uint64, c_void_p
 from typing import Any, Dict, List, Tuple
 
-DONE, NO_MEMORY, CLOSED, NOTHING, BAD_LINE, REFUSED, OUT_OF_PLACE = range(7)
+DONE, NO_MEMORY, CLOSED, NOTHING, BAD_LINE, REFUSED, OUT_OF_PLACE, NO_NODE, NO_SUCH, LOST = range(10)
 
 
 def _layout(**fields: Any) -> List[Tuple[str, Any]]:
@@ -31,7 +31,7 @@ class Event(ctypes.Structure):
 
 
 class Stop(ctypes.Structure):
-    _fields_ = _layout(line=c_uint64, done=c_uint64, node=c_uint64, rule=c_uint8)
+    _fields_ = _layout(line=c_uint64, done=c_uint64, node=c_uint64, tree_id=c_uint8 * 16, rule=c_uint8)
 
 
 class Bounds(ctypes.Structure):
@@ -42,9 +42,30 @@ class Position(ctypes.Structure):
     _fields_ = _layout(run=c_uint64, character=c_size_t, index=c_size_t, utf16_index=c_size_t, line=c_size_t, is_end=c_bool)
 
 
+class Rect(ctypes.Structure):
+    _fields_ = _layout(x0=c_int32, y0=c_int32, x1=c_int32, y1=c_int32)
+
+
+class Translation(ctypes.Structure):
+    _fields_ = _layout(x=c_int32, y=c_int32)
+
+
+class Selection(ctypes.Structure):
+    _fields_ = _layout(anchor=c_uint64, anchor_character=c_size_t, focus=c_uint64, focus_character=c_size_t)
+
+
+class Color(ctypes.Structure):
+    _fields_ = _layout(red=c_uint8, green=c_uint8, blue=c_uint8, alpha=c_uint8)
+
+
+class Decoration(ctypes.Structure):
+    _fields_ = _layout(style=c_uint32, color=Color)
+
+
 TREE, SIZE = POINTER(Tree), POINTER(c_size_t)
 # A node: its id, and the index of its tree.
 NODE = (TREE, c_uint64, c_uint32)
+FIELD = (*NODE, c_uint32)
 # What is passed as an address with a length after it, for the call to read or to fill.
 LENT = (c_void_p, c_size_t)
 LIST = (*LENT, SIZE)
@@ -66,23 +87,23 @@ CALLS: Dict[str, Tuple[Any, ...]] = {
     "ak_update_toolkit_name": (TREE, *LENT),
     "ak_update_toolkit_version": (TREE, *LENT),
     "ak_update_node": (TREE, c_uint64, c_uint32),
-    "ak_update_ids": (TREE, c_uint8, *LENT),
-    "ak_update_id": (TREE, c_uint8, c_uint64),
-    "ak_update_text": (TREE, c_uint8, *LENT),
-    "ak_update_flag": (TREE, c_uint8),
-    "ak_update_bool": (TREE, c_uint8, c_bool),
-    "ak_update_choice": (TREE, c_uint8, c_uint8),
-    "ak_update_number": (TREE, c_uint8, c_int64),
-    "ak_update_count": (TREE, c_uint8, c_size_t),
-    "ak_update_numbers": (TREE, c_uint8, *LENT),
-    "ak_update_units": (TREE, c_uint8, *LENT),
-    "ak_update_action": (TREE, c_uint8, c_uint16),
-    "ak_update_tree": (TREE, c_uint8, *LENT),
-    "ak_update_rect": (TREE, c_uint8, c_int32, c_int32, c_int32, c_int32),
-    "ak_update_translation": (TREE, c_uint8, c_int32, c_int32),
-    "ak_update_selection": (TREE, c_uint8, c_uint64, c_size_t, c_uint64, c_size_t),
-    "ak_update_color": (TREE, c_uint8, c_uint8, c_uint8, c_uint8, c_uint8),
-    "ak_update_decoration": (TREE, c_uint8, c_uint8, c_uint8, c_uint8, c_uint8, c_uint8),
+    "ak_update_ids": (TREE, c_uint32, *LENT),
+    "ak_update_id": (TREE, c_uint32, c_uint64),
+    "ak_update_text": (TREE, c_uint32, *LENT),
+    "ak_update_flag": (TREE, c_uint32),
+    "ak_update_bool": (TREE, c_uint32, c_bool),
+    "ak_update_choice": (TREE, c_uint32, c_uint32),
+    "ak_update_number": (TREE, c_uint32, c_int64),
+    "ak_update_count": (TREE, c_uint32, c_size_t),
+    "ak_update_numbers": (TREE, c_uint32, *LENT),
+    "ak_update_units": (TREE, c_uint32, *LENT),
+    "ak_update_action": (TREE, c_uint32, c_uint32),
+    "ak_update_tree": (TREE, c_uint32, *LENT),
+    "ak_update_rect": (TREE, c_uint32, c_int32, c_int32, c_int32, c_int32),
+    "ak_update_translation": (TREE, c_uint32, c_int32, c_int32),
+    "ak_update_selection": (TREE, c_uint32, c_uint64, c_size_t, c_uint64, c_size_t),
+    "ak_update_color": (TREE, c_uint32, c_uint8, c_uint8, c_uint8, c_uint8),
+    "ak_update_decoration": (TREE, c_uint32, c_uint32, c_uint8, c_uint8, c_uint8, c_uint8),
     "ak_update_send": (TREE, POINTER(Stop)),
     "ak_node_parent": (*NODE, POINTER(Id)),
     "ak_node_children": (*NODE, *LIST),
@@ -92,16 +113,33 @@ CALLS: Dict[str, Tuple[Any, ...]] = {
     "ak_node_text": (*NODE, *LIST),
     "ak_node_role_number": (*NODE, POINTER(c_uint32)),
     "ak_node_bounds": (*NODE, POINTER(Bounds)),
-    "ak_node_flag": (*NODE, c_uint8, POINTER(c_bool)),
-    "ak_node_filter": (*NODE, c_uint8, POINTER(c_uint8)),
-    "ak_node_hit": (*NODE, c_int64, c_int64, c_uint8, POINTER(Id)),
-    "ak_node_filtered_parent": (*NODE, c_uint8, POINTER(Id)),
-    "ak_node_filtered_children": (*NODE, c_uint8, *LIST),
+    "ak_node_flag": (*NODE, c_uint32, POINTER(c_bool)),
+    "ak_node_filter": (*NODE, c_uint32, POINTER(c_uint32)),
+    "ak_node_hit": (*NODE, c_int64, c_int64, c_uint32, POINTER(Id)),
+    "ak_node_filtered_parent": (*NODE, c_uint32, POINTER(Id)),
+    "ak_node_filtered_children": (*NODE, c_uint32, *LIST),
     "ak_text_position": (*NODE, c_size_t, c_bool, PLACE),
-    "ak_text_move": (*NODE, c_size_t, c_bool, c_uint8, PLACE),
+    "ak_text_move": (*NODE, c_size_t, c_bool, c_uint32, PLACE),
     "ak_text_selection_anchor": (*NODE, PLACE),
     "ak_text_selection_focus": (*NODE, PLACE),
     "ak_text_between": (*NODE, c_size_t, c_size_t, *LIST),
+    "ak_rule_name": (c_uint32, *LIST),
+    "ak_field_text": (*FIELD, *LIST),
+    "ak_field_ids": (*FIELD, *LIST),
+    "ak_field_numbers": (*FIELD, *LIST),
+    "ak_field_units": (*FIELD, *LIST),
+    "ak_field_actions": (*FIELD, *LIST),
+    "ak_field_tree": (*FIELD, *LIST),
+    "ak_field_id": (*FIELD, POINTER(c_uint64)),
+    "ak_field_flag": (*FIELD, POINTER(c_bool)),
+    "ak_field_choice": (*FIELD, POINTER(c_uint32)),
+    "ak_field_number": (*FIELD, POINTER(c_int64)),
+    "ak_field_count": (*FIELD, SIZE),
+    "ak_field_rect": (*FIELD, POINTER(Rect)),
+    "ak_field_translation": (*FIELD, POINTER(Translation)),
+    "ak_field_selection": (*FIELD, POINTER(Selection)),
+    "ak_field_color": (*FIELD, POINTER(Color)),
+    "ak_field_decoration": (*FIELD, POINTER(Decoration)),
 }
 
 GIVES: Dict[str, Any] = {"ak_version": c_uint32, "ak_tree_close": None}

@@ -6,16 +6,19 @@
 #![warn(missing_debug_implementations)]
 
 mod errors;
+mod fields;
 mod names;
+mod nodes;
 mod raw;
+mod texts;
 mod tree;
 mod updates;
 
-pub use errors::{Error, Refusal};
+pub use errors::{rule_name, Error, Refusal};
 pub use names::*;
-pub use raw::{Bounds, Position};
+pub use raw::{Bounds, Color, Position, Rect, Translation};
 pub use tree::{Event, Id, Tree};
-pub use updates::{Color, Place, TreeName, Update};
+pub use updates::{Place, TreeName, Update};
 
 /// The version of the library that is linked: its three numbers.
 pub fn version() -> (u32, u32, u32) {

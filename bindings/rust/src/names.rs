@@ -80,80 +80,80 @@ pub enum Move {
 /// A field of a node, by its name in a script; docs/SCRIPT.md explains them. Each call of [`Update`] is for those of one kind.
 #[derive(Clone, Copy, Debug, PartialEq, Eq, Hash)]
 pub enum Field {
-    Children,
-    Labelled,
-    Controls,
-    Tree,
-    Active,
-    Label,
-    Value,
-    Description,
-    Placeholder,
-    RoleDescription,
-    Url,
-    AuthorId,
-    HtmlId,
-    ClassName,
-    BrailleLabel,
-    BrailleRoleDescription,
-    ColumnIndexText,
-    RowIndexText,
-    FontFamily,
-    Language,
-    Hidden,
-    Clips,
-    Disabled,
-    ReadOnly,
-    Required,
-    Modal,
-    Busy,
-    Multiselectable,
-    Italic,
-    LiveAtomic,
-    TouchTransparent,
-    Bounds,
-    Move,
-    Selection,
-    Chars,
-    Words,
-    CharacterPositions,
-    CharacterWidths,
-    Prev,
-    Next,
-    Toggled,
-    Expanded,
-    Selected,
-    Live,
-    Orientation,
-    SortDirection,
-    AriaCurrent,
-    HasPopup,
-    FontSize,
-    FontWeight,
-    BackgroundColor,
-    ForegroundColor,
-    Overline,
-    Strikethrough,
-    Underline,
-    TextDirection,
-    TextAlign,
-    VerticalOffset,
-    Number,
-    Min,
-    Max,
-    Step,
-    Jump,
-    Level,
-    SetSize,
-    Position,
-    ScrollX,
-    ScrollXMin,
-    ScrollXMax,
-    ScrollY,
-    ScrollYMin,
-    ScrollYMax,
-    Actions,
-    ChildActions,
+    Children = 0,
+    Labelled = 1,
+    Controls = 2,
+    Tree = 3,
+    Active = 4,
+    Label = 5,
+    Value = 6,
+    Description = 7,
+    Placeholder = 8,
+    RoleDescription = 9,
+    Url = 10,
+    AuthorId = 11,
+    HtmlId = 12,
+    ClassName = 13,
+    BrailleLabel = 14,
+    BrailleRoleDescription = 15,
+    ColumnIndexText = 16,
+    RowIndexText = 17,
+    FontFamily = 18,
+    Language = 19,
+    Hidden = 20,
+    Clips = 21,
+    Disabled = 22,
+    ReadOnly = 23,
+    Required = 24,
+    Modal = 25,
+    Busy = 26,
+    Multiselectable = 27,
+    Italic = 28,
+    LiveAtomic = 29,
+    TouchTransparent = 30,
+    Bounds = 31,
+    Move = 32,
+    Selection = 33,
+    Chars = 34,
+    Words = 35,
+    CharacterPositions = 36,
+    CharacterWidths = 37,
+    Prev = 38,
+    Next = 39,
+    Toggled = 40,
+    Expanded = 41,
+    Selected = 42,
+    Live = 43,
+    Orientation = 44,
+    SortDirection = 45,
+    AriaCurrent = 46,
+    HasPopup = 47,
+    FontSize = 48,
+    FontWeight = 49,
+    BackgroundColor = 50,
+    ForegroundColor = 51,
+    Overline = 52,
+    Strikethrough = 53,
+    Underline = 54,
+    TextDirection = 55,
+    TextAlign = 56,
+    VerticalOffset = 57,
+    Number = 58,
+    Min = 59,
+    Max = 60,
+    Step = 61,
+    Jump = 62,
+    Level = 63,
+    SetSize = 64,
+    Position = 65,
+    ScrollX = 66,
+    ScrollXMin = 67,
+    ScrollXMax = 68,
+    ScrollY = 69,
+    ScrollYMin = 70,
+    ScrollYMax = 71,
+    Actions = 72,
+    ChildActions = 73,
 }
 
 /// A role of a node. One that has a name is printed by it, and `parse` reads it; of one without, as a heading's, that is `Other(328)`.
@@ -162,7 +162,7 @@ pub enum Field {
 pub struct Role(u32);
 
 /// From where roles without a name are numbered.
-const OTHER_ROLE: u32 = 72;
+const OTHER_ROLE: u32 = 65536;
 
 /// A word that is no role's name.
 #[derive(Clone, Debug, PartialEq, Eq, Hash)]
@@ -306,9 +306,12 @@ impl FromStr for Role {
     }
 }
 
+/// From where actions without a name are numbered.
+const OTHER_ACTION: u32 = 256;
+
 /// What a node can be asked to do.
 #[derive(Clone, Copy, Debug, PartialEq, Eq, Hash)]
-pub struct Action(u16);
+pub struct Action(u32);
 
 impl Action {
     pub const CLICK: Action = Action(0);
@@ -316,13 +319,17 @@ impl Action {
     pub const INCREMENT: Action = Action(2);
     pub const DECREMENT: Action = Action(3);
 
-    pub(crate) fn number(self) -> u16 {
+    pub(crate) fn numbered(number: u32) -> Action {
+        Action(number)
+    }
+
+    pub(crate) fn number(self) -> u32 {
         self.0
     }
 
     /// An action without a name, by a number of your own.
     pub const fn other(number: u8) -> Action {
-        Action(4 + number as u16)
+        Action(OTHER_ACTION + number as u32)
     }
 }
 
@@ -415,20 +422,37 @@ pub enum VerticalOffset {
 }
 
 /// A value of a field that has few: its type names the field.
-pub trait Choice {
+pub trait Choice: Copy {
+    /// The field that has such a value.
     const FIELD: Field;
-    fn number(self) -> u8;
+    /// The value's number for C.
+    fn number(self) -> u32;
+    /// The value with this number.
+    fn numbered(number: u32) -> Option<Self>;
 }
 
 macro_rules! choices {
-    ($($name:ident)*) => {
+    ($($name:ident { $($value:ident)* })*) => {
         $(impl Choice for $name {
             const FIELD: Field = Field::$name;
-            fn number(self) -> u8 {
-                self as u8
+            fn number(self) -> u32 {
+                self as u32
+            }
+            fn numbered(number: u32) -> Option<Self> {
+                [$($name::$value),*].get(usize::try_from(number).ok()?).copied()
             }
         })*
     };
 }
 
-choices! { Toggled Live Orientation SortDirection AriaCurrent HasPopup TextDirection TextAlign VerticalOffset }
+choices! {
+    Toggled { True False Mixed }
+    Live { Off Polite Assertive }
+    Orientation { Horizontal Vertical }
+    SortDirection { Ascending Descending Other }
+    AriaCurrent { False True Page Step Location Date Time }
+    HasPopup { Menu Listbox Tree Grid Dialog }
+    TextDirection { LeftToRight RightToLeft TopToBottom BottomToTop }
+    TextAlign { Left Right Center Justify }
+    VerticalOffset { Subscript Superscript }
+}

@@ -28,6 +28,7 @@ pub struct Stop {
     pub line: u64,
     pub done: u64,
     pub node: u64,
+    pub tree_id: [u8; 16],
     pub rule: u8,
 }
 /// A rectangle, in units of 1/64 pixel. An edge beyond 64 bits is the nearest number within them.
@@ -51,6 +52,45 @@ pub struct Position {
     pub line: usize,
     pub is_end: bool,
 }
+/// A rectangle as it was sent, in units of 1/64 pixel.
+#[repr(C)]
+#[derive(Clone, Copy, Debug, Default, PartialEq, Eq, Hash)]
+pub struct Rect {
+    pub x0: i32,
+    pub y0: i32,
+    pub x1: i32,
+    pub y1: i32,
+}
+/// By how much a node and its subtree are shifted, in units of 1/64 pixel.
+#[repr(C)]
+#[derive(Clone, Copy, Debug, Default, PartialEq, Eq, Hash)]
+pub struct Translation {
+    pub x: i32,
+    pub y: i32,
+}
+#[repr(C)]
+#[derive(Debug, Default)]
+pub struct Selection {
+    pub anchor: u64,
+    pub anchor_character: usize,
+    pub focus: u64,
+    pub focus_character: usize,
+}
+/// A colour, each part from 0 to 255; `alpha` is the opacity.
+#[repr(C)]
+#[derive(Clone, Copy, Debug, Default, PartialEq, Eq, Hash)]
+pub struct Color {
+    pub red: u8,
+    pub green: u8,
+    pub blue: u8,
+    pub alpha: u8,
+}
+#[repr(C)]
+#[derive(Debug, Default)]
+pub struct Decoration {
+    pub style: u32,
+    pub color: Color,
+}
 extern "C" {
     pub fn ak_version() -> u32;
     pub fn ak_tree_open(tree: &mut Tree) -> u8;
@@ -62,23 +102,23 @@ extern "C" {
     pub fn ak_update_toolkit_name(tree: &mut Tree, text: *const u8, length: usize) -> u8;
     pub fn ak_update_toolkit_version(tree: &mut Tree, text: *const u8, length: usize) -> u8;
     pub fn ak_update_node(tree: &mut Tree, node: u64, role: u32) -> u8;
-    pub fn ak_update_ids(tree: &mut Tree, field: u8, ids: *const u64, count: usize) -> u8;
-    pub fn ak_update_id(tree: &mut Tree, field: u8, id: u64) -> u8;
-    pub fn ak_update_text(tree: &mut Tree, field: u8, text: *const u8, length: usize) -> u8;
-    pub fn ak_update_flag(tree: &mut Tree, field: u8) -> u8;
-    pub fn ak_update_bool(tree: &mut Tree, field: u8, is_so: bool) -> u8;
-    pub fn ak_update_choice(tree: &mut Tree, field: u8, choice: u8) -> u8;
-    pub fn ak_update_number(tree: &mut Tree, field: u8, number: i64) -> u8;
-    pub fn ak_update_count(tree: &mut Tree, field: u8, count: usize) -> u8;
-    pub fn ak_update_numbers(tree: &mut Tree, field: u8, numbers: *const u16, count: usize) -> u8;
-    pub fn ak_update_units(tree: &mut Tree, field: u8, units: *const i32, count: usize) -> u8;
-    pub fn ak_update_action(tree: &mut Tree, field: u8, action: u16) -> u8;
-    pub fn ak_update_tree(tree: &mut Tree, field: u8, tree_id: *const u8, length: usize) -> u8;
-    pub fn ak_update_rect(tree: &mut Tree, field: u8, x0: i32, y0: i32, x1: i32, y1: i32) -> u8;
-    pub fn ak_update_translation(tree: &mut Tree, field: u8, x: i32, y: i32) -> u8;
-    pub fn ak_update_selection(tree: &mut Tree, field: u8, anchor: u64, anchor_character: usize, focus: u64, focus_character: usize) -> u8;
-    pub fn ak_update_color(tree: &mut Tree, field: u8, red: u8, green: u8, blue: u8, alpha: u8) -> u8;
-    pub fn ak_update_decoration(tree: &mut Tree, field: u8, style: u8, red: u8, green: u8, blue: u8, alpha: u8) -> u8;
+    pub fn ak_update_ids(tree: &mut Tree, field: u32, ids: *const u64, count: usize) -> u8;
+    pub fn ak_update_id(tree: &mut Tree, field: u32, id: u64) -> u8;
+    pub fn ak_update_text(tree: &mut Tree, field: u32, text: *const u8, length: usize) -> u8;
+    pub fn ak_update_flag(tree: &mut Tree, field: u32) -> u8;
+    pub fn ak_update_bool(tree: &mut Tree, field: u32, is_so: bool) -> u8;
+    pub fn ak_update_choice(tree: &mut Tree, field: u32, choice: u32) -> u8;
+    pub fn ak_update_number(tree: &mut Tree, field: u32, number: i64) -> u8;
+    pub fn ak_update_count(tree: &mut Tree, field: u32, count: usize) -> u8;
+    pub fn ak_update_numbers(tree: &mut Tree, field: u32, numbers: *const u16, count: usize) -> u8;
+    pub fn ak_update_units(tree: &mut Tree, field: u32, units: *const i32, count: usize) -> u8;
+    pub fn ak_update_action(tree: &mut Tree, field: u32, action: u32) -> u8;
+    pub fn ak_update_tree(tree: &mut Tree, field: u32, tree_id: *const u8, length: usize) -> u8;
+    pub fn ak_update_rect(tree: &mut Tree, field: u32, x0: i32, y0: i32, x1: i32, y1: i32) -> u8;
+    pub fn ak_update_translation(tree: &mut Tree, field: u32, x: i32, y: i32) -> u8;
+    pub fn ak_update_selection(tree: &mut Tree, field: u32, anchor: u64, anchor_character: usize, focus: u64, focus_character: usize) -> u8;
+    pub fn ak_update_color(tree: &mut Tree, field: u32, red: u8, green: u8, blue: u8, alpha: u8) -> u8;
+    pub fn ak_update_decoration(tree: &mut Tree, field: u32, style: u32, red: u8, green: u8, blue: u8, alpha: u8) -> u8;
     pub fn ak_update_send(tree: &mut Tree, stop: &mut Stop) -> u8;
     pub fn ak_tree_event_count(tree: &mut Tree, count: &mut usize) -> u8;
     pub fn ak_tree_event(tree: &mut Tree, index: usize, event: &mut Event) -> u8;
@@ -92,14 +132,31 @@ extern "C" {
     pub fn ak_node_text(tree: &mut Tree, node: u64, tree_index: u32, buffer: *mut u8, room: usize, length: &mut usize) -> u8;
     pub fn ak_node_role_number(tree: &mut Tree, node: u64, tree_index: u32, number: &mut u32) -> u8;
     pub fn ak_node_bounds(tree: &mut Tree, node: u64, tree_index: u32, bounds: &mut Bounds) -> u8;
-    pub fn ak_node_flag(tree: &mut Tree, node: u64, tree_index: u32, flag: u8, is_set: &mut bool) -> u8;
-    pub fn ak_node_filter(tree: &mut Tree, node: u64, tree_index: u32, filter: u8, answer: &mut u8) -> u8;
-    pub fn ak_node_hit(tree: &mut Tree, node: u64, tree_index: u32, x: i64, y: i64, filter: u8, hit: &mut Id) -> u8;
-    pub fn ak_node_filtered_parent(tree: &mut Tree, node: u64, tree_index: u32, filter: u8, parent: &mut Id) -> u8;
-    pub fn ak_node_filtered_children(tree: &mut Tree, node: u64, tree_index: u32, filter: u8, buffer: *mut Id, room: usize, count: &mut usize) -> u8;
+    pub fn ak_node_flag(tree: &mut Tree, node: u64, tree_index: u32, flag: u32, is_set: &mut bool) -> u8;
+    pub fn ak_node_filter(tree: &mut Tree, node: u64, tree_index: u32, filter: u32, answer: &mut u32) -> u8;
+    pub fn ak_node_hit(tree: &mut Tree, node: u64, tree_index: u32, x: i64, y: i64, filter: u32, hit: &mut Id) -> u8;
+    pub fn ak_node_filtered_parent(tree: &mut Tree, node: u64, tree_index: u32, filter: u32, parent: &mut Id) -> u8;
+    pub fn ak_node_filtered_children(tree: &mut Tree, node: u64, tree_index: u32, filter: u32, buffer: *mut Id, room: usize, count: &mut usize) -> u8;
     pub fn ak_text_position(tree: &mut Tree, node: u64, tree_index: u32, index: usize, is_end: bool, position: &mut Position) -> u8;
-    pub fn ak_text_move(tree: &mut Tree, node: u64, tree_index: u32, index: usize, is_end: bool, movement: u8, position: &mut Position) -> u8;
+    pub fn ak_text_move(tree: &mut Tree, node: u64, tree_index: u32, index: usize, is_end: bool, movement: u32, position: &mut Position) -> u8;
     pub fn ak_text_selection_anchor(tree: &mut Tree, node: u64, tree_index: u32, anchor: &mut Position) -> u8;
     pub fn ak_text_selection_focus(tree: &mut Tree, node: u64, tree_index: u32, focus: &mut Position) -> u8;
+    pub fn ak_rule_name(rule: u32, buffer: *mut u8, room: usize, length: &mut usize) -> u8;
+    pub fn ak_field_text(tree: &mut Tree, node: u64, tree_index: u32, field: u32, buffer: *mut u8, room: usize, length: &mut usize) -> u8;
+    pub fn ak_field_ids(tree: &mut Tree, node: u64, tree_index: u32, field: u32, buffer: *mut u64, room: usize, count: &mut usize) -> u8;
+    pub fn ak_field_numbers(tree: &mut Tree, node: u64, tree_index: u32, field: u32, buffer: *mut u16, room: usize, count: &mut usize) -> u8;
+    pub fn ak_field_units(tree: &mut Tree, node: u64, tree_index: u32, field: u32, buffer: *mut i32, room: usize, count: &mut usize) -> u8;
+    pub fn ak_field_actions(tree: &mut Tree, node: u64, tree_index: u32, field: u32, buffer: *mut u32, room: usize, count: &mut usize) -> u8;
+    pub fn ak_field_tree(tree: &mut Tree, node: u64, tree_index: u32, field: u32, buffer: *mut u8, room: usize, length: &mut usize) -> u8;
+    pub fn ak_field_id(tree: &mut Tree, node: u64, tree_index: u32, field: u32, id: &mut u64) -> u8;
+    pub fn ak_field_flag(tree: &mut Tree, node: u64, tree_index: u32, field: u32, is_set: &mut bool) -> u8;
+    pub fn ak_field_choice(tree: &mut Tree, node: u64, tree_index: u32, field: u32, choice: &mut u32) -> u8;
+    pub fn ak_field_number(tree: &mut Tree, node: u64, tree_index: u32, field: u32, number: &mut i64) -> u8;
+    pub fn ak_field_count(tree: &mut Tree, node: u64, tree_index: u32, field: u32, count: &mut usize) -> u8;
+    pub fn ak_field_rect(tree: &mut Tree, node: u64, tree_index: u32, field: u32, rect: &mut Rect) -> u8;
+    pub fn ak_field_translation(tree: &mut Tree, node: u64, tree_index: u32, field: u32, translation: &mut Translation) -> u8;
+    pub fn ak_field_selection(tree: &mut Tree, node: u64, tree_index: u32, field: u32, selection: &mut Selection) -> u8;
+    pub fn ak_field_color(tree: &mut Tree, node: u64, tree_index: u32, field: u32, color: &mut Color) -> u8;
+    pub fn ak_field_decoration(tree: &mut Tree, node: u64, tree_index: u32, field: u32, decoration: &mut Decoration) -> u8;
     pub fn ak_text_between(tree: &mut Tree, node: u64, tree_index: u32, from: usize, to: usize, buffer: *mut u8, room: usize, length: &mut usize) -> u8;
 }

@@ -1,15 +1,14 @@
 //! A tree, which is fed and read.
-use crate::names::{Filter, FilterResult, Flag, Move, Role};
-use crate::raw::{self, Bounds, Position};
-use crate::errors::{Error, DONE, NO_MEMORY};
+use crate::errors::{Error, DONE};
+use crate::raw;
 use std::fmt;
 use std::marker::PhantomData;
 
-/// A node's id: the index of its tree, and its id there.
+/// A node's id in its tree, and the index of that tree: 0 is the root tree.
 #[derive(Clone, Copy, Debug, PartialEq, Eq, PartialOrd, Ord, Hash)]
 pub struct Id {
-    pub tree: u32,
     pub node: u64,
+    pub tree: u32,
 }
 
 /// A change.
@@ -64,20 +63,86 @@ impl Tree {
 
     /// What the last lines, the last update or the last change of the host's focus has changed, in order.
     pub fn events(&mut self) -> Result<Vec<Event>, Error> {
-        let mut count = 0;
-        if unsafe { raw::ak_tree_event_count(&mut self.raw, &mut count) } != DONE {
-            return Err(Error::EventsLost);
+        let count = self.one(|tree, count| unsafe { raw::ak_tree_event_count(tree, count) })?.unwrap_or_default();
+        let mut events = Vec::new();
+        events.try_reserve_exact(count).map_err(|_| Error::NoMemory { done: 0 })?;
+        for index in 0..count {
+            let event = self.one(|tree, event| unsafe { raw::ak_tree_event(tree, index, event) })?;
+            events.extend(event.and_then(Event::of));
         }
-        (0..count).map(|index| self.event(index).ok_or(Error::EventsLost)).collect()
+        Ok(events)
     }
 
-    fn event(&mut self, index: usize) -> Option<Event> {
-        let mut event = raw::Event::default();
-        if unsafe { raw::ak_tree_event(&mut self.raw, index, &mut event) } != DONE {
-            return None;
+    /// The root tree's root.
+    pub fn root(&mut self) -> Result<Option<Id>, Error> {
+        self.id(|tree, id| unsafe { raw::ak_tree_root(tree, id) })
+    }
+
+    /// What has the focus, while the host has it.
+    pub fn focus(&mut self) -> Result<Option<Id>, Error> {
+        self.id(|tree, id| unsafe { raw::ak_tree_focus(tree, id) })
+    }
+
+    /// One value, if there is one.
+    pub(crate) fn one<T: Default>(&mut self, call: impl FnOnce(&mut raw::Tree, &mut T) -> u8) -> Result<Option<T>, Error> {
+        let mut found = T::default();
+        Ok(Error::is_there(call(&mut self.raw, &mut found))?.then_some(found))
+    }
+
+    /// One value, which each node has.
+    pub(crate) fn each<T: Default>(&mut self, call: impl FnOnce(&mut raw::Tree, &mut T) -> u8) -> Result<T, Error> {
+        self.one(call)?.ok_or(Error::NoNode)
+    }
+
+    pub(crate) fn id(&mut self, call: impl FnOnce(&mut raw::Tree, &mut raw::Id) -> u8) -> Result<Option<Id>, Error> {
+        Ok(self.one(call)?.map(Id::from))
+    }
+
+    /// A list of any length, if there is one: asked for again with room for all of it where there wasn't enough.
+    pub(crate) fn list<T: Clone + Default>(&mut self, call: impl Fn(&mut raw::Tree, &mut [T], &mut usize) -> u8) -> Result<Option<Vec<T>>, Error> {
+        let (mut buffer, mut length) = (Vec::new(), 64);
+        while length > buffer.len() {
+            buffer.try_reserve_exact(length - buffer.len()).map_err(|_| Error::NoMemory { done: 0 })?;
+            buffer.resize(length, T::default());
+            if !Error::is_there(call(&mut self.raw, &mut buffer, &mut length))? {
+                return Ok(None);
+            }
         }
-        let old = event.has_old.then_some(Id { tree: event.old_tree, node: event.old_node });
-        let new = event.has_new.then_some(Id { tree: event.new_tree, node: event.new_node });
+        buffer.truncate(length);
+        Ok(Some(buffer))
+    }
+
+    /// A list, which each node has.
+    pub(crate) fn all<T: Clone + Default>(&mut self, call: impl Fn(&mut raw::Tree, &mut [T], &mut usize) -> u8) -> Result<Vec<T>, Error> {
+        self.list(call)?.ok_or(Error::NoNode)
+    }
+
+    pub(crate) fn ids(&mut self, call: impl Fn(&mut raw::Tree, &mut [raw::Id], &mut usize) -> u8) -> Result<Vec<Id>, Error> {
+        Ok(self.all(call)?.into_iter().map(Id::from).collect())
+    }
+
+    pub(crate) fn text_in(&mut self, call: impl Fn(&mut raw::Tree, &mut [u8], &mut usize) -> u8) -> Result<Option<String>, Error> {
+        let bytes = self.list(call)?;
+        Ok(bytes.and_then(|bytes| String::from_utf8(bytes).ok()))
+    }
+
+    pub(crate) fn text_by(&mut self, call: TextCall, of: Id) -> Result<Option<String>, Error> {
+        self.text_in(|tree, buffer, length| unsafe { call(tree, of.node, of.tree, buffer.as_mut_ptr(), buffer.len(), length) })
+    }
+}
+
+pub(crate) type TextCall = unsafe extern "C" fn(&mut raw::Tree, u64, u32, *mut u8, usize, &mut usize) -> u8;
+
+impl From<raw::Id> for Id {
+    fn from(id: raw::Id) -> Id {
+        Id { node: id.node, tree: id.tree }
+    }
+}
+
+impl Event {
+    fn of(event: raw::Event) -> Option<Event> {
+        let old = event.has_old.then_some(Id { node: event.old_node, tree: event.old_tree });
+        let new = event.has_new.then_some(Id { node: event.new_node, tree: event.new_tree });
         match event.kind {
             0 => new.map(Event::Added),
             1 => new.map(Event::Updated),
@@ -85,155 +150,7 @@ impl Tree {
             _ => Some(Event::FocusMoved { old, new }),
         }
     }
-
-    /// The root tree's root.
-    pub fn root(&mut self) -> Option<Id> {
-        self.id(|tree, id| unsafe { raw::ak_tree_root(tree, id) })
-    }
-
-    /// What has the focus, while the host has it.
-    pub fn focus(&mut self) -> Option<Id> {
-        self.id(|tree, id| unsafe { raw::ak_tree_focus(tree, id) })
-    }
-
-    /// The node's parent; of the root of a grafted tree, the node that grafts it.
-    pub fn parent(&mut self, of: Id) -> Option<Id> {
-        self.id(|tree, id| unsafe { raw::ak_node_parent(tree, of.node, of.tree, id) })
-    }
-
-    /// One value, if there is one.
-    fn one<T: Default>(&mut self, call: impl Fn(&mut raw::Tree, &mut T) -> u8) -> Option<T> {
-        let mut found = T::default();
-        (call(&mut self.raw, &mut found) == DONE).then_some(found)
-    }
-
-    fn id(&mut self, call: impl Fn(&mut raw::Tree, &mut raw::Id) -> u8) -> Option<Id> {
-        self.one(call).map(|id: raw::Id| Id { tree: id.tree, node: id.node })
-    }
-
-    /// The node's children.
-    pub fn children(&mut self, of: Id) -> Result<Option<Vec<Id>>, Error> {
-        self.ids(|tree, buffer, count| unsafe { raw::ak_node_children(tree, of.node, of.tree, buffer.as_mut_ptr(), buffer.len(), count) })
-    }
-
-    fn ids(&mut self, call: impl Fn(&mut raw::Tree, &mut [raw::Id], &mut usize) -> u8) -> Result<Option<Vec<Id>>, Error> {
-        let found = self.list(call)?;
-        Ok(found.map(|ids| ids.iter().map(|id| Id { tree: id.tree, node: id.node }).collect()))
-    }
-
-    /// The node's rectangle after all translations.
-    pub fn bounds(&mut self, of: Id) -> Option<Bounds> {
-        self.one(|tree, bounds| unsafe { raw::ak_node_bounds(tree, of.node, of.tree, bounds) })
-    }
-
-    /// Whether the node is what the flag says.
-    pub fn flag(&mut self, of: Id, flag: Flag) -> Option<bool> {
-        self.one(|tree, is_set| unsafe { raw::ak_node_flag(tree, of.node, of.tree, flag as u8, is_set) })
-    }
-
-    /// The filter's answer for the node.
-    pub fn filter(&mut self, of: Id, filter: Filter) -> Option<FilterResult> {
-        let answer = self.one(|tree, answer| unsafe { raw::ak_node_filter(tree, of.node, of.tree, filter as u8, answer) })?;
-        [FilterResult::Include, FilterResult::ExcludeNode, FilterResult::ExcludeSubtree].get(usize::from(answer)).copied()
-    }
-
-    /// The node at a point in the coordinates of a node, among this one and those below it.
-    pub fn hit(&mut self, within: Id, x: i64, y: i64, filter: Filter) -> Option<Id> {
-        self.id(|tree, id| unsafe { raw::ak_node_hit(tree, within.node, within.tree, x, y, filter as u8, id) })
-    }
-
-    /// The nearest ancestor that the filter includes.
-    pub fn filtered_parent(&mut self, of: Id, filter: Filter) -> Option<Id> {
-        self.id(|tree, id| unsafe { raw::ak_node_filtered_parent(tree, of.node, of.tree, filter as u8, id) })
-    }
-
-    /// The nodes that the filter shows in place of the children.
-    pub fn filtered_children(&mut self, of: Id, filter: Filter) -> Result<Option<Vec<Id>>, Error> {
-        self.ids(|tree, buffer, count| unsafe {
-            raw::ak_node_filtered_children(tree, of.node, of.tree, filter as u8, buffer.as_mut_ptr(), buffer.len(), count)
-        })
-    }
-
-    /// The position in the node's text before which it has so many scalars: where two runs meet, the end of the first, or the start of
-    /// the second.
-    pub fn text_position(&mut self, of: Id, index: usize, is_end: bool) -> Option<Position> {
-        self.one(|tree, position| unsafe { raw::ak_text_position(tree, of.node, of.tree, index, is_end, position) })
-    }
-
-    /// Where a movement of the caret from there ends.
-    pub fn text_move(&mut self, of: Id, index: usize, is_end: bool, by: Move) -> Option<Position> {
-        self.one(|tree, position| unsafe { raw::ak_text_move(tree, of.node, of.tree, index, is_end, by as u8, position) })
-    }
-
-    /// The fixed end of the selection in the node's text.
-    pub fn text_selection_anchor(&mut self, of: Id) -> Option<Position> {
-        self.one(|tree, position| unsafe { raw::ak_text_selection_anchor(tree, of.node, of.tree, position) })
-    }
-
-    /// The moving end of the selection in the node's text, where the caret is.
-    pub fn text_selection_focus(&mut self, of: Id) -> Option<Position> {
-        self.one(|tree, position| unsafe { raw::ak_text_selection_focus(tree, of.node, of.tree, position) })
-    }
-
-    /// The node's text from one index up to another, which count its scalars.
-    pub fn text_between(&mut self, of: Id, from: usize, to: usize) -> Result<Option<String>, Error> {
-        self.text_in(|tree, buffer, length| unsafe {
-            raw::ak_text_between(tree, of.node, of.tree, from, to, buffer.as_mut_ptr(), buffer.len(), length)
-        })
-    }
-
-    /// The node's role.
-    pub fn role(&mut self, of: Id) -> Option<Role> {
-        self.one(|tree, number| unsafe { raw::ak_node_role_number(tree, of.node, of.tree, number) }).map(Role::numbered)
-    }
-
-    /// The name of the node's role, as the library writes it.
-    pub fn role_name(&mut self, of: Id) -> Result<Option<String>, Error> {
-        self.text_by(raw::ak_node_role, of)
-    }
-
-    /// The node's label, its own or that of the nodes that label it.
-    pub fn label(&mut self, of: Id) -> Result<Option<String>, Error> {
-        self.text_by(raw::ak_node_label, of)
-    }
-
-    /// The node's value; of a password one bullet for each character.
-    pub fn value(&mut self, of: Id) -> Result<Option<String>, Error> {
-        self.text_by(raw::ak_node_value, of)
-    }
-
-    /// The whole text of the node's runs.
-    pub fn text(&mut self, of: Id) -> Result<Option<String>, Error> {
-        self.text_by(raw::ak_node_text, of)
-    }
-
-    fn text_by(&mut self, call: TextCall, of: Id) -> Result<Option<String>, Error> {
-        self.text_in(|tree, buffer, length| unsafe { call(tree, of.node, of.tree, buffer.as_mut_ptr(), buffer.len(), length) })
-    }
-
-    fn text_in(&mut self, call: impl Fn(&mut raw::Tree, &mut [u8], &mut usize) -> u8) -> Result<Option<String>, Error> {
-        let bytes = self.list(call)?;
-        Ok(bytes.and_then(|bytes| String::from_utf8(bytes).ok()))
-    }
-
-    /// A list of any length: asked for again with room for all of it where there wasn't enough.
-    fn list<T: Clone + Default>(&mut self, call: impl Fn(&mut raw::Tree, &mut [T], &mut usize) -> u8) -> Result<Option<Vec<T>>, Error> {
-        let (mut buffer, mut length) = (Vec::new(), 64);
-        while length > buffer.len() {
-            buffer.try_reserve_exact(length - buffer.len()).map_err(|_| Error::NoMemory { done: 0 })?;
-            buffer.resize(length, T::default());
-            match call(&mut self.raw, &mut buffer, &mut length) {
-                DONE => {}
-                NO_MEMORY => return Err(Error::NoMemory { done: 0 }),
-                _ => return Ok(None),
-            }
-        }
-        buffer.truncate(length);
-        Ok(Some(buffer))
-    }
 }
-
-type TextCall = unsafe extern "C" fn(&mut raw::Tree, u64, u32, *mut u8, usize, &mut usize) -> u8;
 
 impl Drop for Tree {
     fn drop(&mut self) {

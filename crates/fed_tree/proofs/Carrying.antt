@@ -1,5 +1,5 @@
 -- Commands that are carried out one after another, and how that ends.
-use Rattle.std.proofs.Common.{◌≡◌, ℕ, ◌+◌, ◌≤◌, Bool, List, [], ◌∷◌, ◌++◌, length, Option, Some, None, IfSome, Result, Ok, Err, refl, sym, ap, ◌∙◌, subst, append_assoc, arith}
+use Rattle.std.proofs.Common.{◌≡◌, ◌≢◌, ℕ, ◌+◌, ◌≤◌, Bool, List, [], ◌∷◌, ◌++◌, length, Option, Some, None, IfSome, Result, Ok, Err, refl, sym, ap, ◌∙◌, subst, append_assoc, arith}
 use Rattle.std.proofs.lemmas.Fn.{FoldsTo-push}
 use Rattle.std.proofs.lemmas.List.{append-nil, length-append}
 use Rattle.std.specs.Option.{option_map_or, unwrap_or}
@@ -14,6 +14,7 @@ use Rattle.model.specs.State.{empty_world}
 use Rattle.model.specs.Update.{Fault, Stands}
 use Rattle.tree_changes.specs.Refusals.{IsRefusal, fault_of}
 use Rattle.tree_changes.specs.declared.error.UpdateError.{UpdateError}
+use Rattle.tree_changes.specs.declared.error.UpdateError.TheVariants as error
 use Rattle.trees.specs.Replies.{reply_of}
 use Rattle.script_lines.specs.declared.reader.ScriptCommand.{ScriptCommand}
 use Rattle.script_lines.specs.declared.reader.ScriptCommand.TheVariants as command
@@ -148,13 +149,13 @@ module _ (old at new : Stage) (commands cs others more : List ScriptCommand) (c 
     kept_to = subst (AreKept so_far.told) nothing_told so_far.kept
 
     -- it was refused
-    pub ends_refused : CarriesOutAll old commands (Err (feed.Refused count why)) new after
-    ends_refused = record {
+    pub ends_refused : why ≢ error.Memory → CarriesOutAll old commands (Err (feed.Refused count why)) new after
+    ends_refused rule = record {
       done = cs;
       told = so_far.told;
       runs = runs_to;
       kept = kept_to;
-      ended = (so_far.is, subst (λ (o : Option (List Event)). IsSome o) nothing_told so_far.whole, (c, more, parts, (refuses at new c last why carries).0));
+      ended = (so_far.is, subst (λ (o : Option (List Event)). IsSome o) nothing_told so_far.whole, rule, (c, more, parts, (refuses at new c last why carries).0));
     }
 
     -- there was no memory for it

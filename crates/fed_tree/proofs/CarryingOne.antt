@@ -1,9 +1,10 @@
 -- One command that is carried out alone, and how that ends.
-use Rattle.std.proofs.Common.{◌≡◌, List, [], ◌∷◌, Option, Some, Ok, Err, refl}
+use Rattle.std.proofs.Common.{◌≡◌, ◌≢◌, List, [], ◌∷◌, Option, Some, Ok, Err, refl}
 use Rattle.std.specs.Prelude.{IsSome}
 use Rattle.model.specs.Events.{Told}
 use Rattle.model.specs.Events.{Event as ModelEvent}
 use Rattle.tree_changes.specs.declared.error.UpdateError.{UpdateError}
+use Rattle.tree_changes.specs.declared.error.UpdateError.TheVariants as error
 use Rattle.script_lines.specs.declared.reader.ScriptCommand.{ScriptCommand}
 use Rattle.fed_tree.specs.Carried.{CarriesOut}
 use Rattle.fed_tree.specs.Events.{Keeps}
@@ -27,10 +28,10 @@ module _ (old new : Stage) (c : ScriptCommand) (last : List ModelEvent) (before 
   one_lost carries =
       ends_lost old old new (c ∷ []) [] (c ∷ []) [] c last before after 0 so_far refl heard 1 refl carries
 
-  pub one_refused : (why : UpdateError) → CarriesOut old c (Err why) new last
+  pub one_refused : (why : UpdateError) → why ≢ error.Memory → CarriesOut old c (Err why) new last
       → CarriesOutAll old (c ∷ []) (Err (feed.Refused 0 why)) new after
-  one_refused why carries =
-      ends_refused old old new (c ∷ []) [] (c ∷ []) [] c last before after 0 so_far refl heard why carries
+  one_refused why rule carries =
+      ends_refused old old new (c ∷ []) [] (c ∷ []) [] c last before after 0 so_far refl heard why carries rule
 
   pub one_wanting : (why : UpdateError) → CarriesOut old c (Err why) new last
       → CarriesOutAll old (c ∷ []) (Err (feed.Memory 0)) new after

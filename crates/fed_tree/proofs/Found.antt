@@ -41,3 +41,7 @@ read_found world id node says found =
 pub read_missing : {A : Type 0} (world : Option World) (id : FullNodeId) (says : World → NodeData → Option A) → IsFound world id None → read_of world id says ≡ None
 read_missing None id says missing = refl
 read_missing (Some w) id says missing = ap (λ (d : Option NodeData). option_and_then (says w) d) missing
+
+-- and its data
+pub data_found : (world : Option World) (id : FullNodeId) (node : NodeRef) → IsFound world id (Some node) → data_in world id ≡ Some (data_at node)
+data_found world id node found = ap (λ (o : Option World). data_in o id) found.0 ∙ found.2

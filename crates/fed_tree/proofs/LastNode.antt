@@ -8,7 +8,7 @@ use Rattle.schema.specs.NodeData.{NodeData}
 use Rattle.schema.specs.UpdateData.{UpdateData}
 use Rattle.schema.specs.declared.NodeId.{NodeId}
 use Rattle.script_nodes.specs.Given.{Becomes, Given, with_given}
-use Rattle.script_nodes.specs.FieldKinds.{all_fields}
+use Rattle.script_nodes.specs.FieldNumbers.{numbered_fields}
 use Rattle.script_nodes.specs.declared.field_kinds.Field.{Field}
 use Rattle.fed_tree.specs.Begun.{Changes, given_at, last_entry, with_last, with_value}
 use Rattle.fed_tree.specs.declared.updating.BuildError.{BuildError}
@@ -50,13 +50,13 @@ module _ (u : UpdateData) (len : ℕ) (is_len : len ≡ length u.nodes) (some : 
     given_by o = option_and_then (λ which. with_given value which entry.1) o
 
     -- where no field has this number
-    pub no_field : None ≡ slice_get all_fields number → Changes (with_value number value u) u (Err NoSuch) (put entry)
+    pub no_field : None ≡ slice_get numbered_fields number → Changes (with_value number value u) u (Err NoSuch) (put entry)
     unfolding given_by
     no_field none =
         subst (λ (r : Result UpdateData BuildError). Changes r u (Err NoSuch) (put entry))
         (sym (is_wanted None (ap given_by (sym none)))) (refl, put_back)
 
-    module _ (which : Field) (is : Some which ≡ slice_get all_fields number) (n : NodeData) where
+    module _ (which : Field) (is : Some which ≡ slice_get numbered_fields number) (n : NodeData) where
       known : with_value number value u ≡ wanted (with_given value which entry.1)
       unfolding given_by
       known = is_wanted (with_given value which entry.1) (ap given_by (sym is))

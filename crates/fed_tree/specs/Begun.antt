@@ -10,7 +10,7 @@ use Rattle.schema.specs.declared.Role.{Role}
 use Rattle.schema.specs.declared.TreeId.{TreeId}
 use Rattle.schema.specs.declared.update.TreeUpdate.{TreeUpdate}
 use Rattle.script_nodes.specs.Given.{Given, with_given}
-use Rattle.script_nodes.specs.FieldKinds.{all_fields}
+use Rattle.script_nodes.specs.FieldNumbers.{numbered_fields}
 use Rattle.script_lines.specs.Taking.{with_entry}
 use Rattle.script_lines.specs.declared.reader.ScriptCommand.{ScriptCommand}
 use Rattle.script_lines.specs.declared.reader.ScriptCommand.TheVariants as command
@@ -52,9 +52,9 @@ last_entry u = slice_get u.nodes (length u.nodes - 1)
 abbrev pub with_last : NodeId × NodeData → UpdateData → UpdateData
 with_last entry u = record u { nodes = slice_set u.nodes (length u.nodes - 1) entry }
 
--- a node whose field with this number, counted from 0 in the order in which a script has them, gets this value
+-- a node whose field with this number gets this value
 abbrev pub given_at : ℕ → Given → NodeData → Option NodeData
-given_at number value n = option_and_then (λ which. with_given value which n) (slice_get all_fields number)
+given_at number value n = option_and_then (λ which. with_given value which n) (slice_get numbered_fields number)
 
 -- the node that was begun last gets it
 abbrev pub with_value : ℕ → Given → UpdateData → Result UpdateData BuildError

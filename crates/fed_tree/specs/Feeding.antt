@@ -1,11 +1,12 @@
 -- What becomes of lines that are fed.
-use Rattle.std.specs.Prelude.{◌≡◌, ◌⊎◌, ◌++◌, ℕ, List, [], ◌∷◌, map, length, Option, Some, None, IsSome, IfSome, Result, Ok, Err, ⊤}
+use Rattle.std.specs.Prelude.{◌≡◌, ◌≢◌, ◌⊎◌, ◌++◌, ℕ, List, [], ◌∷◌, map, length, Option, Some, None, IsSome, IfSome, Result, Ok, Err, ⊤}
 use Rattle.std.specs.Global.{Vec}
 use Rattle.std.specs.List.{FoldsTo}
 use Rattle.model.specs.Events.{Event as ModelEvent}
 use Rattle.script_lines.specs.declared.reader.ScriptCommand.{ScriptCommand}
 use Rattle.script_words.specs.declared.stops.Stop.TheVariants.{BadLine}
 use Rattle.tree_changes.specs.declared.error.UpdateError.{UpdateError}
+use Rattle.tree_changes.specs.declared.error.UpdateError.TheVariants as error
 use Rattle.script_lines.specs.ScriptReading.{Place, ReadsTo}
 use Rattle.fed_tree.specs.Carried.{CarriesOut}
 use Rattle.fed_tree.specs.Events.{record_of}
@@ -65,12 +66,13 @@ abbrev pub IsRefusedNext : List ScriptCommand → List ScriptCommand → Stage �
 IsRefusedNext commands done stage why =
     (c : ScriptCommand) × (others : List ScriptCommand) × (commands ≡ done ++ c ∷ others) × CarriesOut stage c (Err why) stage []
 
--- all are carried out; or a first part of them, up to an update that is refused, or to where memory ran out
+-- all are carried out; or a first part of them, up to an update that is refused for another reason than lack of memory, or to where memory
+-- ran out
 abbrev pub EndsAs : List ScriptCommand → List ScriptCommand → Result Unit FeedError → Stage → Option (List Event) → Type 0
 EndsAs commands done (Ok ended) stage events = (done ≡ commands) × IsSome events
 EndsAs commands done (Err (feed.BadLine number)) stage events = ⊥
 EndsAs commands done (Err (feed.Refused count why)) stage events =
-    (count ≡ length done) × IsSome events × IsRefusedNext commands done stage why
+    (count ≡ length done) × IsSome events × (why ≢ error.Memory) × IsRefusedNext commands done stage why
 EndsAs commands done (Err (feed.Memory count)) stage events =
     (count ≡ length done) × ((others : List ScriptCommand) × (commands ≡ done ++ others))
 

@@ -5,6 +5,7 @@
 mod events;
 mod fed_lines;
 mod feeding;
+mod fields;
 mod flags;
 mod reads;
 mod shown;

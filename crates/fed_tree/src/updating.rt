@@ -101,13 +101,13 @@ impl FedTree {
     }
 
     /// Sets a field of the node that was begun last, in place of what it had; to a set of actions one is added. The field is named by
-    /// its number, counted from 0 in the order in which a script has them.
+    /// its number, as `field_numbered` of `script_nodes` reads it.
     ///
     /// # Errors
     ///
     /// Returns `BuildError` if no node is begun, if the field has no such value, or if memory runs out.
     #[tactic(auto, using(crate::proofs::Building::neither, crate::proofs::Building::builds_or_wants))]
-    pub fn set_value(&mut self, field: u8, value: FieldValue<'_>) -> Result<(), BuildError>
+    pub fn set_value(&mut self, field: u32, value: FieldValue<'_>) -> Result<(), BuildError>
         ensures { WantsMemory self.old result self.new ⊎ Builds (with_value field (given value.entry)) self.old result self.new }
     {
         let Some(update) = &mut self.begun else {
@@ -218,7 +218,7 @@ fn add_node(
     }
 }
 
-fn set_last(field: u8, value: FieldValue<'_>, update: &mut TreeUpdate) -> Result<(), BuildError>
+fn set_last(field: u32, value: FieldValue<'_>, update: &mut TreeUpdate) -> Result<(), BuildError>
     ensures { WantsMemory (update_data update.old) result (update_data update.new)
         ⊎ Changes (with_value field (given value.entry) (update_data update.old))
         (update_data update.old) result (update_data update.new) }

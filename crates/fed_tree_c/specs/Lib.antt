@@ -1,4 +1,6 @@
 pub mod Answers
+pub mod ChoiceNumbers
+pub mod Fields
 pub mod Held
 pub mod Numbers
 pub mod Questions

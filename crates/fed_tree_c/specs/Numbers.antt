@@ -1,5 +1,5 @@
 -- What C says by numbers.
-use Rattle.std.specs.Prelude.{◌≡◌, ◌≢◌, ℕ, Bool, List, [], ◌∷◌, Option, Some, None, if◌then◌else◌}
+use Rattle.std.specs.Prelude.{◌≡◌, ◌≢◌, ◌+◌, ◌-◌, ℕ, min, nat_lt, Bool, List, [], ◌∷◌, Option, Some, None, if◌then◌else◌}
 use Rattle.schema.specs.Roles.{role_number}
 use Rattle.schema.specs.declared.Role.{Role}
 use Rattle.model.specs.declared.filters.FilterResult.{FilterResult}
@@ -14,7 +14,7 @@ use Rattle.script_words.specs.Reading.{IsRole}
 use Rattle.fed_tree.specs.declared.flags.Flag.{Flag}
 use Rattle.fed_tree.specs.declared.flags.Flag.TheVariants as flag
 
--- each of these has its place in the list as its number, counted from 0
+-- Each of these has its place in its list as its number, counted from 0. Programs are built with the numbers, so what is new comes last.
 abbrev pub all_flags : List Flag
 all_flags =
     flag.Hidden
@@ -83,7 +83,16 @@ answer_number answer.ExcludeSubtree = 2
 abbrev pub at_index : ℕ → Bool → At
 at_index index is_end = record { index = index; side = if is_end then End else Start }
 
+-- a role's number: the 72 with names have their places, and those without follow from 2^16 on, far behind them
+abbrev pub role_code : Role → ℕ
+role_code role = let number = role_number role in if nat_lt number 72 then number else 65536 + (number - 72)
+
 -- the role with this number, if there is one
 abbrev pub IsRoleNumbered : ℕ → Option Role → Type 0
-IsRoleNumbered number None = (role : Role) → IsRole role → role_number role ≢ number
-IsRoleNumbered number (Some role) = IsRole role × (role_number role ≡ number)
+IsRoleNumbered number None = (role : Role) → IsRole role → role_code role ≢ number
+IsRoleNumbered number (Some role) = IsRole role × (role_code role ≡ number)
+
+-- The place of the action with this number among all 260: the four with names have their places as numbers, and those without begin at
+-- 256. Of a number that is no action's it is past them all.
+abbrev pub action_place : ℕ → ℕ
+action_place number = if nat_lt number 4 then number else (if nat_lt number 256 then 260 else min (number - 252) 260)

@@ -1,7 +1,6 @@
 -- What is asked of a tree.
-use Rattle.std.specs.Prelude.{◌≡◌, ℕ, ℤ, Bool, List, length, slice_get, Option, Some, None, MatchOption, map, option_map, option_and_then}
+use Rattle.std.specs.Prelude.{◌≡◌, ℕ, ℤ, Bool, List, length, slice_get, is_some, Option, Some, None, MatchOption, map, option_map, option_and_then, if◌then◌else◌}
 use Rattle.schema.specs.RoleNames.{role_text}
-use Rattle.schema.specs.Roles.{role_number}
 use Rattle.model.specs.World.{children, root_of}
 use Rattle.model.specs.Forest.{place_of}
 use Rattle.model.specs.Focus.{IsFocus}
@@ -20,7 +19,8 @@ use Rattle.fed_tree.specs.Flags.{says}
 use Rattle.fed_tree.specs.Reads.{read_of}
 use Rattle.session.specs.Texts.{in_text, text_from}
 use Rattle.fed_tree.specs.Texts.{place_at, place_after, place_found}
-use Rattle.fed_tree_c.specs.Numbers.{all_flags, all_filters, all_moves, answer_number, at_index}
+use Rattle.fed_tree_c.specs.Answers.{LOST, NOTHING}
+use Rattle.fed_tree_c.specs.Numbers.{all_flags, all_filters, all_moves, answer_number, at_index, role_code}
 use Rattle.fed_tree_c.specs.Records.{bounds_of, event_of, id_of, position_of}
 use Rattle.fed_tree_c.specs.declared.records.AkBounds.{AkBounds}
 use Rattle.fed_tree_c.specs.declared.records.AkEvent.{AkEvent}
@@ -55,13 +55,17 @@ IsFocusIn handle found = MatchOption (option_and_then (λ fed. fed.world) handle
 abbrev pub event_at : ℕ → Fed → Option AkEvent
 event_at index fed = option_map event_of (option_and_then (λ events. slice_get events index) fed.events)
 
+-- where there is no event with an index: there are fewer, or they are lost
+abbrev pub lack_of_event : Fed → ℕ
+lack_of_event fed = if is_some fed.events then NOTHING else LOST
+
 abbrev pub event_count : Fed → Option ℕ
 event_count fed = option_map length fed.events
 
 -- ---- where a node lies, and what it is
 
 abbrev pub role_number_in : FullNodeId → Fed → Option ℕ
-role_number_in id fed = read_of fed.world id (λ w node. Some (role_number node.role))
+role_number_in id fed = read_of fed.world id (λ w node. Some (role_code node.role))
 
 abbrev pub bounds_in : FullNodeId → Fed → Option AkBounds
 bounds_in id fed = option_map bounds_of (read_of fed.world id (λ w node. bounding_box w id))

@@ -1,5 +1,6 @@
 -- What C learns where a tree is opened, and of lines that were fed.
-use Rattle.std.specs.Prelude.{◌≡◌, ◌⊎◌, ℕ, List, [], false, Option, Some, None, Result, Ok, Err}
+use Rattle.std.specs.Prelude.{◌≡◌, ◌⊎◌, ◌==◌, ◌-◌, ℕ, List, [], ◌∷◌, codes, false, slice_get, Option, Some, None, Result, Ok, Err, if◌then◌else◌}
+use Rattle.schema.specs.TreeIds.{root_tree_id}
 use Rattle.fed_tree.specs.Fed.{Fed}
 use Rattle.fed_tree.specs.Feeding.{Feeds}
 use Rattle.fed_tree.specs.declared.feeding.FeedError.{FeedError}
@@ -53,6 +54,47 @@ node_named (error.FocusMissing n) = n.0
 node_named (error.FocusOnEmptyGraft name) = 0
 node_named error.IndexesUsedUp = 0
 
+-- the sixteen bytes of the id of the tree that an error names; those of the root tree's, which are zeros, where it names none
+abbrev pub tree_named : UpdateError → List ℕ
+tree_named error.Memory = root_tree_id.0
+tree_named error.MissingTreeInfo = root_tree_id.0
+tree_named error.NotRootTree = root_tree_id.0
+tree_named (error.MissingData n) = root_tree_id.0
+tree_named (error.NotReached n) = root_tree_id.0
+tree_named (error.NamedTwice n) = root_tree_id.0
+tree_named (error.ListedTwice n) = root_tree_id.0
+tree_named (error.RootTreeGrafted n) = root_tree_id.0
+tree_named (error.GraftWithChildren n) = root_tree_id.0
+tree_named (error.GraftedTwice name) = name.0
+tree_named (error.NoGraft name) = name.0
+tree_named (error.NoFirstTreeInfo name) = name.0
+tree_named (error.FocusMissing n) = root_tree_id.0
+tree_named (error.FocusOnEmptyGraft name) = name.0
+tree_named error.IndexesUsedUp = root_tree_id.0
+
+-- the names of the rules, in the order of their numbers
+abbrev pub rule_names : List (List ℕ)
+rule_names =
+    codes "MissingTreeInfo"
+    ∷ codes "NotRootTree"
+    ∷ codes "MissingData"
+    ∷ codes "NotReached"
+    ∷ codes "NamedTwice"
+    ∷ codes "ListedTwice"
+    ∷ codes "RootTreeGrafted"
+    ∷ codes "GraftWithChildren"
+    ∷ codes "GraftedTwice"
+    ∷ codes "NoGraft"
+    ∷ codes "NoFirstTreeInfo"
+    ∷ codes "FocusMissing"
+    ∷ codes "FocusOnEmptyGraft"
+    ∷ codes "IndexesUsedUp"
+    ∷ []
+
+-- the name of the rule with this number, counted from 1
+abbrev pub rule_name : ℕ → Option (List ℕ)
+rule_name number = if number == 0 then None else slice_get rule_names (number - 1)
+
 abbrev pub status_of : Result Unit FeedError → ℕ
 status_of (Ok done) = DONE
 status_of (Err (feed.BadLine number)) = BAD_LINE
@@ -60,10 +102,11 @@ status_of (Err (feed.Refused done why)) = REFUSED
 status_of (Err (feed.Memory done)) = NO_MEMORY
 
 abbrev pub stop_of : Result Unit FeedError → AkStop
-stop_of (Ok done) = record { line = 0; done = 0; node = 0; rule = 0 }
-stop_of (Err (feed.BadLine number)) = record { line = number; done = 0; node = 0; rule = 0 }
-stop_of (Err (feed.Refused done why)) = record { line = 0; done = done; node = node_named why; rule = rule_number why }
-stop_of (Err (feed.Memory done)) = record { line = 0; done = done; node = 0; rule = 0 }
+stop_of (Ok done) = record { line = 0; done = 0; node = 0; tree_id = root_tree_id.0; rule = 0 }
+stop_of (Err (feed.BadLine number)) = record { line = number; done = 0; node = 0; tree_id = root_tree_id.0; rule = 0 }
+stop_of (Err (feed.Refused done why)) =
+    record { line = 0; done = done; node = node_named why; tree_id = tree_named why; rule = rule_number why }
+stop_of (Err (feed.Memory done)) = record { line = 0; done = done; node = 0; tree_id = root_tree_id.0; rule = 0 }
 
 -- the lines are fed to the tree of the handle, and what became of them is answered
 abbrev pub FeedsHeld : Option Fed → List ℕ → Option Fed → ℕ → AkStop → AkStop → Type 0

@@ -11,7 +11,7 @@ use Rattle.fed_tree.specs.Fed.{Fed}
 use Rattle.fed_tree.specs.declared.feeding.FeedError.{FeedError}
 use Rattle.fed_tree.specs.declared.updating.BuildError.{BuildError}
 use Rattle.fed_tree.specs.declared.updating.BuildError.TheVariants as build
-use Rattle.fed_tree_c.specs.Answers.{DONE, NO_MEMORY, CLOSED, NOTHING, OUT_OF_PLACE}
+use Rattle.fed_tree_c.specs.Answers.{DONE, NO_MEMORY, CLOSED, NO_SUCH, OUT_OF_PLACE}
 use Rattle.fed_tree_c.specs.Numbers.{IsRoleNumbered}
 use Rattle.fed_tree_c.specs.Stops.{status_of, stop_of}
 use Rattle.fed_tree_c.specs.declared.records.AkStop.{AkStop}
@@ -31,13 +31,13 @@ tree_said bytes = if length bytes == 0 then Some root_tree_id else if length byt
 abbrev pub BeginsHeld : List ℕ → ℕ → Option Fed → ℕ → Option Fed → Type 0
 BeginsHeld bytes focus None status new = (status ≡ CLOSED) × (new ≡ None)
 BeginsHeld bytes focus (Some old) status new =
-    MatchOption (tree_said bytes) ((status ≡ NOTHING) × (new ≡ Some old))
+    MatchOption (tree_said bytes) ((status ≡ NO_SUCH) × (new ≡ Some old))
     (λ name. (status ≡ DONE) × (new ≡ Some (record old { begun = Some (bare_update name (node_numbered focus)) })))
 
 abbrev pub build_status : Result Unit BuildError → ℕ
 build_status (Ok done) = DONE
 build_status (Err build.OutOfPlace) = OUT_OF_PLACE
-build_status (Err build.NoSuch) = NOTHING
+build_status (Err build.NoSuch) = NO_SUCH
 build_status (Err build.Memory) = NO_MEMORY
 
 -- the begun update becomes that, or there was no memory for it
@@ -47,9 +47,9 @@ BuildsHeld change (Some old) status new =
     (fed : Fed) × (result : Result Unit BuildError) × (WantsMemory old result fed ⊎ Builds change old result fed)
     × (status ≡ build_status result) × (new ≡ Some fed)
 
--- there is no such thing, and nothing has changed
+-- a number means nothing, and nothing has changed
 abbrev pub LeavesHeld : Option Fed → ℕ → Option Fed → Type 0
-LeavesHeld old status new = (status ≡ (if is_some old then NOTHING else CLOSED)) × (new ≡ old)
+LeavesHeld old status new = (status ≡ (if is_some old then NO_SUCH else CLOSED)) × (new ≡ old)
 
 -- a node is begun, if there is a role with this number
 abbrev pub BeginsNodeHeld : ℕ → NodeId → Option Fed → ℕ → Option Fed → Type 0

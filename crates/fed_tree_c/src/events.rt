@@ -1,11 +1,11 @@
 //! The exports that return what the last lines changed.
 ghost use Rattle.std.specs.Prelude.{◌≡◌, option_map};
 ghost use Rattle.fed_tree_c.specs.Answers.{Answers};
-ghost use Rattle.fed_tree_c.specs.Questions.{event_at, event_count};
+ghost use Rattle.fed_tree_c.specs.Questions.{event_at, event_count, lack_of_event};
 ghost use Rattle.fed_tree_c.specs.Records.{event_of, kind_number, node_or_zero, tree_or_zero};
 
 use crate::handle::Handle;
-use crate::records::{AkEvent, CLOSED, DONE, NOTHING};
+use crate::records::{AkEvent, CLOSED, DONE, LOST, NOTHING};
 use fed_tree::{Event, EventKind, FedTree};
 use model::FullNodeId;
 use std::alloc::Global;
@@ -69,7 +69,7 @@ fn event_at(fed: &FedTree, index: usize) -> Option<AkEvent>
 #[unsafe(no_mangle)]
 pub extern "C" fn ak_tree_event_count(alloc: Global, tree: &mut Handle, count: &mut usize) -> u8
     ensures kept { tree.new.block.fed ≡ tree.old.block.fed }
-    ensures answer { Answers tree.old.block.fed event_count result count.old count.new }
+    ensures answer { Answers tree.old.block.fed lack_of_event event_count result count.old count.new }
 {
     let taken = tree.take(alloc);
     let status = match &taken {
@@ -78,12 +78,23 @@ pub extern "C" fn ak_tree_event_count(alloc: Global, tree: &mut Handle, count: &
                 *count = events.len();
                 DONE
             }
-            None => NOTHING,
+            None => LOST,
         },
         None => CLOSED,
     };
     tree.put(alloc, taken);
     status
+}
+
+/// The answer where there is no event with an index: there are fewer, or they are lost.
+fn lack_of_event(fed: &FedTree) -> u8
+    ensures { result ≡ lack_of_event fed.now }
+{
+    if fed.events().is_some() {
+        NOTHING
+    } else {
+        LOST
+    }
 }
 
 /// The event with this index, counted from 0.
@@ -95,7 +106,7 @@ pub extern "C" fn ak_tree_event(
     event: &mut AkEvent,
 ) -> u8
     ensures kept { tree.new.block.fed ≡ tree.old.block.fed }
-    ensures answer { Answers tree.old.block.fed (event_at index) result event.old event.new }
+    ensures answer { Answers tree.old.block.fed lack_of_event (event_at index) result event.old event.new }
 {
     let taken = tree.take(alloc);
     let status = match &taken {
@@ -104,7 +115,7 @@ pub extern "C" fn ak_tree_event(
                 *event = found;
                 DONE
             }
-            None => NOTHING,
+            None => lack_of_event(fed),
         },
         None => CLOSED,
     };

@@ -1,10 +1,12 @@
 //! The export that feeds lines, and what it reports of lines that weren't carried out to their end.
 ghost use Rattle.std.specs.Prelude.{◌≡◌};
-ghost use Rattle.fed_tree_c.specs.Stops.{FeedsHeld, node_named, rule_number, status_of, stop_of};
+ghost use Rattle.schema.specs.TreeIds.{root_tree_id};
+ghost use Rattle.fed_tree_c.specs.Stops.{FeedsHeld, node_named, rule_number, status_of, stop_of, tree_named};
 
 use crate::handle::Handle;
 use crate::records::{AkStop, BAD_LINE, CLOSED, DONE, NO_MEMORY, REFUSED};
 use fed_tree::FeedError;
+use schema::TreeId;
 use std::alloc::Global;
 use tree_changes::UpdateError;
 
@@ -47,6 +49,19 @@ fn node_named(why: UpdateError) -> u64
     }
 }
 
+/// The bytes of the id of the tree that a refusal names; those of the root tree's where it names none.
+fn tree_named(why: UpdateError) -> [u8; 16]
+    ensures { result ≡ tree_named why }
+{
+    match why {
+        UpdateError::GraftedTwice(tree)
+        | UpdateError::NoGraft(tree)
+        | UpdateError::NoFirstTreeInfo(tree)
+        | UpdateError::FocusOnEmptyGraft(tree) => tree.0.into_bytes(),
+        _ => TreeId::root().0.into_bytes(),
+    }
+}
+
 /// The number of the answer to lines that were fed.
 pub(crate) fn status_of(fed: &Result<(), FeedError>) -> u8
     ensures { result ≡ status_of fed.now }
@@ -70,6 +85,7 @@ pub(crate) fn stop_of(fed: &Result<(), FeedError>) -> AkStop
             line: 0,
             done: *done as u64,
             node: node_named(*why),
+            tree_id: tree_named(*why),
             rule: rule_number(*why),
         },
         Err(FeedError::Memory { done }) => stopped(0, *done as u64),
@@ -78,12 +94,13 @@ pub(crate) fn stop_of(fed: &Result<(), FeedError>) -> AkStop
 
 /// A stop without a refusal.
 fn stopped(line: u64, done: u64) -> AkStop
-    ensures { result ≡ record { line = line; done = done; node = 0; rule = 0 } }
+    ensures { result ≡ record { line = line; done = done; node = 0; tree_id = root_tree_id.0; rule = 0 } }
 {
     AkStop {
         line,
         done,
         node: 0,
+        tree_id: TreeId::root().0.into_bytes(),
         rule: 0,
     }
 }

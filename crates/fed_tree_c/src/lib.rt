@@ -3,8 +3,13 @@
 
 mod block;
 mod buffers;
+mod choice_numbers;
 mod events;
 mod feed;
+mod field_lists;
+mod field_records;
+mod fields;
+mod found;
 mod handle;
 mod node_texts;
 mod nodes;
@@ -12,6 +17,7 @@ mod numbers;
 mod opened;
 mod records;
 mod release;
+mod rules;
 mod shown;
 mod tree;
 mod updates;
@@ -19,6 +25,14 @@ mod values;
 
 pub use events::{ak_tree_event, ak_tree_event_count};
 pub use feed::ak_tree_feed;
+pub use field_lists::{
+    ak_field_actions, ak_field_ids, ak_field_numbers, ak_field_text, ak_field_tree, ak_field_units,
+};
+pub use field_records::{AkColor, AkDecoration, AkRect, AkSelection, AkTranslation};
+pub use fields::{
+    ak_field_choice, ak_field_color, ak_field_count, ak_field_decoration, ak_field_flag,
+    ak_field_id, ak_field_number, ak_field_rect, ak_field_selection, ak_field_translation,
+};
 pub use handle::Handle;
 pub use node_texts::{
     ak_text_between, ak_text_move, ak_text_position, ak_text_selection_anchor,
@@ -29,6 +43,7 @@ pub use nodes::{
 };
 pub use records::{AkBounds, AkEvent, AkId, AkPosition, AkStop};
 pub use release::ak_version;
+pub use rules::ak_rule_name;
 pub use shown::{
     ak_node_bounds, ak_node_filter, ak_node_filtered_children, ak_node_filtered_parent,
     ak_node_flag, ak_node_hit,

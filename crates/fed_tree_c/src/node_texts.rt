@@ -1,14 +1,16 @@
 //! The exports that ask about the text of a node.
 ghost use Rattle.std.specs.Prelude.{◌≡◌, IfOk, option_map, string_bytes};
 ghost use Rattle.model.specs.declared.queries.Side.TheVariants.{Start};
-ghost use Rattle.fed_tree_c.specs.Answers.{Answers, AnswersList};
+ghost use Rattle.fed_tree_c.specs.Answers.{Answers, AnswersList, lack_at, lack_by};
+ghost use Rattle.fed_tree_c.specs.Numbers.{all_moves};
 ghost use Rattle.fed_tree_c.specs.Questions.{position_after, position_in, selection_anchor_in, selection_focus_in, text_between_in};
 ghost use Rattle.fed_tree_c.specs.Records.{node_id, position_of};
 
-use crate::buffers::give_text;
+use crate::buffers::give_text_at;
+use crate::found::give_at;
 use crate::handle::Handle;
 use crate::numbers::{at_index, move_numbered};
-use crate::records::{AkPosition, CLOSED, give, node_id};
+use crate::records::{AkPosition, CLOSED, node_id};
 use fed_tree::{FedTree, TextPlace};
 use model::{At, FullNodeId, Side};
 use std::alloc::{AllocError, Global};
@@ -38,7 +40,7 @@ fn position_in(fed: &FedTree, index: usize, is_end: bool, id: FullNodeId) -> Opt
 /// Where the movement with this number ends.
 fn position_after(
     fed: &FedTree,
-    number: u8,
+    number: u32,
     index: usize,
     is_end: bool,
     id: FullNodeId,
@@ -100,14 +102,13 @@ pub extern "C" fn ak_text_position(
     position: &mut AkPosition,
 ) -> u8
     ensures kept { tree.new.block.fed ≡ tree.old.block.fed }
-    ensures answer { Answers tree.old.block.fed (position_in index is_end (node_id node tree_index)) result position.old position.new }
+    ensures answer { Answers tree.old.block.fed (lack_at (node_id node tree_index)) (position_in index is_end (node_id node tree_index))
+        result position.old position.new }
 {
+    let id = node_id(node, tree_index);
     let taken = tree.take(alloc);
     let status = match &taken {
-        Some(fed) => give(
-            position_in(fed, index, is_end, node_id(node, tree_index)),
-            position,
-        ),
+        Some(fed) => give_at(fed, id, true, position_in(fed, index, is_end, id), position),
         None => CLOSED,
     };
     tree.put(alloc, taken);
@@ -123,17 +124,22 @@ pub extern "C" fn ak_text_move(
     tree_index: u32,
     index: usize,
     is_end: bool,
-    movement: u8,
+    movement: u32,
     position: &mut AkPosition,
 ) -> u8
     ensures kept { tree.new.block.fed ≡ tree.old.block.fed }
-    ensures answer { Answers tree.old.block.fed (position_after movement index is_end (node_id node tree_index))
+    ensures answer { Answers tree.old.block.fed (lack_by all_moves movement (node_id node tree_index))
+        (position_after movement index is_end (node_id node tree_index))
         result position.old position.new }
 {
+    let id = node_id(node, tree_index);
     let taken = tree.take(alloc);
     let status = match &taken {
-        Some(fed) => give(
-            position_after(fed, movement, index, is_end, node_id(node, tree_index)),
+        Some(fed) => give_at(
+            fed,
+            id,
+            move_numbered(movement).is_some(),
+            position_after(fed, movement, index, is_end, id),
             position,
         ),
         None => CLOSED,
@@ -152,11 +158,13 @@ pub extern "C" fn ak_text_selection_anchor(
     anchor: &mut AkPosition,
 ) -> u8
     ensures kept { tree.new.block.fed ≡ tree.old.block.fed }
-    ensures answer { Answers tree.old.block.fed (selection_anchor_in (node_id node tree_index)) result anchor.old anchor.new }
+    ensures answer { Answers tree.old.block.fed (lack_at (node_id node tree_index)) (selection_anchor_in (node_id node tree_index))
+        result anchor.old anchor.new }
 {
+    let id = node_id(node, tree_index);
     let taken = tree.take(alloc);
     let status = match &taken {
-        Some(fed) => give(selection_anchor_in(fed, node_id(node, tree_index)), anchor),
+        Some(fed) => give_at(fed, id, true, selection_anchor_in(fed, id), anchor),
         None => CLOSED,
     };
     tree.put(alloc, taken);
@@ -173,11 +181,13 @@ pub extern "C" fn ak_text_selection_focus(
     focus: &mut AkPosition,
 ) -> u8
     ensures kept { tree.new.block.fed ≡ tree.old.block.fed }
-    ensures answer { Answers tree.old.block.fed (selection_focus_in (node_id node tree_index)) result focus.old focus.new }
+    ensures answer { Answers tree.old.block.fed (lack_at (node_id node tree_index)) (selection_focus_in (node_id node tree_index))
+        result focus.old focus.new }
 {
+    let id = node_id(node, tree_index);
     let taken = tree.take(alloc);
     let status = match &taken {
-        Some(fed) => give(selection_focus_in(fed, node_id(node, tree_index)), focus),
+        Some(fed) => give_at(fed, id, true, selection_focus_in(fed, id), focus),
         None => CLOSED,
     };
     tree.put(alloc, taken);
@@ -198,13 +208,18 @@ pub extern "C" fn ak_text_between(
     length: &mut usize,
 ) -> u8
     ensures kept { tree.new.block.fed ≡ tree.old.block.fed }
-    ensures answer { AnswersList tree.old.block.fed (text_between_in from to (node_id node tree_index))
+    ensures answer { AnswersList tree.old.block.fed (lack_at (node_id node tree_index))
+        (text_between_in from to (node_id node tree_index))
         result buffer.old buffer.new length.old length.new }
 {
+    let id = node_id(node, tree_index);
     let taken = tree.take(alloc);
     let status = match &taken {
-        Some(fed) => give_text(
-            text_between_in(fed, from, to, node_id(node, tree_index)),
+        Some(fed) => give_text_at(
+            fed,
+            id,
+            true,
+            text_between_in(fed, from, to, id),
             buffer,
             length,
         ),

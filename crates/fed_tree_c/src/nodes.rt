@@ -1,12 +1,13 @@
 //! The exports that ask about a node, by its id.
 ghost use Rattle.std.specs.Prelude.{◌≡◌};
-ghost use Rattle.fed_tree_c.specs.Answers.{Answers, AnswersList};
+ghost use Rattle.fed_tree_c.specs.Answers.{Answers, AnswersList, lack_at};
 ghost use Rattle.fed_tree_c.specs.Questions.{children_in, label_in, parent_in, role_in, text_in, value_in};
 ghost use Rattle.fed_tree_c.specs.Records.{node_id};
 
-use crate::buffers::{give_ids, give_text};
+use crate::buffers::{give_ids_at, give_text_at};
+use crate::found::give_id_at;
 use crate::handle::Handle;
-use crate::records::{AkId, CLOSED, give_id, node_id};
+use crate::records::{AkId, CLOSED, node_id};
 use std::alloc::Global;
 
 /// The node's parent.
@@ -19,11 +20,13 @@ pub extern "C" fn ak_node_parent(
     parent: &mut AkId,
 ) -> u8
     ensures kept { tree.new.block.fed ≡ tree.old.block.fed }
-    ensures answer { Answers tree.old.block.fed (parent_in (node_id node tree_index)) result parent.old parent.new }
+    ensures answer { Answers tree.old.block.fed (lack_at (node_id node tree_index)) (parent_in (node_id node tree_index))
+        result parent.old parent.new }
 {
+    let id = node_id(node, tree_index);
     let taken = tree.take(alloc);
     let status = match &taken {
-        Some(fed) => give_id(fed.parent(node_id(node, tree_index)), parent),
+        Some(fed) => give_id_at(fed, id, true, fed.parent(id), parent),
         None => CLOSED,
     };
     tree.put(alloc, taken);
@@ -42,17 +45,13 @@ pub extern "C" fn ak_node_children(
     count: &mut usize,
 ) -> u8
     ensures kept { tree.new.block.fed ≡ tree.old.block.fed }
-    ensures answer { AnswersList tree.old.block.fed (children_in (node_id node tree_index))
+    ensures answer { AnswersList tree.old.block.fed (lack_at (node_id node tree_index)) (children_in (node_id node tree_index))
         result buffer.old buffer.new count.old count.new }
 {
+    let id = node_id(node, tree_index);
     let taken = tree.take(alloc);
     let status = match &taken {
-        Some(fed) => give_ids(
-            alloc,
-            fed.children(node_id(node, tree_index)),
-            buffer,
-            count,
-        ),
+        Some(fed) => give_ids_at(alloc, fed, id, true, fed.children(id), buffer, count),
         None => CLOSED,
     };
     tree.put(alloc, taken);
@@ -71,12 +70,13 @@ pub extern "C" fn ak_node_role(
     length: &mut usize,
 ) -> u8
     ensures kept { tree.new.block.fed ≡ tree.old.block.fed }
-    ensures answer { AnswersList tree.old.block.fed (role_in (node_id node tree_index))
+    ensures answer { AnswersList tree.old.block.fed (lack_at (node_id node tree_index)) (role_in (node_id node tree_index))
         result buffer.old buffer.new length.old length.new }
 {
+    let id = node_id(node, tree_index);
     let taken = tree.take(alloc);
     let status = match &taken {
-        Some(fed) => give_text(fed.role_name(node_id(node, tree_index)), buffer, length),
+        Some(fed) => give_text_at(fed, id, true, fed.role_name(id), buffer, length),
         None => CLOSED,
     };
     tree.put(alloc, taken);
@@ -95,12 +95,13 @@ pub extern "C" fn ak_node_label(
     length: &mut usize,
 ) -> u8
     ensures kept { tree.new.block.fed ≡ tree.old.block.fed }
-    ensures answer { AnswersList tree.old.block.fed (label_in (node_id node tree_index))
+    ensures answer { AnswersList tree.old.block.fed (lack_at (node_id node tree_index)) (label_in (node_id node tree_index))
         result buffer.old buffer.new length.old length.new }
 {
+    let id = node_id(node, tree_index);
     let taken = tree.take(alloc);
     let status = match &taken {
-        Some(fed) => give_text(fed.label(node_id(node, tree_index)), buffer, length),
+        Some(fed) => give_text_at(fed, id, true, fed.label(id), buffer, length),
         None => CLOSED,
     };
     tree.put(alloc, taken);
@@ -119,12 +120,13 @@ pub extern "C" fn ak_node_value(
     length: &mut usize,
 ) -> u8
     ensures kept { tree.new.block.fed ≡ tree.old.block.fed }
-    ensures answer { AnswersList tree.old.block.fed (value_in (node_id node tree_index))
+    ensures answer { AnswersList tree.old.block.fed (lack_at (node_id node tree_index)) (value_in (node_id node tree_index))
         result buffer.old buffer.new length.old length.new }
 {
+    let id = node_id(node, tree_index);
     let taken = tree.take(alloc);
     let status = match &taken {
-        Some(fed) => give_text(fed.value(node_id(node, tree_index)), buffer, length),
+        Some(fed) => give_text_at(fed, id, true, fed.value(id), buffer, length),
         None => CLOSED,
     };
     tree.put(alloc, taken);
@@ -143,12 +145,13 @@ pub extern "C" fn ak_node_text(
     length: &mut usize,
 ) -> u8
     ensures kept { tree.new.block.fed ≡ tree.old.block.fed }
-    ensures answer { AnswersList tree.old.block.fed (text_in (node_id node tree_index))
+    ensures answer { AnswersList tree.old.block.fed (lack_at (node_id node tree_index)) (text_in (node_id node tree_index))
         result buffer.old buffer.new length.old length.new }
 {
+    let id = node_id(node, tree_index);
     let taken = tree.take(alloc);
     let status = match &taken {
-        Some(fed) => give_text(fed.text(node_id(node, tree_index)), buffer, length),
+        Some(fed) => give_text_at(fed, id, true, fed.text(id), buffer, length),
         None => CLOSED,
     };
     tree.put(alloc, taken);

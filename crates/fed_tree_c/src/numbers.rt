@@ -1,6 +1,7 @@
-//! What C says by numbers: flags, filters, movements, and the answers of filters.
-ghost use Rattle.std.specs.Prelude.{◌≡◌, ◌≤◌, slice_get};
-ghost use Rattle.fed_tree_c.specs.Numbers.{IsRoleNumbered, all_flags, all_filters, all_moves, answer_number, at_index};
+//! What C says by numbers: flags, filters, movements, the answers of filters, roles and actions. Programs are built with these numbers,
+//! so none of them is moved: what is new comes last in its table.
+ghost use Rattle.std.specs.Prelude.{◌≡◌, ◌≤◌, min, slice_get};
+ghost use Rattle.fed_tree_c.specs.Numbers.{IsRoleNumbered, action_place, all_flags, all_filters, all_moves, answer_number, at_index, role_code};
 
 use fed_tree::Flag;
 use model::filters::FilterResult;
@@ -91,49 +92,52 @@ fn moves() -> &'static [Move]
     &MOVES
 }
 
-/// What is at this place in a table.
-fn at_place<T: Copy>(table: &[T], place: usize) -> Option<T>
-    ensures { result ≡ slice_get table.now place }
-{
-    table.get(place).copied()
-}
-
 /// What has this number in a table.
-fn numbered<T: Copy>(table: &[T], number: u8) -> Option<T>
+pub(crate) fn numbered<T: Copy>(table: &[T], number: u32) -> Option<T>
     ensures { result ≡ slice_get table.now number }
 {
-    at_place(table, usize::from(number))
+    table.get(number as usize).copied()
 }
 
 /// The flag with this number.
-pub(crate) fn flag_numbered(number: u8) -> Option<Flag>
+pub(crate) fn flag_numbered(number: u32) -> Option<Flag>
     ensures { result ≡ slice_get all_flags number }
 {
     numbered(flags(), number)
 }
 
 /// The filter with this number.
-pub(crate) fn filter_numbered(number: u8) -> Option<NamedFilter>
+pub(crate) fn filter_numbered(number: u32) -> Option<NamedFilter>
     ensures { result ≡ slice_get all_filters number }
 {
     numbered(filters(), number)
 }
 
 /// The movement with this number.
-pub(crate) fn move_numbered(number: u8) -> Option<Move>
+pub(crate) fn move_numbered(number: u32) -> Option<Move>
     ensures { result ≡ slice_get all_moves number }
 {
     numbered(moves(), number)
 }
 
-/// How many roles have names.
-const NAMED_ROLES: u32 = 72;
+/// The number of the first role without a name, and how many there are.
+const OTHER_ROLES: u32 = 1 << 16;
 
-/// The role with this number: its place among the roles with names, or behind these the number of another.
+/// The role's number: that of `schema` for one with a name, and for another its own, counted from 65536.
+pub(crate) fn role_code(role: Role) -> u32
+    ensures { result ≡ role_code role }
+{
+    match role {
+        Role::Other(number) => OTHER_ROLES + u32::from(number),
+        named => named.number(),
+    }
+}
+
+/// The role with this number.
 pub(crate) fn role_numbered(number: u32) -> Option<Role>
     ensures { IsRoleNumbered number result }
 {
-    match at_place(named_roles(), number as usize) {
+    match numbered(named_roles(), number) {
         Some((_, role)) => Some(role),
         None => other_role(number),
     }
@@ -144,14 +148,37 @@ fn other_role(number: u32) -> Option<Role>
     requires { 72 ≤ number }
     ensures { IsRoleNumbered number result }
 {
-    match u16::try_from(number - NAMED_ROLES) {
+    if number < OTHER_ROLES {
+        return None;
+    }
+    match u16::try_from(number - OTHER_ROLES) {
         Ok(number) => Some(Role::Other(number)),
         Err(_) => None,
     }
 }
 
+/// The place of the action with this number among all actions: those without names begin at 256. What is no action's is past them.
+pub(crate) fn action_place(number: u32) -> u16
+    ensures { result ≡ action_place number }
+{
+    if number < 4 {
+        return number as u16;
+    }
+    if number < 256 {
+        return 260;
+    }
+    (number - 252).min(260) as u16
+}
+
+/// The number, if it has a byte, and else 255.
+pub(crate) fn byte_of(number: u32) -> u8
+    ensures { result ≡ min number 255 }
+{
+    number.min(255) as u8
+}
+
 /// The number of a filter's answer.
-pub(crate) fn answer_number(answer: FilterResult) -> u8
+pub(crate) fn answer_number(answer: FilterResult) -> u32
     ensures { result ≡ answer_number answer }
 {
     match answer {

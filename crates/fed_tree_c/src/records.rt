@@ -1,6 +1,6 @@
 //! What C sees: records of numbers, and the numbers of answers.
 ghost use Rattle.std.specs.Prelude.{◌≡◌, option_map};
-ghost use Rattle.fed_tree_c.specs.Answers.{Gives};
+ghost use Rattle.fed_tree_c.specs.Answers.{Gives, NOTHING};
 ghost use Rattle.fed_tree_c.specs.Records.{id_of, node_id};
 
 use model::FullNodeId;
@@ -12,7 +12,7 @@ pub(crate) const DONE: u8 = 0;
 pub(crate) const NO_MEMORY: u8 = 1;
 /// The handle is closed.
 pub(crate) const CLOSED: u8 = 2;
-/// There is no such thing, and nothing is written.
+/// There is no such thing in the tree or of the node, and nothing is written.
 pub(crate) const NOTHING: u8 = 3;
 /// A line is bad, and nothing was carried out.
 pub(crate) const BAD_LINE: u8 = 4;
@@ -20,6 +20,12 @@ pub(crate) const BAD_LINE: u8 = 4;
 pub(crate) const REFUSED: u8 = 5;
 /// No update is begun, or none of its nodes.
 pub(crate) const OUT_OF_PLACE: u8 = 6;
+/// The tree doesn't have the node, and nothing is written.
+pub(crate) const NO_NODE: u8 = 7;
+/// A number means nothing, or what is said isn't what it has to be. Nothing is written or changed.
+pub(crate) const NO_SUCH: u8 = 8;
+/// Memory for an event ran out, and none is kept.
+pub(crate) const LOST: u8 = 9;
 
 /// A node's id: its id in its tree, and the index of the tree.
 #[repr(C)]
@@ -53,6 +59,8 @@ pub struct AkStop {
     pub done: u64,
     /// The node that the refusal names; else 0.
     pub node: u64,
+    /// The bytes of the id of the tree that the refusal names; else zeros.
+    pub tree_id: [u8; 16],
     /// The rule that the refused update breaks, counted from 1; else 0.
     pub rule: u8,
 }
@@ -105,9 +113,9 @@ pub(crate) fn node_id(node: u64, tree: u32) -> FullNodeId
     }
 }
 
-/// Writes what was found, if it was.
+/// Writes what was found of the whole tree, if it was.
 pub(crate) fn give<T: Copy>(found: Option<T>, place: &mut T) -> u8
-    ensures { Gives found result place.old place.new }
+    ensures { Gives NOTHING found result place.old place.new }
 {
     match found {
         Some(found) => {
@@ -118,9 +126,9 @@ pub(crate) fn give<T: Copy>(found: Option<T>, place: &mut T) -> u8
     }
 }
 
-/// Writes an id, if one was found.
+/// Writes an id that was found of the whole tree, if it was.
 pub(crate) fn give_id(found: Option<FullNodeId>, id: &mut AkId) -> u8
-    ensures { Gives (option_map id_of found) result id.old id.new }
+    ensures { Gives NOTHING (option_map id_of found) result id.old id.new }
 {
     give(found.map(id_of), id)
 }

@@ -4,15 +4,16 @@ ghost use Rattle.std.specs.Int.{saturate_signed, w64};
 ghost use Rattle.model.specs.Filters.{filter_named};
 ghost use Rattle.model.specs.Frontier.{filtered_children};
 ghost use Rattle.fed_tree.specs.Reads.{read_of};
-ghost use Rattle.fed_tree_c.specs.Answers.{Answers, AnswersList};
-ghost use Rattle.fed_tree_c.specs.Numbers.{all_filters};
+ghost use Rattle.fed_tree_c.specs.Answers.{Answers, AnswersList, lack_at, lack_by};
+ghost use Rattle.fed_tree_c.specs.Numbers.{all_filters, all_flags};
 ghost use Rattle.fed_tree_c.specs.Questions.{answer_in, bounds_in, filtered_children_in, filtered_parent_in, flag_in, hit_in, role_number_in};
 ghost use Rattle.fed_tree_c.specs.Records.{bounds_of, id_of, node_id};
 
-use crate::buffers::give_ids;
+use crate::buffers::give_ids_at;
+use crate::found::give_at;
 use crate::handle::Handle;
-use crate::numbers::{answer_number, filter_numbered, flag_numbered};
-use crate::records::{AkBounds, AkId, CLOSED, give, id_of, node_id};
+use crate::numbers::{answer_number, filter_numbered, flag_numbered, role_code};
+use crate::records::{AkBounds, AkId, CLOSED, id_of, node_id};
 use fed_tree::FedTree;
 use model::FullNodeId;
 use schema::{Point, WideRect};
@@ -54,11 +55,11 @@ fn role_number_in(fed: &FedTree, id: FullNodeId) -> Option<u32>
     ensures { result ≡ role_number_in id fed.now }
 {
     let role = fed.role(id)?;
-    Some(role.number())
+    Some(role_code(role))
 }
 
 /// The answer to the flag with this number.
-fn flag_in(fed: &FedTree, number: u8, id: FullNodeId) -> Option<bool>
+fn flag_in(fed: &FedTree, number: u32, id: FullNodeId) -> Option<bool>
     ensures { result ≡ flag_in number id fed.now }
 {
     let flag = flag_numbered(number)?;
@@ -66,7 +67,7 @@ fn flag_in(fed: &FedTree, number: u8, id: FullNodeId) -> Option<bool>
 }
 
 /// The number of the filter's answer for the node.
-fn answer_in(fed: &FedTree, number: u8, id: FullNodeId) -> Option<u8>
+fn answer_in(fed: &FedTree, number: u32, id: FullNodeId) -> Option<u32>
     ensures { result ≡ answer_in number id fed.now }
 {
     let filter = filter_numbered(number)?;
@@ -75,7 +76,7 @@ fn answer_in(fed: &FedTree, number: u8, id: FullNodeId) -> Option<u8>
 }
 
 /// The node at the point, by the filter with this number.
-fn hit_in(fed: &FedTree, number: u8, point: Point, id: FullNodeId) -> Option<AkId>
+fn hit_in(fed: &FedTree, number: u32, point: Point, id: FullNodeId) -> Option<AkId>
     ensures { result ≡ hit_in number point.x point.y id fed.now }
 {
     let filter = filter_numbered(number)?;
@@ -84,7 +85,7 @@ fn hit_in(fed: &FedTree, number: u8, point: Point, id: FullNodeId) -> Option<AkI
 }
 
 /// The nearest ancestor that the filter with this number includes.
-fn filtered_parent_in(fed: &FedTree, number: u8, id: FullNodeId) -> Option<AkId>
+fn filtered_parent_in(fed: &FedTree, number: u32, id: FullNodeId) -> Option<AkId>
     ensures { result ≡ filtered_parent_in number id fed.now }
 {
     let filter = filter_numbered(number)?;
@@ -95,7 +96,7 @@ fn filtered_parent_in(fed: &FedTree, number: u8, id: FullNodeId) -> Option<AkId>
 /// The nodes that the filter with this number shows in place of the node's children.
 fn filtered_children_in(
     fed: &FedTree,
-    number: u8,
+    number: u32,
     id: FullNodeId,
 ) -> Result<Option<Vec<FullNodeId>>, AllocError>
     ensures { IfOk result (λ ids. option_map (λ found. found.items) ids
@@ -118,11 +119,13 @@ pub extern "C" fn ak_node_role_number(
     number: &mut u32,
 ) -> u8
     ensures kept { tree.new.block.fed ≡ tree.old.block.fed }
-    ensures answer { Answers tree.old.block.fed (role_number_in (node_id node tree_index)) result number.old number.new }
+    ensures answer { Answers tree.old.block.fed (lack_at (node_id node tree_index)) (role_number_in (node_id node tree_index))
+        result number.old number.new }
 {
+    let id = node_id(node, tree_index);
     let taken = tree.take(alloc);
     let status = match &taken {
-        Some(fed) => give(role_number_in(fed, node_id(node, tree_index)), number),
+        Some(fed) => give_at(fed, id, true, role_number_in(fed, id), number),
         None => CLOSED,
     };
     tree.put(alloc, taken);
@@ -139,11 +142,13 @@ pub extern "C" fn ak_node_bounds(
     bounds: &mut AkBounds,
 ) -> u8
     ensures kept { tree.new.block.fed ≡ tree.old.block.fed }
-    ensures answer { Answers tree.old.block.fed (bounds_in (node_id node tree_index)) result bounds.old bounds.new }
+    ensures answer { Answers tree.old.block.fed (lack_at (node_id node tree_index)) (bounds_in (node_id node tree_index))
+        result bounds.old bounds.new }
 {
+    let id = node_id(node, tree_index);
     let taken = tree.take(alloc);
     let status = match &taken {
-        Some(fed) => give(bounds_in(fed, node_id(node, tree_index)), bounds),
+        Some(fed) => give_at(fed, id, true, bounds_in(fed, id), bounds),
         None => CLOSED,
     };
     tree.put(alloc, taken);
@@ -157,15 +162,23 @@ pub extern "C" fn ak_node_flag(
     tree: &mut Handle,
     node: u64,
     tree_index: u32,
-    flag: u8,
+    flag: u32,
     is_set: &mut bool,
 ) -> u8
     ensures kept { tree.new.block.fed ≡ tree.old.block.fed }
-    ensures answer { Answers tree.old.block.fed (flag_in flag (node_id node tree_index)) result is_set.old is_set.new }
+    ensures answer { Answers tree.old.block.fed (lack_by all_flags flag (node_id node tree_index))
+        (flag_in flag (node_id node tree_index)) result is_set.old is_set.new }
 {
+    let id = node_id(node, tree_index);
     let taken = tree.take(alloc);
     let status = match &taken {
-        Some(fed) => give(flag_in(fed, flag, node_id(node, tree_index)), is_set),
+        Some(fed) => give_at(
+            fed,
+            id,
+            flag_numbered(flag).is_some(),
+            flag_in(fed, flag, id),
+            is_set,
+        ),
         None => CLOSED,
     };
     tree.put(alloc, taken);
@@ -179,15 +192,23 @@ pub extern "C" fn ak_node_filter(
     tree: &mut Handle,
     node: u64,
     tree_index: u32,
-    filter: u8,
-    answer: &mut u8,
+    filter: u32,
+    answer: &mut u32,
 ) -> u8
     ensures kept { tree.new.block.fed ≡ tree.old.block.fed }
-    ensures answer { Answers tree.old.block.fed (answer_in filter (node_id node tree_index)) result answer.old answer.new }
+    ensures answer { Answers tree.old.block.fed (lack_by all_filters filter (node_id node tree_index))
+        (answer_in filter (node_id node tree_index)) result answer.old answer.new }
 {
+    let id = node_id(node, tree_index);
     let taken = tree.take(alloc);
     let status = match &taken {
-        Some(fed) => give(answer_in(fed, filter, node_id(node, tree_index)), answer),
+        Some(fed) => give_at(
+            fed,
+            id,
+            filter_numbered(filter).is_some(),
+            answer_in(fed, filter, id),
+            answer,
+        ),
         None => CLOSED,
     };
     tree.put(alloc, taken);
@@ -203,16 +224,21 @@ pub extern "C" fn ak_node_hit(
     tree_index: u32,
     x: i64,
     y: i64,
-    filter: u8,
+    filter: u32,
     hit: &mut AkId,
 ) -> u8
     ensures kept { tree.new.block.fed ≡ tree.old.block.fed }
-    ensures answer { Answers tree.old.block.fed (hit_in filter x y (node_id node tree_index)) result hit.old hit.new }
+    ensures answer { Answers tree.old.block.fed (lack_by all_filters filter (node_id node tree_index))
+        (hit_in filter x y (node_id node tree_index)) result hit.old hit.new }
 {
+    let id = node_id(node, tree_index);
     let taken = tree.take(alloc);
     let status = match &taken {
-        Some(fed) => give(
-            hit_in(fed, filter, Point { x, y }, node_id(node, tree_index)),
+        Some(fed) => give_at(
+            fed,
+            id,
+            filter_numbered(filter).is_some(),
+            hit_in(fed, filter, Point { x, y }, id),
             hit,
         ),
         None => CLOSED,
@@ -228,16 +254,21 @@ pub extern "C" fn ak_node_filtered_parent(
     tree: &mut Handle,
     node: u64,
     tree_index: u32,
-    filter: u8,
+    filter: u32,
     parent: &mut AkId,
 ) -> u8
     ensures kept { tree.new.block.fed ≡ tree.old.block.fed }
-    ensures answer { Answers tree.old.block.fed (filtered_parent_in filter (node_id node tree_index)) result parent.old parent.new }
+    ensures answer { Answers tree.old.block.fed (lack_by all_filters filter (node_id node tree_index))
+        (filtered_parent_in filter (node_id node tree_index)) result parent.old parent.new }
 {
+    let id = node_id(node, tree_index);
     let taken = tree.take(alloc);
     let status = match &taken {
-        Some(fed) => give(
-            filtered_parent_in(fed, filter, node_id(node, tree_index)),
+        Some(fed) => give_at(
+            fed,
+            id,
+            filter_numbered(filter).is_some(),
+            filtered_parent_in(fed, filter, id),
             parent,
         ),
         None => CLOSED,
@@ -254,19 +285,24 @@ pub extern "C" fn ak_node_filtered_children(
     tree: &mut Handle,
     node: u64,
     tree_index: u32,
-    filter: u8,
+    filter: u32,
     buffer: &mut [AkId],
     count: &mut usize,
 ) -> u8
     ensures kept { tree.new.block.fed ≡ tree.old.block.fed }
-    ensures answer { AnswersList tree.old.block.fed (filtered_children_in filter (node_id node tree_index))
+    ensures answer { AnswersList tree.old.block.fed (lack_by all_filters filter (node_id node tree_index))
+        (filtered_children_in filter (node_id node tree_index))
         result buffer.old buffer.new count.old count.new }
 {
+    let id = node_id(node, tree_index);
     let taken = tree.take(alloc);
     let status = match &taken {
-        Some(fed) => give_ids(
+        Some(fed) => give_ids_at(
             alloc,
-            filtered_children_in(fed, filter, node_id(node, tree_index)),
+            fed,
+            id,
+            filter_numbered(filter).is_some(),
+            filtered_children_in(fed, filter, id),
             buffer,
             count,
         ),

@@ -1,7 +1,7 @@
 //! The exports that open and close a tree, and that ask about the whole of it.
 ghost use Rattle.std.specs.Prelude.{◌≡◌, None, Option, option_map};
 ghost use Rattle.model.specs.declared.FullNodeId.{FullNodeId as AFullId};
-ghost use Rattle.fed_tree_c.specs.Answers.{Answers};
+ghost use Rattle.fed_tree_c.specs.Answers.{Answers, nothing};
 ghost use Rattle.fed_tree_c.specs.Records.{id_of};
 ghost use Rattle.fed_tree_c.specs.Stops.{Opens};
 ghost use Rattle.fed_tree_c.specs.Questions.{IsFocusIn, root_in};
@@ -37,7 +37,7 @@ pub extern "C" fn ak_tree_close(alloc: Global, tree: &mut Handle)
 #[unsafe(no_mangle)]
 pub extern "C" fn ak_tree_root(alloc: Global, tree: &mut Handle, root: &mut AkId) -> u8
     ensures kept { tree.new.block.fed ≡ tree.old.block.fed }
-    ensures answer { Answers tree.old.block.fed root_in result root.old root.new }
+    ensures answer { Answers tree.old.block.fed nothing root_in result root.old root.new }
 {
     let taken = tree.take(alloc);
     let status = match &taken {
@@ -54,7 +54,7 @@ pub extern "C" fn ak_tree_root(alloc: Global, tree: &mut Handle, root: &mut AkId
 pub extern "C" fn ak_tree_focus(alloc: Global, tree: &mut Handle, focus: &mut AkId) -> u8
     ensures kept { tree.new.block.fed ≡ tree.old.block.fed }
     ensures answer { (found : Option AFullId) × IsFocusIn tree.old.block.fed found ×
-        Answers tree.old.block.fed (λ _. option_map id_of found) result focus.old focus.new }
+        Answers tree.old.block.fed nothing (λ _. option_map id_of found) result focus.old focus.new }
 {
     let taken = tree.take(alloc);
     let status = match &taken {

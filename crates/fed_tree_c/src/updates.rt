@@ -6,7 +6,7 @@ ghost use Rattle.fed_tree_c.specs.Updates.{BeginsHeld, BeginsNodeHeld, BuildsHel
 use crate::feed::{status_of, stop_of};
 use crate::handle::Handle;
 use crate::numbers::role_numbered;
-use crate::records::{AkStop, CLOSED, DONE, NO_MEMORY, NOTHING, OUT_OF_PLACE};
+use crate::records::{AkStop, CLOSED, DONE, NO_MEMORY, NO_SUCH, OUT_OF_PLACE};
 use fed_tree::BuildError;
 use schema::{NodeId, Role, TreeId};
 use std::alloc::Global;
@@ -32,7 +32,7 @@ pub(crate) fn build_status(built: Result<(), BuildError>) -> u8
     match built {
         Ok(()) => DONE,
         Err(BuildError::OutOfPlace) => OUT_OF_PLACE,
-        Err(BuildError::NoSuch) => NOTHING,
+        Err(BuildError::NoSuch) => NO_SUCH,
         Err(BuildError::Memory) => NO_MEMORY,
     }
 }
@@ -53,7 +53,7 @@ pub extern "C" fn ak_update_begin(
             fed.begin_update(name, NodeId(focus));
             DONE
         }
-        (Some(_), None) => NOTHING,
+        (Some(_), None) => NO_SUCH,
         (None, _) => CLOSED,
     };
     tree.put(alloc, taken);
@@ -119,12 +119,12 @@ fn begin_node(alloc: Global, tree: &mut Handle, id: NodeId, role: Role) -> u8
     status
 }
 
-/// Answers that there is no such thing.
+/// Answers that a number means nothing.
 fn leave(alloc: Global, tree: &mut Handle) -> u8
     ensures { LeavesHeld tree.old.block.fed result tree.new.block.fed }
 {
     let taken = tree.take(alloc);
-    let status = if taken.is_some() { NOTHING } else { CLOSED };
+    let status = if taken.is_some() { NO_SUCH } else { CLOSED };
     tree.put(alloc, taken);
     status
 }

@@ -1,10 +1,12 @@
 //! The exports that set a field of the node that was begun last.
-ghost use Rattle.std.specs.Prelude.{◌≡◌, ◌⊎◌, IfOk, map};
+ghost use Rattle.std.specs.Prelude.{◌≡◌, ◌⊎◌, IfOk, map, min};
 ghost use Rattle.script_nodes.specs.Given.{AsAction, AsBool, AsChoice, AsColor, AsCount, AsDecoration, AsFlag, AsId, AsIds, AsNumber, AsNumbers, AsRect, AsSelection, AsText, AsTranslation, AsTree, AsUnits, given};
 ghost use Rattle.fed_tree.specs.Begun.{Builds, WantsMemory, with_value};
+ghost use Rattle.fed_tree_c.specs.Numbers.{action_place};
 ghost use Rattle.fed_tree_c.specs.Updates.{BuildsHeld, node_numbered, place_numbered};
 
 use crate::handle::Handle;
+use crate::numbers::{action_place, byte_of};
 use crate::records::CLOSED;
 use crate::updates::build_status;
 use fed_tree::{BuildError, FedTree};
@@ -14,7 +16,7 @@ use std::alloc::{AllocError, Global};
 
 /// Sets the field with this number.
 #[tactic(auto, using(crate::proofs::Built::built_held))]
-fn set_value(alloc: Global, tree: &mut Handle, field: u8, value: FieldValue<'_>) -> u8
+fn set_value(alloc: Global, tree: &mut Handle, field: u32, value: FieldValue<'_>) -> u8
     ensures { BuildsHeld (with_value field (given value.entry)) tree.old.block.fed result tree.new.block.fed }
 {
     let mut taken = tree.take(alloc);
@@ -38,7 +40,7 @@ fn node_ids(alloc: Global, numbers: &[u64]) -> Result<Vec<NodeId>, AllocError>
 }
 
 /// Sets a list of nodes.
-fn set_ids(alloc: Global, fed: &mut FedTree, field: u8, numbers: &[u64]) -> Result<(), BuildError>
+fn set_ids(alloc: Global, fed: &mut FedTree, field: u32, numbers: &[u64]) -> Result<(), BuildError>
     ensures { WantsMemory fed.old result fed.new
         ⊎ Builds (with_value field (AsIds (map node_numbered numbers.now))) fed.old result fed.new }
 {
@@ -51,7 +53,7 @@ fn set_ids(alloc: Global, fed: &mut FedTree, field: u8, numbers: &[u64]) -> Resu
 /// A list of nodes, by their numbers.
 #[tactic(auto, using(crate::proofs::Built::built_held))]
 #[unsafe(no_mangle)]
-pub extern "C" fn ak_update_ids(alloc: Global, tree: &mut Handle, field: u8, ids: &[u64]) -> u8
+pub extern "C" fn ak_update_ids(alloc: Global, tree: &mut Handle, field: u32, ids: &[u64]) -> u8
     ensures { BuildsHeld (with_value field (AsIds (map node_numbered ids.now))) tree.old.block.fed result tree.new.block.fed }
 {
     let mut taken = tree.take(alloc);
@@ -65,7 +67,7 @@ pub extern "C" fn ak_update_ids(alloc: Global, tree: &mut Handle, field: u8, ids
 
 /// A node, by its number.
 #[unsafe(no_mangle)]
-pub extern "C" fn ak_update_id(alloc: Global, tree: &mut Handle, field: u8, id: u64) -> u8
+pub extern "C" fn ak_update_id(alloc: Global, tree: &mut Handle, field: u32, id: u64) -> u8
     ensures { BuildsHeld (with_value field (AsId (node_numbered id))) tree.old.block.fed result tree.new.block.fed }
 {
     set_value(alloc, tree, field, FieldValue::Id(NodeId(id)))
@@ -73,7 +75,7 @@ pub extern "C" fn ak_update_id(alloc: Global, tree: &mut Handle, field: u8, id: 
 
 /// A text.
 #[unsafe(no_mangle)]
-pub extern "C" fn ak_update_text(alloc: Global, tree: &mut Handle, field: u8, text: &[u8]) -> u8
+pub extern "C" fn ak_update_text(alloc: Global, tree: &mut Handle, field: u32, text: &[u8]) -> u8
     ensures { BuildsHeld (with_value field (AsText text.now)) tree.old.block.fed result tree.new.block.fed }
 {
     set_value(alloc, tree, field, FieldValue::Text(text))
@@ -81,7 +83,7 @@ pub extern "C" fn ak_update_text(alloc: Global, tree: &mut Handle, field: u8, te
 
 /// A flag, which is set.
 #[unsafe(no_mangle)]
-pub extern "C" fn ak_update_flag(alloc: Global, tree: &mut Handle, field: u8) -> u8
+pub extern "C" fn ak_update_flag(alloc: Global, tree: &mut Handle, field: u32) -> u8
     ensures { BuildsHeld (with_value field AsFlag) tree.old.block.fed result tree.new.block.fed }
 {
     set_value(alloc, tree, field, FieldValue::Flag)
@@ -89,23 +91,23 @@ pub extern "C" fn ak_update_flag(alloc: Global, tree: &mut Handle, field: u8) ->
 
 /// A flag that may be unset.
 #[unsafe(no_mangle)]
-pub extern "C" fn ak_update_bool(alloc: Global, tree: &mut Handle, field: u8, is_so: bool) -> u8
+pub extern "C" fn ak_update_bool(alloc: Global, tree: &mut Handle, field: u32, is_so: bool) -> u8
     ensures { BuildsHeld (with_value field (AsBool is_so)) tree.old.block.fed result tree.new.block.fed }
 {
     set_value(alloc, tree, field, FieldValue::Bool(is_so))
 }
 
-/// One of the values of a field that has few, by its number.
+/// One of the values of a field that has few, by its number. None of them has a number above a byte.
 #[unsafe(no_mangle)]
-pub extern "C" fn ak_update_choice(alloc: Global, tree: &mut Handle, field: u8, choice: u8) -> u8
-    ensures { BuildsHeld (with_value field (AsChoice choice)) tree.old.block.fed result tree.new.block.fed }
+pub extern "C" fn ak_update_choice(alloc: Global, tree: &mut Handle, field: u32, choice: u32) -> u8
+    ensures { BuildsHeld (with_value field (AsChoice (min choice 255))) tree.old.block.fed result tree.new.block.fed }
 {
-    set_value(alloc, tree, field, FieldValue::Choice(choice))
+    set_value(alloc, tree, field, FieldValue::Choice(byte_of(choice)))
 }
 
 /// A number.
 #[unsafe(no_mangle)]
-pub extern "C" fn ak_update_number(alloc: Global, tree: &mut Handle, field: u8, number: i64) -> u8
+pub extern "C" fn ak_update_number(alloc: Global, tree: &mut Handle, field: u32, number: i64) -> u8
     ensures { BuildsHeld (with_value field (AsNumber number)) tree.old.block.fed result tree.new.block.fed }
 {
     set_value(alloc, tree, field, FieldValue::Number(number))
@@ -113,7 +115,7 @@ pub extern "C" fn ak_update_number(alloc: Global, tree: &mut Handle, field: u8, 
 
 /// A count, or the size or the weight of a text.
 #[unsafe(no_mangle)]
-pub extern "C" fn ak_update_count(alloc: Global, tree: &mut Handle, field: u8, count: usize) -> u8
+pub extern "C" fn ak_update_count(alloc: Global, tree: &mut Handle, field: u32, count: usize) -> u8
     ensures { BuildsHeld (with_value field (AsCount count)) tree.old.block.fed result tree.new.block.fed }
 {
     set_value(alloc, tree, field, FieldValue::Count(count))
@@ -124,7 +126,7 @@ pub extern "C" fn ak_update_count(alloc: Global, tree: &mut Handle, field: u8, c
 pub extern "C" fn ak_update_numbers(
     alloc: Global,
     tree: &mut Handle,
-    field: u8,
+    field: u32,
     numbers: &[u16],
 ) -> u8
     ensures { BuildsHeld (with_value field (AsNumbers numbers.now)) tree.old.block.fed result tree.new.block.fed }
@@ -134,7 +136,7 @@ pub extern "C" fn ak_update_numbers(
 
 /// A list of lengths of a text run.
 #[unsafe(no_mangle)]
-pub extern "C" fn ak_update_units(alloc: Global, tree: &mut Handle, field: u8, units: &[i32]) -> u8
+pub extern "C" fn ak_update_units(alloc: Global, tree: &mut Handle, field: u32, units: &[i32]) -> u8
     ensures { BuildsHeld (with_value field (AsUnits units.now)) tree.old.block.fed result tree.new.block.fed }
 {
     set_value(alloc, tree, field, FieldValue::Units(units))
@@ -142,15 +144,15 @@ pub extern "C" fn ak_update_units(alloc: Global, tree: &mut Handle, field: u8, u
 
 /// An action, which is added to the set.
 #[unsafe(no_mangle)]
-pub extern "C" fn ak_update_action(alloc: Global, tree: &mut Handle, field: u8, action: u16) -> u8
-    ensures { BuildsHeld (with_value field (AsAction action)) tree.old.block.fed result tree.new.block.fed }
+pub extern "C" fn ak_update_action(alloc: Global, tree: &mut Handle, field: u32, action: u32) -> u8
+    ensures { BuildsHeld (with_value field (AsAction (action_place action))) tree.old.block.fed result tree.new.block.fed }
 {
-    set_value(alloc, tree, field, FieldValue::Action(action))
+    set_value(alloc, tree, field, FieldValue::Action(action_place(action)))
 }
 
 /// The tree with this id, of sixteen bytes.
 #[unsafe(no_mangle)]
-pub extern "C" fn ak_update_tree(alloc: Global, tree: &mut Handle, field: u8, tree_id: &[u8]) -> u8
+pub extern "C" fn ak_update_tree(alloc: Global, tree: &mut Handle, field: u32, tree_id: &[u8]) -> u8
     ensures { BuildsHeld (with_value field (AsTree tree_id.now)) tree.old.block.fed result tree.new.block.fed }
 {
     set_value(alloc, tree, field, FieldValue::Tree(tree_id))
@@ -161,7 +163,7 @@ pub extern "C" fn ak_update_tree(alloc: Global, tree: &mut Handle, field: u8, tr
 pub extern "C" fn ak_update_rect(
     alloc: Global,
     tree: &mut Handle,
-    field: u8,
+    field: u32,
     x0: i32,
     y0: i32,
     x1: i32,
@@ -179,7 +181,7 @@ pub extern "C" fn ak_update_rect(
 pub extern "C" fn ak_update_translation(
     alloc: Global,
     tree: &mut Handle,
-    field: u8,
+    field: u32,
     x: i32,
     y: i32,
 ) -> u8
@@ -194,7 +196,7 @@ pub extern "C" fn ak_update_translation(
 pub extern "C" fn ak_update_selection(
     alloc: Global,
     tree: &mut Handle,
-    field: u8,
+    field: u32,
     anchor: u64,
     anchor_character: usize,
     focus: u64,
@@ -222,7 +224,7 @@ pub extern "C" fn ak_update_selection(
 pub extern "C" fn ak_update_color(
     alloc: Global,
     tree: &mut Handle,
-    field: u8,
+    field: u32,
     red: u8,
     green: u8,
     blue: u8,
@@ -245,14 +247,14 @@ pub extern "C" fn ak_update_color(
 pub extern "C" fn ak_update_decoration(
     alloc: Global,
     tree: &mut Handle,
-    field: u8,
-    style: u8,
+    field: u32,
+    style: u32,
     red: u8,
     green: u8,
     blue: u8,
     alpha: u8,
 ) -> u8
-    ensures { BuildsHeld (with_value field (AsDecoration style (record { red = red; green = green; blue = blue; alpha = alpha })))
+    ensures { BuildsHeld (with_value field (AsDecoration (min style 255) (record { red = red; green = green; blue = blue; alpha = alpha })))
         tree.old.block.fed result tree.new.block.fed }
 {
     let color = Color {
@@ -261,5 +263,10 @@ pub extern "C" fn ak_update_decoration(
         blue,
         alpha,
     };
-    set_value(alloc, tree, field, FieldValue::Decoration(style, color))
+    set_value(
+        alloc,
+        tree,
+        field,
+        FieldValue::Decoration(byte_of(style), color),
+    )
 }

@@ -1,4 +1,5 @@
 pub mod FieldKinds
+pub mod FieldNumbers
 pub mod NodeText
 pub mod NodeReading
 pub mod ActionLists

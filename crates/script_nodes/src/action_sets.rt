@@ -65,7 +65,7 @@ impl ActionsField {
 
     /// The actions in the set, those with names first.
     #[tactic(auto, using(crate::proofs::ActionSteps::no_actions, crate::proofs::ActionSteps::one_more_action), unfolding(crate::specs::ActionLists::actions_in))]
-    pub(crate) fn of(self, alloc: Global, node: &Node) -> Result<Vec<Action>, AllocError>
+    pub fn of(self, alloc: Global, node: &Node) -> Result<Vec<Action>, AllocError>
         ensures { IfOk result (λ actions. actions.items ≡ actions_in (actions_at self node.now)) }
     {
         let mut actions = Vec::new(alloc);

@@ -1,11 +1,10 @@
 //! The fields of a node by the kinds of their values, with what gets and sets each in a node, and their names in a line. A kind's list
 //! is a macro, whose call names what is made of it: `flag_fields!(got self node)`.
 
-ghost use Rattle.std.specs.Prelude.{MatchOption, map, slice_get, ◌≡◌, ◌≢◌};
+ghost use Rattle.std.specs.Prelude.{MatchOption, map, ◌≡◌, ◌≢◌};
 ghost use Rattle.script_nodes.specs.declared.field_kinds.Field.{Field};
 ghost use Rattle.script_nodes.specs.FieldKinds.{all_fields, field_name};
 
-use crate::choices::numbered;
 use script_words::names::named;
 
 /// A list of nodes.
@@ -460,14 +459,4 @@ pub fn field_named(name: &str) -> Option<Field>
     ensures { MatchOption result ((field : Field) → name.now ≢ field_name field) (λ field. name.now ≡ field_name field) }
 {
     named(named_fields(), name)
-}
-
-/// The field with this number: its place in the order in which fields are written, counted from 0.
-pub fn field_numbered(number: u8) -> Option<Field>
-    ensures { result ≡ slice_get all_fields number }
-{
-    match numbered(named_fields(), number) {
-        Some((_, field)) => Some(field),
-        None => None,
-    }
 }

@@ -5,6 +5,7 @@
 mod action_sets;
 mod choices;
 mod field_kinds;
+mod field_numbers;
 mod fields;
 mod fits;
 mod kind_values;
@@ -16,9 +17,10 @@ mod single_values;
 
 pub use field_kinds::{
     ActionsField, BoolField, ColorField, CountField, DecorationField, Field, FlagField, IdField,
-    IdsField, NumberField, NumbersField, TextField, UnitsField, field_named, field_numbered,
-    named_fields, node_field_names,
+    IdsField, NumberField, NumbersField, TextField, UnitsField, field_named, named_fields,
+    node_field_names,
 };
+pub use field_numbers::field_numbered;
 pub use fits::{action_set_gains, new_node_has_action_sets, node_fits};
 pub use node_lines::node_line;
 pub use node_writer::{write_field, write_node};

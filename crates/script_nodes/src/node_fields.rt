@@ -32,7 +32,7 @@ macro_rules! set {
 
 impl IdsField {
     /// The node's value of the field.
-    pub(crate) fn of<'a>(self, node: &'a Node) -> &'a [NodeId]
+    pub fn of<'a>(self, node: &'a Node) -> &'a [NodeId]
         ensures { result.now ≡ ids_at self node.now }
     {
         ids_fields!(got self node)
@@ -49,7 +49,7 @@ impl IdsField {
 
 impl IdField {
     /// The node's value of the field.
-    pub(crate) fn of(self, node: &Node) -> Option<NodeId>
+    pub fn of(self, node: &Node) -> Option<NodeId>
         ensures { result ≡ id_at self node.now }
     {
         id_fields!(got self node)
@@ -65,7 +65,7 @@ impl IdField {
 
 impl TextField {
     /// The node's value of the field.
-    pub(crate) fn of<'a>(self, node: &'a Node) -> Option<&'a str>
+    pub fn of<'a>(self, node: &'a Node) -> Option<&'a str>
         ensures { option_copied result ≡ text_at self node.now }
     {
         text_fields!(got self node)
@@ -82,7 +82,7 @@ impl TextField {
 
 impl FlagField {
     /// Whether the flag is set.
-    pub(crate) fn is_in(self, node: &Node) -> bool
+    pub fn is_in(self, node: &Node) -> bool
         ensures { result ≡ flag_at self node.now }
     {
         flag_fields!(got self node)
@@ -98,7 +98,7 @@ impl FlagField {
 
 impl NumbersField {
     /// The node's value of the field.
-    pub(crate) fn of<'a>(self, node: &'a Node) -> &'a [u16]
+    pub fn of<'a>(self, node: &'a Node) -> &'a [u16]
         ensures { result.now ≡ numbers_at self node.now }
     {
         numbers_fields!(got self node)
@@ -115,7 +115,7 @@ impl NumbersField {
 
 impl UnitsField {
     /// The node's value of the field.
-    pub(crate) fn of<'a>(self, node: &'a Node) -> Option<&'a [i32]>
+    pub fn of<'a>(self, node: &'a Node) -> Option<&'a [i32]>
         ensures { option_copied result ≡ units_at self node.now }
     {
         units_fields!(got self node)
@@ -132,7 +132,7 @@ impl UnitsField {
 
 impl BoolField {
     /// The node's value of the field.
-    pub(crate) fn of(self, node: &Node) -> Option<bool>
+    pub fn of(self, node: &Node) -> Option<bool>
         ensures { result ≡ bool_at self node.now }
     {
         bool_fields!(got self node)
@@ -148,7 +148,7 @@ impl BoolField {
 
 impl ColorField {
     /// The node's value of the field.
-    pub(crate) fn of(self, node: &Node) -> Option<Color>
+    pub fn of(self, node: &Node) -> Option<Color>
         ensures { result ≡ color_at self node.now }
     {
         color_fields!(got self node)
@@ -164,7 +164,7 @@ impl ColorField {
 
 impl DecorationField {
     /// The node's value of the field.
-    pub(crate) fn of(self, node: &Node) -> Option<TextDecoration>
+    pub fn of(self, node: &Node) -> Option<TextDecoration>
         ensures { result ≡ decoration_at self node.now }
     {
         decoration_fields!(got self node)
@@ -180,7 +180,7 @@ impl DecorationField {
 
 impl NumberField {
     /// The node's value of the field.
-    pub(crate) fn of(self, node: &Node) -> Option<i64>
+    pub fn of(self, node: &Node) -> Option<i64>
         ensures { result ≡ number_at self node.now }
     {
         number_fields!(got self node)
@@ -196,7 +196,7 @@ impl NumberField {
 
 impl CountField {
     /// The node's value of the field.
-    pub(crate) fn of(self, node: &Node) -> Option<usize>
+    pub fn of(self, node: &Node) -> Option<usize>
         ensures { result ≡ count_at self node.now }
     {
         count_fields!(got self node)

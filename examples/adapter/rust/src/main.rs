@@ -12,9 +12,7 @@ const SECOND: &str = "update root focus=3\nnode 1 Window label=\"Mail\" children
 const BAD: &str = "update root focus=3\nnode 1 Window children=3,4\nend\n";
 
 fn print_node(tree: &mut Tree, id: Id) -> Result<(), Error> {
-    if let Some(role) = tree.role(id) {
-        println!("{}:{} {role} {}", id.tree, id.node, tree.label(id)?.unwrap_or_default());
-    }
+    println!("{}:{} {} {}", id.tree, id.node, tree.role(id)?, tree.label(id)?.unwrap_or_default());
     Ok(())
 }
 
@@ -40,13 +38,13 @@ fn main() -> Result<(), Error> {
             Event::FocusMoved { old, new } => println!("focus {} {}", node(old), node(new)),
         }
     }
-    if let Some(root) = tree.root() {
+    if let Some(root) = tree.root()? {
         print_node(&mut tree, root)?;
-        for child in tree.children(root)?.unwrap_or_default() {
+        for child in tree.children(root)? {
             print_node(&mut tree, child)?;
         }
     }
-    if let Some(focus) = tree.focus() {
+    if let Some(focus) = tree.focus()? {
         println!("focus {}:{}", focus.tree, focus.node);
     }
     Ok(())

@@ -1,5 +1,6 @@
-use Rattle.std.proofs.Common.{rules}
+use Rattle.std.proofs.Common.{◌≢◌, rules}
 use Rattle.std.specs.Prelude.{IsSome}
+use Rattle.tree_changes.specs.declared.error.UpdateError.TheVariants as error
 use Rattle.fed_tree.proofs.CarryingOne.{one_done, one_lost, one_refused, one_wanting}
 use Rattle.fed_tree.proofs.updating.carry_out_one.Goals as goal
 
@@ -25,5 +26,6 @@ returns-in-Err-Memory c =
 pub returns-in-Err : goal.returns-in-Err
 returns-in-Err c =
     let one = c.in-Err.ensures in
+    let rule : c.in-Err.why ≢ error.Memory = search rules in
     one_refused c.args.stage.now c.carry_out.new.self c.args.command one.0 c.args.events.now
-    c.carry_out.new.handler c.requires one.2 c.in-Err.why one.1
+    c.carry_out.new.handler c.requires one.2 c.in-Err.why rule one.1

@@ -2,7 +2,7 @@ use Rattle.std.proofs.Common.{◌≡◌, None, inr, refl, rules}
 use Rattle.std.specs.List.{slice_get}
 use Rattle.schema.specs.UpdateData.{update_data}
 use Rattle.script_nodes.specs.Given.{given}
-use Rattle.script_nodes.specs.FieldKinds.{all_fields}
+use Rattle.script_nodes.specs.FieldNumbers.{numbered_fields}
 use Rattle.fed_tree.proofs.LastNode.{is_set, is_unset, no_field}
 use Rattle.fed_tree.proofs.updating.set_last.Goals as goal
 
@@ -10,7 +10,7 @@ pub returns-in_default-field_numbered : goal.returns-in_default-field_numbered
 returns-in_default-field_numbered c =
     let v = c.args.update.now.nodes in
     let entry = c.in-Some.entry.now in
-    let none : None ≡ slice_get all_fields c.args.field = search rules in
+    let none : None ≡ slice_get numbered_fields c.args.field = search rules in
     inr
     (no_field (update_data c.args.update.now) v.len v.ok.0 (c.in-Some.ensures.variant.0 refl) entry c.in-Some.ensures.value c.args.field
     (given c.args.value) none)
