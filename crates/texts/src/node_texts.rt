@@ -7,7 +7,7 @@ ghost use Rattle.texts.specs.TextRoots.{HasText, HasText-prop};
 use crate::ends::{document_end, document_start};
 use crate::indexes::{Units, position_from};
 use crate::line_ranges::line_range_of;
-use crate::named::nearest_named;
+use crate::named::{nearest_named, position_named};
 use crate::points::position_at;
 use crate::position::TextPosition;
 use crate::range::TextRange;
@@ -48,7 +48,7 @@ impl<'a> Text<'a> {
     ghost use Rattle.model.specs.FlatText.{document_start, document_end};
     ghost use Rattle.model.specs.Moves.{position_from_usv, position_from_utf16};
     ghost use Rattle.model.specs.Points.{position_at_point};
-    ghost use Rattle.model.specs.Ranges.{document_range, selection_of, selection, selection_anchor, selection_focus};
+    ghost use Rattle.model.specs.Ranges.{document_range, position_named, selection_of, selection, selection_anchor, selection_focus};
     ghost use Rattle.texts.specs.LineWalks.{lines_root};
     ghost use Rattle.texts.specs.NodeTexts.{root_of};
     ghost use Rattle.texts.specs.Positions.{IsPositionAt, root_at, node_text, flat_position};
@@ -137,6 +137,16 @@ impl<'a> Text<'a> {
     {
         let text = *self;
         position_from(text.root, Units::Utf16, index)
+    }
+
+    /// The position that has this name, as [`TextPosition::to_raw`] gives it: the id of its run in the node's tree, and the index
+    /// there. `None` if that isn't one of the node's own runs, or past the end of it.
+    pub fn position_from_raw(&self, raw: schema::TextPosition) -> Option<TextPosition<'a>>
+        ensures { let root = root_of self.now in
+            IsAtFound root (position_named (node_text root) raw) result }
+    {
+        let text = *self;
+        position_named(text.root, raw)
     }
 
     /// The position at a point, given in the node's coordinates and in units of 1/64 pixel.
