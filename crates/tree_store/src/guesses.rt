@@ -73,8 +73,10 @@ impl Guesses {
         }
         self.shift = shift;
         self.noted = count;
-        for (number, cell) in (0..NONE).zip(cells).rev() {
-            self.set(cell.id, number);
+        for at in (0..cells.len()).rev() {
+            if let Ok(number) = u32::try_from(at) {
+                self.set(cells[at].id, number);
+            }
         }
     }
 
