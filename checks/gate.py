@@ -29,12 +29,14 @@ READING = [
     "tools/index --check",
     "tools/fields --check",
     "tools/crates --check",
+    "tools/version --check",
     "tools/check-documents --docstrings",
     "checks/names",
     "checks/header",
     "checks/trust",
     "checks/turned --read",
     "checks/wrong --read",
+    "checks/recorders",
 ]
 PROVING = "rt ci"
 # The crate that most of the longest chain of crates leads up to, and the first of that chain.
@@ -47,7 +49,10 @@ ON_PROGRAMS = {
     **{f"checks/run-programs {it}": {it} for it in sorted(os.listdir(os.path.join(TOP, "checks", "programs")))},
     "checks/converse": {"atree", "find", "page", "record", "speak"},
     "checks/from-c": {"fed_tree_c"},
+    # (after the check before this one, which leaves the archive)
+    "checks/release": {"atree", "fed_tree_c", "find", "page", "read", "record", "speak"},
     "checks/refused-growths": {"atree", "growths"},
+    "checks/recorders --programs": {"atree", "find", "speak"},
     "tools/check-documents --programs": {"atree", "find", "page", "read", "record", "speak"},
 }
 WRONG = "checks/wrong --jobs 1"

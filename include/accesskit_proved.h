@@ -23,6 +23,14 @@
 extern "C" {
 #endif
 
+/* The version of this header. docs/VERSIONS.md says what a version promises. */
+#define AK_VERSION_MAJOR 0
+#define AK_VERSION_MINOR 1
+#define AK_VERSION_PATCH 0
+#define AK_VERSION (AK_VERSION_MAJOR * 10000 + AK_VERSION_MINOR * 100 + AK_VERSION_PATCH)
+/* The version of the library in the process, as a number like AK_VERSION: 10203 is 1.2.3. */
+uint32_t ak_version(void);
+
 enum { AK_DONE = 0, AK_NO_MEMORY = 1, AK_CLOSED = 2, AK_NOTHING = 3, AK_BAD_LINE = 4, AK_REFUSED = 5, AK_OUT_OF_PLACE = 6 };
 enum { AK_ADDED = 0, AK_UPDATED = 1, AK_REMOVED = 2, AK_FOCUS_MOVED = 3 };
 /* The rules that a refused update breaks; docs/SCRIPT.md explains them. */

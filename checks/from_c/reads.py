@@ -1,7 +1,7 @@
 """Reads a tree by the calls of the module for Python that the adapter doesn't use: `reads.py LIBRARY SCRIPT` prints reads.told."""
 
 import sys
-from accesskit_proved import ROLES, Id, Tree
+from accesskit_proved import Id, Role, Tree
 
 ROOT = 0
 
@@ -29,8 +29,8 @@ def main(library, script):
     with Tree(library) as tree, open(script, encoding="utf-8") as lines:
         tree.feed(lines.read())
         for it, name in ((2, "Button"), (8, "CheckBox")):
-            print(f"role {it}: {'as named' if ROLES[tree.role_number(node(it))] == name else 'another'}")
-        print(f"role 99: {'none' if tree.role_number(node(99)) is None else 'some'}")
+            print(f"role {it}: {'as named' if tree.role(node(it)) is Role(name) else 'another'}")
+        print(f"role 99: {'none' if tree.role(node(99)) is None else 'some'}")
         for it in (2, 3, 6):
             bounds = tree.bounds(node(it))
             print(f"bounds {it}: {words(bounds) if bounds else 'none'}")

@@ -35,9 +35,9 @@ fn answer(answer: Option<FilterResult>) -> &'static str {
 
 fn shown(tree: &mut Tree) -> Result<(), Error> {
     let role = |is: bool| if is { "as named" } else { "another" };
-    println!("role 2: {}", role(tree.numbered_role(node(2)) == Some(Role::BUTTON)));
-    println!("role 8: {}", role(tree.numbered_role(node(8)) == Some(Role::CHECK_BOX)));
-    println!("role 99: {}", if tree.numbered_role(node(99)).is_none() { "none" } else { "some" });
+    println!("role 2: {}", role(tree.role(node(2)) == Some(Role::BUTTON)));
+    println!("role 8: {}", role(tree.role(node(8)) == Some(Role::CHECK_BOX)));
+    println!("role 99: {}", if tree.role(node(99)).is_none() { "none" } else { "some" });
     for it in [2, 3, 6] {
         let bounds = tree.bounds(node(it)).map_or("none".into(), |it| format!("{} {} {} {}", it.x0, it.y0, it.x1, it.y1));
         println!("bounds {it}: {bounds}");
@@ -82,7 +82,8 @@ fn text(tree: &mut Tree) -> Result<(), Error> {
 fn main() -> Result<(), Box<dyn std::error::Error>> {
     let script = std::env::args().nth(1).ok_or("reads SCRIPT")?;
     let lines = std::fs::read_to_string(script)?;
-    let mut tree = Tree::new().map_err(|error| format!("{error:?}"))?;
-    tree.feed(&lines).and_then(|()| shown(&mut tree)).and_then(|()| text(&mut tree)).map_err(|error| format!("{error:?}"))?;
-    Ok(())
+    let mut tree = Tree::new()?;
+    tree.feed(&lines)?;
+    shown(&mut tree)?;
+    Ok(text(&mut tree)?)
 }

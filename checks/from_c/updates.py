@@ -100,8 +100,8 @@ def told(events):
 def refused(call):
     try:
         call()
-    except ValueError as error:
-        return str(error)
+    except Refused as why:
+        return f"{type(why).__name__}, node {why.node}"
     return "done"
 
 
@@ -119,11 +119,6 @@ def main(library, path):
         print("relabelled by calls:", told(built.events()))
         print("relabelled by lines:", told(feed(fed, 'update root focus=2\nnode 5 Button label="More"\nend\n')))
         print("refused:", refused(built.update(9).send))
-        update = built.update(2).node(5, "Button", label="To")
-        print("a field of another kind:", refused(lambda: update._says("flag", 5)))
-        print("a size of 33 bits:", refused(lambda: update._set("font_size", 2**32)))
-        print("a field before a node:", refused(lambda: built.update(2)._set("label", "x")))
-        print("a toolkit before a root:", refused(lambda: built.update(2, toolkit="x")))
         built.update(2).node(5, "Button", label="Fro").node(5, "Button")
         built.update(2).node(5, "Button", label="To").send()
         print("label:", built.label(Id(0, 5)))

@@ -3,7 +3,7 @@
 mod fields;
 
 use accesskit_proved::{
-    Action, AriaCurrent, Color, Error, Event, Field, HasPopup, Id, Live, Orientation, Place, Role, SortDirection, Style, TextAlign, TextDirection, Toggled,
+    Action, AriaCurrent, Color, Error, Event, Field, HasPopup, Id, Live, Orientation, Place, Refusal, Role, SortDirection, Style, TextAlign, TextDirection, Toggled,
     Tree, TreeName, Update, VerticalOffset,
 };
 
@@ -56,26 +56,26 @@ fn build(tree: &mut Tree) -> Result<Vec<Event>, Error> {
         update.node(5, Role::BUTTON)?.text(Field::Label, "")?;
         Ok(())
     })?;
-    let mut events = tree.events().unwrap_or_default();
+    let mut events = tree.events()?;
     tree.update(TreeName::Uuid(INSIDE), 1, |update| {
         update.root(1)?.node(1, Role::DOCUMENT)?.text(Field::Label, "Inside")?;
         Ok(())
     })?;
-    events.extend(tree.events().unwrap_or_default());
+    events.extend(tree.events()?);
     Ok(events)
 }
 
 fn feed(tree: &mut Tree, lines: &str) -> Result<Vec<Event>, Error> {
     tree.feed(lines)?;
-    Ok(tree.events().unwrap_or_default())
+    tree.events()
 }
 
 fn named(id: Option<Id>) -> String {
     id.map_or("none".into(), |id| format!("{}:{}", id.tree, id.node))
 }
 
-fn told(events: Option<Vec<Event>>) -> String {
-    let words = events.unwrap_or_default().into_iter().map(|event| match event {
+fn told(events: Vec<Event>) -> String {
+    let words = events.into_iter().map(|event| match event {
         Event::Added(id) => format!("added {}", named(Some(id))),
         Event::Updated(id) => format!("updated {}", named(Some(id))),
         Event::Removed(id) => format!("removed {}", named(Some(id))),
@@ -86,11 +86,8 @@ fn told(events: Option<Vec<Event>>) -> String {
 
 fn refused(answer: Result<(), Error>) -> String {
     match answer {
-        Ok(()) => "done".into(),
-        Err(Error::NoSuch) => "no such value".into(),
-        Err(Error::OutOfPlace) => "out of place".into(),
-        Err(Error::Refused { rule, node, .. }) => format!("rule {rule}, node {node}"),
-        Err(other) => format!("{other:?}"),
+        Err(Error::Refused { why: Refusal::FocusMissing(node), .. }) => format!("FocusMissing, node {node}"),
+        other => format!("{other:?}"),
     }
 }
 
@@ -99,39 +96,26 @@ fn relabel(tree: &mut Tree, label: &str) -> Result<(), Error> {
     tree.update(TreeName::Root, 2, |update| update.node(5, Role::BUTTON)?.text(Field::Label, label).map(|_| ()))
 }
 
-fn refusals(tree: &mut Tree) {
-    println!("refused: {}", refused(tree.update(TreeName::Root, 9, |_| Ok(()))));
-    let other = tree.update(TreeName::Root, 2, |update| update.node(5, Role::BUTTON)?.flag(Field::Label).map(|_| ()));
-    println!("a field of another kind: {}", refused(other));
-    let large = tree.update(TreeName::Root, 2, |update| update.node(5, Role::BUTTON)?.count(Field::FontSize, 1 << 32).map(|_| ()));
-    println!("a size of 33 bits: {}", refused(large));
-    let early = tree.update(TreeName::Root, 2, |update| update.text(Field::Label, "x").map(|_| ()));
-    println!("a field before a node: {}", refused(early));
-    let early = tree.update(TreeName::Root, 2, |update| update.toolkit_name("x").map(|_| ()));
-    println!("a toolkit before a root: {}", refused(early));
-}
-
 fn all(script: &str) -> Result<(), Error> {
     let (mut built, mut fed) = (Tree::new()?, Tree::new()?);
     build(&mut built)?;
-    println!("built, then fed: {}", told(Some(feed(&mut built, script)?)));
+    println!("built, then fed: {}", told(feed(&mut built, script)?));
     feed(&mut fed, script)?;
-    println!("fed, then built: {}", told(Some(build(&mut fed)?)));
+    println!("fed, then built: {}", told(build(&mut fed)?));
     println!("root and focus: {}, {}", named(built.root()), named(built.focus()));
     relabel(&mut built, "More")?;
-    println!("relabelled by calls: {}", told(built.events()));
+    println!("relabelled by calls: {}", told(built.events()?));
     fed.feed("update root focus=2\nnode 5 Button label=\"More\"\nend\n")?;
-    println!("relabelled by lines: {}", told(fed.events()));
-    refusals(&mut built);
+    println!("relabelled by lines: {}", told(fed.events()?));
+    println!("refused: {}", refused(built.update(TreeName::Root, 9, |_| Ok(()))));
     relabel(&mut built, "To")?;
     println!("label: {}", built.label(Id { tree: 0, node: 5 })?.unwrap_or_default());
     built.set_host_focus(true)?;
-    println!("host has the focus: {}", told(built.events()));
+    println!("host has the focus: {}", told(built.events()?));
     Ok(())
 }
 
 fn main() -> Result<(), Box<dyn std::error::Error>> {
     let script = std::env::args().nth(1).ok_or("updates SCRIPT")?;
-    all(&std::fs::read_to_string(script)?).map_err(|error| format!("{error:?}"))?;
-    Ok(())
+    Ok(all(&std::fs::read_to_string(script)?)?)
 }

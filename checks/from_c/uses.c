@@ -431,6 +431,7 @@ static void growths(void) {
 int main(int count, char **words) {
     if (count != 2) return 2;
     script = words[1];
+    CHECK(ak_version() == AK_VERSION);
     closed_handles();
     bad_lines();
     rooms();

@@ -1,9 +1,11 @@
-//! Updates that are built call by call, without lines: what they say, by types, and [`Update`], which says it.
-use crate::{raw, Error, Tree, DONE, NOTHING, NO_MEMORY, REFUSED};
+//! Updates that are built call by call, without lines: [`Update`], and what it takes.
+use crate::names::{Action, Choice, Field, Role, Style};
+use crate::{raw, Error, Tree};
 
 /// The name of a tree, in an update.
-#[derive(Clone, Copy, Debug, PartialEq, Eq)]
+#[derive(Clone, Copy, Debug, PartialEq, Eq, Hash)]
 pub enum TreeName {
+    /// The root tree.
     Root,
     /// A tree with this id, which is grafted at a node that has it as `Field::Tree`.
     Uuid([u8; 16]),
@@ -18,191 +20,8 @@ impl TreeName {
     }
 }
 
-/// A field of a node, by its name in a script; docs/SCRIPT.md explains them. Each call of [`Update`] is for those of one kind.
-#[derive(Clone, Copy, Debug, PartialEq, Eq)]
-pub enum Field {
-    Children,
-    Labelled,
-    Controls,
-    Tree,
-    Active,
-    Label,
-    Value,
-    Description,
-    Placeholder,
-    RoleDescription,
-    Url,
-    AuthorId,
-    HtmlId,
-    ClassName,
-    BrailleLabel,
-    BrailleRoleDescription,
-    ColumnIndexText,
-    RowIndexText,
-    FontFamily,
-    Language,
-    Hidden,
-    Clips,
-    Disabled,
-    ReadOnly,
-    Required,
-    Modal,
-    Busy,
-    Multiselectable,
-    Italic,
-    LiveAtomic,
-    TouchTransparent,
-    Bounds,
-    Move,
-    Selection,
-    Chars,
-    Words,
-    CharacterPositions,
-    CharacterWidths,
-    Prev,
-    Next,
-    Toggled,
-    Expanded,
-    Selected,
-    Live,
-    Orientation,
-    SortDirection,
-    AriaCurrent,
-    HasPopup,
-    FontSize,
-    FontWeight,
-    BackgroundColor,
-    ForegroundColor,
-    Overline,
-    Strikethrough,
-    Underline,
-    TextDirection,
-    TextAlign,
-    VerticalOffset,
-    Number,
-    Min,
-    Max,
-    Step,
-    Jump,
-    Level,
-    SetSize,
-    Position,
-    ScrollX,
-    ScrollXMin,
-    ScrollXMax,
-    ScrollY,
-    ScrollYMin,
-    ScrollYMax,
-    Actions,
-    ChildActions,
-}
-
-/// A role of a node.
-#[derive(Clone, Copy, Debug, PartialEq, Eq)]
-pub struct Role(u32);
-
-impl Role {
-    pub const UNKNOWN: Role = Role(0);
-    pub const WINDOW: Role = Role(1);
-    pub const SCROLL_VIEW: Role = Role(2);
-    pub const PARAGRAPH: Role = Role(3);
-    pub const GENERIC_CONTAINER: Role = Role(4);
-    pub const TEXT_RUN: Role = Role(5);
-    pub const LABEL: Role = Role(6);
-    pub const IMAGE: Role = Role(7);
-    pub const DOCUMENT: Role = Role(8);
-    pub const TERMINAL: Role = Role(9);
-    pub const TEXT_INPUT: Role = Role(10);
-    pub const MULTILINE_TEXT_INPUT: Role = Role(11);
-    pub const SEARCH_INPUT: Role = Role(12);
-    pub const DATE_INPUT: Role = Role(13);
-    pub const DATE_TIME_INPUT: Role = Role(14);
-    pub const WEEK_INPUT: Role = Role(15);
-    pub const MONTH_INPUT: Role = Role(16);
-    pub const TIME_INPUT: Role = Role(17);
-    pub const EMAIL_INPUT: Role = Role(18);
-    pub const NUMBER_INPUT: Role = Role(19);
-    pub const PASSWORD_INPUT: Role = Role(20);
-    pub const PHONE_NUMBER_INPUT: Role = Role(21);
-    pub const URL_INPUT: Role = Role(22);
-    pub const EDITABLE_COMBO_BOX: Role = Role(23);
-    pub const SPIN_BUTTON: Role = Role(24);
-    pub const LIST_BOX: Role = Role(25);
-    pub const TAB_LIST: Role = Role(26);
-    pub const ALERT_DIALOG: Role = Role(27);
-    pub const DIALOG: Role = Role(28);
-    pub const COMBO_BOX: Role = Role(29);
-    pub const DISCLOSURE_TRIANGLE: Role = Role(30);
-    pub const TREE_ITEM: Role = Role(31);
-    pub const BUTTON: Role = Role(32);
-    pub const CHECK_BOX: Role = Role(33);
-    pub const DEFAULT_BUTTON: Role = Role(34);
-    pub const LINK: Role = Role(35);
-    pub const MENU_ITEM: Role = Role(36);
-    pub const MENU_ITEM_CHECK_BOX: Role = Role(37);
-    pub const MENU_ITEM_RADIO: Role = Role(38);
-    pub const RADIO_BUTTON: Role = Role(39);
-    pub const DOC_BACK_LINK: Role = Role(40);
-    pub const DOC_BIBLIO_REF: Role = Role(41);
-    pub const DOC_GLOSS_REF: Role = Role(42);
-    pub const DOC_NOTE_REF: Role = Role(43);
-    pub const COLOR_WELL: Role = Role(44);
-    pub const GRID: Role = Role(45);
-    pub const MENU_LIST_POPUP: Role = Role(46);
-    pub const RADIO_GROUP: Role = Role(47);
-    pub const SLIDER: Role = Role(48);
-    pub const SWITCH: Role = Role(49);
-    pub const TREE_GRID: Role = Role(50);
-    pub const ARTICLE: Role = Role(51);
-    pub const DEFINITION: Role = Role(52);
-    pub const DESCRIPTION_LIST: Role = Role(53);
-    pub const GRAPHICS_DOCUMENT: Role = Role(54);
-    pub const LIST: Role = Role(55);
-    pub const LIST_ITEM: Role = Role(56);
-    pub const PDF_ROOT: Role = Role(57);
-    pub const PROGRESS_INDICATOR: Role = Role(58);
-    pub const ROOT_WEB_AREA: Role = Role(59);
-    pub const TERM: Role = Role(60);
-    pub const TIMER: Role = Role(61);
-    pub const TOOLBAR: Role = Role(62);
-    pub const TOOLTIP: Role = Role(63);
-    pub const COMMENT: Role = Role(64);
-    pub const TAB: Role = Role(65);
-    pub const LIST_BOX_OPTION: Role = Role(66);
-    pub const MENU_LIST_OPTION: Role = Role(67);
-    pub const LIST_GRID: Role = Role(68);
-    pub const MENU: Role = Role(69);
-    pub const MENU_BAR: Role = Role(70);
-    pub const TREE: Role = Role(71);
-
-    pub(crate) fn numbered(number: u32) -> Role {
-        Role(number)
-    }
-
-    /// A role without a name, by its number: that of a heading is 328.
-    pub const fn other(number: u16) -> Role {
-        Role(72 + number as u32)
-    }
-}
-
-/// What a node can be asked to do.
-#[derive(Clone, Copy, Debug, PartialEq, Eq)]
-pub struct Action(u16);
-
-impl Action {
-    pub const CLICK: Action = Action(0);
-    pub const FOCUS: Action = Action(1);
-    pub const INCREMENT: Action = Action(2);
-    pub const DECREMENT: Action = Action(3);
-
-    /// An action without a name, by a number of your own.
-    pub const fn other(number: u8) -> Action {
-        Action(4 + number as u16)
-    }
-}
-
 /// A colour, each part from 0 to 255; `alpha` is the opacity.
-#[derive(Clone, Copy, Debug, PartialEq, Eq)]
+#[derive(Clone, Copy, Debug, PartialEq, Eq, Hash)]
 pub struct Color {
     pub red: u8,
     pub green: u8,
@@ -210,115 +29,8 @@ pub struct Color {
     pub alpha: u8,
 }
 
-/// How a line above, through or below text is drawn.
-#[derive(Clone, Copy, Debug, PartialEq, Eq)]
-pub enum Style {
-    Solid,
-    Dotted,
-    Dashed,
-    Double,
-    Wavy,
-}
-
-/// Whether a check box, a switch or a button is on.
-#[derive(Clone, Copy, Debug, PartialEq, Eq)]
-pub enum Toggled {
-    True,
-    False,
-    Mixed,
-}
-
-/// How changes are announced.
-#[derive(Clone, Copy, Debug, PartialEq, Eq)]
-pub enum Live {
-    Off,
-    Polite,
-    Assertive,
-}
-
-/// The axis along which a control lies.
-#[derive(Clone, Copy, Debug, PartialEq, Eq)]
-pub enum Orientation {
-    Horizontal,
-    Vertical,
-}
-
-/// How a column or a row is sorted.
-#[derive(Clone, Copy, Debug, PartialEq, Eq)]
-pub enum SortDirection {
-    Ascending,
-    Descending,
-    Other,
-}
-
-/// As what the node is the current one of its set.
-#[derive(Clone, Copy, Debug, PartialEq, Eq)]
-pub enum AriaCurrent {
-    False,
-    True,
-    Page,
-    Step,
-    Location,
-    Date,
-    Time,
-}
-
-/// What pops up from the node.
-#[derive(Clone, Copy, Debug, PartialEq, Eq)]
-pub enum HasPopup {
-    Menu,
-    Listbox,
-    Tree,
-    Grid,
-    Dialog,
-}
-
-/// The direction of a text.
-#[derive(Clone, Copy, Debug, PartialEq, Eq)]
-pub enum TextDirection {
-    LeftToRight,
-    RightToLeft,
-    TopToBottom,
-    BottomToTop,
-}
-
-/// How a text is aligned.
-#[derive(Clone, Copy, Debug, PartialEq, Eq)]
-pub enum TextAlign {
-    Left,
-    Right,
-    Center,
-    Justify,
-}
-
-/// Whether a text is subscript or superscript.
-#[derive(Clone, Copy, Debug, PartialEq, Eq)]
-pub enum VerticalOffset {
-    Subscript,
-    Superscript,
-}
-
-/// A value of a field that has few: its type names the field.
-pub trait Choice {
-    const FIELD: Field;
-    fn number(self) -> u8;
-}
-
-macro_rules! choices {
-    ($($name:ident)*) => {
-        $(impl Choice for $name {
-            const FIELD: Field = Field::$name;
-            fn number(self) -> u8 {
-                self as u8
-            }
-        })*
-    };
-}
-
-choices! { Toggled Live Orientation SortDirection AriaCurrent HasPopup TextDirection TextAlign VerticalOffset }
-
 /// A place in a text run: the run's id, and how many of its characters are before it.
-#[derive(Clone, Copy, Debug, PartialEq, Eq)]
+#[derive(Clone, Copy, Debug, PartialEq, Eq, Hash)]
 pub struct Place {
     pub run: u64,
     pub character: usize,
@@ -326,6 +38,7 @@ pub struct Place {
 
 /// An update that is being built, by [`Tree::update`]. Each call returns it again, so that calls follow one another; a call that answers
 /// with an error has changed nothing. A field that is set twice has what it was set to last.
+#[derive(Debug)]
 pub struct Update<'a> {
     tree: &'a mut Tree,
 }
@@ -341,31 +54,14 @@ impl Tree {
         said(unsafe { raw::ak_update_begin(&mut self.raw, name.as_ptr(), name.len(), focus) })?;
         build(&mut Update { tree: self })?;
         let mut stop = raw::Stop::default();
-        match unsafe { raw::ak_update_send(&mut self.raw, &mut stop) } {
-            DONE => Ok(()),
-            REFUSED => Err(Error::Refused { done: stop.done, rule: stop.rule, node: stop.node }),
-            NO_MEMORY => Err(Error::NoMemory { done: stop.done }),
-            _ => Err(Error::OutOfPlace),
-        }
-    }
-
-    /// Says whether the host window has the focus.
-    pub fn set_host_focus(&mut self, is_focused: bool) -> Result<(), Error> {
-        match unsafe { raw::ak_tree_host_focus(&mut self.raw, is_focused) } {
-            DONE => Ok(()),
-            _ => Err(Error::NoMemory { done: 1 }),
-        }
+        let status = unsafe { raw::ak_update_send(&mut self.raw, &mut stop) };
+        Error::check(status, &stop)
     }
 }
 
 /// What an answer to a part of an update means.
 fn said(status: u8) -> Result<(), Error> {
-    match status {
-        DONE => Ok(()),
-        NOTHING => Err(Error::NoSuch),
-        NO_MEMORY => Err(Error::NoMemory { done: 0 }),
-        _ => Err(Error::OutOfPlace),
-    }
+    Error::check(status, &raw::Stop::default())
 }
 
 impl Update<'_> {
@@ -391,17 +87,20 @@ impl Update<'_> {
 
     /// The next node, with a role alone. The calls below are about the node that was begun last.
     pub fn node(&mut self, node: u64, role: Role) -> Result<&mut Self, Error> {
-        self.says(|tree| unsafe { raw::ak_update_node(tree, node, role.0) })
+        self.says(|tree| unsafe { raw::ak_update_node(tree, node, role.number()) })
     }
 
+    /// `Field::Children`, `Field::Labelled` or `Field::Controls`.
     pub fn ids(&mut self, field: Field, ids: &[u64]) -> Result<&mut Self, Error> {
         self.says(|tree| unsafe { raw::ak_update_ids(tree, field as u8, ids.as_ptr(), ids.len()) })
     }
 
+    /// `Field::Active`, `Field::Prev` or `Field::Next`.
     pub fn id(&mut self, field: Field, id: u64) -> Result<&mut Self, Error> {
         self.says(|tree| unsafe { raw::ak_update_id(tree, field as u8, id) })
     }
 
+    /// A text, as `Field::Label`.
     pub fn text(&mut self, field: Field, text: &str) -> Result<&mut Self, Error> {
         self.says(|tree| unsafe { raw::ak_update_text(tree, field as u8, text.as_ptr(), text.len()) })
     }
@@ -443,7 +142,7 @@ impl Update<'_> {
 
     /// Adds an action to `Field::Actions` or `Field::ChildActions`.
     pub fn action(&mut self, field: Field, action: Action) -> Result<&mut Self, Error> {
-        self.says(|tree| unsafe { raw::ak_update_action(tree, field as u8, action.0) })
+        self.says(|tree| unsafe { raw::ak_update_action(tree, field as u8, action.number()) })
     }
 
     /// The tree that is grafted at the node.

@@ -11,6 +11,7 @@ mod nodes;
 mod numbers;
 mod opened;
 mod records;
+mod release;
 mod shown;
 mod tree;
 mod updates;
@@ -27,6 +28,7 @@ pub use nodes::{
     ak_node_children, ak_node_label, ak_node_parent, ak_node_role, ak_node_text, ak_node_value,
 };
 pub use records::{AkBounds, AkEvent, AkId, AkPosition, AkStop};
+pub use release::ak_version;
 pub use shown::{
     ak_node_bounds, ak_node_filter, ak_node_filtered_children, ak_node_filtered_parent,
     ak_node_flag, ak_node_hit,

@@ -25,6 +25,11 @@ with_action set a = bit_or set (2 ^ action_number a)
 abbrev pub Gains : ℕ → ℕ → Action → Type 0
 Gains old new a = (b : Action) → IsTrue (has_action new b) ↔ ((b ≡ a) ⊎ IsTrue (has_action old b))
 
--- a set that is kept as three words: the bits from 256 on, those from 128 on, and those below
-abbrev pub action_set_of : ℕ → ℕ → ℕ → ℕ
-action_set_of top high low = (top * 2 ^ 128 + high) * 2 ^ 128 + low
+-- the bits of a set from 128 on, below 256, and those below 128
+pub record ActionWordsData : Type 0 where
+  pub low : ℕ
+  pub high : ℕ
+
+-- the set of these words and of its bits from 256 on
+abbrev pub set_with : ℕ → ActionWordsData → ℕ
+set_with top w = (top * 2 ^ 128 + w.high) * 2 ^ 128 + w.low

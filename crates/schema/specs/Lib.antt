@@ -1,9 +1,12 @@
 pub mod Actions
+pub mod Adding
 pub mod Boxes
 pub mod Drafts
 pub mod KeptTexts
+pub mod Marks
 pub mod NodeData
 pub mod Parts
+pub mod RarePart
 pub mod RareTexts
 pub mod RoleNames
 pub mod Roles

@@ -1,8 +1,8 @@
 -- The lists about a text run's characters, as plain data.
 use Rattle.std.specs.Prelude.{ℕ, ℤ, List, [], Option, None, option_map}
-use Rattle.schema.specs.declared.run_lists.RunList.{RunList}
-use Rattle.schema.specs.declared.run_lists.RunList.TheVariants.{Lengths, Starts, Positions, Widths}
-use Rattle.schema.specs.declared.run_lists.RunTable.{RunTable}
+use Rattle.schema.specs.declared.run_text.RunList.{RunList}
+use Rattle.schema.specs.declared.run_text.RunList.TheVariants.{Lengths, Starts, Positions, Widths}
+use Rattle.schema.specs.declared.run_text.RunTable.{RunTable}
 
 pub record RunListsData : Type 0 where
   pub lengths : List ℕ

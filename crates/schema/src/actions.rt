@@ -2,7 +2,7 @@
 
 ghost use Rattle.std.specs.Prelude.{◌≡◌, ◌==◌, ℕ, ◌<◌, ◌^◌, IsTrue, ◌↔◌, bit_or};
 ghost use Rattle.std.specs.Int.{bit_at};
-ghost use Rattle.schema.specs.Actions.{action_number, has_action, with_action, Gains};
+ghost use Rattle.schema.specs.Actions.{action_number, has_action, with_action, set_with, Gains};
 
 use crate::Node;
 use std::marker::Model;
@@ -97,51 +97,50 @@ impl Word {
     }
 }
 
-/// A set of actions, a bit each: the first 128 in `low`, the next 128 in `high`, and the last four in `top`.
+/// The bits of a set of actions but the last four: the first 128 in `low`, the next 128 in `high`. The last four are a byte apart,
+/// beside other small fields, since a node has two sets.
 #[derive(Drop)]
-pub(crate) struct ActionSet {
+pub(crate) struct ActionWords {
     low: Word,
     high: Word,
-    top: u8,
 }
 
-impl Model for ActionSet {
-    ghost use Rattle.std.specs.Prelude.{ℕ, ◌<◌, ◌^◌};
-    ghost use Rattle.schema.specs.Actions.{action_set_of};
+impl Model for ActionWords {
+    ghost use Rattle.std.specs.Prelude.{◌<◌, ◌^◌};
+    ghost use Rattle.schema.specs.Actions.{ActionWordsData};
 
-    ghost Value = { ℕ };
+    ghost Value = { ActionWordsData };
 
-    ghost view = { λ a. action_set_of a.top a.high a.low };
+    ghost view = { λ a. record { low = a.low; high = a.high } };
 
     ghost invariant = { λ a. (a.low < 2 ^ 128) × (a.high < 2 ^ 128) };
 }
 
-impl ActionSet {
+impl ActionWords {
     /// No action.
-    pub(crate) fn new() -> ActionSet
-        ensures { result ≡ 0 }
+    #[inline(always)]
+    pub(crate) fn new() -> ActionWords
+        ensures { set_with 0 result ≡ 0 }
     {
-        ActionSet {
+        ActionWords {
             low: Word::new(0),
             high: Word::new(0),
-            top: 0,
         }
     }
 
-    /// Returns a copy of the set.
-    pub(crate) fn copy(&self) -> ActionSet
+    /// Returns a copy of the words.
+    pub(crate) fn copy(&self) -> ActionWords
         ensures { result ≡ self.now }
     {
-        ActionSet {
+        ActionWords {
             low: Word::new(self.low.bits()),
             high: Word::new(self.high.bits()),
-            top: self.top,
         }
     }
 
-    /// Whether the set has the action.
-    pub(crate) fn contains(&self, action: Action) -> bool
-        ensures { result ≡ has_action self.now action }
+    /// Whether the set of these words and this byte has the action.
+    pub(crate) fn contains(&self, top: u8, action: Action) -> bool
+        ensures { result ≡ has_action (set_with top self.now) action }
     {
         let number = action.number();
         if number < 128 {
@@ -150,30 +149,32 @@ impl ActionSet {
         if number < 256 {
             return self.high.has(number - 128);
         }
-        (self.top >> (number - 256)) & 1 == 1
+        (top >> (number - 256)) & 1 == 1
     }
 
-    /// Adds the action; adding it again has no effect.
-    pub(crate) fn add(&mut self, action: Action)
-        ensures { self.new ≡ with_action self.old action }
+    /// Adds the action to the set of these words and this byte, and returns the new byte; adding it again has no effect.
+    pub(crate) fn add(&mut self, top: u8, action: Action) -> u8
+        ensures { set_with result self.new ≡ with_action (set_with top self.old) action }
     {
         let number = action.number();
         if number < 128 {
             self.low = self.low.with(number);
-        } else if number < 256 {
-            self.high = self.high.with(number - 128);
-        } else {
-            self.top = with_top_bit(self.top, number - 256);
+            return top;
         }
+        if number < 256 {
+            self.high = self.high.with(number - 128);
+            return top;
+        }
+        with_top_bit(top, number - 256)
     }
 
-    /// Whether the sets have the same members.
-    pub(crate) fn same(&self, other: &ActionSet) -> bool
-        ensures { IsTrue result ↔ (self.now ≡ other.now) }
+    /// Whether the sets, each of words and a byte, have the same members.
+    pub(crate) fn same(&self, top: u8, other: &ActionWords, other_top: u8) -> bool
+        ensures { IsTrue result ↔ (set_with top self.now ≡ set_with other_top other.now) }
     {
         self.low.bits() == other.low.bits()
             && self.high.bits() == other.high.bits()
-            && self.top == other.top
+            && top == other_top
     }
 }
 
@@ -190,7 +191,7 @@ impl Node {
     pub fn supports_action(&self, action: Action) -> bool
         ensures { result ≡ has_action self.now.actions action }
     {
-        self.actions.contains(action)
+        self.actions.contains(self.plain.action_top, action)
     }
 
     /// Adds to the actions that the node supports.
@@ -198,14 +199,15 @@ impl Node {
         ensures value { self.new ≡ record self.old { actions = with_action self.old.actions action } }
         ensures members { Gains self.old.actions self.new.actions action }
     {
-        self.actions.add(action);
+        self.plain.action_top = self.actions.add(self.plain.action_top, action);
     }
 
     /// Whether the node's children support the action.
     pub fn child_supports_action(&self, action: Action) -> bool
         ensures { result ≡ has_action self.now.child_actions action }
     {
-        self.child_actions.contains(action)
+        self.child_actions
+            .contains(self.plain.child_action_top, action)
     }
 
     /// Adds to the actions that the node's children support.
@@ -213,6 +215,6 @@ impl Node {
         ensures value { self.new ≡ record self.old { child_actions = with_action self.old.child_actions action } }
         ensures members { Gains self.old.child_actions self.new.child_actions action }
     {
-        self.child_actions.add(action);
+        self.plain.child_action_top = self.child_actions.add(self.plain.child_action_top, action);
     }
 }

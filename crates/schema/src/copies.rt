@@ -2,7 +2,7 @@
 
 ghost use Rattle.std.specs.Prelude.{◌≡◌, IfOk, option_map, string_bytes};
 
-use crate::{Node, NodeId};
+use crate::Node;
 use std::alloc::{AllocError, Global};
 
 impl Clone for Node {
@@ -11,25 +11,17 @@ impl Clone for Node {
     fn clone(&self) -> Result<Node, AllocError> {
         let alloc = self.alloc;
         Ok(Node {
+            marks: self.marks.copy(),
+            children: Vec::from_slice(alloc, self.children.as_slice())?,
+            label: String::from_str(alloc, self.label.as_str())?,
+            run: self.run.copy(alloc)?,
+            rare: self.rare.copy(alloc)?,
             actions: self.actions.copy(),
             child_actions: self.child_actions.copy(),
-            children: copy_of_ids(alloc, &self.children)?,
-            labelled_by: copy_of_ids(alloc, &self.labelled_by)?,
-            controls: copy_of_ids(alloc, &self.controls)?,
-            label: copy_of_text(alloc, &self.label)?,
-            texts: self.texts.copy(alloc)?,
-            run: self.run.copy(alloc)?,
             plain: self.plain,
             alloc,
         })
     }
-}
-
-/// A copy of a list of ids.
-fn copy_of_ids(alloc: Global, ids: &Vec<NodeId>) -> Result<Vec<NodeId>, AllocError>
-    ensures { IfOk result (λ copy. copy.items ≡ ids.now.items) }
-{
-    Vec::from_slice(alloc, ids.as_slice())
 }
 
 /// A copy of a text, if there is one.

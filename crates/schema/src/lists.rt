@@ -1,7 +1,8 @@
 //! The links of a node to others of its tree.
 
-ghost use Rattle.std.specs.Prelude.{◌≡◌, ◌++◌, [], ◌∷◌, None, Some, OnOk, OnErr};
+ghost use Rattle.std.specs.Prelude.{◌≡◌, ◌++◌, [], ◌∷◌, None, Some, OnOk, OnErr, is_some};
 
+use crate::marks::Mark;
 use crate::{Node, NodeId, TreeId};
 use std::alloc::AllocError;
 
@@ -24,6 +25,13 @@ impl Node {
     {
         self.children = Vec::from_slice(self.alloc, ids)?;
         Ok(())
+    }
+
+    /// Sets [`Node::children`] to this list, which is not copied.
+    pub fn take_children(&mut self, ids: Vec<NodeId>)
+        ensures { self.new ≡ record self.old { children = ids.items } }
+    {
+        self.children = ids;
     }
 
     /// Adds an id at the end of [`Node::children`].
@@ -50,7 +58,7 @@ impl Node {
     pub fn labelled_by(&self) -> &[NodeId]
         ensures { result.now ≡ self.now.labelled_by }
     {
-        self.labelled_by.as_slice()
+        self.rare.labelled_by()
     }
 
     /// Sets [`Node::labelled_by`] to a copy of the list.
@@ -62,8 +70,20 @@ impl Node {
         ensures ok { OnOk result (self.new ≡ record self.old { labelled_by = ids.now }) }
         ensures err { OnErr result (self.new ≡ self.old) }
     {
-        self.labelled_by = Vec::from_slice(self.alloc, ids)?;
-        Ok(())
+        let copy = Vec::from_slice(self.alloc, ids)?;
+        self.rare.set_labelled_by(self.alloc, copy)
+    }
+
+    /// Sets [`Node::labelled_by`] to this list, which is not copied.
+    ///
+    /// # Errors
+    ///
+    /// Returns `AllocError` if memory runs out; the node is then unchanged.
+    pub fn take_labelled_by(&mut self, ids: Vec<NodeId>) -> Result<(), AllocError>
+        ensures ok { OnOk result (self.new ≡ record self.old { labelled_by = ids.items }) }
+        ensures err { OnErr result (self.new ≡ self.old) }
+    {
+        self.rare.set_labelled_by(self.alloc, ids)
     }
 
     /// Adds an id at the end of [`Node::labelled_by`].
@@ -76,22 +96,21 @@ impl Node {
             (self.new ≡ record self.old { labelled_by = self.old.labelled_by ++ id ∷ [] }) }
         ensures err { OnErr result (self.new ≡ self.old) }
     {
-        self.labelled_by.push(id)?;
-        Ok(())
+        self.rare.push_labelled_by(self.alloc, id)
     }
 
     /// Clears [`Node::labelled_by`].
     pub fn clear_labelled_by(&mut self)
         ensures { self.new ≡ record self.old { labelled_by = [] } }
     {
-        self.labelled_by = Vec::new(self.alloc);
+        self.rare.clear_labelled_by(self.alloc);
     }
 
     /// The ids of the nodes that this one controls.
     pub fn controls(&self) -> &[NodeId]
         ensures { result.now ≡ self.now.controls }
     {
-        self.controls.as_slice()
+        self.rare.controls()
     }
 
     /// Sets [`Node::controls`] to a copy of the list.
@@ -103,8 +122,20 @@ impl Node {
         ensures ok { OnOk result (self.new ≡ record self.old { controls = ids.now }) }
         ensures err { OnErr result (self.new ≡ self.old) }
     {
-        self.controls = Vec::from_slice(self.alloc, ids)?;
-        Ok(())
+        let copy = Vec::from_slice(self.alloc, ids)?;
+        self.rare.set_controls(self.alloc, copy)
+    }
+
+    /// Sets [`Node::controls`] to this list, which is not copied.
+    ///
+    /// # Errors
+    ///
+    /// Returns `AllocError` if memory runs out; the node is then unchanged.
+    pub fn take_controls(&mut self, ids: Vec<NodeId>) -> Result<(), AllocError>
+        ensures ok { OnOk result (self.new ≡ record self.old { controls = ids.items }) }
+        ensures err { OnErr result (self.new ≡ self.old) }
+    {
+        self.rare.set_controls(self.alloc, ids)
     }
 
     /// Adds an id at the end of [`Node::controls`].
@@ -116,23 +147,22 @@ impl Node {
         ensures ok { OnOk result (self.new ≡ record self.old { controls = self.old.controls ++ id ∷ [] }) }
         ensures err { OnErr result (self.new ≡ self.old) }
     {
-        self.controls.push(id)?;
-        Ok(())
+        self.rare.push_controls(self.alloc, id)
     }
 
     /// Clears [`Node::controls`].
     pub fn clear_controls(&mut self)
         ensures { self.new ≡ record self.old { controls = [] } }
     {
-        self.controls = Vec::new(self.alloc);
+        self.rare.clear_controls(self.alloc);
     }
 
     /// The node of the same tree that is shown as focused while this one has the focus.
     pub fn active_descendant(&self) -> Option<NodeId>
         ensures { result ≡ self.now.active_descendant }
     {
-        self.plain
-            .has_active_descendant
+        self.marks
+            .has(Mark::ActiveDescendant)
             .then_some(self.plain.active_descendant)
     }
 
@@ -141,22 +171,22 @@ impl Node {
         ensures { self.new ≡ record self.old { active_descendant = Some value } }
     {
         self.plain.active_descendant = value;
-        self.plain.has_active_descendant = true;
+        self.marks.add(Mark::ActiveDescendant);
     }
 
     /// Clears [`Node::active_descendant`].
     pub fn clear_active_descendant(&mut self)
         ensures { self.new ≡ record self.old { active_descendant = None } }
     {
-        self.plain.has_active_descendant = false;
+        self.marks.remove(Mark::ActiveDescendant);
     }
 
     /// The text run before this one on the same line.
     pub fn previous_on_line(&self) -> Option<NodeId>
         ensures { result ≡ self.now.previous_on_line }
     {
-        self.plain
-            .has_previous_on_line
+        self.marks
+            .has(Mark::PreviousOnLine)
             .then_some(self.plain.previous_on_line)
     }
 
@@ -165,22 +195,22 @@ impl Node {
         ensures { self.new ≡ record self.old { previous_on_line = Some value } }
     {
         self.plain.previous_on_line = value;
-        self.plain.has_previous_on_line = true;
+        self.marks.add(Mark::PreviousOnLine);
     }
 
     /// Clears [`Node::previous_on_line`].
     pub fn clear_previous_on_line(&mut self)
         ensures { self.new ≡ record self.old { previous_on_line = None } }
     {
-        self.plain.has_previous_on_line = false;
+        self.marks.remove(Mark::PreviousOnLine);
     }
 
     /// The text run after this one on the same line.
     pub fn next_on_line(&self) -> Option<NodeId>
         ensures { result ≡ self.now.next_on_line }
     {
-        self.plain
-            .has_next_on_line
+        self.marks
+            .has(Mark::NextOnLine)
             .then_some(self.plain.next_on_line)
     }
 
@@ -189,34 +219,43 @@ impl Node {
         ensures { self.new ≡ record self.old { next_on_line = Some value } }
     {
         self.plain.next_on_line = value;
-        self.plain.has_next_on_line = true;
+        self.marks.add(Mark::NextOnLine);
     }
 
     /// Clears [`Node::next_on_line`].
     pub fn clear_next_on_line(&mut self)
         ensures { self.new ≡ record self.old { next_on_line = None } }
     {
-        self.plain.has_next_on_line = false;
+        self.marks.remove(Mark::NextOnLine);
     }
 
     /// The tree that is grafted here; its root becomes this node's only child.
     pub fn tree_id(&self) -> Option<TreeId>
         ensures { result ≡ self.now.tree_id }
     {
-        self.plain.tree_id
+        self.marks.has(Mark::TreeId).then_some(self.plain.tree_id)
+    }
+
+    /// Whether a tree is grafted here.
+    #[inline(always)]
+    pub fn is_graft(&self) -> bool
+        ensures { result ≡ is_some self.now.tree_id }
+    {
+        self.marks.has(Mark::TreeId)
     }
 
     /// Sets [`Node::tree_id`].
     pub fn set_tree_id(&mut self, value: TreeId)
         ensures { self.new ≡ record self.old { tree_id = Some value } }
     {
-        self.plain.tree_id = Some(value);
+        self.plain.tree_id = value;
+        self.marks.add(Mark::TreeId);
     }
 
     /// Clears [`Node::tree_id`].
     pub fn clear_tree_id(&mut self)
         ensures { self.new ≡ record self.old { tree_id = None } }
     {
-        self.plain.tree_id = None;
+        self.marks.remove(Mark::TreeId);
     }
 }

@@ -1,6 +1,6 @@
 //! The rarer texts of a node: a list with an entry for each text that is set, so that a node without them stays small.
 
-ghost use Rattle.std.specs.Prelude.{◌≡◌, ◌++◌, [], ◌∷◌, not, filter, map, None, Some, OnOk, OnErr, IfOk, option_map, option_copied, string_bytes, vec_len, vec_capacity, ◌≤◌, IsTrue};
+ghost use Rattle.std.specs.Prelude.{◌≡◌, ◌++◌, [], ◌∷◌, not, filter, map, None, Some, OnOk, OnErr, IfOk, option_map, option_copied, string_bytes, vec_len, vec_capacity, ◌≤◌};
 ghost use Rattle.std.specs.List.{find};
 ghost use Rattle.schema.specs.RareTexts.{is_under, text_under, entry_seen, IsSetUnder};
 
@@ -49,13 +49,6 @@ impl RareTexts {
         RareTexts {
             entries: Vec::new(alloc),
         }
-    }
-
-    /// Whether none of the texts is set.
-    pub(crate) fn is_empty(&self) -> bool
-        ensures { IsTrue result → self.now ≡ [] }
-    {
-        self.entries.is_empty()
     }
 
     /// One of the texts.

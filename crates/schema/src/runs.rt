@@ -5,8 +5,9 @@
 ghost use Rattle.std.specs.Prelude.{◌≡◌, [], None, Some, OnOk, OnErr, IfOk, IsTrue, option_copied, length, unwrap_or};
 ghost use Rattle.schema.specs.RunFits.{is_cut_by, rise_below, fit_together, run_text};
 
+use crate::marks::Mark;
 use crate::run_fits::{is_cut_by, rise_below};
-use crate::run_lists::RunList;
+use crate::run_text::RunList;
 use crate::{Node, TextSelection};
 use std::alloc::{AllocError, Global};
 
@@ -15,8 +16,8 @@ impl Node {
     pub fn text_selection(&self) -> Option<TextSelection>
         ensures { result ≡ self.now.text_selection }
     {
-        self.plain
-            .has_text_selection
+        self.marks
+            .has(Mark::TextSelection)
             .then_some(self.plain.text_selection)
     }
 
@@ -25,21 +26,21 @@ impl Node {
         ensures { self.new ≡ record self.old { text_selection = Some value } }
     {
         self.plain.text_selection = value;
-        self.plain.has_text_selection = true;
+        self.marks.add(Mark::TextSelection);
     }
 
     /// Clears [`Node::text_selection`].
     pub fn clear_text_selection(&mut self)
         ensures { self.new ≡ record self.old { text_selection = None } }
     {
-        self.plain.has_text_selection = false;
+        self.marks.remove(Mark::TextSelection);
     }
 
     /// The length of each character of a text run's value, in bytes.
     pub fn character_lengths(&self) -> &[u16]
         ensures { result.now ≡ self.now.character_lengths }
     {
-        self.run.lists().lengths()
+        self.run.lengths()
     }
 
     /// Sets [`Node::character_lengths`] to a copy of the list.
@@ -68,6 +69,18 @@ impl Node {
         self.run.set_list(self.alloc, RunList::Lengths(copy))
     }
 
+    /// Sets [`Node::character_lengths`] to this list, which is not copied.
+    ///
+    /// # Errors
+    ///
+    /// Returns `AllocError` if memory runs out; the node is then unchanged.
+    pub fn take_character_lengths(&mut self, lengths: Vec<u16>) -> Result<(), AllocError>
+        ensures ok { OnOk result (self.new ≡ record self.old { character_lengths = lengths.items }) }
+        ensures err { OnErr result (self.new ≡ self.old) }
+    {
+        self.run.set_list(self.alloc, RunList::Lengths(lengths))
+    }
+
     /// Clears [`Node::character_lengths`].
     pub fn clear_character_lengths(&mut self)
         ensures { self.new ≡ record self.old { character_lengths = [] } }
@@ -79,7 +92,7 @@ impl Node {
     pub fn word_starts(&self) -> &[u16]
         ensures { result.now ≡ self.now.word_starts }
     {
-        self.run.lists().starts()
+        self.run.starts()
     }
 
     /// Sets [`Node::word_starts`] to a copy of the list.
@@ -108,6 +121,18 @@ impl Node {
         self.run.set_list(self.alloc, RunList::Starts(copy))
     }
 
+    /// Sets [`Node::word_starts`] to this list, which is not copied.
+    ///
+    /// # Errors
+    ///
+    /// Returns `AllocError` if memory runs out; the node is then unchanged.
+    pub fn take_word_starts(&mut self, starts: Vec<u16>) -> Result<(), AllocError>
+        ensures ok { OnOk result (self.new ≡ record self.old { word_starts = starts.items }) }
+        ensures err { OnErr result (self.new ≡ self.old) }
+    {
+        self.run.set_list(self.alloc, RunList::Starts(starts))
+    }
+
     /// Clears [`Node::word_starts`].
     pub fn clear_word_starts(&mut self)
         ensures { self.new ≡ record self.old { word_starts = [] } }
@@ -119,7 +144,7 @@ impl Node {
     pub fn character_positions(&self) -> Option<&[i32]>
         ensures { option_copied result ≡ self.now.character_positions }
     {
-        self.run.lists().positions()
+        self.run.positions()
     }
 
     /// Sets [`Node::character_positions`] to a copy of the list.
@@ -136,6 +161,19 @@ impl Node {
             .set_list(self.alloc, RunList::Positions(Some(copy)))
     }
 
+    /// Sets [`Node::character_positions`] to this list, which is not copied.
+    ///
+    /// # Errors
+    ///
+    /// Returns `AllocError` if memory runs out; the node is then unchanged.
+    pub fn take_character_positions(&mut self, positions: Vec<i32>) -> Result<(), AllocError>
+        ensures ok { OnOk result (self.new ≡ record self.old { character_positions = Some positions.items }) }
+        ensures err { OnErr result (self.new ≡ self.old) }
+    {
+        self.run
+            .set_list(self.alloc, RunList::Positions(Some(positions)))
+    }
+
     /// Clears [`Node::character_positions`].
     pub fn clear_character_positions(&mut self)
         ensures { self.new ≡ record self.old { character_positions = None } }
@@ -147,7 +185,7 @@ impl Node {
     pub fn character_widths(&self) -> Option<&[i32]>
         ensures { option_copied result ≡ self.now.character_widths }
     {
-        self.run.lists().widths()
+        self.run.widths()
     }
 
     /// Sets [`Node::character_widths`] to a copy of the list.
@@ -161,6 +199,18 @@ impl Node {
     {
         let copy = Vec::from_slice(self.alloc, widths)?;
         self.run.set_list(self.alloc, RunList::Widths(Some(copy)))
+    }
+
+    /// Sets [`Node::character_widths`] to this list, which is not copied.
+    ///
+    /// # Errors
+    ///
+    /// Returns `AllocError` if memory runs out; the node is then unchanged.
+    pub fn take_character_widths(&mut self, widths: Vec<i32>) -> Result<(), AllocError>
+        ensures ok { OnOk result (self.new ≡ record self.old { character_widths = Some widths.items }) }
+        ensures err { OnErr result (self.new ≡ self.old) }
+    {
+        self.run.set_list(self.alloc, RunList::Widths(Some(widths)))
     }
 
     /// Clears [`Node::character_widths`].

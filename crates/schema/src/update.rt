@@ -1,10 +1,13 @@
 //! Updates of a tree.
 
 ghost use Rattle.std.specs.Prelude.{◌≡◌, None, IfOk};
+ghost use Rattle.std.specs.Borrow.{sem};
+ghost use Rattle.schema.specs.Adding.{lends_added};
+ghost use Rattle.schema.specs.NodeData.{empty_node};
 ghost use Rattle.schema.specs.UpdateData.{info_data, update_data};
 
 use crate::copies::copy_of_text;
-use crate::{Node, NodeId, TreeId};
+use crate::{Node, NodeId, Role, TreeId};
 use std::alloc::{AllocError, Global};
 
 /// Information about a tree as a whole.
@@ -62,6 +65,23 @@ pub struct TreeUpdate {
 }
 
 impl TreeUpdate {
+    /// Adds an empty node with this id and role at the end of [`TreeUpdate::nodes`], and lends it. The node's texts and lists
+    /// are allocated from `alloc`.
+    ///
+    /// # Errors
+    ///
+    /// Returns `AllocError` if memory runs out; the update is then unchanged.
+    #[inline]
+    pub fn add(&mut self, alloc: Global, id: NodeId, role: Role) -> Result<&mut Node, AllocError>
+        ensures* writes_back { sem 𝓛 (lends_added self.entry id result) }
+        ensures value { IfOk result (λ node. node.now ≡ empty_node role) }
+    {
+        let index = self.nodes.len();
+        self.nodes.reserve(1)?;
+        self.nodes.push_reserved((id, Node::new(alloc, role)));
+        Ok(&mut self.nodes[index].1)
+    }
+
     /// Returns a copy whose list and texts are allocated from `alloc`; each node is allocated where its original is.
     ///
     /// # Errors

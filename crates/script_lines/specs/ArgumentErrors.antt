@@ -5,7 +5,7 @@ use Rattle.std.specs.Str.{bytes_eq}
 use Rattle.std.specs.String.{string_bytes}
 use Rattle.line_faults.specs.Messages.{IsNearestOf}
 use Rattle.script_lines.specs.declared.argument_errors.ArgumentError.{ArgumentError}
-use Rattle.script_lines.specs.declared.argument_errors.ArgumentError.TheVariants.{Help, Count, File, Unknown, NotUtf8, Memory}
+use Rattle.script_lines.specs.declared.argument_errors.ArgumentError.TheVariants.{Help, Version, Count, File, Unknown, NotUtf8, Memory}
 use Rattle.script_lines.specs.declared.argument_errors.ArgumentKind.{ArgumentKind}
 use Rattle.script_lines.specs.declared.argument_errors.ArgumentKind.TheVariants.{Dashed}
 use Rattle.script_lines.specs.declared.arguments.NoArguments.{NoArguments}
@@ -31,23 +31,24 @@ IsUnknownWord kind word near _ = ⊥
 abbrev pub is_option : List ℕ → Bool
 is_option word = starts_with nat_eq word (codes "--") || bytes_eq word (codes "-h")
 
--- the options of a program that may have one besides `--help`
+-- the options of a program that may have one besides `--help` and `--version`
 abbrev pub options_with : Option (List ℕ) → List (List ℕ)
-options_with None = codes "--help" ∷ []
-options_with (Some option) = codes "--help" ∷ option ∷ []
+options_with None = codes "--help" ∷ codes "--version" ∷ []
+options_with (Some option) = codes "--help" ∷ codes "--version" ∷ option ∷ []
 
 -- of these options a word may mean this one: the nearest, and `--help` if none is near
 abbrev pub MayMean : List (List ℕ) → List ℕ → List ℕ → Type 0
 MayMean options word meant = (near : Option (List ℕ)) × IsNearestOf word options near × (meant ≡ unwrap_or near (codes "--help"))
 
--- an option that isn't `--help` is unknown, and named with the one of these options that may be meant
+-- any other option is unknown, and named with the one of these options that may be meant
 abbrev pub IsUnknownOption : List (List ℕ) → List ℕ → ArgumentError → Type 0
 IsUnknownOption options word error = (meant : List ℕ) × MayMean options word meant × IsUnknownWord Dashed word (Some meant) error
 
--- an option asks for the manual if it is `--help`; any other is unknown
+-- an option asks for the manual if it is `--help`, and for the version if it is `--version`; any other is unknown
 pub record IsNoOption (options : List (List ℕ)) (word : List ℕ) (error : ArgumentError) : Type 0 where
   pub help : bytes_eq word (codes "--help") ≡ true → error ≡ Help
-  pub unknown : bytes_eq word (codes "--help") ≡ false → IsUnknownOption options word error
+  pub version : bytes_eq word (codes "--version") ≡ true → error ≡ Version
+  pub unknown : bytes_eq word (codes "--help") ≡ false → bytes_eq word (codes "--version") ≡ false → IsUnknownOption options word error
 
 -- what is read from words, of which the first may be an option, by a program with these options that reads other words so
 abbrev pub ReadsWords : {A : Type 0} → (List (List ℕ) → Result A ArgumentError → Type 0) → List (List ℕ) → List (List ℕ)

@@ -6,12 +6,13 @@ use Rattle.line_text.specs.Shown.{shown}
 use Rattle.script_lines.specs.ArgumentErrors.{ReadsWords, options_with}
 use Rattle.script_lines.specs.Ends.{Tells, told_of}
 use Rattle.script_lines.specs.declared.argument_errors.ArgumentError.{ArgumentError}
-use Rattle.script_lines.specs.declared.argument_errors.ArgumentError.TheVariants.{Help, Count, File, Unknown, NotUtf8, Memory}
+use Rattle.script_lines.specs.declared.argument_errors.ArgumentError.TheVariants.{Help, Version, Count, File, Unknown, NotUtf8, Memory}
 use Rattle.script_lines.specs.declared.argument_errors.ArgumentKind.{ArgumentKind}
 use Rattle.script_lines.specs.declared.argument_errors.ArgumentKind.TheVariants as kind
 use Rattle.script_lines.specs.declared.argument_errors.UnknownWord.{UnknownWord}
 use Rattle.script_lines.specs.declared.arguments.Manual.{Manual}
 use Rattle.script_words.specs.declared.stops.Stop.TheVariants as stop
+use Rattle.version.specs.Version.{version_line}
 
 -- the bytes of a stream, where they are known
 abbrev Bytes : Type 0
@@ -65,6 +66,7 @@ wrong_text manual error = error_text error ++ usage_text manual
 -- what is told where a program is not to run, on which stream, and its exit status
 abbrev pub TellsError : Manual → ArgumentError → Bytes → Bytes → Bytes → Bytes → ℕ → Type 0
 TellsError manual Help out out' err err' status = Tells out out' (manual_text manual) 0 status × (err' ≡ err)
+TellsError manual Version out out' err err' status = Tells out out' (version_line manual.name.now) 0 status × (err' ≡ err)
 TellsError manual Memory out out' err err' status = Tells err err' (told_of 0 stop.Memory) 4 status × (out' ≡ out)
 TellsError manual error out out' err err' status = Tells err err' (wrong_text manual error) 2 status × (out' ≡ out)
 

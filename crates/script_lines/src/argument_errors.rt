@@ -9,8 +9,10 @@ ghost use Rattle.script_lines.specs.declared.argument_errors.ArgumentError.TheVa
 use line_text::nearest;
 use std::alloc::{AllocError, Global};
 
-/// The option that every program has.
+/// The options that every program has.
 const HELP: &str = "--help";
+
+const VERSION: &str = "--version";
 
 /// What a word of a program's arguments is.
 #[derive(Clone, Copy)]
@@ -41,6 +43,8 @@ pub struct UnknownWord {
 pub enum ArgumentError {
     /// Its manual is asked for.
     Help,
+    /// Its version is asked for.
+    Version,
     /// Words are missing or too many.
     Count,
     /// A word is the name of a file. A script is read from standard input alone.
@@ -114,12 +118,15 @@ pub(crate) fn is_option(word: &str) -> bool
     word.as_bytes().starts_with(b"--") || word == "-h"
 }
 
-/// The error about an option of a program that has this one besides `--help`.
+/// The error about an option of a program that has this one besides `--help` and `--version`.
 pub(crate) fn no_option(alloc: Global, word: &str, option: Option<&'static str>) -> ArgumentError
     ensures { IsNoOption (options_with (option_copied option.entry)) word.now result }
 {
     if word == HELP {
         return ArgumentError::Help;
+    }
+    if word == VERSION {
+        return ArgumentError::Version;
     }
     unknown_option(alloc, word, option)
 }
@@ -132,13 +139,13 @@ fn unknown_option(alloc: Global, word: &str, option: Option<&'static str>) -> Ar
     unknown_word(alloc, ArgumentKind::Dashed, word, Some(meant))
 }
 
-/// The option that may be meant: the nearest of `--help` and this one, and `--help` if neither is near.
+/// The option that may be meant: the nearest of `--help`, `--version` and this one, and `--help` if none is near.
 fn option_meant(word: &str, option: Option<&'static str>) -> &'static str
     ensures { MayMean (options_with (option_copied option.entry)) word.now result.now }
 {
     let near = match option {
-        Some(option) => nearest(word.as_bytes(), &[HELP, option]),
-        None => nearest(word.as_bytes(), &[HELP]),
+        Some(option) => nearest(word.as_bytes(), &[HELP, VERSION, option]),
+        None => nearest(word.as_bytes(), &[HELP, VERSION]),
     };
     near.unwrap_or(HELP)
 }

@@ -6,6 +6,7 @@ ghost use Rattle.std.specs.String.{string_bytes};
 ghost use Rattle.script_lines.specs.ArgumentErrors.{ReadsNone, ReadsWords};
 ghost use Rattle.script_lines.specs.Arguments.{after_option, options, Answers, TellsError, call_text, error_text, hint_text, kind_text, manual_text, near_text, unknown_text, usage_text, wrong_text};
 ghost use Rattle.script_lines.specs.Ends.{Tells};
+ghost use Rattle.version.specs.Version.{version_line};
 ghost use Rattle.script_lines.specs.declared.argument_errors.ArgumentError.{ArgumentError as AnError};
 
 use crate::argument_errors::{
@@ -16,6 +17,7 @@ use line_text::write_shown;
 use std::alloc::Global;
 use std::env;
 use std::io::{self, ErrorKind, IsTerminal, Write};
+use version::write_version;
 
 /// What a program says of itself.
 #[derive(Clone, Copy)]
@@ -61,13 +63,13 @@ impl Arguments for NoArguments {
 }
 
 /// Reads the program's arguments: whether the option that its manual names is the first of them, and the meaning of the other words. If
-/// `--help` comes first, its manual is printed on standard output. Wrong arguments are reported on standard error, with the usage. If
-/// the script would have to be typed, that is said on standard error too.
+/// `--help` comes first, its manual is printed on standard output, and for `--version` its version. Wrong arguments are reported on
+/// standard error, with the usage. If the script would have to be typed, that is said on standard error too.
 ///
 /// # Errors
 ///
-/// Returns the exit status if the program is not to run: 0 once its manual is printed, 2 for wrong arguments, 3 if a stream failed, and 4
-/// if memory runs out.
+/// Returns the exit status if the program is not to run: 0 once its manual or its version is printed, 2 for wrong arguments, 3 if a stream
+/// failed, and 4 if memory runs out.
 pub fn read_arguments<A: Arguments>(rt: &HostRuntime, manual: &Manual) -> Result<(bool, A), u8>
     ensures { IfErr result (λ status. (status ≤ 4) × (status ≢ 1)) }
 {
@@ -114,8 +116,8 @@ fn write_terminal<E: Write>(errors: &mut E) -> io::Result<()> {
     errors.write_all(b"the script is read from this terminal; Ctrl-D ends it\n")
 }
 
-/// Whether a program's option is the first of its words, and the meaning of the others. If the program is not to run, its manual is
-/// printed, or what is wrong with the words is reported.
+/// Whether a program's option is the first of its words, and the meaning of the others. If the program is not to run, its manual or
+/// its version is printed, or what is wrong with the words is reported.
 ///
 /// # Errors
 ///
@@ -165,7 +167,7 @@ fn asked_for<A: Arguments>(
     }
 }
 
-/// Prints a program's manual or reports what is wrong with its arguments, and returns the exit status.
+/// Prints a program's manual or version, or reports what is wrong with its arguments, and returns the exit status.
 fn tell_error<O: Write, E: Write>(
     error: &ArgumentError,
     manual: &Manual,
@@ -179,6 +181,7 @@ fn tell_error<O: Write, E: Write>(
 {
     match error {
         ArgumentError::Help => tell_manual(manual, output),
+        ArgumentError::Version => tell_version(manual, output),
         ArgumentError::Memory => tell_no_memory(errors),
         ArgumentError::Count
         | ArgumentError::File
@@ -217,6 +220,18 @@ fn write_call<O: Write>(manual: &Manual, output: &mut O) -> io::Result<()>
     output.write_all(b" < SCRIPT")
 }
 
+/// Prints a program's version, and returns the exit status.
+fn tell_version<O: Write>(manual: &Manual, output: &mut O) -> u8
+    ensures bound { result ≤ 4 }
+    ensures not_one { result ≢ 1 }
+    ensures told { Tells (O.contents output.old) (O.contents output.new) (version_line manual.now.name.now) 0 result }
+{
+    if write_version(manual.name, output).is_err() || output.flush().is_err() {
+        return FAULT;
+    }
+    DONE
+}
+
 /// Reports what is wrong with a program's arguments, with the usage, and returns the exit status.
 fn tell_wrong<E: Write>(error: &ArgumentError, manual: &Manual, errors: &mut E) -> u8
     ensures bound { result ≤ 4 }
@@ -247,7 +262,10 @@ fn write_error<E: Write>(error: &ArgumentError, errors: &mut E) -> io::Result<()
         ),
         ArgumentError::Unknown(unknown) => write_unknown(unknown, errors),
         ArgumentError::NotUtf8 => errors.write_all(b"an argument isn't UTF-8\n"),
-        ArgumentError::Help | ArgumentError::Count | ArgumentError::Memory => Ok(()),
+        ArgumentError::Help
+        | ArgumentError::Version
+        | ArgumentError::Count
+        | ArgumentError::Memory => Ok(()),
     }
 }
 

@@ -1,6 +1,6 @@
 -- What there is in cells once one of them is written, or there is one more.
-use Rattle.std.proofs.Common.{◌≡◌, ◌≢◌, ℕ, ◌+◌, ◌<◌, ◌≤◌, ◌^◌, get_or, List, [], ◌∷◌, ◌++◌, length, Bool, true, false, true≢false, cond, Option, Some, None, refl, sym, ap, subst, ◌∙◌, arith, slice_get, slice_set, ◌-◌, Result, Ok, Err, length-append, eqb, ◌⊎◌, inl, inr, ⊎_elim}
-use Rattle.std.specs.Prelude.{IsSome, is_none, is_some, count_by, option_and_then, option_to_list, is_ok, is_err}
+use Rattle.std.proofs.Common.{◌≡◌, ◌≢◌, ℕ, ◌+◌, ◌<◌, ◌≤◌, ◌^◌, List, [], ◌∷◌, ◌++◌, length, Bool, true, false, true≢false, cond, Option, Some, None, refl, sym, ap, subst, ◌∙◌, arith, slice_get, slice_set, ◌-◌, Result, Ok, Err, length-append, eqb, ◌⊎◌, inl, inr, ⊎_elim}
+use Rattle.std.specs.Prelude.{IsSome, is_none, count_by, option_and_then, option_to_list, is_ok, is_err}
 use Rattle.std.specs.Vec.{vec_capacity}
 use Rattle.std.specs.Map.{lookup}
 use Rattle.std.specs.BTreeMap.{is_at}
@@ -11,11 +11,12 @@ use Rattle.std.proofs.lemmas.Option.{slice_get_within, get_or_from_slice_get}
 use Rattle.model.specs.declared.FullNodeId.{FullNodeId}
 use Rattle.model.specs.FullIds.{full_cmp}
 use Rattle.model.proofs.Update.Merges.{slice_get_front, slice_get_push}
-use Rattle.tree_store.specs.declared.records.Record.{Record}
-use Rattle.tree_store.specs.declared.cells.Cell.{Cell}
+use Rattle.tree_store.specs.Cells.{Record}
+use Rattle.tree_store.specs.Cells.{CellView}
 use Rattle.tree_store.specs.declared.cells.Slots.TheInside.{Inside}
 use Rattle.tree_store.specs.Cells.{SlotsView, kept_in, number_of, slot_in, slot_at, record_in, record_at, is_free, HasOwnCells, IsFreeList}
 use Rattle.tree_store.specs.CellsKept.{slots_of, IsKept}
+use Rattle.tree_store.specs.CellLists.{slot_of, cell_with}
 use Rattle.tree_store.proofs.Boxed.{set_here, set_there, last_of}
 use Rattle.tree_store.proofs.KeptSlots.{same_id}
 use Rattle.tree_store.proofs.WrittenSlots.{at_itself}
@@ -53,7 +54,7 @@ stays s id n o at some q = go (is_at (full_cmp id) q) refl
     go false t = refl
 
 -- a cell is written: it was free or that of the id, and is that of the id or free
-module _ (s : SlotsView) (k : HasOwnCells s) (id : FullNodeId) (n : ℕ) (c0 c : Cell) (numbers : List (FullNodeId × ℕ)) (here : slice_get s.cells n ≡ Some c0) (own_id : c.id ≡ id)
+module _ (s : SlotsView) (k : HasOwnCells s) (id : FullNodeId) (n : ℕ) (c0 c : CellView) (numbers : List (FullNodeId × ℕ)) (here : slice_get s.cells n ≡ Some c0) (own_id : c.id ≡ id)
     (up : (q : FullNodeId) → lookup (is_at (full_cmp q)) numbers ≡ cond (is_at (full_cmp id) q) (number_if n (kept_in c)) (number_of s q))
     (before : (number_of s id ≡ Some n) ⊎ ((number_of s id ≡ None) × (kept_in c0 ≡ None))) where
   abbrev after : SlotsView
@@ -69,24 +70,24 @@ module _ (s : SlotsView) (k : HasOwnCells s) (id : FullNodeId) (n : ℕ) (c0 c :
       ⊎_elim
       (λ own.
       let i = k.own id n own in
-      let one : id ≡ p = sym i.2 ∙ ap (λ (x : Cell). x.id) (same_some (slice_get s.cells n) i.0 o.0 i.1 o.1) ∙ o.2 in
+      let one : id ≡ p = sym i.2 ∙ ap (λ (x : CellView). x.id) (same_some (slice_get s.cells n) i.0 o.0 i.1 o.1) ∙ o.2 in
       true≢false (sym (at_itself id) ∙ ap (is_at (full_cmp id)) one ∙ b))
       (λ free. not_none (kept_in o.0) o.3 (ap kept_in (same_some (slice_get s.cells n) o.0 c0 o.1 here) ∙ free.1))
       before
 
-  new_own : (p : FullNodeId) (m : ℕ) → lookup (is_at (full_cmp p)) numbers ≡ Some m → (x : Cell) × (slice_get (slice_set s.cells n c) m ≡ Some x) × (x.id ≡ p) × IsSome (kept_in x)
+  new_own : (p : FullNodeId) (m : ℕ) → lookup (is_at (full_cmp p)) numbers ≡ Some m → (x : CellView) × (slice_get (slice_set s.cells n c) m ≡ Some x) × (x.id ≡ p) × IsSome (kept_in x)
   new_own p m e = go (is_at (full_cmp id) p) refl (sym (up p) ∙ e)
     where
-      go : (b : Bool) → is_at (full_cmp id) p ≡ b → cond b (number_if n (kept_in c)) (number_of s p) ≡ Some m → (x : Cell) × (slice_get (slice_set s.cells n c) m ≡ Some x) × (x.id ≡ p) × IsSome (kept_in x)
+      go : (b : Bool) → is_at (full_cmp id) p ≡ b → cond b (number_if n (kept_in c)) (number_of s p) ≡ Some m → (x : CellView) × (slice_get (slice_set s.cells n c) m ≡ Some x) × (x.id ≡ p) × IsSome (kept_in x)
       go true t f = let j = number_is n (kept_in c) m f in (c, subst (λ i. slice_get (slice_set s.cells n c) i ≡ Some c) j.0 (set_here s.cells n c low), own_id ∙ same_id id p t, j.1)
       go false t f = let o = k.own p m f in (o.0, set_there s.cells n m c (other p m t f) ∙ o.1, o.2, o.3)
 
-  new_back : (m : ℕ) (x : Cell) → slice_get (slice_set s.cells n c) m ≡ Some x → IsSome (kept_in x) → lookup (is_at (full_cmp x.id)) numbers ≡ Some m
+  new_back : (m : ℕ) (x : CellView) → slice_get (slice_set s.cells n c) m ≡ Some x → IsSome (kept_in x) → lookup (is_at (full_cmp x.id)) numbers ≡ Some m
   new_back m x e some = by_place (eqb_tells m n)
     where
       given : x ≡ c → n ≡ m → lookup (is_at (full_cmp x.id)) numbers ≡ Some m
       given is at =
-          let one : id ≡ x.id = sym own_id ∙ ap (λ (y : Cell). y.id) (sym is) in
+          let one : id ≡ x.id = sym own_id ∙ ap (λ (y : CellView). y.id) (sym is) in
           up x.id ∙ ap (λ b. cond b (number_if n (kept_in c)) (number_of s x.id)) (ap (is_at (full_cmp id)) (sym one) ∙ at_itself id)
           ∙ number_some n (kept_in c) (subst (λ y. IsSome (kept_in y)) is some) ∙ ap Some at
 
@@ -129,19 +130,19 @@ cases_last : {X : Type 0} → (xs : List X) (x : X) (m : ℕ) (y : X) → slice_
 cases_last xs x m y e = ⊎_elim (λ old. inl old) (λ end. inr (end.0, sym end.1)) (slice_get_push xs x m y e)
 
 -- there is a cell more, of an id that had none
-module _ (s : SlotsView) (k : HasOwnCells s) (id : FullNodeId) (c : Cell) (numbers : List (FullNodeId × ℕ)) (own_id : c.id ≡ id) (some : IsSome (kept_in c)) (none : number_of s id ≡ None)
+module _ (s : SlotsView) (k : HasOwnCells s) (id : FullNodeId) (c : CellView) (numbers : List (FullNodeId × ℕ)) (own_id : c.id ≡ id) (some : IsSome (kept_in c)) (none : number_of s id ≡ None)
     (up : (q : FullNodeId) → lookup (is_at (full_cmp q)) numbers ≡ cond (is_at (full_cmp id) q) (Some (length s.cells)) (number_of s q)) where
   abbrev more : SlotsView
   more = record { numbers = numbers; cells = s.cells ++ c ∷ [] }
 
-  more_own : (p : FullNodeId) (m : ℕ) → lookup (is_at (full_cmp p)) numbers ≡ Some m → (x : Cell) × (slice_get (s.cells ++ c ∷ []) m ≡ Some x) × (x.id ≡ p) × IsSome (kept_in x)
+  more_own : (p : FullNodeId) (m : ℕ) → lookup (is_at (full_cmp p)) numbers ≡ Some m → (x : CellView) × (slice_get (s.cells ++ c ∷ []) m ≡ Some x) × (x.id ≡ p) × IsSome (kept_in x)
   more_own p m e = go (is_at (full_cmp id) p) refl (sym (up p) ∙ e)
     where
-      go : (b : Bool) → is_at (full_cmp id) p ≡ b → cond b (Some (length s.cells)) (number_of s p) ≡ Some m → (x : Cell) × (slice_get (s.cells ++ c ∷ []) m ≡ Some x) × (x.id ≡ p) × IsSome (kept_in x)
+      go : (b : Bool) → is_at (full_cmp id) p ≡ b → cond b (Some (length s.cells)) (number_of s p) ≡ Some m → (x : CellView) × (slice_get (s.cells ++ c ∷ []) m ≡ Some x) × (x.id ≡ p) × IsSome (kept_in x)
       go true t f = (c, subst (λ i. slice_get (s.cells ++ c ∷ []) i ≡ Some c) (same_some (Some (length s.cells)) (length s.cells) m refl f) (last_of s.cells c), own_id ∙ same_id id p t, some)
       go false t f = let o = k.own p m f in (o.0, front s.cells (c ∷ []) m o.0 o.1, o.2, o.3)
 
-  more_back : (m : ℕ) (x : Cell) → slice_get (s.cells ++ c ∷ []) m ≡ Some x → IsSome (kept_in x) → lookup (is_at (full_cmp x.id)) numbers ≡ Some m
+  more_back : (m : ℕ) (x : CellView) → slice_get (s.cells ++ c ∷ []) m ≡ Some x → IsSome (kept_in x) → lookup (is_at (full_cmp x.id)) numbers ≡ Some m
   more_back m x e there = up x.id ∙ ⊎_elim (λ old. kept (k.back m x old there) (is_at (full_cmp id) x.id) refl) (λ end. given end.0 end.1) (cases_last s.cells c m x e)
     where
       kept : number_of s x.id ≡ Some m → (b : Bool) → is_at (full_cmp id) x.id ≡ b → cond b (Some (length s.cells)) (number_of s x.id) ≡ Some m
@@ -150,7 +151,7 @@ module _ (s : SlotsView) (k : HasOwnCells s) (id : FullNodeId) (c : Cell) (numbe
 
       given : m ≡ length s.cells → x ≡ c → cond (is_at (full_cmp id) x.id) (Some (length s.cells)) (number_of s x.id) ≡ Some m
       given end is =
-          let one : id ≡ x.id = sym own_id ∙ ap (λ (y : Cell). y.id) (sym is) in
+          let one : id ≡ x.id = sym own_id ∙ ap (λ (y : CellView). y.id) (sym is) in
           ap (λ b. cond b (Some (length s.cells)) (number_of s x.id)) (ap (is_at (full_cmp id)) (sym one) ∙ at_itself id) ∙ ap Some (sym end)
 
   pub cells_more : HasOwnCells (record { numbers = numbers; cells = s.cells ++ c ∷ [] })
@@ -198,15 +199,15 @@ count_set p xs i x y e = ap (λ v. count_by p (slice_set xs i y) + cond (p v) 1 
 count_by_bits : (n m : ℕ) (b d : Bool) (v w : Bool) → n + cond b 1 0 ≡ m + cond d 1 0 → b ≡ v → d ≡ w → n + cond v 1 0 ≡ m + cond w 1 0
 count_by_bits n m b d v w e f g = ap (λ t. n + cond t 1 0) (sym f) ∙ e ∙ ap (λ t. m + cond t 1 0) g
 
-none_free : (c : Cell) → kept_in c ≡ None → is_free c ≡ true
+none_free : (c : CellView) → kept_in c ≡ None → is_free c ≡ true
 none_free c e = ap is_none e
 
 -- the list of free cells, when a cell is written
-module _ (cells : List Cell) (free : List ℕ) (f : IsFreeList cells free) (n : ℕ) (c0 c : Cell) (here : slice_get cells n ≡ Some c0) where
-  still_free : (m : ℕ) → m ≢ n → (x : Cell) × (slice_get cells m ≡ Some x) × (kept_in x ≡ None) → (x : Cell) × (slice_get (slice_set cells n c) m ≡ Some x) × (kept_in x ≡ None)
+module _ (cells : List CellView) (free : List ℕ) (f : IsFreeList cells free) (n : ℕ) (c0 c : CellView) (here : slice_get cells n ≡ Some c0) where
+  still_free : (m : ℕ) → m ≢ n → (x : CellView) × (slice_get cells m ≡ Some x) × (kept_in x ≡ None) → (x : CellView) × (slice_get (slice_set cells n c) m ≡ Some x) × (kept_in x ≡ None)
   still_free m apart o = (o.0, set_there cells n m c apart ∙ o.1, o.2)
 
-  not_used : (m : ℕ) → IsSome (kept_in c0) → (x : Cell) × (slice_get cells m ≡ Some x) × (kept_in x ≡ None) → m ≢ n
+  not_used : (m : ℕ) → IsSome (kept_in c0) → (x : CellView) × (slice_get cells m ≡ Some x) × (kept_in x ≡ None) → m ≢ n
   not_used m some o is = not_none (kept_in c0) some (ap kept_in (same_some (slice_get cells n) c0 o.0 here (ap (slice_get cells) (sym is) ∙ o.1)) ∙ o.2)
 
   counted : (b d : Bool) → is_free c0 ≡ b → is_free c ≡ d → count_by is_free (slice_set cells n c) + cond b 1 0 ≡ count_by is_free cells + cond d 1 0
@@ -259,7 +260,7 @@ module _ (cells : List Cell) (free : List ℕ) (f : IsFreeList cells free) (n : 
   }
 
 -- and when there is a cell more, with a slot
-pub free_more : (cells : List Cell) (free : List ℕ) (c : Cell) → IsFreeList cells free → IsSome (kept_in c) → IsFreeList (cells ++ c ∷ []) free
+pub free_more : (cells : List CellView) (free : List ℕ) (c : CellView) → IsFreeList cells free → IsSome (kept_in c) → IsFreeList (cells ++ c ∷ []) free
 free_more cells free c f some = record {
   empty = λ j m e. let o = f.empty j m e in (o.0, front cells (c ∷ []) m o.0 o.1, o.2);
   once = f.once;
@@ -267,44 +268,40 @@ free_more cells free c f some = record {
 }
 
 -- the record in an id's slot becomes another one, in the cell that the id has
-pub record IsRenewed (a : Inside) (v : SlotsView) (id : FullNodeId) (n : ℕ) (old new : Cell) (record_now : Option Record) : Type 0 where
-  pub cells : HasOwnCells (record { numbers = a.index; cells = slice_set a.cells.items n new })
-  pub free : IsFreeList (slice_set a.cells.items n new) a.free.items
-  pub room : length (slice_set a.cells.items n new) ≤ vec_capacity a.free
-  pub bound : length (slice_set a.cells.items n new) < 2 ^ 32
-  pub before : record_in (kept_in old) ≡ record_at v id
-  pub slots : (q : FullNodeId) → slot_at (record { numbers = a.index; cells = slice_set a.cells.items n new }) q ≡ cond (is_at (full_cmp id) q) (Some record_now) (slot_at v q)
+pub record IsRenewed (a : Inside) (v : SlotsView) (id : FullNodeId) (cells_now : List CellView) (record_now : Option Record) : Type 0 where
+  pub cells : HasOwnCells (record { numbers = a.index; cells = cells_now })
+  pub free : IsFreeList cells_now a.free.items
+  pub room : length cells_now ≤ vec_capacity a.free
+  pub bound : length cells_now < 2 ^ 32
+  pub slots : (q : FullNodeId) → slot_at (record { numbers = a.index; cells = cells_now }) q ≡ cond (is_at (full_cmp id) q) (Some record_now) (slot_at v q)
 
-pub renewed : (a : Inside) → IsKept a → (v : SlotsView) → slots_of a ≡ v → (id : FullNodeId) (n : ℕ) → number_of (slots_of a) id ≡ Some n → (old new : Cell) → old ≡ get_or a.cells.items n old → new.id ≡ old.id
-    → (f : Option Record → Option Record) → kept_in new ≡ Some (f (record_in (kept_in old))) → IsRenewed a v id n old new (f (record_at v id))
-renewed a k v shows id n at old new read same_id f now = record {
-  cells = cells_written (slots_of a) k.cells id n own.0 new a.index own.1 own_id up (inl at);
-  free = free_kept a.cells.items a.free.items k.free n own.0 new own.1 own.3 some;
-  room = subst (λ m. m ≤ vec_capacity a.free) (sym (length-set a.cells.items n new)) k.room;
-  bound = subst (λ m. m < 2 ^ 32) (sym (length-set a.cells.items n new)) k.bound;
-  before = before;
-  slots = λ q. slots_written (slots_of a) k.cells id n own.0 new a.index own.1 own_id up (inl at) q
-      ∙ ap (λ x. cond (is_at (full_cmp id) q) x (slot_at (slots_of a) q)) (now ∙ ap (λ r. Some (f r)) before)
+-- the slot of an id by the number of its cell
+pub slot_by : (s v : SlotsView) → s ≡ v → (id : FullNodeId) (n : ℕ) → number_of s id ≡ Some n → slot_of s.cells n ≡ slot_at v id
+slot_by s v shows id n at = ap (option_and_then (slot_in s)) (sym at) ∙ ap (λ x. slot_at x id) shows
+
+pub renewed : (a : Inside) → IsKept a → (v : SlotsView) → slots_of a ≡ v → (id : FullNodeId) (n : ℕ) → number_of (slots_of a) id ≡ Some n → (f : Option Record → Option Record) (cells_now : List CellView)
+    → ((c : CellView) → slice_get a.cells.cells n ≡ Some c → cells_now ≡ slice_set a.cells.cells n (cell_with c.id (Some (f (record_in c.slot))))) → IsRenewed a v id cells_now (f (record_at v id))
+renewed a k v shows id n at f cells_now given = subst (λ l. IsRenewed a v id l (f (record_at v id))) (sym (given own.0 own.1)) (record {
+  cells = cells_written (slots_of a) k.cells id n own.0 new a.index own.1 own.2 up (inl at);
+  free = free_kept a.cells.cells a.free.items k.free n own.0 new own.1 own.3 refl;
+  room = subst (λ m. m ≤ vec_capacity a.free) (sym (length-set a.cells.cells n new)) k.room;
+  bound = subst (λ m. m < 2 ^ 32) (sym (length-set a.cells.cells n new)) k.bound;
+  slots = λ q. slots_written (slots_of a) k.cells id n own.0 new a.index own.1 own.2 up (inl at) q
+      ∙ ap (λ x. cond (is_at (full_cmp id) q) x (slot_at (slots_of a) q)) (ap (λ r. Some (f r)) before)
       ∙ ap (λ x. cond (is_at (full_cmp id) q) (Some (f (record_at v id))) (slot_at x q)) shows;
-}
+})
   where
-    own : (c : Cell) × (slice_get a.cells.items n ≡ Some c) × (c.id ≡ id) × IsSome (kept_in c)
+    own : (c : CellView) × (slice_get a.cells.cells n ≡ Some c) × (c.id ≡ id) × IsSome (kept_in c)
     own = k.cells.own id n at
 
-    was : old ≡ own.0
-    was = read ∙ get_or_from_slice_get a.cells.items n own.0 old own.1
-
-    own_id : new.id ≡ id
-    own_id = same_id ∙ ap (λ (x : Cell). x.id) was ∙ own.2
-
-    some : IsSome (kept_in new)
-    some = ap is_some now
+    new : CellView
+    new = cell_with own.0.id (Some (f (record_in own.0.slot)))
 
     up : (q : FullNodeId) → number_of (slots_of a) q ≡ cond (is_at (full_cmp id) q) (number_if n (kept_in new)) (number_of (slots_of a) q)
-    up = stays (slots_of a) id n (kept_in new) at some
+    up = stays (slots_of a) id n (kept_in new) at refl
 
     here : slot_at (slots_of a) id ≡ kept_in own.0
     here = ap (option_and_then (slot_in (slots_of a))) at ∙ ap (option_and_then kept_in) own.1
 
-    before : record_in (kept_in old) ≡ record_at v id
-    before = ap (λ x. record_in (kept_in x)) was ∙ ap record_in (sym here) ∙ ap (λ x. record_at x id) shows
+    before : record_in (kept_in own.0) ≡ record_at v id
+    before = ap record_in (sym here) ∙ ap (λ x. record_at x id) shows

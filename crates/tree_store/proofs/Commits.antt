@@ -20,7 +20,7 @@ use Rattle.tree_changes.specs.declared.decision.Decision.{Decision}
 use Rattle.tree_changes.specs.Changes.{NodeChanges, change_at, entry_data, place_in, put_all, put_trees, overlaid_world, tree_change, tree_after, if_kept}
 use Rattle.tree_changes.specs.LookUps.{IsPlaceOf, IsTreeRecord}
 use Rattle.tree_changes.specs.Decisions.{IsDecision}
-use Rattle.tree_store.specs.declared.records.Record.{Record}
+use Rattle.tree_store.specs.Cells.{Record}
 use Rattle.tree_store.specs.declared.records.PresentTree.{PresentTree}
 use Rattle.tree_store.specs.declared.records.NameRecord.{NameRecord}
 use Rattle.tree_store.specs.declared.store.Store.TheInside.{Inside}

@@ -6,7 +6,7 @@ use Rattle.std.specs.Map.{lookup, keys_of}
 use Rattle.std.specs.BTreeMap.{is_at}
 use Rattle.model.specs.declared.FullNodeId.{FullNodeId}
 use Rattle.model.specs.FullIds.{full_cmp}
-use Rattle.tree_store.specs.declared.records.Record.{Record}
+use Rattle.tree_store.specs.Cells.{Record}
 use Rattle.tree_store.specs.declared.copies.MirrorRecord.{MirrorRecord}
 use Rattle.tree_store.specs.Cells.{SlotsView, slot_in, record_at, record_in}
 use Rattle.tree_store.specs.Seated.{IsSeated}

@@ -13,4 +13,6 @@ pub mod Committed
 pub mod SlotCounts
 pub mod CopiedSlots
 pub mod Boxed
-pub mod Waits
+pub mod CellLists
+pub mod FreeNumbers
+pub mod Placed

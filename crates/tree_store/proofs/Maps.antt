@@ -13,7 +13,7 @@ use Rattle.schema.specs.NodeData.{NodeData}
 use Rattle.model.specs.declared.FullNodeId.{FullNodeId}
 use Rattle.model.specs.FullIds.{full_cmp, full_total}
 use Rattle.tree_changes.proofs.Overlays.{get-set_at, get-set_tree}
-use Rattle.tree_store.specs.declared.records.Record.{Record}
+use Rattle.tree_store.specs.Cells.{Record}
 use Rattle.tree_store.specs.declared.records.KnownTree.{KnownTree}
 use Rattle.tree_store.specs.Cells.{SlotsView, slot_in, slot_at, record_at, record_in}
 use Rattle.tree_store.specs.Stored.{nodes_in, nodes_shown, ids_in, trees_shown, slots_shown, tree_of, tree_in}

@@ -17,7 +17,7 @@ use Rattle.model.proofs.Lists.PreorderCount.{keys_distinct}
 use Rattle.tree_changes.specs.declared.decision.NodeChange.{NodeChange}
 use Rattle.tree_changes.specs.declared.decision.Decision.{Decision}
 use Rattle.tree_changes.specs.Changes.{change_at, overlaid_world}
-use Rattle.tree_store.specs.declared.records.Record.{Record}
+use Rattle.tree_store.specs.Cells.{Record}
 use Rattle.tree_store.specs.StoreViews.{StoreView}
 use Rattle.tree_store.specs.Commits.{HasSlots}
 use Rattle.tree_store.specs.Cells.{SlotsView, slot_in, slot_at, record_in}

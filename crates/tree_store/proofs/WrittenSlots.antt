@@ -19,7 +19,7 @@ use Rattle.model.specs.World.{Place}
 use Rattle.tree_changes.specs.declared.decision.NodeChange.{NodeChange}
 use Rattle.tree_changes.specs.declared.decision.NodeChange.TheVariants.{Put, Gone}
 use Rattle.tree_changes.specs.Changes.{NodeChanges, change_at, entry_data, entry_of}
-use Rattle.tree_store.specs.declared.records.Record.{Record}
+use Rattle.tree_store.specs.Cells.{Record}
 use Rattle.tree_store.specs.Cells.{SlotsView, slot_at, record_at, record_in}
 use Rattle.tree_store.specs.Commits.{record_after, changed_record, AreEntriesApart, HasRoomFor}
 use Rattle.tree_store.proofs.KeptSlots.{same_id, symmetric}

@@ -1,24 +1,33 @@
 -- Cells by number: each keeps the slot of one id, or is free.
 use Rattle.std.specs.Prelude.{◌≡◌, ℕ, List, [], Option, Some, None, IsSome, is_none, Bool, length, count_by, slice_get, option_and_then}
 use Rattle.std.specs.Option.{option_map}
+use Rattle.schema.specs.NodeData.{NodeData}
+use Rattle.model.specs.World.{Place}
 use Rattle.std.specs.Map.{lookup}
 use Rattle.std.specs.BTreeMap.{is_at}
 use Rattle.model.specs.declared.FullNodeId.{FullNodeId}
 use Rattle.model.specs.FullIds.{full_cmp}
-use Rattle.tree_store.specs.declared.records.Record.{Record}
-use Rattle.tree_store.specs.declared.cells.Cell.{Cell}
+
+-- the record of a node: its place and its data
+pub record Record : Type 0 where
+  pub place : Option Place
+  pub node : NodeData
+
+-- what is seen of a cell: the id that it is of, and its slot: nothing if it is free, and else an empty slot or a record
+pub record CellView : Type 0 where
+  pub id : FullNodeId
+  pub slot : Option (Option Record)
 
 -- the numbers of the ids' cells, and the cells
 pub record SlotsView : Type 0 where
   pub numbers : List (FullNodeId × ℕ)
-  pub cells : List Cell
+  pub cells : List CellView
 
 abbrev pub no_slots : SlotsView
 no_slots = record { numbers = []; cells = [] }
 
--- the slot in a cell: nothing if the cell is free, and else an empty slot or a record
-abbrev pub kept_in : Cell → Option (Option Record)
-kept_in c = option_map (λ b. b.value) c.slot
+abbrev pub kept_in : CellView → Option (Option Record)
+kept_in c = c.slot
 
 -- the number of an id's cell
 abbrev pub number_of : SlotsView → FullNodeId → Option ℕ
@@ -50,14 +59,14 @@ record_at s id = seen s (slot_in s) id
 -- An id's cell has that id and a slot, and a cell with a slot is that of its id: so two ids never share a cell, and no slot is lost.
 pub record HasOwnCells (s : SlotsView) : Type 0 where
   pub own : (id : FullNodeId) (n : ℕ) → number_of s id ≡ Some n
-      → (c : Cell) × (slice_get s.cells n ≡ Some c) × (c.id ≡ id) × IsSome (kept_in c)
-  pub back : (n : ℕ) (c : Cell) → slice_get s.cells n ≡ Some c → IsSome (kept_in c) → number_of s c.id ≡ Some n
+      → (c : CellView) × (slice_get s.cells n ≡ Some c) × (c.id ≡ id) × IsSome (kept_in c)
+  pub back : (n : ℕ) (c : CellView) → slice_get s.cells n ≡ Some c → IsSome (kept_in c) → number_of s c.id ≡ Some n
 
-abbrev pub is_free : Cell → Bool
+abbrev pub is_free : CellView → Bool
 is_free c = is_none (kept_in c)
 
 -- The list has the number of each free cell, once, and no other number.
-pub record IsFreeList (cells : List Cell) (free : List ℕ) : Type 0 where
-  pub empty : (k n : ℕ) → slice_get free k ≡ Some n → (c : Cell) × (slice_get cells n ≡ Some c) × (kept_in c ≡ None)
+pub record IsFreeList (cells : List CellView) (free : List ℕ) : Type 0 where
+  pub empty : (k n : ℕ) → slice_get free k ≡ Some n → (c : CellView) × (slice_get cells n ≡ Some c) × (kept_in c ≡ None)
   pub once : (j k n : ℕ) → slice_get free j ≡ Some n → slice_get free k ≡ Some n → j ≡ k
   pub all : length free ≡ count_by is_free cells

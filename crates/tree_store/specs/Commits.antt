@@ -13,7 +13,7 @@ use Rattle.tree_changes.specs.declared.decision.NodeChange.{NodeChange}
 use Rattle.tree_changes.specs.declared.decision.NodeChange.TheVariants.{Put, Gone}
 use Rattle.tree_changes.specs.declared.decision.Decision.{Decision}
 use Rattle.tree_changes.specs.Changes.{NodeChanges, change_at, entry_data, entry_of}
-use Rattle.tree_store.specs.declared.records.Record.{Record}
+use Rattle.tree_store.specs.Cells.{Record}
 use Rattle.tree_store.specs.StoreViews.{StoreView}
 use Rattle.tree_store.specs.Cells.{SlotsView, slot_at, record_at}
 

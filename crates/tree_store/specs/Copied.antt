@@ -6,7 +6,7 @@ use Rattle.model.specs.declared.FullNodeId.{FullNodeId}
 use Rattle.model.specs.FullIds.{full_cmp}
 use Rattle.model.specs.World.{World, IsNode, HasData}
 use Rattle.tree_changes.specs.LookUps.{IsPlaceOf}
-use Rattle.tree_store.specs.declared.records.Record.{Record}
+use Rattle.tree_store.specs.Cells.{Record}
 use Rattle.tree_store.specs.declared.copies.MirrorRecord.{MirrorRecord}
 
 abbrev pub copy_of : Record → MirrorRecord

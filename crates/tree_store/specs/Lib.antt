@@ -9,4 +9,4 @@ pub mod Shown
 pub mod Overlays
 pub mod Commits
 pub mod Copied
-pub mod Waiting
+pub mod CellLists

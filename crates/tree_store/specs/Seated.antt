@@ -4,7 +4,7 @@ use Rattle.std.specs.Option.{option_map}
 use Rattle.model.specs.declared.FullNodeId.{FullNodeId}
 use Rattle.model.specs.World.{World, data_of}
 use Rattle.tree_changes.specs.LookUps.{IsPlaceOf}
-use Rattle.tree_store.specs.declared.records.Record.{Record}
+use Rattle.tree_store.specs.Cells.{Record}
 use Rattle.tree_store.specs.Cells.{SlotsView, number_of, id_in, seen}
 
 -- The cells show this world, where `see` tells what is seen in the cell with a number: an id's cell has that id, and in it are seen the

@@ -1,33 +1,23 @@
-//! Cells by number: each keeps the slot of one id, or is free. An index gives the number of an id's cell.
-ghost use Rattle.std.specs.Prelude.{◌≡◌, ◌≢◌, ◌<◌, ◌≤◌, ◌^◌, ℕ, length, slice_get, option_copied, Some, None, is_some, IsSome, IsTrue, cond, IfOk, OnOk, OnErr};
+//! The slots of nodes by id: an index gives the number of an id's cell.
+ghost use Rattle.std.specs.Prelude.{◌≡◌, ◌≢◌, ◌<◌, ◌≤◌, ◌^◌, ◌++◌, ◌∷◌, [], ℕ, length, slice_get, option_map, Some, None, is_some, IsSome, IsTrue, cond, IfOk, OnOk, OnErr};
 ghost use Rattle.std.specs.BTreeMap.{is_at};
 ghost use Rattle.std.specs.Map.{keys_of};
 ghost use Rattle.std.specs.Vec.{vec_len, vec_capacity};
 ghost use Rattle.model.specs.declared.FullNodeId.{FullNodeId};
 ghost use Rattle.model.specs.FullIds.{full_cmp};
-ghost use Rattle.tree_changes.specs.Changes.{entry_data};
 ghost use Rattle.tree_changes.specs.declared.decision.NodeChange.TheVariants.{Put};
-ghost use Rattle.tree_store.specs.Cells.{no_slots, kept_in, number_of, slot_at, record_at, record_in, HasOwnCells};
+ghost use Rattle.tree_store.specs.Cells.{no_slots, number_of, slot_at, record_at, HasOwnCells, IsFreeList};
+ghost use Rattle.tree_store.specs.CellLists.{record_kept, slots_over};
 ghost use Rattle.tree_store.specs.Commits.{record_moved_to, record_after};
 
+use crate::cell_list::{CellList, MOST, grow};
 use crate::guesses::Guesses;
-use crate::records::Record;
-use model::{FullNodeId, Place, is_same};
-use schema::{Node, NodeId, Role};
+use crate::records::Kept;
+use model::{FullNodeId, Place};
+use schema::{Node, NodeId};
 use std::alloc::{AllocError, Global};
 use std::marker::Model;
-use std::mem;
 use values_by_id::IdIndex;
-
-/// The maximum number of cells. Each has a number of 32 bits, and the greatest such number is left for no cell.
-const MOST: usize = u32::MAX as usize;
-
-/// A cell: the id that it is of, and that id's slot. A free cell has none, and its id means nothing.
-#[derive(Drop)]
-pub(crate) struct Cell {
-    pub(crate) id: FullNodeId,
-    pub(crate) slot: Option<Box<Option<Record>>>,
-}
 
 /// The slots of nodes. An empty slot is one that a commit will fill.
 ///
@@ -36,7 +26,7 @@ pub(crate) struct Cell {
 #[derive(Drop)]
 pub(crate) struct Slots {
     index: IdIndex<u32>,
-    cells: Vec<Cell>,
+    cells: CellList,
     free: Vec<u32>,
     guesses: Guesses,
 }
@@ -58,10 +48,35 @@ impl Slots {
     {
         Slots {
             index: IdIndex::new(alloc),
-            cells: Vec::new(alloc),
+            cells: CellList::new(alloc),
             free: Vec::new(alloc),
             guesses: Guesses::new(alloc),
         }
+    }
+
+    /// The slots of cells whose numbers an index has.
+    ///
+    /// # Errors
+    ///
+    /// Returns `AllocError` if memory runs out.
+    pub(crate) fn of_first(
+        alloc: Global,
+        index: IdIndex<u32>,
+        cells: CellList,
+    ) -> Result<Slots, AllocError>
+        requires own { HasOwnCells (slots_over index cells) }
+        requires bound { length cells.cells < 2 ^ 32 }
+        ensures { IfOk result (λ made. made ≡ slots_over index cells) }
+    {
+        let free = free_numbers(alloc, &cells)?;
+        let mut guesses = Guesses::new(alloc);
+        note_all(&mut guesses, &index, &cells);
+        Ok(Slots {
+            index,
+            cells,
+            free,
+            guesses,
+        })
     }
 
     /// Each id's cell is its own. Only a proof uses this; it computes nothing.
@@ -79,29 +94,28 @@ impl Slots {
         self.index.len()
     }
 
-    /// The record of an id, if there is one.
-    pub(crate) fn record(&self, id: FullNodeId) -> Option<&Record>
-        ensures { option_copied result ≡ record_at self.now id }
+    /// The place and data of an id, if it has a record.
+    pub(crate) fn record(&self, id: FullNodeId) -> Option<Kept<'_>>
+        ensures { option_map record_kept result ≡ record_at self.now id }
     {
         self.find(id)
     }
 
-    /// The record of an id that has one. The search is inlined here, so that nothing is left of its tests of whether there is one; this
+    /// The place and data of an id that has a record. The search is inlined here, so that nothing is left of its tests of whether there is one; this
     /// function isn't, so that walks stay short.
     #[inline(never)]
-    pub(crate) fn known_record(&self, id: FullNodeId) -> &Record
+    pub(crate) fn known_record(&self, id: FullNodeId) -> Kept<'_>
         requires { IsSome (record_at self.now id) }
-        ensures { Some result.now ≡ record_at self.now id }
+        ensures { Some (record_kept result) ≡ record_at self.now id }
     {
         self.find(id).unwrap()
     }
 
     #[inline(always)]
-    fn find(&self, id: FullNodeId) -> Option<&Record>
-        ensures { option_copied result ≡ record_at self.now id }
+    fn find(&self, id: FullNodeId) -> Option<Kept<'_>>
+        ensures { option_map record_kept result ≡ record_at self.now id }
     {
-        let number = self.number(id)?;
-        record_of(self.cells.get(number as usize)?)
+        self.cells.record(self.number(id)?)
     }
 
     /// The number of an id's cell: the one in its row, or a guess that is right, or else the one that the index finds.
@@ -124,10 +138,7 @@ impl Slots {
     fn is_cell_of(&self, number: u32, id: FullNodeId) -> bool
         ensures { IsTrue result → number_of self.now id ≡ Some number }
     {
-        match self.cells.get(number as usize) {
-            Some(cell) => is_same(cell.id, id) && cell.slot.is_some(),
-            None => false,
-        }
+        self.cells.is_of(number, id)
     }
 
     /// The number of an id's cell, as the index finds it. It is never inlined, so that walks stay short.
@@ -164,35 +175,19 @@ impl Slots {
         self.index.ids(alloc)
     }
 
-    /// Makes room for so many cells more, and for no others.
-    ///
-    /// # Errors
-    ///
-    /// Returns `AllocError` if memory runs out.
-    pub(crate) fn reserve(&mut self, count: usize) -> Result<(), AllocError>
-        ensures { self.new ≡ self.old }
-    {
-        self.cells.reserve_exact(count)?;
-        self.free.reserve_exact(count)
-    }
-
-    /// Gives a slot to an id that has none.
+    /// Gives an empty slot to an id that has none.
     ///
     /// # Errors
     ///
     /// Returns `AllocError` if memory runs out, or if there are as many cells as numbers of 32 bits. The slots are then
     /// unchanged.
-    pub(crate) fn add(
-        &mut self,
-        id: FullNodeId,
-        slot: Box<Option<Record>>,
-    ) -> Result<(), AllocError>
+    pub(crate) fn add(&mut self, id: FullNodeId) -> Result<(), AllocError>
         requires { slot_at self.old id ≡ None }
         ensures ok { OnOk result ((q : FullNodeId) →
-            slot_at self.new q ≡ cond (is_at (full_cmp id) q) (Some slot.value) (slot_at self.old q)) }
+            slot_at self.new q ≡ cond (is_at (full_cmp id) q) (Some None) (slot_at self.old q)) }
         ensures err { OnErr result (self.new ≡ self.old) }
     {
-        let number = self.give(id, slot)?;
+        let number = self.give(id)?;
         self.note(id, number);
         Ok(())
     }
@@ -207,42 +202,38 @@ impl Slots {
     }
 
     // gives a cell to an id that has none, and returns its number
-    fn give(&mut self, id: FullNodeId, slot: Box<Option<Record>>) -> Result<u32, AllocError>
+    fn give(&mut self, id: FullNodeId) -> Result<u32, AllocError>
         requires { slot_at self.old id ≡ None }
         ensures ok { OnOk result ((q : FullNodeId) →
-            slot_at self.new q ≡ cond (is_at (full_cmp id) q) (Some slot.value) (slot_at self.old q)) }
+            slot_at self.new q ≡ cond (is_at (full_cmp id) q) (Some None) (slot_at self.old q)) }
         ensures err { OnErr result (self.new ≡ self.old) }
     {
         let Some(number) = self.free.last().copied() else {
-            return self.push(id, slot);
+            return self.push(id);
         };
+        let slot = self.cells.empty_slot(number as usize)?;
         drop(self.index.insert(id, number)?);
-        self.cells[number as usize] = Cell {
-            id,
-            slot: Some(slot),
-        };
+        self.cells.fill(number, id, slot);
         drop(self.free.pop());
         Ok(number)
     }
 
     // gives a new cell to an id that has none, and returns its number
-    fn push(&mut self, id: FullNodeId, slot: Box<Option<Record>>) -> Result<u32, AllocError>
+    fn push(&mut self, id: FullNodeId) -> Result<u32, AllocError>
         requires { slot_at self.old id ≡ None }
         ensures ok { OnOk result ((q : FullNodeId) →
-            slot_at self.new q ≡ cond (is_at (full_cmp id) q) (Some slot.value) (slot_at self.old q)) }
+            slot_at self.new q ≡ cond (is_at (full_cmp id) q) (Some None) (slot_at self.old q)) }
         ensures err { OnErr result (self.new ≡ self.old) }
     {
         let number = self.cells.len();
         if number >= MOST {
             return Err(AllocError);
         }
-        grow(&mut self.cells, number + 1)?;
+        let slot = self.cells.empty_slot(number)?;
+        self.cells.grow(number + 1)?;
         grow(&mut self.free, number + 1)?;
         drop(self.index.insert(id, number as u32)?);
-        let slot = Some(slot);
-        if self.cells.push(Cell { id, slot }).is_err() {
-            unreachable!()
-        }
+        self.cells.push(id, slot);
         Ok(number as u32)
     }
 
@@ -253,7 +244,7 @@ impl Slots {
         let Some(number) = self.index.remove(&id) else {
             return;
         };
-        self.cells[number as usize] = Cell { id, slot: None };
+        self.cells.free(number, id);
         if self.free.push(number).is_err() {
             unreachable!()
         }
@@ -262,7 +253,6 @@ impl Slots {
     /// Sets a node's place and swaps its data with an entry's.
     pub(crate) fn put_node(
         &mut self,
-        alloc: Global,
         nodes: &mut Vec<(NodeId, Node)>,
         id: FullNodeId,
         place: Option<Place>,
@@ -277,7 +267,7 @@ impl Slots {
         ensures count { length nodes.new.items ≡ length nodes.old.items }
     {
         match self.number(id) {
-            Some(number) => put_in(alloc, &mut self.cells[number as usize], nodes, place, entry),
+            Some(number) => self.cells.put(nodes, number, place, entry),
             None => unreachable!(),
         }
     }
@@ -290,114 +280,46 @@ impl Slots {
             ≡ cond (is_at (full_cmp id) q) (Some (record_moved_to place (record_at self.old id))) (slot_at self.old q) }
     {
         match self.number(id) {
-            Some(number) => move_in(&mut self.cells[number as usize], place),
+            Some(number) => self.cells.move_to(number, place),
             None => unreachable!(),
         }
     }
 }
 
-// makes room for so many values in a list: for an eighth more than that, since lists grow by one value at a time
-fn grow<T>(list: &mut Vec<T>, wanted: usize) -> Result<(), AllocError>
-    requires { wanted ≤ 2 ^ 32 }
-    ensures items { list.new.items ≡ list.old.items }
-    ensures kept { vec_capacity list.old ≤ vec_capacity list.new }
-    ensures ok { OnOk result (wanted ≤ vec_capacity list.new) }
+// the numbers of the free cells, with room for those of all
+fn free_numbers(alloc: Global, cells: &CellList) -> Result<Vec<u32>, AllocError>
+    requires { length cells.now.cells < 2 ^ 32 }
+    ensures free { IfOk result (λ free. IsFreeList cells.now.cells free.items) }
+    ensures room { IfOk result (λ free. length cells.now.cells ≤ vec_capacity free) }
 {
-    if wanted <= list.capacity() {
-        return Ok(());
+    let mut free = Vec::new(alloc);
+    free.reserve_exact(cells.len())?;
+    for number in 0..cells.len() {
+        push_free(&mut free, number as u32, cells.is_free(number))?;
     }
-    list.reserve_exact(wanted + wanted / 8 - list.len())
+    Ok(free)
 }
 
-// the record in a cell, if there is one
-fn record_of(cell: &Cell) -> Option<&Record>
-    ensures { option_copied result ≡ record_in (kept_in cell.now) }
+// adds a number to a list if its cell is free
+fn push_free(free: &mut Vec<u32>, number: u32, is_free: bool) -> Result<(), AllocError>
+    ensures ok { OnOk result (free.new.items ≡ cond is_free (free.old.items ++ number ∷ []) free.old.items) }
+    ensures room { vec_capacity free.old ≤ vec_capacity free.new }
 {
-    let slot = cell.slot.as_ref()?;
-    (**slot).as_ref()
-}
-
-// sets the place of what is in a cell and swaps its data with an entry's
-fn put_in(
-    alloc: Global,
-    cell: &mut Cell,
-    nodes: &mut Vec<(NodeId, Node)>,
-    place: Option<Place>,
-    entry: usize,
-)
-    requires slot { IsSome (kept_in cell.old) }
-    requires entry { entry < length nodes.old.items }
-    ensures id { cell.new.id ≡ cell.old.id }
-    ensures slot { kept_in cell.new ≡ Some (record_after nodes.old.items (Put place (Some entry)) (record_in (kept_in cell.old))) }
-    ensures nodes { (k : ℕ) → k ≢ entry → slice_get nodes.new.items k ≡ slice_get nodes.old.items k }
-    ensures count { length nodes.new.items ≡ length nodes.old.items }
-{
-    match &mut cell.slot {
-        Some(slot) => put_record(alloc, &mut **slot, nodes, place, entry),
-        None => unreachable!(),
+    if is_free {
+        free.push(number)?;
     }
+    Ok(())
 }
 
-// sets the place of what is in a slot and swaps its data with an entry's
-fn put_record(
-    alloc: Global,
-    slot: &mut Option<Record>,
-    nodes: &mut Vec<(NodeId, Node)>,
-    place: Option<Place>,
-    entry: usize,
-)
-    requires { entry < length nodes.old.items }
-    ensures slot { slot.new ≡ record_after nodes.old.items (Put place (Some entry)) slot.old }
-    ensures nodes { (k : ℕ) → k ≢ entry → slice_get nodes.new.items k ≡ slice_get nodes.old.items k }
-    ensures count { length nodes.new.items ≡ length nodes.old.items }
-{
-    match slot {
-        Some(record) => {
-            record.place = place;
-            mem::swap(&mut record.node, &mut nodes[entry].1);
-            record.node.note_fit();
-        }
-        None => {
-            let mut node = take_node(nodes, entry, Node::new(alloc, Role::Unknown));
-            node.note_fit();
-            *slot = Some(Record { place, node });
+// notes the numbers of all cells whose ids would be searched
+fn note_all(guesses: &mut Guesses, index: &IdIndex<u32>, cells: &CellList) {
+    let mut searched = 0usize;
+    for cell in cells.as_slice() {
+        if index.get_in_row(&cell.id).is_none() {
+            searched = searched.saturating_add(1);
         }
     }
-}
-
-// takes an entry's node out, and leaves another one in its place
-fn take_node(nodes: &mut Vec<(NodeId, Node)>, entry: usize, other: Node) -> Node
-    requires { entry < length nodes.old.items }
-    ensures node { entry_data nodes.old.items entry ≡ Some result }
-    ensures others { (k : ℕ) → k ≢ entry → slice_get nodes.new.items k ≡ slice_get nodes.old.items k }
-    ensures count { length nodes.new.items ≡ length nodes.old.items }
-{
-    mem::replace(&mut nodes[entry].1, other)
-}
-
-// sets the place of the record in a cell, and returns whether there is one
-fn move_in(cell: &mut Cell, place: Option<Place>) -> bool
-    requires { IsSome (kept_in cell.old) }
-    ensures there { result ≡ is_some (record_in (kept_in cell.old)) }
-    ensures id { cell.new.id ≡ cell.old.id }
-    ensures moved { kept_in cell.new ≡ Some (record_moved_to place (record_in (kept_in cell.old))) }
-{
-    match &mut cell.slot {
-        Some(slot) => move_record(&mut **slot, place),
-        None => unreachable!(),
-    }
-}
-
-// sets a record's place, and returns whether there is one
-fn move_record(slot: &mut Option<Record>, place: Option<Place>) -> bool
-    ensures there { result ≡ is_some slot.old }
-    ensures moved { slot.new ≡ record_moved_to place slot.old }
-{
-    match slot {
-        Some(record) => {
-            record.place = place;
-            true
-        }
-        None => false,
+    if searched > 0 {
+        guesses.note_all(cells.as_slice(), searched);
     }
 }

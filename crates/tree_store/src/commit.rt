@@ -16,11 +16,12 @@ ghost use Rattle.model.specs.declared.FullNodeId.{FullNodeId};
 ghost use Rattle.schema.specs.declared.TreeId.{TreeId};
 
 use crate::cells::Slots;
+use crate::first::first_slots;
 use crate::known::write_known;
 use crate::names::{make_names, take_names_back, write_names};
 use crate::overlay::is_root_index;
 use crate::records::{KnownTree, Tables};
-use crate::slots::{first_slots, make_room, take_back, write_all};
+use crate::slots::{make_room, take_back, write_all};
 use crate::store::Store;
 use schema::{TreeId, TreeInfo, TreeUpdate};
 use std::alloc::{AllocError, Global};
@@ -137,12 +138,7 @@ impl Tables {
             tree_id,
             focus: _,
         } = update;
-        write_all(
-            self.alloc,
-            &mut self.nodes,
-            &mut entries,
-            decision.nodes.as_slice(),
-        );
+        write_all(&mut self.nodes, &mut entries, decision.nodes.as_slice());
         self.write_trees(tree, tree_id, decision, is_new, is_root);
     }
 
@@ -201,7 +197,7 @@ impl Tables {
         ensures err { OnErr result (HasNoSpare self.new.nodes) }
         ensures fewer { OnErr result (HasNoMore self.old.names self.new.names) }
     {
-        make_room(self.alloc, &mut self.nodes, decision.nodes.as_slice())?;
+        make_room(&mut self.nodes, decision.nodes.as_slice())?;
         if make_names(&mut self.names, decision.trees.as_slice()).is_err() {
             take_back(&mut self.nodes, decision.nodes.as_slice());
             return Err(AllocError);

@@ -3,9 +3,9 @@ ghost use Rattle.std.specs.Prelude.{◌≡◌, IfOk, option_map};
 ghost use Rattle.model.specs.declared.FullNodeId.{FullNodeId};
 ghost use Rattle.tree_store.specs.Copied.{IsCopyOf, copy_at, copy_of};
 ghost use Rattle.tree_store.specs.Cells.{record_at};
+ghost use Rattle.tree_store.specs.CellLists.{placed_record};
 
 use crate::cells::Slots;
-use crate::records::Record;
 use crate::store::Store;
 use model::{FullNodeId, Place};
 use schema::Node;
@@ -43,19 +43,16 @@ fn copy_all(alloc: Global, slots: &Slots) -> Result<BTreeMap<FullNodeId, MirrorR
     let mut copies = BTreeMap::new(alloc);
     for id in &ids {
         if let Some(record) = slots.record(*id) {
-            let copy = copy_record(record)?;
+            let copy = copy_record(*record.place, record.node)?;
             drop(copies.insert(*id, copy)?);
         }
     }
     Ok(copies)
 }
 
-fn copy_record(kept: &Record) -> Result<MirrorRecord, AllocError>
-    ensures { IfOk result (λ copy. copy ≡ copy_of kept.now) }
+fn copy_record(place: Option<Place>, node: &Node) -> Result<MirrorRecord, AllocError>
+    ensures { IfOk result (λ copy. copy ≡ copy_of (placed_record place node.now)) }
 {
-    let node = kept.node.clone()?;
-    Ok(MirrorRecord {
-        place: kept.place,
-        node,
-    })
+    let node = node.clone()?;
+    Ok(MirrorRecord { place, node })
 }

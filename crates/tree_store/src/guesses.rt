@@ -1,5 +1,5 @@
 //! Guesses of the numbers of ids' cells.
-use crate::cells::Cell;
+use crate::cell_list::Cell;
 use model::FullNodeId;
 use std::alloc::Global;
 use std::mem;
@@ -54,6 +54,28 @@ impl Guesses {
         }
         self.noted = self.noted.saturating_add(1);
         self.set(id, number);
+    }
+
+    /// Notes all cells, in a list as long as so many that would be searched need. Where two would be noted in one spot, the first is:
+    /// nodes that are above others mostly come before them.
+    pub(crate) fn note_all(&mut self, cells: &[Cell], count: usize) {
+        let mut longer = FIRST;
+        let mut shift = FIRST_SHIFT;
+        for _ in LEAST_SHIFT..FIRST_SHIFT {
+            if longer / 2 > count {
+                break;
+            }
+            longer = longer.saturating_mul(2);
+            shift = shift.saturating_sub(1);
+        }
+        if self.numbers.resize(longer, NONE).is_err() {
+            return;
+        }
+        self.shift = shift;
+        self.noted = count;
+        for (number, cell) in (0..NONE).zip(cells).rev() {
+            self.set(cell.id, number);
+        }
     }
 
     // makes the list twice as long, and notes all cells anew, or if there are many more, puts each guess where it belongs now

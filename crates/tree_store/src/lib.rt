@@ -2,9 +2,11 @@
 //! commit.
 #![tactic(auto)]
 
+mod cell_list;
 mod cells;
 mod commit;
 mod copies;
+mod first;
 mod guesses;
 mod known;
 mod names;

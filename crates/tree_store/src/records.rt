@@ -6,13 +6,6 @@ use std::alloc::Global;
 use std::collections::BTreeMap;
 use tree_changes::ToolkitTexts;
 
-/// The record of a node: its place and its data.
-#[derive(Drop)]
-pub(crate) struct Record {
-    pub(crate) place: Option<Place>,
-    pub(crate) node: Node,
-}
-
 /// A present tree: its root, and the node that it declares focused.
 #[derive(Clone, Copy, Debug, PartialEq, Eq)]
 pub struct PresentTree {

@@ -13,7 +13,7 @@ ghost use Rattle.tree_store.specs.NameRecords.{record_of};
 use crate::names::{
     focus_in, graft_in, index_in, known_name, name_record, present_tree, root_in, tree_in,
 };
-use crate::records::{Kept, PresentTree, Record, Tables};
+use crate::records::{Kept, PresentTree, Tables};
 use model::FullNodeId;
 use schema::{Node, TreeId};
 use std::marker::Model;
@@ -72,7 +72,7 @@ impl Store {
         ensures { option_copied result ≡ data_of self.now.world id }
     {
         let record = self.tables.nodes.record(id)?;
-        Some(&record.node)
+        Some(record.node)
     }
 
     /// A node's place and data.
@@ -82,8 +82,8 @@ impl Store {
     {
         let record = self.tables.nodes.record(id)?;
         Some(NodeRecord {
-            place: record.place,
-            node: &record.node,
+            place: *record.place,
+            node: record.node,
         })
     }
 
@@ -93,8 +93,7 @@ impl Store {
         ensures data { Some result.node.now ≡ data_of self.now.world id }
         ensures place { IsPlaceOf self.now.world id result.place.now }
     {
-        let Record { place, node } = self.tables.nodes.known_record(id);
-        Kept { place, node }
+        self.tables.nodes.known_record(id)
     }
 
     /// A node's place and data, where they are kept.
@@ -102,11 +101,7 @@ impl Store {
         ensures data { option_map (λ r. r.node.now) result ≡ data_of self.now.world id }
         ensures place { IfSome result (λ r. IsPlaceOf self.now.world id r.place.now) }
     {
-        let record = self.tables.nodes.record(id)?;
-        Some(Kept {
-            place: &record.place,
-            node: &record.node,
-        })
+        self.tables.nodes.record(id)
     }
 
     /// The record of a tree id, if it is known or grafted.

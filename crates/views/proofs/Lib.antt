@@ -5,6 +5,7 @@ pub mod Containers
 pub mod DialogAbove
 pub mod Filtering
 pub mod FocusTests
+pub mod Indexed
 pub mod Inheriting
 pub mod MoveSums
 pub mod Missed

@@ -20,6 +20,7 @@ pub mod Descents
 pub mod AllNodes
 pub mod Deepest
 pub mod Controlled
+pub mod Counted
 pub mod Writes
 pub mod LabelCourses
 pub mod LabelWalks

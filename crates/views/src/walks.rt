@@ -1,5 +1,6 @@
 //! Walks over the nodes of a state: over all of them, or over those that a filter shows.
 mod controls;
+mod counts;
 mod course;
 mod deepest;
 mod descendants;

@@ -1,5 +1,5 @@
 //! A small adapter in Rust: it feeds a tree with two updates, and prints what the second changed and what the tree then says.
-use accesskit_proved::{Error, Event, Id, Tree};
+use accesskit_proved::{Error, Event, Id, Refusal, Tree};
 
 const FIRST: &str = "host on
 update root focus=2 root=1
@@ -12,9 +12,9 @@ const SECOND: &str = "update root focus=3\nnode 1 Window label=\"Mail\" children
 const BAD: &str = "update root focus=3\nnode 1 Window children=3,4\nend\n";
 
 fn print_node(tree: &mut Tree, id: Id) -> Result<(), Error> {
-    let role = tree.role(id)?.unwrap_or_default();
-    let label = tree.label(id)?.unwrap_or_default();
-    println!("{}:{} {role} {label}", id.tree, id.node);
+    if let Some(role) = tree.role(id) {
+        println!("{}:{} {role} {}", id.tree, id.node, tree.label(id)?.unwrap_or_default());
+    }
     Ok(())
 }
 
@@ -25,14 +25,14 @@ fn node(id: Option<Id>) -> u64 {
 fn main() -> Result<(), Error> {
     let mut tree = Tree::new()?;
     tree.feed(FIRST)?;
-    if let Err(Error::Refused { rule, node, .. }) = tree.feed(BAD) {
-        println!("refused rule {rule} node {node}");
+    if let Err(Error::Refused { why: Refusal::MissingData(node), .. }) = tree.feed(BAD) {
+        println!("refused rule 3 node {node}");
     }
     if let Err(Error::BadLine(line)) = tree.feed("what\n") {
         println!("bad line {line}");
     }
     tree.feed(SECOND)?;
-    for event in tree.events().unwrap_or_default() {
+    for event in tree.events()? {
         match event {
             Event::Added(id) => println!("added 0 {}", id.node),
             Event::Updated(id) => println!("updated {} {}", id.node, id.node),

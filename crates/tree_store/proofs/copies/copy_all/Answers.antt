@@ -1,6 +1,7 @@
 use Rattle.std.proofs.Common.{drop, ◌+◌, get_or, sym, ap, subst, ◌∙◌}
 use Rattle.std.specs.BTreeMap.{BTreeMap}
-use Rattle.std.specs.Option.{option_copied}
+use Rattle.std.specs.Option.{option_map}
+use Rattle.tree_store.specs.CellLists.{record_kept}
 use Rattle.model.specs.declared.FullNodeId.{FullNodeId}
 use Rattle.tree_store.specs.declared.copies.MirrorRecord.{MirrorRecord}
 use Rattle.tree_store.specs.Copied.{copy_at}
@@ -23,8 +24,8 @@ loop-id-preserved c =
     let left = subst (λ rest. IsCopied slots rest c.loop-id.copies.entries) (step_at ids k d c.loop-id-test.true) c.loop-id.invariant in
     elim c.match-record.branch [
       | in-Some+in_ok-copy+in_ok-insert w ↦ one_copied slots (get_or ids k d) (drop (k + 1) ids) c.loop-id.copies.entries left
-          w.in-Some.record.now w.in_ok-copy.copy c.match-record.copies.entries (sym w.in-Some.ensures) w.in_ok-copy.ensures
+          (record_kept w.in-Some.record) w.in_ok-copy.copy c.match-record.copies.entries (sym w.in-Some.ensures) w.in_ok-copy.ensures
           (λ q. ap (λ (m : BTreeMap FullNodeId MirrorRecord). copy_at m.entries q) w.copies-is ∙ w.in_ok-insert.ensures.updates.0 q)
       | in_default w ↦ subst (λ (m : BTreeMap FullNodeId MirrorRecord). IsCopied slots (drop (k + 1) ids) m.entries) (sym w.copies-is)
-          (skipped slots (get_or ids k d) (drop (k + 1) ids) c.loop-id.copies.entries left (sym c.record.ensures ∙ ap option_copied w.in_default.is))
+          (skipped slots (get_or ids k d) (drop (k + 1) ids) c.loop-id.copies.entries left (sym c.record.ensures ∙ ap (option_map record_kept) w.in_default.is))
     ]
