@@ -29,10 +29,10 @@ use Rattle.tree_plan.specs.declared.verdicts.Found.{Found}
 use Rattle.tree_plan.specs.declared.writing.Group.TheVariants as group
 use Rattle.tree_plan.specs.Passes.{at}
 use Rattle.tree_plan.specs.Verdicts.{Transition, IsFound, Becomes, Verdicts}
-use Rattle.tree_plan.specs.Writing.{told_of, untold_updates, IsMove, AreEvents}
+use Rattle.tree_plan.specs.Writing.{event_of, told_of, untold_updates, IsMove, AreEvents}
 use Rattle.tree_plan.proofs.Adding.{has_entry, has_member}
 use Rattle.tree_plan.proofs.Arrived.{arrived}
-use Rattle.tree_plan.proofs.Listed.{ids_where, is_in, event_of, sorted_where, where_passes, told-where, three_groups, length-both, changes_in, length-changes}
+use Rattle.tree_plan.proofs.Listed.{ids_where, is_in, sorted_where, where_passes, told-where, three_groups, length-both, changes_in, length-changes}
 use Rattle.tree_plan.proofs.Assembled.{is_updated, removed_listed}
 
 module _ (s : Transition) (f : Found) (h : IsFound s f) (work : Work) (is : IsWorkOf s.old s.update s.new work) where

@@ -33,3 +33,4 @@ pub mod OtherData
 pub mod NewsSteps
 pub mod Renewed
 pub mod NewsOnce
+pub mod Walked

@@ -11,15 +11,13 @@ use Rattle.std.specs.BTreeMap.{is_at}
 use Rattle.std.specs.declared.cmp.Ordering.TheVariants.{Less}
 use Rattle.model.specs.declared.FullNodeId.{FullNodeId}
 use Rattle.model.specs.FullIds.{full_cmp}
-use Rattle.model.specs.declared.events.PlanEvent.{PlanEvent}
-use Rattle.model.specs.declared.events.PlanEvent.TheVariants as event
 use Rattle.model.proofs.Members.{contains_none, contains_head, contains_later, contains_cases}
 use Rattle.tree_changes.specs.declared.decision.NodeChange.{NodeChange}
 use Rattle.tree_changes.specs.Changes.{NodeChanges, change_at}
 use Rattle.tree_plan.specs.declared.verdicts.Verdict.{Verdict}
 use Rattle.tree_plan.specs.declared.writing.Group.{Group}
 use Rattle.tree_plan.specs.declared.writing.Group.TheVariants as group
-use Rattle.tree_plan.specs.Writing.{change_of, change_entry, group_of, event_in, told_of}
+use Rattle.tree_plan.specs.Writing.{change_of, change_entry, group_of, event_in, event_of, told_of}
 use Rattle.tree_plan.proofs.IdMaps.{same_key, at_itself}
 
 abbrev pub Entries : Type 0
@@ -49,11 +47,6 @@ same_group group.Removed group.Updated = false
 
 abbrev pub is_in : Group → Verdict → Bool
 is_in g v = same_group (group_of v) g
-
-abbrev pub event_of : Group → FullNodeId → PlanEvent
-event_of group.Added id = event.Added id
-event_of group.Updated id = event.Updated id
-event_of group.Removed id = event.Removed id
 
 abbrev pub has_change : Verdict → Bool
 has_change v = is_some (change_of v)

@@ -14,3 +14,4 @@ pub mod News
 pub mod Climbs
 pub mod Plans
 pub mod Planned
+pub mod Walking

@@ -1,5 +1,5 @@
 -- The lists of a decision.
-use Rattle.std.specs.Prelude.{◌≡◌, ◌≢◌, ◌+◌, ◌*◌, ◌≤◌, length, List, [], ◌∷◌, ◌++◌, Option, Some, None, is_some, option_to_list, if◌then◌else◌, ◌⊎◌}
+use Rattle.std.specs.Prelude.{◌≡◌, ◌≢◌, ◌+◌, ◌*◌, ◌≤◌, length, List, [], ◌∷◌, ◌++◌, Option, Some, None, is_some, option_to_list, if◌then◌else◌, ◌⊎◌, map}
 use Rattle.std.specs.Option.{option_map}
 use Rattle.std.specs.List.{flat_map}
 use Rattle.schema.specs.declared.TreeId.{TreeId}
@@ -18,6 +18,7 @@ use Rattle.tree_plan.specs.declared.passes.Removed.{Removed}
 use Rattle.tree_plan.specs.declared.passes.Focused.{Focused}
 use Rattle.tree_plan.specs.declared.regrafting.Regrafted.{Regrafted}
 use Rattle.tree_plan.specs.declared.verdicts.Found.{Found}
+use Rattle.tree_plan.specs.declared.walking.Walked.{Walked}
 use Rattle.tree_plan.specs.declared.verdicts.Verdict.{Verdict}
 use Rattle.tree_plan.specs.declared.verdicts.Verdict.TheVariants as verdict
 use Rattle.tree_plan.specs.declared.writing.Group.{Group}
@@ -56,17 +57,22 @@ event_in group.Updated group.Removed id = []
 event_in group.Removed group.Added id = []
 event_in group.Removed group.Updated id = []
 
+abbrev pub event_of : Group → FullNodeId → PlanEvent
+event_of group.Added id = event.Added id
+event_of group.Updated id = event.Updated id
+event_of group.Removed id = event.Removed id
+
 -- the events of a group of verdicts
 abbrev pub told_of : Group → FullNodeId × Verdict → List PlanEvent
 told_of g e = event_in (group_of e.1) g e.0
 
--- a focused node, unless there is a verdict on it
-abbrev pub untold_updates : (FullNodeId → Option Verdict) → Option FullNodeId → List PlanEvent
+-- a focused node, unless there is a verdict on it, or a change of it
+abbrev pub untold_updates : {V : Type 0} → (FullNodeId → Option V) → Option FullNodeId → List PlanEvent
 untold_updates verdicts None = []
 untold_updates verdicts (Some id) = if is_some (verdicts id) then [] else event.Updated id ∷ []
 
 -- the events of a moved focus
-abbrev pub IsMove : (FullNodeId → Option Verdict) → Option FullNodeId → Option FullNodeId → List PlanEvent → Type 0
+abbrev pub IsMove : {V : Type 0} → (FullNodeId → Option V) → Option FullNodeId → Option FullNodeId → List PlanEvent → Type 0
 IsMove verdicts before after events =
     ((before ≡ after) × (events ≡ []))
     ⊎ ((before ≢ after) × (events ≡ untold_updates verdicts before ++ untold_updates verdicts after ++ event.FocusMoved before after ∷ []))
@@ -81,6 +87,13 @@ pub record AreEvents (vs : Verdicts) (f : Focused) (events : List PlanEvent) : T
   pub is_move : IsMove (at vs) f.before f.after moved
   pub all : events
       ≡ flat_map (told_of group.Added) vs ++ flat_map (told_of group.Updated) vs ++ moved ++ flat_map (told_of group.Removed) vs
+
+-- the events of what a walk has written and of a moved focus, in order
+pub record AreEventsOf (w : Walked) (f : Focused) (events : List PlanEvent) : Type 0 where
+  pub moved : List PlanEvent
+  pub is_move : IsMove (at w.nodes) f.before f.after moved
+  pub all : events
+      ≡ map (event_of group.Added) w.added.items ++ map (event_of group.Updated) w.updated.items ++ moved ++ map (event_of group.Removed) w.removed.items
 
 -- the record of the update's tree, if it differs from before
 abbrev pub IsOwnPart : TreeRecord → TreeRecord → List TreeRecord → Type 0

@@ -133,6 +133,9 @@ fn count_of_entering(before: &[NodeId], after: &[NodeId]) -> usize {
     count
 }
 
+/// For how many more nodes that enter there is room than for those of one list.
+const BESIDE: usize = 256;
+
 /// How many old children a search for a new one looks at.
 const NEARBY: usize = 64;
 
@@ -262,6 +265,20 @@ impl Comparing {
         Ok(place + 1)
     }
 
+    /// Makes room for the children that enter a list, and with those of a long list for those of others, which are often few.
+    fn make_room(&mut self, lists: &Lists<'_>) -> Result<(), UpdateError>
+        ensures same { self.new ≡ self.old }
+        ensures err { IfErr result (λ e. e ≡ Memory) }
+    {
+        let entering = count_of_entering(lists.before, lists.after);
+        if entering == 0 {
+            return Ok(());
+        }
+        let beside = entering.min(BESIDE);
+        self.entered.reserve(entering.saturating_add(beside))?;
+        Ok(())
+    }
+
     /// Compares a node's child lists, old and new. A pointer into the old list goes along, so that children that have
     /// only shifted are found near it.
     fn compare_lists(&mut self, lists: &Lists<'_>) -> Result<(), UpdateError>
@@ -277,8 +294,7 @@ impl Comparing {
         } }
         ensures err { IfErr result (λ e. e ≡ Memory) }
     {
-        let entering = count_of_entering(lists.before, lists.after);
-        self.entered.reserve(entering)?;
+        self.make_room(lists)?;
         let mut next = 0;
         for index in 0..lists.after.len() {
             next = self.compare_child(lists, index, next)?;

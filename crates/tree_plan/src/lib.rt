@@ -16,6 +16,7 @@ mod regrafting;
 mod removing;
 mod settling;
 mod verdicts;
+mod walking;
 mod writing;
 
 pub use deciding::decide;

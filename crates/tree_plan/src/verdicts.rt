@@ -10,7 +10,7 @@ ghost use Rattle.model.specs.World.{data_of, at_most_one};
 ghost use Rattle.model.specs.Surgery.{Gone};
 ghost use Rattle.tree_changes.specs.declared.error.UpdateError.TheVariants.{Memory};
 
-use crate::passes::{Compared, Named, Opened, Removed};
+use crate::passes::{Arrival, Compared, Named, Opened, Removed};
 use crate::regrafting::Regrafted;
 use model::{FullNodeId, Place};
 use std::alloc::Global;
@@ -49,6 +49,18 @@ impl Found {
     ghost use Rattle.tree_plan.specs.Passes.{at, has};
     ghost use Rattle.tree_plan.specs.Verdicts.{Transition, IsFound, Moves, Becomes, AreSound, Adds};
 
+    /// How many nodes may well change.
+    pub(crate) fn expected_count(&self) -> usize
+        ensures { Ascends self.now.compared.entered }
+    {
+        // beside the update's nodes there are often some that moved to another of them, or those that shifted beside a few new ones
+        let named = self.compared.named.len();
+        let entered = self.compared.entered.len();
+        named
+            .max(entered)
+            .saturating_add(named.min(entered).min(BESIDE))
+    }
+
     /// The place of the named tree's root: at the graft of the tree.
     fn root_place(&self) -> Option<Place>
         ensures { result ≡ option_map (λ graft. (graft, 0)) self.now.opened.record.graft }
@@ -57,13 +69,15 @@ impl Found {
         Some((graft, 0))
     }
 
-    /// The place of a node that moves. The search starts at `near`, where the last one ended.
-    fn other_place(&self, id: FullNodeId, near: &mut usize) -> Option<Option<Place>>
+    /// The place of a node that moves, by the spot that it entered.
+    #[inline(always)]
+    pub(crate) fn place_by(&self, id: FullNodeId, arrival: Option<Arrival>) -> Option<Option<Place>>
         ghost step: { Transition }
-        requires { IsFound step self.now }
+        requires found { IsFound step self.now }
+        requires arrival { arrival ≡ at self.now.compared.entered id }
         ensures { ¬ (Gone step.old step.update id) ⊎ IsSome result → Moves step id result }
     {
-        if let Some(arrival) = self.compared.entered.get_near(id, near) {
+        if let Some(arrival) = arrival {
             let Some(place) = arrival.spot else {
                 return Some(self.root_place());
             };
@@ -115,14 +129,20 @@ impl Found {
         self.told == Some(id)
     }
 
-    /// The verdict on a node with this entry in the update, if it changes or is reported without a change.
-    fn verdict(&self, id: FullNodeId, named: Option<Named>, near: &mut usize) -> Option<Verdict>
+    /// The verdict on a node with this entry in the update that moves to this place, if it changes or is reported without a change.
+    #[inline(always)]
+    pub(crate) fn verdict_by(
+        &self,
+        id: FullNodeId,
+        named: Option<Named>,
+        moved: Option<Option<Place>>,
+    ) -> Option<Verdict>
         ghost step: { Transition }
         requires found { IsFound step self.now }
         requires named { named ≡ at self.now.compared.named id }
+        requires moves { ¬ (Gone step.old step.update id) ⊎ IsSome moved → Moves step id moved }
         ensures { Becomes step id result }
     {
-        let moved = self.other_place(id, near);
         if self.is_removed(id, named, moved) {
             return Some(Verdict::Removed);
         }
@@ -139,6 +159,18 @@ impl Found {
             return Some(Verdict::Renewed { place, entry });
         }
         self.moved_or_told(id, moved)
+    }
+
+    /// The verdict on a node with this entry in the update, if there is one. What it entered is searched for from `near` on.
+    fn verdict(&self, id: FullNodeId, named: Option<Named>, near: &mut usize) -> Option<Verdict>
+        ghost step: { Transition }
+        requires found { IsFound step self.now }
+        requires named { named ≡ at self.now.compared.named id }
+        ensures { Becomes step id result }
+    {
+        let arrival = self.compared.entered.get_near(id, near);
+        let moved = self.place_by(id, arrival);
+        self.verdict_by(id, named, moved)
     }
 
     /// Adds the verdict on a node with this entry in the update, if there is a verdict.
@@ -285,13 +317,7 @@ impl Found {
         ensures gone { OnOk result (IsStrictlySortedBy full_cmp self.now.removed.gone.keys) }
         ensures err { IfErr result (λ e. e ≡ Memory) }
     {
-        // beside the update's nodes there are often some that moved to another of them, or those that shifted beside a few new ones
-        let named = self.compared.named.len();
-        let entered = self.compared.entered.len();
-        let count = named
-            .max(entered)
-            .saturating_add(named.min(entered).min(BESIDE));
-        let mut verdicts = RowList::with_capacity(alloc, count.saturating_add(1))?;
+        let mut verdicts = RowList::with_capacity(alloc, self.expected_count().saturating_add(1))?;
         self.judge_named(&mut verdicts)?;
         self.judge_entered(&mut verdicts)?;
         self.judge_moved_in(&mut verdicts)?;

@@ -1,5 +1,5 @@
 //! The decision, from what the passes found: its changes, and its events in order.
-ghost use Rattle.std.specs.Prelude.{◌≡◌, ◌++◌, [], List, IfOk, IfErr, OnOk, IsTrue, ◌↔◌, Some, None, option_to_list, if◌then◌else◌};
+ghost use Rattle.std.specs.Prelude.{◌≡◌, ◌++◌, [], List, map, IfOk, IfErr, OnOk, IsTrue, ◌↔◌, Some, None, option_to_list, if◌then◌else◌};
 ghost use Rattle.std.specs.List.{flat_map};
 ghost use Rattle.values_by_id.specs.Rows.{Ascends};
 ghost use Rattle.schema.specs.UpdateData.{update_data};
@@ -8,7 +8,7 @@ ghost use Rattle.model.specs.declared.events.PlanEvent.{PlanEvent};
 ghost use Rattle.tree_changes.specs.declared.error.UpdateError.TheVariants.{Memory};
 ghost use Rattle.tree_plan.specs.declared.verdicts.Verdict.{Verdict};
 ghost use Rattle.tree_plan.specs.Passes.{at, IsFocusing};
-ghost use Rattle.tree_plan.specs.Writing.{change_of, change_entry, group_of, told_of, untold_updates, IsMove, event_in, AreEvents, AreTrees, IsSmall, own_record};
+ghost use Rattle.tree_plan.specs.Writing.{change_of, change_entry, group_of, told_of, untold_updates, IsMove, event_in, event_of, AreEvents, AreEventsOf, AreTrees, IsSmall, own_record};
 ghost use Rattle.model.specs.Differences.{told_root};
 ghost use Rattle.model.specs.Work.{Work, IsWorkOf};
 ghost use Rattle.tree_changes.specs.Changes.{overlaid_world};
@@ -17,6 +17,7 @@ ghost use Rattle.tree_plan.specs.Verdicts.{Transition, IsFound};
 
 use crate::passes::{Focused, Opened};
 use crate::verdicts::{Found, Verdict};
+use crate::walking::Walked;
 use model::{FullNodeId, PlanEvent};
 use schema::TreeUpdate;
 use std::alloc::Global;
@@ -33,7 +34,8 @@ pub(crate) enum Group {
 
 impl Verdict {
     /// The change of the node's record, if there is one.
-    fn change(self) -> Option<NodeChange>
+    #[inline(always)]
+    pub(crate) fn change(self) -> Option<NodeChange>
         ensures { result ≡ change_of self }
     {
         match self {
@@ -51,7 +53,8 @@ impl Verdict {
         }
     }
 
-    fn group(self) -> Group
+    #[inline(always)]
+    pub(crate) fn group(self) -> Group
         ensures { result ≡ group_of self }
     {
         match self {
@@ -120,8 +123,8 @@ fn push_group(
 }
 
 /// Adds that a focused node is updated, unless it is reported anyway.
-fn push_untold(
-    verdicts: &SortedRows<Verdict>,
+fn push_untold<V: Copy + Drop>(
+    verdicts: &SortedRows<V>,
     focus: Option<FullNodeId>,
     events: &mut Vec<PlanEvent>,
 ) -> Result<(), UpdateError>
@@ -137,8 +140,8 @@ fn push_untold(
 }
 
 /// Adds the events of a moved focus.
-fn push_move(
-    verdicts: &SortedRows<Verdict>,
+fn push_move<V: Copy + Drop>(
+    verdicts: &SortedRows<V>,
     before: Option<FullNodeId>,
     after: Option<FullNodeId>,
     events: &mut Vec<PlanEvent>,
@@ -176,6 +179,57 @@ fn told_events(
     push_group(verdicts, Group::Updated, &mut events)?;
     push_move(verdicts, focused.before, focused.after, &mut events)?;
     push_group(verdicts, Group::Removed, &mut events)?;
+    Ok(events)
+}
+
+/// The event of a node in a group.
+#[inline(always)]
+fn event_of(group: Group, id: FullNodeId) -> PlanEvent
+    ensures { result ≡ event_of group id }
+{
+    match group {
+        Group::Added => PlanEvent::Added(id),
+        Group::Updated => PlanEvent::Updated(id),
+        Group::Removed => PlanEvent::Removed(id),
+    }
+}
+
+/// Adds the events of nodes in a group.
+#[inline(always)]
+fn push_each(
+    ids: &[FullNodeId],
+    group: Group,
+    events: &mut Vec<PlanEvent>,
+) -> Result<(), UpdateError>
+    ensures ok { OnOk result (events.new.items ≡ events.old.items ++ map (event_of group) ids.now) }
+    ensures err { IfErr result (λ e. e ≡ Memory) }
+{
+    for id in ids {
+        events.push(event_of(group, *id))?;
+    }
+    Ok(())
+}
+
+/// The events of a walk, in order. The first update has no events.
+fn walked_events(
+    alloc: Global,
+    is_first: bool,
+    walked: &Walked,
+    focused: &Focused,
+) -> Result<Vec<PlanEvent>, UpdateError>
+    ensures quiet { IfOk result (λ events. IsTrue is_first → events.items ≡ []) }
+    ensures told { IfOk result (λ events. ¬ (IsTrue is_first) → AreEventsOf walked.now focused.now events.items) }
+    ensures err { IfErr result (λ e. e ≡ Memory) }
+{
+    if is_first {
+        return Ok(Vec::new(alloc));
+    }
+    // one for each change, and up to three for a focus that moved
+    let mut events = Vec::with_capacity(alloc, walked.nodes.len().saturating_add(3))?;
+    push_each(&walked.added, Group::Added, &mut events)?;
+    push_each(&walked.updated, Group::Updated, &mut events)?;
+    push_move(&walked.nodes, focused.before, focused.after, &mut events)?;
+    push_each(&walked.removed, Group::Removed, &mut events)?;
     Ok(events)
 }
 
@@ -255,10 +309,23 @@ pub(crate) fn write(
         (work : Work) → IsWorkOf step.old step.update step.new work → IsSmall found.compared found.removed found.regrafted d work) }
     ensures err { IfErr result (λ e. e ≡ Memory) }
 {
-    let verdicts = found.verdicts(alloc)?;
     let own = own_record(&found.opened, update);
     let trees = tree_changes(alloc, &found, own)?;
     let is_first = found.opened.is_first;
+    let walk = found.walked(alloc)?;
+    if let Some(walked) = walk {
+        drop(found);
+        let told = walked_events(alloc, is_first, &walked, focused)?;
+        let changes = walked.nodes.into_entries();
+        return Ok(Decision {
+            nodes: changes,
+            trees,
+            events: told,
+            focus: focused.effective,
+            looked,
+        });
+    }
+    let verdicts = found.verdicts(alloc)?;
     drop(found);
     let nodes = node_changes(alloc, &verdicts)?;
     let events = told_events(alloc, is_first, &verdicts, focused)?;

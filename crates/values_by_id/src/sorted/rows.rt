@@ -1,12 +1,12 @@
 //! Values by id that ascend by id.
-ghost use Rattle.std.specs.Prelude.{◌≡◌, [], length, Some, IfSome};
+ghost use Rattle.std.specs.Prelude.{◌≡◌, [], length, Some, None, IfSome, IsTrue};
 ghost use Rattle.std.specs.Option.{is_some, option_copied};
 ghost use Rattle.std.specs.BTreeMap.{is_at};
 ghost use Rattle.std.specs.Map.{set_value};
 ghost use Rattle.model.specs.FullIds.{full_cmp};
 ghost use Rattle.values_by_id.specs.Rows.{Ascends, IsPlace, row_at};
 
-use super::order::place;
+use super::order::{is_past, is_reached, place};
 use model::FullNodeId;
 use std::alloc::Global;
 use std::marker::Model;
@@ -76,6 +76,23 @@ impl<V: Copy + Drop> SortedRows<V> {
             return Some(entry.1);
         }
         None
+    }
+
+    /// Whether an id has no entry, and one at this index would keep the order. False if it isn't known without a search.
+    #[inline(always)]
+    pub fn lacks_at(&self, id: FullNodeId, index: usize) -> bool
+        ensures { IsTrue result → row_at self.now id ≡ None }
+    {
+        if index > self.items.len() {
+            return false;
+        }
+        if !is_past(&self.items, id, index) {
+            return false;
+        }
+        if !is_reached(&self.items, id, index) {
+            return false;
+        }
+        self.value_at(id, index).is_none()
     }
 
     /// The value at an id. The search starts at the index `near`, and `near` is set to the entry after the one found,

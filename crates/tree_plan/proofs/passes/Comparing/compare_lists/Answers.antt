@@ -12,12 +12,12 @@ pub loop-index-init : goal.loop-index-init
 loop-index-init c =
     let lists = c.args.lists.now in
     let a : Comparing = c.args.self.now in
-    let same : c.reserve.new.self ≡ a.entered = c.reserve.ensures in
+    let same : c.make_room.new.self ≡ a = c.make_room.ensures.same in
     record {
-      left = subst (λ (es : Arrivals). Leaves lists.parent (ids_before lists) (ids_after lists) 0 0 a.left a.left a.entered es) (sym same) (lists_none lists 0 a);
-      entered = subst (λ (es : Arrivals). Gathers (OnlyInBefore 0 lists.parent (ids_after lists) (ids_before lists)) (spots_of a.entered) (spots_of es)) (sym same)
+      left = subst (λ (x : Comparing). Leaves lists.parent (ids_before lists) (ids_after lists) 0 0 a.left x.left a.entered x.entered) (sym same) (lists_none lists 0 a);
+      entered = subst (λ (x : Comparing). Gathers (OnlyInBefore 0 lists.parent (ids_after lists) (ids_before lists)) (spots_of a.entered) (spots_of x.entered)) (sym same)
           (gathers_none (OnlyInBefore 0 lists.parent (ids_after lists) (ids_before lists)) (spots_of a.entered) (none_at_zero lists.parent (ids_after lists) (ids_before lists)));
-      rest = refl;
+      rest = subst (λ (x : Comparing). x ≡ (let y : Comparing = record a { left = x.left; entered = x.entered } in y)) (sym same) refl;
     }
 
 pub loop-index-preserved : goal.loop-index-preserved

@@ -1,10 +1,7 @@
 use Rattle.tree_plan.proofs.verdicts.Found.verdict.Given as goal
 
-abbrev pub ghost-other_place : goal.ghost-other_place
-ghost-other_place g a = g.step
+abbrev pub ghost-place_by : goal.ghost-place_by
+ghost-place_by g a = g.step
 
-abbrev pub ghost-moved_or_told : goal.ghost-moved_or_told
-ghost-moved_or_told g a = g.step
-
-abbrev pub ghost-is_removed : goal.ghost-is_removed
-ghost-is_removed g a = g.step
+abbrev pub ghost-verdict_by : goal.ghost-verdict_by
+ghost-verdict_by g a = g.step

@@ -1,0 +1,4 @@
+use Rattle.tree_plan.proofs.verdicts.Found.write_arrival.Given as goal
+
+abbrev pub ghost-write_node : goal.ghost-write_node
+ghost-write_node g a = g.step
