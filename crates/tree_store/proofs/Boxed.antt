@@ -1,4 +1,4 @@
--- One more of an update's nodes waits in its box.
+-- The values of a list after one of them is set, and the last one of a list.
 use Rattle.std.proofs.Common.{◌≡◌, ◌≢◌, ◌<◌, ◌≤◌, ℕ, length, List, [], ◌∷◌, ◌++◌, Some, ap, sym, ◌∙◌, slice_get, slice_set, arith, length-append, subst, ⊎_elim}
 use Rattle.std.proofs.Math.Seq.{get_or-append_seam}
 use Rattle.std.proofs.lemmas.Option.{slice_get_past, slice_get-get_or}
