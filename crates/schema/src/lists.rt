@@ -236,14 +236,6 @@ impl Node {
         self.marks.has(Mark::TreeId).then_some(self.plain.tree_id)
     }
 
-    /// Whether a tree is grafted here.
-    #[inline(always)]
-    pub fn is_graft(&self) -> bool
-        ensures { result ≡ is_some self.now.tree_id }
-    {
-        self.marks.has(Mark::TreeId)
-    }
-
     /// Sets [`Node::tree_id`].
     pub fn set_tree_id(&mut self, value: TreeId)
         ensures { self.new ≡ record self.old { tree_id = Some value } }
@@ -257,5 +249,13 @@ impl Node {
         ensures { self.new ≡ record self.old { tree_id = None } }
     {
         self.marks.remove(Mark::TreeId);
+    }
+
+    /// Whether a tree is grafted here.
+    #[inline(always)]
+    pub fn is_graft(&self) -> bool
+        ensures { result ≡ is_some self.now.tree_id }
+    {
+        self.marks.has(Mark::TreeId)
     }
 }

@@ -1,0 +1,1 @@
+"""What tools/fields writes from the rows of fields.table."""
