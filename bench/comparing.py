@@ -1,13 +1,13 @@
 """Makes the rows of the tables: what is measured here, of the Rust crate as cargo builds it and as one module, and of the memory
 work alone, and whether what is to be reached is."""
 
-from figures import HOSTILE_IDS, SENT_IDS, SIZES, TOLD_SIZE, words
+from figures import HOSTILE_IDS, SENT_IDS, TOLD_SIZE, words
 from measuring import count_ahead
 from scripts import script_of
 from tables import quotient, sized, three_digits, told, verdict
 
 WORK_HEADS = ["work", "here", "Rust, by default", "Rust, one module", "ratio to that", "to reach", "reached", "seconds, as ratio"]
-LOAD_HEADS = ["load", "ids", "here", "Rust, by default", "Rust, one module", "ratio to that", "memory work alone", "to reach", "reached"]
+LOAD_HEADS = ["load", "ids", "here", "Rust, by default", "Rust, one module", "ratio to that", "memory work alone", "to reach", "reached", "seconds, as ratio"]
 SIZE_HEADS = ["load", "ids", "here", "growth", "Rust's", "ratios", "to reach", "reached"]
 GROWTH_HEADS = ["work", "sizes", "here", "growth", "Rust's", "to reach", "reached"]
 SPOKEN_HEADS = ["what `speak` reads", "sizes", "here", "greatest growth", "to reach", "reached"]
@@ -77,7 +77,7 @@ class Bench:
     def of_crates(self, work):
         """The Rust crate's figures of a work, as cargo builds it and as one module, and the mark of those that are kept."""
         if not work.is_common():
-            return work.crate, None, "*"
+            return work.crate, work.one_module, "*"
         if self.crates:
             self.kept.figures[work.key()] = [self.figure(crate, work) for crate in self.crates]
         by_default, one_module = self.kept.figures.get(work.key(), [None, None])
@@ -123,12 +123,13 @@ class Bench:
             _, ratio, cells = self.compared(work)
             bare = told(self.figure(self.bare, work), work.measure) if work.is_in_bare else "-"
             to_reach = f"{work.ratio:.2f}" if work.ratio else "-"
-            yield [load.load, ids, *cells, bare, to_reach, self.is_reached(work.work, ratio, work.ratio, work.is_reached)]
+            reached = self.is_reached(work.work, ratio, work.ratio, work.is_reached)
+            yield [load.load, ids, *cells, bare, to_reach, reached, self.seconds(work)]
 
     def size_rows(self, load):
         """The cells of a load's growth, for each kind of ids."""
         for ids in SENT_IDS if load.growth else []:
-            works = [load.at(ids, size) for size in SIZES]
+            works = [load.at(ids, size) for size in load.sizes]
             here = [self.figure(self.works, work) for work in works]
             of_crates = [self.of_crates(work)[1] for work in works]
             growth = here[-1] / here[0]

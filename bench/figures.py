@@ -32,9 +32,10 @@ class Work:
     less: str = ""
     # What is printed, over the count.
     meets: int | None = None
-    # Whether the Rust crate's programs do this work, and if not, its figure where another program has measured it.
+    # Whether the Rust crate's programs do this work, and if not, its figure where another program has measured it, and that as one module.
     is_in_crate: bool = True
     crate: float | None = None
+    one_module: float | None = None
     # Whether the program of the memory work alone does this work.
     is_in_bare: bool = False
     # To be reached: a ratio to the figure of the Rust crate as one module, or a figure.
@@ -98,8 +99,14 @@ class Load:
     work: str
     counts: tuple = (1, 2)
     is_in_bare: bool = False
+    # The Rust crate's figures as one module, for each kind of ids, where its programs don't do the load but another program has.
+    one_module: dict = field(default_factory=dict)
     ratio: dict = field(default_factory=dict)
     growth: float | None = None
+    # The sizes that the growth is of.
+    sizes: list = field(default_factory=lambda: SIZES)
+    # How often the work is done where seconds are compared.
+    seconds: int | None = None
     # The ids for which the ratio, and the growth, has been reached.
     reached: list = field(default_factory=list)
     flat: list = field(default_factory=list)
@@ -110,14 +117,17 @@ class Load:
             f"{self.load}, {ids} ids",
             f"{ids} {self.work} {size} {{count}}",
             counts=self.counts,
+            is_in_crate=not self.one_module,
+            one_module=self.one_module.get(ids),
             is_in_bare=self.is_in_bare and size == TOLD_SIZE,
             ratio=self.ratio.get(ids),
             is_reached=ids in self.reached,
+            seconds=self.seconds,
         )
 
     def works(self):
         """The work with each kind of ids, at the sizes that are told."""
-        return [self.at(ids, size) for ids in SENT_IDS for size in (SIZES if self.growth else [TOLD_SIZE])]
+        return [self.at(ids, size) for ids in SENT_IDS for size in (self.sizes if self.growth else [TOLD_SIZE])]
 
 
 @dataclass

@@ -52,9 +52,39 @@ impl Ids {
 
     /// The ids of the nodes with the numbers from `first` on, without `past`.
     pub fn range(self, alloc: Global, first: u64, past: u64) -> Result<Vec<NodeId>, AllocError> {
-        let mut ids = Vec::with_capacity(alloc, past.saturating_sub(first) as usize)?;
-        for number in first..past {
-            ids.push(self.id(number))?;
+        self.steps(alloc, first, past.saturating_sub(first), 1)
+    }
+
+    /// The ids of so many nodes, of which each has a number by `step` greater than the one before. The kind of ids is looked at
+    /// once, not for each id: an application has one kind.
+    pub fn steps(
+        self,
+        alloc: Global,
+        first: u64,
+        count: u64,
+        step: u64,
+    ) -> Result<Vec<NodeId>, AllocError> {
+        let mut ids = Vec::with_capacity(alloc, count as usize)?;
+        let mut number = first;
+        match self {
+            Ids::Counted => {
+                for _ in 0..count {
+                    ids.push(NodeId(number))?;
+                    number = number.wrapping_add(step);
+                }
+            }
+            Ids::Spread => {
+                for _ in 0..count {
+                    ids.push(NodeId(hash_of(number)))?;
+                    number = number.wrapping_add(step);
+                }
+            }
+            _ => {
+                for _ in 0..count {
+                    ids.push(self.id(number))?;
+                    number = number.wrapping_add(step);
+                }
+            }
         }
         Ok(ids)
     }

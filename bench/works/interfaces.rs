@@ -21,6 +21,8 @@ const FAN_OUT: u64 = 10;
 /// How many cells a row of the list has, and by how many rows the list goes on.
 const CELLS: u64 = 2;
 
+const ROW: u64 = CELLS + 1;
+
 const SCROLLED: u64 = 20;
 
 /// How many characters a run of the text has, and where in it the caret is.
@@ -61,7 +63,7 @@ fn labelled(alloc: Global, role: Role, turn: u64) -> Result<Node, AllocError> {
 /// A node whose children have the numbers from `first` on, without `past`.
 fn parent(alloc: Global, ids: Ids, role: Role, first: u64, past: u64) -> Result<Node, AllocError> {
     let mut node = Node::new(alloc, role);
-    node.set_children(&ids.range(alloc, first, past)?)?;
+    node.take_children(ids.range(alloc, first, past)?);
     Ok(node)
 }
 
@@ -91,6 +93,17 @@ pub fn flat(alloc: Global, ids: Ids, buttons: u64) -> Result<TreeUpdate, AllocEr
     nodes.push((ids.id(0), group(alloc, ids, 1, past)?))?;
     push_buttons(alloc, ids, 1, past, &mut nodes)?;
     Ok(update(ids, nodes, true))
+}
+
+/// The same, each button with fields that few nodes have: a level, a place in a set, and how many that has.
+pub fn flat_with_places(alloc: Global, ids: Ids, buttons: u64) -> Result<TreeUpdate, AllocError> {
+    let mut update = flat(alloc, ids, buttons)?;
+    for (index, (_, node)) in update.nodes.iter_mut().enumerate().skip(1) {
+        node.set_level(1);
+        node.set_position_in_set(index);
+        node.set_size_of_set(buttons as usize);
+    }
+    Ok(update)
 }
 
 /// The button in the middle gets the label of the turn.
@@ -162,7 +175,7 @@ fn framed(alloc: Global, ids: Ids, number: u64, count: u64, turn: u64) -> Result
     node.set_bounds(Rect::new(0, top, 10, top.saturating_add(1)));
     let first = number.saturating_mul(FAN_OUT).saturating_add(1).min(count);
     let past = first.saturating_add(FAN_OUT).min(count);
-    node.set_children(&ids.range(alloc, first, past)?)?;
+    node.take_children(ids.range(alloc, first, past)?);
     Ok(node)
 }
 
@@ -177,7 +190,7 @@ pub fn frame(alloc: Global, ids: Ids, count: u64, turn: u64) -> Result<TreeUpdat
 
 /// The number of a row of the list, after which its cells come.
 fn row_number(row: u64) -> u64 {
-    row.saturating_mul(CELLS + 1).saturating_add(2)
+    row.saturating_mul(ROW).saturating_add(2)
 }
 
 /// Adds the rows from `first` on, without `past`, each with its cells.
@@ -205,12 +218,9 @@ fn push_rows(
 
 /// The list, of which the rows from `first` on are shown, without `past`.
 fn shown_list(alloc: Global, ids: Ids, first: u64, past: u64) -> Result<Node, AllocError> {
-    let mut rows = Vec::with_capacity(alloc, past.saturating_sub(first) as usize)?;
-    for row in first..past {
-        rows.push(ids.id(row_number(row)))?;
-    }
+    let rows = ids.steps(alloc, row_number(first), past.saturating_sub(first), ROW)?;
     let mut node = Node::new(alloc, Role::List);
-    node.set_children(&rows)?;
+    node.take_children(rows);
     Ok(node)
 }
 
@@ -244,8 +254,8 @@ fn run(alloc: Global, characters: usize) -> Result<Node, AllocError> {
     value.push(' ')?;
     lengths.push(1u16)?;
     let mut node = Node::new(alloc, Role::TextRun);
-    node.set_value(&value)?;
-    node.set_character_lengths(&lengths)?;
+    node.take_value(value)?;
+    node.take_character_lengths(lengths)?;
     node.set_word_starts(&[0])?;
     node.set_text_direction(TextDirection::LeftToRight);
     Ok(node)

@@ -1,6 +1,6 @@
 //! Loads as real interfaces send them, whichever ids their nodes have: what is sent stands in `interfaces`.
 //!
-//! `build` makes a flat tree of its update, and drops it. `relabel` gives a leaf of such a tree another label, and `move` moves
+//! `build` makes a flat tree of its update, and drops it; in that of `build-placed` each button has a place in a set. `relabel` gives a leaf of such a tree another label, and `move` moves
 //! a group of 1,000 nodes to and fro between two parents. `frame` sends all nodes again, of which a hundredth has changed.
 //! `scroll` has a list go on by 20 rows. `type` types a letter into a text, and takes it away; `type-line` then asks for the
 //! line around the caret, by the field, and `type-line-once` by its text. How many events there were, and what was read, is
@@ -10,7 +10,7 @@
 
 use crate::ids::Ids;
 use crate::interfaces::{
-    flat, frame, list, regrouped, relabelled, scrolled, text, typed, with_group,
+    flat, flat_with_places, frame, list, regrouped, relabelled, scrolled, text, typed, with_group,
 };
 use crate::updates::Events;
 use crate::walks::{preorder, shown};
@@ -132,15 +132,36 @@ fn make(alloc: Global, sent: Sent, ids: Ids, nodes: u64, count: u64) -> Result<u
     Ok(0)
 }
 
-/// Makes the tree so many times, or only its update.
-fn build(alloc: Global, ids: Ids, nodes: u64, count: u64, is_sent: bool) -> anyhow::Result<u64> {
-    for _ in 0..count {
-        let update = flat(alloc, ids, nodes)?;
-        if is_sent {
-            drop(Tree::new(alloc, update, true)?);
+/// A flat tree: with buttons that have a label alone, or with places in a set too.
+#[derive(Clone, Copy)]
+enum Flat {
+    Plain,
+    WithPlaces,
+}
+
+impl Flat {
+    fn update(self, alloc: Global, ids: Ids, nodes: u64) -> Result<TreeUpdate, AllocError> {
+        match self {
+            Flat::Plain => flat(alloc, ids, nodes),
+            Flat::WithPlaces => flat_with_places(alloc, ids, nodes),
         }
     }
-    Ok(0)
+
+    /// Makes the tree so many times.
+    fn build(self, alloc: Global, ids: Ids, nodes: u64, count: u64) -> anyhow::Result<u64> {
+        for _ in 0..count {
+            drop(Tree::new(alloc, self.update(alloc, ids, nodes)?, true)?);
+        }
+        Ok(0)
+    }
+
+    /// Makes only its update, so many times.
+    fn make(self, alloc: Global, ids: Ids, nodes: u64, count: u64) -> anyhow::Result<u64> {
+        for _ in 0..count {
+            drop(self.update(alloc, ids, nodes)?);
+        }
+        Ok(0)
+    }
 }
 
 /// How many nodes are above all nodes, each counted from each of those below it.
@@ -220,8 +241,10 @@ fn walk(alloc: Global, work: &str, ids: Ids, nodes: u64, count: u64) -> anyhow::
 /// Does the work so many times.
 pub fn sum(alloc: Global, work: &str, ids: Ids, nodes: u64, count: u64) -> anyhow::Result<u64> {
     match work {
-        "build" => build(alloc, ids, nodes, count, true),
-        "build-made" => build(alloc, ids, nodes, count, false),
+        "build" => Flat::Plain.build(alloc, ids, nodes, count),
+        "build-made" => Flat::Plain.make(alloc, ids, nodes, count),
+        "build-placed" => Flat::WithPlaces.build(alloc, ids, nodes, count),
+        "build-placed-made" => Flat::WithPlaces.make(alloc, ids, nodes, count),
         "relabel" => send(alloc, Sent::Relabelled, Read::Nothing, ids, nodes, count),
         "relabel-made" => Ok(make(alloc, Sent::Relabelled, ids, nodes, count)?),
         "move" => send(alloc, Sent::Moved, Read::Nothing, ids, nodes, count),
