@@ -1,6 +1,7 @@
 /* What a call costs a program in C: from_c WORK TIMES NODES makes a window with so many nodes, calls so often, and prints a sum of what it
  * met. The difference of two runs under callgrind, by that of their TIMES, is the cost of a call. */
 #include "accesskit_proved.h"
+#include <pthread.h>
 #include <stdio.h>
 #include <stdlib.h>
 #include <string.h>
@@ -23,10 +24,10 @@ static char *first_lines(unsigned long nodes, const char *others, size_t *length
 }
 
 static const char *const works[] = {"none", "count", "root", "parent", "flag", "label",
-                                    "bounds", "filter", "move", "hit", "relabel", "build", "no_node",
+                                    "bounds", "filter", "move", "locked", "hit", "relabel", "build", "no_node",
                                     "field_text", "field_ids", "field_id", "field_flag", "field_choice", "field_number", "field_count", "field_numbers",
                                     "field_units", "field_actions", "field_rect", "field_translation", "field_selection", "field_color", "field_decoration"};
-enum { NONE, COUNT, ROOT, PARENT, FLAG, LABEL, BOUNDS, FILTER, MOVE, HIT, RELABEL, BUILD, NO_NODE, F_TEXT, F_IDS, F_ID, F_FLAG, F_CHOICE, F_NUMBER,
+enum { NONE, COUNT, ROOT, PARENT, FLAG, LABEL, BOUNDS, FILTER, MOVE, LOCKED, HIT, RELABEL, BUILD, NO_NODE, F_TEXT, F_IDS, F_ID, F_FLAG, F_CHOICE, F_NUMBER,
        F_COUNT, F_NUMBERS, F_UNITS, F_ACTIONS, F_RECT, F_TRANSLATION, F_SELECTION, F_COLOR, F_DECORATION, WORKS };
 
 static unsigned long relabelled(ak_tree *tree, uint64_t turn) {
@@ -84,6 +85,16 @@ static bool is_field_read(ak_tree *tree, int work, uint64_t node) {
     }
 }
 
+/* A read by one of the threads that share the tree. */
+static bool is_parent_locked(ak_tree *tree, uint64_t node) {
+    static pthread_mutex_t mutex = PTHREAD_MUTEX_INITIALIZER;
+    ak_id id;
+    pthread_mutex_lock(&mutex);
+    bool is_parent = ak_node_parent(tree, node, 0, &id) == AK_DONE && id.node == 1;
+    pthread_mutex_unlock(&mutex);
+    return is_parent;
+}
+
 static unsigned long called(ak_tree *tree, int work, uint64_t node, uint64_t turn) {
     ak_id id = {0, 0};
     ak_bounds bounds;
@@ -101,6 +112,7 @@ static unsigned long called(ak_tree *tree, int work, uint64_t node, uint64_t tur
     case BOUNDS: return ak_node_bounds(tree, node, 0, &bounds) == AK_DONE ? (unsigned long)bounds.y0 / 64 : 0;
     case FILTER: return ak_node_filter(tree, node, 0, AK_COMMON, &answer) == AK_DONE && answer == AK_INCLUDE;
     case MOVE: return ak_text_move(tree, node, 0, 0, false, AK_DOCUMENT_END, &position) == AK_DONE;
+    case LOCKED: return is_parent_locked(tree, node);
     case HIT: return ak_node_hit(tree, 1, 0, 320, 64 * (int64_t)(node - 2) + 32, AK_COMMON, &id) == AK_DONE && id.node == node;
     case RELABEL: return relabelled(tree, turn);
     case BUILD: return built(tree, turn);

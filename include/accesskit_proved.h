@@ -11,7 +11,8 @@
  *  - A pointer is valid, aligned and not null, and points to no memory that another pointer of the same call points to.
  *  - `lines`, `text` and `tree_id` have `length` bytes, `ids`, `numbers` and `units` `count` items, and `buffer` has room for `room` items,
  *    all below 2^63 bytes; with 0 of them the pointer may be null.
- *  - One call at a time uses a tree, on the thread that opened it. Two trees share nothing.
+ *  - While a call uses a tree, no other call does, not even one that only reads. Each may come from any thread: threads that share a tree hold a
+ *    mutex around each call. Two trees share nothing.
  *  - malloc, realloc and free are those of one allocator, and no call comes from a signal handler.
  * What is checked when a call runs: that the tree is open, lines, ids, indexes, and what an update is built of.
  */

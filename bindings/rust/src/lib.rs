@@ -17,7 +17,7 @@ mod updates;
 pub use errors::{rule_name, Error, Refusal};
 pub use names::*;
 pub use raw::{Bounds, Color, Position, Rect, Translation};
-pub use tree::{Event, Id, Tree};
+pub use tree::{Event, Id, SharedTree, Tree};
 pub use updates::{Place, TreeName, Update};
 
 /// The version of the library that is linked: its three numbers.

@@ -2,7 +2,7 @@
 use crate::errors::{Error, DONE};
 use crate::raw;
 use std::fmt;
-use std::marker::PhantomData;
+use std::sync::{Arc, Mutex, MutexGuard, PoisonError};
 
 /// A node's id in its tree, and the index of that tree: 0 is the root tree.
 #[derive(Clone, Copy, Debug, PartialEq, Eq, PartialOrd, Ord, Hash)]
@@ -20,12 +20,15 @@ pub enum Event {
     FocusMoved { old: Option<Id>, new: Option<Id> },
 }
 
-/// A tree, which has nothing until it is fed. It is neither `Send` nor `Sync`, and what reads it takes `&mut self`, as the library does.
+/// A tree, which has nothing until it is fed. What reads it takes `&mut self`, as the library does. Threads share one as a [`SharedTree`].
 pub struct Tree {
     // (boxed, since the library's handle is to stay where it is)
     pub(crate) raw: Box<raw::Tree>,
-    _stays: PhantomData<*mut u8>,
 }
+
+// SAFETY: nothing in the library belongs to a thread: a tree is its handle and what lies in the heap behind it, which malloc gave and any
+// thread may free.
+unsafe impl Send for Tree {}
 
 impl fmt::Debug for Tree {
     fn fmt(&self, f: &mut fmt::Formatter<'_>) -> fmt::Result {
@@ -40,7 +43,7 @@ impl Tree {
         // SAFETY (of each call below): the declarations are those of the library, references are valid and apart, a pointer goes with
         // the length of what it points to, and the handle began closed and is changed by the library alone.
         if unsafe { raw::ak_tree_open(&mut raw) } == DONE {
-            Ok(Tree { raw, _stays: PhantomData })
+            Ok(Tree { raw })
         } else {
             Err(Error::NoMemory { done: 0 })
         }
@@ -149,6 +152,41 @@ impl Event {
             2 => old.map(Event::Removed),
             _ => Some(Event::FocusMoved { old, new }),
         }
+    }
+}
+
+/// A tree that threads share: each has it for itself for a while, by a lock. A clone is the same tree.
+///
+/// ```no_run
+/// # use accesskit_proved::{Id, Error, SharedTree};
+/// # fn main() -> Result<(), Error> {
+/// let tree = SharedTree::new()?;
+/// let other = tree.clone();
+/// std::thread::spawn(move || other.lock().feed("host on\n"));
+/// let root = tree.lock().root()?;
+/// # Ok(()) }
+/// ```
+#[derive(Clone, Debug)]
+pub struct SharedTree {
+    tree: Arc<Mutex<Tree>>,
+}
+
+impl SharedTree {
+    /// A tree without nodes. It fails only if memory runs out.
+    pub fn new() -> Result<SharedTree, Error> {
+        Ok(SharedTree::from(Tree::new()?))
+    }
+
+    /// Waits until no other thread has the tree, and has it until what is returned goes out of use: its calls are then about one state.
+    /// A thread that panicked meanwhile has left the tree as its last call did.
+    pub fn lock(&self) -> MutexGuard<'_, Tree> {
+        self.tree.lock().unwrap_or_else(PoisonError::into_inner)
+    }
+}
+
+impl From<Tree> for SharedTree {
+    fn from(tree: Tree) -> SharedTree {
+        SharedTree { tree: Arc::new(Mutex::new(tree)) }
     }
 }
 
