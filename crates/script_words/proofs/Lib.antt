@@ -15,3 +15,5 @@ pub mod Stopped
 pub mod LineTexts
 pub mod NameLines
 pub mod ValueLines
+pub mod WordCuts
+pub mod WordMeanings

@@ -5,14 +5,9 @@ use Rattle.std.proofs.lemmas.Bool.{cases_Bool, cond-true, cond-false}
 use Rattle.std.proofs.lemmas.Slice.Eq.{bytes_eq-Decides}
 use Rattle.model.specs.declared.queries.Move.{Move}
 use Rattle.model.specs.declared.queries.Move.TheVariants as move
-use Rattle.script_words.specs.NamedIn.{IsNamed, ReadsNamed, named_in}
+use Rattle.script_words.specs.NamedIn.{IsNamed, ReadsNamed, first_named, named_in}
 use Rattle.script_words.specs.NameLists.{all_moves}
 use Rattle.script_words.specs.Names.{move_name}
-
--- the first value with a name
-unfoldable pub first_named : {T : Type 0} → (T → List ℕ) → List ℕ → List T → Option T
-first_named name word [] = None
-first_named name word (value ∷ others) = if bytes_eq (name value) word then Some value else first_named name word others
 
 -- in a table of values beside their names a word is beside the first of the values with that name
 in_table : {T : Type 0} (name : T → List ℕ) (table : List (Bor (List ℕ) × T)) → map (λ e. e.0.now) table ≡ map (λ e. name e.1) table

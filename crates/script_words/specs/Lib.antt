@@ -8,3 +8,7 @@ pub mod Says
 pub mod SaysParts
 pub mod NamedIn
 pub mod NameLists
+pub mod Cuts
+pub mod Meaning
+pub mod WordValues
+pub mod Arguments

@@ -26,6 +26,9 @@ ghost use Rattle.std.specs.Fmt.{decimal, signed_decimal};
 ghost use Rattle.script_words.specs.Says.{SaysNumber, SaysSigned, SaysTree};
 ghost use Rattle.script_words.specs.SaysParts.{SaysPair, SaysPlace, SaysRect, SaysSelection, SaysTranslation};
 ghost use Rattle.script_words.specs.Words.{left};
+ghost use Rattle.script_words.specs.Arguments.{next_at, next_filter, next_name, next_point};
+ghost use Rattle.script_words.specs.Meaning.{GivesWord, Takes, TakesWord, ended, last_word, next_as};
+ghost use Rattle.script_words.specs.WordValues.{id_of, move_of, number_of, side_of, signed_of, tree_of};
 
 use crate::cutting::{cut_at, parts_at};
 use crate::names::{filter_named, move_named, side_named};
@@ -44,10 +47,12 @@ pub struct Words<'a> {
 
 impl<'a> Words<'a> {
     /// The next word.
+    #[tactic(auto, using(crate::proofs::WordCuts::is_some_word, crate::proofs::WordCuts::is_no_word))]
     pub fn word(&mut self) -> Result<&'a str, Stop>
         ensures reads { (text : List ℕ) (rest : Option (List ℕ)) → IsWord text → Begins (unread self.old) text rest
             → IsOkAnd result (λ word. word.now ≡ text) × (unread self.new ≡ rest) }
         ensures shorter { OnOk result (left (unread self.new) < left (unread self.old)) }
+        ensures takes { TakesWord (unread self.old) result (unread self.new) }
     {
         let rest = self.rest.ok_or(Stop::BadLine)?;
         let (word, after) = cut_at(rest, ' ');
@@ -61,6 +66,7 @@ impl<'a> Words<'a> {
     /// Reads the next word, which must be the last.
     pub fn last_word(&mut self) -> Result<&'a str, Stop>
         ensures reads { (text : List ℕ) → IsWord text → unread self.old ≡ Some text → IsOkAnd result (λ word. word.now ≡ text) }
+        ensures gives { GivesWord (last_word (unread self.old)) result }
     {
         let word = self.word()?;
         self.end()?;
@@ -72,6 +78,7 @@ impl<'a> Words<'a> {
     pub fn id(&mut self) -> Result<NodeId, Stop>
         ensures reads { ReadsFit IsId id_text self.old result self.new }
         ensures shorter { OnOk result (left (unread self.new) < left (unread self.old)) }
+        ensures takes { Takes (next_as id_of (unread self.old)) result (unread self.new) }
     {
         let number = number(self.word()?).ok_or(Stop::BadLine)?;
         Ok(NodeId(number))
@@ -82,6 +89,7 @@ impl<'a> Words<'a> {
     pub fn tree(&mut self) -> Result<TreeId, Stop>
         ensures reads { ReadsFit IsTreeName tree_text self.old result self.new }
         ensures shorter { OnOk result (left (unread self.new) < left (unread self.old)) }
+        ensures takes { Takes (next_as tree_of (unread self.old)) result (unread self.new) }
     {
         tree_named(self.word()?).ok_or(Stop::BadLine)
     }
@@ -90,6 +98,7 @@ impl<'a> Words<'a> {
     #[tactic(auto, using(crate::proofs::Cuts::begins_two))]
     pub fn node_name(&mut self) -> Result<NodeName, Stop>
         ensures reads { ReadsFit IsName name_text self.old result self.new }
+        ensures takes { Takes (next_name (unread self.old)) result (unread self.new) }
     {
         let node = self.id()?;
         let tree = self.tree()?;
@@ -98,9 +107,10 @@ impl<'a> Words<'a> {
 
     /// Reads the next word, if there is one, as a filter, which must be the last word. The default is the common
     /// filter.
-    #[tactic(auto, using(crate::proofs::NamedWords::filter_is_word))]
+    #[tactic(auto, using(crate::proofs::NamedWords::filter_is_word, crate::proofs::WordCuts::one_taken, crate::proofs::WordCuts::none_taken, crate::proofs::WordMeanings::filter_is))]
     pub fn filter(&mut self) -> Result<NamedFilter, Stop>
         ensures reads { ReadsAny filter_name self.old result self.new }
+        ensures takes { Takes (next_filter (unread self.old)) result (unread self.new) }
     {
         if self.rest.is_none() {
             return Ok(NamedFilter::Common);
@@ -113,6 +123,7 @@ impl<'a> Words<'a> {
     pub fn signed(&mut self) -> Result<i64, Stop>
         ensures reads { ReadsFit IsNumber signed_decimal self.old result self.new }
         ensures shorter { OnOk result (left (unread self.new) < left (unread self.old)) }
+        ensures takes { Takes (next_as signed_of (unread self.old)) result (unread self.new) }
     {
         signed(self.word()?).ok_or(Stop::BadLine)
     }
@@ -122,6 +133,7 @@ impl<'a> Words<'a> {
     pub fn index(&mut self) -> Result<usize, Stop>
         ensures reads { ReadsFit IsCount decimal self.old result self.new }
         ensures shorter { OnOk result (left (unread self.new) < left (unread self.old)) }
+        ensures takes { Takes (next_as number_of (unread self.old)) result (unread self.new) }
     {
         index(self.word()?).ok_or(Stop::BadLine)
     }
@@ -140,6 +152,7 @@ impl<'a> Words<'a> {
     #[tactic(auto, using(crate::proofs::NamedWords::side_is_word))]
     pub fn side(&mut self) -> Result<Side, Stop>
         ensures reads { ReadsAny side_name self.old result self.new }
+        ensures takes { Takes (next_as side_of (unread self.old)) result (unread self.new) }
     {
         side_named(self.word()?).ok_or(Stop::BadLine)
     }
@@ -149,6 +162,7 @@ impl<'a> Words<'a> {
         ensures reads { (point : Point) (rest : Option (List ℕ)) → IsNumber point.x → IsNumber point.y
             → Begins (unread self.old) (point_text point) rest
             → (result ≡ Ok point) × (unread self.new ≡ rest) }
+        ensures takes { Takes (next_point (unread self.old)) result (unread self.new) }
     {
         let x = self.signed()?;
         let y = self.signed()?;
@@ -159,6 +173,7 @@ impl<'a> Words<'a> {
     pub fn at(&mut self) -> Result<At, Stop>
         ensures reads { (at : At) (rest : Option (List ℕ)) → IsCount at.index → Begins (unread self.old) (at_text at) rest
             → (result ≡ Ok at) × (unread self.new ≡ rest) }
+        ensures takes { Takes (next_at (unread self.old)) result (unread self.new) }
     {
         let index = self.index()?;
         let side = self.side()?;
@@ -169,6 +184,7 @@ impl<'a> Words<'a> {
     #[tactic(auto, using(crate::proofs::NamedWords::move_is_word))]
     pub fn movement(&mut self) -> Result<Move, Stop>
         ensures reads { ReadsAny move_name self.old result self.new }
+        ensures takes { Takes (next_as move_of (unread self.old)) result (unread self.new) }
     {
         move_named(self.word()?).ok_or(Stop::BadLine)
     }
@@ -176,6 +192,7 @@ impl<'a> Words<'a> {
     /// The end of the line.
     pub fn end(&self) -> Result<(), Stop>
         ensures reads { unread self.now ≡ None → result ≡ Ok tt }
+        ensures takes { Takes (ended (unread self.now)) result (unread self.now) }
     {
         if self.rest.is_some() {
             return Err(Stop::BadLine);
