@@ -18,5 +18,5 @@ pub fn hides_label_where(node: &NodeRef, is_within: bool) -> bool
     if node.data().label().is_some() {
         return false;
     }
-    has_hidden_part(node.labelled_by())
+    has_hidden_part(node.labelled_by(), None)
 }

@@ -1,5 +1,5 @@
 //! Whether a text, a value or a label may show what is typed into a password.
-ghost use Rattle.std.specs.Prelude.{◌≡◌};
+ghost use Rattle.std.specs.Prelude.{◌≡◌, All};
 ghost use Rattle.std.specs.List.{list_any};
 ghost use Rattle.model.specs.RoleClasses.{holds_text, is_document};
 ghost use Rattle.model.specs.TextRuns.{has_runs, sent_runs};
@@ -7,8 +7,10 @@ ghost use Rattle.views.specs.AllNodes.{descendants_left};
 ghost use Rattle.views.specs.LabelWalks.{labels_left};
 ghost use Rattle.views.specs.Nodes.{world_at, id_at, data_at};
 ghost use Rattle.hidden_texts.specs.Hidden.{password_filter, is_in_password, holds_password, hides_text, is_valued_by_runs, hides_value, hides_part, hides_label};
+ghost use Rattle.hidden_texts.specs.Known.{AreRightIf, IsKnownAt};
 ghost use Rattle.hidden_texts.specs.Walked.{is_password_node, hides_part_of};
 
+use crate::passwords::{Passwords, is_within};
 use schema::Role;
 use views::NodeRef;
 use views::runs::Run;
@@ -93,26 +95,36 @@ fn is_valued_by_runs(node: &NodeRef) -> bool
 pub fn hides_value(node: &NodeRef) -> bool
     ensures { result ≡ hides_value (world_at node.now) (id_at node.now) }
 {
-    is_in_password(node) || (is_valued_by_runs(node) && holds_password(node))
+    hides_value_by(node, None)
+}
+
+/// The same, by what is known of its state, if something is.
+fn hides_value_by(node: &NodeRef, known: Option<&Passwords>) -> bool
+    requires { AreRightIf (world_at node.now) known }
+    ensures { result ≡ hides_value (world_at node.now) (id_at node.now) }
+{
+    is_within(node, known) || (is_valued_by_runs(node) && holds_password(node))
 }
 
 /// Whether the node's part of another node's label may show what is typed into a password.
-fn hides_part(node: &NodeRef) -> bool
+fn hides_part(node: &NodeRef, known: Option<&Passwords>) -> bool
+    requires { AreRightIf (world_at node.now) known }
     ensures { result ≡ hides_part (world_at node.now) (id_at node.now) }
 {
     if node.label_comes_from_value() {
-        return hides_value(node);
+        return hides_value_by(node, known);
     }
-    is_in_password(node)
+    is_within(node, known)
 }
 
 /// Whether the part of one of these nodes may show it.
-pub(crate) fn has_hidden_part(labels: LabelledBy<'_>) -> bool
+pub(crate) fn has_hidden_part(labels: LabelledBy<'_>, known: Option<&Passwords>) -> bool
+    requires { All (IsKnownAt known) (labels_left labels) }
     ensures { result ≡ list_any hides_part_of (labels_left labels.entry) }
 {
     let mut nodes = labels;
     while let Some(node) = nodes.next() {
-        if hides_part(&node) {
+        if hides_part(&node, known) {
             return true;
         }
     }
@@ -124,11 +136,19 @@ pub(crate) fn has_hidden_part(labels: LabelledBy<'_>) -> bool
 pub fn hides_label(node: &NodeRef) -> bool
     ensures { result ≡ hides_label (world_at node.now) (id_at node.now) }
 {
-    if is_in_password(node) {
+    hides_label_by(node, None)
+}
+
+/// The same, by what is known of its state, if something is.
+pub(crate) fn hides_label_by(node: &NodeRef, known: Option<&Passwords>) -> bool
+    requires { AreRightIf (world_at node.now) known }
+    ensures { result ≡ hides_label (world_at node.now) (id_at node.now) }
+{
+    if is_within(node, known) {
         return true;
     }
     if node.data().label().is_some() {
         return false;
     }
-    has_hidden_part(node.labelled_by())
+    has_hidden_part(node.labelled_by(), known)
 }

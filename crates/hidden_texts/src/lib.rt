@@ -4,8 +4,10 @@
 mod carried;
 mod hiding;
 pub mod laws;
+mod passwords;
 mod showing;
 
 pub use carried::hides_label_where;
 pub use hiding::{hides_label, hides_text, hides_value, is_in_password};
+pub use passwords::Passwords;
 pub use showing::{shown_label, shown_value};

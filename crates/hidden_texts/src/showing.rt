@@ -4,9 +4,12 @@ ghost use Rattle.model.specs.Values.{bullets};
 ghost use Rattle.views.specs.Nodes.{world_at, id_at};
 ghost use Rattle.views.specs.RunTexts.{shown_text};
 ghost use Rattle.views.specs.Writes.{IsWritten};
+ghost use Rattle.hidden_texts.specs.Hidden.{hides_label};
+ghost use Rattle.hidden_texts.specs.Known.{AreRight};
 ghost use Rattle.hidden_texts.specs.Shown.{password_value, shown_label, shown_value};
 
-use crate::hiding::{hides_label, hides_value};
+use crate::hiding::{hides_label, hides_label_by, hides_value};
+use crate::passwords::Passwords;
 use schema::{TextBuffer, TextFault, TextWrite};
 use std::alloc::{AllocError, Global};
 use views::NodeRef;
@@ -95,4 +98,29 @@ pub fn shown_label(alloc: Global, node: &NodeRef) -> Result<Option<String>, Allo
         return Ok(None);
     }
     node.label(alloc)
+}
+
+impl Passwords {
+    /// The same as [`hides_label`](crate::hides_label), of a node of the state of which this is known.
+    pub fn hides_label(&self, node: &NodeRef) -> bool
+        requires { AreRight (world_at node.now) self.now }
+        ensures { result ≡ hides_label (world_at node.now) (id_at node.now) }
+    {
+        hides_label_by(node, Some(self))
+    }
+
+    /// The same as [`shown_label`](crate::shown_label), of a node of the state of which this is known.
+    ///
+    /// # Errors
+    ///
+    /// Returns `AllocError` if memory runs out.
+    pub fn shown_label(&self, alloc: Global, node: &NodeRef) -> Result<Option<String>, AllocError>
+        requires { AreRight (world_at node.now) self.now }
+        ensures { IfOk result (λ label. option_map string_bytes label ≡ shown_label (world_at node.now) (id_at node.now)) }
+    {
+        if self.hides_label(node) {
+            return Ok(None);
+        }
+        node.label(alloc)
+    }
 }
