@@ -93,8 +93,8 @@ integer_exact (byte ∷ digits) z = ⊎_elim (λ t. minus t) (λ f. bare f) (cas
               inr (digits, digits_value 10 digits, ap (λ d. d ∷ digits) first, ((numeral_exact digits).0 p.0, refl), sym p.1)),
           (λ s. ⊎_elim (λ k. absurd (said_no_sign 45 (omega arith) (byte ∷ digits) k.0 k.1 first))
               (λ k. let same : digits ≡ k.0 = ap (drop 1) k.2 in
-                  is ∙ cond-true _ _ _ ((numeral_exact digits).1 (subst (IsNumeral 10) (sym same) k.3.0))
-                  ∙ ap Some (ap (λ w. neg_ℤ (pos (digits_value 10 w))) same ∙ ap (λ n. neg_ℤ (pos n)) k.3.1 ∙ sym k.4)) s),
+              is ∙ cond-true _ _ _ ((numeral_exact digits).1 (subst (IsNumeral 10) (sym same) k.3.0))
+              ∙ ap Some (ap (λ w. neg_ℤ (pos (digits_value 10 w))) same ∙ ap (λ n. neg_ℤ (pos n)) k.3.1 ∙ sym k.4)) s),
         )
 
     bare : (byte == 45) ≡ false → (integer_value (byte ∷ digits) ≡ Some z) ↔ SaysSigned (byte ∷ digits) z
