@@ -58,17 +58,17 @@ placed : {v : World} → IsState v → (q : Place) (id : FullNodeId) → StandsA
 placed {v} s q id at p = (λ e. subst (λ x. StandsAt v x id) (same_Some q p e) at, λ at'. ap Some (place_unique s q p id at at'))
 
 -- the place of a node is the one that place_of finds
-old_place : {w : World} → IsOld w → (id : FullNodeId) (place : Option Place) → IsPlaceOf w id place → place_of w id ≡ place
+pub old_place : {w : World} → IsOld w → (id : FullNodeId) (place : Option Place) → IsPlaceOf w id place → place_of w id ≡ place
 old_place {w} o id None is = nowhere w id (λ p at. let e : None ≡ Some p = (is p).1 at in cc)
 old_place {w} o id (Some p) is =
     let at : StandsAt w p id = (is p).0 refl in
     (place_is w (state_formed (old_state o id (standing_is_node o p id at))) id p).1 at
 
-is_place : {v : World} → IsState v → (id : FullNodeId) (place : Option Place) → place_of v id ≡ place → IsPlaceOf v id place
+pub is_place : {v : World} → IsState v → (id : FullNodeId) (place : Option Place) → place_of v id ≡ place → IsPlaceOf v id place
 is_place {v} s id place same p = let at = place_is v (state_formed s) id p in (λ e. at.0 (same ∙ e), λ x. sym same ∙ at.1 x)
 
 -- whether two data are one
-decide_data : (a b : Option NodeData) → (a ≡ b) ⊎ (a ≡ b → ⊥)
+pub decide_data : (a b : Option NodeData) → (a ≡ b) ⊎ (a ≡ b → ⊥)
 decide_data None None = inl refl
 decide_data None (Some b) = inr (λ e. cc)
 decide_data (Some a) None = inr (λ e. cc)

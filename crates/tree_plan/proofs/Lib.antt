@@ -29,8 +29,12 @@ pub mod Ways
 pub mod Moving
 pub mod Plans
 pub mod Forests
+pub mod SameTrees
 pub mod OtherData
 pub mod NewsSteps
 pub mod Renewed
 pub mod NewsOnce
+pub mod FewMoves
+pub mod MovedRows
+pub mod MoveSteps
 pub mod Walked

@@ -94,10 +94,10 @@ module _ (w : World) (u : UpdateData) (o : IsOld w) where
   abbrev i : ℕ
   i = index_for w u.name
 
-  later_named : (k : ℕ) (n : FullNodeId) → IsNamedBefore w u k n → IsNamedBefore w u (k + 1) n
+  pub later_named : (k : ℕ) (n : FullNodeId) → IsNamedBefore w u k n → IsNamedBefore w u (k + 1) n
   later_named k n h = (h.0, h.1, (let lt : h.1 < k = h.2 in omega arith), h.3)
 
-  none_named : (n : FullNodeId) → ¬ (IsNamedBefore w u 0 n)
+  pub none_named : (n : FullNodeId) → ¬ (IsNamedBefore w u 0 n)
   none_named n h = let lt : h.1 < 0 = h.2 in omega arith
 
   later_done : (k : ℕ) (s : Seat) → IsDone w u k s → IsDone w u (k + 1) s
@@ -116,7 +116,7 @@ module _ (w : World) (u : UpdateData) (o : IsOld w) where
         (h.0, f.0, subst (λ x. f.0 < x) ids_length lt, f.1)),
   )
 
-  named_is : (k : ℕ) (n : FullNodeId) → IsNamedBefore w u k n → IsNamed w u n
+  pub named_is : (k : ℕ) (n : FullNodeId) → IsNamedBefore w u k n → IsNamed w u n
   named_is k n h = (h.0, contains_at (map (λ e. e.0) u.nodes) h.1 n.node h.3)
 
   -- ---- one more entry
@@ -127,16 +127,16 @@ module _ (w : World) (u : UpdateData) (o : IsOld w) where
     here : named_at u k ≡ Some e.0
     here = entry_id u k e at_k
 
-    data_here : data_of m id ≡ Some e.1
+    pub data_here : data_of m id ≡ Some e.1
     data_here = entry_named w u id k once refl here ∙ ap (option_map (λ (x : NodeId × NodeData). x.1)) at_k
 
     graft_here : graft_name m id ≡ e.1.tree_id
     graft_here = ap (option_and_then (λ (d : NodeData). d.tree_id)) data_here
 
-    lists_here : listed_ids m id ≡ child_ids id e.1
+    pub lists_here : listed_ids m id ≡ child_ids id e.1
     lists_here = rw data_here refl
 
-    named_here : IsNamedBefore w u (k + 1) id
+    pub named_here : IsNamedBefore w u (k + 1) id
     named_here = (refl, k, omega arith, here)
 
     -- the node is among the named ones
@@ -146,7 +146,7 @@ module _ (w : World) (u : UpdateData) (o : IsOld w) where
     first_named : ¬ (IsNamedBefore w u k id)
     first_named h = let same : h.1 ≡ k = once h.1 k e.0 h.3 here in let lt : h.1 < k = h.2 in omega arith
 
-    last_named : (n : FullNodeId) → IsNamedBefore w u (k + 1) n → IsNamedBefore w u k n ⊎ (id ≡ n)
+    pub last_named : (n : FullNodeId) → IsNamedBefore w u (k + 1) n → IsNamedBefore w u k n ⊎ (id ≡ n)
     last_named n h = ⊎_elim
         (λ lt. inl (h.0, h.1, lt, h.3))
         (λ same. inr (same_id id n (sym h.0) (same_Some e.0 n.node (sym here ∙ subst (λ j. named_at u j ≡ Some n.node) same h.3))))
@@ -164,22 +164,22 @@ module _ (w : World) (u : UpdateData) (o : IsOld w) where
     here_done : (s : Seat) (j : ℕ) → s ≡ Some (id, j) → IsDone w u (k + 1) s
     here_done s j is = subst (IsDone w u (k + 1)) (sym is) named_here
 
-    was_left : (c : FullNodeId) (s : Seat) → WasHere c s → Left w u s c
+    pub was_left : (c : FullNodeId) (s : Seat) → WasHere c s → Left w u s c
     was_left c s h = subst (λ t. Left w u t c) (sym h.1.0) (h.1.1.0, subst (λ xs. slice_get xs h.0 ≢ Some c) (sym lists_here) h.1.1.1)
 
-    is_entered : (c : FullNodeId) (s : Seat) → IsHere c s → Entered w u s c
+    pub is_entered : (c : FullNodeId) (s : Seat) → IsHere c s → Entered w u s c
     is_entered c s h = subst (λ t. Entered w u t c) (sym h.1.0) (subst (λ xs. slice_get xs h.0 ≡ Some c) (sym lists_here) h.1.1.0, h.1.1.1)
 
     spot_of : (p : Place) → id ≡ p.0 → Some p ≡ Some (id, p.1)
     spot_of p same = let pair : FullNodeId → Place = λ x. (x, p.1) in ap (λ x. Some (pair x)) (sym same)
 
-    left_was : (c : FullNodeId) (p : Place) → id ≡ p.0 → Left w u (Some p) c → WasHere c (Some p)
+    pub left_was : (c : FullNodeId) (p : Place) → id ≡ p.0 → Left w u (Some p) c → WasHere c (Some p)
     left_was c p same l =
         let at_w : slice_get (listed_ids w id) p.1 ≡ Some c = subst (λ x. slice_get (listed_ids w x) p.1 ≡ Some c) (sym same) l.0 in
         let at_m : slice_get (listed_ids m id) p.1 ≢ Some c = subst (λ x. slice_get (listed_ids m x) p.1 ≢ Some c) (sym same) l.1 in
         (p.1, (spot_of p same, (at_w, subst (λ xs. slice_get xs p.1 ≢ Some c) lists_here at_m)))
 
-    entered_is : (c : FullNodeId) (p : Place) → id ≡ p.0 → Entered w u (Some p) c → IsHere c (Some p)
+    pub entered_is : (c : FullNodeId) (p : Place) → id ≡ p.0 → Entered w u (Some p) c → IsHere c (Some p)
     entered_is c p same l =
         let at_m : slice_get (listed_ids m id) p.1 ≡ Some c = subst (λ x. slice_get (listed_ids m x) p.1 ≡ Some c) (sym same) l.0 in
         let at_w : slice_get (listed_ids w id) p.1 ≢ Some c = subst (λ x. slice_get (listed_ids w x) p.1 ≢ Some c) (sym same) l.1 in

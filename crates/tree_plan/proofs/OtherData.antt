@@ -1,53 +1,40 @@
 -- Other data that keep the forest: no rule is broken, and the merged world is its own rebuild.
-use Rattle.std.proofs.Common.{◌≡◌, ℕ, ◌<◌, [], map, position, slice_get, Option, Some, None, IsSome, option_map, option_and_then, ◌⊎◌, inl, inr, ⊎_elim, refl, sym, ap, ◌∙◌, subst, arith}
+use Rattle.std.proofs.Common.{◌≡◌, ℕ, ◌<◌, [], map, slice_get, Option, Some, None, IsSome, option_map, option_and_then, ◌⊎◌, inl, inr, ⊎_elim, refl, sym, ap, ◌∙◌, subst, arith}
 use Rattle.std.specs.Option.{option_map_or}
-use Rattle.std.specs.Ordering.{nat_cmp, is_eq}
-use Rattle.std.specs.Cmp.Lexicographic.{slice_cmp}
 use Rattle.std.specs.FinMap.{get}
-use Rattle.std.proofs.lemmas.Bool.{cases_eq}
 use Rattle.std.proofs.lemmas.Option.{same_Some, slice_get-map}
 use Rattle.schema.specs.NodeData.{NodeData}
 use Rattle.schema.specs.declared.NodeId.{NodeId}
 use Rattle.schema.specs.declared.TreeId.{TreeId}
 use Rattle.model.specs.declared.FullNodeId.{FullNodeId}
-use Rattle.model.specs.World.{World, Tree, Place, IsNode, HasData, data_of, in_tree, index_of, listed_ids, graft_name, root_of, Kept}
+use Rattle.model.specs.World.{World, Tree, Place, IsNode, HasData, data_of, in_tree, listed_ids, graft_name, Kept}
 use Rattle.model.specs.Forest.{place_of}
 use Rattle.model.specs.Focus.{IsFocus, IsEffectiveFocus, Resolves}
 use Rattle.model.specs.Surgery.{IsOld}
 use Rattle.model.specs.State.{IsState}
-use Rattle.model.specs.Update.{UpdateData, IsFirst, IsNamed, IsRebuild, KeepsRules, index_for, root_after, merged_world}
+use Rattle.model.specs.Update.{UpdateData, IsNamed, IsRebuild, KeepsRules, index_for, merged_world}
 use Rattle.model.proofs.Worlds.Names.{same_id}
 use Rattle.model.proofs.Closure.{IsDecided}
 use Rattle.model.proofs.State.StatePlaces.{IsSome_is, value_of, map_some}
 use Rattle.model.proofs.Forest.PlaceOf.{stands_at_place, place_is}
 use Rattle.model.proofs.Forest.Rooted.{state_formed}
 use Rattle.model.proofs.Update.AcceptedOrFault.{decide_named}
-use Rattle.model.proofs.Update.Merges.{tree_named, tree_elsewhere, root_stays, known_stays}
 use Rattle.model.proofs.Surgery.Spots.{unnamed_data}
 use Rattle.model.proofs.Surgery.OldWorlds.{old_state}
 use Rattle.model.proofs.Surgery.OldUpdates.{old_leaves_state}
 use Rattle.tree_changes.specs.LookUps.{IsPlaceOf}
-use Rattle.tree_changes.specs.LookUps as look
 use Rattle.tree_plan.specs.declared.passes.Opened.{Opened}
 use Rattle.tree_plan.specs.Passes.{HoldsOpened}
 use Rattle.tree_plan.specs.Writing.{own_record}
 use Rattle.tree_plan.specs.News.{KeepsForest, AllKeep, IsNamedOnce}
 use Rattle.tree_plan.proofs.Entries.{entry_named}
 use Rattle.tree_plan.proofs.IdMaps.{at_contains}
-use Rattle.tree_plan.proofs.Opens.{tree_is}
-use Rattle.tree_plan.proofs.Trees.{KnownAlike, AreAfter, both_parts, same_option}
+use Rattle.tree_plan.proofs.Trees.{KnownAlike, AreAfter, same_option}
 use Rattle.tree_plan.proofs.Forests.{HaveOneForest, root_same, root_named_same, tree_named_same, lists_same, grafts_same, stands_same, reached_same, kept_same, chain_same}
+use Rattle.tree_plan.proofs.SameTrees.{later, tree_before, trees_same, index_same}
 
 pub same_data : (d : NodeData) → KeepsForest d d
 same_data d = record { children = refl; graft = refl; active = refl }
-
--- the named tree is known where its record stays
-module _ (w : World) (u : UpdateData) (op : Opened) (opening : HoldsOpened w u op) (same : own_record u.name u.focus op ≡ op.record) where
-  known_here : index_of w u.name ≡ Some op.index
-  known_here = sym opening.record_of.index ∙ sym (ap (λ r. r.index) same)
-
-  pub later : ¬ (IsFirst w)
-  later none = let unknown : index_of w u.name ≡ None = rw none refl in let clash : None ≡ Some op.index = sym unknown ∙ known_here in cc
 
 module _ (w : World) (u : UpdateData) (o : IsOld w) (op : Opened) (opening : HoldsOpened w u op) (same : own_record u.name u.focus op ≡ op.record) (once : IsNamedOnce u) (keep : AllKeep w u) where
   abbrev m : World
@@ -55,26 +42,6 @@ module _ (w : World) (u : UpdateData) (o : IsOld w) (op : Opened) (opening : Hol
 
   abbrev i : ℕ
   i = index_for w u.name
-
-  -- ---- the head
-
-  tree_before : get w.trees i ≡ Some (record { root = op.root; focus = u.focus })
-  tree_before = tree_is w o u.name ∙ both_parts (look.tree_named w u.name) op.root u.focus (sym opening.record_of.root ∙ sym (ap (λ r. r.root) same)) (sym opening.record_of.focus ∙ sym (ap (λ r. r.focus) same))
-
-  tree_after : get m.trees i ≡ Some (record { root = op.root; focus = u.focus })
-  tree_after =
-      let root = value_of (root_after w u) (root_stays w u (IsSome_is (record { root = op.root; focus = u.focus }) tree_before)) in
-      let is : get m.trees i ≡ Some (record { root = root.0; focus = u.focus }) = tree_named w u root.0 root.1 in
-      let at : root_of m i ≡ Some (in_tree i op.root) = subst (λ j. root_of m j ≡ Some (in_tree j op.root)) opening.index opening.root in
-      let one : in_tree i root.0 ≡ in_tree i op.root = same_Some (in_tree i root.0) (in_tree i op.root) (sym (ap (option_map (λ (t : Tree). in_tree i t.root)) is) ∙ at) in
-      let here : root.0 ≡ op.root = ap (λ x. x.node) one in
-      is ∙ ap (λ (n : NodeId). Some (record { root = n; focus = u.focus })) here
-
-  trees_same : (q : ℕ) → get m.trees q ≡ get w.trees q
-  trees_same q = ⊎_elim (λ here. ap (get m.trees) here ∙ tree_after ∙ sym tree_before ∙ ap (get w.trees) (sym here)) (λ other. tree_elsewhere w u q other) (cases_eq q i)
-
-  index_same : (name : TreeId) → index_of m name ≡ index_of w name
-  index_same name = ap (position (λ k. is_eq (slice_cmp nat_cmp k.0 name.0))) (known_stays w u op.index (known_here w u op opening same))
 
   -- ---- the nodes
 
@@ -124,10 +91,10 @@ module _ (w : World) (u : UpdateData) (o : IsOld w) (op : Opened) (opening : Hol
       (any_data id)
 
   pub forward : HaveOneForest w m
-  forward = record { trees = λ q. sym (trees_same q); index = λ name. sym (index_same name); lists = λ id. sym (lists_alike id); grafts = λ id. sym (grafts_alike id) }
+  forward = record { trees = λ q. sym (trees_same w u o op opening same q); index = λ name. sym (index_same w u o op opening same name); lists = λ id. sym (lists_alike id); grafts = λ id. sym (grafts_alike id) }
 
   pub back : HaveOneForest m w
-  back = record { trees = trees_same; index = index_same; lists = lists_alike; grafts = grafts_alike }
+  back = record { trees = trees_same w u o op opening same; index = index_same w u o op opening same; lists = lists_alike; grafts = grafts_alike }
 
   -- ---- the rules
 
@@ -160,12 +127,12 @@ module _ (w : World) (u : UpdateData) (o : IsOld w) (op : Opened) (opening : Hol
     known = refl;
     toolkit = refl;
     host = refl;
-    trees = λ q t. (λ is. (kept_now q (IsSome_is t (sym (trees_same q) ∙ is)), is), λ x. x.1);
+    trees = λ q t. (λ is. (kept_now q (IsSome_is t (sym (trees_same w u o op opening same q) ∙ is)), is), λ x. x.1);
     nodes = λ id d. (λ has. let there = node_then id (IsSome_is d has) in (kept_now id.tree (o.node_present id there), reached_same w m forward id (o.node_reached id there), has), λ x. x.2);
   }
 
   root_there : IsNode w (in_tree i op.root)
-  root_there = o.root_is_node i (in_tree i op.root) (ap (option_map (λ (t : Tree). in_tree i t.root)) tree_before)
+  root_there = o.root_is_node i (in_tree i op.root) (ap (option_map (λ (t : Tree). in_tree i t.root)) (tree_before w u o op opening same))
 
   pub state_before : IsState w
   state_before = old_state o (in_tree i op.root) root_there
@@ -185,7 +152,7 @@ module _ (w : World) (u : UpdateData) (o : IsOld w) (op : Opened) (opening : Hol
 
   pub alike : (name : TreeId) → KnownAlike w m name
   alike name = record {
-    index = sym (index_same name);
+    index = sym (index_same w u o op opening same name);
     graft = λ g. (λ e. grafts_same w m forward g name e, λ e. grafts_same m w back g name e);
     tree = tree_named_same w m forward name;
   }

@@ -42,19 +42,20 @@ use Rattle.tree_plan.proofs.Entries.{entry_named}
 use Rattle.tree_plan.proofs.IdMaps.{at_contains, contains_at, read_here}
 use Rattle.tree_plan.proofs.Listed.{ids_where, is_in, changes_in}
 use Rattle.tree_plan.proofs.Assembled.{IsKept, all_told, decision_is}
-use Rattle.tree_plan.proofs.OtherData.{later, named_data, rules, rebuilt, state_before, place_same, place_now, none_after, effective_now, focus_now}
+use Rattle.tree_plan.proofs.SameTrees.{later}
+use Rattle.tree_plan.proofs.OtherData.{named_data, rules, rebuilt, state_before, place_same, place_now, none_after, effective_now, focus_now}
 
 -- ---- changes as verdicts
 
-abbrev verdict_of : NodeChange → Verdict
+abbrev pub verdict_of : NodeChange → Verdict
 verdict_of (Put place (Some k)) = Renewed place k
 verdict_of (Put place None) = Moved place
 verdict_of Gone = Removed
 
-abbrev verdicts_of : NodeChanges → Verdicts
+abbrev pub verdicts_of : NodeChanges → Verdicts
 verdicts_of cs = map (λ c. (c.0, verdict_of c.1)) cs
 
-changes_back : (cs : NodeChanges) → changes_in (verdicts_of cs) ≡ cs
+pub changes_back : (cs : NodeChanges) → changes_in (verdicts_of cs) ≡ cs
 changes_back [] = refl
 changes_back (c ∷ cs) = one c.0 c.1 (changes_in (verdicts_of cs)) ∙ ap (λ xs. c ∷ xs) (changes_back cs)
   where
@@ -63,11 +64,11 @@ changes_back (c ∷ cs) = one c.0 c.1 (changes_in (verdicts_of cs)) ∙ ap (λ x
     one id (Put place None) rest = refl
     one id Gone rest = refl
 
-keys_same : (cs : NodeChanges) → keys_of (verdicts_of cs) ≡ keys_of cs
+pub keys_same : (cs : NodeChanges) → keys_of (verdicts_of cs) ≡ keys_of cs
 keys_same [] = refl
 keys_same (c ∷ cs) = ap (λ ks. c.0 ∷ ks) (keys_same cs)
 
-at_of : (cs : NodeChanges) (id : FullNodeId) → at (verdicts_of cs) id ≡ option_map verdict_of (row_at cs id)
+pub at_of : (cs : NodeChanges) (id : FullNodeId) → at (verdicts_of cs) id ≡ option_map verdict_of (row_at cs id)
 at_of [] id = refl
 at_of (c ∷ cs) id = go (is_at (full_cmp id) c.0) (at_of cs id)
   where
@@ -76,7 +77,7 @@ at_of (c ∷ cs) id = go (is_at (full_cmp id) c.0) (at_of cs id)
     go false rest = rest
 
 -- each change gives data
-abbrev AllPut : NodeChanges → Type 0
+abbrev pub AllPut : NodeChanges → Type 0
 AllPut cs = (id : FullNodeId) (c : NodeChange) → Contains cs (id, c) → is_in group.Updated (verdict_of c) ≡ true
 
 all_put_rest : (c : FullNodeId × NodeChange) (cs : NodeChanges) → AllPut (c ∷ cs) → AllPut cs
@@ -112,7 +113,7 @@ told_keys : (cs : NodeChanges) → map (λ (c : FullNodeId × NodeChange). told.
 told_keys [] = refl
 told_keys (c ∷ cs) = ap (λ xs. told.Updated c.0 ∷ xs) (told_keys cs)
 
-all_events : (cs : NodeChanges) → AllPut cs → map (λ (c : FullNodeId × NodeChange). told.Updated c.0) cs
+pub all_events : (cs : NodeChanges) → AllPut cs → map (λ (c : FullNodeId × NodeChange). told.Updated c.0) cs
     ≡ map told.Added (ids_where (is_in group.Added) (verdicts_of cs)) ++ map told.Updated (ids_where (is_in group.Updated) (verdicts_of cs)) ++ [] ++ map told.Removed (ids_where (is_in group.Removed) (verdicts_of cs))
 all_events cs h =
     let tail : (xs : List PlanEvent) → xs ++ [] ≡ xs = append_none in

@@ -20,9 +20,10 @@ pub record AreFindings (w : World) (u : UpdateData) (f : Found) : Type 0 where
   pub regrafting : HoldsRegrafted w u f.regrafted.trees.items f.regrafted.moved_in
   pub told : f.told ≡ told_root (index_for w u.name) u.info
 
--- before the passes the tree was looked up, and at most each named node, and twice for each known name where the focus is
+-- before the passes the tree was looked up, at most each named node, twice for each known name where the focus is, and 21 nodes more to
+-- see whether only a few have moved
 abbrev pub HasBegun : World → UpdateData → ℕ → ℕ → Type 0
-HasBegun w u before start = start ≤ before + (1 + (length u.nodes + 2 * length w.known))
+HasBegun w u before start = start ≤ before + (1 + (length u.nodes + 2 * length w.known + 21))
 
 -- the look-ups of the passes from the second to the fifth, one after another, and how many trees lose their grafts
 pub record IsRemovedCount (w : World) (u : UpdateData) (c : Compared) (r : Removed) (before after : ℕ) : Type 0 where

@@ -10,6 +10,7 @@ pub mod Regrafts
 pub mod Aims
 pub mod Cases
 pub mod Looks
+pub mod Moves
 pub mod News
 pub mod Climbs
 pub mod Plans

@@ -1,5 +1,5 @@
 -- An update that gives nodes of a tree other data, and changes nothing else.
-use Rattle.std.specs.Prelude.{◌≡◌, ◌≢◌, ℕ, ◌<◌, ◌≤◌, [], ◌∷◌, ◌++◌, length, slice_get, Contains, Option, Some, None, ◌⊎◌}
+use Rattle.std.specs.Prelude.{◌≡◌, ◌≢◌, ℕ, ◌<◌, ◌≤◌, [], ◌∷◌, ◌++◌, length, map, slice_get, Contains, Option, Some, None, ◌⊎◌}
 use Rattle.std.specs.Map.{keys_of}
 use Rattle.values_by_id.specs.Rows.{IsTwice}
 use Rattle.schema.specs.NodeData.{NodeData}
@@ -8,11 +8,14 @@ use Rattle.model.specs.declared.FullNodeId.{FullNodeId}
 use Rattle.model.specs.World.{World, Place, HasData, data_of, in_tree}
 use Rattle.model.specs.Update.{UpdateData, index_for, named_at}
 use Rattle.model.specs.Differences.{told_root}
+use Rattle.model.specs.Focus.{IsEffectiveFocus}
+use Rattle.model.specs.declared.events.PlanEvent.TheVariants as told
 use Rattle.tree_changes.specs.declared.decision.Decision.{Decision}
 use Rattle.tree_changes.specs.declared.decision.NodeChange.{NodeChange}
 use Rattle.tree_changes.specs.declared.decision.NodeChange.TheVariants.{Put}
 use Rattle.tree_changes.specs.LookUps.{IsPlaceOf}
 use Rattle.tree_changes.specs.Changes.{NodeChanges, entry_data}
+use Rattle.tree_changes.specs.Decisions.{IsDecision}
 use Rattle.tree_plan.specs.declared.passes.Opened.{Opened}
 use Rattle.tree_plan.specs.Writing.{own_record}
 
@@ -72,8 +75,13 @@ pub record GivesDataAlone (w : World) (u : UpdateData) (o : Opened) : Type 0 whe
   pub tree : KeepsTree u o
   pub nodes : AllKeep w u
 
--- no more is decided than a change and an event for each named node
-pub record IsBrief (u : UpdateData) (d : Decision) : Type 0 where
-  pub nodes : length d.nodes.items ≤ length u.nodes
+-- a decision of these changes, with an event for each, and with the focus that was effective before
+pub record IsOfChanges (w : World) (rows : NodeChanges) (d : Decision) : Type 0 where
+  pub nodes : d.nodes.items ≡ rows
   pub trees : d.trees.items ≡ []
-  pub events : length d.events.items ≤ length u.nodes
+  pub events : d.events.items ≡ map (λ e. told.Updated e.0) rows
+  pub focus : IsEffectiveFocus w d.focus
+
+-- a decision of these changes alone is one on the update
+abbrev pub AreAllChanges : World → UpdateData → NodeChanges → Type 0
+AreAllChanges w u rows = (d : Decision) → IsOfChanges w rows d → IsDecision w u d

@@ -81,7 +81,7 @@ fn rows_of(alloc: Global, named: &[(FullNodeId, Named)]) -> Result<Vec<usize>, U
 }
 
 /// The child at an index of a list.
-fn child_at(parent: FullNodeId, children: &[NodeId], index: usize) -> Option<FullNodeId>
+pub(crate) fn child_at(parent: FullNodeId, children: &[NodeId], index: usize) -> Option<FullNodeId>
     ensures { result ≡ slice_get (map (in_tree parent.tree) children.now) index }
 {
     children
@@ -154,10 +154,10 @@ fn find_shifted(old: &[NodeId], new: &[NodeId], from: usize, child: NodeId) -> O
 
 /// The lists of a node's children, before the update and after it.
 #[derive(Clone, Copy)]
-struct Lists<'a> {
-    parent: FullNodeId,
-    before: &'a [NodeId],
-    after: &'a [NodeId],
+pub(crate) struct Lists<'a> {
+    pub(crate) parent: FullNodeId,
+    pub(crate) before: &'a [NodeId],
+    pub(crate) after: &'a [NodeId],
 }
 
 /// What a node listed and grafted before the update.

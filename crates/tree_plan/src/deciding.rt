@@ -1,5 +1,6 @@
 //! The decision on an update, pass by pass.
-ghost use Rattle.std.specs.Prelude.{◌≡◌, ◌+◌, ◌-◌, ◌*◌, length, IfOk, IfErr, OnOk};
+ghost use Rattle.std.specs.Prelude.{◌≡◌, ◌+◌, ◌-◌, ◌*◌, ◌≤◌, length, IfOk, IfErr, IfSome, IsSome, OnOk};
+ghost use Rattle.std.specs.FinMap.{get};
 ghost use Rattle.schema.specs.UpdateData.{update_data};
 ghost use Rattle.model.specs.Update.{IsRebuild, KeepsRules, merged_world};
 ghost use Rattle.model.specs.Work.{Work, IsWorkOf};
@@ -8,16 +9,19 @@ ghost use Rattle.tree_changes.specs.LookUps.{IsRaisedAtLeast, IsRaisedUpTo};
 ghost use Rattle.tree_changes.specs.Changes.{overlaid_world};
 ghost use Rattle.tree_changes.specs.Decisions.{IsDecision, IsWithinWork};
 ghost use Rattle.tree_changes.specs.Refusals.{IsRefusal};
-ghost use Rattle.tree_plan.specs.Passes.{HoldsOpened, HoldsRemoved};
+ghost use Rattle.tree_changes.specs.declared.error.UpdateError.TheVariants.{Memory};
+ghost use Rattle.tree_plan.specs.Passes.{HoldsOpened, HoldsRemoved, IsOfName};
 ghost use Rattle.tree_plan.specs.Cases.{IsCase, sent};
 ghost use Rattle.tree_plan.specs.Deciding.{AreFindings, HasBegun, IsCount, IsRemovedCount};
 ghost use Rattle.tree_plan.specs.Verdicts.{Transition};
 ghost use Rattle.tree_plan.specs.Writing.{IsSmall};
+ghost use Rattle.tree_plan.specs.News.{KeepsTree, AreAllChanges, IsOfChanges};
 
 use crate::climbing::climb_all;
-use crate::comparing::compare;
-use crate::focusing::find_focus;
-use crate::news::decide_news;
+use crate::comparing::{compare, full_id};
+use crate::focusing::{end_opened, find_focus};
+use crate::moves::{find_moves, is_few};
+use crate::news::{find_news, keeps_tree, updates};
 use crate::opening::{old_record, open_tree};
 use crate::passes::{Case, Opened, Removed};
 use crate::refusing::refuse_misplaced;
@@ -28,7 +32,8 @@ use crate::verdicts::Found;
 use crate::writing::{told_root, write};
 use schema::TreeUpdate;
 use std::alloc::Global;
-use tree_changes::{Decision, LookUps, UpdateError};
+use tree_changes::{Decision, LookUps, NodeChange, TreeRecord, UpdateError};
+use values_by_id::SortedRows;
 
 /// What goes, where each node is listed once, no listed node goes, and each of the update's nodes that got a child is reached.
 fn find_removed<L: LookUps>(look_ups: &mut L, case: &Case<'_>) -> Result<Removed, UpdateError>
@@ -116,6 +121,70 @@ fn conclude<L: LookUps>(
     write(alloc, update, findings, &focused, looked)
 }
 
+/// The changes by a short way, if there is one for the update: where it only gives nodes other data, and where it also moves a few.
+fn find_shortly<L: LookUps>(
+    alloc: Global,
+    look_ups: &mut L,
+    update: &TreeUpdate,
+    opened: &Opened,
+) -> Result<Option<SortedRows<NodeChange>>, UpdateError>
+    requires old { IsOld (L.world look_ups.old) }
+    requires opening { HoldsOpened (L.world look_ups.old) (update_data update.now) opened.now }
+    ensures world { L.world look_ups.new ≡ L.world look_ups.old }
+    ensures err { IfErr result (λ e. IsRefusal (L.world look_ups.old) (update_data update.now) e) }
+    ensures ok { IfOk result (λ rows. IfSome rows (AreAllChanges (L.world look_ups.old) (update_data update.now))) }
+    ensures tree { IfOk result (λ rows. IfSome rows (λ _. KeepsTree (update_data update.now) opened.now)) }
+    ensures few { IfOk result (λ rows. IfSome rows (λ rows. length rows ≤ length update.now.nodes.items + 6)) }
+    ensures count { OnOk result
+        (IsRaisedUpTo (L.asked look_ups.old) (length update.now.nodes.items + 21) (L.asked look_ups.new)) }
+    ensures named { IfOk result (λ rows. IfSome rows (λ _.
+        IsRaisedAtLeast (L.asked look_ups.old) (length update.now.nodes.items) (L.asked look_ups.new))) }
+{
+    if let Some(changes) = find_news(alloc, look_ups, update, opened)? {
+        return Ok(Some(changes));
+    }
+    if !is_few(update) {
+        return Ok(None);
+    }
+    if !keeps_tree(opened, update) {
+        return Ok(None);
+    }
+    let root = full_id(opened.index, opened.root);
+    find_moves(alloc, look_ups, update, root)
+}
+
+/// The decision of changes that leave trees and focus as they were, given the old record of the update's tree. Of each change its node is
+/// reported as updated.
+fn decide_alone<L: LookUps>(
+    alloc: Global,
+    look_ups: &mut L,
+    changes: SortedRows<NodeChange>,
+    looked_up: &TreeRecord,
+    before: u128,
+) -> Result<Decision, UpdateError>
+    requires old { IsOld (L.world look_ups.old) }
+    requires present { IsSome (get (L.world look_ups.old).trees 0) }
+    requires record { IsOfName (L.world look_ups.old) looked_up.now.id looked_up.now }
+    ensures world { L.world look_ups.new ≡ L.world look_ups.old }
+    ensures err { IfErr result (λ e. e ≡ Memory) }
+    ensures ok { IfOk result (IsOfChanges (L.world look_ups.old) changes) }
+    ensures looked { IfOk result (λ d. d.looked ≡ L.asked look_ups.new - before) }
+    ensures count { OnOk result
+        (IsRaisedUpTo (L.asked look_ups.old) (2 * length (L.world look_ups.old).known) (L.asked look_ups.new)) }
+{
+    let events = updates(alloc, &changes)?;
+    let end = end_opened(look_ups, looked_up);
+    let looked = look_ups.count().saturating_sub(before);
+    let nodes = changes.into_entries();
+    Ok(Decision {
+        nodes,
+        trees: Vec::new(alloc),
+        events,
+        focus: end.id,
+        looked,
+    })
+}
+
 /// The decision by the passes. It is a function of its own so that the short way doesn't pay for the stack space of the
 /// passes.
 #[inline(never)]
@@ -172,8 +241,8 @@ pub fn decide<L: LookUps>(
         root: opening.root,
         is_first: opening.is_first,
     };
-    if let Some(decision) = decide_news(alloc, look_ups, update, &opened, before)? {
-        return Ok(decision);
+    if let Some(changes) = find_shortly(alloc, look_ups, update, &opened)? {
+        return decide_alone(alloc, look_ups, changes, &opened.record, before);
     }
     decide_by_passes(alloc, look_ups, update, opened, before)
 }

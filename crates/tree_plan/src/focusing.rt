@@ -93,7 +93,9 @@ fn end_before<L: LookUps>(look_ups: &mut L) -> End
     end_from(look_ups, first)
 }
 
-/// The effective focus before the update, given the record of the update's tree, which mostly is the root tree.
+/// The effective focus before the update, given the record of the update's tree, which mostly is the root tree. It is inlined, so that
+/// the record needn't be in memory.
+#[inline(always)]
 pub(crate) fn end_opened<L: LookUps>(look_ups: &mut L, looked_up: &TreeRecord) -> End
     requires old { IsOld (L.world look_ups.old) }
     requires present { IsSome (get (L.world look_ups.old).trees 0) }

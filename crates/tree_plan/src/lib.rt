@@ -5,6 +5,7 @@ mod climbing;
 mod comparing;
 mod deciding;
 mod focusing;
+mod moves;
 mod news;
 mod opening;
 mod passes;
