@@ -27,7 +27,9 @@ pub mod tree {
     pub use tree_changes::{LookUps, NodeRecord, TreeRecord, UpdateError};
     pub use tree_plan::{Change, Plan, plan_update};
     pub use tree_store::MirrorRecord;
-    pub use trees::{Mirror, Steps, Tree, TreeChangeHandler, TreeState};
+    pub use trees::{
+        Mirror, NewState, Prepared, Refused, Steps, Tree, TreeChangeHandler, TreeState,
+    };
     pub use views::StateRef;
 }
 
@@ -47,4 +49,6 @@ pub use text::{
     TextLines, TextPlaces, TextPosition, TextRange, TextRangePropertyValue, TextRoot,
     TextSelections, WeakTextRange,
 };
-pub use tree::{Mirror, StateRef, Tree, TreeChangeHandler, TreeState, UpdateError};
+pub use tree::{
+    Mirror, NewState, Prepared, Refused, StateRef, Tree, TreeChangeHandler, TreeState, UpdateError,
+};

@@ -103,6 +103,21 @@ fn print_changes(rt: &impl Print, tree: &mut Tree, update: TreeUpdate) -> io::Re
     }
 }
 
+/// Prints the state that an update would leave, or why it is refused, and gives it up.
+fn print_next(rt: &impl Print, tree: Tree, update: TreeUpdate) -> io::Result<Tree> {
+    match tree.prepare(update) {
+        Ok(prepared) => {
+            let next = prepared.new();
+            print_state(rt, next.view())?;
+            Ok(prepared.give_up())
+        }
+        Err(refused) => {
+            println!(rt; "refused: {}", refused.why)?;
+            Ok(refused.tree)
+        }
+    }
+}
+
 fn main(rt: HostRuntime) -> anyhow::Result<()> {
     let alloc = rt.alloc();
     let mut tree = Tree::new(alloc, first_update(alloc)?, true)?;
@@ -115,5 +130,10 @@ fn main(rt: HostRuntime) -> anyhow::Result<()> {
     // Node 9 has no data: the update is refused, the tree is unchanged, and the handler is not called.
     let update = next_update(alloc, &[BUTTON, INPUT, NodeId(9)])?;
     print_changes(&rt, &mut tree, update)?;
+
+    // Without the button: it is shown, and given up.
+    let update = next_update(alloc, &[INPUT])?;
+    let tree = print_next(&rt, tree, update)?;
+    print_state(&rt, tree.state().view())?;
     Ok(())
 }

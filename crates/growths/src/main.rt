@@ -7,6 +7,7 @@
 mod calls;
 mod planning;
 mod planting;
+mod preparing;
 mod reading;
 mod runs;
 mod setting;

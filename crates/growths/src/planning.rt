@@ -8,15 +8,15 @@ use tree_plan::decide;
 use tree_store::{NoRecords, Store, StoreLookUps};
 use uuid::Uuid;
 
-const WINDOW: NodeId = NodeId(0);
+pub const WINDOW: NodeId = NodeId(0);
 
-const TOOLBAR: NodeId = NodeId(1);
+pub const TOOLBAR: NodeId = NodeId(1);
 
 const GRAFT: NodeId = NodeId(2);
 
-const BUTTON: NodeId = NodeId(3);
+pub const BUTTON: NodeId = NodeId(3);
 
-const NEW_TOOLBAR: NodeId = NodeId(4);
+pub const NEW_TOOLBAR: NodeId = NodeId(4);
 
 fn parent(alloc: Global, role: Role, children: &[NodeId]) -> Result<Node, AllocError> {
     NodeBuilder::new(alloc, role).children(children).build()
@@ -41,7 +41,7 @@ fn first_nodes(alloc: Global) -> Result<Vec<(NodeId, Node)>, AllocError> {
 }
 
 /// as a first update.
-fn first(alloc: Global) -> Result<TreeUpdate, AllocError> {
+pub fn first(alloc: Global) -> Result<TreeUpdate, AllocError> {
     Ok(TreeUpdate {
         nodes: first_nodes(alloc)?,
         tree: Some(TreeInfo::new(WINDOW)),
@@ -65,7 +65,7 @@ fn next_nodes(alloc: Global) -> Result<Vec<(NodeId, Node)>, AllocError> {
 }
 
 /// The button gets the focus, too.
-fn second(alloc: Global) -> Result<TreeUpdate, AllocError> {
+pub fn second(alloc: Global) -> Result<TreeUpdate, AllocError> {
     Ok(TreeUpdate {
         nodes: next_nodes(alloc)?,
         tree: None,

@@ -2,6 +2,7 @@
 
 use crate::planning::plan;
 use crate::planting::{CHECK_BOX, PASSWORD, RUN, WINDOW, update};
+use crate::preparing::is_prepared;
 use accesskit_consumer::text::{NodeText, TextRange};
 use accesskit_consumer::tree::{Mirror, Tree, UpdateError};
 use accesskit_consumer::{NodeRef, StateRef, WeakTextRange};
@@ -25,9 +26,10 @@ pub enum Reading {
     CloneOfUpdate,
     MirrorOfTree,
     PlanOfUpdate,
+    PreparedUpdate,
 }
 
-pub static READINGS: [Reading; 14] = [
+pub static READINGS: [Reading; 15] = [
     Reading::Label,
     Reading::Value,
     Reading::Description,
@@ -42,6 +44,7 @@ pub static READINGS: [Reading; 14] = [
     Reading::CloneOfUpdate,
     Reading::MirrorOfTree,
     Reading::PlanOfUpdate,
+    Reading::PreparedUpdate,
 ];
 
 /// The result of a call.
@@ -221,6 +224,15 @@ fn plan_lengths(alloc: Global) -> Result<Answer, AllocError> {
     }
 }
 
+/// Whether a prepared update shows both states, and leaves the old one where it is given up or memory for it runs out.
+fn prepare_update(alloc: Global) -> Result<Answer, AllocError> {
+    match is_prepared(alloc) {
+        Ok(is_right) => Ok(Answer::IsEqual(is_right)),
+        Err(UpdateError::Memory) => Err(AllocError),
+        Err(fault) => Ok(Answer::Refused(fault)),
+    }
+}
+
 /// Whether a copy of the run's data is equal.
 fn copy_node(state: StateRef) -> Result<Answer, AllocError> {
     match node(state, RUN) {
@@ -240,6 +252,7 @@ pub fn read(alloc: Global, tree: &Tree, reading: Reading) -> Result<Answer, Allo
         Reading::CloneOfUpdate => copy_update(alloc),
         Reading::MirrorOfTree => mirror_run(alloc, tree),
         Reading::PlanOfUpdate => plan_lengths(alloc),
+        Reading::PreparedUpdate => prepare_update(alloc),
         _ => read_text(alloc, state, reading),
     }
 }

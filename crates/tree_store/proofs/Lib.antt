@@ -1,6 +1,7 @@
 pub mod Maps
 pub mod KeptReads
 pub mod Searches
+pub mod UsedNames
 pub mod Laid
 pub mod KeptSlots
 pub mod CellWrites

@@ -8,5 +8,6 @@ pub mod KeptNames
 pub mod Shown
 pub mod Overlays
 pub mod Commits
+pub mod UsedNames
 pub mod Copied
 pub mod CellLists

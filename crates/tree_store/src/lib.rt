@@ -12,6 +12,7 @@ mod known;
 mod names;
 mod overlay;
 mod records;
+mod release;
 mod slots;
 mod store;
 mod store_look_ups;

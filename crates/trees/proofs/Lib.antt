@@ -3,3 +3,5 @@ pub mod PlanEvents
 pub mod Refocused
 pub mod Seen
 pub mod Mirroring
+pub mod Preparing
+pub mod Focusing

@@ -2,3 +2,5 @@ pub mod Telling
 pub mod Replies
 pub mod Counts
 pub mod Mirrored
+pub mod Prepared
+pub mod PreparedChanges

@@ -4,6 +4,7 @@
 mod handler;
 mod mirror;
 mod pair;
+mod prepared;
 mod refocusing;
 mod state;
 mod steps;
@@ -12,6 +13,7 @@ mod tree_handle;
 
 pub use handler::TreeChangeHandler;
 pub use mirror::Mirror;
+pub use prepared::{NewState, Prepared, Refused};
 pub use state::TreeState;
 pub use steps::Steps;
 pub use tree_handle::Tree;

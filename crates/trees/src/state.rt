@@ -13,13 +13,14 @@ ghost use Rattle.tree_changes.specs.Decisions.{IsDecision, IsWithinWork};
 ghost use Rattle.tree_changes.specs.LookUps.{IsRaisedAtLeast, IsRaisedBy};
 ghost use Rattle.tree_changes.specs.Refusals.{IsRefusal};
 ghost use Rattle.trees.specs.Counts.{change_count, CountsEvents};
+ghost use Rattle.trees.specs.Prepared.{IsPreparedFor, IsPreparedForHost};
 ghost use Rattle.views.specs.ShownWorlds.{world_of};
 ghost use Rattle.views.specs.Nodes.{world_at, id_at, ShowsThe};
 
-use crate::refocusing::tell_focus;
+use crate::refocusing::{focus_events, tell_focus};
 use crate::telling::tell_all;
-use crate::{Steps, TreeChangeHandler};
-use model::FullNodeId;
+use crate::{Prepared, Steps, TreeChangeHandler};
+use model::{FullNodeId, PlanEvent};
 use schema::{NodeId, TreeId, TreeUpdate};
 use std::alloc::{AllocError, Global};
 use std::marker::Model;
@@ -235,6 +236,55 @@ impl TreeState {
         steps.add(2 * change_count(&decision));
         self.store.commit(update, decision);
         Ok(())
+    }
+
+    /// Reserves what an update needs on which it was decided; the state is unchanged if memory runs out.
+    pub(crate) fn prepare(
+        self,
+        alloc: Global,
+        update: TreeUpdate,
+        decision: Decision,
+    ) -> Result<Prepared, TreeState>
+        requires { IsDecision self (update_data update) decision }
+        ensures ok { IfOk result (λ p. IsPreparedFor self (update_data update) p
+            × (p.after ≡ overlaid_world self (update_data update) decision)) }
+        ensures err { IfErr result (λ state. state ≡ self) }
+    {
+        let TreeState { mut store } = self;
+        store.know();
+        match store.reserve(&update, &decision) {
+            Ok(()) => Ok(Prepared::for_update(alloc, store, update, decision)),
+            Err(_) => Err(TreeState { store }),
+        }
+    }
+
+    /// Prepares a focus of the host; the state is unchanged if memory for its events runs out.
+    pub(crate) fn prepare_host_focus(
+        self,
+        alloc: Global,
+        is_host_focused: bool,
+    ) -> Result<Prepared, TreeState>
+        ensures ok { IfOk result (IsPreparedForHost self is_host_focused) }
+        ensures err { IfErr result (λ state. state ≡ self) }
+    {
+        let Ok(events) = self.host_focus_events(alloc, is_host_focused) else {
+            return Err(self);
+        };
+        let TreeState { store } = self;
+        Ok(Prepared::for_host_focus(alloc, store, is_host_focused, events))
+    }
+
+    /// The events of a focus of the host.
+    fn host_focus_events(
+        &self,
+        alloc: Global,
+        is_host_focused: bool,
+    ) -> Result<Vec<PlanEvent>, AllocError>
+        ensures { IfOk result (λ events. AreOfFocus self.now (with_host self.now is_host_focused) [] events.items) }
+    {
+        let next = Laid::with_host_focused(&self.store, is_host_focused);
+        let old = StateRef::new(&self.store);
+        focus_events(alloc, old, StateRef::of_laid(&next))
     }
 
     /// Sets whether the host is focused, and notifies the handler if that changes the focus.

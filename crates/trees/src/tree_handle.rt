@@ -6,10 +6,12 @@ ghost use Rattle.model.specs.Run.{ToUpdate, ToHostFocus, Accepted, Begins, Does}
 ghost use Rattle.model.specs.State.{empty_world};
 ghost use Rattle.model.specs.Work.{Work, IsWorkOf, allowance};
 ghost use Rattle.tree_changes.specs.Refusals.{IsRefusal};
+ghost use Rattle.tree_changes.specs.declared.error.UpdateError.TheVariants.{Memory};
 ghost use Rattle.trees.specs.Counts.{CountsLookUps};
+ghost use Rattle.trees.specs.Prepared.{IsPreparedFor, IsPreparedForHost};
 ghost use Rattle.trees.specs.Replies.{reply_of};
 
-use crate::{Steps, TreeChangeHandler, TreeState};
+use crate::{Prepared, Refused, Steps, TreeChangeHandler, TreeState};
 use schema::TreeUpdate;
 use std::alloc::Global;
 use std::marker::Model;
@@ -20,8 +22,8 @@ use tree_store::{NoRecords, Store};
 /// The accessibility tree of an interface: its root tree, with the trees grafted into it. It changes by updates.
 #[derive(Drop)]
 pub struct Tree {
-    alloc: Global,
-    state: TreeState,
+    pub(crate) alloc: Global,
+    pub(crate) state: TreeState,
 }
 
 impl Model for Tree {
@@ -115,6 +117,61 @@ impl Tree {
         Ok(())
     }
 
+    /// Prepares an update: decides on it, and reserves all that it needs. Both states can be read then, before it is carried out
+    /// or given up.
+    ///
+    /// # Errors
+    ///
+    /// Returns the rule that the update, or the tree that it would leave, breaks, or `UpdateError::Memory` if memory runs out;
+    /// and the tree, which is unchanged.
+    pub fn prepare(self, update: TreeUpdate) -> Result<Prepared, Refused>
+        ensures ok { IfOk result (IsPreparedFor self (update_data update)) }
+        ensures err { IfErr result (λ r. (r.tree ≡ self) × IsRefusal self (update_data update) r.why) }
+    {
+        let mut steps = Steps::new();
+        self.prepare_counted(update, &mut steps)
+    }
+
+    /// Like `prepare`, and counts the look-ups of records of nodes and trees, as
+    /// [`Tree::update_and_process_changes_counted`] does but for those of events and changes.
+    ///
+    /// # Errors
+    ///
+    /// As for [`Tree::prepare`].
+    pub fn prepare_counted(self, update: TreeUpdate, steps: &mut Steps) -> Result<Prepared, Refused>
+        ensures ok { IfOk result (IsPreparedFor self (update_data update)) }
+        ensures err { IfErr result (λ r. (r.tree ≡ self) × IsRefusal self (update_data update) r.why) }
+        ensures steps { IfOk result (λ p. (work : Work) → IsWorkOf self (update_data update) p.after work
+            → steps.new ≤ steps.old + allowance work) }
+        ensures kept { steps.old ≤ steps.new }
+    {
+        let decision = match self.state.decide(self.alloc, &update, steps) {
+            Ok(decision) => decision,
+            Err(why) => return Err(Refused { tree: self, why }),
+        };
+        let Tree { alloc, state } = self;
+        match state.prepare(alloc, update, decision) {
+            Ok(prepared) => Ok(prepared),
+            Err(state) => Err(wanting(alloc, state)),
+        }
+    }
+
+    /// Prepares a focus of the host. Both states can be read then, before it is carried out or given up.
+    ///
+    /// # Errors
+    ///
+    /// Returns `UpdateError::Memory` if memory for the events runs out; and the tree, which is unchanged.
+    pub fn prepare_host_focus(self, is_host_focused: bool) -> Result<Prepared, Refused>
+        ensures ok { IfOk result (IsPreparedForHost self is_host_focused) }
+        ensures err { IfErr result (λ r. (r.tree ≡ self) × (r.why ≡ Memory)) }
+    {
+        let Tree { alloc, state } = self;
+        match state.prepare_host_focus(alloc, is_host_focused) {
+            Ok(prepared) => Ok(prepared),
+            Err(state) => Err(wanting(alloc, state)),
+        }
+    }
+
     /// Sets whether the host is focused. If that changes the focus, the handler is notified that its old node and its
     /// new node were updated and that the focus moved. Does not allocate.
     pub fn update_host_focus_state_and_process_changes<H: TreeChangeHandler>(
@@ -127,5 +184,17 @@ impl Tree {
             × Told H.steps handler.old told handler.new }
     {
         self.state.refocus(is_host_focused, handler);
+    }
+}
+
+/// A tree for which memory ran out.
+fn wanting(alloc: Global, state: TreeState) -> Refused
+    ensures tree { result.tree ≡ state }
+    ensures why { result.why ≡ Memory }
+{
+    let tree = Tree { alloc, state };
+    Refused {
+        tree,
+        why: UpdateError::Memory,
     }
 }
