@@ -1,27 +1,103 @@
 -- The fields of the line that begins an update.
-use Rattle.std.proofs.Common.{◌≡◌, ◌≢◌, ℕ, List, [], ◌∷◌, ◌++◌, codes, arith, true, false, true≢false, Option, Some, None, MatchOption, is_some, option_copied, option_map, Bor, Result, Ok, Err, IsOkAnd, ap, sym, refl, ◌∙◌, append-nil, append_assoc}
+use Rattle.std.proofs.Common.{◌≡◌, List, ℕ, [], ◌∷◌, ◌++◌, codes, arith, Option, Some, None, MatchOption, option_map, ap, sym, refl, ◌∙◌, append-nil, append_assoc}
 use Rattle.std.specs.Bool.{⊤}
 use Rattle.std.specs.Str.{IsUtf8}
 use Rattle.std.specs.Fmt.{decimal}
 use Rattle.schema.specs.UpdateData.{InfoData, UpdateData}
 use Rattle.schema.specs.declared.NodeId.{NodeId}
-use Rattle.script_lines.specs.LineReading.{IsInfo, IsHead, HeadField, Focus, Root, Toolkit, Version, head_name, rest_text, toolkit_fields, version_fields, info_fields, head_fields, HeadData, no_head, with_head_fields, AreFree, info_head, head_of}
-use Rattle.script_words.specs.declared.stops.Stop.{Stop}
+use Rattle.script_lines.specs.LineReading.{IsInfo, IsHead, HeadData, no_head}
 use Rattle.script_lines.specs.Lines.{head_args, info_or_nothing}
 use Rattle.script_words.specs.Parts.{word_field, tree_text}
 use Rattle.script_words.specs.Quoted.{quoted}
-use Rattle.script_words.specs.Reading.{Begins, IsFieldName, IsId, Reads, after}
+use Rattle.script_words.specs.Reading.{IsFieldName, IsId, after}
 use Rattle.script_words.proofs.Lacking.{lacks_by}
+
+-- ---- the fields as they are written, one after another
+
+pub data HeadField : Type 0 where
+  Focus : (id : NodeId) → HeadField
+  Root : (id : NodeId) → HeadField
+  Toolkit : (text : List ℕ) → HeadField
+  Version : (text : List ℕ) → HeadField
+
+abbrev pub head_name : HeadField → List ℕ
+head_name (Focus id) = codes "focus"
+head_name (Root id) = codes "root"
+head_name (Toolkit text) = codes "toolkit"
+head_name (Version text) = codes "version"
+
+abbrev pub head_value : HeadField → List ℕ
+head_value (Focus id) = decimal id.0
+head_value (Root id) = decimal id.0
+head_value (Toolkit text) = quoted text
+head_value (Version text) = quoted text
+
+abbrev pub IsHeadField : HeadField → Type 0
+IsHeadField (Focus id) = IsId id
+IsHeadField (Root id) = IsId id
+IsHeadField (Toolkit text) = IsUtf8 text
+IsHeadField (Version text) = IsUtf8 text
+
+-- the rest of the line if these fields come next
+unfoldable pub rest_text : List HeadField → Option (List ℕ)
+rest_text [] = None
+rest_text (field ∷ others) = Some (head_name field ++ codes "=" ++ head_value field ++ after (rest_text others))
+
+abbrev pub toolkit_fields : Option (List ℕ) → List HeadField
+toolkit_fields None = []
+toolkit_fields (Some text) = Toolkit text ∷ []
+
+abbrev pub version_fields : Option (List ℕ) → List HeadField
+version_fields None = []
+version_fields (Some text) = Version text ∷ []
+
+abbrev pub info_fields : Option InfoData → List HeadField
+info_fields None = []
+info_fields (Some info) = Root info.root ∷ (toolkit_fields info.toolkit_name ++ version_fields info.toolkit_version)
+
+abbrev pub head_fields : UpdateData → List HeadField
+head_fields u = Focus u.focus ∷ info_fields u.info
+
+-- ---- what is read of them
+
+abbrev pub with_head_field : HeadField → HeadData → HeadData
+with_head_field (Focus id) head = record head { focus = Some id }
+with_head_field (Root id) head = record head { root = Some id }
+with_head_field (Toolkit text) head = record head { toolkit = Some text }
+with_head_field (Version text) head = record head { version = Some text }
+
+-- a field that wasn't read yet
+abbrev pub IsFree : HeadField → HeadData → Type 0
+IsFree (Focus id) head = head.focus ≡ None
+IsFree (Root id) head = head.root ≡ None
+IsFree (Toolkit text) head = head.toolkit ≡ None
+IsFree (Version text) head = head.version ≡ None
+
+unfoldable pub with_head_fields : List HeadField → HeadData → HeadData
+with_head_fields [] head = head
+with_head_fields (field ∷ others) head = with_head_fields others (with_head_field field head)
+
+-- fields that can be read one after another
+unfoldable pub AreFree : List HeadField → HeadData → Type 0
+AreFree [] head = ⊤
+AreFree (field ∷ others) head = IsHeadField field × IsFree field head × AreFree others (with_head_field field head)
+
+-- all fields of an update's head
+abbrev pub info_head : NodeId → Option InfoData → HeadData
+info_head focus None = record { focus = Some focus; root = None; toolkit = None; version = None }
+info_head focus (Some info) =
+    record { focus = Some focus; root = Some info.root; toolkit = info.toolkit_name; version = info.toolkit_version }
+
+abbrev pub head_of : UpdateData → HeadData
+head_of u = info_head u.focus u.info
+
+-- ---- their names, and the line
 
 pub head_name_is_field_name : (field : HeadField) → IsFieldName (head_name field)
 head_name_is_field_name (Focus id) = ((lacks_by 32 (codes "focus") refl, omega arith), lacks_by 61 (codes "focus") refl)
 head_name_is_field_name (Root id) = ((lacks_by 32 (codes "root") refl, omega arith), lacks_by 61 (codes "root") refl)
 head_name_is_field_name (Toolkit text) = ((lacks_by 32 (codes "toolkit") refl, omega arith), lacks_by 61 (codes "toolkit") refl)
 head_name_is_field_name (Version text) = ((lacks_by 32 (codes "version") refl, omega arith), lacks_by 61 (codes "version") refl)
-
--- what comes after a field's equals sign
-pub begins_value : (line : Option (List ℕ)) (name value : List ℕ) (rest : Option (List ℕ)) → Begins line (name ++ codes "=" ++ value) rest → line ≡ Some (name ++ codes "=" ++ (value ++ after rest))
-begins_value line name value rest e = e ∙ ap Some (append_assoc (name ++ codes "=") value (after rest))
 
 -- what is written of the toolkit
 texts_are_fields : (before : List ℕ) (toolkit version : Option (List ℕ)) →
@@ -78,21 +154,3 @@ head_at focus (Some info) = texts_head focus info.root info.toolkit_name info.to
 
 pub fields_are_head : (u : UpdateData) → with_head_fields (head_fields u) no_head ≡ head_of u
 fields_are_head u = head_at u.focus u.info
-
--- ---- the end of the line
-
-pub some_left : (rest : Option (Bor (List ℕ))) → true ≡ is_some rest → option_copied rest ≢ None
-some_left None t e = true≢false t
-some_left (Some text) t e = cc
-
-pub none_left : (rest : Option (Bor (List ℕ))) (fields : List HeadField) (head : HeadData) → false ≡ is_some rest → option_copied rest ≡ rest_text fields → with_head_fields fields head ≡ head
-unfolding rest_text with_head_fields
-none_left rest [] head f e = refl
-none_left None (field ∷ others) head f e = cc
-none_left (Some text) (field ∷ others) head f e = absurd (true≢false (sym f))
-
--- ---- what is read without fail
-
-pub reads_ok : {T : Type 0} (result : Result T Stop) (P : T → Type 0) → IsOkAnd result P → Reads result P
-reads_ok (Ok value) P h = h
-reads_ok (Err stop) P h = absurd h

@@ -8,3 +8,13 @@ pub mod CommandLines
 pub mod FaultTold
 pub mod Mapped
 pub mod CommentTexts
+pub mod QuestionWords
+pub mod PlainLines
+pub mod InputFaults
+pub mod HeadMeanings
+pub mod HeadSteps
+pub mod HeadAnswers
+pub mod UpdateLines
+pub mod WrittenWords
+pub mod WrittenHeads
+pub mod WrittenLines

@@ -1,5 +1,5 @@
 -- A line without its end.
-use Rattle.std.proofs.Common.{◌≡◌, ◌≢◌, ℕ, ◌+◌, ◌-◌, ◌<◌, List, [], ◌∷◌, ◌++◌, length, slice_index, take, Bool, true, nat_lt, ◌==◌, Bor, Option, Some, None, IfSome, MatchOption, length-append, arith, eqb-true, eq-eqb, refl, sym, ap, ◌∙◌, ⊎_elim, take_all}
+use Rattle.std.proofs.Common.{◌≡◌, ◌≢◌, ℕ, ◌+◌, ◌-◌, ◌<◌, List, [], ◌∷◌, ◌++◌, length, slice_index, take, Bool, true, false, true≢false, nat_lt, ◌==◌, Bor, Option, Some, None, IfSome, MatchOption, length-append, arith, eqb-true, eq-eqb, refl, sym, ap, ◌∙◌, ⊎_elim, take_all}
 use Rattle.std.specs.Option.{unwrap_or}
 use Rattle.std.specs.Io.BufRead.{ends_with_byte, strip_last, take_through}
 use Rattle.std.proofs.BufReadLemmas.{take_through-nil}
@@ -41,6 +41,10 @@ none_read None line h e = tt
 none_read (Some bytes) line h e = take_through-nil 10 bytes (ap length (sym h ∙ e))
 
 -- as `is_empty` has it
+pub some_items : (items : List ℕ) (n : ℕ) (b : Bool) → n ≡ length items → b ≡ (n == 0) → b ≡ false → items ≢ []
+some_items [] n b l e f none = let same : (n == 0) ≡ true = eq-eqb n 0 l in absurd (true≢false (sym same ∙ sym e ∙ f))
+some_items (x ∷ xs) n b l e f none = cc
+
 pub no_items : (items : List ℕ) (n : ℕ) (b : Bool) → n ≡ length items → b ≡ (n == 0) → b ≡ true → items ≡ []
 no_items [] n b l e t = refl
 no_items (x ∷ xs) n b l e t = let none : n ≡ 0 = eqb-true n 0 (sym e ∙ t) in absurd (omega (arith, l, none))

@@ -9,11 +9,8 @@ use Rattle.script_lines.specs.Lines.{host_text}
 use Rattle.script_nodes.specs.NodeReading.{node_args}
 use Rattle.script_nodes.specs.NodeText.{node_text, node_head}
 use Rattle.script_lines.specs.Questions.{question_word}
-use Rattle.script_words.specs.Reading.{IsWord, after}
+use Rattle.script_words.specs.Reading.{after}
 use Rattle.script_words.proofs.Lacking.{lacks_by}
-
-pub update_is_line_word : IsLineWord (codes "update")
-update_is_line_word = ((lacks_by 32 (codes "update") refl, omega arith), λ e. omega (arith, e))
 
 pub node_is_line_word : IsLineWord (codes "node")
 node_is_line_word = ((lacks_by 32 (codes "node") refl, omega arith), λ e. omega (arith, e))
@@ -43,10 +40,6 @@ question_is_line_word query.Focus = ((lacks_by 32 (codes "focus") refl, omega ar
 question_is_line_word (query.Move name at movement) = ((lacks_by 32 (codes "move") refl, omega arith), λ e. omega (arith, e))
 question_is_line_word (query.Indexes name at) = ((lacks_by 32 (codes "indexes") refl, omega arith), λ e. omega (arith, e))
 question_is_line_word (query.RangeText name start finish) = ((lacks_by 32 (codes "between") refl, omega arith), λ e. omega (arith, e))
-
-pub host_word_is_word : (is_focused : Bool) → IsWord (host_word is_focused)
-host_word_is_word true = (lacks_by 32 (codes "on") refl, omega arith)
-host_word_is_word false = (lacks_by 32 (codes "off") refl, omega arith)
 
 -- ---- a line is its first word and what stands after it
 

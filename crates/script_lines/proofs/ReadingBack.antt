@@ -12,7 +12,7 @@ use Rattle.schema.specs.UpdateData.{UpdateData}
 use Rattle.schema.specs.declared.NodeId.{NodeId}
 use Rattle.script_lines.specs.Commands.{Said, Sends, Turns, Prints, Asks, said}
 use Rattle.script_lines.specs.InputLines.{ReadsAs, ReadsLine, without_end}
-use Rattle.script_lines.specs.LineReading.{IsHead}
+use Rattle.script_lines.specs.LineReading.{BeginsUpdate, IsHead}
 use Rattle.script_lines.specs.Lines.{entry_line, head_args, host_text, said_lines}
 use Rattle.script_nodes.specs.NodeReading.{IsNode}
 use Rattle.script_nodes.specs.NodeText.{node_line, node_text}
@@ -27,7 +27,12 @@ use Rattle.script_lines.specs.declared.reader.ScriptCommand.{ScriptCommand}
 use Rattle.script_lines.specs.declared.reader.ScriptReader.{ScriptReader}
 use Rattle.script_words.specs.declared.stops.Stop.{Stop}
 use Rattle.script_words.specs.declared.stops.Stop.TheVariants.{BadLine, Memory, ReadFault, WriteFault}
-use Rattle.script_lines.proofs.Places.{Answers}
+use Rattle.script_lines.proofs.Places.{Answers as PlaceAnswers}
+use Rattle.script_lines.proofs.WrittenHeads.{head_written}
+use Rattle.script_lines.proofs.WrittenLines.{IsPlain, end_plain, end_written, host_plain, host_written, print_plain, print_written, question_plain, question_written}
+use Rattle.script_lines.specs.LineMeaning.{plain_line_means}
+use Rattle.script_words.specs.Cuts.{part_before, rest_behind}
+use Rattle.script_words.specs.Meaning.{Answers}
 use Rattle.script_lines.proofs.LineEnds.{strip_kept, strip_pushed}
 use Rattle.script_words.proofs.LineTexts.{IsLineText, line_by, newline_utf8}
 use Rattle.script_nodes.proofs.NodeLines.{node_text_line}
@@ -131,31 +136,35 @@ read line = Ok line
 abbrev stopped : Stop → Result Line Stop
 stopped stop = Err stop
 
-is_line : (line other : Line) → read line ≡ read other → line ≡ other
-is_line line other e = cc
-
-never : (stop : Stop) (line : Line) → stopped stop ≡ read line → ⊥
-never stop line e = cc
+-- a line without fields is read as what it means
+plain_sure : (text : List ℕ) (meant : Line) (begun : Option UpdateData) (t : Taken) → IsPlain text → plain_line_means text ≡ Some meant → taken begun meant ≡ Some t → IsSure text begun t
+plain_sure text meant begun t plain e is = (
+  (λ line r. ap (taken begun) (same_Some line meant (sym (r.plain plain.0 plain.1) ∙ e)) ∙ is),
+  (λ r. none-some meant (sym (r.plain plain.0 plain.1).1 ∙ e)),
+)
 
 print_sure : IsSure (codes "print") None (record { gives = Some Prints; begun = None })
-print_sure = (λ line r. ap (taken None) (is_line line says.Print (r.print refl)), λ r. never BadLine says.Print (r.print refl))
+print_sure = plain_sure (codes "print") says.Print None (record { gives = Some Prints; begun = None }) print_plain print_written refl
 
 host_sure : (b : Bool) → IsSure (host_text b) None (record { gives = Some (Turns b); begun = None })
-host_sure b = (λ line r. ap (taken None) (is_line line (says.HostFocus b) (r.host b refl)), λ r. never BadLine (says.HostFocus b) (r.host b refl))
+host_sure b = plain_sure (host_text b) (says.HostFocus b) None (record { gives = Some (Turns b); begun = None }) (host_plain b) (host_written b) refl
 
 query_sure : (q : Query) → IsQuery q → IsSure (question_text q) None (record { gives = Some (Asks q); begun = None })
-query_sure q h = (λ line r. ap (taken None) (is_line line (says.Query q) (r.query q h refl)), λ r. never BadLine (says.Query q) (r.query q h refl))
+query_sure q h = plain_sure (question_text q) (says.Query q) None (record { gives = Some (Asks q); begun = None }) (question_plain q) (question_written q h) refl
 
 end_sure : (u : UpdateData) → IsSure (codes "end") (Some u) (record { gives = Some (Sends u); begun = None })
-end_sure u = (λ line r. ap (taken (Some u)) (is_line line says.End (r.end refl)), λ r. never BadLine says.End (r.end refl))
+end_sure u = plain_sure (codes "end") says.End (Some u) (record { gives = Some (Sends u); begun = None }) end_plain end_written refl
 
 not_memory : BadLine ≡ Memory → ⊥
 not_memory e = cc
 
 head_sure : (u : UpdateData) → IsHead u → u.nodes ≡ [] → IsSure (codes "update " ++ head_args u) None (record { gives = None; begun = Some u })
+unfolding part_before rest_behind
 head_sure u h none = (
-  λ line r. let k = r.head u h none refl in ap (taken None) k.1 ∙ ap (λ v. goes_on (Some v)) k.2,
-  λ r. not_memory (r.head u h none refl),
+  (λ line r.
+      let k = subst (λ o. Answers o (read line) BeginsUpdate) (head_written u h none) (r.update refl) in
+      ap (taken None) k.2.1 ∙ ap (λ v. goes_on (Some v)) (k.2.2 ∙ sym (same_Some u k.0 k.1))),
+  (λ r. none-some u (sym (subst (λ o. Answers o (stopped BadLine) BeginsUpdate) (head_written u h none) (r.update refl)))),
 )
 
 node_sure : (u : UpdateData) (id : NodeId) (n : NodeData) → IsId id → IsNode n → IsSure (node_text id n) (Some u) (record { gives = None; begun = Some (with_entry u id n) })
@@ -232,8 +241,8 @@ left_there [] (Ok read) next reader after b p = (b.0, p.1.1 ∙ b.1)
 left_there (c ∷ others) (Ok read) next reader after b p = (b.0, p.1.1 ∙ b.1)
 
 -- as a reader's contract has it
-pub reads_back : (before after : Option (List ℕ)) (first reader : ScriptReader) (result : Result (Option ScriptCommand) Stop) → Answers before first result reader after
+pub reads_back : (before after : Option (List ℕ)) (first reader : ScriptReader) (result : Result (Option ScriptCommand) Stop) → PlaceAnswers before first result reader after
     → (commands : List Said) → All IsSaid commands → begun_of first ≡ None → before ≡ Some (script_text commands) → ReadsBack commands result after
 reads_back before after first reader result answers commands h none e =
-    let k = subst (λ o. Answers o first result reader after) e answers in
+    let k = subst (λ o. PlaceAnswers o first result reader after) e answers in
     left_there commands result k.0 reader after (script_back commands (place first (script_text commands)) k.0 result h none refl k.1) k.2

@@ -1,17 +1,15 @@
 -- The lines of an input, as they stand in its bytes.
-use Rattle.std.specs.Prelude.{ℕ, ◌+◌, ◌-◌, ◌^◌, min, List, [], ◌≢◌, ◌≡◌, ◌⊎◌, ◌↔◌, ◌++◌, codes, slice_index_or, Bool, Option, Some, None, Result, Ok, Err}
+use Rattle.std.specs.Prelude.{ℕ, ◌+◌, ◌-◌, ◌^◌, min, List, [], ◌≢◌, ◌≡◌, ◌⊎◌, ◌↔◌, slice_index_or, Option, Some, None, Result, Ok, Err}
 use Rattle.std.specs.Io.BufRead.{take_through, strip_last}
 use Rattle.std.specs.Str.{IsUtf8}
-use Rattle.model.specs.declared.queries.Query.{Query}
 use Rattle.schema.specs.NodeData.{NodeData}
-use Rattle.schema.specs.UpdateData.{UpdateData}
 use Rattle.schema.specs.declared.NodeId.{NodeId}
-use Rattle.script_lines.specs.LineReading.{BeginsUpdate, IsHead}
-use Rattle.script_lines.specs.Lines.{head_args, host_text}
+use Rattle.script_lines.specs.HeadMeaning.{ReadsUpdate}
+use Rattle.script_lines.specs.LineMeaning.{ReadsPlain}
 use Rattle.script_nodes.specs.NodeReading.{IsNode}
 use Rattle.script_nodes.specs.NodeText.{node_text}
-use Rattle.script_lines.specs.Questions.{IsQuery, question_text}
 use Rattle.script_words.specs.Reading.{IsId, Reads}
+use Rattle.script_lines.specs.declared.line_reader.Looks.{Looks}
 use Rattle.script_lines.specs.declared.lines.Line.{Line}
 use Rattle.script_lines.specs.declared.lines.Line.TheVariants as says
 use Rattle.script_words.specs.declared.stops.Stop.{Stop}
@@ -33,15 +31,12 @@ next_number n = min (n + 1) (2 ^ 64 - 1)
 abbrev pub IsBlank : List ℕ → Type 0
 IsBlank text = (text ≡ []) ⊎ (slice_index_or text 0 0 ≡ 35)
 
--- a line that says nothing, and each line as it is written, is read as what it says
+-- any line but that of a node is read as what it means, and the line of a node as it is written; only one that says nothing is read so
 pub record ReadsAs (text : List ℕ) (result : Result Line Stop) : Type 0 where
   pub nothing : (result ≡ Ok says.Nothing) ↔ IsBlank text
-  pub head : (u : UpdateData) → IsHead u → u.nodes ≡ [] → text ≡ codes "update " ++ head_args u → Reads result (BeginsUpdate u)
   pub node : (id : NodeId) (n : NodeData) → IsId id → IsNode n → text ≡ node_text id n → Reads result (λ read. read ≡ says.Node id n)
-  pub end : text ≡ codes "end" → result ≡ Ok says.End
-  pub host : (is_focused : Bool) → text ≡ host_text is_focused → result ≡ Ok (says.HostFocus is_focused)
-  pub print : text ≡ codes "print" → result ≡ Ok says.Print
-  pub query : (q : Query) → IsQuery q → text ≡ question_text q → result ≡ Ok (says.Query q)
+  pub plain : ReadsPlain text result
+  pub update : ReadsUpdate text result
 
 -- what stops a reading that isn't about a line: a fault of the input, or want of memory
 abbrev pub StopsReading : Stop → Type 0
@@ -62,3 +57,14 @@ abbrev pub CountsLine : ℕ → Result (Option Line) Stop → ℕ → Type 0
 CountsLine before (Ok None) after = after ≡ before
 CountsLine before (Ok (Some line)) after = after ≡ next_number before
 CountsLine before (Err stop) after = stop ≡ BadLine → after ≡ next_number before
+
+-- ---- faults of the input
+
+-- it gave one more error, or was looked at for one line as often as 64 bits can count
+abbrev pub HasFailed : Looks → Looks → Type 0
+HasFailed before after = (after.failures ≡ next_number before.failures) ⊎ (after.count ≡ 2 ^ 64 - 1)
+
+-- a reading answers that it has a fault only where it has failed, and counts no other failure
+abbrev pub CountsFaults : {T : Type 0} → Result T Stop → Looks → Looks → Type 0
+CountsFaults result before after =
+    (result ≡ Err ReadFault → HasFailed before after) × (result ≢ Err ReadFault → after.failures ≡ before.failures)

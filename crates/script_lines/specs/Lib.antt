@@ -4,6 +4,9 @@ pub mod ArgumentErrors
 pub mod Arguments
 pub mod Ends
 pub mod LineReading
+pub mod QuestionMeaning
+pub mod LineMeaning
+pub mod HeadMeaning
 pub mod Commands
 pub mod Comments
 pub mod Taking

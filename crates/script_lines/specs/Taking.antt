@@ -1,10 +1,10 @@
 -- What a line does to a reader of a script.
-use Rattle.std.specs.Prelude.{ℕ, List, [], ◌∷◌, ◌++◌, ◌≡◌, Option, Some, None, option_map, Result, Ok, Err}
+use Rattle.std.specs.Prelude.{ℕ, ◌-◌, ◌^◌, ◌≤◌, ◌⊎◌, List, [], ◌∷◌, ◌++◌, ◌≡◌, Option, Some, None, option_map, Result, Err}
 use Rattle.schema.specs.NodeData.{NodeData}
 use Rattle.schema.specs.UpdateData.{UpdateData, update_data}
 use Rattle.schema.specs.declared.NodeId.{NodeId}
 use Rattle.script_lines.specs.Commands.{Said, Sends, Turns, Prints, Asks, said}
-use Rattle.script_lines.specs.InputLines.{without_end}
+use Rattle.script_lines.specs.InputLines.{HasFailed, without_end}
 use Rattle.script_words.specs.Reading.{Reads}
 use Rattle.script_lines.specs.declared.lines.Line.{Line}
 use Rattle.script_lines.specs.declared.lines.Line.TheVariants as says
@@ -20,6 +20,14 @@ begun_of reader = option_map update_data reader.begun
 -- the number of the last line that it has read
 abbrev pub number_of : ScriptReader → ℕ
 number_of reader = reader.lines.number
+
+-- how often its input gave an error
+abbrev pub failures_of : ScriptReader → ℕ
+failures_of reader = reader.lines.looks.failures
+
+-- From the one state of a reader to the other its input has failed, or a line is the last that can be counted.
+abbrev pub FaultHasCause : ScriptReader → ScriptReader → Type 0
+FaultHasCause before after = HasFailed before.lines.looks after.lines.looks ⊎ (2 ^ 64 - 1 ≤ number_of after)
 
 -- the comment before the next command, as far as it has read
 abbrev pub comment_of : ScriptReader → List ℕ

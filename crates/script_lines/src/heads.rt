@@ -1,15 +1,15 @@
 //! The line that begins an update.
 
-ghost use Rattle.std.specs.Prelude.{ℕ, List, [], ◌<◌, ◌≡◌, ◌++◌, codes, Option, Some, None, Ok, IsOkAnd, OnOk, option_copied, option_map};
-ghost use Rattle.std.specs.Fmt.{decimal};
-ghost use Rattle.std.specs.Str.{IsUtf8};
+ghost use Rattle.std.specs.Prelude.{◌<◌, ◌≡◌, Option, Some, OnOk, option_copied, option_map};
 ghost use Rattle.std.specs.String.{string_bytes};
-ghost use Rattle.schema.specs.UpdateData.{InfoData, UpdateData, info_data, update_data};
-ghost use Rattle.schema.specs.declared.NodeId.{NodeId};
-ghost use Rattle.script_lines.specs.LineReading.{AreFree, HeadField, IsFree, IsHead, IsHeadField, head_data, head_name, head_of, head_value, info_head, no_head, rest_text, with_head_field, with_head_fields};
-ghost use Rattle.script_lines.specs.Lines.{head_args};
-ghost use Rattle.script_words.specs.Quoted.{quoted};
-ghost use Rattle.script_words.specs.Reading.{Begins, IsId, Reads};
+ghost use Rattle.schema.specs.UpdateData.{info_data, update_data};
+ghost use Rattle.script_lines.specs.HeadMeaning.{field_means, finished, info_of, once_next, takes_text, update_means, value_at};
+ghost use Rattle.script_lines.specs.LineReading.{HeadData, head_data, no_head};
+ghost use Rattle.script_words.specs.Fields.{each_word, fields_of, one_word};
+ghost use Rattle.script_words.specs.Meaning.{Answers, next_as};
+ghost use Rattle.script_words.specs.Reading.{unread};
+ghost use Rattle.script_words.specs.Texts.{next_text};
+ghost use Rattle.script_words.specs.WordValues.{id_of};
 ghost use Rattle.script_words.specs.Words.{left};
 
 use schema::{NodeId, TreeId, TreeInfo, TreeUpdate};
@@ -29,8 +29,7 @@ struct Head {
 /// Reads `update TREE focus=ID [root=ID] [toolkit="t"] [version="t"]`, from `TREE` on. The fields may be in any order;
 /// those of the toolkit are only allowed with `root=`.
 pub(crate) fn update_line(alloc: Global, mut words: Words) -> Result<TreeUpdate, Stop>
-    ensures reads { (u : UpdateData) → IsHead u → u.nodes ≡ [] → option_copied words.entry.rest ≡ Some (head_args u) →
-        Reads result (λ update. update_data update ≡ u) }
+    ensures { Answers (update_means (unread words.entry)) result (λ u read. update_data read ≡ u) }
 {
     let tree_id = words.tree()?;
     let mut head = Head::new();
@@ -53,8 +52,8 @@ impl Head {
 
     /// Reads fields, up to the end of the line.
     fn read_fields(&mut self, alloc: Global, words: &mut Words) -> Result<(), Stop>
-        ensures reads { (fields : List HeadField) → AreFree fields (head_data self.old) → option_copied words.old.rest ≡ rest_text fields →
-            Reads result (λ _. head_data self.new ≡ with_head_fields fields (head_data self.old)) }
+        ensures { Answers (each_word field_means (fields_of takes_text (unread words.old)) (head_data self.old)) result
+            (λ head _. head_data self.new ≡ head) }
     {
         while words.rest.is_some() {
             self.read_field(alloc, words)?;
@@ -64,10 +63,9 @@ impl Head {
 
     /// Reads a field, which wasn't read yet.
     fn read_field(&mut self, alloc: Global, words: &mut Words) -> Result<(), Stop>
-        ensures reads { (field : HeadField) (rest : Option (List ℕ)) → IsHeadField field → IsFree field (head_data self.old) →
-            Begins (option_copied words.old.rest) (head_name field ++ codes "=" ++ head_value field) rest →
-            Reads result (λ _. (head_data self.new ≡ with_head_field field (head_data self.old)) × (option_copied words.new.rest ≡ rest)) }
         ensures shorter { OnOk result (left (option_copied words.new.rest) < left (option_copied words.old.rest)) }
+        ensures means { Answers (one_word field_means (fields_of takes_text (unread words.old)) (head_data self.old)) result
+            (λ next _. (head_data self.new ≡ next.0) × (fields_of takes_text (unread words.new) ≡ next.1)) }
     {
         let (name, has_value) = words.field()?;
         if !has_value {
@@ -78,10 +76,9 @@ impl Head {
 
     /// Reads the value of a field, which wasn't read yet.
     fn read_value(&mut self, alloc: Global, name: &str, words: &mut Words) -> Result<(), Stop>
-        ensures reads { (field : HeadField) (rest : Option (List ℕ)) → IsHeadField field → IsFree field (head_data self.old) →
-            name.now ≡ head_name field → Begins (option_copied words.old.rest) (head_value field) rest →
-            Reads result (λ _. (head_data self.new ≡ with_head_field field (head_data self.old)) × (option_copied words.new.rest ≡ rest)) }
         ensures shorter { OnOk result (left (option_copied words.new.rest) < left (option_copied words.old.rest)) }
+        ensures means { Answers (value_at name.now (unread words.old) (head_data self.old)) result
+            (λ read _. (head_data self.new ≡ read.0) × (unread words.new ≡ read.1)) }
     {
         match name {
             "focus" => new_id(words, &mut self.focus),
@@ -94,8 +91,7 @@ impl Head {
 
     /// The update of this tree, still without nodes.
     fn finish(self, alloc: Global, tree_id: TreeId) -> Result<TreeUpdate, Stop>
-        ensures reads { (u : UpdateData) → u.nodes ≡ [] → u.name ≡ tree_id → head_data self ≡ head_of u →
-            IsOkAnd result (λ update. update_data update ≡ u) }
+        ensures { Answers (finished tree_id (head_data self)) result (λ u read. update_data read ≡ u) }
     {
         let focus = self.focus.ok_or(Stop::BadLine)?;
         let tree = tree_info(self.root, self.toolkit_name, self.toolkit_version)?;
@@ -114,14 +110,9 @@ fn tree_info(
     toolkit_name: Option<String>,
     toolkit_version: Option<String>,
 ) -> Result<Option<TreeInfo>, Stop>
-    ensures reads { (focus : NodeId) (info : Option InfoData) →
-        record {
-          focus = Some focus;
-          root = root;
-          toolkit = option_map string_bytes toolkit_name;
-          version = option_map string_bytes toolkit_version;
-        } ≡ info_head focus info
-        → IsOkAnd result (λ tree. option_map info_data tree ≡ info) }
+    ensures { (head : HeadData) → head.toolkit ≡ option_map string_bytes toolkit_name
+        → head.version ≡ option_map string_bytes toolkit_version
+        → Answers (info_of head root) result (λ info read. option_map info_data read ≡ info) }
 {
     match root {
         Some(root) => Ok(Some(TreeInfo {
@@ -136,9 +127,9 @@ fn tree_info(
 
 /// Reads the next word as a node's id, if none was read yet.
 fn new_id(words: &mut Words, place: &mut Option<NodeId>) -> Result<(), Stop>
-    ensures reads { (id : NodeId) (rest : Option (List ℕ)) → IsId id → Begins (option_copied words.old.rest) (decimal id.0) rest →
-        place.old ≡ None → (result ≡ Ok tt) × (place.new ≡ Some id) × (option_copied words.new.rest ≡ rest) }
     ensures shorter { OnOk result (left (option_copied words.new.rest) < left (option_copied words.old.rest)) }
+    ensures means { Answers (once_next place.old (next_as id_of (unread words.old))) result
+        (λ read _. (place.new ≡ Some read.0) × (unread words.new ≡ read.1)) }
 {
     if place.is_some() {
         return Err(Stop::BadLine);
@@ -149,9 +140,9 @@ fn new_id(words: &mut Words, place: &mut Option<NodeId>) -> Result<(), Stop>
 
 /// Reads the next text, if none was read yet.
 fn new_text(alloc: Global, words: &mut Words, place: &mut Option<String>) -> Result<(), Stop>
-    ensures reads { (text : List ℕ) (rest : Option (List ℕ)) → IsUtf8 text → Begins (option_copied words.old.rest) (quoted text) rest →
-        place.old ≡ None → Reads result (λ _. (option_map string_bytes place.new ≡ Some text) × (option_copied words.new.rest ≡ rest)) }
     ensures shorter { OnOk result (left (option_copied words.new.rest) < left (option_copied words.old.rest)) }
+    ensures means { Answers (once_next (option_map string_bytes place.old) (next_text (unread words.old))) result
+        (λ read _. (option_map string_bytes place.new ≡ Some read.0) × (unread words.new ≡ read.1)) }
 {
     if place.is_some() {
         return Err(Stop::BadLine);

@@ -4,13 +4,23 @@ ghost use Rattle.std.specs.Prelude.{◌≡◌, ◌≢◌, ◌-◌, ◌≤◌, �
 ghost use Rattle.std.specs.Io.{IsEmptyOrEndsWith, StartsWith, StopsAt, appended_bytes};
 ghost use Rattle.std.specs.Io.BufRead.{DropsThrough, strip_last, take_through};
 ghost use Rattle.std.specs.Io.KnownBytes.{Consumes, IsAtEnd};
-ghost use Rattle.script_lines.specs.InputLines.{CountsLine, ReadsLine, ReadsNext, StopsReading, without_end};
+ghost use Rattle.script_lines.specs.InputLines.{CountsFaults, CountsLine, ReadsLine, ReadsNext, StopsReading, next_number, without_end};
+ghost use Rattle.script_words.specs.declared.stops.Stop.TheVariants as stop_;
 
 use crate::lines::{Line, read_line};
 use script_words::stops::Stop;
 use std::alloc::Global;
 use std::io::{BufRead, ErrorKind};
 use std::str;
+
+/// How an input was looked at.
+#[derive(Clone, Copy)]
+pub(crate) struct Looks {
+    /// How often for the last line.
+    pub(crate) count: u64,
+    /// How often it gave an error in all.
+    pub(crate) failures: u64,
+}
 
 /// The lines of a script read so far.
 #[derive(Drop)]
@@ -20,16 +30,23 @@ pub(crate) struct LineReader {
     pub(crate) bytes: Vec<u8>,
     /// Its number, counted from 1.
     pub(crate) number: u64,
+    /// How the input was looked at.
+    pub(crate) looks: Looks,
 }
 
 impl LineReader {
     pub(crate) fn new(alloc: Global) -> LineReader
-        ensures { result.number ≡ 0 }
+        ensures number { result.number ≡ 0 }
+        ensures failures { result.looks.failures ≡ 0 }
     {
         LineReader {
             alloc,
             bytes: Vec::new(alloc),
             number: 0,
+            looks: Looks {
+                count: 0,
+                failures: 0,
+            },
         }
     }
 
@@ -39,8 +56,9 @@ impl LineReader {
         ensures bytes { OnOk result (IfSome (R.remaining input.old) (λ left. self.new.bytes.items ≡ take_through 10 left)) }
         ensures rest { OnOk result (DropsThrough (R.remaining input.old) (R.remaining input.new) 10) }
         ensures counts { CountsLine self.old.number result self.new.number }
+        ensures faults { CountsFaults result self.old.looks self.new.looks }
     {
-        read_bytes(input, &mut self.bytes)?;
+        read_bytes(input, &mut self.bytes, &mut self.looks)?;
         if self.bytes.is_empty() {
             return Ok(None);
         }
@@ -52,23 +70,40 @@ impl LineReader {
 
 /// What a line says that is in these bytes, with its line end.
 fn line_of(alloc: Global, bytes: &[u8]) -> Result<Line, Stop>
-    ensures { ReadsLine bytes.now result }
+    ensures reads { ReadsLine bytes.now result }
+    ensures stops { result ≢ Err stop_.ReadFault }
 {
     let Ok(text) = str::from_utf8(bytes) else {
         return Err(Stop::BadLine);
     };
-    read_line(alloc, without_line_end(text))
+    match read_line(alloc, without_line_end(text)) {
+        Ok(line) => Ok(line),
+        Err(stop) => Err(line_stop(stop)),
+    }
+}
+
+/// What stops the reading of a line: that memory runs out, or else that the line is bad.
+fn line_stop(stop: Stop) -> Stop
+    ensures memory { stop ≡ stop_.Memory → result ≡ stop_.Memory }
+    ensures bad { stop ≢ stop_.Memory → result ≡ stop_.BadLine }
+{
+    match stop {
+        Stop::Memory => Stop::Memory,
+        _ => Stop::BadLine,
+    }
 }
 
 /// Reads the next line, with its line end. At the end of the input there are no bytes of it.
-fn read_bytes<R: BufRead>(input: &mut R, bytes: &mut Vec<u8>) -> Result<(), Stop>
+fn read_bytes<R: BufRead>(input: &mut R, bytes: &mut Vec<u8>, looks: &mut Looks) -> Result<(), Stop>
     ensures bytes { OnOk result (IfSome (R.remaining input.old) (λ left. bytes.new.items ≡ take_through 10 left)) }
     ensures rest { OnOk result (DropsThrough (R.remaining input.old) (R.remaining input.new) 10) }
     ensures stops { IfErr result StopsReading }
+    ensures faults { CountsFaults result looks.old looks.new }
 {
     bytes.clear();
-    for _ in 0..u64::MAX {
-        if read_part(input, bytes)? {
+    looks.count = 0;
+    'looking: while looks.count < u64::MAX {
+        if read_part(input, bytes, looks)? {
             return Ok(());
         }
     }
@@ -76,7 +111,11 @@ fn read_bytes<R: BufRead>(input: &mut R, bytes: &mut Vec<u8>) -> Result<(), Stop
 }
 
 /// Adds the bytes that the input shows, up to a newline, and answers whether the line has ended.
-fn read_part<R: BufRead>(input: &mut R, bytes: &mut Vec<u8>) -> Result<bool, Stop>
+fn read_part<R: BufRead>(
+    input: &mut R,
+    bytes: &mut Vec<u8>,
+    looks: &mut Looks,
+) -> Result<bool, Stop>
     ensures appends { StartsWith bytes.new.items bytes.old.items }
     ensures bytes { Consumes (R.remaining input.old) (R.remaining input.new) (appended_bytes bytes.old.items bytes.new.items) }
     ensures ended { result ≡ Ok true → StopsAt (appended_bytes bytes.old.items bytes.new.items) 10
@@ -85,11 +124,18 @@ fn read_part<R: BufRead>(input: &mut R, bytes: &mut Vec<u8>) -> Result<bool, Sto
         OnSome (R.remaining input.old) (IsAtEnd (R.remaining input.new)) }
     ensures goes_on { result ≡ Ok false → All (λ byte. byte ≢ 10) (appended_bytes bytes.old.items bytes.new.items) }
     ensures stops { IfErr result StopsReading }
+    ensures looks { looks.new.count ≡ next_number looks.old.count }
+    ensures fails { result ≡ Err stop_.ReadFault → looks.new.failures ≡ next_number looks.old.failures }
+    ensures kept { result ≢ Err stop_.ReadFault → looks.new.failures ≡ looks.old.failures }
 {
+    looks.count = looks.count.saturating_add(1);
     let shown = match input.fill_buf() {
         Ok(shown) => shown,
         Err(error) if error.kind() == ErrorKind::Interrupted => return Ok(false),
-        Err(_) => return Err(Stop::ReadFault),
+        Err(_) => {
+            looks.failures = looks.failures.saturating_add(1);
+            return Err(Stop::ReadFault);
+        }
     };
     let (part, is_done) = line_part(shown);
     bytes.extend_from_slice(part)?;

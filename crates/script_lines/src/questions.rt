@@ -1,18 +1,9 @@
 //! Reading the queries of a script.
 
-ghost use Rattle.std.specs.Prelude.{ℕ, ◌≡◌, ◌++◌, List, Option, Some, None, Ok, codes, option_copied};
-ghost use Rattle.model.specs.declared.queries.At.{At};
-ghost use Rattle.model.specs.declared.queries.Move.{Move};
-ghost use Rattle.model.specs.declared.queries.NamedFilter.{NamedFilter};
-ghost use Rattle.model.specs.declared.queries.Query.{Query};
 ghost use Rattle.model.specs.declared.queries.Query.TheVariants as query;
-ghost use Rattle.schema.specs.declared.NodeId.{NodeId};
-ghost use Rattle.schema.specs.declared.TreeId.{TreeId};
-ghost use Rattle.schema.specs.declared.geometry.Point.{Point};
-ghost use Rattle.script_words.specs.Names.{filter_name, move_name};
-ghost use Rattle.script_lines.specs.Questions.{question_word, name_and_filter, question_args, IsQuery};
-ghost use Rattle.script_words.specs.Parts.{name_text, point_text, at_text};
-ghost use Rattle.script_words.specs.Reading.{IsCount, IsName, IsNumber};
+ghost use Rattle.script_lines.specs.QuestionMeaning.{asked_by_filter, hit_means, last_name, last_name_and_filter, last_place, last_places, moved_means, question_means};
+ghost use Rattle.script_words.specs.Meaning.{Gives};
+ghost use Rattle.script_words.specs.Reading.{unread};
 
 use model::{At, Move, NamedFilter, NodeName, Query};
 use schema::Point;
@@ -20,9 +11,8 @@ use script_words::stops::Stop;
 use script_words::words::Words;
 
 /// Reads the last words, which name a node.
-#[tactic(auto, using(script_words::proofs::Cuts::begins_last))]
 fn last_name(words: &mut Words) -> Result<NodeName, Stop>
-    ensures reads { (name : NodeId × TreeId) → IsName name → option_copied words.old.rest ≡ Some (name_text name) → result ≡ Ok name }
+    ensures { Gives (last_name (unread words.old)) result }
 {
     let name = words.node_name()?;
     words.end()?;
@@ -31,8 +21,7 @@ fn last_name(words: &mut Words) -> Result<NodeName, Stop>
 
 /// Reads the last words, which name a node, and optionally a filter.
 fn last_name_and_filter(words: &mut Words) -> Result<(NodeName, NamedFilter), Stop>
-    ensures reads { (name : NodeId × TreeId) (filter : NamedFilter) → IsName name →
-        option_copied words.old.rest ≡ Some (name_and_filter name filter) → result ≡ Ok (name, filter) }
+    ensures { Gives (last_name_and_filter (unread words.old)) result }
 {
     let name = words.node_name()?;
     let filter = words.filter()?;
@@ -42,8 +31,7 @@ fn last_name_and_filter(words: &mut Words) -> Result<(NodeName, NamedFilter), St
 
 /// The query for a node's filtered children.
 fn filtered_children(words: &mut Words) -> Result<Query, Stop>
-    ensures reads { (name : NodeId × TreeId) (filter : NamedFilter) → IsName name →
-        option_copied words.old.rest ≡ Some (name_and_filter name filter) → result ≡ Ok (query.FilteredChildren name filter) }
+    ensures { Gives (asked_by_filter query.FilteredChildren (unread words.old)) result }
 {
     let (name, filter) = last_name_and_filter(words)?;
     Ok(Query::FilteredChildren(name, filter))
@@ -51,8 +39,7 @@ fn filtered_children(words: &mut Words) -> Result<Query, Stop>
 
 /// The query for the filtered siblings after a node.
 fn following_filtered(words: &mut Words) -> Result<Query, Stop>
-    ensures reads { (name : NodeId × TreeId) (filter : NamedFilter) → IsName name →
-        option_copied words.old.rest ≡ Some (name_and_filter name filter) → result ≡ Ok (query.FollowingFiltered name filter) }
+    ensures { Gives (asked_by_filter query.FollowingFiltered (unread words.old)) result }
 {
     let (name, filter) = last_name_and_filter(words)?;
     Ok(Query::FollowingFiltered(name, filter))
@@ -60,8 +47,7 @@ fn following_filtered(words: &mut Words) -> Result<Query, Stop>
 
 /// The query for the filtered siblings before a node.
 fn preceding_filtered(words: &mut Words) -> Result<Query, Stop>
-    ensures reads { (name : NodeId × TreeId) (filter : NamedFilter) → IsName name →
-        option_copied words.old.rest ≡ Some (name_and_filter name filter) → result ≡ Ok (query.PrecedingFiltered name filter) }
+    ensures { Gives (asked_by_filter query.PrecedingFiltered (unread words.old)) result }
 {
     let (name, filter) = last_name_and_filter(words)?;
     Ok(Query::PrecedingFiltered(name, filter))
@@ -69,8 +55,7 @@ fn preceding_filtered(words: &mut Words) -> Result<Query, Stop>
 
 /// The query for a node's set.
 fn set_query(words: &mut Words) -> Result<Query, Stop>
-    ensures reads { (name : NodeId × TreeId) (filter : NamedFilter) → IsName name →
-        option_copied words.old.rest ≡ Some (name_and_filter name filter) → result ≡ Ok (query.Set name filter) }
+    ensures { Gives (asked_by_filter query.Set (unread words.old)) result }
 {
     let (name, filter) = last_name_and_filter(words)?;
     Ok(Query::Set(name, filter))
@@ -78,8 +63,7 @@ fn set_query(words: &mut Words) -> Result<Query, Stop>
 
 /// The query for a hit.
 fn hit(words: &mut Words) -> Result<Query, Stop>
-    ensures reads { (name : NodeId × TreeId) (point : Point) (filter : NamedFilter) → IsName name → IsNumber point.x → IsNumber point.y →
-        option_copied words.old.rest ≡ question_args (query.Hit name point filter) → result ≡ Ok (query.Hit name point filter) }
+    ensures { Gives (hit_means (unread words.old)) result }
 {
     let name = words.node_name()?;
     let point = words.point()?;
@@ -90,8 +74,7 @@ fn hit(words: &mut Words) -> Result<Query, Stop>
 
 /// The query for a caret movement.
 fn moved(words: &mut Words) -> Result<Query, Stop>
-    ensures reads { (name : NodeId × TreeId) (at : At) (move : Move) → IsName name → IsCount at.index →
-        option_copied words.old.rest ≡ question_args (query.Move name at move) → result ≡ Ok (query.Move name at move) }
+    ensures { Gives (moved_means (unread words.old)) result }
 {
     let name = words.node_name()?;
     let at = words.at()?;
@@ -102,8 +85,7 @@ fn moved(words: &mut Words) -> Result<Query, Stop>
 
 /// Reads the last words, which name a node and a position in its text.
 fn last_place(words: &mut Words) -> Result<(NodeName, At), Stop>
-    ensures reads { (name : NodeId × TreeId) (at : At) → IsName name → IsCount at.index →
-        option_copied words.old.rest ≡ question_args (query.Indexes name at) → result ≡ Ok (name, at) }
+    ensures { Gives (last_place (unread words.old)) result }
 {
     let name = words.node_name()?;
     let at = words.at()?;
@@ -113,8 +95,7 @@ fn last_place(words: &mut Words) -> Result<(NodeName, At), Stop>
 
 /// Reads the last words, which name a node and two positions in its text.
 fn last_places(words: &mut Words) -> Result<(NodeName, At, At), Stop>
-    ensures reads { (name : NodeId × TreeId) (start finish : At) → IsName name → IsCount start.index → IsCount finish.index →
-        option_copied words.old.rest ≡ question_args (query.RangeText name start finish) → result ≡ Ok (name, start, finish) }
+    ensures { Gives (last_places (unread words.old)) result }
 {
     let name = words.node_name()?;
     let from = words.at()?;
@@ -125,8 +106,7 @@ fn last_places(words: &mut Words) -> Result<(NodeName, At, At), Stop>
 
 /// Reads the query that begins with this word, from the next word on.
 pub(crate) fn question(word: &str, mut words: Words) -> Result<Query, Stop>
-    ensures reads { (query : Query) → IsQuery query → word.now ≡ question_word query →
-        option_copied words.entry.rest ≡ question_args query → result ≡ Ok query }
+    ensures { Gives (question_means word.now (unread words.entry)) result }
 {
     match word {
         "children" => Ok(Query::Children(last_name(&mut words)?)),

@@ -9,7 +9,7 @@ ghost use Rattle.script_lines.specs.Comments.{comment_after};
 ghost use Rattle.script_words.specs.Reading.{Reads};
 ghost use Rattle.script_lines.specs.ReadingBack.{IsSaid, ReadsBack, script_text};
 ghost use Rattle.script_lines.specs.ScriptReading.{GoesTo, IsPlace, Place, ReadsTo, place};
-ghost use Rattle.script_lines.specs.Taking.{IsNodeLine, TakesAs, begun_of, comment_of, last_line, number_of, taken};
+ghost use Rattle.script_lines.specs.Taking.{FaultHasCause, IsNodeLine, TakesAs, begun_of, comment_of, failures_of, last_line, number_of, taken};
 ghost use Rattle.script_words.specs.declared.stops.Stop.TheVariants as stop_;
 
 use crate::comments::add_line;
@@ -51,6 +51,7 @@ impl ScriptReader {
         ensures begun { begun_of result ≡ None }
         ensures comment { comment_of result ≡ [] }
         ensures number { number_of result ≡ 0 }
+        ensures failures { failures_of result ≡ 0 }
     {
         ScriptReader {
             lines: LineReader::new(alloc),
@@ -74,6 +75,13 @@ impl ScriptReader {
         ensures { result ≡ number_of self.now }
     {
         self.lines.number
+    }
+
+    /// How often the input gave an error.
+    pub fn input_failures(&self) -> u64
+        ensures { result ≡ failures_of self.now }
+    {
+        self.lines.looks.failures
     }
 
     /// The last line that was read, without its line end; empty at the end of the input.
@@ -103,12 +111,15 @@ impl ScriptReader {
     ///
     /// Returns `Stop` if a line is malformed or out of place, if the input ends inside an update or has an error, or if
     /// memory runs out. Nothing more can be read then. [`ScriptReader::fault`] says what is wrong in a bad line.
+    /// `Stop::ReadFault` is for an error of the input alone, which [`ScriptReader::input_failures`] counts, or for an input of
+    /// 2⁶⁴ − 1 lines, or of as many parts of one line.
     pub fn next_command<R: BufRead>(&mut self, input: &mut R) -> Result<Option<ScriptCommand>, Stop>
         ensures reads { IfSome (R.remaining input.old)
             (λ bytes. (next : Place) × ReadsTo (place self.old bytes) result next × IsPlace next result self.new (R.remaining input.new)) }
         ensures whole { OnOk result (begun_of self.new ≡ None) }
         ensures reads_back { (commands : List Said) → All IsSaid commands → begun_of self.old ≡ None →
             R.remaining input.old ≡ Some (script_text commands) → ReadsBack commands result (R.remaining input.new) }
+        ensures fault { result ≡ Err stop_.ReadFault → FaultHasCause self.old self.new }
     {
         self.comment.clear();
         self.read_on(input)
@@ -121,8 +132,9 @@ impl ScriptReader {
         ensures whole { OnOk result (begun_of self.new ≡ None) }
         ensures reads_back { (commands : List Said) → All IsSaid commands → begun_of self.old ≡ None →
             R.remaining input.old ≡ Some (script_text commands) → ReadsBack commands result (R.remaining input.new) }
+        ensures fault { result ≡ Err stop_.ReadFault → FaultHasCause self.old self.new }
     {
-        for _ in 0..u64::MAX {
+        'reading: while self.lines.number < u64::MAX {
             let Some(line) = self.lines.next(input)? else {
                 return self.end();
             };

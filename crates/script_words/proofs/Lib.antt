@@ -17,3 +17,6 @@ pub mod NameLines
 pub mod ValueLines
 pub mod WordCuts
 pub mod WordMeanings
+pub mod FieldCuts
+pub mod TextCuts
+pub mod TextSteps

@@ -19,7 +19,9 @@ next_point line = onward (next_as signed_of line) (λ x. onward (next_as signed_
 
 -- a position in a text: INDEX SIDE
 abbrev pub next_at : Option (List ℕ) → Option (At × Option (List ℕ))
-next_at line = onward (next_as number_of line) (λ index. onward (next_as side_of index.1) (λ side. Some (record { index = index.0; side = side.0 }, side.1)))
+next_at line =
+    onward (next_as number_of line) (λ index. onward (next_as side_of index.1)
+    (λ side. Some (record { index = index.0; side = side.0 }, side.1)))
 
 -- a filter, which may be left out at the end of the line
 abbrev pub next_filter : Option (List ℕ) → Option (NamedFilter × Option (List ℕ))

@@ -12,3 +12,5 @@ pub mod Cuts
 pub mod Meaning
 pub mod WordValues
 pub mod Arguments
+pub mod Fields
+pub mod Texts

@@ -1,42 +1,59 @@
 //! Reading quoted texts.
-ghost use Rattle.std.specs.Prelude.{ℕ, ◌≡◌, ◌<◌, List, ◌++◌, codes, length, flat_map, Some, None, IsOkAnd, IfOk};
+ghost use Rattle.std.specs.Prelude.{ℕ, ◌≡◌, ◌<◌, List, ◌++◌, codes, length, flat_map, IfOk};
+ghost use Rattle.script_words.specs.Meaning.{Answers};
 ghost use Rattle.script_words.specs.Quoted.{quoted_byte};
 ghost use Rattle.script_words.specs.Reading.{Reads};
+ghost use Rattle.script_words.specs.Texts.{step_of, unquoted};
 
 use crate::stops::Stop;
 use std::alloc::Global;
+
+/// What a byte in quotes does.
+#[derive(Clone, Copy)]
+pub(crate) enum InQuotes {
+    /// It escapes the next one.
+    Escapes,
+    /// It ends the text.
+    Ends,
+    /// It gives a byte of the text.
+    Gives(u8),
+}
+
+/// What a byte in quotes does, after a backslash or not; none where it may not be.
+fn step(is_escaped: bool, byte: u8) -> Option<InQuotes>
+    ensures { result ≡ step_of is_escaped byte }
+{
+    match (is_escaped, byte) {
+        (true, b'"' | b'\\') => Some(InQuotes::Gives(byte)),
+        (true, b'n') => Some(InQuotes::Gives(b'\n')),
+        (true, _) => None,
+        (false, b'"') => Some(InQuotes::Ends),
+        (false, b'\\') => Some(InQuotes::Escapes),
+        (false, _) => Some(InQuotes::Gives(byte)),
+    }
+}
 
 /// The text at the front, whose opening quote was read, and the number of bytes after its closing quote.
 pub(crate) fn unquoted(alloc: Global, bytes: &[u8]) -> Result<(Vec<u8>, usize), Stop>
     ensures reads { (text more : List ℕ) → bytes.now ≡ flat_map quoted_byte text ++ codes "\"" ++ more
         → Reads result (λ read. (read.0.items ≡ text) × (read.1 ≡ length more)) }
     ensures shorter { IfOk result (λ read. read.1 < length bytes.now) }
+    ensures means { Answers (unquoted bytes.now) result (λ text read. (read.0.items ≡ text.0) × (read.1 ≡ length text.1)) }
 {
     let mut text = Vec::new(alloc);
     let mut left = bytes;
-    loop {
-        let (byte, rest) = next_byte(left)?;
-        match byte {
-            Some(byte) => text.push(byte)?,
-            None => return Ok((text, rest.len())),
+    let mut is_escaped = false;
+    'taking: while let Some((byte, rest)) = left.split_first() {
+        match step(is_escaped, *byte) {
+            Some(InQuotes::Escapes) => is_escaped = true,
+            Some(InQuotes::Ends) => return Ok((text, rest.len())),
+            Some(InQuotes::Gives(byte)) => {
+                is_escaped = false;
+                text.push(byte)?;
+            }
+            None => return Err(Stop::BadLine),
         }
         left = rest;
     }
-}
-
-/// The next byte of a quoted text, or `None` at its closing quote, and the rest after it.
-fn next_byte(left: &[u8]) -> Result<(Option<u8>, &[u8]), Stop>
-    ensures reads { (byte : ℕ) (more : List ℕ) → left.now ≡ quoted_byte byte ++ more
-        → IsOkAnd result (λ read. (read.0 ≡ Some byte) × (read.1.now ≡ more)) }
-    ensures closes { (more : List ℕ) → left.now ≡ codes "\"" ++ more → IsOkAnd result (λ read. (read.0 ≡ None) × (read.1.now ≡ more)) }
-    ensures shorter { IfOk result (λ read. length read.1.now < length left.now) }
-{
-    match left {
-        [b'"', rest @ ..] => Ok((None, rest)),
-        [b'\\', b'"', rest @ ..] => Ok((Some(b'"'), rest)),
-        [b'\\', b'\\', rest @ ..] => Ok((Some(b'\\'), rest)),
-        [b'\\', b'n', rest @ ..] => Ok((Some(b'\n'), rest)),
-        [b'\\', ..] | [] => Err(Stop::BadLine),
-        [byte, rest @ ..] => Ok((Some(*byte), rest)),
-    }
+    Err(Stop::BadLine)
 }

@@ -3,7 +3,7 @@
 //! Words are separated by one space. Numbers are decimal, those of units and points with a minus sign if they are
 //! negative; a text is in double quotes.
 
-ghost use Rattle.std.specs.Prelude.{ℕ, ℤ, ◌^◌, ◌++◌, codes, false, true, List, Option, Some, None, Ok, IsOkAnd, FitsSigned, IsSomeAnd, IfSome, ◌≡◌, ◌<◌, ◌≤◌, ◌↔◌, length, IfOk, OnOk, option_copied};
+ghost use Rattle.std.specs.Prelude.{ℕ, ℤ, ◌^◌, ◌++◌, ◌∷◌, MatchOption, MatchResult, codes, false, true, List, Option, Some, None, Ok, IsOkAnd, FitsSigned, IsSomeAnd, IfSome, ◌≡◌, ◌<◌, ◌≤◌, ◌↔◌, length, IfOk, OnOk, option_copied};
 ghost use Rattle.std.specs.Str.{IsUtf8};
 ghost use Rattle.std.specs.String.{string_bytes};
 ghost use Rattle.script_words.specs.Quoted.{quoted};
@@ -17,7 +17,7 @@ ghost use Rattle.model.specs.declared.queries.NamedFilter.{NamedFilter};
 ghost use Rattle.model.specs.declared.queries.Move.{Move};
 ghost use Rattle.model.specs.declared.queries.At.{At};
 ghost use Rattle.schema.specs.declared.geometry.Point.{Point};
-ghost use Rattle.script_words.specs.Reading.{IsWord, Begins, IsTreeName, IsName, IsCount, IsNumber, IsFieldName, Reads, after, IsByte, IsShort, IsUnits, IsRect, IsTranslation, IsPosition, IsSelection, IsId, IsNarrow, ReadsAny, ReadsFit, unread};
+ghost use Rattle.script_words.specs.Reading.{IsWord, Lacks, Begins, IsTreeName, IsName, IsCount, IsNumber, IsFieldName, Reads, after, IsByte, IsShort, IsUnits, IsRect, IsTranslation, IsPosition, IsSelection, IsId, IsNarrow, ReadsAny, ReadsFit, unread};
 ghost use Rattle.schema.specs.declared.geometry.Rect.{Rect};
 ghost use Rattle.schema.specs.declared.geometry.Translation.{Translation};
 ghost use Rattle.schema.specs.declared.values.TextPosition.{TextPosition};
@@ -27,7 +27,11 @@ ghost use Rattle.script_words.specs.Says.{SaysNumber, SaysSigned, SaysTree};
 ghost use Rattle.script_words.specs.SaysParts.{SaysPair, SaysPlace, SaysRect, SaysSelection, SaysTranslation};
 ghost use Rattle.script_words.specs.Words.{left};
 ghost use Rattle.script_words.specs.Arguments.{next_at, next_filter, next_name, next_point};
-ghost use Rattle.script_words.specs.Meaning.{GivesWord, Takes, TakesWord, ended, last_word, next_as};
+ghost use Rattle.script_words.specs.Cuts.{part_before};
+ghost use Rattle.script_words.specs.Fields.{CutsField};
+ghost use Rattle.script_words.specs.Texts.{behind_text, next_text, text_at};
+ghost use Rattle.script_words.specs.declared.stops.Stop.TheVariants.{BadLine};
+ghost use Rattle.script_words.specs.Meaning.{Answers, GivesWord, Takes, TakesWord, ended, last_word, next_as};
 ghost use Rattle.script_words.specs.WordValues.{id_of, move_of, number_of, side_of, signed_of, tree_of};
 
 use crate::cutting::{cut_at, parts_at};
@@ -208,6 +212,7 @@ impl<'a> Words<'a> {
             → Begins (unread self.old) name rest
             → IsOkAnd result (λ field. (field.0.now ≡ name) × (field.1 ≡ false)) × (unread self.new ≡ rest) }
         ensures shorter { OnOk result (left (unread self.new) < left (unread self.old)) }
+        ensures cut { CutsField (unread self.old) result (unread self.new) }
     {
         let rest = self.rest.ok_or(Stop::BadLine)?;
         match valued(rest) {
@@ -224,6 +229,8 @@ impl<'a> Words<'a> {
         ensures reads { (text : List ℕ) (rest : Option (List ℕ)) → IsUtf8 text → Begins (unread self.old) (quoted text) rest
             → Reads result (λ read. (string_bytes read ≡ text) × (unread self.new ≡ rest)) }
         ensures shorter { OnOk result (left (unread self.new) < left (unread self.old)) }
+        ensures means { Answers (next_text (unread self.old)) result
+            (λ text read. (string_bytes read ≡ text.0) × (unread self.new ≡ text.1)) }
     {
         let rest = self.rest.ok_or(Stop::BadLine)?;
         let (text, more) = text_and_rest(alloc, rest)?;
@@ -237,6 +244,7 @@ fn text_and_rest(alloc: Global, line: &str) -> Result<(String, Option<&str>), St
     ensures reads { (text : List ℕ) (rest : Option (List ℕ)) → IsUtf8 text → line.now ≡ quoted text ++ after rest
         → Reads result (λ read. (string_bytes read.0 ≡ text) × (option_copied read.1 ≡ rest)) }
     ensures shorter { IfOk result (λ read. left (option_copied read.1) ≤ length line.now) }
+    ensures means { Answers (text_at line.now) result (λ text read. (string_bytes read.0 ≡ text.0) × (option_copied read.1 ≡ text.1)) }
 {
     let Some(inner) = line.strip_prefix('"') else {
         return Err(Stop::BadLine);
@@ -258,6 +266,8 @@ fn valued(line: &str) -> Option<(&str, &str)>
         → IsSomeAnd result (λ parts. (parts.0.now ≡ name) × (parts.1.now ≡ more)) }
     ensures flag { (name : List ℕ) (rest : Option (List ℕ)) → IsFieldName name → line.now ≡ name ++ after rest → result ≡ None }
     ensures shorter { IfSome result (λ parts. length parts.1.now < length line.now) }
+    ensures cut { MatchOption result (Lacks 61 (part_before 32 line.now))
+        (λ parts. (line.now ≡ parts.0.now ++ (61 ∷ parts.1.now)) × Lacks 61 parts.0.now × Lacks 32 parts.0.now) }
 {
     let (name, value) = line.split_once('=')?;
     match name.split_once(' ') {
@@ -270,6 +280,8 @@ fn valued(line: &str) -> Option<(&str, &str)>
 fn after_text(rest: &str) -> Result<Option<&str>, Stop>
     ensures reads { (more : Option (List ℕ)) → rest.now ≡ after more → IsOkAnd result (λ read. option_copied read ≡ more) }
     ensures shorter { IfOk result (λ read. left (option_copied read) ≤ length rest.now) }
+    ensures means { MatchResult result (λ read. behind_text rest.now ≡ Some (option_copied read))
+        (λ stop. (stop ≡ BadLine) × (behind_text rest.now ≡ None)) }
 {
     if rest.is_empty() {
         return Ok(None);

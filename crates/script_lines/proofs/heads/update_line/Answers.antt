@@ -1,23 +1,21 @@
-use Rattle.std.proofs.Common.{rules, ◌≡◌, Some, ap, subst, sym, ◌∙◌}
-use Rattle.script_lines.specs.LineReading.{AreFree, head_fields, rest_text, with_head_fields}
-use Rattle.script_lines.proofs.HeadFields.{args_are_fields, fields_are_free, fields_are_head, reads_ok}
+use Rattle.std.proofs.Common.{subst}
+use Rattle.script_lines.specs.HeadMeaning.{finished}
+use Rattle.script_lines.specs.LineReading.{HeadData, head_data}
+use Rattle.script_words.specs.Meaning.{Answers}
+use Rattle.script_words.specs.Reading.{unread}
+use Rattle.script_lines.proofs.HeadAnswers.{IsUpdate, line_read, no_fields, no_tree}
 use Rattle.script_lines.proofs.heads.update_line.Goals as goal
 
 pub returns-in_err-tree_id : goal.returns-in_err-tree_id
-returns-in_err-tree_id c = record { reads = λ u h nodes e. let k = c.in_err-tree_id.ensures.reads u.name (rest_text (head_fields u)) h.0 (e ∙ ap Some (args_are_fields u)) in cc }
+returns-in_err-tree_id c = no_tree (unread c.args.words) c.from_residual.result c.in_err-tree_id.field-0.0 c.from_residual.ensures.1 c.in_err-tree_id.ensures.takes
 
 pub returns-in_err-read_fields : goal.returns-in_err-read_fields
-returns-in_err-read_fields c = record {
-  reads = λ u h nodes e.
-      let k = c.in_ok-tree_id.ensures.reads u.name (rest_text (head_fields u)) h.0 (e ∙ ap Some (args_are_fields u)) in
-      let l = c.in_err-read_fields.ensures.reads (head_fields u) (subst (AreFree (head_fields u)) (sym c.new-head.ensures) (fields_are_free u h)) k.1 in search rules;
-}
+returns-in_err-read_fields c =
+    no_fields (unread c.args.words) (unread c.tree.new.self) c.in_ok-tree_id.tree_id (head_data c.new-head.result) c.from_residual-in_err-read_fields.result c.in_err-read_fields.field-0.0 _
+    c.from_residual-in_err-read_fields.ensures.1 c.in_ok-tree_id.ensures.takes c.new-head.ensures c.in_err-read_fields.ensures
 
 pub returns : goal.returns
-returns c = record {
-  reads = λ u h nodes e.
-      let k = c.in_ok-tree_id.ensures.reads u.name (rest_text (head_fields u)) h.0 (e ∙ ap Some (args_are_fields u)) in
-      let named : u.name ≡ c.in_ok-tree_id.tree_id = cc in
-      let l = c.in_ok-read_fields.ensures.reads (head_fields u) (subst (AreFree (head_fields u)) (sym c.new-head.ensures) (fields_are_free u h)) k.1 in
-      reads_ok c.finish.result _ (c.finish.ensures.reads u nodes named (l ∙ ap (with_head_fields (head_fields u)) c.new-head.ensures ∙ fields_are_head u));
-}
+returns c =
+    let k = c.in_ok-read_fields.ensures in
+    line_read (unread c.args.words) (unread c.tree.new.self) c.in_ok-tree_id.tree_id (head_data c.new-head.result) k.0 c.finish.result c.in_ok-tree_id.ensures.takes c.new-head.ensures k.1
+    (subst (λ (h : HeadData). Answers (finished c.in_ok-tree_id.tree_id h) c.finish.result IsUpdate) k.2 c.finish.ensures)

@@ -1,22 +1,42 @@
-use Rattle.std.proofs.Common.{arith, ◌≡◌, ◌++◌, ◌∷◌, [], length, Ok, Err, ap, sym, ◌∙◌}
-use Rattle.script_words.proofs.QuotedTexts.{one_byte_more}
+use Rattle.std.proofs.Common.{◌≡◌, ◌++◌, ◌∷◌, [], Some, None, false, arith, ap, sym, refl, length, ◌∙◌}
+use Rattle.std.proofs.lemmas.Option.{none-some, same_Some}
+use Rattle.script_words.specs.Texts.{unquoted_after}
+use Rattle.script_words.specs.declared.unquoting.InQuotes.TheVariants.{Ends, Escapes, Gives}
+use Rattle.script_words.proofs.TextSteps.{left_open, one_step, read_back}
 use Rattle.script_words.proofs.unquoting.unquoted.Goals as goal
 
-pub returns-in_err-byte-clause-reads : goal.returns-in_err-byte-clause-reads
-returns-in_err-byte-clause-reads c = λ text more e.
-    absurd (one_byte_more c.args.bytes.now c.loop-text.text.items c.loop-text.left.now (Err c.in_err-byte.field-0.0) c.loop-text.invariant.0 c.in_err-byte.ensures.reads c.in_err-byte.ensures.closes text more e)
+pub taking-preserved-in-Some-Escapes : goal.taking-preserved-in-Some-Escapes
+taking-preserved-in-Some-Escapes c = (
+  one_step _ _ _ _ _ _ (Some Escapes) c.taking.invariant.0 c.in-Some.ensures.cases.0 (ap Some (sym c.in-Some-Escapes.field-0-is) ∙ c.in-Some-Escapes.ensures),
+  omega (arith, ap length c.in-Some.ensures.cases.0, c.taking.invariant.1),
+)
+
+pub taking-preserved : goal.taking-preserved
+taking-preserved c = (
+  ap (λ text. unquoted_after text false c.in-Some.rest.now) c.in_ok-push-in-Some-Gives.ensures.items
+      ∙ one_step _ _ _ _ _ _ (Some (Gives c.in-Some-Gives.byte)) c.taking.invariant.0 c.in-Some.ensures.cases.0 (ap Some (sym c.in-Some-Gives.field-0-is) ∙ c.in-Some-Gives.ensures),
+  omega (arith, ap length c.in-Some.ensures.cases.0, c.taking.invariant.1),
+)
+
+pub returns-in-Some-Ends-clause-means : goal.returns-in-Some-Ends-clause-means
+returns-in-Some-Ends-clause-means c = (
+  (c.taking.text.items, c.in-Some.rest.now),
+  sym (one_step _ _ _ _ _ _ (Some Ends) c.taking.invariant.0 c.in-Some.ensures.cases.0 (ap Some (sym c.in-Some-Ends.field-0-is) ∙ c.in-Some-Ends.ensures)),
+  (refl, refl),
+)
+
+pub returns-in-None-clause-means : goal.returns-in-None-clause-means
+returns-in-None-clause-means c = sym (one_step _ _ _ _ _ _ None c.taking.invariant.0 c.in-Some.ensures.cases.0 c.in-None.ensures)
+
+pub returns-clause-means : goal.returns-clause-means
+returns-clause-means c = left_open _ _ _ _ c.taking.invariant.0 c.in_default.ensures.cases
+
+pub returns-in-Some-Ends-clause-reads : goal.returns-in-Some-Ends-clause-reads
+returns-in-Some-Ends-clause-reads c = λ text more e.
+    let p = same_Some _ _ (read_back c.args.bytes.now (Some (c.taking.text.items, c.in-Some.rest.now)) (sym (one_step _ _ _ _ _ _ (Some Ends) c.taking.invariant.0 c.in-Some.ensures.cases.0 (ap Some (sym c.in-Some-Ends.field-0-is) ∙ c.in-Some-Ends.ensures))) text more e) in (ap (λ r. r.0) p, ap (λ r. length r.1) p)
 
 pub returns-in-None-clause-reads : goal.returns-in-None-clause-reads
-returns-in-None-clause-reads c = λ text more e.
-    let k = one_byte_more c.args.bytes.now c.loop-text.text.items c.loop-text.left.now (Ok (c.in_ok-byte.byte, c.in_ok-byte.rest)) c.loop-text.invariant.0 c.in_ok-byte.ensures.reads c.in_ok-byte.ensures.closes text more e in
-    let done = k.0 c.in-None.is in (done.0, ap length done.1)
+returns-in-None-clause-reads c = λ text more e. absurd (none-some _ (read_back c.args.bytes.now None (returns-in-None-clause-means c) text more e))
 
-pub loop-text-preserved : goal.loop-text-preserved
-loop-text-preserved c = (
-  λ text more e.
-      let k = one_byte_more c.args.bytes.now c.loop-text.text.items c.loop-text.left.now (Ok (c.in_ok-byte.byte, c.in_ok-byte.rest)) c.loop-text.invariant.0 c.in_ok-byte.ensures.reads c.in_ok-byte.ensures.closes text more e in
-      let next = k.1 c.in-Some.byte c.in-Some.is in
-      let pushed : c.push.new.self.items ≡ c.loop-text.text.items ++ c.in-Some.byte ∷ [] = c.in_ok-push-in-Some.ensures.items in
-      (next.0, next.1 ∙ ap (λ items. items ++ next.0) (sym pushed), next.2),
-  omega (arith, c.loop-text.invariant.1, c.in_ok-byte.ensures.shorter),
-)
+pub returns-clause-reads : goal.returns-clause-reads
+returns-clause-reads c = λ text more e. absurd (none-some _ (read_back c.args.bytes.now None (returns-clause-means c) text more e))

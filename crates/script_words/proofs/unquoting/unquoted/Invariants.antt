@@ -1,10 +1,10 @@
-use Rattle.std.proofs.Common.{◌≤◌, length}
-use Rattle.script_words.proofs.QuotedTexts.{IsReadSoFar}
+use Rattle.std.proofs.Common.{◌≡◌, ◌≤◌, false, length}
+use Rattle.script_words.specs.Texts.{unquoted, unquoted_after}
 use Rattle.script_words.proofs.unquoting.unquoted.Given as goal
 
--- what is left follows from what is read so far
-abbrev pub invariant-loop-text : goal.invariant-loop-text
-invariant-loop-text l = IsReadSoFar l.fn.bytes l.text.items l.left × (length l.left ≤ length l.fn.bytes)
+-- what is left makes with the text so far what all makes
+abbrev pub invariant-taking : goal.invariant-taking
+invariant-taking l = (unquoted_after l.text.items l.is_escaped l.left ≡ unquoted l.fn.bytes) × (length l.left ≤ length l.fn.bytes)
 
-abbrev pub decreases-loop-text : goal.decreases-loop-text
-decreases-loop-text l = length l.left
+abbrev pub decreases-taking : goal.decreases-taking
+decreases-taking l = length l.left

@@ -1,18 +1,22 @@
-use Rattle.std.proofs.Common.{rules, ◌++◌}
-use Rattle.script_lines.specs.LineReading.{head_name, head_value}
-use Rattle.script_words.specs.Reading.{after}
-use Rattle.script_lines.proofs.HeadFields.{head_name_is_field_name, begins_value}
+use Rattle.std.proofs.Common.{◌≡◌, false, rules, true}
+use Rattle.script_lines.specs.LineReading.{head_data}
+use Rattle.script_words.specs.Reading.{unread}
+use Rattle.script_lines.proofs.HeadAnswers.{cut_flag, cut_value, field_read, no_field_read}
+use Rattle.script_lines.proofs.HeadMeanings.{flag_field}
 use Rattle.script_lines.proofs.heads.Head.read_field.Goals as goal
 
-pub returns-in_err-name-clause-reads : goal.returns-in_err-name-clause-reads
-returns-in_err-name-clause-reads c = λ field rest h free e.
-    let k = c.field.ensures.reads_valued (head_name field) (head_value field ++ after rest) (head_name_is_field_name field) (begins_value _ (head_name field) (head_value field) rest e) in search rules
+pub returns-in_err-name-clause-means : goal.returns-in_err-name-clause-means
+returns-in_err-name-clause-means c =
+    no_field_read (unread c.args.words.now) (unread c.field.new.self) (head_data c.args.self.now) (head_data c.args.self.now) c.from_residual.result c.in_err-name.field-0.0 c.from_residual.ensures.1 c.in_err-name.ensures.cut
 
-pub returns-then-not-has_value-clause-reads : goal.returns-then-not-has_value-clause-reads
-returns-then-not-has_value-clause-reads c = λ field rest h free e.
-    let k = c.in_ok-name.ensures.reads_valued (head_name field) (head_value field ++ after rest) (head_name_is_field_name field) (begins_value _ (head_name field) (head_value field) rest e) in cc
+pub returns-then-not-has_value-clause-means : goal.returns-then-not-has_value-clause-means
+returns-then-not-has_value-clause-means c =
+    let no : c.in_ok-name.has_value ≡ false = first_of (cc, search rules) in
+    let k = cut_flag (unread c.args.words.now) (unread c.field.new.self) c.in_ok-name.name c.in_ok-name.has_value no c.in_ok-name.ensures.cut in
+    flag_field (unread c.args.words.now) c.in_ok-name.name.now (unread c.field.new.self) (head_data c.args.self.now) k.1 k.0
 
-pub returns-clause-reads : goal.returns-clause-reads
-returns-clause-reads c = λ field rest h free e.
-    let k = c.in_ok-name.ensures.reads_valued (head_name field) (head_value field ++ after rest) (head_name_is_field_name field) (begins_value _ (head_name field) (head_value field) rest e) in
-    c.read_value.ensures.reads field rest h free k.0.0 k.1
+pub returns-clause-means : goal.returns-clause-means
+returns-clause-means c =
+    let yes : c.in_ok-name.has_value ≡ true = first_of (cc, search rules) in
+    field_read (unread c.args.words.now) c.in_ok-name.name.now (unread c.field.new.self) (unread c.read_value.new.words) (head_data c.args.self.now) (head_data c.read_value.new.self) c.read_value.result
+    (cut_value (unread c.args.words.now) (unread c.field.new.self) c.in_ok-name.name c.in_ok-name.has_value yes c.in_ok-name.ensures.cut) c.read_value.ensures.means
