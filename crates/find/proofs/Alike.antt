@@ -103,7 +103,7 @@ module _ (p : FullNodeId) (w v : World) (formed : IsFormed w) (alike : DifferInP
 
   hits : hit_text w ≡ hit_text v
   hits i id found =
-      if is_same found id then codes "itself\n" else (if places i id found then codes "within" else codes "covered by") ++ codes " " ++ id_text found ++ names i found ++ codes "\n"
+      if is_same found id then codes "itself\n" else (if places i id found then codes "within" else codes "perhaps covered by") ++ codes " " ++ id_text found ++ names i found ++ codes "\n"
 
   middles : node_at_middle w ≡ node_at_middle v
   middles = read_one node_at_middle middles_same

@@ -50,7 +50,7 @@ abbrev pub sides_line : WideRect → List ℕ
 sides_line r = codes "  bounds " ++ corners_text r.x0 r.y0 r.x1 r.y1 ++ codes "\n"
 
 abbrev pub place_text : World → FullNodeId → FullNodeId → List ℕ
-place_text w id hit = if is_within w id hit then codes "within" else codes "covered by"
+place_text w id hit = if is_within w id hit then codes "within" else codes "perhaps covered by"
 
 -- the node at the middle of another one's box: that node itself, one within it, or one that covers it
 abbrev pub hit_text : World → FullNodeId → FullNodeId → List ℕ

@@ -119,6 +119,6 @@ fn place_of(node: NodeRef, hit: NodeRef) -> &'static str
     if hit.is_descendant_of(&node) {
         "within"
     } else {
-        "covered by"
+        "perhaps covered by"
     }
 }

@@ -1,5 +1,5 @@
 -- What is known of a node by what is known of its parent.
-use Rattle.std.proofs.Common.{◌≡◌, Bool, true, false, cond, ◌&&◌, ◌||◌, List, [], Option, Some, None, refl, sym, ap, subst, ◌∙◌}
+use Rattle.std.proofs.Common.{◌≡◌, ◌+◌, ◌-◌, ◌^◌, suc, min, length, Bool, true, false, cond, ◌&&◌, ◌||◌, List, [], Option, Some, None, refl, sym, ap, subst, ◌∙◌, arith}
 use Rattle.std.specs.Prelude.{find, not, unwrap_or, option_and_then, IfSome, if◌then◌else◌}
 use Rattle.std.specs.Option.{option_map_or}
 use Rattle.std.specs.List.{list_any}
@@ -15,7 +15,7 @@ use Rattle.model.specs.Geometry.{direct_transform, sum_of_moves, transform, boun
 use Rattle.model.specs.Covers.{is_included, is_cut_off, following_filtered_siblings, preceding_filtered_siblings}
 use Rattle.model.specs.Filters.{is_hidden, first_answer, base_filter, is_first_inside, is_far_outside, is_clipped_by, is_clipped, answer_at, common_filter}
 use Rattle.views.proofs.Climbing.{parent_of, parent_above, nothing_above}
-use Rattle.page_states.specs.Known.{sum_of, clip_frame, frame_below, is_below_left_out, is_clear, is_left_out, is_secret}
+use Rattle.page_states.specs.Known.{depth_at, sum_of, clip_frame, clip_of, frame_below, is_below_left_out, is_clear, is_left_out, is_secret}
 use Rattle.hidden_texts.specs.Hidden.{is_in_password}
 
 abbrev is_shown : World → FullNodeId → Bool
@@ -46,6 +46,10 @@ module _ (w : World) (id : FullNodeId) where
   by_found (Some p) frame is e = by_clip (says (λ d. d.clips_children) w p) (bounding_box w p) frame is e
 
 module _ (w : World) (formed : IsFormed w) (id : FullNodeId) where
+  -- nothing is above the root
+  pub depth_of_root : None ≡ parent_of w id → length (ancestors w id) ≡ 0
+  depth_of_root root = ap length (nothing_above w formed id root)
+
   -- the root passes nothing on
   pub frame_of_root : None ≡ parent_of w id → is_shown w id ≡ false → None ≡ frame_below w id
   frame_of_root root hides = frame_of_other w id [] (nothing_above w formed id root) hides
@@ -53,6 +57,12 @@ module _ (w : World) (formed : IsFormed w) (id : FullNodeId) where
   module _ (q : FullNodeId) (parent : Some q ≡ parent_of w id) where
     above : ancestors w id ≡ upward w q
     above = parent_above w formed id q parent
+
+    pub one_higher : length (ancestors w id) ≡ suc (length (ancestors w q))
+    one_higher = ap length above
+
+    pub depth_below : min (depth_at w q + 1) (2 ^ 64 - 1) ≡ depth_at w id
+    depth_below = let e = one_higher in omega arith
 
     pub shift_below : sum_of (direct_transform w id) (transform w q) ≡ transform w id
     shift_below = ap (λ ids. sum_of (direct_transform w id) (sum_of_moves w ids)) (sym above)
@@ -68,6 +78,9 @@ module _ (w : World) (formed : IsFormed w) (id : FullNodeId) where
 
     pub frame_passed_on : is_shown w id ≡ false → frame_below w q ≡ frame_below w id
     frame_passed_on hides = frame_of_other w id (upward w q) above hides
+
+    pub clip_below : frame_below w q ≡ clip_of w id
+    clip_below = ap (λ ids. option_and_then (clip_frame w) (find (is_shown w) ids)) (sym above)
 
     unclipped : (frame : Option (Option WideRect)) → IfSome frame (λ f. f ≡ frame_below w q) → is_clear frame (bounding_box w id) ≡ true → is_clipped w id ≡ false
     unclipped None is e = cc

@@ -11,3 +11,11 @@ pub mod SameRuns
 pub mod Shared
 pub mod Told
 pub mod Viewed
+mod Writing
+mod StatesWritten
+mod Backing
+mod Framed
+mod Kept
+mod PlacesAlike
+mod StatesAlike
+mod Subtrees

@@ -1,6 +1,8 @@
 -- Views of nodes that a walk gave.
-use Rattle.std.proofs.Common.{◌≡◌, List, [], ◌∷◌, map, refl, ap, ◌∙◌}
+use Rattle.std.proofs.Common.{◌≡◌, List, [], ◌∷◌, map, Option, Some, None, refl, sym, ap, ◌∙◌}
+use Rattle.std.specs.Prelude.{MatchOption, option_map, slice_get}
 use Rattle.std.proofs.lemmas.List.Elements.{All-nil, All-cons}
+use Rattle.std.proofs.lemmas.Option.{slice_get-map}
 use Rattle.model.specs.declared.FullNodeId.{FullNodeId}
 use Rattle.model.specs.World.{World}
 use Rattle.views.specs.declared.node.node_ref.NodeRef.{NodeRef}
@@ -28,3 +30,8 @@ are_nodes w (id ∷ ids) (n ∷ nodes) e =
 -- a node before all that is below it
 pub are_from : (top : NodeRef) (nodes : List NodeRef) → map node_of nodes ≡ map (node_in (world_at top)) (descendants (world_at top) (id_at top)) → AreNodes (world_at top) (from_node (world_at top) (id_at top)) (top ∷ nodes)
 are_from top nodes e = more_nodes (world_at top) (id_at top) (descendants (world_at top) (id_at top)) top nodes refl (are_nodes (world_at top) (descendants (world_at top) (id_at top)) nodes e)
+
+-- the first of those that are left
+pub first_viewed : (w : World) (ids : List FullNodeId) (left more : List (World × FullNodeId)) (found : Option NodeRef) → left ≡ map (node_in w) ids → MatchOption found ((left ≡ []) × (more ≡ [])) (λ n. left ≡ node_of n ∷ more) → option_map node_of found ≡ option_map (node_in w) (slice_get ids 0)
+first_viewed w ids left more None e h = ap (λ l. slice_get l 0) (sym h.0 ∙ e) ∙ slice_get-map (node_in w) ids 0
+first_viewed w ids left more (Some n) e h = ap (λ l. slice_get l 0) (sym h ∙ e) ∙ slice_get-map (node_in w) ids 0

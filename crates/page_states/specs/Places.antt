@@ -1,17 +1,20 @@
 -- The nodes of a state as a page shows them.
 use Rattle.std.specs.Prelude.{◌≡◌, Bool, false, List, [], ◌∷◌, map, All, Option, Some, None, IfSome, if◌then◌else◌}
+use Rattle.std.specs.BTreeMap.{BTreeMap, get}
 use Rattle.hidden_texts.specs.Hidden.{is_in_password}
 use Rattle.schema.specs.declared.geometry.WideRect.{WideRect}
 use Rattle.model.specs.declared.FullNodeId.{FullNodeId}
 use Rattle.model.specs.World.{World, root_of}
 use Rattle.model.specs.Filters.{is_hidden, common_filter}
+use Rattle.model.specs.FullIds.{full_cmp}
 use Rattle.model.specs.Geometry.{bounding_box}
 use Rattle.model.specs.TextRuns.{is_password}
 use Rattle.views.specs.declared.node.node_ref.NodeRef.{NodeRef}
 use Rattle.views.specs.Nodes.{world_at, id_at}
 use Rattle.views.specs.Descendants.{descendants}
+use Rattle.page_states.specs.declared.marks.Mark.{Mark}
 use Rattle.page_states.specs.declared.places.Place.{Place}
-use Rattle.page_states.specs.Known.{is_left_out}
+use Rattle.page_states.specs.Known.{depth_at, is_not_drawn}
 use Rattle.page_states.specs.Said.{hidden_at}
 use Rattle.page_states.specs.Sources.{HasValueOf}
 
@@ -20,13 +23,18 @@ node_at place = place.node
 
 -- the properties are those of the node
 pub record IsPlace (place : Place) : Type 0 where
+  pub depth : place.depth ≡ depth_at (world_at place.node) (id_at place.node)
   pub answer : place.answer ≡ common_filter (world_at place.node) (id_at place.node)
-  pub left_out : place.is_left_out ≡ is_left_out (world_at place.node) (id_at place.node)
+  pub left_out : place.is_left_out ≡ is_not_drawn (world_at place.node) (id_at place.node)
   pub hidden : place.is_hidden ≡ is_hidden (world_at place.node) (id_at place.node)
   pub texts : place.hidden ≡ hidden_at (world_at place.node) (id_at place.node)
   pub within : place.is_in_password ≡ is_in_password (world_at place.node) (id_at place.node)
   pub box : place.rect ≡ bounding_box (world_at place.node) (id_at place.node)
   pub source : IfSome place.source (HasValueOf (world_at place.node) (id_at place.node))
+
+-- the mark is what the update did to the node
+abbrev pub HasMark : BTreeMap FullNodeId Mark → Place → Type 0
+HasMark marks place = place.mark ≡ get full_cmp marks (id_at place.node)
 
 -- the box that a picture draws
 abbrev pub box_drawn : Place → Option WideRect

@@ -1,11 +1,13 @@
 //! Which parts of a state are as in an earlier one.
-ghost use Rattle.std.specs.Prelude.{◌≡◌, None, IfSome};
-ghost use Rattle.page_states.specs.Again.{HasSameBox, HasSameRow};
+ghost use Rattle.std.specs.Prelude.{◌≡◌, [], ◌∷◌, true, None, nat_lt, is_some, reverse, IfOk, MatchOption, OnOk, map, if◌then◌else◌};
+ghost use Rattle.std.specs.List.{FoldsTo};
+ghost use Rattle.page_states.specs.Again.{last_of, row_shown, state_of, top_after, way_of, AreLed, Finds, HasSameBox, HasSameRow, IsBoxIn, IsRowIn, KeepsRows, Puts};
+ghost use Rattle.page_states.specs.Subtrees.{has_box, has_row, if_all, subtrees_after, subtrees_below, AreSames};
 
 use crate::looks::{Look, are_same_nodes, is_same_text};
 use crate::marks::Mark;
 use crate::outline::MOST_LISTS;
-use crate::places::Place;
+use crate::rows::{Row, Shown};
 use std::alloc::{AllocError, Global};
 use std::collections::BTreeMap;
 use views::FullNodeId;
@@ -30,6 +32,12 @@ pub(crate) struct Same {
     pub drawn: Option<u64>,
 }
 
+/// No state.
+const NOWHERE: Same = Same {
+    row: None,
+    drawn: None,
+};
+
 /// How a part of a state is shown.
 #[derive(Clone, Copy, Debug, PartialEq, Eq)]
 pub(crate) enum Way {
@@ -48,28 +56,31 @@ pub(crate) struct Ways {
     pub drawn: Way,
 }
 
-/// How each of these nodes is shown, by what was shown of them before.
-pub(crate) fn ways_of(
+/// Each of these nodes with how it is shown, by what was shown of them before.
+pub(crate) fn rows_of<'a>(
     alloc: Global,
     kept: &Kept,
-    places: &[Place],
-    looks: &[Look],
-) -> Result<Vec<Ways>, AllocError> {
-    let mut sames = sames_of(alloc, kept, places, looks)?;
-    let mut ways = Vec::new(alloc);
+    shown: Vec<Shown<'a>>,
+) -> Result<Vec<Row<'a>>, AllocError>
+    ensures shown { IfOk result (λ rows. map row_shown rows.items ≡ shown.entry.items) }
+    ensures ways { IfOk result (λ rows. AreLed kept.now shown.entry.items rows.items) }
+{
+    let mut sames = sames_of(alloc, kept, &shown)?;
+    let mut rows = Vec::new(alloc);
     let mut folds = Folds {
         row: None,
         drawn: None,
     };
-    for place in places {
+    for one in shown {
+        // Each node has one.
         let Some(same) = sames.pop() else {
-            return Ok(ways);
+            return Err(AllocError);
         };
-        let next = folds.next(place.depth, same);
-        folds = folds.after(place.depth, next);
-        ways.push(next)?;
+        let ways = folds.next(one.place.depth, same);
+        folds = folds.after(one.place.depth, ways);
+        rows.push(Row { shown: one, ways })?;
     }
-    Ok(ways)
+    Ok(rows)
 }
 
 /// The depths of the nodes below which nothing is written out, if there are such.
@@ -81,7 +92,10 @@ struct Folds {
 
 impl Folds {
     /// How the next node is shown.
-    fn next(self, depth: usize, same: Same) -> Ways {
+    fn next(self, depth: usize, same: Same) -> Ways
+        ensures row { result.row ≡ way_of self.row depth same.row }
+        ensures drawn { result.drawn ≡ way_of self.drawn depth same.drawn }
+    {
         Ways {
             row: way_of(self.row, depth, same.row),
             drawn: way_of(self.drawn, depth, same.drawn),
@@ -89,29 +103,38 @@ impl Folds {
     }
 
     /// The same after that node.
-    fn after(self, depth: usize, ways: Ways) -> Folds {
+    fn after(self, depth: usize, ways: Ways) -> Folds
+        ensures row { result.row ≡ top_after self.row depth ways.row }
+        ensures drawn { result.drawn ≡ top_after self.drawn depth ways.drawn }
+    {
         Folds {
-            row: fold_after(self.row, depth, ways.row),
-            drawn: fold_after(self.drawn, depth, ways.drawn),
+            row: top_after(self.row, depth, ways.row),
+            drawn: top_after(self.drawn, depth, ways.drawn),
         }
     }
 }
 
 /// How a node is shown that is the same as in this state, after a node of this depth that was folded.
-fn way_of(fold: Option<usize>, depth: usize, same: Option<u64>) -> Way {
-    match (fold, same) {
-        (_, None) => Way::Whole,
-        (Some(top), Some(state)) if top < depth => Way::Folded(state),
-        (_, Some(state)) => Way::Again(state),
+fn way_of(top: Option<usize>, depth: usize, same: Option<u64>) -> Way
+    ensures { result ≡ way_of top depth same }
+{
+    let Some(state) = same else {
+        return Way::Whole;
+    };
+    match top {
+        Some(top) if top < depth => Way::Folded(state),
+        _ => Way::Again(state),
     }
 }
 
 /// The depth of the node that folds what comes after this one.
-fn fold_after(fold: Option<usize>, depth: usize, way: Way) -> Option<usize> {
+fn top_after(top: Option<usize>, depth: usize, way: Way) -> Option<usize>
+    ensures { result ≡ top_after top depth way }
+{
     match way {
         Way::Whole => None,
         Way::Again(_) => Some(depth),
-        Way::Folded(_) => fold,
+        Way::Folded(_) => top,
     }
 }
 
@@ -123,46 +146,54 @@ struct Subtree {
 }
 
 /// Where each node was shown, with all below it, in the same way: from the last node to the first.
-fn sames_of(
-    alloc: Global,
-    kept: &Kept,
-    places: &[Place],
-    looks: &[Look],
-) -> Result<Vec<Same>, AllocError> {
+fn sames_of(alloc: Global, kept: &Kept, shown: &[Shown]) -> Result<Vec<Same>, AllocError>
+    ensures { IfOk result (λ sames. AreSames kept.now shown.now (reverse sames.items)) }
+{
     let mut later = Vec::new(alloc);
     let mut sames = Vec::new(alloc);
-    let count = places.len().min(looks.len());
+    let count = shown.len();
     for step in 0..count {
-        let index = count - 1 - step;
-        let place = &places[index];
-        let own = own_same(kept, place, &looks[index]);
-        let same = with_children(own, place.depth, &mut later);
-        later.push(Subtree {
-            depth: place.depth,
-            same,
-        })?;
+        let next = &shown[count - 1 - step];
+        let depth = next.place.depth;
+        let same = with_children(own_same(kept, next), depth, &mut later);
+        later.push(Subtree { depth, same })?;
         sames.push(same)?;
     }
     Ok(sames)
 }
 
 /// The same of a node with all below it. The subtrees of its children are the last of the list, and are taken from it.
-fn with_children(own: Same, depth: usize, later: &mut Vec<Subtree>) -> Same {
+fn with_children(own: Same, depth: usize, later: &mut Vec<Subtree>) -> Same
+    ensures left { reverse later.new.items ≡ subtrees_after depth later.old.items }
+    ensures row { result.row ≡ if_all has_row (subtrees_below depth later.old.items) own.row }
+    ensures drawn { result.drawn ≡ if_all has_box (subtrees_below depth later.old.items) own.drawn }
+{
     let mut same = own;
-    for _ in 0..later.len() {
-        match later.last().copied() {
-            Some(child) if child.depth > depth => {
-                later.pop();
-                same = with_child(same, child.same);
-            }
-            _ => return same,
-        }
+    while let Some(child) = next_below(depth, later) {
+        same = with_child(same, child.same);
     }
     same
 }
 
+/// Takes the last subtree from the list, if it is below a node of this depth.
+fn next_below(depth: usize, later: &mut Vec<Subtree>) -> Option<Subtree>
+    ensures { MatchOption result
+        ((later.new.items ≡ later.old.items) × (subtrees_below depth later.old.items ≡ [])
+        × (subtrees_after depth later.old.items ≡ reverse later.old.items))
+        (λ child. (reverse later.old.items ≡ child ∷ reverse later.new.items) × (nat_lt depth child.depth ≡ true)) }
+{
+    let last = later.last().copied()?;
+    if last.depth <= depth {
+        return None;
+    }
+    later.pop()
+}
+
 /// The same of a node with this child too.
-fn with_child(same: Same, child: Same) -> Same {
+fn with_child(same: Same, child: Same) -> Same
+    ensures row { result.row ≡ (if is_some child.row then same.row else None) }
+    ensures drawn { result.drawn ≡ (if is_some child.drawn then same.drawn else None) }
+{
     Same {
         row: if_also(same.row, child.row),
         drawn: if_also(same.drawn, child.drawn),
@@ -170,7 +201,9 @@ fn with_child(same: Same, child: Same) -> Same {
 }
 
 /// The first state, if there is a second.
-fn if_also(state: Option<u64>, other: Option<u64>) -> Option<u64> {
+fn if_also(state: Option<u64>, other: Option<u64>) -> Option<u64>
+    ensures { result ≡ (if is_some other then state else None) }
+{
     match other {
         Some(_) => state,
         None => None,
@@ -178,22 +211,22 @@ fn if_also(state: Option<u64>, other: Option<u64>) -> Option<u64> {
 }
 
 /// Where a node was shown in the same way, whatever is below it.
-fn own_same(kept: &Kept, place: &Place, look: &Look) -> Same {
-    match kept.get(&place.node.id()) {
+fn own_same(kept: &Kept, shown: &Shown) -> Same
+    ensures row { Finds (IsRowIn kept.now shown.now) result.row }
+    ensures drawn { Finds (IsBoxIn kept.now shown.now) result.drawn }
+{
+    match kept.get(&shown.place.node.id()) {
         Some(last) => Same {
-            row: same_row(look, last, place.mark),
-            drawn: same_box(look, last, place.mark),
+            row: same_row(&shown.look, last, shown.place.mark),
+            drawn: same_box(&shown.look, last, shown.place.mark),
         },
-        None => Same {
-            row: None,
-            drawn: None,
-        },
+        None => NOWHERE,
     }
 }
 
 /// The state in which the same row was written for the node, if it has no mark.
 fn same_row(look: &Look, last: &Last, mark: Option<Mark>) -> Option<u64>
-    ensures { IfSome result (λ state. HasSameRow look.now last.now mark state) }
+    ensures { Finds (HasSameRow look.now last.now mark) result }
 {
     if mark.is_some() || !is_same_text(&look.row, &last.look.row) {
         return None;
@@ -206,7 +239,7 @@ fn same_row(look: &Look, last: &Last, mark: Option<Mark>) -> Option<u64>
 
 /// The state in which the same box was drawn for the node, if it has no mark now and had no mark there.
 fn same_box(look: &Look, last: &Last, mark: Option<Mark>) -> Option<u64>
-    ensures { IfSome result (λ state. HasSameBox look.now last.now mark state) }
+    ensures { Finds (HasSameBox look.now last.now mark) result }
 {
     if mark.is_some() || !is_same_text(&look.drawn, &last.look.drawn) {
         return None;
@@ -217,43 +250,66 @@ fn same_box(look: &Look, last: &Last, mark: Option<Mark>) -> Option<u64>
     last.drawn
 }
 
-/// What is shown of these nodes in the state with this number, to be kept until the next one.
+/// What is shown of these nodes in the state with this number, to be kept until the next one. The state may have no picture.
 pub(crate) fn kept_of(
     alloc: Global,
     number: u64,
-    places: &[Place],
-    looks: Vec<Look>,
-    ways: &[Ways],
-) -> Result<Kept, AllocError> {
+    has_picture: bool,
+    rows: Vec<Row>,
+) -> Result<Kept, AllocError>
+    ensures { IfOk result (KeepsRows number has_picture rows.entry.items) }
+{
     let mut kept = BTreeMap::new(alloc);
-    let mut rest = looks;
-    let count = places.len().min(ways.len());
-    for step in 0..count {
-        let index = count - 1 - step;
-        let place = &places[index];
-        if let Some(look) = rest.pop() {
-            kept.insert(place.node.id(), last_of(number, place, look, ways[index]))?;
-        }
-    }
+    keep_all(number, has_picture, rows, &mut kept)?;
     Ok(kept)
 }
 
+/// Keeps what is shown of these nodes.
+fn keep_all(
+    number: u64,
+    has_picture: bool,
+    rows: Vec<Row>,
+    kept: &mut Kept,
+) -> Result<(), AllocError>
+    ensures { OnOk result (FoldsTo (Puts number has_picture) kept.old rows.entry.items kept.new) }
+{
+    for row in rows {
+        keep(number, has_picture, row, kept)?;
+    }
+    Ok(())
+}
+
+/// Keeps what is shown of a node.
+fn keep(number: u64, has_picture: bool, row: Row, kept: &mut Kept) -> Result<(), AllocError>
+    ensures { OnOk result (Puts number has_picture kept.old row.entry kept.new) }
+{
+    let id = row.shown.place.node.id();
+    kept.insert(id, last_of(number, has_picture, row))?;
+    Ok(())
+}
+
 /// What is shown of a node in the state with this number.
-fn last_of(number: u64, place: &Place, look: Look, ways: Ways) -> Last {
-    let drawn = match ways.drawn {
-        Way::Whole if place.mark.is_some() || place.depth >= MOST_LISTS => None,
-        Way::Whole => Some(number),
+fn last_of(number: u64, has_picture: bool, row: Row) -> Last
+    ensures { result ≡ last_of number has_picture row.entry }
+{
+    let place = row.shown.place;
+    let is_group = has_picture && place.mark.is_none() && place.depth < MOST_LISTS;
+    let drawn = match row.ways.drawn {
+        Way::Whole if is_group => Some(number),
+        Way::Whole => None,
         Way::Again(state) | Way::Folded(state) => Some(state),
     };
     Last {
-        look,
-        row: state_of(number, ways.row),
+        look: row.shown.look,
+        row: state_of(number, row.ways.row),
         drawn,
     }
 }
 
 /// The state that has a row which the state with this number shows in this way.
-fn state_of(number: u64, way: Way) -> u64 {
+fn state_of(number: u64, way: Way) -> u64
+    ensures { result ≡ state_of number way }
+{
     match way {
         Way::Whole => number,
         Way::Again(state) | Way::Folded(state) => state,

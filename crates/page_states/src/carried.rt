@@ -6,9 +6,10 @@ ghost use Rattle.model.specs.FocusFound.{is_focused};
 ghost use Rattle.model.specs.Covers.{is_included, is_cut_off};
 ghost use Rattle.views.specs.Nodes.{world_at, id_at};
 ghost use Rattle.hidden_texts.specs.Hidden.{is_in_password};
-ghost use Rattle.page_states.specs.Known.{clip_frame, frame_below, is_below_left_out, is_clear, is_left_out, left_out_filter, IsKnown, IsStepAbove, sum_of};
+ghost use Rattle.page_states.specs.Known.{clip_frame, depth_at, frame_below, is_below_left_out, is_clear, is_left_out, left_out_filter, IsKnown, IsStepAbove, sum_of};
 ghost use Rattle.page_states.specs.Places.{IsOpenUnless};
 
+use crate::clipping::is_out_of_clip;
 use crate::sources::{Source, source_of};
 use hidden_texts::is_in_password;
 use schema::{Rect, Role, Translation, WideRect, WideTranslation};
@@ -19,6 +20,8 @@ use views::{FullNodeId, NodeRef};
 /// The properties of a node that the page shows or that the nodes below it need.
 #[derive(Clone, Copy)]
 pub(crate) struct Known {
+    /// The number of the node's ancestors.
+    pub depth: usize,
     /// By how much the node is shifted.
     pub shift: WideTranslation,
     /// The node's box, if it has one.
@@ -33,6 +36,8 @@ pub(crate) struct Known {
     pub answer: FilterResult,
     /// Whether the common filter excludes the node, or an ancestor, with its subtree.
     pub is_left_out: bool,
+    /// Whether the common filter excludes the node alone, and it lies outside of what clips it.
+    pub is_out_of_clip: bool,
     /// What clips the nodes below it, if that is known: the box of the nearest node, from this one upwards, that the
     /// base filter includes, if it clips its children.
     pub frame: Option<Option<WideRect>>,
@@ -59,6 +64,7 @@ pub(crate) fn known_of(node: NodeRef, has_password: bool, above: Option<Step>) -
     let is_in_password = is_in_password_at(node, above);
     let answer = answer_of(node, is_hidden, rect, above);
     Known {
+        depth: depth_of(node, above),
         shift,
         rect,
         is_hidden,
@@ -66,9 +72,36 @@ pub(crate) fn known_of(node: NodeRef, has_password: bool, above: Option<Step>) -
         is_secret: node.is_password_input() || is_in_password,
         answer,
         is_left_out: is_left_out_at(node, answer, above),
+        is_out_of_clip: is_out_of_clip(node, answer, rect, above),
         frame: frame_of(node, is_hidden, rect, above),
         source: source_of(node, has_password, above),
     }
+}
+
+/// The number of the node's ancestors.
+fn depth_of(node: NodeRef, above: Option<Step>) -> usize
+    requires { IsStepAbove (world_at node) (id_at node) above }
+    ensures { result ≡ depth_at (world_at node.entry) (id_at node.entry) }
+{
+    node.tree_state().know();
+    match above {
+        Some(step) => step.known.depth.saturating_add(1),
+        None => counted_depth(node),
+    }
+}
+
+/// The same, counted on the way up to the root.
+fn counted_depth(node: NodeRef) -> usize
+    ensures { result ≡ depth_at (world_at node.entry) (id_at node.entry) }
+{
+    node.tree_state().know();
+    let mut depth = 0usize;
+    let mut current = node;
+    while let Some(parent) = current.parent() {
+        depth = depth.saturating_add(1);
+        current = parent;
+    }
+    depth
 }
 
 /// By how much the node is shifted.
@@ -149,7 +182,7 @@ fn is_in_password_at(node: NodeRef, above: Option<Step>) -> bool
 }
 
 /// Whether the node is focused in the sense of the common filter.
-fn is_focused(node: NodeRef) -> bool
+pub(crate) fn is_focused(node: NodeRef) -> bool
     ensures { result ≡ is_focused (world_at node.entry) (id_at node.entry) }
 {
     node.tree_state().know();
@@ -157,7 +190,7 @@ fn is_focused(node: NodeRef) -> bool
 }
 
 /// Whether the node is a graft, a container or a text run.
-fn is_transparent(node: NodeRef) -> bool
+pub(crate) fn is_transparent(node: NodeRef) -> bool
     ensures { result ≡ is_transparent (world_at node.entry) (id_at node.entry) }
 {
     node.is_graft() || matches!(node.role(), Role::GenericContainer | Role::TextRun)
@@ -304,7 +337,7 @@ fn is_shown(node: NodeRef, is_hidden: bool) -> bool
 }
 
 /// The box by which the node clips the nodes below it.
-fn clip_frame(node: NodeRef, rect: Option<WideRect>) -> Option<WideRect>
+pub(crate) fn clip_frame(node: NodeRef, rect: Option<WideRect>) -> Option<WideRect>
     requires { rect ≡ bounding_box (world_at node) (id_at node) }
     ensures { result ≡ clip_frame (world_at node.entry) (id_at node.entry) }
 {

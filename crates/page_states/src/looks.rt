@@ -1,16 +1,20 @@
 //! What a state shows of a node, in the bytes that are written.
-ghost use Rattle.std.specs.Prelude.{◌≡◌, ◌↔◌, All, IsTrue, option_copied};
+ghost use Rattle.std.specs.Prelude.{◌≡◌, ◌↔◌, All, IfOk, IsTrue, map, option_copied};
 ghost use Rattle.views.specs.Nodes.{world_at};
 ghost use Rattle.views.specs.ShownWorlds.{world_of};
 ghost use Rattle.page_states.specs.Found.{IsPlaceIn};
+ghost use Rattle.page_states.specs.Drawn.{drawn_text};
+ghost use Rattle.page_states.specs.Looks.{children_at, place_shown, IsLook, IsShownIn};
+ghost use Rattle.page_states.specs.Rows.{row_text};
 ghost use Rattle.page_states.specs.Places.{IsPlace};
 ghost use Rattle.page_states.specs.Texts.{HasValue, IsShown, IsTold};
 
 use crate::boxes::Frame;
+use crate::drawn::write_drawn;
 use crate::faults::Fault;
 use crate::outline::write_row_text;
-use crate::picture::write_drawn;
 use crate::places::{Place, drawn_rect};
+use crate::rows::Shown;
 use crate::shown_texts::{Texts, Told, shown_source, tell_shared};
 use crate::words::{shown_label, shown_value};
 use std::alloc::{AllocError, Global};
@@ -27,24 +31,30 @@ pub struct Look {
     pub children: Vec<FullNodeId>,
 }
 
-/// What an outline, and a picture with this frame, show of each of these nodes of the state.
-pub(crate) fn looks_of<'a>(
+/// Each of these nodes of the state with what an outline, and a picture with this frame, show of it.
+pub(crate) fn shown_of<'a>(
     alloc: Global,
     state: StateRef<'a>,
     frame: Option<Frame>,
     places: &[Place<'a>],
-) -> Result<Vec<Look>, Fault>
+) -> Result<Vec<Shown<'a>>, Fault>
     requires { All (IsPlaceIn (world_of state)) places.now }
+    ensures places { IfOk result (λ shown. map place_shown shown.items ≡ places.now) }
+    ensures looks { IfOk result (λ shown. All (IsShownIn frame) shown.items) }
 {
     let mut told = Told {
         source: None,
         value: None,
     };
-    let mut looks = Vec::new(alloc);
+    let mut shown = Vec::new(alloc);
     for place in places {
-        looks.push(next_look(alloc, frame, place, &mut told)?)?;
+        let look = next_look(alloc, frame, place, &mut told)?;
+        shown.push(Shown {
+            place: *place,
+            look,
+        })?;
     }
-    Ok(looks)
+    Ok(shown)
 }
 
 /// What is shown of the next node, after those among which this value was read last.
@@ -56,7 +66,8 @@ fn next_look(
 ) -> Result<Look, Fault>
     requires place { IsPlace place.now }
     requires told { IsTold (world_at place.now.node) told.old }
-    ensures { IsTold (world_at place.now.node) told.new }
+    ensures told { IsTold (world_at place.now.node) told.new }
+    ensures look { IfOk result (IsLook frame place.now) }
 {
     match shown_source(place) {
         Some(source) => {
@@ -68,7 +79,9 @@ fn next_look(
 }
 
 /// What is shown of a node whose value isn't that of a source.
-fn look_alone(alloc: Global, frame: Option<Frame>, place: &Place) -> Result<Look, Fault> {
+fn look_alone(alloc: Global, frame: Option<Frame>, place: &Place) -> Result<Look, Fault>
+    ensures { IfOk result (IsLook frame place.now) }
+{
     let value = shown_value(alloc, &place.node, place.hidden.value)?;
     look_of(alloc, frame, place, value.as_deref())
 }
@@ -81,6 +94,7 @@ fn look_of(
     value: Option<&str>,
 ) -> Result<Look, Fault>
     requires { HasValue place.now (option_copied value) }
+    ensures { IfOk result (IsLook frame place.now) }
 {
     let label = shown_label(alloc, &place.node, place.hidden.label)?;
     let texts = Texts {
@@ -89,7 +103,7 @@ fn look_of(
     };
     let row = row_of(alloc, place, texts)?;
     let drawn = drawn_of(alloc, frame, place, texts)?;
-    let children: Vec<FullNodeId> = place.node.child_ids().collect(alloc)?;
+    let children = children_of(alloc, place)?;
     Ok(Look {
         row,
         drawn,
@@ -97,9 +111,18 @@ fn look_of(
     })
 }
 
+/// A node's children, in order.
+fn children_of(alloc: Global, place: &Place) -> Result<Vec<FullNodeId>, AllocError>
+    ensures { IfOk result (λ ids. ids.items ≡ children_at place.now) }
+{
+    let children: Vec<FullNodeId> = place.node.child_ids().collect(alloc)?;
+    Ok(children)
+}
+
 /// A node's row in the outline, without its mark and links.
 fn row_of(alloc: Global, place: &Place, texts: Texts) -> Result<Vec<u8>, AllocError>
     requires { IsShown place.now texts }
+    ensures { IfOk result (λ row. row.items ≡ row_text place.now) }
 {
     let mut row = Vec::new(alloc);
     // A vector has no other error than lack of memory.
@@ -115,7 +138,10 @@ fn drawn_of(
     frame: Option<Frame>,
     place: &Place,
     texts: Texts,
-) -> Result<Vec<u8>, AllocError> {
+) -> Result<Vec<u8>, AllocError>
+    requires { IsShown place.now texts }
+    ensures { IfOk result (λ drawn. drawn.items ≡ drawn_text frame place.now) }
+{
     let mut drawn = Vec::new(alloc);
     let Some(frame) = frame else {
         return Ok(drawn);

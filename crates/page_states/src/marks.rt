@@ -1,5 +1,8 @@
 //! The effect of an update on nodes.
 
+ghost use Rattle.std.specs.Prelude.{◌≡◌};
+ghost use Rattle.page_states.specs.Rows.{mark_class, mark_word};
+
 use std::collections::BTreeMap;
 use views::FullNodeId;
 
@@ -15,7 +18,9 @@ pub type Marks = BTreeMap<FullNodeId, Mark>;
 
 impl Mark {
     /// The class of the element that shows the node.
-    pub(crate) fn class(self) -> &'static str {
+    pub(crate) fn class(self) -> &'static str
+        ensures { result.now ≡ mark_class self }
+    {
         match self {
             Mark::Added => "a",
             Mark::Updated => "u",
@@ -23,7 +28,9 @@ impl Mark {
     }
 
     /// The word shown for the node.
-    pub(crate) fn word(self) -> &'static str {
+    pub(crate) fn word(self) -> &'static str
+        ensures { result.now ≡ mark_word self }
+    {
         match self {
             Mark::Added => "added",
             Mark::Updated => "updated",

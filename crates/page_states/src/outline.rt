@@ -1,15 +1,19 @@
 //! Writing a tree as an outline.
-ghost use Rattle.std.specs.Prelude.{OnOk};
+ghost use Rattle.std.specs.Prelude.{◌≡◌, ◌-◌, OnOk, IfOk, map, option_copied};
 ghost use Rattle.std.specs.Io.KnownBytes.{Appends};
+ghost use Rattle.std.specs.List.{FoldsTo};
+ghost use Rattle.model.specs.FocusFound.{is_focused_in_tree};
 ghost use Rattle.views.specs.Nodes.{world_at, id_at};
+ghost use Rattle.page_states.specs.Rows.{again_text, as_in_text, begun_list, class_if, ends_text, focus_word, folds, item_text, left_out_word, level_text, lists_after, mark_text, row_begun, row_class, row_end, row_text, whole_text, within, words_text, WritesItem, WritesOutline};
 ghost use Rattle.page_states.specs.Said.{label_texts, row_texts, value_texts};
 ghost use Rattle.page_states.specs.Texts.{IsShown};
 
-use crate::again::{Way, Ways};
-use crate::looks::Look;
+use crate::again::Way;
+use crate::carried::is_focused;
 use crate::marks::Mark;
 use crate::names::{write_anchor, write_id, write_role, write_word};
 use crate::places::Place;
+use crate::rows::Row;
 use crate::shown_texts::Texts;
 use crate::words::{hidden_label_word, hidden_value_word, state_words};
 use html::write_element;
@@ -24,137 +28,190 @@ const INDENTED: usize = 24;
 
 /// Writes each node as a list item, in order. The item of a node with children folds, and has the items of those below it. A
 /// node that was shown, with all below it, in an earlier state has one item alone, which leads to that state.
-pub(crate) fn write_outline<O: Write>(
-    number: u64,
-    places: &[Place],
-    looks: &[Look],
-    ways: &[Ways],
-    out: &mut O,
-) -> io::Result<()> {
+pub(crate) fn write_outline<O: Write>(number: u64, rows: &[Row], out: &mut O) -> io::Result<()>
+    ensures { OnOk result (WritesOutline number rows.now (O.contents out.old) (O.contents out.new)) }
+{
     out.write_all(b"<ul class=\"outline\">\n")?;
-    let mut lists = 0;
-    let count = places.len().min(looks.len()).min(ways.len());
-    for index in 0..count {
-        lists = write_item(
-            number,
-            &places[index],
-            &looks[index],
-            ways[index].row,
-            lists,
-            out,
-        )?;
-    }
-    end_lists(0, lists, out)?;
+    let lists = write_items(number, rows, out)?;
+    end_lists(lists, out)?;
     out.write_all(b"</ul>\n")
 }
 
+/// Writes the items of these rows. Returns the number of lists that are begun after them.
+fn write_items<O: Write>(number: u64, rows: &[Row], out: &mut O) -> io::Result<usize>
+    ensures { IfOk result (λ lists. FoldsTo (WritesItem number) (0, O.contents out.old) rows.now (lists, O.contents out.new)) }
+{
+    let mut lists = 0;
+    for row in rows {
+        let after = write_item(number, row, lists, out)?;
+        lists = after;
+    }
+    Ok(lists)
+}
+
 /// Writes a node's item after one that is within so many lists. Returns the number of lists.
-fn write_item<O: Write>(
+fn write_item<O: Write>(number: u64, row: &Row, lists: usize, out: &mut O) -> io::Result<usize>
+    ensures { IfOk result (λ after. WritesItem number (lists, O.contents out.old) row.now (after, O.contents out.new)) }
+{
+    let way = row.ways.row;
+    write_item_as(number, row, way, lists, out)?;
+    Ok(lists_after(row, way, lists))
+}
+
+/// Writes a node's item, which is shown in this way, after one that is within so many lists.
+fn write_item_as<O: Write>(
     number: u64,
-    place: &Place,
-    look: &Look,
+    row: &Row,
     way: Way,
     lists: usize,
     out: &mut O,
-) -> io::Result<usize> {
-    let within = place.depth.min(MOST_LISTS);
+) -> io::Result<()>
+    ensures { OnOk result (Appends (O.contents out.old) (O.contents out.new) (item_text number lists row.now way)) }
+{
     match way {
-        Way::Folded(_) => Ok(lists),
+        Way::Folded(_) => Ok(()),
         Way::Again(state) => {
-            end_lists(within, lists, out)?;
-            write_again(number, place, look, state, out)?;
-            Ok(within)
+            end_lists_for(row, lists, out)?;
+            write_again(number, row, state, out)
         }
         Way::Whole => {
-            end_lists(within, lists, out)?;
-            write_row(number, place, look, within, out)
+            end_lists_for(row, lists, out)?;
+            write_row(number, row, out)
         }
     }
 }
 
-/// Ends lists until only so many are left.
-fn end_lists<O: Write>(left: usize, lists: usize, out: &mut O) -> io::Result<()> {
-    for _ in left..lists {
+/// The number of lists that are begun after a row that is shown in this way, where so many were.
+fn lists_after(row: &Row, way: Way, lists: usize) -> usize
+    ensures { result ≡ lists_after lists row.now way }
+{
+    match way {
+        Way::Folded(_) => lists,
+        Way::Again(_) => within(row),
+        Way::Whole => lists_with(row),
+    }
+}
+
+/// The number of lists that hold a row.
+fn within(row: &Row) -> usize
+    ensures { result ≡ within row.now }
+{
+    row.shown.place.depth.min(MOST_LISTS)
+}
+
+/// Whether a row begins a list, of the rows of its children.
+fn folds(row: &Row) -> bool
+    ensures { result ≡ folds row.now }
+{
+    within(row) < MOST_LISTS && !row.shown.look.children.is_empty()
+}
+
+/// The number of lists that are begun after a row that is written out.
+fn lists_with(row: &Row) -> usize
+    ensures { result ≡ lists_after 0 row.now Way.Whole }
+{
+    if folds(row) {
+        return within(row).saturating_add(1);
+    }
+    within(row)
+}
+
+/// Ends those of so many lists that don't hold a row.
+fn end_lists_for<O: Write>(row: &Row, lists: usize, out: &mut O) -> io::Result<()>
+    ensures { OnOk result (Appends (O.contents out.old) (O.contents out.new) (ends_text (lists - within row.now))) }
+{
+    end_lists(lists.saturating_sub(within(row)), out)
+}
+
+/// Ends so many lists.
+fn end_lists<O: Write>(count: usize, out: &mut O) -> io::Result<()>
+    ensures { OnOk result (Appends (O.contents out.old) (O.contents out.new) (ends_text count)) }
+{
+    for _ in 0..count {
         out.write_all(b"</ul></details></li>\n")?;
     }
     Ok(())
 }
 
 /// Writes the item of a node that is, with all below it, as in an earlier state, with a link to its item there.
-fn write_again<O: Write>(
-    number: u64,
-    place: &Place,
-    look: &Look,
-    state: u64,
-    out: &mut O,
-) -> io::Result<()> {
+fn write_again<O: Write>(number: u64, row: &Row, state: u64, out: &mut O) -> io::Result<()>
+    ensures { OnOk result (Appends (O.contents out.old) (O.contents out.new) (again_text number row.now state)) }
+{
+    let place = &row.shown.place;
     begin_row(number, place, false, out)?;
-    out.write_all(&look.row)?;
+    out.write_all(&row.shown.look.row)?;
     out.write_all(b" <a href=\"#")?;
     write_anchor(state, place.node.id(), out)?;
+    end_again(state, out)
+}
+
+/// Ends a link to an earlier state, and its row.
+fn end_again<O: Write>(state: u64, out: &mut O) -> io::Result<()>
+    ensures { OnOk result (Appends (O.contents out.old) (O.contents out.new) (as_in_text state)) }
+{
     write!(out, "\">as in state {state}</a></li>\n")
 }
 
-/// Writes a row within so many lists: its node's mark, and what is shown of it. If the node has children, it begins a list of
-/// them. Returns the number of lists.
-fn write_row<O: Write>(
-    number: u64,
-    place: &Place,
-    look: &Look,
-    within: usize,
-    out: &mut O,
-) -> io::Result<usize> {
-    let is_folding = within < MOST_LISTS && !look.children.is_empty();
+/// Writes a row: its node's mark, and what is shown of it. If the node has children, it begins a list of them.
+fn write_row<O: Write>(number: u64, row: &Row, out: &mut O) -> io::Result<()>
+    ensures { OnOk result (Appends (O.contents out.old) (O.contents out.new) (whole_text number row.now)) }
+{
+    let place = &row.shown.place;
+    let is_folding = folds(row);
     begin_row(number, place, is_folding, out)?;
     write_mark(place.mark, out)?;
-    out.write_all(&look.row)?;
-    if !is_folding {
-        out.write_all(b"</li>\n")?;
-        return Ok(within);
+    out.write_all(&row.shown.look.row)?;
+    out.write_all(row_end(is_folding, within(row)).as_bytes())
+}
+
+/// The end of a row's line within so many lists, and of its item unless that folds.
+fn row_end(is_folding: bool, within: usize) -> &'static str
+    ensures { result.now ≡ row_end is_folding within }
+{
+    if is_folding {
+        return begun_list(within);
     }
-    out.write_all(begun_list(within).as_bytes())?;
-    Ok(within.saturating_add(1))
+    "</li>\n"
 }
 
 /// Ends the line of an item that folds, and begins the list in it, within so many others.
-fn begun_list(within: usize) -> &'static str {
-    match within < INDENTED {
-        true => "</summary><ul class=\"in\">\n",
-        false => "</summary><ul>\n",
+fn begun_list(within: usize) -> &'static str
+    ensures { result.now ≡ begun_list within }
+{
+    if within < INDENTED {
+        "</summary><ul class=\"in\">\n"
+    } else {
+        "</summary><ul>\n"
     }
 }
 
 /// Begins a row's item.
-fn begin_row<O: Write>(
-    number: u64,
-    place: &Place,
-    is_folding: bool,
-    out: &mut O,
-) -> io::Result<()> {
+fn begin_row<O: Write>(number: u64, place: &Place, is_folding: bool, out: &mut O) -> io::Result<()>
+    ensures { OnOk result (Appends (O.contents out.old) (O.contents out.new) (row_begun number place.now is_folding)) }
+{
     out.write_all(b"<li id=\"")?;
     write_anchor(number, place.node.id(), out)?;
     write_level(row_class(place), place.depth, is_folding, out)
 }
 
 /// Ends the tag of a row's item with its classes and its level, which counts from 1, and begins its line if it folds.
-fn write_level<O: Write>(
-    class: &str,
-    depth: usize,
-    is_folding: bool,
-    out: &mut O,
-) -> io::Result<()> {
+fn write_level<O: Write>(class: &str, depth: usize, is_folding: bool, out: &mut O) -> io::Result<()>
+    ensures { OnOk result (Appends (O.contents out.old) (O.contents out.new) (level_text class.now depth is_folding)) }
+{
     let level = depth.saturating_add(1);
-    match is_folding {
-        true => write!(
+    if is_folding {
+        return write!(
             out,
             "\" class=\"{class}\" aria-level=\"{level}\"><details open><summary>"
-        ),
-        false => write!(out, "\" class=\"{class} e\" aria-level=\"{level}\">"),
+        );
     }
+    write!(out, "\" class=\"{class} e\" aria-level=\"{level}\">")
 }
 
 /// Writes what an update did to a node, if it did anything.
-fn write_mark<O: Write>(mark: Option<Mark>, out: &mut O) -> io::Result<()> {
+fn write_mark<O: Write>(mark: Option<Mark>, out: &mut O) -> io::Result<()>
+    ensures { OnOk result (Appends (O.contents out.old) (O.contents out.new) (mark_text mark)) }
+{
     let Some(mark) = mark else {
         return Ok(());
     };
@@ -163,8 +220,17 @@ fn write_mark<O: Write>(mark: Option<Mark>, out: &mut O) -> io::Result<()> {
 }
 
 /// The classes of a row.
-fn row_class(place: &Place) -> &'static str {
-    match (place.is_left_out, place.mark) {
+fn row_class(place: &Place) -> &'static str
+    ensures { result.now ≡ row_class place.now }
+{
+    class_if(place.is_left_out, place.mark)
+}
+
+/// The classes of a row that is left out or isn't, and has a mark or hasn't.
+fn class_if(is_left_out: bool, mark: Option<Mark>) -> &'static str
+    ensures { result.now ≡ class_if is_left_out mark }
+{
+    match (is_left_out, mark) {
         (false, None) => "n",
         (false, Some(mark)) => mark.class(),
         (true, None) => "x",
@@ -177,6 +243,7 @@ fn row_class(place: &Place) -> &'static str {
 /// shown, and its id.
 pub(crate) fn write_row_text<O: Write>(place: &Place, texts: Texts, out: &mut O) -> io::Result<()>
     requires { IsShown place.now texts }
+    ensures { OnOk result (Appends (O.contents out.old) (O.contents out.new) (row_text place.now)) }
 {
     write_role(&place.node, out)?;
     write_texts(place, texts, out)?;
@@ -218,7 +285,9 @@ fn write_value<O: Write>(place: &Place, texts: Texts, out: &mut O) -> io::Result
 }
 
 /// Writes each word, if it is set.
-fn write_words<O: Write>(words: &[Option<&'static str>], out: &mut O) -> io::Result<()> {
+fn write_words<O: Write>(words: &[Option<&'static str>], out: &mut O) -> io::Result<()>
+    ensures { OnOk result (Appends (O.contents out.old) (O.contents out.new) (words_text (map option_copied words.now))) }
+{
     for word in words {
         write_word("i", "w", *word, out)?;
     }
@@ -226,7 +295,9 @@ fn write_words<O: Write>(words: &[Option<&'static str>], out: &mut O) -> io::Res
 }
 
 /// The word for a node that the common filter excludes with a subtree.
-fn left_out_word(place: &Place) -> Option<&'static str> {
+fn left_out_word(place: &Place) -> Option<&'static str>
+    ensures { option_copied result ≡ left_out_word place.now }
+{
     if !place.is_left_out {
         return None;
     }
@@ -237,12 +308,22 @@ fn left_out_word(place: &Place) -> Option<&'static str> {
 }
 
 /// The word for the focused node, or for the effective focus while the host window isn't focused.
-fn focus_word(node: &NodeRef) -> Option<&'static str> {
-    if node.is_focused() {
+fn focus_word(node: &NodeRef) -> Option<&'static str>
+    ensures { option_copied result ≡ focus_word (world_at node.now) (id_at node.now) }
+{
+    if is_focused(*node) {
         return Some("focus");
     }
-    if node.is_focused_in_tree() && !node.tree_state().is_host_focused() {
+    if is_tree_focus(*node) && !node.tree_state().is_host_focused() {
         return Some("focus in the tree");
     }
     None
+}
+
+/// Whether the node has the focus of its tree, which the host window may not have.
+fn is_tree_focus(node: NodeRef) -> bool
+    ensures { result ≡ is_focused_in_tree (world_at node.entry) (id_at node.entry) }
+{
+    node.tree_state().know();
+    node.is_focused_in_tree()
 }

@@ -6,7 +6,7 @@ ghost use Rattle.views.specs.PlainWalks.{node_in, node_of};
 ghost use Rattle.views.specs.Descendants.{descendants};
 ghost use Rattle.views.specs.ShownWorlds.{world_of};
 ghost use Rattle.page_states.specs.Known.{IsAt, IsStep, IsStepAbove};
-ghost use Rattle.page_states.specs.Places.{box_drawn, node_at, IsOpenUnless, IsPlace, AreNodes, from_node, shown_nodes};
+ghost use Rattle.page_states.specs.Places.{box_drawn, node_at, HasMark, IsOpenUnless, IsPlace, AreNodes, from_node, shown_nodes};
 
 use crate::carried::{Step, known_of};
 use crate::marks::{Mark, Marks};
@@ -35,7 +35,7 @@ pub(crate) struct Place<'a> {
     pub source: Option<FullNodeId>,
     /// Its box, if it has one.
     pub rect: Option<WideRect>,
-    /// Whether the common filter excludes it, or an ancestor, with its subtree.
+    /// Whether the common filter excludes it, or an ancestor, with its subtree, or it alone and it is outside of what clips it.
     pub is_left_out: bool,
     /// The effect of the update on it.
     pub mark: Option<Mark>,
@@ -50,6 +50,7 @@ pub(crate) fn places<'a>(
     ensures nodes { let w = world_of state.entry in
         IfOk result (λ places. AreNodes w (shown_nodes w) (map node_at places.items)) }
     ensures each { IfOk result (λ places. All IsPlace places.items) }
+    ensures marks { IfOk result (λ places. All (HasMark marks.now) places.items) }
 {
     state.know();
     let nodes = nodes_from(alloc, state.root())?;
@@ -88,6 +89,7 @@ fn places_of<'a>(
     requires nodes { All (λ node. world_at node ≡ world_of state) nodes.now }
     ensures nodes { IfOk result (λ places. map node_at places.items ≡ nodes.now) }
     ensures each { IfOk result (λ places. All IsPlace places.items) }
+    ensures marks { IfOk result (λ places. All (HasMark marks.now) places.items) }
 {
     let mut path = Vec::new(alloc);
     let mut places = Vec::new(alloc);
@@ -109,15 +111,15 @@ fn next_place<'a>(
     ensures path { All (IsStep (world_at node.entry)) path.new.items }
     ensures place { IfOk result IsPlace }
     ensures node { IfOk result (λ place. node_at place ≡ node.entry) }
+    ensures mark { IfOk result (HasMark marks.now) }
 {
     let above = step_above(node, path);
-    let depth = path.len();
     let step = Step {
         id: node.id(),
         known: known_of(node, has_password, above),
     };
     path.push(step)?;
-    Ok(place_at(node, has_password, depth, step, marks))
+    Ok(place_at(node, has_password, step, marks))
 }
 
 /// The last step of the path that is the node's parent, if there is one; the path then ends there.
@@ -148,22 +150,17 @@ fn last_step_to(id: FullNodeId, path: &[Step]) -> Option<usize>
 }
 
 /// A node with these properties.
-fn place_at<'a>(
-    node: NodeRef<'a>,
-    has_password: bool,
-    depth: usize,
-    step: Step,
-    marks: &Marks,
-) -> Place<'a>
+fn place_at<'a>(node: NodeRef<'a>, has_password: bool, step: Step, marks: &Marks) -> Place<'a>
     requires open { IsOpenUnless has_password (world_at node) }
     requires step { IsStep (world_at node) step }
     requires id { step.id ≡ id_at node }
     ensures place { IsPlace result }
     ensures node { node_at result ≡ node.entry }
+    ensures mark { HasMark marks.now result }
 {
     Place {
         node,
-        depth,
+        depth: step.known.depth,
         answer: step.known.answer,
         is_hidden: step.known.is_hidden,
         hidden: hidden_where(
@@ -175,12 +172,12 @@ fn place_at<'a>(
         is_in_password: step.known.is_in_password,
         source: value_source(&node, step.known.source),
         rect: step.known.rect,
-        is_left_out: step.known.is_left_out,
+        is_left_out: step.known.is_left_out || step.known.is_out_of_clip,
         mark: marks.get(&step.id).copied(),
     }
 }
 
-/// The box that a picture draws for a node: none if the node, or one above it, is hidden or clipped with all below it.
+/// The box that a picture draws for a node: none if the node, or one above it, is hidden or clipped.
 pub(crate) fn drawn_rect(place: &Place) -> Option<WideRect>
     ensures { result ≡ box_drawn place.now }
 {

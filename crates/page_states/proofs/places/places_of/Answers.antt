@@ -5,7 +5,7 @@ use Rattle.std.proofs.lemmas.List.Elements.{All-push, All-get_or}
 use Rattle.views.specs.Nodes.{world_at}
 use Rattle.views.specs.ShownWorlds.{world_of}
 use Rattle.page_states.specs.Known.{IsStep}
-use Rattle.page_states.specs.Places.{node_at, IsPlace}
+use Rattle.page_states.specs.Places.{node_at, HasMark, IsPlace}
 use Rattle.page_states.proofs.places.places_of.Goals as goal
 
 pub loop-node-preserved : goal.loop-node-preserved
@@ -21,4 +21,5 @@ loop-node-preserved c =
           ∙ ap (λ l. l ++ node_at place ∷ []) c.loop-node.invariant.nodes
           ∙ ap (λ n. take i nodes ++ n ∷ []) (made.node ∙ c.node-item.is) ∙ sym (take_more nodes i x within);
       each = subst (All IsPlace) (sym c.in_ok-push.ensures.items) (All-push IsPlace old place c.loop-node.invariant.each made.place);
+      marks = subst (All (HasMark c.args.marks.now)) (sym c.in_ok-push.ensures.items) (All-push (HasMark c.args.marks.now) old place c.loop-node.invariant.marks made.mark);
     }
