@@ -1,5 +1,5 @@
-/* What a call costs a program in C: from_c WORK TIMES NODES makes a window with so many nodes, calls so often, and prints a sum of what it
- * met. The difference of two runs under callgrind, by that of their TIMES, is the cost of a call. */
+/* What a call costs a program in C: from_c WORK TIMES NODES makes a window with so many nodes, or a text of so many lines, calls so often, and
+ * prints a sum of what it met. The difference of two runs under callgrind, by that of their TIMES, is the cost of a call. */
 #include "accesskit_proved.h"
 #include <pthread.h>
 #include <stdio.h>
@@ -23,12 +23,32 @@ static char *first_lines(unsigned long nodes, const char *others, size_t *length
     return lines;
 }
 
-static const char *const works[] = {"none", "count", "root", "parent", "flag", "label",
-                                    "bounds", "filter", "move", "locked", "hit", "relabel", "build", "no_node",
+/* A text of lines of 35 characters, eight words each, with the caret in the middle. */
+static char *text_lines(unsigned long count, size_t *length) {
+    char *lines = malloc(220 * (size_t)count + 400), *at = lines;
+    at += sprintf(at, "host on\nupdate root focus=1 root=1\nnode 1 MultilineTextInput selection=%lu:3,%lu:3 children=2", count / 2 + 2, count / 2 + 2);
+    for (unsigned long n = 3; n <= count + 1; n++) at += sprintf(at, ",%lu", n);
+    at += sprintf(at, "\n");
+    for (unsigned long n = 2; n <= count + 1; n++) {
+        at += sprintf(at, "node %lu TextRun value=\"One and two and three and four or.\\n\" words=0,4,8,12,16,22,26,31 chars=1", n);
+        for (int i = 1; i < 35; i++) at += sprintf(at, ",1");
+        at += sprintf(at, "\n");
+    }
+    at += sprintf(at, "end\n");
+    *length = (size_t)(at - lines);
+    return lines;
+}
+
+static const char *const works[] = {"none", "count", "root", "parent", "flag", "label", "bounds", "filter", "move", "state", "flags", "style",
+                                    "labels", "relative", "action", "transform", "uuid", "toolkit", "role_name", "declared", "locked",
+                                    "children", "child", "index", "hit", "relabel", "build", "no_node",
                                     "field_text", "field_ids", "field_id", "field_flag", "field_choice", "field_number", "field_count", "field_numbers",
-                                    "field_units", "field_actions", "field_rect", "field_translation", "field_selection", "field_color", "field_decoration"};
-enum { NONE, COUNT, ROOT, PARENT, FLAG, LABEL, BOUNDS, FILTER, MOVE, LOCKED, HIT, RELABEL, BUILD, NO_NODE, F_TEXT, F_IDS, F_ID, F_FLAG, F_CHOICE, F_NUMBER,
-       F_COUNT, F_NUMBERS, F_UNITS, F_ACTIONS, F_RECT, F_TRANSLATION, F_SELECTION, F_COLOR, F_DECORATION, WORKS };
+                                    "field_units", "field_actions", "field_rect", "field_translation", "field_selection", "field_color", "field_decoration",
+                                    "place", "placed", "caret", "word", "line", "moved", "tested", "length", "boxes", "look", "differs", "defect"};
+enum { NONE, COUNT, ROOT, PARENT, FLAG, LABEL, BOUNDS, FILTER, MOVE, STATE, FLAGS, STYLE, LABELS, RELATIVE, ACTION, TRANSFORM, UUID,
+       TOOLKIT, ROLE_NAME, DECLARED, LOCKED, CHILDREN, CHILD, INDEX, HIT, RELABEL, BUILD, NO_NODE, F_TEXT, F_IDS, F_ID, F_FLAG,
+       F_CHOICE, F_NUMBER, F_COUNT, F_NUMBERS, F_UNITS, F_ACTIONS, F_RECT, F_TRANSLATION, F_SELECTION, F_COLOR, F_DECORATION, PLACE,
+       PLACED, CARET, WORD, LINE, MOVED, TESTED, LENGTH, BOXES, LOOK, DIFFERS, DEFECT, WORKS };
 
 static unsigned long relabelled(ak_tree *tree, uint64_t turn) {
     static const char *const lines[] = {"update root focus=1\nnode 7 Button label=\"Button 0\" bounds=0,320,640,384\nend\n",
@@ -95,7 +115,14 @@ static bool is_parent_locked(ak_tree *tree, uint64_t node) {
     return is_parent;
 }
 
-static unsigned long called(ak_tree *tree, int work, uint64_t node, uint64_t turn) {
+static unsigned long called(ak_tree *tree, int work, uint64_t node, uint64_t turn, uint64_t nodes) {
+    const ak_spot middle = {.kind = AK_SPOT_INDEX, .index = 35 * (nodes / 2) + 3}, caret = {.kind = AK_SPOT_SELECTION_FOCUS};
+    ak_style_value style;
+    ak_span span;
+    ak_point point;
+    ak_defect defect;
+    uint64_t set = 0;
+    uint32_t number;
     ak_id id = {0, 0};
     ak_bounds bounds;
     ak_position position;
@@ -112,7 +139,34 @@ static unsigned long called(ak_tree *tree, int work, uint64_t node, uint64_t tur
     case BOUNDS: return ak_node_bounds(tree, node, 0, &bounds) == AK_DONE ? (unsigned long)bounds.y0 / 64 : 0;
     case FILTER: return ak_node_filter(tree, node, 0, AK_COMMON, &answer) == AK_DONE && answer == AK_INCLUDE;
     case MOVE: return ak_text_move(tree, node, 0, 0, false, AK_DOCUMENT_END, &position) == AK_DONE;
+    case STATE: return ak_node_state(tree, node, 0, AK_STATE_LIVE, &number) == AK_DONE;
+    case FLAGS: return ak_node_flags(tree, node, 0, 0x80de3f, &set) == AK_DONE ? set & 0xff : 0; /* thirteen of them */
+    case STYLE: return ak_node_style(tree, node, 0, AK_TEXT_STYLE_FONT_SIZE, &style) == AK_DONE;
+    case LABELS: return ak_node_list(tree, node, 0, AK_LIST_LABELLED_BY, AK_ALL, &id, 1, &count) == AK_DONE;
+    case RELATIVE: return ak_node_relative(tree, node, 0, AK_RELATIVE_ACTIVE_DESCENDANT, AK_ALL, &id) == AK_NOTHING;
+    case ACTION: return ak_node_supports_action(tree, node, 0, AK_ACTION_CLICK, AK_COMMON, &is_set) == AK_DONE && !is_set;
+    case TRANSFORM: return ak_node_transform(tree, node, 0, &point) == AK_DONE && point.x == 0;
+    case UUID: return ak_node_tree_id(tree, node, 0, text, sizeof text, &count) == AK_DONE ? count : 0;
+    case TOOLKIT: return ak_tree_toolkit_name(tree, text, sizeof text, &count) == AK_DONE ? count : 0;
+    case ROLE_NAME: return ak_role_name(AK_ROLE_OTHER + 328, text, sizeof text, &count) == AK_DONE ? count : 0;
+    case DECLARED: return ak_tree_declared_focus(tree, &id) == AK_DONE && id.node == 1;
     case LOCKED: return is_parent_locked(tree, node);
+    case CHILDREN: return ak_node_count(tree, 1, 0, AK_COUNT_FILTERED_CHILDREN, AK_COMMON, &count) == AK_DONE ? count : 0;
+    case CHILD: return ak_node_child_at(tree, 1, 0, AK_COMMON, node - 2, &id) == AK_DONE && id.node == node;
+    case INDEX: return ak_node_count(tree, node, 0, AK_COUNT_FILTERED_INDEX, AK_COMMON, &count) == AK_DONE && count == node - 2;
+    /* in the middle of a text of so many lines, each of 35 characters */
+    case PLACE: return ak_text_place(tree, 1, 0, &middle, 0, &position) == AK_DONE ? position.run : 0;
+    case PLACED: return ak_text_position(tree, 1, 0, middle.index, false, &position) == AK_DONE ? position.line : 0;
+    case CARET: return ak_text_place(tree, 1, 0, &caret, AK_WANT_INDEX, &position) == AK_DONE ? position.index : 0;
+    case WORD: return ak_text_unit(tree, 1, 0, &caret, AK_UNIT_WORD, AK_WANT_INDEX, &span) == AK_DONE ? span.end.index - span.start.index : 0;
+    case LINE: return ak_text_unit(tree, 1, 0, &caret, AK_UNIT_LINE, 0, &span) == AK_DONE ? span.start.run : 0;
+    case MOVED: return ak_text_moved(tree, 1, 0, &caret, AK_FORWARD_TO_WORD_START, 0, &position) == AK_DONE ? position.run : 0;
+    case TESTED: return ak_text_test(tree, 1, 0, &caret, AK_TEST_WORD_START, &is_set) == AK_DONE && !is_set;
+    case LENGTH: return ak_text_length(tree, 1, 0, &count) == AK_DONE ? count : 0;
+    case BOXES: return ak_text_boxes(tree, 1, 0, &caret, &caret, &bounds, 1, &count) == AK_DONE && count == 0;
+    case LOOK: return ak_text_style(tree, 1, 0, &caret, AK_TEXT_STYLE_ITALIC, &style) == AK_DONE && style.number == 0;
+    case DIFFERS: return ak_text_differs(tree, 1, 0, &middle, &caret, AK_TEXT_STYLE_ITALIC, &is_set) == AK_DONE && !is_set;
+    case DEFECT: return ak_text_defect(tree, 1, 0, &defect) == AK_NOTHING;
     case HIT: return ak_node_hit(tree, 1, 0, 320, 64 * (int64_t)(node - 2) + 32, AK_COMMON, &id) == AK_DONE && id.node == node;
     case RELABEL: return relabelled(tree, turn);
     case BUILD: return built(tree, turn);
@@ -128,12 +182,12 @@ int main(int count, char **words) {
     if (work == WORKS) return 2;
     uint64_t times = strtoul(words[2], NULL, 10), nodes = strtoul(words[3], NULL, 10), sum = 0;
     size_t length;
-    char *lines = first_lines(nodes, work > NO_NODE ? fields : "", &length);
+    char *lines = work < PLACE ? first_lines(nodes, work > NO_NODE ? fields : "", &length) : text_lines(nodes, &length);
     ak_tree tree = AK_TREE_CLOSED;
     ak_stop stop;
     if (ak_tree_open(&tree) != AK_DONE || ak_tree_feed(&tree, (const uint8_t *)lines, length, &stop) != AK_DONE) return 1;
     free(lines);
-    for (uint64_t i = 0; i < times; i++) sum += called(&tree, work, 2 + i * 37 % (nodes - 1), i);
+    for (uint64_t i = 0; i < times; i++) sum += called(&tree, work, 2 + i * 37 % (nodes - 1), i, nodes);
     ak_tree_close(&tree);
     printf("%lu\n", (unsigned long)sum);
     return 0;

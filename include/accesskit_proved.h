@@ -53,7 +53,8 @@ typedef enum { AK_HIDDEN = 0, AK_DISABLED = 1, AK_BUSY = 2, AK_MODAL = 3, AK_REQ
                AK_TEXT_INPUT = 12, AK_MULTILINE = 13, AK_PASSWORD_INPUT = 14, AK_DIALOG = 15, AK_ITEM_LIKE = 16, AK_GRAFT = 17,
                AK_SELECTABLE = 18, AK_SUPPORTS_TOGGLE = 19, AK_SUPPORTS_EXPAND_COLLAPSE = 20, AK_SUPPORTS_URL = 21,
                AK_SUPPORTS_TEXT_RANGES = 22, AK_FOCUSABLE = 23, AK_CLICKABLE = 24, AK_SUPPORTS_INCREMENT = 25, AK_SUPPORTS_DECREMENT = 26,
-               AK_INVOCABLE = 27 } ak_flag;
+               AK_INVOCABLE = 27, AK_LABEL_COMES_FROM_VALUE = 28, AK_CONTAINER_WITH_SELECTABLE_CHILDREN = 29, AK_READ_ONLY_BY_DEFAULT = 30,
+               AK_READ_ONLY_OR_DISABLED = 31, AK_HAS_LABEL = 32, AK_HAS_VALUE = 33 } ak_flag;
 /* Filters, and their answers: the node is included, excluded alone, or excluded with its subtree. */
 typedef enum { AK_ALL = 0, AK_COMMON = 1, AK_COMMON_WITH_ROOT = 2 } ak_filter;
 typedef enum { AK_INCLUDE = 0, AK_EXCLUDE_NODE = 1, AK_EXCLUDE_SUBTREE = 2 } ak_filter_result;
@@ -275,6 +276,112 @@ uint8_t ak_field_translation(ak_tree *tree, uint64_t node, uint32_t tree_index, 
 uint8_t ak_field_selection(ak_tree *tree, uint64_t node, uint32_t tree_index, ak_field field, ak_selection *selection);
 uint8_t ak_field_color(ak_tree *tree, uint64_t node, uint32_t tree_index, ak_field field, ak_color *color);
 uint8_t ak_field_decoration(ak_tree *tree, uint64_t node, uint32_t tree_index, ak_field field, ak_decoration *decoration);
+
+/* ---- What the library computes of a node. Each kind of question has its numbers; those named FILTERED, and the sets, items and selection
+ * containers, are by the given filter, and the others ignore it. AK_NO_SUCH: a number means nothing. AK_NO_NODE: the tree hasn't the node.
+ * AK_NOTHING: there is no such value, number or node. docs/FROM_C.md has the library's call that each is. */
+
+/* States, by the numbers that AK_TOGGLED, AK_ORIENTATION and AK_LIVE have; AK_STATE_SELECTED is 1 or 0. */
+typedef enum { AK_STATE_TOGGLED = 0, AK_STATE_SELECTED = 1, AK_STATE_ORIENTATION = 2, AK_STATE_LIVE = 3 } ak_state;
+typedef enum { AK_COUNT_CHILDREN = 0, AK_COUNT_INDEX = 1, AK_COUNT_FILTERED_CHILDREN = 2, AK_COUNT_FILTERED_INDEX = 3,
+               AK_COUNT_SET_SIZE = 4, AK_COUNT_SET_POSITION = 5, AK_COUNT_CONTAINER_SET_SIZE = 6 } ak_count;
+typedef enum { AK_RELATIVE_ACTIVE_DESCENDANT = 0, AK_RELATIVE_DEEPEST_FIRST_CHILD = 1, AK_RELATIVE_DEEPEST_LAST_CHILD = 2,
+               AK_RELATIVE_SELECTION_CONTAINER = 3 } ak_relative;
+typedef enum { AK_LIST_LABELLED_BY = 0, AK_LIST_CONTROLS = 1, AK_LIST_PRECEDING_SIBLINGS = 2, AK_LIST_FOLLOWING_SIBLINGS = 3,
+               AK_LIST_DESCENDANTS = 4, AK_LIST_ITEMS = 5, AK_LIST_PRECEDING_FILTERED_SIBLINGS = 6,
+               AK_LIST_FOLLOWING_FILTERED_SIBLINGS = 7, AK_LIST_FILTERED_DESCENDANTS = 8 } ak_list;
+/* How text looks: each property is that of the nearest node, from the node or the run upwards, that has it. */
+typedef enum { AK_TEXT_STYLE_TEXT_DIRECTION = 0, AK_TEXT_STYLE_FONT_FAMILY = 1, AK_TEXT_STYLE_LANGUAGE = 2, AK_TEXT_STYLE_FONT_SIZE = 3,
+               AK_TEXT_STYLE_FONT_WEIGHT = 4, AK_TEXT_STYLE_BACKGROUND_COLOR = 5, AK_TEXT_STYLE_FOREGROUND_COLOR = 6,
+               AK_TEXT_STYLE_OVERLINE = 7, AK_TEXT_STYLE_STRIKETHROUGH = 8, AK_TEXT_STYLE_UNDERLINE = 9, AK_TEXT_STYLE_TEXT_ALIGN = 10,
+               AK_TEXT_STYLE_VERTICAL_OFFSET = 11, AK_TEXT_STYLE_ITALIC = 12 } ak_style_name;
+
+/* A point, or by how much something is shifted, in units of 1/64 pixel. A number beyond 64 bits is the nearest one within them. */
+typedef struct { int64_t x; int64_t y; } ak_point;
+/* A property of how text looks. `number`: a size in hundredths of a pixel, a weight, 1 for italic text, or the number that an update has for
+ * a direction, an alignment, an offset, or the style of a line. The rest is a colour, of the text, behind it, or of a line. All else is 0. */
+typedef struct { uint32_t number; uint8_t red; uint8_t green; uint8_t blue; uint8_t alpha; } ak_style_value;
+
+uint8_t ak_node_state(ak_tree *tree, uint64_t node, uint32_t tree_index, ak_state state, uint32_t *value);
+/* Indexes and positions are counted from 0. None of these makes a list. */
+uint8_t ak_node_count(ak_tree *tree, uint64_t node, uint32_t tree_index, ak_count count, ak_filter filter, size_t *number);
+uint8_t ak_node_child_at(ak_tree *tree, uint64_t node, uint32_t tree_index, ak_filter filter, size_t index, ak_id *child);
+uint8_t ak_node_relative(ak_tree *tree, uint64_t node, uint32_t tree_index, ak_relative relative, ak_filter filter, ak_id *found);
+/* Siblings before the node come nearest first, all else in order. */
+uint8_t ak_node_list(ak_tree *tree, uint64_t node, uint32_t tree_index, ak_list list, ak_filter filter, ak_id *buffer, size_t room, size_t *count);
+uint8_t ak_node_supports_action(ak_tree *tree, uint64_t node, uint32_t tree_index, uint32_t action, ak_filter filter, bool *supports);
+/* Several flags at once: bit k of `wanted` is the flag with the number k, and bit k of `set` what it says. Only these are computed. */
+uint8_t ak_node_flags(ak_tree *tree, uint64_t node, uint32_t tree_index, uint64_t wanted, uint64_t *set);
+/* By how much a node is shifted, with all its ancestors; and a point of the tree's own coordinates in those of the node, as ak_node_hit and
+ * AK_SPOT_POINT take it. */
+uint8_t ak_node_transform(ak_tree *tree, uint64_t node, uint32_t tree_index, ak_point *by);
+uint8_t ak_node_point(ak_tree *tree, uint64_t node, uint32_t tree_index, int64_t x, int64_t y, ak_point *own);
+/* ak_node_style: all properties but those that are texts, the font's family and the language, which ak_node_style_text gives. */
+uint8_t ak_node_style(ak_tree *tree, uint64_t node, uint32_t tree_index, ak_style_name property, ak_style_value *value);
+uint8_t ak_node_style_text(ak_tree *tree, uint64_t node, uint32_t tree_index, ak_style_name property, uint8_t *buffer, size_t room, size_t *length);
+/* The 16 bytes of the UUID of the node's tree; all 0 of the root tree. */
+uint8_t ak_node_tree_id(ak_tree *tree, uint64_t node, uint32_t tree_index, uint8_t *buffer, size_t room, size_t *length);
+/* The root of the tree with the UUID of 16 bytes, or with none of them of the root tree: its `tree` is the index. AK_NO_SUCH: another number of
+ * bytes. */
+uint8_t ak_tree_subtree_root(ak_tree *tree, const uint8_t *tree_id, size_t length, ak_id *root);
+/* The node that the trees declare focused, across grafts, whether or not the host has the focus; and the nearest dialog around ak_tree_focus. */
+uint8_t ak_tree_declared_focus(ak_tree *tree, ak_id *focus);
+uint8_t ak_tree_is_host_focused(ak_tree *tree, bool *is_focused);
+uint8_t ak_tree_active_dialog(ak_tree *tree, ak_id *dialog);
+/* `AccessKit` if no name was sent; no version without a name. */
+uint8_t ak_tree_toolkit_name(ak_tree *tree, uint8_t *buffer, size_t room, size_t *length);
+uint8_t ak_tree_toolkit_version(ak_tree *tree, uint8_t *buffer, size_t room, size_t *length);
+/* The name of the role with this number, as `Button`; of one that is sent by a number its name in the Rust crate, as `Heading`, and else
+ * `Other(7)`. It needs no tree. AK_NO_SUCH: no role has this number. */
+uint8_t ak_role_name(uint32_t role, uint8_t *buffer, size_t room, size_t *length);
+
+/* ---- In the text of a node's runs. The answers are as for ak_text_position. */
+
+/* A position by one of its names, which `kind` says; the members that it doesn't use are ignored. */
+typedef enum { AK_SPOT_INDEX = 0,            /* `index` counts scalars; `is_end` is the end of a run that another follows */
+               AK_SPOT_UTF16_INDEX = 1,      /* `index` counts UTF-16 code units */
+               AK_SPOT_RUN = 2,              /* `index` counts the characters of the run `run` */
+               AK_SPOT_POINT = 3,            /* `x` and `y`, in the node's coordinates and in units of 1/64 pixel */
+               AK_SPOT_END = 4,
+               AK_SPOT_SELECTION_ANCHOR = 5,
+               AK_SPOT_SELECTION_FOCUS = 6 /* the caret */ } ak_spot_kind;
+typedef struct { uint32_t kind; bool is_end; uint64_t run; size_t index; int64_t x; int64_t y; } ak_spot;
+/* Which numbers of a position are wanted, as bits; its run, character and side are always there. Nothing is counted for the others, which are
+ * 0. */
+typedef enum { AK_WANT_INDEX = 1, AK_WANT_UTF16_INDEX = 2, AK_WANT_LINE = 4 } ak_want;
+typedef enum { AK_UNIT_CHARACTER = 0, AK_UNIT_FORMAT = 1, AK_UNIT_WORD = 2, AK_UNIT_LINE = 3, AK_UNIT_PARAGRAPH = 4,
+               AK_UNIT_PAGE = 5 } ak_unit;
+typedef enum { AK_TEST_CHARACTER_AFTER = 0, AK_TEST_CHARACTER_BEFORE = 1, AK_TEST_FORMAT_START = 2, AK_TEST_WORD_START = 3,
+               AK_TEST_LINE_START = 4, AK_TEST_LINE_END = 5, AK_TEST_PARAGRAPH_START = 6, AK_TEST_PARAGRAPH_END = 7,
+               AK_TEST_PARAGRAPH_SEPARATOR = 8, AK_TEST_DOCUMENT_START = 9, AK_TEST_DOCUMENT_END = 10 } ak_test;
+/* Why runs make no text: the node's role holds none, or the first run that breaks a rule, and the first rule that it breaks. */
+typedef enum { AK_DEFECT_ROLE = 0, AK_DEFECT_PREVIOUS_LINK = 1, AK_DEFECT_PREVIOUS_UNANSWERED = 2, AK_DEFECT_TREE = 3,
+               AK_DEFECT_CHARACTER_LENGTHS = 4, AK_DEFECT_WORD_STARTS = 5, AK_DEFECT_CHARACTER_POSITIONS = 6,
+               AK_DEFECT_CHARACTER_WIDTHS = 7, AK_DEFECT_TOO_LONG = 8, AK_DEFECT_EMPTY = 9, AK_DEFECT_NEXT_LINK = 10,
+               AK_DEFECT_NEXT_UNANSWERED = 11 } ak_defect_rule;
+/* `link`: where a link leads, if that is the rule. `run_tree`: the index of the run's tree. */
+typedef struct { uint64_t run; uint64_t link; uint32_t run_tree; uint8_t rule; } ak_defect;
+typedef struct { ak_position start; ak_position end; } ak_span;
+
+uint8_t ak_text_place(ak_tree *tree, uint64_t node, uint32_t tree_index, const ak_spot *spot, uint32_t wanted, ak_position *position);
+uint8_t ak_text_moved(ak_tree *tree, uint64_t node, uint32_t tree_index, const ak_spot *spot, ak_move movement, uint32_t wanted, ak_position *position);
+uint8_t ak_text_test(ak_tree *tree, uint64_t node, uint32_t tree_index, const ak_spot *spot, ak_test test, bool *holds);
+/* The unit that a position is in: from it, or else from the nearest start of one before it, to where a movement to the end of the unit ends.
+ * At the end of the text a character is empty. */
+uint8_t ak_text_unit(ak_tree *tree, uint64_t node, uint32_t tree_index, const ak_spot *spot, ak_unit unit, uint32_t wanted, ak_span *span);
+/* A line by its number, from 0. After the last one, if it isn't empty or the only one, comes an empty one, for the caret at the end. */
+uint8_t ak_text_line(ak_tree *tree, uint64_t node, uint32_t tree_index, size_t line, uint32_t wanted, ak_span *span);
+/* How many scalars it has. */
+uint8_t ak_text_length(ak_tree *tree, uint64_t node, uint32_t tree_index, size_t *length);
+/* The boxes of the text from one position up to another, a box for each run, after all translations; at one position that of a caret. None, if a
+ * run hasn't what that takes. */
+uint8_t ak_text_boxes(ak_tree *tree, uint64_t node, uint32_t tree_index, const ak_spot *from, const ak_spot *to, ak_bounds *buffer, size_t room, size_t *count);
+/* How a position's run looks, and whether the runs from one position up to another differ in that. */
+uint8_t ak_text_style(ak_tree *tree, uint64_t node, uint32_t tree_index, const ak_spot *spot, ak_style_name property, ak_style_value *value);
+uint8_t ak_text_style_text(ak_tree *tree, uint64_t node, uint32_t tree_index, const ak_spot *spot, ak_style_name property, uint8_t *buffer, size_t room, size_t *length);
+uint8_t ak_text_differs(ak_tree *tree, uint64_t node, uint32_t tree_index, const ak_spot *from, const ak_spot *to, ak_style_name property, bool *differs);
+/* AK_NOTHING also: the runs make a text, or there are none. */
+uint8_t ak_text_defect(ak_tree *tree, uint64_t node, uint32_t tree_index, ak_defect *defect);
 
 #ifdef __cplusplus
 }

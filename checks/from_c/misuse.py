@@ -17,7 +17,7 @@ from fractions import Fraction
 from uuid import UUID
 
 import accesskit_proved
-from accesskit_proved import FIELDS, Closed, Error, Id, Refused, Role, Tree, Update
+from accesskit_proved import FIELDS, Closed, Error, Id, Refused, Role, Spot, Tree, Update, Wanted
 
 SCRIPT = """host on
 update root focus=2 root=1
@@ -206,7 +206,34 @@ CALLS = {
     "a point of floats": (lambda tree: tree.hit(BUTTON, 0.5, 0), TypeError, "x: expected a whole number"),
     "a point that is no number": (lambda tree: tree.hit(BUTTON, 0, math.nan), TypeError, "y: expected a whole number"),
     "a point far away": (lambda tree: tree.hit(BUTTON, 0, 2**63), ValueError, "y: expected a whole number from -9223372036854775808"),
-    "an index below 0": (lambda tree: tree.text_position(FIELD, -1), ValueError, "index: expected a whole number from 0 to"),
+    "an index below 0": (lambda tree: tree.text_position(FIELD, -1), ValueError, "spot: expected a whole number from 0 to"),
+    "an index that is a float": (lambda tree: tree.text_unit(FIELD, 0.5, "word"), TypeError, "spot: expected a whole number"),
+    "an index of no number": (lambda tree: tree.text_boxes(FIELD, 0, None), TypeError, "end: expected a whole number"),
+    "a spot below 0": (lambda tree: Spot.in_run(5, -1), ValueError, "character: expected a whole number"),
+    "a spot of a float": (lambda tree: Spot.point(0.5, 0), TypeError, "x: expected a whole number"),
+    "a spot of no side": (lambda tree: Spot.at(1, 1), TypeError, "is_end: expected True or False"),
+    "a spot by hand": (lambda tree: tree.text_position(FIELD, Spot("point", x=2**63)), ValueError, "spot.x: expected a whole number"),
+    "a spot of no kind": (lambda tree: tree.text_position(FIELD, Spot("middle")), ValueError, "spot.kind: expected one of index, utf16_index"),
+    "a spot without parts": (lambda tree: tree.text_position(FIELD, tuple.__new__(Spot, ("index",))), ValueError, "spot: expected a Spot"),
+    "a spot with a bad side": (lambda tree: tree.text_test(FIELD, Spot("index", None), "word_start"), TypeError, "spot.is_end"),
+    "a wish for more": (lambda tree: tree.text_line(FIELD, 0, wanted=8), ValueError, "wanted: expected a whole number from 0 to 7"),
+    "a wish by name": (lambda tree: tree.text_position(FIELD, 0, wanted="line"), TypeError, "wanted: expected a whole number"),
+    "what wasn't wished": (lambda tree: tree.text_position(FIELD, 0, wanted=Wanted.LINE).index, AttributeError, "index: was not wanted"),
+    "a line below 0": (lambda tree: tree.text_line(FIELD, -1), ValueError, "line: expected a whole number"),
+    "a unit without a name": (lambda tree: tree.text_unit(FIELD, 0, "sentence"), ValueError, "unit: expected one of character, format, word"),
+    "a test without a name": (lambda tree: tree.text_test(FIELD, 0, "start"), ValueError, "test: expected one of character_after"),
+    "a style without a name": (lambda tree: tree.text_style(FIELD, 0, "bold"), ValueError, "style: expected one of text_direction"),
+    "a style by its number": (lambda tree: tree.style(FIELD, 0), TypeError, "style: expected one of text_direction"),
+    "flags without a name": (lambda tree: tree.flags(BUTTON, ["hidden", "hiden"]), ValueError, "flags: expected one of hidden"),
+    "flags in one word": (lambda tree: tree.flags(BUTTON, "hidden"), TypeError, "flags: expected a list of flags"),
+    "a mask of flags": (lambda tree: tree.flags(BUTTON, 3), TypeError, "flags: expected a list of flags"),
+    "a child below 0": (lambda tree: tree.child_at(BUTTON, -1), ValueError, "index: expected a whole number"),
+    "a child that is True": (lambda tree: tree.child_at(BUTTON, True), TypeError, "index: expected a whole number"),
+    "an action of 9 bits": (lambda tree: tree.supports_action(BUTTON, 256), ValueError, "action: expected a whole number from 0 to 255"),
+    "an action without a name": (lambda tree: tree.supports_action(BUTTON, "click"), ValueError, "action: expected one of Click, Focus"),
+    "a role's name of 17 bits": (lambda tree: tree.role_name(2**16), ValueError, "role: expected a whole number from 0 to 65535"),
+    "a tree by its words": (lambda tree: tree.subtree_root(str(INNER)), TypeError, "tree: expected a uuid.UUID"),
+    "a set by another filter": (lambda tree: tree.set_size(BUTTON, "every"), ValueError, "filter: expected one of all, common"),
     "an index of 65 bits": (lambda tree: tree.text_between(FIELD, 0, LARGE), ValueError, "end: expected a whole number"),
     "an index of None": (lambda tree: tree.text_between(FIELD, None, 1), TypeError, "start: expected a whole number"),
     "a side that is a number": (lambda tree: tree.text_position(FIELD, 0, 1), TypeError, "is_end: expected True or False"),
@@ -239,7 +266,7 @@ CALLS = {
     "a tree without its beginning": (lambda tree: Tree.__new__(Tree).root(), AttributeError, ""),
     "a library that isn't there": (lambda tree: Tree("/no/such/library.so"), OSError, ""),
     "another library": (lambda tree: Tree("libc.so.6"), OSError, "not this library"),
-    "a library of None": (lambda tree: Tree(5), TypeError, ""),
+    "a library by a number": (lambda tree: Tree(5), TypeError, ""),
     "a library by bytes": (lambda tree: Tree(b"library.so"), TypeError, "a path as str"),
 }
 
@@ -296,7 +323,7 @@ def fed():
 def seen(tree):
     """What the tree has, to compare."""
     ids = [BUTTON, FIELD, *tree.filtered_children(tree.root(), "all")]
-    texts = [(tree.label(it), tree.role_name(it), tree.text(it)) for it in ids]
+    texts = [(tree.label(it), tree.role_word(it), tree.text(it)) for it in ids]
     return tree.root(), tree.focus(), tree.children(tree.root()), texts, tree.events()
 
 
@@ -412,6 +439,10 @@ def refusals(checks):
     checks.that(sorted(it.RULE for it in rules) == list(range(1, 15)), "each rule has one exception")
     checks.that({it.__name__ for it in rules} == REFUSALS.keys() | {"IndexesUsedUp"}, "the rules' names")
     inner, errors = UUID(INNER), accesskit_proved
+    with fed() as tree:
+        at = tree.text_position(FIELD, 1, wanted=Wanted.LINE)
+        again = pickle.loads(pickle.dumps(at)), copy.copy(at), copy.deepcopy(at)
+        checks.that(again == (at, at, at) and len({at, *again}) == 1 and at != tree.text_position(FIELD, 1), "a position that is copied")
     for error in (errors.MissingData(4, ROOT), errors.NoGraft(0, inner, 1), errors.BadLine(3), errors.NoMemory(2), errors.NoNode(BUTTON), Closed()):
         again = pickle.loads(pickle.dumps(error))
         checks.that((type(again), str(again), vars(again)) == (type(error), str(error), vars(error)), f"{error!r} pickled")
@@ -421,8 +452,21 @@ def refusals(checks):
 def members(tree):
     """Each call of a tree, with values that it accepts."""
     yield from ((name, ()) for name in ("root", "focus", "events"))
-    for name in "parent children role role_name label value text bounds filter filtered_parent filtered_children".split():
+    for name in ("declared_focus", "is_host_focused", "active_dialog", "subtree_root", "toolkit_name", "toolkit_version"):
+        yield name, ()
+    for name in "parent children role role_word label value text bounds filter filtered_parent filtered_children toggled is_selected".split():
         yield name, (BUTTON,)
+    for name in "orientation live flags child_count index_in_parent filtered_child_count filtered_index set_size position_in_set".split():
+        yield name, (BUTTON,)
+    for name in "size_of_set_from_container active_descendant deepest_first_child deepest_last_child selection_container".split():
+        yield name, (BUTTON,)
+    for name in "labelled_by controls preceding_siblings following_siblings descendants items preceding_filtered_siblings".split():
+        yield name, (BUTTON,)
+    for name in "following_filtered_siblings filtered_descendants transform tree_id text_length text_defect".split():
+        yield name, (BUTTON,)
+    yield from (("child_at", (BUTTON, 0)), ("supports_action", (BUTTON, "Click")), ("own_point", (BUTTON, 0, 0)), ("style", (BUTTON, "italic")))
+    yield from (("text_test", (FIELD, 0, "word_start")), ("text_unit", (FIELD, 0, "word")), ("text_line", (FIELD, 0)))
+    yield from (("text_boxes", (FIELD, 0, 1)), ("text_style", (FIELD, 0, "language")), ("text_differs", (FIELD, 0, 1, "italic")))
     yield from ((name, (FIELD,)) for name in ("text_selection_anchor", "text_selection_focus"))
     yield from (("field", (BUTTON, "label")), ("flag", (BUTTON, "hidden")), ("hit", (BUTTON, 0, 0)), ("text_position", (FIELD, 0)), ("text_between", (FIELD, 0, 1)))
     yield from (("text_move", (FIELD, 0, "document_end")), ("feed", ("host on\n",)), ("set_host_focus", (True,)), ("update", (2,)))
@@ -436,7 +480,7 @@ def closed(checks):
     checks.that(tree.closed, "a closed tree")
     known = {name for name, it in inspect.getmembers(Tree, inspect.isfunction) if not name.startswith("_")}
     others = known ^ {name for name, _ in members(tree)}
-    checks.that(others == {"close"}, f"the calls of a closed tree that aren't tried: {others}")
+    checks.that(others == {"close", "role_name"}, f"the calls of a closed tree that aren't tried: {others}")
     for name, given in members(tree):
         checks.raises(f"{name} of a closed tree", lambda: getattr(tree, name)(*given), Closed, "closed")
     checks.raises("an update of a closed tree", begun.send, Closed, "closed")
@@ -559,7 +603,7 @@ def documented(checks):
     """Each public name says what it is."""
     for name in accesskit_proved.__all__:
         it = getattr(accesskit_proved, name)
-        checks.that(name == "FIELDS" or (inspect.getdoc(it) and it.__doc__), f"{name} has no docstring")
+        checks.that(name in ("FIELDS", "END", "ANCHOR", "CARET") or (inspect.getdoc(it) and it.__doc__), f"{name} has no docstring")
         for part, value in inspect.getmembers(it) if inspect.isclass(it) else ():
             if not part.startswith("_") and (inspect.isfunction(value) or isinstance(value, property)):
                 checks.that(value.__doc__, f"{name}.{part} has no docstring")

@@ -137,7 +137,7 @@ fn roles(checks: &mut Checks) -> Result<(), Box<dyn std::error::Error>> {
     tree.feed("update root focus=1 root=1\nnode 1 Window children=2\nnode 2 Other(328)\nend\n")?;
     for (node, role) in [(1, Role::WINDOW), (2, Role::other(328))] {
         let id = Id { tree: 0, node };
-        checks.same("a role that is read", (tree.role(id)?, tree.role_name(id)?), (role, role.to_string()));
+        checks.same("a role that is read", (tree.role(id)?, tree.role_word(id)?), (role, role.to_string()));
     }
     Ok(())
 }

@@ -35,7 +35,7 @@ def main(library, script):
         tree.feed(lines.read())
         for id in NODES:
             words = [word(name, tree.field(id, name)) for name in FIELDS]
-            print(" ".join(["node", str(id.node), tree.role_name(id), *filter(None, words)]))
+            print(" ".join(["node", str(id.node), tree.role_word(id), *filter(None, words)]))
 
 
 main(*sys.argv[1:])

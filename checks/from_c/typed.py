@@ -5,7 +5,8 @@ an error is needed, or else it is one. The file isn't run.
 from typing import List, Optional, Union
 from uuid import UUID
 
-from accesskit_proved import Color, Event, EventKind, Filter, Flag, Id, Move, Position, Role, Toggled, Tree, Update
+from accesskit_proved import CARET, END, Bounds, Color, Event, EventKind, Filter, Flag, Id, Move, Position, Role, Span, Spot, TextStyle
+from accesskit_proved import Toggled, Tree, Unit, Update, Wanted
 
 tree = Tree("libaccesskit_proved.so")
 update: Update = tree.update(1, root=1, tree=UUID(int=7), toolkit="Kit", version="1")
@@ -26,6 +27,15 @@ if root:
     color: Optional[Color] = tree.field(root, "background_color")
     busy: bool = tree.field(root, "busy")
     number: int = tree.field(root, "number")  # type: ignore[assignment]
+    size: Optional[int] = tree.set_size(root)
+    language: Optional[str] = tree.text_style(root, CARET, TextStyle.LANGUAGE)
+    weight: Optional[int] = tree.style(root, "font_weight")
+    line: str = tree.style(root, "underline")  # type: ignore[assignment]
+    word: Optional[Span] = tree.text_unit(root, Spot.utf16(4), Unit.WORD, wanted=Wanted.INDEX | Wanted.LINE)
+    if position:
+        count: int = position.index + position.lines  # type: ignore[attr-defined]
+    boxes: Optional[List[Bounds]] = tree.text_boxes(root, 0, END)
+    tree.text_unit(root, "start", Unit.WORD)  # type: ignore[arg-type]
     tree.field(root, 5)  # type: ignore[call-overload]
     tree.label(root.node)  # type: ignore[arg-type]
     tree.hit(root, 0.5, 0)  # type: ignore[arg-type]

@@ -170,7 +170,7 @@ static void shown(void) {
     CHECK(ak_node_filtered_parent(&tree, 8, 0, AK_COMMON, &id) == AK_CLOSED && ak_node_filtered_children(&tree, 1, 0, AK_COMMON, ids, 4, &count) == AK_CLOSED);
     feed_reads(&tree);
     CHECK(ak_node_bounds(&tree, 6, 0, &box) == AK_NOTHING && ak_node_bounds(&tree, 99, 0, &box) == AK_NO_NODE);
-    CHECK(ak_node_flag(&tree, 99, 0, AK_HIDDEN, &is_set) == AK_NO_NODE && ak_node_flag(&tree, 2, 0, AK_INVOCABLE + 1, &is_set) == AK_NO_SUCH);
+    CHECK(ak_node_flag(&tree, 99, 0, AK_HIDDEN, &is_set) == AK_NO_NODE && ak_node_flag(&tree, 2, 0, AK_HAS_VALUE + 1, &is_set) == AK_NO_SUCH);
     CHECK(ak_node_flag(&tree, 2, 0, 256, &is_set) == AK_NO_SUCH && ak_node_filter(&tree, 2, 0, AK_COMMON_WITH_ROOT + 1, &answer) == AK_NO_SUCH);
     CHECK(ak_node_filter(&tree, 99, 0, AK_COMMON, &answer) == AK_NO_NODE && ak_node_hit(&tree, 99, 0, 1, 1, AK_ALL, &id) == AK_NO_NODE);
     CHECK(ak_node_hit(&tree, 1, 0, 20, 20, 257, &id) == AK_NO_SUCH && ak_node_hit(&tree, 1, 0, INT64_MIN, INT64_MAX, AK_ALL, &id) == AK_NOTHING);

@@ -26,6 +26,13 @@ class Bounds(NamedTuple):
     y1: int
 
 
+class Point(NamedTuple):
+    """A point, or by how much something is shifted, in units of 1/64 pixel. A number beyond 64 bits is the nearest one within them."""
+
+    x: int
+    y: int
+
+
 class Translation(NamedTuple):
     """By how much a node and its subtree are shifted, in units of 1/64 pixel."""
 
@@ -105,7 +112,7 @@ _LISTS: Dict[str, Tuple[Any, Callable[[Any], Any]]] = {
 
 # The calls that are named after another kind than that of the call that sets a field.
 _READ_BY = {"bool": "flag", "action": "actions"}
-_KINDS = {name: _READ_BY.get(kind, kind) for name, kind in FIELDS.items()}
+_KINDS = [(name, _READ_BY.get(kind, kind)) for name, kind in FIELDS.items()]
 _NUMBERS = {name: number for number, name in enumerate(FIELDS)}
 
 
@@ -208,7 +215,8 @@ class Fields(Handle):
         there; a list that isn't set is empty, and a flag False. What the library makes of fields, as of those of ancestors, isn't here.
 
         Beware: of `value` of a password, and of its text runs, that is what is typed into it; `Tree.value` and `Tree.text` mask it."""
-        number, kind = number_of(_NUMBERS, name, "name"), _KINDS[name]
+        number = number_of(_NUMBERS, name, "name")
+        name, kind = _KINDS[number]
         call = getattr(self._calls, f"ak_field_{kind}")
         if kind in _LISTS:
             holds, made_of = _LISTS[kind]

@@ -7,7 +7,7 @@ import threading
 from ctypes import byref, c_char, c_size_t
 from itertools import islice
 from struct import Struct
-from typing import TYPE_CHECKING, Any, Callable, List, Optional, Union
+from typing import TYPE_CHECKING, Any, Callable, List, Optional, Tuple, Union
 from uuid import UUID
 
 from . import _raw
@@ -33,12 +33,9 @@ class Handle:
 
     def __init__(self, library: Union[str, os.PathLike[str], None] = None) -> None:
         """A tree of the shared library at this path, or of the one that is installed with this package."""
-        path = os.fspath(_raw.default_path() if library is None else library)
-        if not isinstance(path, str):
-            raise TypeError(f"library: expected a path as str, got {path!r}")
         if getattr(self, "_tree", None) is not None:
             raise TypeError("the tree is open already")
-        self._calls = _raw.load(path)
+        self._calls = _raw.load(_raw.path_of(library))
         self._lock, self._is_sending = threading.RLock(), False
         tree = _raw.Tree(None, False)
         self._check(self._calls.ak_tree_open(tree))
@@ -98,20 +95,22 @@ class Handle:
         found = self._one(call, _raw.Id(), id, *asked)
         return None if found is None else Id(found.node, found.tree)
 
-    def _id_of_tree(self, call: Call) -> Optional[Id]:
+    def _id_of_tree(self, call: Call, *asked: object) -> Optional[Id]:
         found = _raw.Id()
         with self._lock:
-            status = call(self._tree, found)
+            status = call(self._tree, *asked, found)
         return None if status and not self._check(status) else Id(found.node, found.tree)
 
     def _list(self, call: Call, of: Any, id: Id, *asked: object) -> Any:
-        """What holds a list in its first items, and its length: asked for again with room for all of it where there wasn't enough. None
-        if the node has no such list."""
-        number, tree = node(id)
+        """What holds a list in its first items, and its length. None if the node has no such list."""
+        return self._whole_list(call, of, id, (*node(id), *asked))
+
+    def _whole_list(self, call: Call, of: Any, id: Optional[Id], asked: Tuple[object, ...]) -> Any:
+        """A list is asked for again with room for all of it where there wasn't enough."""
         buffer, room, length = of(), of._length_, c_size_t()
         while True:
             with self._lock:
-                status = call(self._tree, number, tree, *asked, byref(buffer), room, length)
+                status = call(self._tree, *asked, byref(buffer), room, length)
             if status and not self._check(status, id=id):
                 return None
             if length.value <= room:
@@ -120,13 +119,27 @@ class Handle:
             room = 1 << length.value.bit_length()
             buffer = (of._type_ * room)()
 
+    def _text_of_tree(self, call: Call) -> Optional[str]:
+        found = self._whole_list(call, Bytes, None, ())
+        return None if found is None else str(found[0][: found[1]], "utf-8")
+
     def _items(self, call: Call, of: Any, id: Id, *asked: object) -> Any:
         found = self._list(call, of, id, *asked)
         return None if found is None else found[0][: found[1]]
 
     def _text(self, call: Call, id: Id, *asked: object) -> Optional[str]:
-        found = self._items(call, Bytes, id, *asked)
-        return None if found is None else str(found, "utf-8")
+        # (most texts are short: `_whole_list` at once would cost as much again)
+        number, tree = node(id)
+        buffer: Any = Bytes()
+        length = c_size_t()
+        with self._lock:
+            status = call(self._tree, number, tree, *asked, byref(buffer), 256, length)
+        if status and not self._check(status, id=id):
+            return None
+        size = length.value
+        if size > 256:
+            buffer, size = self._whole_list(call, Bytes, id, (number, tree, *asked)) or (buffer, 0)
+        return str(buffer[:size], "utf-8")
 
     def _ids(self, call: Call, id: Id, *asked: object) -> List[Id]:
         found = self._list(call, Ids, id, *asked)

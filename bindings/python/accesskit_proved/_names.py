@@ -27,7 +27,7 @@ class EventKind(_Name):
 
 class Flag(_Name):
     """A question about a node that is answered by yes or no: the library's call of that name, as `is_hidden` or `supports_toggle`. From
-    `FOCUSABLE` on the common filter counts."""
+    `FOCUSABLE` to `INVOCABLE` the common filter counts."""
 
     HIDDEN = "hidden"
     DISABLED = "disabled"
@@ -57,6 +57,12 @@ class Flag(_Name):
     SUPPORTS_INCREMENT = "supports_increment"
     SUPPORTS_DECREMENT = "supports_decrement"
     INVOCABLE = "invocable"
+    LABEL_COMES_FROM_VALUE = "label_comes_from_value"
+    CONTAINER_WITH_SELECTABLE_CHILDREN = "container_with_selectable_children"
+    READ_ONLY_BY_DEFAULT = "read_only_by_default"
+    READ_ONLY_OR_DISABLED = "read_only_or_disabled"
+    HAS_LABEL = "has_label"
+    HAS_VALUE = "has_value"
 
 
 class Filter(_Name):
@@ -98,6 +104,124 @@ class Move(_Name):
     DOCUMENT_END = "document_end"
     BACKWARD_TO_PAGE_START = "backward_to_page_start"
     DOCUMENT_START = "document_start"
+
+
+class State(_Name):
+    """What is computed of a node that has few values."""
+
+    TOGGLED = "toggled"
+    SELECTED = "selected"
+    ORIENTATION = "orientation"
+    LIVE = "live"
+
+
+class Count(_Name):
+    """A number that is computed of a node."""
+
+    CHILDREN = "children"
+    INDEX = "index"
+    FILTERED_CHILDREN = "filtered_children"
+    FILTERED_INDEX = "filtered_index"
+    SET_SIZE = "set_size"
+    SET_POSITION = "set_position"
+    CONTAINER_SET_SIZE = "container_set_size"
+
+
+class Relative(_Name):
+    """Another node that is found from a node."""
+
+    ACTIVE_DESCENDANT = "active_descendant"
+    DEEPEST_FIRST_CHILD = "deepest_first_child"
+    DEEPEST_LAST_CHILD = "deepest_last_child"
+    SELECTION_CONTAINER = "selection_container"
+
+
+class Listed(_Name):
+    """A list of nodes that is found from a node."""
+
+    LABELLED_BY = "labelled_by"
+    CONTROLS = "controls"
+    PRECEDING_SIBLINGS = "preceding_siblings"
+    FOLLOWING_SIBLINGS = "following_siblings"
+    DESCENDANTS = "descendants"
+    ITEMS = "items"
+    PRECEDING_FILTERED_SIBLINGS = "preceding_filtered_siblings"
+    FOLLOWING_FILTERED_SIBLINGS = "following_filtered_siblings"
+    FILTERED_DESCENDANTS = "filtered_descendants"
+
+
+class TextStyle(_Name):
+    """A property of how text looks."""
+
+    TEXT_DIRECTION = "text_direction"
+    FONT_FAMILY = "font_family"
+    LANGUAGE = "language"
+    FONT_SIZE = "font_size"
+    FONT_WEIGHT = "font_weight"
+    BACKGROUND_COLOR = "background_color"
+    FOREGROUND_COLOR = "foreground_color"
+    OVERLINE = "overline"
+    STRIKETHROUGH = "strikethrough"
+    UNDERLINE = "underline"
+    TEXT_ALIGN = "text_align"
+    VERTICAL_OFFSET = "vertical_offset"
+    ITALIC = "italic"
+
+
+class Unit(_Name):
+    """A unit of text."""
+
+    CHARACTER = "character"
+    FORMAT = "format"
+    WORD = "word"
+    LINE = "line"
+    PARAGRAPH = "paragraph"
+    PAGE = "page"
+
+
+class Test(_Name):
+    """What may hold of a position in a text."""
+
+    CHARACTER_AFTER = "character_after"
+    CHARACTER_BEFORE = "character_before"
+    FORMAT_START = "format_start"
+    WORD_START = "word_start"
+    LINE_START = "line_start"
+    LINE_END = "line_end"
+    PARAGRAPH_START = "paragraph_start"
+    PARAGRAPH_END = "paragraph_end"
+    PARAGRAPH_SEPARATOR = "paragraph_separator"
+    DOCUMENT_START = "document_start"
+    DOCUMENT_END = "document_end"
+
+
+class SpotKind(_Name):
+    """By what a position in a text is named."""
+
+    INDEX = "index"
+    UTF16_INDEX = "utf16_index"
+    RUN = "run"
+    POINT = "point"
+    END = "end"
+    SELECTION_ANCHOR = "selection_anchor"
+    SELECTION_FOCUS = "selection_focus"
+
+
+class DefectRule(_Name):
+    """Why runs make no text: the role of the node holds none, or the rule that a run breaks."""
+
+    ROLE = "role"
+    PREVIOUS_LINK = "previous_link"
+    PREVIOUS_UNANSWERED = "previous_unanswered"
+    TREE = "tree"
+    CHARACTER_LENGTHS = "character_lengths"
+    WORD_STARTS = "word_starts"
+    CHARACTER_POSITIONS = "character_positions"
+    CHARACTER_WIDTHS = "character_widths"
+    TOO_LONG = "too_long"
+    EMPTY = "empty"
+    NEXT_LINK = "next_link"
+    NEXT_UNANSWERED = "next_unanswered"
 
 
 class Role(_Name):

@@ -8,7 +8,7 @@ from __future__ import annotations
 import ctypes
 import os
 from ctypes import POINTER, c_bool, c_int32, c_int64, c_size_t, c_uint8, c_uint32, c_uint64, c_void_p
-from typing import Any, Dict, List, Tuple
+from typing import Any, Dict, List, Tuple, Union
 
 DONE, NO_MEMORY, CLOSED, NOTHING, BAD_LINE, REFUSED, OUT_OF_PLACE, NO_NODE, NO_SUCH, LOST = range(10)
 
@@ -62,6 +62,26 @@ class Decoration(ctypes.Structure):
     _fields_ = _layout(style=c_uint32, color=Color)
 
 
+class Point(ctypes.Structure):
+    _fields_ = _layout(x=c_int64, y=c_int64)
+
+
+class StyleValue(ctypes.Structure):
+    _fields_ = _layout(number=c_uint32, red=c_uint8, green=c_uint8, blue=c_uint8, alpha=c_uint8)
+
+
+class Spot(ctypes.Structure):
+    _fields_ = _layout(kind=c_uint32, is_end=c_bool, run=c_uint64, index=c_size_t, x=c_int64, y=c_int64)
+
+
+class Defect(ctypes.Structure):
+    _fields_ = _layout(run=c_uint64, link=c_uint64, run_tree=c_uint32, rule=c_uint8)
+
+
+class Span(ctypes.Structure):
+    _fields_ = _layout(start=Position, end=Position)
+
+
 TREE, SIZE = POINTER(Tree), POINTER(c_size_t)
 # A node: its id, and the index of its tree.
 NODE = (TREE, c_uint64, c_uint32)
@@ -70,6 +90,8 @@ FIELD = (*NODE, c_uint32)
 LENT = (c_void_p, c_size_t)
 LIST = (*LENT, SIZE)
 PLACE = POINTER(Position)
+# A text, and a position in it by one of its names.
+SPOT = (*NODE, POINTER(Spot))
 
 # What each call takes. All but those of GIVES answer with a status.
 CALLS: Dict[str, Tuple[Any, ...]] = {
@@ -124,6 +146,36 @@ CALLS: Dict[str, Tuple[Any, ...]] = {
     "ak_text_selection_focus": (*NODE, PLACE),
     "ak_text_between": (*NODE, c_size_t, c_size_t, *LIST),
     "ak_rule_name": (c_uint32, *LIST),
+    "ak_role_name": (c_uint32, *LIST),
+    "ak_tree_subtree_root": (TREE, *LENT, POINTER(Id)),
+    "ak_tree_declared_focus": (TREE, POINTER(Id)),
+    "ak_tree_is_host_focused": (TREE, POINTER(c_bool)),
+    "ak_tree_active_dialog": (TREE, POINTER(Id)),
+    "ak_tree_toolkit_name": (TREE, *LIST),
+    "ak_tree_toolkit_version": (TREE, *LIST),
+    "ak_node_state": (*NODE, c_uint32, POINTER(c_uint32)),
+    "ak_node_count": (*NODE, c_uint32, c_uint32, SIZE),
+    "ak_node_child_at": (*NODE, c_uint32, c_size_t, POINTER(Id)),
+    "ak_node_relative": (*NODE, c_uint32, c_uint32, POINTER(Id)),
+    "ak_node_list": (*NODE, c_uint32, c_uint32, *LIST),
+    "ak_node_supports_action": (*NODE, c_uint32, c_uint32, POINTER(c_bool)),
+    "ak_node_flags": (*NODE, c_uint64, POINTER(c_uint64)),
+    "ak_node_transform": (*NODE, POINTER(Point)),
+    "ak_node_point": (*NODE, c_int64, c_int64, POINTER(Point)),
+    "ak_node_style": (*NODE, c_uint32, POINTER(StyleValue)),
+    "ak_node_style_text": (*NODE, c_uint32, *LIST),
+    "ak_node_tree_id": (*NODE, *LIST),
+    "ak_text_place": (*SPOT, c_uint32, PLACE),
+    "ak_text_moved": (*SPOT, c_uint32, c_uint32, PLACE),
+    "ak_text_test": (*SPOT, c_uint32, POINTER(c_bool)),
+    "ak_text_unit": (*SPOT, c_uint32, c_uint32, POINTER(Span)),
+    "ak_text_line": (*NODE, c_size_t, c_uint32, POINTER(Span)),
+    "ak_text_length": (*NODE, SIZE),
+    "ak_text_boxes": (*SPOT, POINTER(Spot), *LIST),
+    "ak_text_style": (*SPOT, c_uint32, POINTER(StyleValue)),
+    "ak_text_style_text": (*SPOT, c_uint32, *LIST),
+    "ak_text_differs": (*SPOT, POINTER(Spot), c_uint32, POINTER(c_bool)),
+    "ak_text_defect": (*NODE, POINTER(Defect)),
     "ak_field_text": (*FIELD, *LIST),
     "ak_field_ids": (*FIELD, *LIST),
     "ak_field_numbers": (*FIELD, *LIST),
@@ -161,6 +213,9 @@ def load(path: str) -> ctypes.CDLL:
     return found
 
 
-def default_path() -> str:
-    """The library in the folder of this package, where an installed one has it."""
-    return os.path.join(os.path.dirname(os.path.abspath(__file__)), "libaccesskit_proved.so")
+def path_of(library: Union[str, os.PathLike[str], None]) -> str:
+    """The path of a library: of the one in the folder of this package, where an installed one has it, if none is named."""
+    path = os.fspath(os.path.join(os.path.dirname(os.path.abspath(__file__)), "libaccesskit_proved.so") if library is None else library)
+    if not isinstance(path, str):
+        raise TypeError(f"library: expected a path as str, got {path!r}")
+    return path

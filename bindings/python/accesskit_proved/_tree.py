@@ -2,11 +2,11 @@
 
 from __future__ import annotations
 
-from ctypes import c_size_t
+from ctypes import c_bool, c_size_t
 from typing import TYPE_CHECKING, Any, List, NamedTuple, Optional, Tuple
 
 from . import _raw
-from ._checks import Id, text, truth
+from ._checks import Id, text, tree_id, truth
 from ._errors import Closed, EventsLost
 from ._fields import Fields
 from ._handle import Call
@@ -115,3 +115,31 @@ class Tree(Nodes, Fields, Texts):
     def focus(self) -> Optional[Id]:
         """What has the focus, while the host has it."""
         return self._id_of_tree(self._calls.ak_tree_focus)
+
+    def declared_focus(self) -> Optional[Id]:
+        """The node that the trees declare focused, across grafts, whether or not the host has the focus."""
+        return self._id_of_tree(self._calls.ak_tree_declared_focus)
+
+    def is_host_focused(self) -> Optional[bool]:
+        """Whether the host window has the focus; None before there is a tree."""
+        found = c_bool()
+        with self._lock:
+            status = self._calls.ak_tree_is_host_focused(self._tree, found)
+        return found.value if self._check(status) else None
+
+    def active_dialog(self) -> Optional[Id]:
+        """The nearest dialog among what has the focus and its ancestors."""
+        return self._id_of_tree(self._calls.ak_tree_active_dialog)
+
+    def subtree_root(self, tree: Optional[UUID] = None) -> Optional[Id]:
+        """The root of the tree with this `uuid.UUID`, or else of the root tree."""
+        data = b"" if tree is None else tree_id(tree, "tree")
+        return self._id_of_tree(self._calls.ak_tree_subtree_root, data, len(data))
+
+    def toolkit_name(self) -> Optional[str]:
+        """The name of the toolkit: `AccessKit` if none was sent; None before there is a tree."""
+        return self._text_of_tree(self._calls.ak_tree_toolkit_name)
+
+    def toolkit_version(self) -> Optional[str]:
+        """The version of the toolkit, if it was sent with a name."""
+        return self._text_of_tree(self._calls.ak_tree_toolkit_version)

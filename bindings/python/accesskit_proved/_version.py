@@ -1,14 +1,16 @@
 """The version of this package, and of the library."""
 
+from __future__ import annotations
+
 import os
-from typing import Optional, Tuple
+from typing import Tuple, Union
 
 from . import _raw
 
 __version__ = "0.1.0"
 
 
-def version(library: Optional[str] = None) -> Tuple[int, int, int]:
+def version(library: Union[str, os.PathLike[str], None] = None) -> Tuple[int, int, int]:
     """The three numbers of the version of the shared library at this path, or of the one that is installed with this package."""
-    number = _raw.load(_raw.default_path() if library is None else os.fspath(library)).ak_version()
+    number: int = _raw.load(_raw.path_of(library)).ak_version()
     return number // 10_000, number // 100 % 100, number % 100

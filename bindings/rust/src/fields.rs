@@ -3,8 +3,6 @@ use crate::names::{Action, Choice, Field, Style};
 use crate::raw::{self, Color, Rect, Translation};
 use crate::{Error, Id, Place, Tree};
 
-const STYLES: [Style; 5] = [Style::Solid, Style::Dotted, Style::Dashed, Style::Double, Style::Wavy];
-
 impl Tree {
     /// A text, as it was sent. Of `Field::Value` of a password, and of its text runs, that is what is typed into it: [`Tree::value`] and
     /// [`Tree::text`] mask it.
@@ -94,6 +92,6 @@ impl Tree {
     /// `Field::Overline`, `Field::Strikethrough` or `Field::Underline`.
     pub fn field_decoration(&mut self, of: Id, field: Field) -> Result<Option<(Style, Color)>, Error> {
         let found = self.one(|tree, line| unsafe { raw::ak_field_decoration(tree, of.node, of.tree, field as u32, line) })?;
-        Ok(found.and_then(|raw::Decoration { style, color }| Some((*STYLES.get(usize::try_from(style).ok()?)?, color))))
+        Ok(found.and_then(|raw::Decoration { style, color }| Some((Style::numbered(style)?, color))))
     }
 }

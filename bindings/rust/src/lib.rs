@@ -10,13 +10,16 @@ mod fields;
 mod names;
 mod nodes;
 mod raw;
+mod styles;
 mod texts;
 mod tree;
 mod updates;
 
 pub use errors::{rule_name, Error, Refusal};
 pub use names::*;
-pub use raw::{Bounds, Color, Position, Rect, Translation};
+pub use raw::{Bounds, Color, Point, Position, Rect, Span, Translation};
+pub use styles::StyleValue;
+pub use texts::{Defect, Spot, Wanted};
 pub use tree::{Event, Id, SharedTree, Tree};
 pub use updates::{Place, TreeName, Update};
 

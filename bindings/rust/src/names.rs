@@ -1,9 +1,10 @@
 //! What C says by numbers: flags, filters, movements, fields, roles, actions, and the values of fields that have few.
+use crate::raw;
 use std::fmt;
 use std::str::FromStr;
 
 /// A question about a node that is answered by yes or no: the library's call of that name, as `is_hidden` or `supports_toggle`. From
-/// `Focusable` on the common filter counts.
+/// `Focusable` to `Invocable` the common filter counts.
 #[derive(Clone, Copy, Debug, PartialEq, Eq, Hash)]
 pub enum Flag {
     Hidden,
@@ -34,6 +35,138 @@ pub enum Flag {
     SupportsIncrement,
     SupportsDecrement,
     Invocable,
+    LabelComesFromValue,
+    ContainerWithSelectableChildren,
+    ReadOnlyByDefault,
+    ReadOnlyOrDisabled,
+    HasLabel,
+    HasValue,
+}
+
+/// A state of a node that has few values: its number is that of `Toggled`, `Orientation` or `Live`, and 1 or 0 for `Selected`.
+#[derive(Clone, Copy, Debug, PartialEq, Eq, Hash)]
+pub(crate) enum State {
+    Toggled,
+    Selected,
+    Orientation,
+    Live,
+}
+
+/// A number that is computed of a node. Indexes and positions are counted from 0.
+#[derive(Clone, Copy, Debug, PartialEq, Eq, Hash)]
+pub(crate) enum Count {
+    Children,
+    Index,
+    FilteredChildren,
+    FilteredIndex,
+    SetSize,
+    SetPosition,
+    ContainerSetSize,
+}
+
+/// Another node that is found from a node.
+#[derive(Clone, Copy, Debug, PartialEq, Eq, Hash)]
+pub(crate) enum Relative {
+    ActiveDescendant,
+    DeepestFirstChild,
+    DeepestLastChild,
+    SelectionContainer,
+}
+
+/// A list of nodes that is found from a node. Siblings before it come nearest first, all else in order.
+#[derive(Clone, Copy, Debug, PartialEq, Eq, Hash)]
+pub(crate) enum Listed {
+    LabelledBy,
+    Controls,
+    PrecedingSiblings,
+    FollowingSiblings,
+    Descendants,
+    Items,
+    PrecedingFilteredSiblings,
+    FollowingFilteredSiblings,
+    FilteredDescendants,
+}
+
+/// A property of how text looks.
+#[derive(Clone, Copy, Debug, PartialEq, Eq, Hash)]
+pub enum TextStyle {
+    TextDirection,
+    FontFamily,
+    Language,
+    FontSize,
+    FontWeight,
+    BackgroundColor,
+    ForegroundColor,
+    Overline,
+    Strikethrough,
+    Underline,
+    TextAlign,
+    VerticalOffset,
+    Italic,
+}
+
+/// A unit of text.
+#[derive(Clone, Copy, Debug, PartialEq, Eq, Hash)]
+pub enum Unit {
+    Character,
+    Format,
+    Word,
+    Line,
+    Paragraph,
+    Page,
+}
+
+/// A test of a position.
+#[derive(Clone, Copy, Debug, PartialEq, Eq, Hash)]
+pub enum Test {
+    CharacterAfter,
+    CharacterBefore,
+    FormatStart,
+    WordStart,
+    LineStart,
+    LineEnd,
+    ParagraphStart,
+    ParagraphEnd,
+    ParagraphSeparator,
+    DocumentStart,
+    DocumentEnd,
+}
+
+/// Why runs make no text: the node's role holds none, or the rule that a run breaks.
+#[derive(Clone, Copy, Debug, PartialEq, Eq, Hash)]
+pub enum DefectRule {
+    Role,
+    PreviousLink,
+    PreviousUnanswered,
+    Tree,
+    CharacterLengths,
+    WordStarts,
+    CharacterPositions,
+    CharacterWidths,
+    TooLong,
+    Empty,
+    NextLink,
+    NextUnanswered,
+}
+
+impl DefectRule {
+    pub(crate) fn numbered(number: u8) -> Option<DefectRule> {
+        const ALL: [DefectRule; 12] = [
+            DefectRule::Role,
+            DefectRule::PreviousLink,
+            DefectRule::PreviousUnanswered,
+            DefectRule::Tree,
+            DefectRule::CharacterLengths,
+            DefectRule::WordStarts,
+            DefectRule::CharacterPositions,
+            DefectRule::CharacterWidths,
+            DefectRule::TooLong,
+            DefectRule::Empty,
+            DefectRule::NextLink,
+            DefectRule::NextUnanswered,
+        ];
+        ALL.get(usize::from(number)).copied()
+    }
 }
 
 /// A filter by its name in the library; `All` includes every node.
@@ -281,6 +414,14 @@ impl Role {
         ROLE_NAMES.iter().find(|(role, _)| *role == self).map(|(_, name)| *name)
     }
 
+    /// The role's name in the Rust crate, also of one that is a number, as `Heading`; of a number without one `Other(7)`.
+    pub fn full_name(self) -> String {
+        let (mut name, mut length) = ([0; 64], 0);
+        // SAFETY: the declaration is that of the library, and the pointer goes with its length.
+        unsafe { raw::ak_role_name(self.0, name.as_mut_ptr(), name.len(), &mut length) };
+        String::from_utf8_lossy(&name[..length.min(name.len())]).into_owned()
+    }
+
     /// The number of a role without a name.
     pub fn as_other(self) -> Option<u16> {
         self.0.checked_sub(OTHER_ROLE).and_then(|number| u16::try_from(number).ok())
@@ -341,6 +482,12 @@ pub enum Style {
     Dashed,
     Double,
     Wavy,
+}
+
+impl Style {
+    pub(crate) fn numbered(number: u32) -> Option<Style> {
+        [Style::Solid, Style::Dotted, Style::Dashed, Style::Double, Style::Wavy].get(usize::try_from(number).ok()?).copied()
+    }
 }
 
 /// Whether a check box, a switch or a button is on.

@@ -41,7 +41,8 @@ pub struct Bounds {
     pub y1: i64,
 }
 /// A position in the text of a node: its run, and how many of the run's characters are before it; how many scalars, and how many UTF-16
-/// code units, of the text are before it; the number of its line, from 0. Where two runs meet, `is_end` is the end of the first.
+/// code units, of the text are before it; the number of its line, from 0. Where two runs meet, `is_end` is the end of the first. What isn't
+/// [wanted](crate::Wanted) of it is 0.
 #[repr(C)]
 #[derive(Clone, Copy, Debug, Default, PartialEq, Eq, Hash)]
 pub struct Position {
@@ -90,6 +91,47 @@ pub struct Color {
 pub struct Decoration {
     pub style: u32,
     pub color: Color,
+}
+/// A point, or by how much something is shifted, in units of 1/64 pixel. A number beyond 64 bits is the nearest one within them.
+#[repr(C)]
+#[derive(Clone, Copy, Debug, Default, PartialEq, Eq, Hash)]
+pub struct Point {
+    pub x: i64,
+    pub y: i64,
+}
+#[repr(C)]
+#[derive(Clone, Copy, Debug, Default, PartialEq, Eq, Hash)]
+pub struct StyleValue {
+    pub number: u32,
+    pub red: u8,
+    pub green: u8,
+    pub blue: u8,
+    pub alpha: u8,
+}
+#[repr(C)]
+#[derive(Clone, Copy, Debug, Default)]
+pub struct Spot {
+    pub kind: u32,
+    pub is_end: bool,
+    pub run: u64,
+    pub index: usize,
+    pub x: i64,
+    pub y: i64,
+}
+#[repr(C)]
+#[derive(Clone, Copy, Debug, Default)]
+pub struct Defect {
+    pub run: u64,
+    pub link: u64,
+    pub run_tree: u32,
+    pub rule: u8,
+}
+/// A part of a text, by its ends.
+#[repr(C)]
+#[derive(Clone, Copy, Debug, Default, PartialEq, Eq, Hash)]
+pub struct Span {
+    pub start: Position,
+    pub end: Position,
 }
 extern "C" {
     pub fn ak_version() -> u32;
@@ -159,4 +201,34 @@ extern "C" {
     pub fn ak_field_color(tree: &mut Tree, node: u64, tree_index: u32, field: u32, color: &mut Color) -> u8;
     pub fn ak_field_decoration(tree: &mut Tree, node: u64, tree_index: u32, field: u32, decoration: &mut Decoration) -> u8;
     pub fn ak_text_between(tree: &mut Tree, node: u64, tree_index: u32, from: usize, to: usize, buffer: *mut u8, room: usize, length: &mut usize) -> u8;
+    pub fn ak_node_state(tree: &mut Tree, node: u64, tree_index: u32, state: u32, value: &mut u32) -> u8;
+    pub fn ak_node_count(tree: &mut Tree, node: u64, tree_index: u32, count: u32, filter: u32, number: &mut usize) -> u8;
+    pub fn ak_node_child_at(tree: &mut Tree, node: u64, tree_index: u32, filter: u32, index: usize, child: &mut Id) -> u8;
+    pub fn ak_node_relative(tree: &mut Tree, node: u64, tree_index: u32, relative: u32, filter: u32, found: &mut Id) -> u8;
+    pub fn ak_node_list(tree: &mut Tree, node: u64, tree_index: u32, list: u32, filter: u32, buffer: *mut Id, room: usize, count: &mut usize) -> u8;
+    pub fn ak_node_supports_action(tree: &mut Tree, node: u64, tree_index: u32, action: u32, filter: u32, supports: &mut bool) -> u8;
+    pub fn ak_node_flags(tree: &mut Tree, node: u64, tree_index: u32, wanted: u64, set: &mut u64) -> u8;
+    pub fn ak_node_transform(tree: &mut Tree, node: u64, tree_index: u32, by: &mut Point) -> u8;
+    pub fn ak_node_point(tree: &mut Tree, node: u64, tree_index: u32, x: i64, y: i64, own: &mut Point) -> u8;
+    pub fn ak_node_style(tree: &mut Tree, node: u64, tree_index: u32, property: u32, value: &mut StyleValue) -> u8;
+    pub fn ak_node_style_text(tree: &mut Tree, node: u64, tree_index: u32, property: u32, buffer: *mut u8, room: usize, length: &mut usize) -> u8;
+    pub fn ak_node_tree_id(tree: &mut Tree, node: u64, tree_index: u32, buffer: *mut u8, room: usize, length: &mut usize) -> u8;
+    pub fn ak_tree_subtree_root(tree: &mut Tree, tree_id: *const u8, length: usize, root: &mut Id) -> u8;
+    pub fn ak_tree_declared_focus(tree: &mut Tree, focus: &mut Id) -> u8;
+    pub fn ak_tree_is_host_focused(tree: &mut Tree, is_focused: &mut bool) -> u8;
+    pub fn ak_tree_active_dialog(tree: &mut Tree, dialog: &mut Id) -> u8;
+    pub fn ak_tree_toolkit_name(tree: &mut Tree, buffer: *mut u8, room: usize, length: &mut usize) -> u8;
+    pub fn ak_tree_toolkit_version(tree: &mut Tree, buffer: *mut u8, room: usize, length: &mut usize) -> u8;
+    pub fn ak_role_name(role: u32, buffer: *mut u8, room: usize, length: &mut usize) -> u8;
+    pub fn ak_text_place(tree: &mut Tree, node: u64, tree_index: u32, spot: &Spot, wanted: u32, position: &mut Position) -> u8;
+    pub fn ak_text_moved(tree: &mut Tree, node: u64, tree_index: u32, spot: &Spot, movement: u32, wanted: u32, position: &mut Position) -> u8;
+    pub fn ak_text_test(tree: &mut Tree, node: u64, tree_index: u32, spot: &Spot, test: u32, holds: &mut bool) -> u8;
+    pub fn ak_text_unit(tree: &mut Tree, node: u64, tree_index: u32, spot: &Spot, unit: u32, wanted: u32, span: &mut Span) -> u8;
+    pub fn ak_text_line(tree: &mut Tree, node: u64, tree_index: u32, line: usize, wanted: u32, span: &mut Span) -> u8;
+    pub fn ak_text_length(tree: &mut Tree, node: u64, tree_index: u32, length: &mut usize) -> u8;
+    pub fn ak_text_boxes(tree: &mut Tree, node: u64, tree_index: u32, from: &Spot, to: &Spot, buffer: *mut Bounds, room: usize, count: &mut usize) -> u8;
+    pub fn ak_text_style(tree: &mut Tree, node: u64, tree_index: u32, spot: &Spot, property: u32, value: &mut StyleValue) -> u8;
+    pub fn ak_text_style_text(tree: &mut Tree, node: u64, tree_index: u32, spot: &Spot, property: u32, buffer: *mut u8, room: usize, length: &mut usize) -> u8;
+    pub fn ak_text_differs(tree: &mut Tree, node: u64, tree_index: u32, from: &Spot, to: &Spot, property: u32, differs: &mut bool) -> u8;
+    pub fn ak_text_defect(tree: &mut Tree, node: u64, tree_index: u32, defect: &mut Defect) -> u8;
 }

@@ -1,6 +1,7 @@
 //! A tree, which is fed and read.
 use crate::errors::{Error, DONE};
 use crate::raw;
+use crate::TreeName;
 use std::fmt;
 use std::sync::{Arc, Mutex, MutexGuard, PoisonError};
 
@@ -84,6 +85,37 @@ impl Tree {
     /// What has the focus, while the host has it.
     pub fn focus(&mut self) -> Result<Option<Id>, Error> {
         self.id(|tree, id| unsafe { raw::ak_tree_focus(tree, id) })
+    }
+
+    /// The node that the trees declare focused, across grafts, whether or not the host has the focus.
+    pub fn declared_focus(&mut self) -> Result<Option<Id>, Error> {
+        self.id(|tree, id| unsafe { raw::ak_tree_declared_focus(tree, id) })
+    }
+
+    /// Whether the host window has the focus; `None` before there is a tree.
+    pub fn is_host_focused(&mut self) -> Result<Option<bool>, Error> {
+        self.one(|tree, is_focused| unsafe { raw::ak_tree_is_host_focused(tree, is_focused) })
+    }
+
+    /// The nearest dialog among what has the focus and its ancestors.
+    pub fn active_dialog(&mut self) -> Result<Option<Id>, Error> {
+        self.id(|tree, id| unsafe { raw::ak_tree_active_dialog(tree, id) })
+    }
+
+    /// The root of a tree.
+    pub fn subtree_root(&mut self, of: TreeName) -> Result<Option<Id>, Error> {
+        let name = of.bytes();
+        self.id(|tree, id| unsafe { raw::ak_tree_subtree_root(tree, name.as_ptr(), name.len(), id) })
+    }
+
+    /// The name of the toolkit: `AccessKit` if none was sent; `None` before there is a tree.
+    pub fn toolkit_name(&mut self) -> Result<Option<String>, Error> {
+        self.text_in(|tree, buffer, length| unsafe { raw::ak_tree_toolkit_name(tree, buffer.as_mut_ptr(), buffer.len(), length) })
+    }
+
+    /// The version of the toolkit, if it was sent with a name.
+    pub fn toolkit_version(&mut self) -> Result<Option<String>, Error> {
+        self.text_in(|tree, buffer, length| unsafe { raw::ak_tree_toolkit_version(tree, buffer.as_mut_ptr(), buffer.len(), length) })
     }
 
     /// One value, if there is one.

@@ -13,7 +13,7 @@ pub enum TreeName {
 }
 
 impl TreeName {
-    fn bytes(&self) -> &[u8] {
+    pub(crate) fn bytes(&self) -> &[u8] {
         match self {
             TreeName::Root => &[],
             TreeName::Uuid(bytes) => bytes,

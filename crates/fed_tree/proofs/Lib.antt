@@ -3,7 +3,11 @@ pub mod Carrying
 pub mod CarryingOne
 pub mod Commands
 pub mod Fed
+pub mod Focusing
 pub mod Found
 pub mod Keeping
 pub mod LastNode
+pub mod Listing
+pub mod Looking
 pub mod Places
+pub mod Spotting

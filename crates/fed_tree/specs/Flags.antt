@@ -1,11 +1,13 @@
 -- What a flag says of a node.
-use Rattle.std.specs.Prelude.{Bool, is_some}
+use Rattle.std.specs.Prelude.{ℕ, ◌+◌, ◌*◌, ◌/◌, ◌%◌, ◌==◌, ◌&&◌, Bool, List, [], ◌∷◌, is_some, if◌then◌else◌}
 use Rattle.schema.specs.NodeData.{NodeData}
 use Rattle.model.specs.declared.FullNodeId.{FullNodeId}
 use Rattle.model.specs.World.{World}
-use Rattle.model.specs.RoleClasses.{is_text_input, is_multiline, is_password_input, is_dialog, is_item_like, is_read_only_supported}
+use Rattle.model.specs.RoleClasses.{is_text_input, is_multiline, is_password_input, is_dialog, is_item_like, is_read_only_supported, is_label, is_container_with_selectable_children, is_read_only_by_default}
 use Rattle.model.specs.Filters.{is_hidden, common_filter}
-use Rattle.model.specs.Views.{is_italic, is_read_only, is_selectable, supports_toggle, supports_expand_collapse, supports_url, is_focusable, is_clickable, supports_increment, supports_decrement, is_invocable}
+use Rattle.model.specs.Labels.{label_of}
+use Rattle.model.specs.Values.{value_of}
+use Rattle.model.specs.Views.{is_italic, is_read_only, is_read_only_or_disabled, is_selectable, supports_toggle, supports_expand_collapse, supports_url, is_focusable, is_clickable, supports_increment, supports_decrement, is_invocable}
 use Rattle.model.specs.TextRuns.{supports_text_ranges}
 use Rattle.fed_tree.specs.declared.flags.Flag.{Flag}
 use Rattle.fed_tree.specs.declared.flags.Flag.TheVariants as flag
@@ -40,3 +42,14 @@ says flag.Clickable w id d = is_clickable (common_filter w) w id
 says flag.SupportsIncrement w id d = supports_increment (common_filter w) w id
 says flag.SupportsDecrement w id d = supports_decrement (common_filter w) w id
 says flag.Invocable w id d = is_invocable (common_filter w) w id
+says flag.LabelComesFromValue w id d = is_label d.role
+says flag.ContainerWithSelectableChildren w id d = is_container_with_selectable_children d.role
+says flag.ReadOnlyByDefault w id d = is_read_only_by_default d.role
+says flag.ReadOnlyOrDisabled w id d = is_read_only_or_disabled d
+says flag.HasLabel w id d = is_some (label_of w id)
+says flag.HasValue w id d = is_some (value_of w id)
+
+-- the bits of a number that are wanted and whose flags are said to hold: the lowest is the first flag's
+abbrev pub said_bits : (Flag → Bool) → List Flag → ℕ → ℕ
+said_bits says [] wanted = 0
+said_bits says (flag ∷ flags) wanted = 2 * said_bits says flags (wanted / 2) + (if (wanted % 2 == 1) && says flag then 1 else 0)

@@ -1,10 +1,15 @@
 pub mod Begun
 pub mod Carried
+pub mod Computed
 pub mod EventCodes
 pub mod Events
 pub mod Fed
 pub mod FedCodes
 pub mod Feeding
 pub mod Flags
+pub mod Looks
 pub mod Reads
+pub mod Spans
+pub mod Spots
+pub mod Styles
 pub mod Texts

@@ -51,6 +51,17 @@ pub enum Flag {
     SupportsDecrement,
     /// It can be clicked, and that is its only use.
     Invocable,
+    /// It is a label, whose value labels other nodes.
+    LabelComesFromValue,
+    /// Its children can be selected.
+    ContainerWithSelectableChildren,
+    /// Nodes of its role are read-only unless they say otherwise.
+    ReadOnlyByDefault,
+    ReadOnlyOrDisabled,
+    /// It has a label, of its own or by other nodes.
+    HasLabel,
+    /// It has a value, of its own or by its runs.
+    HasValue,
 }
 
 impl FedTree {
@@ -65,7 +76,7 @@ impl FedTree {
 }
 
 /// Whether the node is what the flag says.
-fn says(node: &NodeRef<'_>, flag: Flag) -> bool
+pub(crate) fn says(node: &NodeRef<'_>, flag: Flag) -> bool
     ensures { result ≡ says flag (world_at node.now) (id_at node.now) (data_at node.now) }
 {
     let shown = |seen: &NodeRef<'_>| common_filter(seen);
@@ -98,5 +109,11 @@ fn says(node: &NodeRef<'_>, flag: Flag) -> bool
         Flag::SupportsIncrement => node.supports_increment(&shown),
         Flag::SupportsDecrement => node.supports_decrement(&shown),
         Flag::Invocable => node.is_invocable(&shown),
+        Flag::LabelComesFromValue => node.label_comes_from_value(),
+        Flag::ContainerWithSelectableChildren => node.is_container_with_selectable_children(),
+        Flag::ReadOnlyByDefault => node.should_have_read_only_state_by_default(),
+        Flag::ReadOnlyOrDisabled => node.is_read_only_or_disabled(),
+        Flag::HasLabel => node.has_label(),
+        Flag::HasValue => node.has_value(),
     }
 }

@@ -89,7 +89,7 @@ impl FedTree {
 }
 
 /// The side of the place where two runs meet, if the position is there.
-fn side_of(position: TextPosition<'_>) -> Side
+pub(crate) fn side_of(position: TextPosition<'_>) -> Side
     ensures { result ≡ side_of (position_text position.entry) (flat_position position.entry) }
 {
     let start = position.biased_to_start().to_raw();

@@ -1,7 +1,10 @@
 pub mod Asked
 pub mod Built
+pub mod Computing
 pub mod Heap
 pub mod RoleNumbers
 pub mod RuleNames
 pub mod Walking
 pub mod Words
+pub mod RoleWording
+pub mod Styling

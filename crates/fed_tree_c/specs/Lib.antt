@@ -1,9 +1,14 @@
 pub mod Answers
 pub mod ChoiceNumbers
+pub mod Computing
 pub mod Fields
 pub mod Held
+pub mod Kinds
 pub mod Numbers
 pub mod Questions
 pub mod Records
+pub mod RoleWords
+pub mod Spotting
 pub mod Stops
+pub mod Styling
 pub mod Updates

@@ -45,6 +45,12 @@ all_flags =
     ∷ flag.SupportsIncrement
     ∷ flag.SupportsDecrement
     ∷ flag.Invocable
+    ∷ flag.LabelComesFromValue
+    ∷ flag.ContainerWithSelectableChildren
+    ∷ flag.ReadOnlyByDefault
+    ∷ flag.ReadOnlyOrDisabled
+    ∷ flag.HasLabel
+    ∷ flag.HasValue
     ∷ []
 
 abbrev pub all_filters : List NamedFilter

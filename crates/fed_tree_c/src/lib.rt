@@ -4,6 +4,7 @@
 mod block;
 mod buffers;
 mod choice_numbers;
+mod computed;
 mod events;
 mod feed;
 mod field_lists;
@@ -11,51 +12,133 @@ mod field_records;
 mod fields;
 mod found;
 mod handle;
+mod kinds;
 mod node_texts;
 mod nodes;
 mod numbers;
 mod opened;
 mod records;
 mod release;
+mod roles;
 mod rules;
 mod shown;
+mod spans;
+mod spots;
+mod styles;
 mod tree;
 mod updates;
 mod values;
+mod whole;
 
-pub use events::{ak_tree_event, ak_tree_event_count};
+pub use computed::AkPoint;
+pub use computed::ak_node_child_at;
+pub use computed::ak_node_count;
+pub use computed::ak_node_flags;
+pub use computed::ak_node_list;
+pub use computed::ak_node_point;
+pub use computed::ak_node_relative;
+pub use computed::ak_node_state;
+pub use computed::ak_node_supports_action;
+pub use computed::ak_node_transform;
+pub use events::ak_tree_event;
+pub use events::ak_tree_event_count;
 pub use feed::ak_tree_feed;
-pub use field_lists::{
-    ak_field_actions, ak_field_ids, ak_field_numbers, ak_field_text, ak_field_tree, ak_field_units,
-};
-pub use field_records::{AkColor, AkDecoration, AkRect, AkSelection, AkTranslation};
-pub use fields::{
-    ak_field_choice, ak_field_color, ak_field_count, ak_field_decoration, ak_field_flag,
-    ak_field_id, ak_field_number, ak_field_rect, ak_field_selection, ak_field_translation,
-};
+pub use field_lists::ak_field_actions;
+pub use field_lists::ak_field_ids;
+pub use field_lists::ak_field_numbers;
+pub use field_lists::ak_field_text;
+pub use field_lists::ak_field_tree;
+pub use field_lists::ak_field_units;
+pub use field_records::AkColor;
+pub use field_records::AkDecoration;
+pub use field_records::AkRect;
+pub use field_records::AkSelection;
+pub use field_records::AkTranslation;
+pub use fields::ak_field_choice;
+pub use fields::ak_field_color;
+pub use fields::ak_field_count;
+pub use fields::ak_field_decoration;
+pub use fields::ak_field_flag;
+pub use fields::ak_field_id;
+pub use fields::ak_field_number;
+pub use fields::ak_field_rect;
+pub use fields::ak_field_selection;
+pub use fields::ak_field_translation;
 pub use handle::Handle;
-pub use node_texts::{
-    ak_text_between, ak_text_move, ak_text_position, ak_text_selection_anchor,
-    ak_text_selection_focus,
-};
-pub use nodes::{
-    ak_node_children, ak_node_label, ak_node_parent, ak_node_role, ak_node_text, ak_node_value,
-};
-pub use records::{AkBounds, AkEvent, AkId, AkPosition, AkStop};
+pub use node_texts::ak_text_between;
+pub use node_texts::ak_text_move;
+pub use node_texts::ak_text_position;
+pub use node_texts::ak_text_selection_anchor;
+pub use node_texts::ak_text_selection_focus;
+pub use nodes::ak_node_children;
+pub use nodes::ak_node_label;
+pub use nodes::ak_node_parent;
+pub use nodes::ak_node_role;
+pub use nodes::ak_node_text;
+pub use nodes::ak_node_value;
+pub use records::AkBounds;
+pub use records::AkEvent;
+pub use records::AkId;
+pub use records::AkPosition;
+pub use records::AkStop;
 pub use release::ak_version;
+pub use roles::ak_role_name;
 pub use rules::ak_rule_name;
-pub use shown::{
-    ak_node_bounds, ak_node_filter, ak_node_filtered_children, ak_node_filtered_parent,
-    ak_node_flag, ak_node_hit,
-};
-pub use tree::{ak_tree_close, ak_tree_focus, ak_tree_open, ak_tree_root};
-pub use updates::{
-    ak_tree_host_focus, ak_update_begin, ak_update_node, ak_update_root, ak_update_send,
-    ak_update_toolkit_name, ak_update_toolkit_version,
-};
-pub use values::{
-    ak_update_action, ak_update_bool, ak_update_choice, ak_update_color, ak_update_count,
-    ak_update_decoration, ak_update_flag, ak_update_id, ak_update_ids, ak_update_number,
-    ak_update_numbers, ak_update_rect, ak_update_selection, ak_update_text, ak_update_translation,
-    ak_update_tree, ak_update_units,
-};
+pub use shown::ak_node_bounds;
+pub use shown::ak_node_filter;
+pub use shown::ak_node_filtered_children;
+pub use shown::ak_node_filtered_parent;
+pub use shown::ak_node_flag;
+pub use shown::ak_node_hit;
+pub use spans::AkSpan;
+pub use spans::ak_text_boxes;
+pub use spans::ak_text_line;
+pub use spans::ak_text_unit;
+pub use spots::AkDefect;
+pub use spots::AkSpot;
+pub use spots::ak_text_defect;
+pub use spots::ak_text_length;
+pub use spots::ak_text_moved;
+pub use spots::ak_text_place;
+pub use spots::ak_text_test;
+pub use styles::AkStyleValue;
+pub use styles::ak_node_style;
+pub use styles::ak_node_style_text;
+pub use styles::ak_text_differs;
+pub use styles::ak_text_style;
+pub use styles::ak_text_style_text;
+pub use tree::ak_tree_close;
+pub use tree::ak_tree_focus;
+pub use tree::ak_tree_open;
+pub use tree::ak_tree_root;
+pub use updates::ak_tree_host_focus;
+pub use updates::ak_update_begin;
+pub use updates::ak_update_node;
+pub use updates::ak_update_root;
+pub use updates::ak_update_send;
+pub use updates::ak_update_toolkit_name;
+pub use updates::ak_update_toolkit_version;
+pub use values::ak_update_action;
+pub use values::ak_update_bool;
+pub use values::ak_update_choice;
+pub use values::ak_update_color;
+pub use values::ak_update_count;
+pub use values::ak_update_decoration;
+pub use values::ak_update_flag;
+pub use values::ak_update_id;
+pub use values::ak_update_ids;
+pub use values::ak_update_number;
+pub use values::ak_update_numbers;
+pub use values::ak_update_rect;
+pub use values::ak_update_selection;
+pub use values::ak_update_text;
+pub use values::ak_update_translation;
+pub use values::ak_update_tree;
+pub use values::ak_update_units;
+pub use whole::ak_node_tree_id;
+pub use whole::ak_tree_active_dialog;
+pub use whole::ak_tree_declared_focus;
+pub use whole::ak_tree_is_host_focused;
+pub use whole::ak_tree_subtree_root;
+pub use whole::ak_tree_toolkit_name;
+pub use whole::ak_tree_toolkit_version;

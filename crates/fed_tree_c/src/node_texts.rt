@@ -16,7 +16,7 @@ use model::{At, FullNodeId, Side};
 use std::alloc::{AllocError, Global};
 
 /// The position, as C sees it.
-fn position_of(place: TextPlace) -> AkPosition
+pub(crate) fn position_of(place: TextPlace) -> AkPosition
     ensures { result ≡ position_of place }
 {
     AkPosition {

@@ -9,7 +9,7 @@ use model::{At, Move, NamedFilter, Side};
 use schema::{Role, named_roles};
 
 /// The flags in the order of their numbers.
-static FLAGS: [Flag; 28] = [
+static FLAGS: [Flag; 34] = [
     Flag::Hidden,
     Flag::Disabled,
     Flag::Busy,
@@ -38,6 +38,12 @@ static FLAGS: [Flag; 28] = [
     Flag::SupportsIncrement,
     Flag::SupportsDecrement,
     Flag::Invocable,
+    Flag::LabelComesFromValue,
+    Flag::ContainerWithSelectableChildren,
+    Flag::ReadOnlyByDefault,
+    Flag::ReadOnlyOrDisabled,
+    Flag::HasLabel,
+    Flag::HasValue,
 ];
 
 /// The filters in the order of their numbers.
@@ -72,7 +78,7 @@ static MOVES: [Move; 20] = [
 ];
 
 /// All flags, in the order of their numbers.
-fn flags() -> &'static [Flag]
+pub(crate) fn flags() -> &'static [Flag]
     ensures { result.now ≡ all_flags }
 {
     &FLAGS

@@ -20,7 +20,7 @@ use schema::{Point, WideRect};
 use std::alloc::{AllocError, Global};
 
 /// The edge, or the nearest number within 64 bits.
-fn clamped(edge: i128) -> i64
+pub(crate) fn clamped(edge: i128) -> i64
     ensures { result ≡ saturate_signed w64 edge }
 {
     match i64::try_from(edge) {
@@ -31,7 +31,7 @@ fn clamped(edge: i128) -> i64
 }
 
 /// The box, as C sees it.
-fn bounds_of(bounds: WideRect) -> AkBounds
+pub(crate) fn bounds_of(bounds: WideRect) -> AkBounds
     ensures { result ≡ bounds_of bounds }
 {
     AkBounds {

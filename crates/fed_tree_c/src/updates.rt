@@ -13,7 +13,7 @@ use std::alloc::Global;
 use uuid::Uuid;
 
 /// The tree that these bytes name: none of them the root tree, and sixteen that with this id.
-fn tree_said(bytes: &[u8]) -> Option<TreeId>
+pub(crate) fn tree_said(bytes: &[u8]) -> Option<TreeId>
     ensures { result ≡ tree_said bytes.now }
 {
     if bytes.is_empty() {

@@ -14,4 +14,7 @@ pub use model::{At, Move, NamedFilter, NodeName, Query, Side};
 pub use named::answer_by;
 pub use session::Session;
 pub use text_answers::{moved, position_of, text_in, text_in_runs};
-pub use walked::{child_ids, filtered_ids};
+pub use walked::{
+    child_ids, filtered_ids, following_filtered_ids, following_ids, ids_of, preceding_filtered_ids,
+    preceding_ids,
+};

@@ -26,14 +26,24 @@ pub fn child_ids(alloc: Global, node: NodeRef) -> Result<Vec<FullNodeId>, AllocE
     Ok(ids)
 }
 
-pub(crate) fn following_ids(alloc: Global, node: NodeRef) -> Result<Vec<FullNodeId>, AllocError>
+/// The ids of the later children of the node's parent, in order.
+///
+/// # Errors
+///
+/// Returns `AllocError` if memory runs out.
+pub fn following_ids(alloc: Global, node: NodeRef) -> Result<Vec<FullNodeId>, AllocError>
     ensures { IfOk result (λ ids. ids.items ≡ following_siblings (world_at node.entry) (id_at node.entry)) }
 {
     let ids: Vec<FullNodeId> = node.following_sibling_ids().collect(alloc)?;
     Ok(ids)
 }
 
-pub(crate) fn preceding_ids(alloc: Global, node: NodeRef) -> Result<Vec<FullNodeId>, AllocError>
+/// The ids of the earlier children of the node's parent, nearest first.
+///
+/// # Errors
+///
+/// Returns `AllocError` if memory runs out.
+pub fn preceding_ids(alloc: Global, node: NodeRef) -> Result<Vec<FullNodeId>, AllocError>
     ensures { IfOk result (λ ids. ids.items ≡ preceding_siblings (world_at node.entry) (id_at node.entry)) }
 {
     let ids: Vec<FullNodeId> = node.preceding_sibling_ids().collect(alloc)?;
@@ -45,7 +55,7 @@ pub(crate) fn preceding_ids(alloc: Global, node: NodeRef) -> Result<Vec<FullNode
 /// # Errors
 ///
 /// Returns `AllocError` if memory runs out.
-fn ids_of<'a, W: Iterator<Item = NodeRef<'a>> + Drop>(
+pub fn ids_of<'a, W: Iterator<Item = NodeRef<'a>> + Drop>(
     alloc: Global,
     walk: W,
 ) -> Result<Vec<FullNodeId>, AllocError>
@@ -77,7 +87,12 @@ pub fn filtered_ids(
     ids_of(alloc, node.filtered_children(shown))
 }
 
-pub(crate) fn following_filtered_ids(
+/// The ids of what the filter shows after the node, below the nearest ancestor that isn't excluded alone.
+///
+/// # Errors
+///
+/// Returns `AllocError` if memory runs out.
+pub fn following_filtered_ids(
     alloc: Global,
     node: NodeRef,
     filter: NamedFilter,
@@ -89,7 +104,12 @@ pub(crate) fn following_filtered_ids(
     ids_of(alloc, node.following_filtered_siblings(shown))
 }
 
-pub(crate) fn preceding_filtered_ids(
+/// The ids of what the filter shows before the node, nearest first, below the nearest ancestor that isn't excluded alone.
+///
+/// # Errors
+///
+/// Returns `AllocError` if memory runs out.
+pub fn preceding_filtered_ids(
     alloc: Global,
     node: NodeRef,
     filter: NamedFilter,
