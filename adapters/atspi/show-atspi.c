@@ -1,0 +1,224 @@
+/* show-atspi: an application on the accessibility bus that has the interface of a script, which it reads from standard input.
+ *
+ *     show-atspi [--every SECONDS | --keys FILE] [--name NAME] [--window TITLE] [--units N] [--at X,Y] < SCRIPT
+ *
+ * It carries out the first update, and from then on a further command of the script for each line that it reads of FILE, which is the
+ * terminal if nothing is said, or each few seconds. A line may also say `key NAME KEYSYM CODE`, a key that the user pressed, or `counts`
+ * or `quit`.
+ * --window puts the root into a window with this title, as for a page, and --units says how many of the script's units make a pixel:
+ * 64, or 1 for scripts that aren't to scale. It prints a line for each step and for what a screen reader asks the application to do.
+ */
+#include "accesskit_atspi.h"
+#include <gio/gio.h>
+#include <stdio.h>
+#include <stdlib.h>
+#include <string.h>
+
+typedef struct {
+    ak_atspi *adapter;
+    GPtrArray *commands; /* GStrings */
+    guint next;
+    const char *title;
+    GMainLoop *loop;
+} shown;
+
+static const char *const action_names[] = {"Click", "Focus", "Increment", "Decrement", "SetValue", "SelectText",
+                                           "ScrollIntoView", "ScrollToPoint"};
+
+static bool print_request(const ak_atspi_request *it, void *data) {
+    (void)data;
+    printf("asked %s %u:%" G_GUINT64_FORMAT, action_names[it->action], it->target.tree, it->target.node);
+    if (it->action == AK_ATSPI_SET_VALUE) printf(" %g", it->number);
+    if (it->action == AK_ATSPI_SCROLL_TO_POINT) printf(" %" G_GINT64_FORMAT ",%" G_GINT64_FORMAT, it->x, it->y);
+    if (it->action == AK_ATSPI_SELECT_TEXT)
+        printf(" %" G_GUINT64_FORMAT ":%zu,%" G_GUINT64_FORMAT ":%zu", it->anchor_run, it->anchor_character, it->focus_run,
+               it->focus_character);
+    printf("\n");
+    fflush(stdout);
+    return true;
+}
+
+static void print_trouble(const char *message, void *data) {
+    (void)data;
+    fprintf(stderr, "show-atspi: %s\n", message);
+}
+
+/* The root of the root tree as the child of a window. */
+static void put_in_window(GString *command, const char *title) {
+    char *line_end = strchr(command->str, '\n'), *root = strstr(command->str, " root=");
+    if (!title || !g_str_has_prefix(command->str, "update root ") || !root || root > line_end) return;
+    uint64_t id = g_ascii_strtoull(root + 6, NULL, 10);
+    const char *form = "node %" G_GUINT64_FORMAT " Window label=\"%s\" children=%" G_GUINT64_FORMAT "\n";
+    char *window = g_strdup_printf(form, G_MAXUINT64, title, id);
+    g_string_insert(command, line_end + 1 - command->str, window);
+    gssize at = root + 6 - command->str, digits = (gssize)strspn(root + 6, "0123456789");
+    g_string_erase(command, at, digits);
+    char *other = g_strdup_printf("%" G_GUINT64_FORMAT, G_MAXUINT64);
+    g_string_insert(command, at, other);
+    g_free(window);
+    g_free(other);
+}
+
+static void free_command(gpointer command) {
+    g_string_free(command, TRUE);
+}
+
+/* The updates and the lines about the host's focus, each as one text; questions are left out. */
+static GPtrArray *commands_of(const char *script, const char *title) {
+    GPtrArray *found = g_ptr_array_new_with_free_func(free_command);
+    GString *update = NULL;
+    char **lines = g_strsplit(script, "\n", -1);
+    for (char **line = lines; *line; line++) {
+        bool is_host = g_str_has_prefix(*line, "host ");
+        if (!update && !is_host && !g_str_has_prefix(*line, "update ")) continue;
+        GString *into = update ? update : g_string_new(NULL);
+        g_string_append(into, *line);
+        g_string_append_c(into, '\n');
+        bool is_whole = update ? strcmp(*line, "end") == 0 : is_host;
+        update = is_whole ? NULL : into;
+        if (is_whole) put_in_window(into, title);
+        if (is_whole) g_ptr_array_add(found, into);
+    }
+    if (update) g_string_free(update, TRUE);
+    g_strfreev(lines);
+    return found;
+}
+
+static void print_outcome(shown *it, uint8_t answer, const ak_stop *stop, size_t signals, gint64 began) {
+    uint8_t name[48];
+    size_t length = 0, sent, requests;
+    ak_atspi_counts(it->adapter, &sent, &requests);
+    gint64 took = g_get_monotonic_time() - began;
+    if (answer == AK_REFUSED && ak_rule_name(stop->rule, name, sizeof name, &length) == AK_DONE) printf("refused %.*s", (int)length, name);
+    else if (answer == AK_BAD_LINE) printf("bad line %" G_GUINT64_FORMAT " of the command", stop->line);
+    else printf("%s", answer == AK_DONE ? "ok" : answer == AK_NO_MEMORY ? "no memory" : "lost");
+    printf(" step %u at %" G_GINT64_FORMAT ".%06d: %zu signals in %" G_GINT64_FORMAT " us\n", it->next, began / 1000000,
+           (int)(began % 1000000), sent - signals, took);
+    fflush(stdout);
+}
+
+static bool carry_out_next(shown *it) {
+    if (it->next >= it->commands->len) return false;
+    GString *command = it->commands->pdata[it->next++];
+    ak_stop stop = {0};
+    size_t signals, requests;
+    ak_atspi_counts(it->adapter, &signals, &requests);
+    gint64 began = g_get_monotonic_time();
+    uint8_t answer = ak_atspi_feed(it->adapter, (const uint8_t *)command->str, command->len, &stop);
+    print_outcome(it, answer, &stop, signals, began);
+    return true;
+}
+
+static gboolean go_on(gpointer data) {
+    shown *it = data;
+    if (carry_out_next(it)) return G_SOURCE_CONTINUE;
+    printf("end of the script\n");
+    fflush(stdout);
+    return G_SOURCE_REMOVE;
+}
+
+static void press_key(shown *it, const char *line) {
+    char name[32];
+    unsigned keysym, code;
+    if (sscanf(line, "key %31s %x %u", name, &keysym, &code) != 3) return;
+    ak_atspi_key(it->adapter, name, keysym, code, 0, true);
+    ak_atspi_key(it->adapter, name, keysym, code, 0, false);
+}
+
+/* A line of the keys. */
+static gboolean read_key(GIOChannel *source, GIOCondition condition, gpointer data) {
+    (void)condition;
+    shown *it = data;
+    char *line = NULL;
+    size_t signals, requests;
+    if (g_io_channel_read_line(source, &line, NULL, NULL, NULL) != G_IO_STATUS_NORMAL || g_str_has_prefix(line, "quit")) {
+        g_free(line);
+        g_main_loop_quit(it->loop);
+        return G_SOURCE_REMOVE;
+    }
+    ak_atspi_counts(it->adapter, &signals, &requests);
+    if (g_str_has_prefix(line, "key ")) press_key(it, line);
+    else if (g_str_has_prefix(line, "counts")) printf("counts %zu signals %zu requests\n", signals, requests);
+    else if (!carry_out_next(it)) printf("end of the script\n");
+    printf("ready\n");
+    fflush(stdout);
+    g_free(line);
+    return G_SOURCE_CONTINUE;
+}
+
+static char *read_all(FILE *file) {
+    GString *all = g_string_new(NULL);
+    char part[65536];
+    for (size_t count; (count = fread(part, 1, sizeof part, file)) > 0;) g_string_append_len(all, part, (gssize)count);
+    return g_string_free(all, FALSE);
+}
+
+typedef struct {
+    char *name, *title, *keys, *at;
+    double every;
+    int units, x, y;
+} options;
+
+/* Reads the arguments, and says what is wrong with them. */
+static bool read_options(int argc, char **argv, options *it) {
+    GOptionEntry entries[] = {{"name", 0, 0, G_OPTION_ARG_STRING, &it->name, "the application's name", "NAME"},
+                              {"window", 0, 0, G_OPTION_ARG_STRING, &it->title, "put the root into a window with this title", "TITLE"},
+                              {"keys", 0, 0, G_OPTION_ARG_FILENAME, &it->keys, "go on at each line of this file", "FILE"},
+                              {"every", 0, 0, G_OPTION_ARG_DOUBLE, &it->every, "go on after so many seconds", "SECONDS"},
+                              {"units", 0, 0, G_OPTION_ARG_INT, &it->units, "how many units make a pixel, 64 if nothing is said", "N"},
+                              {"at", 0, 0, G_OPTION_ARG_STRING, &it->at, "where the window is on the screen", "X,Y"},
+                              {NULL, 0, 0, G_OPTION_ARG_NONE, NULL, NULL, NULL}};
+    GOptionContext *context = g_option_context_new("< SCRIPT - an application on the accessibility bus with the interface of a script");
+    g_option_context_add_main_entries(context, entries, NULL);
+    GError *error = NULL;
+    bool is_well = g_option_context_parse(context, &argc, &argv, &error);
+    if (!is_well) fprintf(stderr, "show-atspi: %s\n", error->message);
+    else if (it->at && sscanf(it->at, "%d,%d", &it->x, &it->y) != 2) {
+        fprintf(stderr, "show-atspi: --at takes X,Y\n");
+        is_well = false;
+    }
+    g_option_context_free(context);
+    g_clear_error(&error);
+    return is_well;
+}
+
+/* Has the script go on by time or by lines. NULL: by time, or the lines can't be read. */
+static GIOChannel *begin_steps(shown *it, const options *how) {
+    GError *error = NULL;
+    if (how->every > 0) {
+        g_timeout_add((guint)(how->every * 1000), go_on, it);
+        return NULL;
+    }
+    GIOChannel *channel = g_io_channel_new_file(how->keys ? how->keys : "/dev/tty", "r", &error);
+    if (channel) g_io_add_watch(channel, G_IO_IN | G_IO_HUP, read_key, it);
+    else fprintf(stderr, "show-atspi: %s\n", error->message);
+    g_clear_error(&error);
+    return channel;
+}
+
+int main(int argc, char **argv) {
+    options how = {.units = 64};
+    if (!read_options(argc, argv, &how)) return 2;
+    ak_tree tree = AK_TREE_CLOSED;
+    shown it = {.title = how.title, .loop = g_main_loop_new(NULL, FALSE)};
+    char *script = read_all(stdin);
+    it.commands = commands_of(script, how.title);
+    g_free(script);
+    const char *name = how.name ? how.name : "Proved";
+    if (ak_tree_open(&tree) != AK_DONE || !(it.adapter = ak_atspi_new(name, &tree, print_request, print_trouble, &it))) {
+        fprintf(stderr, "show-atspi: out of memory\n");
+        return 4;
+    }
+    ak_atspi_place(it.adapter, how.x, how.y, how.units);
+    ak_id root;
+    while (ak_tree_root(&tree, &root) != AK_DONE && carry_out_next(&it)) continue;
+    GIOChannel *channel = begin_steps(&it, &how);
+    bool can_go_on = channel || how.every > 0;
+    if (can_go_on) g_main_loop_run(it.loop);
+    ak_atspi_free(it.adapter);
+    ak_tree_close(&tree);
+    g_ptr_array_unref(it.commands);
+    if (channel) g_io_channel_unref(channel);
+    g_main_loop_unref(it.loop);
+    return can_go_on ? 0 : 2;
+}
