@@ -48,9 +48,11 @@ ON_PROGRAMS = {
     # (one by one, so that only the last waits for the last program)
     **{f"checks/run-programs {it}": {it} for it in sorted(os.listdir(os.path.join(TOP, "checks", "programs")))},
     "checks/converse": {"atree", "find", "page", "record", "speak"},
-    "checks/from-c": {"fed_tree_c"},
+    "checks/from-c": {"atree", "fed_tree_c"},
     # (after the check before this one, which leaves the archive)
     "checks/release": {"atree", "fed_tree_c", "find", "page", "read", "record", "speak"},
+    # (where the packages that it needs are there)
+    "checks/atspi": {"atree", "fed_tree_c"},
     "checks/refused-growths": {"atree", "growths"},
     "checks/recorders --programs": {"atree", "find", "speak"},
     "tools/check-documents --programs": {"atree", "find", "page", "read", "record", "speak"},

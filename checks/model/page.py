@@ -12,7 +12,7 @@ from model.fields import FIELDS, ROOT, BadLine
 from model.scripts import Play, field_word, role_shown, told_by
 from model.speech import EXPANDED, SELECTED, SWITCHED
 from model.texts import BULLET, HOLDS_TEXT, is_read_only, is_text, label_of, labelled_by, runs_of, value_of
-from model.views import CUT_OFF, INCLUDED, ancestors, bounding_box, common_filter, preorder, upward
+from model.views import CUT_OFF, INCLUDED, LEFT_OUT, ancestors, base_filter, bounding_box, common_filter, filtered_parent, meets, preorder, upward
 
 REFUSALS = {
     "MissingTreeInfo": "the first update has no tree info",
@@ -128,10 +128,26 @@ def is_left_out(world, id):
     return any(common_filter(world, up) == CUT_OFF for up in upward(world, id))
 
 
+def is_out_of_clip(world, id):
+    """Whether a graft, a container or a run lies wholly outside of the box of the nearest node above it that the base filter
+    includes, if that clips its children. On an axis on which its box has no length, that is somewhere in it too."""
+    parent, own = filtered_parent(world, base_filter, id), bounding_box(world, id)
+    if common_filter(world, id) != LEFT_OUT or parent is None or not world.nodes[parent].clips:
+        return False
+    frame = bounding_box(world, parent)
+    wide = own and own[:2] + tuple(max(own[axis] + 1, own[axis + 2]) for axis in (0, 1))
+    return bool(frame and wide) and not meets(wide, frame)
+
+
+def is_not_drawn(world, id):
+    """Whether its row says that it isn't shown, and it has no box."""
+    return is_left_out(world, id) or is_out_of_clip(world, id)
+
+
 def row(world, id, number, marks):
     """What the outline says of a node."""
     is_hidden = any(world.nodes[up].hidden for up in upward(world, id))
-    left_out = ["hidden" if is_hidden else "clipped"] * is_left_out(world, id)
+    left_out = ["hidden" if is_hidden else "clipped"] * is_not_drawn(world, id)
     return {
         "anchor": f"s{number}-{id[0]}-{id[1]}",
         "depth": len(ancestors(world, id)),
@@ -230,7 +246,7 @@ def tree_shown(world, number, marks, last):
     """The outline, the boxes and the ring of a world, and which rows lead to an earlier state, where `last` has what was shown of
     each node before; and what is shown of each node now."""
     ids = preorder(world, root_named(world, ROOT))
-    boxes = [drawn(world, id, number, marks) for id in ids if bounding_box(world, id) and not is_left_out(world, id)]
+    boxes = [drawn(world, id, number, marks) for id in ids if bounding_box(world, id) and not is_not_drawn(world, id)]
     ring = bounding_box(world, focus(world)) if focus(world) else None
     rows = [row(world, id, number, marks) for id in ids]
     now = {id: (without_mark(shown), children_of(world, id)) for id, shown in zip(ids, rows)}

@@ -1,4 +1,4 @@
-//! What views show while a handler is called.
+//! What views show while a handler is called, and while an update is prepared.
 
 ghost use Rattle.std.specs.Prelude.{⊤};
 
@@ -9,9 +9,10 @@ use crate::sketches::updates::{
     CHILD_MOVED, FAMILY, INNER_DOCUMENT, INNER_MOVED, OUTER_DOCUMENT, WINDOW,
 };
 use crate::sketches::{Sent, grown_by, send};
+use accesskit_consumer::tree::PlanEvent;
 use std::alloc::Global;
 use std::test::Fail;
-use trees::TreeChangeHandler;
+use trees::{Prepared, Tree, TreeChangeHandler};
 use views::{NodeRef, StateRef};
 
 /// Where a state has a node: its parent and its first child.
@@ -70,11 +71,16 @@ fn kin_in(state: StateRef, (tree, node): Id) -> Option<Kin> {
 
 /// Whether the state of a view, if there is one, shows this.
 fn shows(beside: Option<&NodeRef>, shown: &Shown) -> bool {
-    let Some(node) = beside else {
-        return true;
-    };
+    match beside {
+        Some(node) => is_shown_by(node.tree_state(), shown),
+        None => true,
+    }
+}
+
+/// Whether a state shows this.
+fn is_shown_by(state: StateRef, shown: &Shown) -> bool {
     for (id, kin) in shown {
-        if kin_in(node.tree_state(), *id) != *kin {
+        if kin_in(state, *id) != *kin {
             return false;
         }
     }
@@ -168,6 +174,63 @@ fn is_told(alloc: Global, case: &'static Case) -> Result<bool, Fail> {
 fn views_show_their_states_while_told(rt: HostRuntime) -> Result<(), Fail> {
     for (row, case) in CASES.iter().enumerate() {
         assert!(rt; is_told(rt.alloc(), case)?, "row {row}");
+    }
+    Ok(())
+}
+
+/// The call of a handler that reports an event.
+fn told_of(event: PlanEvent) -> Told {
+    match event {
+        PlanEvent::Added(id) => Added(id.tree, id.node.0),
+        PlanEvent::Updated(id) => Updated(id.tree, id.node.0),
+        PlanEvent::FocusMoved(old, new) => FocusMoved(old.map(pair), new.map(pair)),
+        PlanEvent::Removed(id) => Removed(id.tree, id.node.0),
+    }
+}
+
+fn are_told(events: &[PlanEvent], told: &[Told]) -> bool {
+    for (number, event) in events.iter().enumerate() {
+        if told.get(number) != Some(&told_of(*event)) {
+            return false;
+        }
+    }
+    events.len() == told.len()
+}
+
+/// The tree, prepared for the update of a case.
+fn prepared(alloc: Global, tree: Tree, case: &Case) -> Result<Prepared, Fail> {
+    match tree.prepare(case.sent.update(alloc)?) {
+        Ok(prepared) => Ok(prepared),
+        Err(refused) => Err(refused.why.into()),
+    }
+}
+
+/// Whether both states of a case are shown while its update is prepared.
+fn are_both_shown(prepared: &Prepared, case: &Case) -> bool {
+    let new = prepared.new();
+    is_shown_by(prepared.old(), &case.old)
+        && is_shown_by(new.view(), &case.new)
+        && are_told(prepared.events(), case.told)
+}
+
+/// Whether the update of a case leaves the old state where it is given up, and the new one where it is carried out then.
+fn is_prepared(alloc: Global, case: &Case) -> Result<bool, Fail> {
+    let first = prepared(alloc, grown_by(alloc, case.before)?, case)?;
+    let is_right = are_both_shown(&first, case);
+    let kept = first.give_up();
+    let is_kept = is_shown_by(kept.state().view(), &case.old);
+    let second = prepared(alloc, kept, case)?;
+    let is_still_right = are_both_shown(&second, case);
+    let changed = second.commit();
+    let is_changed = is_shown_by(changed.state().view(), &case.new);
+    Ok(is_right && is_kept && is_still_right && is_changed)
+}
+
+/// Each state is shown while an update is prepared.
+#[test]
+fn both_states_are_shown_while_prepared(rt: HostRuntime) -> Result<(), Fail> {
+    for (row, case) in CASES.iter().enumerate() {
+        assert!(rt; is_prepared(rt.alloc(), case)?, "row {row}");
     }
     Ok(())
 }
