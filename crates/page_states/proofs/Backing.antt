@@ -16,7 +16,7 @@ use Rattle.page_states.specs.declared.again.Way.TheVariants.{Whole, Again, Folde
 use Rattle.page_states.specs.declared.looks.Look.{Look}
 use Rattle.page_states.specs.declared.rows.Row.{Row}
 use Rattle.page_states.specs.declared.rows.Shown.{Shown}
-use Rattle.page_states.specs.Again.{drawn_by, is_below_top, is_group, last_of, no_folds, row_shown, state_of, way_of, AreLed, Finds, IsAllIn, IsBoxIn, IsLed, IsRowIn, KeepsRows, Leads, Puts}
+use Rattle.page_states.specs.Again.{drawn_by, is_below_top, is_group, last_of, no_folds, row_shown, state_of, way_of, Finds, IsAllIn, IsBoxIn, IsLed, IsRowIn, Leads, Puts}
 use Rattle.page_states.specs.Backed.{page_of, row_id, state_in, AreBacked, HasGroup, HasRow, IsBacked, IsLastBacked, LinksLeadToRows, Page}
 use Rattle.page_states.proofs.Writing.{if_some}
 

@@ -1,5 +1,5 @@
 -- What is shown of a node is read off the outline of its world, and off the texts that may be shown.
-use Rattle.std.proofs.Common.{◌≡◌, ℕ, ◌-◌, ◌^◌, ◌==◌, Bool, true, false, cond, not, ◌&&◌, ◌||◌, List, [], ◌∷◌, ◌++◌, drop, length, map, min, Option, Some, None, codes, refl, sym, ap, subst, ◌∙◌}
+use Rattle.std.proofs.Common.{◌≡◌, ℕ, ◌-◌, ◌^◌, ◌==◌, Bool, false, cond, not, ◌&&◌, ◌||◌, List, [], ◌∷◌, ◌++◌, drop, length, map, min, Option, Some, None, codes, refl, sym, ap, ◌∙◌}
 use Rattle.std.specs.Prelude.{find, is_none, is_some, option_and_then, option_map, slice_get, unwrap_or, if◌then◌else◌}
 use Rattle.std.specs.Option.{option_map_or}
 use Rattle.std.specs.List.{list_any}
@@ -11,33 +11,32 @@ use Rattle.model.specs.declared.FullNodeId.{FullNodeId}
 use Rattle.model.specs.declared.filters.FilterResult.{FilterResult}
 use Rattle.model.specs.declared.filters.FilterResult.TheVariants.{Include, ExcludeNode, ExcludeSubtree}
 use Rattle.model.specs.declared.queries.NamedFilter.TheVariants.{Common}
-use Rattle.model.specs.Covers.{filtered_parent, is_cut_off, is_included}
+use Rattle.model.specs.Covers.{is_cut_off, is_included}
 use Rattle.model.specs.Filters.{base_filter, common_filter, first_answer, is_hidden, is_transparent}
 use Rattle.model.specs.FocusFound.{is_focused, is_focused_in_tree}
 use Rattle.model.specs.Forest.{IsFormed, is_same}
 use Rattle.model.specs.Geometry.{bounding_box}
-use Rattle.model.specs.Lists.{ancestors, first_child, nodes_of}
+use Rattle.model.specs.Lists.{ancestors, nodes_of}
 use Rattle.model.specs.Outline.{outline}
 use Rattle.model.specs.RoleClasses.{is_see_through}
 use Rattle.model.specs.Upward.{says, upward}
 use Rattle.model.specs.World.{World, Place as At, children, data_of, root_of}
-use Rattle.model.proofs.Text.Outlines.{above_is, below_is, box_same, children_same, focus_same, focused_same, funext, named_same, reads_or, says_same, IsBlind}
+use Rattle.model.proofs.Text.Outlines.{above_is, below_is, box_same, children_same, focus_same, focused_same, named_same, reads_or, says_same, IsBlind}
 use Rattle.phrases.specs.States.{where_it_is}
 use Rattle.views.specs.Nodes.{world_at, id_at, data_at}
 use Rattle.views.proofs.Climbing.{data_shown}
 use Rattle.hidden_texts.specs.Alike.{DifferInPassword}
-use Rattle.hidden_texts.specs.Hidden.{hides_label, hides_value}
-use Rattle.hidden_texts.proofs.HiddenAlike.{hidden_labels_one, one, values_one}
+use Rattle.hidden_texts.proofs.HiddenAlike.{one}
 use Rattle.page_states.specs.declared.boxes.Frame.{Frame}
 use Rattle.page_states.specs.declared.marks.Mark.{Mark}
 use Rattle.page_states.specs.declared.places.Place.{Place}
 use Rattle.page_states.specs.Boxes.{frame_of}
 use Rattle.page_states.specs.Drawn.{begins_with_run, caption_in, drawn_text, included_class, is_run_with_box, transparent_class}
-use Rattle.page_states.specs.Known.{clip_frame, clip_of, depth_at, is_beyond, is_excluded_alone, is_left_out, is_not_drawn, is_out_of_clip}
+use Rattle.page_states.specs.Known.{clip_frame, clip_of, depth_at, is_beyond, is_excluded_alone, is_left_out, is_not_drawn}
 use Rattle.page_states.specs.Named.{role_bold}
 use Rattle.page_states.specs.Pictures.{rect_text}
 use Rattle.page_states.specs.Places.{from_node, from_root, shown_nodes, IsPlace}
-use Rattle.page_states.specs.Rows.{focus_word, left_out_word, row_text, words_text}
+use Rattle.page_states.specs.Rows.{focus_word, row_text, words_text}
 use Rattle.page_states.specs.Said.{caption_of, caption_shown, hidden_at, label_shown, node_label, row_texts, state_words}
 use Rattle.page_states.specs.ShownLaws.{LookAlike, TypingLooksTheSame}
 use Rattle.page_states.specs.Written.{small_id, word_text}

@@ -1,7 +1,6 @@
 -- What a page shows of two states that differ in what is typed into a password.
-use Rattle.std.proofs.Common.{◌≡◌, List, [], ◌∷◌, map, Option, None, refl, sym, ap, subst, ◌∙◌}
+use Rattle.std.proofs.Common.{◌≡◌, List, [], ◌∷◌, map, Option, None, refl, sym, ap, ◌∙◌}
 use Rattle.std.specs.Prelude.{◌+◌, ◌/◌, All, option_map, if◌then◌else◌}
-use Rattle.std.specs.BTreeMap.{BTreeMap}
 use Rattle.std.specs.List.{fold, AllZip}
 use Rattle.std.proofs.lemmas.Simd.{map-map}
 use Rattle.std.proofs.lemmas.List.Elements.{All-head, All-tail}
@@ -12,9 +11,7 @@ use Rattle.model.specs.World.{World}
 use Rattle.views.specs.Nodes.{world_at, id_at}
 use Rattle.views.specs.declared.node.node_ref.NodeRef.{NodeRef}
 use Rattle.hidden_texts.specs.Alike.{DifferInPassword}
-use Rattle.page_states.specs.declared.again.Last.{Last}
 use Rattle.page_states.specs.declared.boxes.Frame.{Frame}
-use Rattle.page_states.specs.declared.marks.Mark.{Mark}
 use Rattle.page_states.specs.declared.places.Place.{Place}
 use Rattle.page_states.specs.declared.rows.Row.{Row}
 use Rattle.page_states.specs.Again.{row_shown}
@@ -23,7 +20,7 @@ use Rattle.page_states.specs.Drawn.{drawn_text}
 use Rattle.page_states.specs.Looks.{IsShownIn}
 use Rattle.page_states.specs.Places.{node_at, IsPlace}
 use Rattle.page_states.specs.ShownLaws.{LookAlike, RowsAlike, TypingShowsTheSame}
-use Rattle.page_states.specs.States.{place_of_row, AreRows}
+use Rattle.page_states.specs.States.{place_of_row}
 use Rattle.page_states.proofs.StatesWritten.{all_mapped}
 use Rattle.page_states.proofs.PlacesAlike.{nodes_one, typing_looks_the_same}
 

@@ -3,7 +3,6 @@ use Rattle.std.proofs.Common.{◌≡◌, List, [], ◌∷◌, map, Option, Some,
 use Rattle.std.specs.Prelude.{All, IfSome, option_map, option_and_then}
 use Rattle.std.proofs.lemmas.Simd.{map-map}
 use Rattle.std.proofs.lemmas.List.Elements.{All-cons, All-head, All-nil, All-tail}
-use Rattle.schema.specs.declared.geometry.WideRect.{WideRect}
 use Rattle.model.specs.World.{World}
 use Rattle.model.specs.Geometry.{bounding_box}
 use Rattle.model.specs.declared.FullNodeId.{FullNodeId}

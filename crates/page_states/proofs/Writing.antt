@@ -1,18 +1,13 @@
 -- What is written part by part.
-use Rattle.std.proofs.Common.{◌≡◌, ℕ, ◌+◌, ◌<◌, List, [], ◌∷◌, ◌++◌, get_or, take, map, length, Bor, Option, Some, None, refl, sym, ap, subst, ◌∙◌, append-nil, append_assoc}
+use Rattle.std.proofs.Common.{◌≡◌, ℕ, ◌+◌, ◌<◌, List, [], ◌∷◌, ◌++◌, get_or, take, map, length, Bor, Option, Some, None, sym, ap, ◌∙◌, append-nil, append_assoc}
 use Rattle.std.specs.Prelude.{IfSome, codes, flat_map, option_copied, replicate}
-use Rattle.std.specs.Io.KnownBytes.{Appends}
-use Rattle.std.proofs.KnownBytes.{Appends-trans, Appends-nil}
 use Rattle.std.proofs.lemmas.Grind.{replicate_next}
 use Rattle.std.proofs.lemmas.List.{take_more}
 use Rattle.std.proofs.lemmas.List.Concat.{flat_map-append}
 use Rattle.std.proofs.lemmas.List.Folds.{flat_map-map}
+use Rattle.page_states.specs.Nesting.{times}
 use Rattle.page_states.specs.Rows.{words_text}
 use Rattle.page_states.specs.Written.{word_text}
-
--- the same text so many times
-abbrev pub times : ℕ → List ℕ → List ℕ
-times count text = flat_map (λ (part : List ℕ). part) (replicate count text)
 
 pub once_more : (count : ℕ) (text : List ℕ) → times count text ++ text ≡ times (count + 1) text
 once_more count text =

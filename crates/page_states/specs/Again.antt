@@ -12,6 +12,7 @@ use Rattle.page_states.specs.declared.again.Last.{Last}
 use Rattle.page_states.specs.declared.looks.Look.{Look}
 use Rattle.page_states.specs.declared.marks.Mark.{Mark}
 use Rattle.page_states.specs.declared.rows.Row.{Row}
+use Rattle.page_states.specs.Nesting.{most_lists}
 use Rattle.page_states.specs.declared.rows.Shown.{Shown}
 
 -- its row was written in this state as it is now, it has the same children, and no mark
@@ -120,7 +121,7 @@ drawn_by number is_group (Again state) = Some state
 drawn_by number is_group (Folded state) = Some state
 
 abbrev pub is_group : Bool → Row → Bool
-is_group has_picture row = (has_picture && is_none row.shown.place.mark) && nat_lt row.shown.place.depth 100
+is_group has_picture row = (has_picture && is_none row.shown.place.mark) && nat_lt row.shown.place.depth most_lists
 
 abbrev pub drawn_in : ℕ → Bool → Row → Option ℕ
 drawn_in number has_picture row = drawn_by number (is_group has_picture row) row.ways.drawn

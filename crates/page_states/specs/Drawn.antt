@@ -1,5 +1,5 @@
 -- What a picture draws of a node.
-use Rattle.std.specs.Prelude.{ℕ, ◌+◌, ◌*◌, ◌/◌, ◌-◌, ◌^◌, ◌==◌, length, max, min, nat_lt, List, [], ◌++◌, codes, Bool, false, not, ◌&&◌, Option, Some, None, is_none, is_some, if◌then◌else◌}
+use Rattle.std.specs.Prelude.{ℕ, ◌+◌, ◌*◌, ◌/◌, ◌-◌, ◌^◌, ◌==◌, length, max, min, nat_lt, List, [], ◌++◌, codes, Bool, false, ◌&&◌, Option, Some, None, is_none, is_some, if◌then◌else◌}
 use Rattle.std.specs.Fmt.{decimal}
 use Rattle.std.specs.Option.{option_map_or}
 use Rattle.html.specs.Escaped.{escaped}

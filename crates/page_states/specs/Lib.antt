@@ -9,6 +9,7 @@ pub mod Known
 pub mod Laws
 pub mod Looks
 pub mod Named
+pub mod Nesting
 pub mod Pictures
 pub mod Places
 pub mod Rows

@@ -1,5 +1,5 @@
 -- The picture of a state.
-use Rattle.std.specs.Prelude.{◌≡◌, ℕ, ℤ, ◌+◌, ◌-◌, ◌/◌, ◌^◌, ◌==◌, ◌-ℤ◌, ◌+ℤ◌, pos, unsigned_abs, length, min, max, nat_lt, List, [], ◌++◌, codes, flat_map, replicate, Bool, not, ◌&&◌, Option, Some, None, if◌then◌else◌}
+use Rattle.std.specs.Prelude.{◌≡◌, ℕ, ◌+◌, ◌-◌, ◌/◌, ◌==◌, length, nat_lt, List, [], ◌++◌, codes, Bool, ◌&&◌, Option, Some, None, if◌then◌else◌}
 use Rattle.std.specs.Fmt.{decimal, signed_decimal}
 use Rattle.std.specs.Io.KnownBytes.{Appends}
 use Rattle.std.specs.List.{FoldsTo}
@@ -10,6 +10,7 @@ use Rattle.page_states.specs.declared.again.Way.{Way}
 use Rattle.page_states.specs.declared.again.Way.TheVariants.{Whole, Again, Folded}
 use Rattle.page_states.specs.declared.boxes.Frame.{Frame}
 use Rattle.page_states.specs.declared.rows.Row.{Row}
+use Rattle.page_states.specs.Nesting.{levels_after, most_lists, times, within}
 use Rattle.page_states.specs.Boxes.{frame_of, frame_height, frame_width, longer_side, widened}
 use Rattle.page_states.specs.Written.{anchor_text}
 
@@ -51,12 +52,9 @@ box_text number row = if length row.shown.look.drawn.items == 0 then [] else lin
 abbrev pub is_empty_box : Row → Bool
 is_empty_box row = length row.shown.look.drawn.items == 0 && length row.shown.look.children.items == 0
 
--- how many groups hold a box
-abbrev pub within : Row → ℕ
-within row = min row.shown.place.depth 100
-
+-- whether it is in a group of its own: as many groups hold a box as lists hold its row
 abbrev pub is_grouped : Row → Bool
-is_grouped row = nat_lt (within row) 100
+is_grouped row = nat_lt (within row) most_lists
 
 abbrev pub group_begun : ℕ → FullNodeId → List ℕ
 group_begun number id = codes "<g id=\"b" ++ anchor_text number id ++ codes "\">"
@@ -76,7 +74,7 @@ abbrev pub use_text : ℕ → FullNodeId → List ℕ
 use_text state id = codes "<use href=\"#b" ++ anchor_text state id ++ codes "\"/>\n"
 
 abbrev pub ends_groups : ℕ → List ℕ
-ends_groups count = flat_map (λ end. end) (replicate count (codes "</g>\n"))
+ends_groups count = times count (codes "</g>\n")
 
 -- ---- all boxes
 
@@ -87,15 +85,9 @@ part_text number groups row Whole = ends_groups (groups - within row) ++ group_t
 part_text number groups row (Again state) = ends_groups (groups - within row) ++ use_text state (id_at row.shown.place.node)
 part_text number groups row (Folded state) = []
 
--- the groups that are begun after it
-abbrev pub groups_after : ℕ → Row → Way → ℕ
-groups_after groups row Whole = if is_grouped row && not (length row.shown.look.children.items == 0) then within row + 1 else within row
-groups_after groups row (Again state) = within row
-groups_after groups row (Folded state) = groups
-
 abbrev pub WritesPart : ℕ → ℕ × Bytes → Row → ℕ × Bytes → Type 0
 WritesPart number a row b =
-    (b.0 ≡ (if is_empty_box row then a.0 else groups_after a.0 row row.ways.drawn))
+    (b.0 ≡ (if is_empty_box row then a.0 else levels_after a.0 row row.ways.drawn))
     × Appends a.1 b.1 (if is_empty_box row then [] else part_text number a.0 row row.ways.drawn)
 
 -- the ring around the focus

@@ -1,5 +1,5 @@
 -- The rows of an outline, and what is between them.
-use Rattle.std.specs.Prelude.{◌≡◌, ℕ, ◌+◌, ◌-◌, ◌^◌, ◌==◌, length, min, nat_lt, List, [], ◌∷◌, ◌++◌, codes, flat_map, replicate, Bool, true, false, not, ◌&&◌, Option, Some, None, if◌then◌else◌}
+use Rattle.std.specs.Prelude.{◌≡◌, ℕ, ◌+◌, ◌-◌, ◌^◌, min, nat_lt, List, [], ◌++◌, codes, flat_map, Bool, true, false, not, ◌&&◌, Option, Some, None, if◌then◌else◌}
 use Rattle.std.specs.Fmt.{decimal}
 use Rattle.std.specs.Io.KnownBytes.{Appends}
 use Rattle.std.specs.List.{FoldsTo}
@@ -16,6 +16,7 @@ use Rattle.page_states.specs.declared.marks.Mark.TheVariants.{Added, Updated}
 use Rattle.page_states.specs.declared.places.Place.{Place}
 use Rattle.page_states.specs.declared.rows.Row.{Row}
 use Rattle.page_states.specs.Named.{role_bold}
+use Rattle.page_states.specs.Nesting.{folds, levels_after, times, within}
 use Rattle.page_states.specs.Said.{row_texts, state_words}
 use Rattle.page_states.specs.Written.{anchor_text, small_id, word_text}
 
@@ -85,19 +86,7 @@ abbrev pub row_begun : ℕ → Place → Bool → List ℕ
 row_begun number place is_folding =
     codes "<li id=\"" ++ anchor_text number (id_at place.node) ++ level_text (row_class place) place.depth is_folding
 
--- lists in one another, as many as browsers keep
-abbrev pub most_lists : ℕ
-most_lists = 100
-
--- how many lists hold a row
-abbrev pub within : Row → ℕ
-within row = min row.shown.place.depth most_lists
-
--- whether it begins a list, of the rows of its children
-abbrev pub folds : Row → Bool
-folds row = nat_lt (within row) most_lists && not (length row.shown.look.children.items == 0)
-
--- the beginning of that list: the first 24 in one another are indented
+-- the beginning of the list in a row that folds: the first 24 in one another are indented
 abbrev pub begun_list : ℕ → List ℕ
 begun_list count = if nat_lt count 24 then codes "</summary><ul class=\"in\">\n" else codes "</summary><ul>\n"
 
@@ -122,7 +111,7 @@ again_text number row state =
     ++ anchor_text state (id_at row.shown.place.node) ++ as_in_text state
 
 abbrev pub ends_text : ℕ → List ℕ
-ends_text count = flat_map (λ end. end) (replicate count (codes "</ul></details></li>\n"))
+ends_text count = times count (codes "</ul></details></li>\n")
 
 -- ---- all rows
 
@@ -133,16 +122,10 @@ item_text number lists row Whole = ends_text (lists - within row) ++ whole_text 
 item_text number lists row (Again state) = ends_text (lists - within row) ++ again_text number row state
 item_text number lists row (Folded state) = []
 
--- the lists that are begun after it
-abbrev pub lists_after : ℕ → Row → Way → ℕ
-lists_after lists row Whole = if folds row then within row + 1 else within row
-lists_after lists row (Again state) = within row
-lists_after lists row (Folded state) = lists
-
 -- a row's item comes after what is written, in so many lists
 abbrev pub WritesItem : ℕ → ℕ × Bytes → Row → ℕ × Bytes → Type 0
 WritesItem number a row b =
-    (b.0 ≡ lists_after a.0 row row.ways.row) × Appends a.1 b.1 (item_text number a.0 row row.ways.row)
+    (b.0 ≡ levels_after a.0 row row.ways.row) × Appends a.1 b.1 (item_text number a.0 row row.ways.row)
 
 -- the outline of these rows
 pub record WritesOutline (number : ℕ) (rows : List Row) (before after : Bytes) : Type 0 where

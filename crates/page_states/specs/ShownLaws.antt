@@ -1,5 +1,5 @@
 -- What a page shows of a state doesn't depend on what is typed into a password.
-use Rattle.std.specs.Prelude.{◌≡◌, ℕ, List, map, Option}
+use Rattle.std.specs.Prelude.{◌≡◌, List, Option}
 use Rattle.std.specs.BTreeMap.{BTreeMap}
 use Rattle.std.specs.List.{AllZip}
 use Rattle.model.specs.declared.FullNodeId.{FullNodeId}

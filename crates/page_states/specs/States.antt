@@ -1,5 +1,5 @@
 -- What is written of a state.
-use Rattle.std.specs.Prelude.{◌≡◌, ℕ, List, ◌++◌, codes, map, All, Option, is_some, option_and_then}
+use Rattle.std.specs.Prelude.{◌≡◌, ℕ, List, codes, map, All, Option, is_some, option_and_then}
 use Rattle.std.specs.BTreeMap.{BTreeMap}
 use Rattle.std.specs.Io.KnownBytes.{Appends}
 use Rattle.model.specs.declared.FullNodeId.{FullNodeId}

@@ -6,7 +6,7 @@ ghost use Rattle.page_states.specs.Subtrees.{has_box, has_row, if_all, subtrees_
 
 use crate::looks::{Look, are_same_nodes, is_same_text};
 use crate::marks::Mark;
-use crate::outline::MOST_LISTS;
+use crate::nesting::MOST_LISTS;
 use crate::rows::{Row, Shown};
 use std::alloc::{AllocError, Global};
 use std::collections::BTreeMap;

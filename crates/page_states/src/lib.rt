@@ -13,6 +13,7 @@ mod laws;
 mod looks;
 mod marks;
 mod names;
+mod nesting;
 mod outline;
 mod picture;
 mod places;

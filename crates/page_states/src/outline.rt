@@ -4,7 +4,8 @@ ghost use Rattle.std.specs.Io.KnownBytes.{Appends};
 ghost use Rattle.std.specs.List.{FoldsTo};
 ghost use Rattle.model.specs.FocusFound.{is_focused_in_tree};
 ghost use Rattle.views.specs.Nodes.{world_at, id_at};
-ghost use Rattle.page_states.specs.Rows.{again_text, as_in_text, begun_list, class_if, ends_text, focus_word, folds, item_text, left_out_word, level_text, lists_after, mark_text, row_begun, row_class, row_end, row_text, whole_text, within, words_text, WritesItem, WritesOutline};
+ghost use Rattle.page_states.specs.Nesting.{within};
+ghost use Rattle.page_states.specs.Rows.{again_text, as_in_text, begun_list, class_if, ends_text, focus_word, item_text, left_out_word, level_text, mark_text, row_begun, row_class, row_end, row_text, whole_text, words_text, WritesItem, WritesOutline};
 ghost use Rattle.page_states.specs.Said.{label_texts, row_texts, value_texts};
 ghost use Rattle.page_states.specs.Texts.{IsShown};
 
@@ -12,6 +13,7 @@ use crate::again::Way;
 use crate::carried::is_focused;
 use crate::marks::Mark;
 use crate::names::{write_anchor, write_id, write_role, write_word};
+use crate::nesting::{folds, levels_after, within, write_times};
 use crate::places::Place;
 use crate::rows::Row;
 use crate::shown_texts::Texts;
@@ -19,9 +21,6 @@ use crate::words::{hidden_label_word, hidden_value_word, state_words};
 use html::write_element;
 use std::io::{self, Write};
 use views::NodeRef;
-
-/// The greatest number of lists in one another. Browsers keep no more than some hundred elements in one another.
-pub(crate) const MOST_LISTS: usize = 100;
 
 /// The number of lists in one another that are indented.
 const INDENTED: usize = 24;
@@ -55,7 +54,7 @@ fn write_item<O: Write>(number: u64, row: &Row, lists: usize, out: &mut O) -> io
 {
     let way = row.ways.row;
     write_item_as(number, row, way, lists, out)?;
-    Ok(lists_after(row, way, lists))
+    Ok(levels_after(row, way, lists))
 }
 
 /// Writes a node's item, which is shown in this way, after one that is within so many lists.
@@ -81,41 +80,6 @@ fn write_item_as<O: Write>(
     }
 }
 
-/// The number of lists that are begun after a row that is shown in this way, where so many were.
-fn lists_after(row: &Row, way: Way, lists: usize) -> usize
-    ensures { result ≡ lists_after lists row.now way }
-{
-    match way {
-        Way::Folded(_) => lists,
-        Way::Again(_) => within(row),
-        Way::Whole => lists_with(row),
-    }
-}
-
-/// The number of lists that hold a row.
-fn within(row: &Row) -> usize
-    ensures { result ≡ within row.now }
-{
-    row.shown.place.depth.min(MOST_LISTS)
-}
-
-/// Whether a row begins a list, of the rows of its children.
-fn folds(row: &Row) -> bool
-    ensures { result ≡ folds row.now }
-{
-    within(row) < MOST_LISTS && !row.shown.look.children.is_empty()
-}
-
-/// The number of lists that are begun after a row that is written out.
-fn lists_with(row: &Row) -> usize
-    ensures { result ≡ lists_after 0 row.now Way.Whole }
-{
-    if folds(row) {
-        return within(row).saturating_add(1);
-    }
-    within(row)
-}
-
 /// Ends those of so many lists that don't hold a row.
 fn end_lists_for<O: Write>(row: &Row, lists: usize, out: &mut O) -> io::Result<()>
     ensures { OnOk result (Appends (O.contents out.old) (O.contents out.new) (ends_text (lists - within row.now))) }
@@ -127,10 +91,7 @@ fn end_lists_for<O: Write>(row: &Row, lists: usize, out: &mut O) -> io::Result<(
 fn end_lists<O: Write>(count: usize, out: &mut O) -> io::Result<()>
     ensures { OnOk result (Appends (O.contents out.old) (O.contents out.new) (ends_text count)) }
 {
-    for _ in 0..count {
-        out.write_all(b"</ul></details></li>\n")?;
-    }
-    Ok(())
+    write_times(b"</ul></details></li>\n", count, out)
 }
 
 /// Writes the item of a node that is, with all below it, as in an earlier state, with a link to its item there.

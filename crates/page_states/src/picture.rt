@@ -6,12 +6,13 @@ ghost use Rattle.std.specs.List.{FoldsTo};
 ghost use Rattle.model.specs.Geometry.{bounding_box};
 ghost use Rattle.views.specs.Nodes.{world_at, id_at};
 ghost use Rattle.page_states.specs.Boxes.{picture_frame};
-ghost use Rattle.page_states.specs.Pictures.{box_link, box_text, ends_groups, group_begun, group_closed, group_opened, group_text, groups_after, is_empty_box, is_grouped, linked_box, part_text, picture_begun, rect_text, ring_around, ring_text, row_state, use_text, view_begun, view_box, within, WritesPart, WritesPicture};
+ghost use Rattle.page_states.specs.Nesting.{within};
+ghost use Rattle.page_states.specs.Pictures.{box_link, box_text, ends_groups, group_begun, group_closed, group_opened, group_text, is_empty_box, is_grouped, linked_box, part_text, picture_begun, rect_text, ring_around, ring_text, row_state, use_text, view_begun, view_box, WritesPart, WritesPicture};
 
 use crate::again::Way;
 use crate::boxes::{Frame, extent};
 use crate::names::write_anchor;
-use crate::outline::MOST_LISTS;
+use crate::nesting::{MOST_LISTS, levels_after, within, write_times};
 use crate::places::Place;
 use crate::rows::Row;
 use schema::WideRect;
@@ -71,7 +72,7 @@ fn write_part<O: Write>(number: u64, row: &Row, groups: usize, out: &mut O) -> i
     }
     let way = row.ways.drawn;
     write_part_as(number, row, way, groups, out)?;
-    Ok(groups_after(row, way, groups))
+    Ok(levels_after(row, way, groups))
 }
 
 /// Draws a node's box, which is shown in this way, after one that is within so many groups.
@@ -97,17 +98,6 @@ fn write_part_as<O: Write>(
     }
 }
 
-/// The number of groups that are begun after a box that is shown in this way, where so many were.
-fn groups_after(row: &Row, way: Way, groups: usize) -> usize
-    ensures { result ≡ groups_after groups row.now way }
-{
-    match way {
-        Way::Folded(_) => groups,
-        Way::Again(_) => within(row),
-        Way::Whole => groups_with(row),
-    }
-}
-
 /// Whether a node has no box that is drawn and no children.
 fn is_empty(row: &Row) -> bool
     ensures { result ≡ is_empty_box row.now }
@@ -115,28 +105,11 @@ fn is_empty(row: &Row) -> bool
     row.shown.look.drawn.is_empty() && row.shown.look.children.is_empty()
 }
 
-/// The number of groups that hold a node's box.
-fn within(row: &Row) -> usize
-    ensures { result ≡ within row.now }
-{
-    row.shown.place.depth.min(MOST_LISTS)
-}
-
 /// Whether a node's box is in a group of its own.
 fn is_grouped(row: &Row) -> bool
     ensures { result ≡ is_grouped row.now }
 {
     within(row) < MOST_LISTS
-}
-
-/// The number of groups that are begun after a node whose box is drawn.
-fn groups_with(row: &Row) -> usize
-    ensures { result ≡ groups_after 0 row.now Way.Whole }
-{
-    if is_grouped(row) && !row.shown.look.children.is_empty() {
-        return within(row).saturating_add(1);
-    }
-    within(row)
 }
 
 /// Ends those of so many groups that don't hold a node's box.
@@ -150,10 +123,7 @@ fn end_groups_for<O: Write>(row: &Row, groups: usize, out: &mut O) -> io::Result
 fn end_groups<O: Write>(count: usize, out: &mut O) -> io::Result<()>
     ensures { OnOk result (Appends (O.contents out.old) (O.contents out.new) (ends_groups count)) }
 {
-    for _ in 0..count {
-        out.write_all(b"</g>\n")?;
-    }
-    Ok(())
+    write_times(b"</g>\n", count, out)
 }
 
 /// Draws again what a state has drawn of this node and all below it.

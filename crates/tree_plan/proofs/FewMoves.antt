@@ -2,23 +2,20 @@
 use Rattle.std.proofs.Common.{Contains, ◌≡◌, ◌≢◌, ℕ, ◌<◌, [], map, length, slice_get, Option, Some, None, IsSome, option_map, option_and_then, ◌⊎◌, inl, inr, ⊎_elim, ◌↔◌, refl, sym, ap, ◌∙◌, subst, arith}
 use Rattle.std.specs.Option.{option_map_or}
 use Rattle.std.specs.FinMap.{get}
-use Rattle.std.proofs.lemmas.Option.{same_Some, slice_get-map, slice_get_within}
+use Rattle.std.proofs.lemmas.Option.{same_Some, slice_get_within}
 use Rattle.values_by_id.specs.Rows.{row_at}
 use Rattle.schema.specs.NodeData.{NodeData}
 use Rattle.schema.specs.declared.NodeId.{NodeId}
 use Rattle.schema.specs.declared.TreeId.{TreeId}
 use Rattle.model.specs.declared.FullNodeId.{FullNodeId}
-use Rattle.model.specs.World.{ROOT_NAME, World, Tree, Place, IsNode, HasData, StandsAt, data_of, in_tree, index_of, listed_ids, graft_name, root_of, focus_of, focus_named, root_named, Reached, Kept}
+use Rattle.model.specs.World.{World, Tree, Place, IsNode, HasData, StandsAt, data_of, in_tree, index_of, listed_ids, graft_name, root_of, focus_of, focus_named, root_named, Reached, Kept}
 use Rattle.model.specs.World as world
 use Rattle.model.specs.Focus.{OnChain, first, next, IsFocus, IsEffectiveFocus, Resolves}
 use Rattle.model.specs.Surgery.{IsOld, Seat, Left, Entered, HasEntered, Gone, IsLive, IsMovedIn, IsCompared, IsSettled, IsRefined, IsClimbed, IsPassed}
 use Rattle.model.specs.State.{IsState, Lists}
 use Rattle.model.specs.Update.{UpdateData, IsNamed, IsRebuild, KeepsRules, index_for, merged_world}
-use Rattle.model.proofs.Worlds.Names.{same_id}
-use Rattle.model.proofs.Closure.{IsDecided}
-use Rattle.model.proofs.State.StatePlaces.{IsSome_is, value_of, map_some, by_place, root_named_parts, listed_tree}
-use Rattle.model.proofs.Update.AcceptedOrFault.{decide_named}
-use Rattle.model.proofs.Surgery.Spots.{unnamed_data, node_stays, lister_named, leaver_named, at_or_left, root_reached}
+use Rattle.model.proofs.State.StatePlaces.{IsSome_is, by_place, root_named_parts, listed_tree}
+use Rattle.model.proofs.Surgery.Spots.{node_stays, lister_named, leaver_named, at_or_left, root_reached}
 use Rattle.model.proofs.Surgery.LiveAndGone.{gone_found, reached_node, live_iff}
 use Rattle.model.proofs.Surgery.OldWorlds.{old_state}
 use Rattle.model.proofs.Surgery.OldUpdates.{old_leaves_state}
@@ -31,9 +28,9 @@ use Rattle.tree_plan.specs.declared.moves.Moving.{Moving}
 use Rattle.tree_plan.specs.Passes.{at, HoldsOpened}
 use Rattle.tree_plan.specs.Writing.{own_record}
 use Rattle.tree_plan.specs.News.{IsNamedOnce}
-use Rattle.tree_plan.specs.Moves.{KeepsLinks, came_to, AreMoves, IsAbove, LeadsUp, ends, goes, HaveWays, HaveMoved}
-use Rattle.tree_plan.proofs.Entries.{entry_named}
-use Rattle.tree_plan.proofs.IdMaps.{at_contains}
+use Rattle.tree_plan.specs.Moves.{KeepsGrafts, KeepsLinks, came_to, AreMoves, IsAbove, LeadsUp, ends, goes, HaveWays, HaveMoved}
+use Rattle.tree_plan.proofs.NamedData.{HasBoth, named_both}
+use Rattle.tree_plan.proofs.NamedData as both
 use Rattle.tree_plan.proofs.NamedNodes.{all_named}
 use Rattle.tree_plan.proofs.SameTrees.{tree_before, trees_same, index_same}
 use Rattle.tree_plan.proofs.Trees.{AreAfter}
@@ -87,38 +84,26 @@ module _ (w : World) (u : UpdateData) (o : IsOld w) (op : Opened) (opening : Hol
 
   -- ---- the nodes
 
-  pub named_keeps : (id : FullNodeId) → IsNamed w u id → (old d : NodeData) × HasData w id old × HasData m id d × KeepsLinks old d × ((old.children ≡ d.children) ⊎ (d.tree_id ≡ None))
-  named_keeps id named =
-      let k = at_contains (map (λ (e : NodeId × NodeData). e.0) u.nodes) id.node named.1 in
-      let e = map_some (λ (e : NodeId × NodeData). e.0) (slice_get u.nodes k.0) id.node (sym (slice_get-map (λ (e : NodeId × NodeData). e.0) u.nodes k.0) ∙ k.1) in
-      let here : in_tree i e.0.0 ≡ id = same_id (in_tree i e.0.0) id (sym named.0) e.2 in
-      let old = moves.keep k.0 e.0 (slice_get_within u.nodes k.0 e.0 e.1) e.1 in
-      (old.0, e.0.1, subst (λ x. HasData w x old.0) here old.1, entry_named w u id k.0 once named.0 k.1 ∙ ap (option_map (λ (e : NodeId × NodeData). e.1)) e.1, old.2, old.3)
+  pub named_keeps : (id : FullNodeId) → IsNamed w u id → HasBoth w u KeepsGrafts id
+  named_keeps = named_both w u KeepsGrafts once (λ k e at. moves.keep k e (slice_get_within u.nodes k e at) at)
 
-  any_data : (id : FullNodeId) → (data_of m id ≡ data_of w id) ⊎ ((old d : NodeData) × HasData w id old × HasData m id d × KeepsLinks old d)
-  any_data id = go (decide_named w u id)
-    where
-      go : IsDecided (IsNamed w u id) → (data_of m id ≡ data_of w id) ⊎ ((old d : NodeData) × HasData w id old × HasData m id d × KeepsLinks old d)
-      go (inl named) = let f = named_keeps id named in inr (f.0, f.1, f.2, f.3, f.4)
-      go (inr other) = inl (unnamed_data w u id other)
+  named_links : (id : FullNodeId) → IsNamed w u id → HasBoth w u KeepsLinks id
+  named_links id named = let d = named_keeps id named in (d.0, d.1, d.2, d.3, d.4.0)
 
-  pub data_now : (id : FullNodeId) (old : NodeData) → HasData w id old → (d : NodeData) × HasData m id d × KeepsLinks old d
-  data_now id old was = ⊎_elim
-      (λ same. (old, same ∙ was, same_links old))
-      (λ x. (x.1, x.3, subst (λ y. KeepsLinks y x.1) (same_Some x.0 old (sym x.2 ∙ was)) x.4))
-      (any_data id)
+  any_data : (id : FullNodeId) → (data_of m id ≡ data_of w id) ⊎ HasBoth w u KeepsLinks id
+  any_data = both.any_data w u KeepsLinks same_links named_links
+
+  data_now : (id : FullNodeId) (old : NodeData) → HasData w id old → (d : NodeData) × HasData m id d × KeepsLinks old d
+  data_now = both.data_now w u KeepsLinks same_links named_links
 
   data_then : (id : FullNodeId) (d : NodeData) → HasData m id d → (old : NodeData) × HasData w id old × KeepsLinks old d
-  data_then id d now = ⊎_elim
-      (λ same. (d, sym same ∙ now, same_links d))
-      (λ x. (x.0, x.2, subst (KeepsLinks x.0) (same_Some x.1 d (sym x.3 ∙ now)) x.4))
-      (any_data id)
+  data_then = both.data_then w u KeepsLinks same_links named_links
 
   node_now : (id : FullNodeId) → IsNode w id → IsNode m id
-  node_now id there = node_stays w u id there
+  node_now = node_stays w u
 
   pub node_then : (id : FullNodeId) → IsNode m id → IsNode w id
-  node_then id there = let d = value_of (data_of m id) there in let x = data_then id d.0 d.1 in IsSome_is x.0 x.1
+  node_then = both.node_then w u KeepsLinks same_links named_links
 
   grafts_alike : (id : FullNodeId) → graft_name m id ≡ graft_name w id
   grafts_alike id = ⊎_elim
@@ -201,7 +186,7 @@ module _ (w : World) (u : UpdateData) (o : IsOld w) (op : Opened) (opening : Hol
         ⊎_elim
         (λ one. lists ∙ ap (map (in_tree n.tree)) (sym one) ∙ sym before ∙ o.graft_childless n name was)
         (λ none. let is : f.1.tree_id ≡ Some name = sym (ap (option_and_then (λ (d : NodeData). d.tree_id)) f.3) ∙ grafts in let clash : None ≡ Some name = sym none ∙ is in cc)
-        f.5;
+        f.4.1;
     named_apart = λ a b name x y f g. o.grafted_once a b name (sym (grafts_alike a) ∙ f) (sym (grafts_alike b) ∙ g);
     entered_once = entered_once;
   }

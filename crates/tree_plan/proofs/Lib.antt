@@ -30,6 +30,7 @@ pub mod Moving
 pub mod Plans
 pub mod Forests
 pub mod SameTrees
+pub mod NamedData
 pub mod OtherData
 pub mod NewsSteps
 pub mod Renewed

@@ -278,7 +278,7 @@ module _ (w : World) (u : UpdateData) (o : IsOld w) (once : IsNamedOnce u) (k : 
       (λ same.
       let P : NodeId × NodeData → Type 0 = λ x. KeepsNode w (in_tree (index_for w u.name) x.0) x.1 in
       let one : e ≡ f = same_Some e f (sym at_k ∙ ap (slice_get u.nodes) (sym same) ∙ at) in
-      subst P one (s.old, s.was, s.links, s.plain))
+      subst P one (s.old, s.was, (s.links, s.plain)))
       (last_or_before j k below)
 
   left_here : (c q : FullNodeId) → id ≡ q → (j : ℕ) → Left w u (Some (q, j)) c → (t : Seat) × OnlyIn id (child_ids id s.old) (child_ids id e.1) c t

@@ -1,8 +1,7 @@
 -- Other data that keep the forest: no rule is broken, and the merged world is its own rebuild.
-use Rattle.std.proofs.Common.{◌≡◌, ℕ, ◌<◌, [], map, slice_get, Option, Some, None, IsSome, option_map, option_and_then, ◌⊎◌, inl, inr, ⊎_elim, refl, sym, ap, ◌∙◌, subst, arith}
+use Rattle.std.proofs.Common.{◌≡◌, ℕ, ◌<◌, [], map, Option, Some, None, IsSome, option_map, option_and_then, ◌⊎◌, inl, inr, ⊎_elim, refl, sym, ap, ◌∙◌, subst, arith}
 use Rattle.std.specs.Option.{option_map_or}
 use Rattle.std.specs.FinMap.{get}
-use Rattle.std.proofs.lemmas.Option.{same_Some, slice_get-map}
 use Rattle.schema.specs.NodeData.{NodeData}
 use Rattle.schema.specs.declared.NodeId.{NodeId}
 use Rattle.schema.specs.declared.TreeId.{TreeId}
@@ -13,13 +12,10 @@ use Rattle.model.specs.Focus.{IsFocus, IsEffectiveFocus, Resolves}
 use Rattle.model.specs.Surgery.{IsOld}
 use Rattle.model.specs.State.{IsState}
 use Rattle.model.specs.Update.{UpdateData, IsNamed, IsRebuild, KeepsRules, index_for, merged_world}
-use Rattle.model.proofs.Worlds.Names.{same_id}
-use Rattle.model.proofs.Closure.{IsDecided}
-use Rattle.model.proofs.State.StatePlaces.{IsSome_is, value_of, map_some}
+use Rattle.model.proofs.State.StatePlaces.{IsSome_is}
 use Rattle.model.proofs.Forest.PlaceOf.{stands_at_place, place_is}
 use Rattle.model.proofs.Forest.Rooted.{state_formed}
-use Rattle.model.proofs.Update.AcceptedOrFault.{decide_named}
-use Rattle.model.proofs.Surgery.Spots.{unnamed_data}
+use Rattle.model.proofs.Surgery.Spots.{node_stays}
 use Rattle.model.proofs.Surgery.OldWorlds.{old_state}
 use Rattle.model.proofs.Surgery.OldUpdates.{old_leaves_state}
 use Rattle.tree_changes.specs.LookUps.{IsPlaceOf}
@@ -27,8 +23,8 @@ use Rattle.tree_plan.specs.declared.passes.Opened.{Opened}
 use Rattle.tree_plan.specs.Passes.{HoldsOpened}
 use Rattle.tree_plan.specs.Writing.{own_record}
 use Rattle.tree_plan.specs.News.{KeepsForest, AllKeep, IsNamedOnce}
-use Rattle.tree_plan.proofs.Entries.{entry_named}
-use Rattle.tree_plan.proofs.IdMaps.{at_contains}
+use Rattle.tree_plan.proofs.NamedData.{HasBoth, named_both}
+use Rattle.tree_plan.proofs.NamedData as both
 use Rattle.tree_plan.proofs.Trees.{KnownAlike, AreAfter, same_option}
 use Rattle.tree_plan.proofs.Forests.{HaveOneForest, root_same, root_named_same, tree_named_same, lists_same, grafts_same, stands_same, reached_same, kept_same, chain_same}
 use Rattle.tree_plan.proofs.SameTrees.{later, tree_before, trees_same, index_same}
@@ -45,38 +41,23 @@ module _ (w : World) (u : UpdateData) (o : IsOld w) (op : Opened) (opening : Hol
 
   -- ---- the nodes
 
-  pub named_data : (id : FullNodeId) → IsNamed w u id → (old d : NodeData) × HasData w id old × HasData m id d × KeepsForest old d
-  named_data id named =
-      let k = at_contains (map (λ (e : NodeId × NodeData). e.0) u.nodes) id.node named.1 in
-      let e = map_some (λ (e : NodeId × NodeData). e.0) (slice_get u.nodes k.0) id.node (sym (slice_get-map (λ (e : NodeId × NodeData). e.0) u.nodes k.0) ∙ k.1) in
-      let here : in_tree i e.0.0 ≡ id = same_id (in_tree i e.0.0) id (sym named.0) e.2 in
-      let old = keep k.0 e.0 e.1 in
-      (old.0, e.0.1, subst (λ x. HasData w x old.0) here old.1, entry_named w u id k.0 once named.0 k.1 ∙ ap (option_map (λ (e : NodeId × NodeData). e.1)) e.1, old.2)
+  pub named_data : (id : FullNodeId) → IsNamed w u id → HasBoth w u KeepsForest id
+  named_data = named_both w u KeepsForest once keep
 
-  any_data : (id : FullNodeId) → (data_of m id ≡ data_of w id) ⊎ ((old d : NodeData) × HasData w id old × HasData m id d × KeepsForest old d)
-  any_data id = go (decide_named w u id)
-    where
-      go : IsDecided (IsNamed w u id) → (data_of m id ≡ data_of w id) ⊎ ((old d : NodeData) × HasData w id old × HasData m id d × KeepsForest old d)
-      go (inl named) = inr (named_data id named)
-      go (inr other) = inl (unnamed_data w u id other)
+  any_data : (id : FullNodeId) → (data_of m id ≡ data_of w id) ⊎ HasBoth w u KeepsForest id
+  any_data = both.any_data w u KeepsForest same_data named_data
 
-  pub data_now : (id : FullNodeId) (old : NodeData) → HasData w id old → (d : NodeData) × HasData m id d × KeepsForest old d
-  data_now id old was = ⊎_elim
-      (λ same. (old, same ∙ was, same_data old))
-      (λ x. (x.1, x.3, subst (λ y. KeepsForest y x.1) (same_Some x.0 old (sym x.2 ∙ was)) x.4))
-      (any_data id)
+  data_now : (id : FullNodeId) (old : NodeData) → HasData w id old → (d : NodeData) × HasData m id d × KeepsForest old d
+  data_now = both.data_now w u KeepsForest same_data named_data
 
   data_then : (id : FullNodeId) (d : NodeData) → HasData m id d → (old : NodeData) × HasData w id old × KeepsForest old d
-  data_then id d now = ⊎_elim
-      (λ same. (d, sym same ∙ now, same_data d))
-      (λ x. (x.0, x.2, subst (KeepsForest x.0) (same_Some x.1 d (sym x.3 ∙ now)) x.4))
-      (any_data id)
+  data_then = both.data_then w u KeepsForest same_data named_data
 
-  pub node_now : (id : FullNodeId) → IsNode w id → IsNode m id
-  node_now id there = let d = value_of (data_of w id) there in let x = data_now id d.0 d.1 in IsSome_is x.0 x.1
+  node_now : (id : FullNodeId) → IsNode w id → IsNode m id
+  node_now = node_stays w u
 
   pub node_then : (id : FullNodeId) → IsNode m id → IsNode w id
-  node_then id there = let d = value_of (data_of m id) there in let x = data_then id d.0 d.1 in IsSome_is x.0 x.1
+  node_then = both.node_then w u KeepsForest same_data named_data
 
   lists_alike : (id : FullNodeId) → listed_ids m id ≡ listed_ids w id
   lists_alike id = ⊎_elim

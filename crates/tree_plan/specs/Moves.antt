@@ -21,10 +21,13 @@ pub record KeepsLinks (old d : NodeData) : Type 0 where
   pub graft : old.tree_id ≡ d.tree_id
   pub active : old.active_descendant ≡ d.active_descendant
 
--- it is an old node, whose links these data keep, and whose list they may change if it grafts nothing
+-- the links are kept, and the list may be another if nothing is grafted
+abbrev pub KeepsGrafts : NodeData → NodeData → Type 0
+KeepsGrafts old d = KeepsLinks old d × ((old.children ≡ d.children) ⊎ (d.tree_id ≡ None))
+
+-- it is an old node, whose data and these are so
 abbrev pub KeepsNode : World → FullNodeId → NodeData → Type 0
-KeepsNode w id d =
-    (old : NodeData) × HasData w id old × KeepsLinks old d × ((old.children ≡ d.children) ⊎ (d.tree_id ≡ None))
+KeepsNode w id d = (old : NodeData) × HasData w id old × KeepsGrafts old d
 
 -- the place to which a change moves a node that keeps its data
 abbrev pub came_to : NodeChange → Option Place

@@ -3,7 +3,7 @@ use Rattle.std.specs.BTreeMap.{get}
 use Rattle.model.specs.FullIds.{full_cmp}
 use Rattle.views.specs.Nodes.{id_at}
 use Rattle.page_states.specs.Again.{HasSameBox, HasSameRow}
-use Rattle.page_states.proofs.Kept.{found_kept, none_kept}
+use Rattle.page_states.proofs.Kept.{found_kept}
 use Rattle.page_states.proofs.again.own_same.Goals as goal
 
 pub returns-in-Some-clause-row : goal.returns-in-Some-clause-row

@@ -1,4 +1,4 @@
-use Rattle.std.proofs.Common.{◌≡◌, ◌+◌, ◌-◌, ◌∷◌, List, length, drop, sym, ap, subst, ◌∙◌}
+use Rattle.std.proofs.Common.{◌-◌, ◌∷◌, List, length, drop, sym, ap, subst, ◌∙◌}
 use Rattle.std.specs.Prelude.{is_some, reverse}
 use Rattle.page_states.specs.declared.again.Same.{Same}
 use Rattle.page_states.specs.declared.again.Subtree.{Subtree}

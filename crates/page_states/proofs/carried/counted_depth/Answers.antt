@@ -1,4 +1,4 @@
-use Rattle.std.proofs.Common.{◌≡◌, ◌+◌, ◌-◌, ◌^◌, suc, length, min, refl, zero-add, arith, ap, subst, ◌∙◌}
+use Rattle.std.proofs.Common.{◌≡◌, ◌-◌, ◌^◌, suc, length, min, refl, zero-add, arith, ap, subst, ◌∙◌}
 use Rattle.model.specs.Forest.{IsFormed}
 use Rattle.model.specs.Lists.{ancestors}
 use Rattle.views.specs.Nodes.{world_at, id_at}

@@ -4,7 +4,8 @@ use Rattle.std.specs.Io.KnownBytes.{Appends}
 use Rattle.std.proofs.KnownBytes.{Appends-trans}
 use Rattle.std.proofs.lemmas.Result.{on_ok_weaker}
 use Rattle.page_states.specs.declared.again.Way.{Way}
-use Rattle.page_states.specs.Rows.{again_text, ends_text, item_text, whole_text, within}
+use Rattle.page_states.specs.Nesting.{within}
+use Rattle.page_states.specs.Rows.{again_text, ends_text, item_text, whole_text}
 use Rattle.page_states.proofs.outline.write_item_as.Goals as goal
 
 pub returns-in_ok-end_lists_for-in-Again : goal.returns-in_ok-end_lists_for-in-Again

@@ -2,7 +2,8 @@ use Rattle.std.proofs.Common.{◌≡◌, ◌++◌, Bool, ap, subst, ◌∙◌}
 use Rattle.std.specs.Io.KnownBytes.{Appends}
 use Rattle.std.proofs.KnownBytes.{Appends-trans}
 use Rattle.std.proofs.lemmas.Result.{on_ok_weaker}
-use Rattle.page_states.specs.Rows.{folds, mark_text, row_begun, row_end, whole_text, within}
+use Rattle.page_states.specs.Nesting.{folds, within}
+use Rattle.page_states.specs.Rows.{mark_text, row_begun, row_end, whole_text}
 use Rattle.page_states.proofs.outline.write_row.Goals as goal
 
 pub returns : goal.returns

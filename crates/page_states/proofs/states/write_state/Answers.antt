@@ -1,10 +1,9 @@
-use Rattle.std.proofs.Common.{◌≡◌, List, map, sym, ap, subst, ◌∙◌}
+use Rattle.std.proofs.Common.{List, sym, ap, subst, ◌∙◌}
 use Rattle.std.specs.Prelude.{All, is_some}
 use Rattle.views.specs.ShownWorlds.{world_of}
 use Rattle.page_states.specs.declared.places.Place.{Place}
 use Rattle.page_states.specs.declared.rows.Row.{Row}
-use Rattle.page_states.specs.declared.rows.Shown.{Shown}
-use Rattle.page_states.specs.Again.{row_shown, AreLed, KeepsRows}
+use Rattle.page_states.specs.Again.{KeepsRows}
 use Rattle.page_states.specs.Boxes.{picture_frame}
 use Rattle.page_states.specs.Found.{IsPlaceIn}
 use Rattle.page_states.specs.States.{WritesRows}
