@@ -19,3 +19,7 @@ mod Kept
 mod PlacesAlike
 mod StatesAlike
 mod Subtrees
+mod LedAlike
+pub mod WrittenAlike
+pub mod TypedStates
+pub mod TypedEvents

@@ -1,5 +1,5 @@
 -- What is shown of a node is read off the outline of its world, and off the texts that may be shown.
-use Rattle.std.proofs.Common.{◌≡◌, ℕ, ◌-◌, ◌^◌, ◌==◌, Bool, false, cond, not, ◌&&◌, ◌||◌, List, [], ◌∷◌, ◌++◌, drop, length, map, min, Option, Some, None, codes, refl, sym, ap, ◌∙◌}
+use Rattle.std.proofs.Common.{◌≡◌, ℕ, ◌-◌, ◌^◌, ◌==◌, Bool, false, cond, not, ◌&&◌, ◌||◌, List, [], ◌∷◌, ◌++◌, drop, length, map, min, Option, Some, None, codes, inl, inr, refl, sym, ap, ◌∙◌}
 use Rattle.std.specs.Prelude.{find, is_none, is_some, option_and_then, option_map, slice_get, unwrap_or, if◌then◌else◌}
 use Rattle.std.specs.Option.{option_map_or}
 use Rattle.std.specs.List.{list_any}
@@ -38,7 +38,7 @@ use Rattle.page_states.specs.Pictures.{rect_text}
 use Rattle.page_states.specs.Places.{from_node, from_root, shown_nodes, IsPlace}
 use Rattle.page_states.specs.Rows.{focus_word, row_text, words_text}
 use Rattle.page_states.specs.Said.{caption_of, caption_shown, hidden_at, label_shown, node_label, row_texts, state_words}
-use Rattle.page_states.specs.ShownLaws.{LookAlike, TypingLooksTheSame}
+use Rattle.page_states.specs.ShownLaws.{LookAlike, MayDiffer, TypingLooksTheSame}
 use Rattle.page_states.specs.Written.{small_id, word_text}
 use Rattle.page_states.proofs.SaidAlike.{typing_says_the_same}
 
@@ -166,6 +166,27 @@ module _ (w : World) where
 
 -- ---- of two worlds
 
+-- the same is read of a node in both
+record ReadAlike (w v : World) (id : FullNodeId) : Type 0 where
+  pub row : said_row w id ≡ said_row v id
+  pub depth : depth_at w id ≡ depth_at v id
+  pub answer : common_filter w id ≡ common_filter v id
+  pub below : children w id ≡ children v id
+  pub left_out : is_not_drawn w id ≡ is_not_drawn v id
+  pub box : box_said w id ≡ box_said v id
+  pub text : text_said w id ≡ text_said v id
+
+read_in_one : (w v : World) → w ≡ v → (id : FullNodeId) → ReadAlike w v id
+read_in_one w v e id = record {
+  row = λ i. said_row (e i) id;
+  depth = λ i. depth_at (e i) id;
+  answer = λ i. common_filter (e i) id;
+  below = λ i. children (e i) id;
+  left_out = λ i. is_not_drawn (e i) id;
+  box = λ i. box_said (e i) id;
+  text = λ i. text_said (e i) id;
+}
+
 module _ (p : FullNodeId) (w v : World) (formed : IsFormed w) (alike : DifferInPassword p w v) (id : FullNodeId) where
   read_one : {A : Type 0} (of : World → A) → ((u : World) → of (outline u) ≡ of u) → of w ≡ of v
   read_one = one p w v formed alike
@@ -177,40 +198,49 @@ module _ (p : FullNodeId) (w v : World) (formed : IsFormed w) (alike : DifferInP
       (read_one (data_text (λ d. words_text (state_words d))) (λ u. texts_same u (λ d. words_text (state_words d)) (λ d. refl)) i id)
       (read_one focus_word focus_word_same i id) (read_one is_not_drawn not_drawn_same i id) (read_one is_hidden hidden_same i id) id
 
-  pub boxes_same : box_said w id ≡ box_said v id
+  boxes_same : box_said w id ≡ box_said v id
   boxes_same i = if read_one is_not_drawn not_drawn_same i id then None else read_one bounding_box box_same i id
 
-  pub text_same : text_said w id ≡ text_said v id
+  text_same : text_said w id ≡ text_said v id
   text_same i =
       if is_none ((typing_says_the_same p w v formed alike id).label i) && read_one begins_with_run begins_same i id then None
       else (typing_says_the_same p w v formed alike id).caption i
 
-  pub children_one : children w id ≡ children v id
-  children_one i = read_one children below_same i id
+  read_in_both : ReadAlike w v id
+  read_in_both = record {
+    row = rows_same;
+    depth = λ i. read_one depth_at depth_same i id;
+    answer = λ i. read_one common_filter common_same i id;
+    below = λ i. read_one children below_same i id;
+    left_out = λ i. read_one is_not_drawn not_drawn_same i id;
+    box = boxes_same;
+    text = text_same;
+  }
 
-  pub depths_one : depth_at w id ≡ depth_at v id
-  depths_one i = read_one depth_at depth_same i id
+read_alike : (p : FullNodeId) (w v : World) → IsFormed w → MayDiffer p w v → (id : FullNodeId) → ReadAlike w v id
+read_alike p w v formed (inl same) id = read_in_one w v same id
+read_alike p w v formed (inr alike) id = read_in_both p w v formed alike id
 
-  pub drawn_same : (frame : Option Frame) (mark : Option Mark) →
-      drawn_made frame (box_said w id) (common_filter w id) mark (is_leaf_at w id) (text_said w id)
-      ≡ drawn_made frame (box_said v id) (common_filter v id) mark (is_leaf_at v id) (text_said v id)
-  drawn_same frame mark i =
-      drawn_made frame (boxes_same i) (read_one common_filter common_same i id) mark (length (children_one i) == 0) (text_same i)
+drawn_alike : (w v : World) (id : FullNodeId) → ReadAlike w v id → (frame : Option Frame) (mark : Option Mark) →
+    drawn_made frame (box_said w id) (common_filter w id) mark (is_leaf_at w id) (text_said w id)
+    ≡ drawn_made frame (box_said v id) (common_filter v id) mark (is_leaf_at v id) (text_said v id)
+drawn_alike w v id read frame mark i = drawn_made frame (read.box i) (read.answer i) mark (length (read.below i) == 0) (read.text i)
 
-module _ (p : FullNodeId) (w v : World) (formed : IsFormed w) (alike : DifferInPassword p w v) (id : FullNodeId) where
+module _ (w v : World) (id : FullNodeId) (read : ReadAlike w v id) where
   -- of places of the two worlds
-  pub looks_at : (a b : Place) → IsPlace a → IsPlace b → world_at a.node ≡ w → world_at b.node ≡ v → id_at a.node ≡ id → id_at b.node ≡ id → LookAlike a b
+  looks_at : (a b : Place) → IsPlace a → IsPlace b → world_at a.node ≡ w → world_at b.node ≡ v → id_at a.node ≡ id → id_at b.node ≡ id → LookAlike a b
   looks_at a b is_a is_b at_w at_v a_is b_is = record {
     id = a_is ∙ sym b_is;
-    depth = is_a.depth ∙ (λ i. depth_at (at_w i) (a_is i)) ∙ depths_one p w v formed alike id ∙ sym (is_b.depth ∙ λ i. depth_at (at_v i) (b_is i));
-    answer = is_a.answer ∙ (λ i. common_filter (at_w i) (a_is i)) ∙ (λ i. read_one p w v formed alike id common_filter common_same i id) ∙ sym (is_b.answer ∙ λ i. common_filter (at_v i) (b_is i));
-    row = row_said a is_a ∙ (λ i. said_row (at_w i) (a_is i)) ∙ rows_same p w v formed alike id ∙ sym (row_said b is_b ∙ λ i. said_row (at_v i) (b_is i));
-    children = (λ i. children (at_w i) (a_is i)) ∙ children_one p w v formed alike id ∙ sym (λ i. children (at_v i) (b_is i));
-    box = box_is a is_a ∙ (λ i. box_said (at_w i) (a_is i)) ∙ boxes_same p w v formed alike id ∙ sym (box_is b is_b ∙ λ i. box_said (at_v i) (b_is i));
+    depth = is_a.depth ∙ (λ i. depth_at (at_w i) (a_is i)) ∙ read.depth ∙ sym (is_b.depth ∙ λ i. depth_at (at_v i) (b_is i));
+    answer = is_a.answer ∙ (λ i. common_filter (at_w i) (a_is i)) ∙ read.answer ∙ sym (is_b.answer ∙ λ i. common_filter (at_v i) (b_is i));
+    row = row_said a is_a ∙ (λ i. said_row (at_w i) (a_is i)) ∙ read.row ∙ sym (row_said b is_b ∙ λ i. said_row (at_v i) (b_is i));
+    children = (λ i. children (at_w i) (a_is i)) ∙ read.below ∙ sym (λ i. children (at_v i) (b_is i));
+    left_out = is_a.left_out ∙ (λ i. is_not_drawn (at_w i) (a_is i)) ∙ read.left_out ∙ sym (is_b.left_out ∙ λ i. is_not_drawn (at_v i) (b_is i));
+    box = box_is a is_a ∙ (λ i. box_said (at_w i) (a_is i)) ∙ read.box ∙ sym (box_is b is_b ∙ λ i. box_said (at_v i) (b_is i));
     drawn = λ frame mark.
         drawn_said a is_a frame
         ∙ (λ i. drawn_made frame (box_said (at_w i) (a_is i)) (common_filter (at_w i) (a_is i)) (mark i) (is_leaf_at (at_w i) (a_is i)) (text_said (at_w i) (a_is i)))
-        ∙ drawn_same p w v formed alike id frame b.mark
+        ∙ drawn_alike w v id read frame b.mark
         ∙ sym (drawn_said b is_b frame ∙ λ i. drawn_made frame (box_said (at_v i) (b_is i)) (common_filter (at_v i) (b_is i)) b.mark (is_leaf_at (at_v i) (b_is i)) (text_said (at_v i) (b_is i)));
   }
 
@@ -226,9 +256,10 @@ module _ (w : World) where
   shown_same : shown_nodes (outline w) ≡ shown_nodes w
   shown_same = roots_same (root_of w 0)
 
-pub nodes_one : (p : FullNodeId) (w v : World) → IsFormed w → DifferInPassword p w v → shown_nodes w ≡ shown_nodes v
-nodes_one p w v formed alike = one p w v formed alike shown_nodes shown_same
+pub nodes_one : (p : FullNodeId) (w v : World) → IsFormed w → MayDiffer p w v → shown_nodes w ≡ shown_nodes v
+nodes_one p w v formed (inl same) = ap shown_nodes same
+nodes_one p w v formed (inr alike) = one p w v formed alike shown_nodes shown_same
 
 pub typing_looks_the_same : TypingLooksTheSame
 typing_looks_the_same p w v formed alike a b is_a is_b at_w at_v same =
-    looks_at p w v formed alike (id_at b.node) a b is_a is_b at_w at_v same refl
+    looks_at w v (id_at b.node) (read_alike p w v formed alike (id_at b.node)) a b is_a is_b at_w at_v same refl

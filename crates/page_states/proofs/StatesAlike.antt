@@ -10,7 +10,6 @@ use Rattle.model.specs.Forest.{IsFormed}
 use Rattle.model.specs.World.{World}
 use Rattle.views.specs.Nodes.{world_at, id_at}
 use Rattle.views.specs.declared.node.node_ref.NodeRef.{NodeRef}
-use Rattle.hidden_texts.specs.Alike.{DifferInPassword}
 use Rattle.page_states.specs.declared.boxes.Frame.{Frame}
 use Rattle.page_states.specs.declared.places.Place.{Place}
 use Rattle.page_states.specs.declared.rows.Row.{Row}
@@ -19,7 +18,7 @@ use Rattle.page_states.specs.Boxes.{all_around, drawn_frame, frame_of, grown, lo
 use Rattle.page_states.specs.Drawn.{drawn_text}
 use Rattle.page_states.specs.Looks.{IsShownIn}
 use Rattle.page_states.specs.Places.{node_at, IsPlace}
-use Rattle.page_states.specs.ShownLaws.{LookAlike, RowsAlike, TypingShowsTheSame}
+use Rattle.page_states.specs.ShownLaws.{LookAlike, MayDiffer, RowsAlike, TypingShowsTheSame}
 use Rattle.page_states.specs.States.{place_of_row}
 use Rattle.page_states.proofs.StatesWritten.{all_mapped}
 use Rattle.page_states.proofs.PlacesAlike.{nodes_one, typing_looks_the_same}
@@ -60,7 +59,7 @@ pictures_alike rows lines h i =
 
 -- ---- rows
 
-module _ (p : FullNodeId) (w v : World) (formed : IsFormed w) (alike : DifferInPassword p w v) where
+module _ (p : FullNodeId) (w v : World) (formed : IsFormed w) (alike : MayDiffer p w v) where
   looks : (rows lines : List Row) → map row_id rows ≡ map row_id lines → All (λ row. IsPlace (place_of_row row)) rows → All (λ row. world_at (node_at (place_of_row row)) ≡ w) rows →
       All (λ row. IsPlace (place_of_row row)) lines → All (λ row. world_at (node_at (place_of_row row)) ≡ v) lines → AllZip AreLooks rows lines
   looks [] [] ids a b c d = tt

@@ -19,4 +19,6 @@ pub mod Sources
 pub mod States
 pub mod Subtrees
 pub mod Texts
+pub mod ToldLaws
 pub mod Written
+pub mod WrittenLaws

@@ -1,5 +1,5 @@
 -- What a page shows of a state doesn't depend on what is typed into a password.
-use Rattle.std.specs.Prelude.{◌≡◌, List, Option}
+use Rattle.std.specs.Prelude.{◌≡◌, ◌⊎◌, List, Option}
 use Rattle.std.specs.BTreeMap.{BTreeMap}
 use Rattle.std.specs.List.{AllZip}
 use Rattle.model.specs.declared.FullNodeId.{FullNodeId}
@@ -18,21 +18,26 @@ use Rattle.page_states.specs.Places.{box_drawn, IsPlace}
 use Rattle.page_states.specs.Rows.{row_text}
 use Rattle.page_states.specs.States.{AreRows}
 
+-- the same world, or one that differs at most in what is typed into this password
+abbrev pub MayDiffer : FullNodeId → World → World → Type 0
+MayDiffer p w v = (w ≡ v) ⊎ DifferInPassword p w v
+
 -- the same is shown of a node in two states: the same row at the same depth, the same box, and where it has the same mark, the same is
--- drawn of it
+-- drawn of it; and it is drawn in both or in neither
 pub record LookAlike (a b : Place) : Type 0 where
   pub id : id_at a.node ≡ id_at b.node
   pub depth : a.depth ≡ b.depth
   pub answer : a.answer ≡ b.answer
   pub row : row_text a ≡ row_text b
   pub children : children_at a ≡ children_at b
+  pub left_out : a.is_left_out ≡ b.is_left_out
   pub box : box_drawn a ≡ box_drawn b
   pub drawn : (frame : Option Frame) → a.mark ≡ b.mark → drawn_text frame a ≡ drawn_text frame b
 
 -- so it is of a node of two worlds that differ at most in what is typed into a password
 abbrev pub TypingLooksTheSame : Type 0
 TypingLooksTheSame =
-    (p : FullNodeId) (w v : World) → IsFormed w → DifferInPassword p w v → (a b : Place) → IsPlace a → IsPlace b
+    (p : FullNodeId) (w v : World) → IsFormed w → MayDiffer p w v → (a b : Place) → IsPlace a → IsPlace b
     → world_at a.node ≡ w → world_at b.node ≡ v → id_at a.node ≡ id_at b.node → LookAlike a b
 
 -- the rows of two states have the same texts and children, and the same is drawn of a node that has the same mark in both
@@ -45,6 +50,6 @@ pub record RowsAlike (r s : Row) : Type 0 where
 -- the outlines and the pictures of two such worlds show the same nodes in the same order, and the pictures have the same frame
 abbrev pub TypingShowsTheSame : Type 0
 TypingShowsTheSame =
-    (p : FullNodeId) (w v : World) → IsFormed w → DifferInPassword p w v → (marks others : BTreeMap FullNodeId Mark)
+    (p : FullNodeId) (w v : World) → IsFormed w → MayDiffer p w v → (marks others : BTreeMap FullNodeId Mark)
     (kept known : BTreeMap FullNodeId Last) (frame field : Option Frame) (rows lines : List Row) → AreRows w marks kept frame rows →
     AreRows v others known field lines → (frame ≡ field) × AllZip RowsAlike rows lines
