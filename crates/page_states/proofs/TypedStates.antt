@@ -22,15 +22,12 @@ use Rattle.page_states.specs.Places.{HasMark}
 use Rattle.page_states.specs.ShownLaws.{MayDiffer, RowsAlike}
 use Rattle.page_states.specs.States.{place_of_row, WritesRows}
 use Rattle.page_states.specs.WrittenLaws.{HaveSame, MarkAlike, TypingWritesTheSame}
-use Rattle.page_states.proofs.LedAlike.{same_ways, IsSameRow, IsSameShown}
+use Rattle.page_states.proofs.LedAlike.{same_ways, AreShownSame, IsSameRow, IsSameShown}
 use Rattle.page_states.proofs.StatesAlike.{typing_shows_the_same}
 use Rattle.page_states.proofs.WrittenAlike.{appended, keeps_same, outlines_same, pictures_same}
 
 abbrev Bytes : Type 0
 Bytes = Option (List ℕ)
-
-abbrev AreShownSame : Row → Row → Type 0
-AreShownSame r s = IsSameShown r.shown s.shown
 
 pub outlines_one : (p : FullNodeId) (w v : World) → MayDiffer p w v → outline w ≡ outline v
 outlines_one p w v (inl same) = ap outline same
