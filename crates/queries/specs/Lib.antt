@@ -1,3 +1,4 @@
 pub mod Found
+pub mod Messages
 pub mod Near
 pub mod Outcomes

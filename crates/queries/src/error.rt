@@ -1,10 +1,12 @@
 //! Why a query didn't find its node, with what helps to find it.
-ghost use Rattle.std.specs.Prelude.{◌≡◌, IfOk};
+ghost use Rattle.std.specs.Prelude.{◌≡◌, IfOk, Some, flat_map, option_map, string_bytes};
 ghost use Rattle.queries.specs.declared.error.QueryError.TheVariants.{Memory};
+ghost use Rattle.queries.specs.Messages.{what_text, asked_text, sought_text, spaced_label, spaced_role, spaced_id, near_text, error_text};
 ghost use Rattle.queries.specs.Outcomes.{IsCopy, Tells};
 
 use crate::by::Wanted;
 use accesskit_consumer::node::FullNodeId;
+use phrases::Quoted;
 use schema::Role;
 use std::alloc::{AllocError, Global};
 use std::error::Error;
@@ -81,63 +83,148 @@ impl Sought {
     }
 }
 
-/// Writes ` NAME "TEXT"` if there is such a text.
-fn write_asked<W: fmt::Write>(
-    f: &mut fmt::Formatter<W>,
-    name: &str,
-    text: &Option<String>,
-) -> fmt::Result {
-    match text {
-        Some(text) => write!(f, ", {name} {text:?}"),
-        None => Ok(()),
+/// The name of a role, or `node` if none is asked for.
+#[derive(Clone, Copy)]
+struct What(Option<Role>);
+
+impl fmt::Display for What {
+    ghost output = { λ s. Some (what_text s.0) };
+
+    fn fmt<W: fmt::Write>(&self, f: &mut fmt::Formatter<W>) -> fmt::Result {
+        match self.0 {
+            Some(role) => write!(f, "{role}"),
+            None => f.write_str("node"),
+        }
+    }
+}
+
+/// A text in quotes with a word for what it is, after a comma, if there is one.
+#[derive(Clone, Copy)]
+struct Asked<'a> {
+    what: &'static str,
+    text: &'a Option<String>,
+}
+
+impl fmt::Display for Asked<'_> {
+    ghost output = { λ s. Some (asked_text s.what.now (option_map string_bytes s.text.now)) };
+
+    fn fmt<W: fmt::Write>(&self, f: &mut fmt::Formatter<W>) -> fmt::Result {
+        match self.text {
+            Some(text) => {
+                let what = self.what;
+                let text = Quoted(text.as_str());
+                write!(f, ", {what} {text}")
+            }
+            None => Ok(()),
+        }
     }
 }
 
 impl fmt::Display for Sought {
+    ghost output = { λ s. Some (sought_text s) };
+
     fn fmt<W: fmt::Write>(&self, f: &mut fmt::Formatter<W>) -> fmt::Result {
-        match self.role {
-            Some(role) => write!(f, "{role}")?,
-            None => f.write_str("node")?,
+        let what = What(self.role);
+        let label = Asked {
+            what: "label",
+            text: &self.label,
+        };
+        let part = Asked {
+            what: "label with",
+            text: &self.label_part,
+        };
+        let text = Asked {
+            what: "text",
+            text: &self.text,
+        };
+        let value = Asked {
+            what: "value",
+            text: &self.value,
+        };
+        let description = Asked {
+            what: "description",
+            text: &self.description,
+        };
+        write!(f, "{what}{label}{part}{text}{value}{description}")
+    }
+}
+
+/// Labels in quotes, each after a space.
+#[derive(Clone, Copy)]
+struct SpacedLabels<'a>(&'a [String]);
+
+impl fmt::Display for SpacedLabels<'_> {
+    ghost output = { λ s. Some (flat_map spaced_label s.0.now) };
+
+    fn fmt<W: fmt::Write>(&self, f: &mut fmt::Formatter<W>) -> fmt::Result {
+        for label in self.0 {
+            let label = Quoted(label.as_str());
+            write!(f, " {label}")?;
         }
-        write_asked(f, "label", &self.label)?;
-        write_asked(f, "label with", &self.label_part)?;
-        write_asked(f, "text", &self.text)?;
-        write_asked(f, "value", &self.value)?;
-        write_asked(f, "description", &self.description)
+        Ok(())
+    }
+}
+
+/// Roles, each after a space.
+#[derive(Clone, Copy)]
+struct SpacedRoles<'a>(&'a [Role]);
+
+impl fmt::Display for SpacedRoles<'_> {
+    ghost output = { λ s. Some (flat_map spaced_role s.0.now) };
+
+    fn fmt<W: fmt::Write>(&self, f: &mut fmt::Formatter<W>) -> fmt::Result {
+        for role in self.0 {
+            let role = *role;
+            write!(f, " {role}")?;
+        }
+        Ok(())
+    }
+}
+
+/// The numbers of nodes, each after a space.
+#[derive(Clone, Copy)]
+struct SpacedIds<'a>(&'a [FullNodeId]);
+
+impl fmt::Display for SpacedIds<'_> {
+    ghost output = { λ s. Some (flat_map spaced_id s.0.now) };
+
+    fn fmt<W: fmt::Write>(&self, f: &mut fmt::Formatter<W>) -> fmt::Result {
+        for id in self.0 {
+            let node = id.node;
+            write!(f, " {node}")?;
+        }
+        Ok(())
     }
 }
 
 impl fmt::Display for Near {
+    ghost output = { λ s. Some (near_text s) };
+
     fn fmt<W: fmt::Write>(&self, f: &mut fmt::Formatter<W>) -> fmt::Result {
         match self {
             Near::Labels(labels) => {
-                f.write_str("the labels of this role are")?;
-                for label in labels {
-                    write!(f, " {label:?}")?;
-                }
-                Ok(())
+                let labels = SpacedLabels(labels);
+                write!(f, "the labels of this role are{labels}")
             }
             Near::Roles(roles) => {
-                f.write_str("the roles are")?;
-                for role in roles {
-                    write!(f, " {role}")?;
-                }
-                Ok(())
+                let roles = SpacedRoles(roles);
+                write!(f, "the roles are{roles}")
             }
         }
     }
 }
 
+/// Says in one line what was asked for, and what there is in its place.
 impl fmt::Display for QueryError {
+    ghost output = { λ s. Some (error_text s) };
+
     fn fmt<W: fmt::Write>(&self, f: &mut fmt::Formatter<W>) -> fmt::Result {
         match self {
             QueryError::NotFound { sought, near } => write!(f, "no {sought}; {near}"),
             QueryError::Several { sought, found } => {
-                write!(f, "{} nodes fit {sought}:", found.len())?;
-                for id in found {
-                    write!(f, " {}", id.node)?;
-                }
-                Ok(())
+                let count = found.len();
+                let ids = SpacedIds(found);
+                write!(f, "{count} nodes fit {sought}:{ids}")
             }
             QueryError::Memory => f.write_str("memory ran out"),
         }
