@@ -63,6 +63,15 @@ def documents(count, last="TextRun", between="Document", beside="", upward=False
         yield f'node {ids[-1]} {last} value="{text}"{" chars=1" if last == "TextRun" else ""}\nend\n'
 
 
+def toolbars(count, beside=""):
+    """A chain of toolbars, each labelled by the deepest node, a button. A password may be beside the first."""
+    yield f"update root focus=0 root=0\nnode 0 Window label=\"App\" children=1{f',{count + 1}' if beside else ''}\n"
+    yield from (f"node {id} Toolbar labelled={count} children={id + 1}\n" for id in range(1, count))
+    yield f'node {count} Button label="Deep"\n'
+    yield f'node {count + 1} {beside} value="a"\n' if beside else ""
+    yield "end\n"
+
+
 # Scripts of which `deep_pages.py` makes pages.
 DEEP = {
     "relabelled": relabelled,

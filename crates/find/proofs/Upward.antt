@@ -1,10 +1,11 @@
 -- The nodes from one up to the root, and their names.
 use Rattle.std.proofs.Common.{◌≡◌, ℕ, List, [], ◌∷◌, ◌++◌, Option, Some, None, map, append_assoc, append-nil, refl, sym, ap, subst, ◌∙◌}
-use Rattle.std.specs.Prelude.{codes, flat_map, reverse}
+use Rattle.std.specs.Prelude.{All, codes, flat_map, reverse}
 use Rattle.std.specs.Option.{option_map_or}
 use Rattle.std.specs.Io.KnownBytes.{Appends}
 use Rattle.std.proofs.KnownBytes.{Appends-nil, Appends-trans}
 use Rattle.std.proofs.lemmas.List.{map-append, reverse-append}
+use Rattle.std.proofs.lemmas.List.Elements.{All-nil, All-cons, All-head, All-tail}
 use Rattle.std.proofs.lemmas.List.Folds.{flat_map-map}
 use Rattle.schema.specs.NodeData.{NodeData}
 use Rattle.role_names.specs.Names.{shown_name}
@@ -17,8 +18,10 @@ use Rattle.views.specs.Nodes.{world_at, id_at, data_at}
 use Rattle.views.specs.PlainWalks.{node_in, node_of}
 use Rattle.views.proofs.Climbing.{parent_of, parent_above, nothing_above, data_shown}
 use Rattle.views.proofs.Reversed.{map_reverse}
+use Rattle.hidden_texts.specs.declared.passwords.Passwords.{Passwords}
+use Rattle.hidden_texts.specs.Known.{AreRight}
 use Rattle.find.specs.Printed.{label_text, role_at, name_text, names_text}
-use Rattle.find.specs.Viewed.{name_seen, later_seen, names_seen}
+use Rattle.find.specs.Viewed.{name_seen, later_seen, names_seen, IsKnownOf}
 
 -- ---- the climb
 
@@ -80,6 +83,28 @@ names_down w nodes ids e = names_of w (reverse nodes) (reverse ids) (map_reverse
 
 pub last_taken : {A : Type 0} (old new : List A) (x : A) → old ≡ new ++ x ∷ [] → reverse old ≡ x ∷ reverse new
 last_taken old new x e = ap reverse e ∙ reverse-append new (x ∷ [])
+
+-- what holds of each holds of the last and of the others
+pub record IsSplit {A : Type 0} (P : A → Type 0) (new : List A) (x : A) : Type 0 where
+  pub last : P x
+  pub others : All P new
+
+pub last_known : {A : Type 0} (P : A → Type 0) (old new : List A) (x : A) → old ≡ new ++ x ∷ [] → All P old → IsSplit P new x
+last_known {A} P old new x e all = go new (subst (All P) e all)
+  where
+    go : (ys : List A) → All P (ys ++ x ∷ []) → IsSplit P ys x
+    go [] h = record { last = All-head P x [] h; others = All-nil P }
+    go (y ∷ ys) h = let rest : IsSplit P ys x = go ys (All-tail P y (ys ++ x ∷ []) h) in record { last = rest.last; others = All-cons P y ys (All-head P y (ys ++ x ∷ []) h) rest.others }
+
+-- what is known of a world is known of each of its nodes
+pub nodes_known : (passwords : Passwords) (w : World) (nodes : List NodeRef) (ids : List FullNodeId) → map node_of nodes ≡ map (node_in w) ids → AreRight w passwords → All (IsKnownOf passwords) nodes
+nodes_known passwords w [] ids e right = All-nil (IsKnownOf passwords)
+nodes_known passwords w (n ∷ nodes) [] e right = absurd (let clash : node_of n ∷ map node_of nodes ≡ [] = e in cc)
+nodes_known passwords w (n ∷ nodes) (id ∷ ids) e right =
+    let same : node_of n ∷ map node_of nodes ≡ node_in w id ∷ map (node_in w) ids = e in
+    let first : node_of n ≡ node_in w id = cc in
+    let others : map node_of nodes ≡ map (node_in w) ids = cc in
+    All-cons (IsKnownOf passwords) n nodes (subst (λ v. AreRight v passwords) (sym (ap (λ (p : World × FullNodeId). p.0) first)) right) (nodes_known passwords w nodes ids others right)
 
 -- what is written of the nodes before those that are left
 pub record AreWritten (before now : Option (List ℕ)) (all left : List NodeRef) : Type 0 where

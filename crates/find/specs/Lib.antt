@@ -1,4 +1,5 @@
 pub mod Found
+pub mod Free
 pub mod Given
 pub mod Laws
 pub mod Middle

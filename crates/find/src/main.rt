@@ -5,6 +5,7 @@ mod given;
 mod manual;
 mod report;
 mod search;
+mod shown;
 mod wanted;
 
 use crate::manual::MANUAL;

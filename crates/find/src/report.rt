@@ -6,13 +6,14 @@ ghost use Rattle.std.specs.Prelude.{◌≡◌, OnOk};
 ghost use Rattle.std.specs.Io.KnownBytes.{Appends};
 ghost use Rattle.model.specs.Geometry.{bounding_box};
 ghost use Rattle.views.specs.Nodes.{world_at, id_at};
+ghost use Rattle.hidden_texts.specs.Known.{AreRight};
 ghost use Rattle.find.specs.Printed.{value_line, place_text, hit_text, middle_line, sides_line, box_text, node_text};
 
 use self::middle::at_middle;
 use self::names::{write_name, write_path};
 use accesskit_consumer::node::NodeRef;
 use atree_script::{ShownId, Stop, write_sides, write_text};
-use hidden_texts::{hides_value, is_in_password, shown_value};
+use hidden_texts::{Passwords, hides_value, shown_value};
 use model::is_same;
 use schema::WideRect;
 use std::alloc::Global;
@@ -21,19 +22,21 @@ use std::io::{self, Write};
 /// Prints a node below the top: its id, value, path and bounds, and the node at its centre.
 pub(crate) fn report<O: Write>(
     alloc: Global,
+    passwords: &Passwords,
     top: NodeRef,
     node: NodeRef,
     out: &mut O,
 ) -> Result<(), Stop>
-    requires { world_at node ≡ world_at top }
+    requires world { world_at node ≡ world_at top }
+    requires known { AreRight (world_at node) passwords.now }
     ensures { let w = world_at node.entry in
         OnOk result (Appends (O.contents out.old) (O.contents out.new) (node_text w (id_at top.entry) (id_at node.entry))) }
 {
     let id = ShownId(node.id());
     writeln!(out, "{id}")?;
     write_value(alloc, node, out)?;
-    write_path(alloc, node, out)?;
-    write_box(alloc, top, node, out)
+    write_path(alloc, passwords, node, out)?;
+    write_box(alloc, passwords, top, node, out)
 }
 
 /// Writes the node's value, or that it is hidden.
@@ -51,8 +54,15 @@ fn write_value<O: Write>(alloc: Global, node: NodeRef, out: &mut O) -> Result<()
 }
 
 /// Writes the node's bounds, and which node is at their centre.
-fn write_box<O: Write>(alloc: Global, top: NodeRef, node: NodeRef, out: &mut O) -> Result<(), Stop>
-    requires { world_at node ≡ world_at top }
+fn write_box<O: Write>(
+    alloc: Global,
+    passwords: &Passwords,
+    top: NodeRef,
+    node: NodeRef,
+    out: &mut O,
+) -> Result<(), Stop>
+    requires world { world_at node ≡ world_at top }
+    requires known { AreRight (world_at node) passwords.now }
     ensures { let w = world_at node.entry in let id = id_at node.entry in
         OnOk result (Appends (O.contents out.old) (O.contents out.new) (box_text w (id_at top.entry) id (bounding_box w id))) }
 {
@@ -61,7 +71,7 @@ fn write_box<O: Write>(alloc: Global, top: NodeRef, node: NodeRef, out: &mut O) 
         return Ok(());
     };
     write_bounds(bounds, out)?;
-    write_middle(alloc, top, node, bounds, out)
+    write_middle(alloc, passwords, top, node, bounds, out)
 }
 
 /// Writes the line of the bounds' sides.
@@ -76,12 +86,14 @@ fn write_bounds<O: Write>(bounds: WideRect, out: &mut O) -> io::Result<()>
 /// Writes which node is at the centre of the node: the node itself, another one within it, one that covers it, or none.
 fn write_middle<O: Write>(
     alloc: Global,
+    passwords: &Passwords,
     top: NodeRef,
     node: NodeRef,
     bounds: WideRect,
     out: &mut O,
 ) -> Result<(), Stop>
-    requires { world_at node ≡ world_at top }
+    requires world { world_at node ≡ world_at top }
+    requires known { AreRight (world_at node) passwords.now }
     ensures { let w = world_at node.entry in
         OnOk result (Appends (O.contents out.old) (O.contents out.new) (middle_line w (id_at top.entry) (id_at node.entry) bounds)) }
 {
@@ -90,12 +102,19 @@ fn write_middle<O: Write>(
         out.write_all(b"none\n")?;
         return Ok(());
     };
-    write_hit(alloc, node, hit, out)
+    write_hit(alloc, passwords, node, hit, out)
 }
 
 /// Writes which node it is.
-fn write_hit<O: Write>(alloc: Global, node: NodeRef, hit: NodeRef, out: &mut O) -> Result<(), Stop>
-    requires { world_at hit ≡ world_at node }
+fn write_hit<O: Write>(
+    alloc: Global,
+    passwords: &Passwords,
+    node: NodeRef,
+    hit: NodeRef,
+    out: &mut O,
+) -> Result<(), Stop>
+    requires world { world_at hit ≡ world_at node }
+    requires known { AreRight (world_at hit) passwords.now }
     ensures { let w = world_at node.entry in
         OnOk result (Appends (O.contents out.old) (O.contents out.new) (hit_text w (id_at node.entry) (id_at hit.entry))) }
 {
@@ -106,7 +125,7 @@ fn write_hit<O: Write>(alloc: Global, node: NodeRef, hit: NodeRef, out: &mut O) 
     let how = place_of(node, hit);
     let id = ShownId(hit.id());
     write!(out, "{how} {id}")?;
-    write_name(alloc, hit, is_in_password(&hit), out)?;
+    write_name(alloc, passwords, hit, out)?;
     out.write_all(b"\n")?;
     Ok(())
 }

@@ -8,17 +8,20 @@ ghost use Rattle.views.specs.Descendants.{filtered_descendants};
 ghost use Rattle.views.specs.declared.node.node_ref.NodeRef.{NodeRef as ANode};
 ghost use Rattle.views.specs.Nodes.{world_at, id_at};
 ghost use Rattle.views.specs.ShownWorlds.{world_of};
+ghost use Rattle.hidden_texts.specs.Known.{AreRight};
 ghost use Rattle.find.specs.Found.{shown_from, is_labelled, is_wanted, found};
+ghost use Rattle.find.specs.Free.{AreFree};
 ghost use Rattle.find.specs.Laws.{TypingPrintsTheSame};
 ghost use Rattle.find.specs.Printed.{node_text, nodes_text};
 
 use crate::report::report;
+use crate::shown::Free;
 use crate::wanted::Wanted;
-use accesskit_consumer::filters::{FilterResult, common_filter};
+use accesskit_consumer::filters::FilterResult;
 use accesskit_consumer::node::{FullNodeId, NodeRef};
 use accesskit_consumer::tree::StateRef;
 use atree_script::Stop;
-use hidden_texts::shown_label;
+use hidden_texts::Passwords;
 use std::alloc::{AllocError, Global};
 use std::io::Write;
 
@@ -41,19 +44,22 @@ pub(crate) fn tell_found<O: Write>(
     ensures one { let label = option_map string_bytes wanted.now.label in
         IfOk result (λ is_one. is_one ≡ (length (found wanted.now.role label (world_at top.entry) (id_at top.entry)) == 1)) }
 {
-    let ids = found_ids(alloc, top, wanted)?;
-    write_nodes(alloc, top, &ids, output)?;
+    let passwords = Passwords::below(alloc, top)?;
+    let ids = found_ids(alloc, &passwords, top, wanted)?;
+    write_nodes(alloc, &passwords, top, &ids, output)?;
     Ok(ids.len() == 1)
 }
 
 /// Prints each of these nodes, or `none`.
 fn write_nodes<O: Write>(
     alloc: Global,
+    passwords: &Passwords,
     top: NodeRef,
     ids: &[FullNodeId],
     output: &mut O,
 ) -> Result<(), Stop>
-    requires { All (λ id. IsNode (world_at top) id) ids.now }
+    requires nodes { All (λ id. IsNode (world_at top) id) ids.now }
+    requires known { AreRight (world_at top) passwords.now }
     ensures { OnOk result (Appends (O.contents output.old) (O.contents output.new)
         (nodes_text (world_at top.entry) (id_at top.entry) ids.now)) }
 {
@@ -62,7 +68,7 @@ fn write_nodes<O: Write>(
         return Ok(());
     }
     for id in ids {
-        write_found(alloc, top, *id, output)?;
+        write_found(alloc, passwords, top, *id, output)?;
     }
     Ok(())
 }
@@ -70,26 +76,34 @@ fn write_nodes<O: Write>(
 /// Prints a node.
 fn write_found<O: Write>(
     alloc: Global,
+    passwords: &Passwords,
     top: NodeRef,
     id: FullNodeId,
     output: &mut O,
 ) -> Result<(), Stop>
-    requires { IsNode (world_at top) id }
+    requires node { IsNode (world_at top) id }
+    requires known { AreRight (world_at top) passwords.now }
     ensures { OnOk result (Appends (O.contents output.old) (O.contents output.new) (node_text (world_at top.entry) (id_at top.entry) id)) }
 {
     let node = top.tree_state().node_by_id(id).unwrap();
-    report(alloc, top, node, output)
+    report(alloc, passwords, top, node, output)
 }
 
 /// The ids of the matching nodes, from the top on.
-fn found_ids(alloc: Global, top: NodeRef, wanted: &Wanted) -> Result<Vec<FullNodeId>, AllocError>
+fn found_ids(
+    alloc: Global,
+    passwords: &Passwords,
+    top: NodeRef,
+    wanted: &Wanted,
+) -> Result<Vec<FullNodeId>, AllocError>
+    requires { AreRight (world_at top) passwords.now }
     ensures { let label = option_map string_bytes wanted.now.label in
         IfOk result (λ ids. ids.items ≡ found wanted.now.role label (world_at top.entry) (id_at top.entry)) }
 {
     let shown = shown_ids(alloc, top)?;
     let mut ids = Vec::new(alloc);
     for id in &shown {
-        if is_wanted(alloc, top.tree_state(), *id, wanted)? {
+        if is_wanted(alloc, passwords, top.tree_state(), *id, wanted)? {
             ids.push(*id)?;
         }
     }
@@ -100,19 +114,21 @@ fn found_ids(alloc: Global, top: NodeRef, wanted: &Wanted) -> Result<Vec<FullNod
 fn shown_ids(alloc: Global, top: NodeRef) -> Result<Vec<FullNodeId>, AllocError>
     ensures { IfOk result (λ ids. ids.items ≡ shown_from (world_at top.entry) (id_at top.entry)) }
 {
-    let mut ids = ids_below(alloc, top)?;
-    if common_filter(&top) == FilterResult::Include {
+    let free = Free::below(alloc, top)?;
+    let mut ids = ids_below(alloc, &free, top)?;
+    if free.answer(&top) == FilterResult::Include {
         ids.insert(0, top.id())?;
     }
     Ok(ids)
 }
 
 /// The ids of the nodes that the common filter shows below the top.
-fn ids_below(alloc: Global, top: NodeRef) -> Result<Vec<FullNodeId>, AllocError>
+fn ids_below(alloc: Global, free: &Free, top: NodeRef) -> Result<Vec<FullNodeId>, AllocError>
+    requires { AreFree (world_at top) free.now }
     ensures { let w = world_at top.entry in
         IfOk result (λ ids. ids.items ≡ filtered_descendants (common w) w (id_at top.entry)) }
 {
-    let shown = move |shown: &NodeRef<'_>| common_filter(shown);
+    let shown = |node: &NodeRef<'_>| free.answer(node);
     ids_of(alloc, top.filtered_descendants(shown))
 }
 
@@ -135,10 +151,12 @@ fn ids_of<'a, W: Iterator<Item = NodeRef<'a>> + Drop>(
 /// Whether the node exists and has the role, and the label if one is given.
 fn is_wanted(
     alloc: Global,
+    passwords: &Passwords,
     state: StateRef,
     id: FullNodeId,
     wanted: &Wanted,
 ) -> Result<bool, AllocError>
+    requires { AreRight (world_of state) passwords.now }
     ensures { let label = option_map string_bytes wanted.now.label in
         IfOk result (λ is. is ≡ is_wanted wanted.now.role label (world_of state.entry) id) }
 {
@@ -148,18 +166,24 @@ fn is_wanted(
     if node.role() != wanted.role {
         return Ok(false);
     }
-    is_labelled(alloc, node, wanted)
+    is_labelled(alloc, passwords, node, wanted)
 }
 
 /// Whether the node shows the label, if one is given. A hidden label is never found.
-fn is_labelled(alloc: Global, node: NodeRef, wanted: &Wanted) -> Result<bool, AllocError>
+fn is_labelled(
+    alloc: Global,
+    passwords: &Passwords,
+    node: NodeRef,
+    wanted: &Wanted,
+) -> Result<bool, AllocError>
+    requires { AreRight (world_at node) passwords.now }
     ensures { let label = option_map string_bytes wanted.now.label in
         IfOk result (λ is. is ≡ is_labelled label (world_at node.entry) (id_at node.entry)) }
 {
     let Some(sought) = &wanted.label else {
         return Ok(true);
     };
-    let Some(own) = shown_label(alloc, &node)? else {
+    let Some(own) = passwords.shown_label(alloc, &node)? else {
         return Ok(false);
     };
     Ok(sought.as_str() == own.as_str())

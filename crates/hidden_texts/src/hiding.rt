@@ -118,7 +118,7 @@ fn hides_part(node: &NodeRef, known: Option<&Passwords>) -> bool
 }
 
 /// Whether the part of one of these nodes may show it.
-pub(crate) fn has_hidden_part(labels: LabelledBy<'_>, known: Option<&Passwords>) -> bool
+fn has_hidden_part(labels: LabelledBy<'_>, known: Option<&Passwords>) -> bool
     requires { All (IsKnownAt known) (labels_left labels) }
     ensures { result ≡ list_any hides_part_of (labels_left labels.entry) }
 {

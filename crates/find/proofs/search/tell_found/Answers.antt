@@ -6,8 +6,8 @@ use Rattle.find.specs.Found.{found}
 use Rattle.find.proofs.FoundNodes.{found_are_nodes}
 use Rattle.find.proofs.search.tell_found.Goals as goal
 
-pub write_nodes-requires : goal.write_nodes-requires
-write_nodes-requires g c =
+pub write_nodes-requires-clause-nodes : goal.write_nodes-requires-clause-nodes
+write_nodes-requires-clause-nodes g c =
     let role = c.args.wanted.now.role in
     let label = option_map string_bytes c.args.wanted.now.label in
     let w = world_at c.args.top in

@@ -6,7 +6,6 @@ use Rattle.views.specs.Nodes.{world_at, id_at}
 use Rattle.views.specs.PlainWalks.{node_in, node_of}
 use Rattle.views.proofs.Climbing.{parent_of, climb_is_shorter}
 use Rattle.find.proofs.Upward.{climbs, climbed_all}
-use Rattle.find.proofs.Ways.{whole_way}
 use Rattle.find.proofs.report.names.nodes_upward.Goals as goal
 
 pub loop-parent-init : goal.loop-parent-init
@@ -36,18 +35,9 @@ loop-parent-preserved c =
           ∙ climbs w formed c.loop-parent.nodes.items n q (map (node_in w) (upward w (id_at c.args.node))) same parent c.loop-parent.invariant.all;
     }
 
-pub returns-clause-nodes : goal.returns-clause-nodes
-returns-clause-nodes c =
+pub returns : goal.returns
+returns c =
     let w = world_at c.args.node in
     let n = c.loop-parent.current in
     climbed_all w (subst IsFormed c.tree_state.ensures c.know.ensures.formed) c.loop-parent.nodes.items n (map (node_in w) (upward w (id_at c.args.node)))
     (c.in_default.ensures.node ∙ ap (λ v. parent_of v (id_at n)) c.loop-parent.invariant.world) c.loop-parent.invariant.all
-
-pub returns-clause-way : goal.returns-clause-way
-returns-clause-way c =
-    let w = world_at c.args.node in
-    let n = c.loop-parent.current in
-    let formed = subst IsFormed c.tree_state.ensures c.know.ensures.formed in
-    whole_way w (id_at c.args.node) c.loop-parent.nodes.items formed
-    (climbed_all w formed c.loop-parent.nodes.items n (map (node_in w) (upward w (id_at c.args.node)))
-    (c.in_default.ensures.node ∙ ap (λ v. parent_of v (id_at n)) c.loop-parent.invariant.world) c.loop-parent.invariant.all)

@@ -1,20 +1,17 @@
 use Rattle.std.proofs.Common.{sym, ap, subst}
-use Rattle.std.specs.Prelude.{false, flat_map, reverse}
+use Rattle.std.specs.Prelude.{flat_map, reverse}
 use Rattle.std.specs.Io.KnownBytes.{Appends}
 use Rattle.std.proofs.KnownBytes.{Appends-trans}
 use Rattle.std.proofs.lemmas.Result.{on_ok_weaker}
-use Rattle.find.specs.Viewed.{name_seen, later_seen, names_seen, IsWayDown}
-use Rattle.find.proofs.Upward.{last_taken}
-use Rattle.find.proofs.Ways.{goes_down, below_root}
+use Rattle.find.specs.Viewed.{name_seen, later_seen, names_seen, IsKnownOf}
+use Rattle.find.proofs.Upward.{last_taken, last_known}
 use Rattle.find.proofs.report.names.write_names.Goals as goal
 
 pub write_name-requires : goal.write_name-requires
-write_name-requires g c = (goes_down c.args.nodes.items c.pop.new.self.items c.in-Some.root false c.in-Some.ensures.items c.requires).within
+write_name-requires g c = (last_known (IsKnownOf c.args.passwords.now) c.args.nodes.items c.pop.new.self.items c.in-Some.root c.in-Some.ensures.items c.requires).last
 
 pub write_later-requires : goal.write_later-requires
-write_later-requires g c =
-    let left = c.pop.new.self.items in
-    subst (IsWayDown left) (sym c.is_password_input.ensures) (below_root left c.in-Some.root (goes_down c.args.nodes.items left c.in-Some.root false c.in-Some.ensures.items c.requires))
+write_later-requires g c = (last_known (IsKnownOf c.args.passwords.now) c.args.nodes.items c.pop.new.self.items c.in-Some.root c.in-Some.ensures.items c.requires).others
 
 pub returns : goal.returns
 returns g c =
