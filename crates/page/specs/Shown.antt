@@ -1,18 +1,22 @@
 -- What a page shows of a script, command by command.
-use Rattle.std.specs.Prelude.{◌≡◌, ◌⊎◌, ℕ, List, [], ◌∷◌, ◌++◌, MatchOption, MatchResult, Result, Ok, ⊤}
+use Rattle.std.specs.Prelude.{◌≡◌, ◌⊎◌, ℕ, List, [], ◌∷◌, ◌++◌, MatchOption, MatchResult, Result, Ok}
+use Rattle.std.specs.BTreeMap.{BTreeMap, IsEmpty}
 use Rattle.std.specs.Io.KnownBytes.{Appends, Keeps}
 use Rattle.atree_script.specs.Input.{Commented, start_of}
 use Rattle.atree_script.specs.declared.playing.Played.{Played}
 use Rattle.atree_script.specs.Playing.{Turn, Begun as TreeBegun, FirstRefused, Ran, Asked, Printed, Stage, no_tree, Plays}
 use Rattle.atree_script.specs.Reports.{report_line}
 use Rattle.atree_script.specs.Scripts.{Writes}
+use Rattle.model.specs.declared.FullNodeId.{FullNodeId}
 use Rattle.model.specs.World.{World}
 use Rattle.script_lines.specs.Ends.{Tells, status_at_end}
 use Rattle.script_words.specs.declared.stops.Stop.{Stop}
 use Rattle.script_words.specs.declared.stops.Stop.TheVariants.{WriteFault}
 use Rattle.session.specs.declared.commands.Command.{Command}
+use Rattle.page_states.specs.declared.again.Last.{Last}
 use Rattle.page_states.specs.declared.faults.Fault.{Fault}
 use Rattle.page_states.specs.Faults.{stop_of}
+use Rattle.page_states.specs.States.{WritesState}
 use Rattle.page.specs.declared.tally.Tally.{Tally}
 use Rattle.page.specs.declared.sections.Cause.{Cause}
 use Rattle.page.specs.declared.sections.Cause.TheVariants.{Update}
@@ -25,24 +29,29 @@ use Rattle.page.specs.Endings.{EndsAs, told_text}
 use Rattle.page.specs.Reports.{Bytes, Marked, ReportsStep, no_tally}
 use Rattle.page.specs.States.{counted, next_number, cause_of, updates_after, state_begun, outcome_text, page_end}
 
--- a page while it is written: how many updates there were, its states, and what is written
+-- what was last shown of each node
+abbrev pub Kept : Type 0
+Kept = BTreeMap FullNodeId Last
+
+-- a page while it is written: how many updates there were, its states, what was last shown of each node, and what is written
 pub record Pages : Type 0 where
   pub updates : ℕ
   pub states : List Titled
+  pub kept : Kept
   pub written : Bytes
 
-abbrev pub pages_of : ℕ → List Titled → Bytes → Pages
-pages_of updates states written = record { updates = updates; states = states; written = written }
+abbrev pub pages_of : ℕ → List Titled → Kept → Bytes → Pages
+pages_of updates states kept written = record { updates = updates; states = states; kept = kept; written = written }
 
 abbrev pub summary : Cause → Outcome → Tally → Summary
 summary cause outcome tally = record { cause = cause; outcome = outcome; tally = tally }
 
--- a tree is written after its beginning and after each change: how is not said here
-abbrev pub WritesTree : Outcome → Bytes → Bytes → Type 0
-WritesTree Begun before after = ⊤
-WritesTree Changed before after = ⊤
-WritesTree Same before after = after ≡ before
-WritesTree (Refused why) before after = after ≡ before
+-- a tree is written after its beginning and after each change
+abbrev pub WritesTree : ℕ → World → Marked → Outcome → Kept × Bytes → Kept × Bytes → Type 0
+WritesTree number w marks Begun before after = WritesState number w marks before after
+WritesTree number w marks Changed before after = WritesState number w marks before after
+WritesTree number w marks Same before after = (after.0 ≡ before.0) × (after.1 ≡ before.1)
+WritesTree number w marks (Refused why) before after = (after.0 ≡ before.0) × (after.1 ≡ before.1)
 
 -- the state of a first update, which has no events
 abbrev pub first_summary : ℕ → Outcome → Summary
@@ -55,19 +64,22 @@ pub record Notes (title : List ℕ) (it : Summary) (s t : Pages) : Type 0 where
   pub titled : state.title.items ≡ title
   pub summary : state.summary ≡ it
   pub states : t.states ≡ s.states ++ state ∷ []
+  pub kept : t.kept ≡ s.kept
   pub updates : t.updates ≡ updates_after it.cause s.updates
 
 -- a state without events begins, and what came of it is said
 pub record Opens (title : List ℕ) (it : Summary) (s t : Pages) : Type 0 where
   pub begun : Bytes
   pub begins : Appends s.written begun (state_begun (next_number s.states) title it.cause)
-  pub notes : Notes title it (pages_of s.updates s.states begun) t
+  pub notes : Notes title it (pages_of s.updates s.states s.kept begun) t
 
--- and its tree is written
-pub record ShowsState (title : List ℕ) (it : Summary) (s t : Pages) : Type 0 where
+-- and its tree is written, without marks
+pub record ShowsState (title : List ℕ) (it : Summary) (w : World) (s t : Pages) : Type 0 where
   pub noted : Bytes
-  pub opens : Opens title it s (pages_of t.updates t.states noted)
-  pub tree : WritesTree it.outcome noted t.written
+  pub opens : Opens title it s (pages_of t.updates t.states s.kept noted)
+  pub unmarked : Marked
+  pub empty : IsEmpty unmarked
+  pub tree : WritesTree (next_number s.states) w unmarked it.outcome (s.kept, noted) (t.kept, t.written)
 
 -- the state that a step makes is shown, with its events and what came of it
 pub record ShowsStep (title : List ℕ) (cause : Cause) (outcome : Outcome) (s : Pages) (old : World) (c : Command) (new : World)
@@ -79,8 +91,8 @@ pub record ShowsStep (title : List ℕ) (cause : Cause) (outcome : Outcome) (s :
   pub marks : Marked
   pub reports : ReportsStep (next_number s.states) old c new begun outcome tally marks told
   pub noted : Bytes
-  pub notes : Notes title (summary cause outcome tally) (pages_of s.updates s.states told) (pages_of t.updates t.states noted)
-  pub tree : WritesTree outcome noted t.written
+  pub notes : Notes title (summary cause outcome tally) (pages_of s.updates s.states s.kept told) (pages_of t.updates t.states s.kept noted)
+  pub tree : WritesTree (next_number s.states) new marks outcome (s.kept, noted) (t.kept, t.written)
 
 -- ---- what is shown and reported of a turn
 
@@ -88,8 +100,8 @@ pub record ShowsStep (title : List ℕ) (cause : Cause) (outcome : Outcome) (s :
 abbrev pub Shown : Type 0
 Shown = Pages × Bytes
 
-abbrev pub shown_of : ℕ → List Titled → Bytes → Bytes → Shown
-shown_of updates states written told = (pages_of updates states written, told)
+abbrev pub shown_of : ℕ → List Titled → Kept → Bytes → Bytes → Shown
+shown_of updates states kept written told = (pages_of updates states kept written, told)
 
 -- what is reported of a state: of a refused update its number among the updates, and why it is refused
 abbrev pub report_text : Cause → Outcome → List ℕ
@@ -102,8 +114,8 @@ OrStops result shown silent =
     MatchResult result (λ _. shown) (λ stop. ((why : Fault) × (stop ≡ stop_of why) × silent) ⊎ (stop ≡ WriteFault))
 
 -- a first tree is shown, of which nothing is reported
-abbrev pub ShowsFirst : List ℕ → Summary → Shown → Shown → Type 0
-ShowsFirst title it s t = ShowsState title it s.0 t.0 × (t.1 ≡ s.1)
+abbrev pub ShowsFirst : List ℕ → Summary → World → Shown → Shown → Type 0
+ShowsFirst title it w s t = ShowsState title it w s.0 t.0 × (t.1 ≡ s.1)
 
 -- that a first update is refused is shown and reported
 abbrev pub RefusesFirst : List ℕ → Summary → Shown → Shown → Type 0
@@ -123,7 +135,7 @@ ShowsRun title old c new s result t =
 
 -- What a command shows: the comment right before it is the title of the state that it makes. Of a query or a `print` nothing is shown.
 abbrev pub Shows : Shown → Turn → Result Unit Stop → Shown → Type 0
-Shows s (TreeBegun comment w) result t = OrStops result (ShowsFirst comment (first_summary s.0.updates Begun) s t) (t.1 ≡ s.1)
+Shows s (TreeBegun comment w) result t = OrStops result (ShowsFirst comment (first_summary s.0.updates Begun) w s t) (t.1 ≡ s.1)
 Shows s (FirstRefused comment why) result t =
     OrStops result (RefusesFirst comment (first_summary s.0.updates (Refused why)) s t) (t.1 ≡ s.1)
 Shows s (Ran comment old c new) result t = ShowsRun comment old c new s result t
@@ -137,10 +149,12 @@ EndsPage states ending result before after =
 
 -- a script is run after the head of its page, and its states are shown in turn
 pub record PagesFrom (input head after told_before told_after : Bytes) (status : ℕ) : Type 0 where
+  pub unshown : Kept
+  pub nothing : IsEmpty unshown
   pub commands : List Commented
   pub played : Played
   pub end : Stage × Shown
-  pub plays : Plays Shows (start_of input) (no_tree, (pages_of 0 [] head, told_before)) commands played.ended played.number end
+  pub plays : Plays Shows (start_of input) (no_tree, (pages_of 0 [] unshown head, told_before)) commands played.ended played.number end
   pub ending : Ending
   pub ends_as : EndsAs played ending
   pub result : Result Unit Stop

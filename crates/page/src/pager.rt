@@ -2,6 +2,7 @@
 ghost use Rattle.std.specs.Prelude.{◌≡◌, ◌≤◌, ◌≢◌, IfOk, Ok, OnOk};
 ghost use Rattle.atree_script.specs.Played.{PlaysOut};
 ghost use Rattle.atree_script.specs.Scripts.{Writes};
+ghost use Rattle.views.specs.ShownWorlds.{world_of};
 ghost use Rattle.page.specs.Shown.{
   pages_of,
   report_text,
@@ -111,8 +112,8 @@ fn play_shown<R: BufRead, O: Write, E: Write>(
     ensures output { pager.new.output.ghost_name ≡ pager.old.output.ghost_name }
     ensures errors { pager.new.errors.ghost_name ≡ pager.old.errors.ghost_name }
     ensures plays { let a = pager.old in let b = pager.new in
-        let before = shown_of a.updates a.states.items (O.contents a.output.now) (E.contents a.errors.now) in
-        let after = shown_of b.updates b.states.items (O.contents b.output.now) (E.contents b.errors.now) in
+        let before = shown_of a.updates a.states.items a.kept (O.contents a.output.now) (E.contents a.errors.now) in
+        let after = shown_of b.updates b.states.items b.kept (O.contents b.output.now) (E.contents b.errors.now) in
         PlaysOut Shows (R.remaining input.old) before result after }
 {
     play(alloc, input, pager)
@@ -145,8 +146,8 @@ struct Pager<'a, 'b, O, E> {
 
 impl<'a, 'b, O: Write, E: Write> Player for Pager<'a, 'b, O, E> {
     ghost turns = { λ s turn result t. (t.output.ghost_name ≡ s.output.ghost_name) × (t.errors.ghost_name ≡ s.errors.ghost_name)
-        × Shows (shown_of s.updates s.states.items (O.contents s.output.now) (E.contents s.errors.now)) turn result
-        (shown_of t.updates t.states.items (O.contents t.output.now) (E.contents t.errors.now)) };
+        × Shows (shown_of s.updates s.states.items s.kept (O.contents s.output.now) (E.contents s.errors.now)) turn result
+        (shown_of t.updates t.states.items t.kept (O.contents t.output.now) (E.contents t.errors.now)) };
 
     /// Shows the first state, which has no events.
     fn begin(&mut self, comment: &[u8], session: &Session) -> Result<(), Stop> {
@@ -200,8 +201,8 @@ impl<'a, 'b, O: Write, E: Write> Pager<'a, 'b, O, E> {
         ensures output { self.new.output.ghost_name ≡ self.old.output.ghost_name }
         ensures errors { self.new.errors.ghost_name ≡ self.old.errors.ghost_name }
         ensures shows { let a = self.old in let b = self.new in
-            let before = shown_of a.updates a.states.items (O.contents a.output.now) (E.contents a.errors.now) in
-            let after = shown_of b.updates b.states.items (O.contents b.output.now) (E.contents b.errors.now) in
+            let before = shown_of a.updates a.states.items a.kept (O.contents a.output.now) (E.contents a.errors.now) in
+            let after = shown_of b.updates b.states.items b.kept (O.contents b.output.now) (E.contents b.errors.now) in
             OrStops result (ShowsTurn title.now cause before session.old command session.new after) (after.1 ≡ before.1) }
     {
         let outcome = self.show_step(title, cause, session, command)?;
@@ -219,9 +220,9 @@ impl<'a, 'b, O: Write, E: Write> Pager<'a, 'b, O, E> {
     fn show_begun(&mut self, title: &[u8], state: StateRef) -> Result<(), Fault>
         ensures output { self.new.output.ghost_name ≡ self.old.output.ghost_name }
         ensures errors { self.new.errors ≡ self.old.errors }
-        ensures shows { let before = pages_of self.old.updates self.old.states.items (O.contents self.old.output.now) in
-            let after = pages_of self.new.updates self.new.states.items (O.contents self.new.output.now) in
-            OnOk result (ShowsState title.now (first_summary self.old.updates Begun) before after) }
+        ensures shows { let before = pages_of self.old.updates self.old.states.items self.old.kept (O.contents self.old.output.now) in
+            let after = pages_of self.new.updates self.new.states.items self.new.kept (O.contents self.new.output.now) in
+            OnOk result (ShowsState title.now (first_summary self.old.updates Begun) (world_of state.entry) before after) }
     {
         let number = self.next_number();
         self.show_quiet(title, first_summary(self.updates, Outcome::Begun))?;
@@ -241,8 +242,8 @@ impl<'a, 'b, O: Write, E: Write> Pager<'a, 'b, O, E> {
     fn show_quiet(&mut self, title: &[u8], it: Summary) -> Result<(), Fault>
         ensures output { self.new.output.ghost_name ≡ self.old.output.ghost_name }
         ensures errors { self.new.errors ≡ self.old.errors }
-        ensures opens { let before = pages_of self.old.updates self.old.states.items (O.contents self.old.output.now) in
-            let after = pages_of self.new.updates self.new.states.items (O.contents self.new.output.now) in
+        ensures opens { let before = pages_of self.old.updates self.old.states.items self.old.kept (O.contents self.old.output.now) in
+            let after = pages_of self.new.updates self.new.states.items self.new.kept (O.contents self.new.output.now) in
             OnOk result (Opens title.now it before after) }
     {
         begin_state(self.next_number(), title, it.cause, self.output)?;
@@ -259,8 +260,8 @@ impl<'a, 'b, O: Write, E: Write> Pager<'a, 'b, O, E> {
     ) -> Result<Outcome, Fault>
         ensures output { self.new.output.ghost_name ≡ self.old.output.ghost_name }
         ensures errors { self.new.errors ≡ self.old.errors }
-        ensures shows { let before = pages_of self.old.updates self.old.states.items (O.contents self.old.output.now) in
-            let after = pages_of self.new.updates self.new.states.items (O.contents self.new.output.now) in
+        ensures shows { let before = pages_of self.old.updates self.old.states.items self.old.kept (O.contents self.old.output.now) in
+            let after = pages_of self.new.updates self.new.states.items self.new.kept (O.contents self.new.output.now) in
             IfOk result (λ outcome. ShowsStep title.now cause outcome before session.old command session.new after) }
     {
         let number = self.next_number();
@@ -291,8 +292,8 @@ impl<'a, 'b, O: Write, E: Write> Pager<'a, 'b, O, E> {
     fn note(&mut self, title: &[u8], it: Summary) -> Result<(), Fault>
         ensures output { self.new.output.ghost_name ≡ self.old.output.ghost_name }
         ensures errors { self.new.errors ≡ self.old.errors }
-        ensures notes { let before = pages_of self.old.updates self.old.states.items (O.contents self.old.output.now) in
-            let after = pages_of self.new.updates self.new.states.items (O.contents self.new.output.now) in
+        ensures notes { let before = pages_of self.old.updates self.old.states.items self.old.kept (O.contents self.old.output.now) in
+            let after = pages_of self.new.updates self.new.states.items self.new.kept (O.contents self.new.output.now) in
             OnOk result (Notes title.now it before after) }
     {
         write_outcome(self.next_number(), it.outcome, self.output)?;
@@ -349,7 +350,8 @@ fn write_tree<O: Write>(
     kept: &mut Kept,
     output: &mut O,
 ) -> Result<(), Fault>
-    ensures { OnOk result (WritesTree outcome (O.contents output.old) (O.contents output.new)) }
+    ensures { OnOk result (WritesTree number (world_of state.entry) marks.now outcome
+        (kept.old, O.contents output.old) (kept.new, O.contents output.new)) }
 {
     match outcome {
         Outcome::Begun | Outcome::Changed => {

@@ -13,16 +13,19 @@ returns-clause-shows g c =
     let played = c.play_shown-played.result in
     let pager = c.play_shown-played.new.pager in
     let stage : Stage = record { world = played.session; host = h.host } in
-    let end : Stage × Shown = (stage, (pages_of pager.updates pager.states.items (g.O.Write.contents pager.output.now), g.E.Write.contents pager.errors.now)) in
+    let end : Stage × Shown = (stage, (pages_of pager.updates pager.states.items pager.kept (g.O.Write.contents pager.output.now), g.E.Write.contents pager.errors.now)) in
     let ending = c.ending_of-ending.result in
     let closed = g.O.Write.contents c.end_page-ended.new.output in
     let head = g.O.Write.contents c.args.output.now in
     let told = g.E.Write.contents c.args.errors.now in
+    let unshown = c.new-2.result in
     record {
+      unshown = unshown;
+      nothing = c.new-2.ensures.empty;
       commands = h.commands;
       played = played;
       end = end;
-      plays = subst (λ (states : List Titled). Plays Shows (start_of (g.R.Read.remaining c.args.input.now)) (no_tree, (pages_of 0 states head, told)) h.commands played.ended played.number end) c.new.ensures.items h.plays;
+      plays = subst (λ (states : List Titled). Plays Shows (start_of (g.R.Read.remaining c.args.input.now)) (no_tree, (pages_of 0 states unshown head, told)) h.commands played.ended played.number end) c.new.ensures.items h.plays;
       ending = ending;
       ends_as = c.ending_of-ending.ensures;
       result = c.end_page-ended.result;

@@ -13,5 +13,6 @@ returns-clause-notes g c =
       titled = c.in_ok-from_slice.ensures.items;
       summary = refl;
       states = c.in_ok-push.ensures.items;
+      kept = refl;
       updates = c.updates_after-self.ensures;
     }
