@@ -4,6 +4,7 @@ pub mod Writing
 pub mod Deciding
 pub mod Comparisons
 pub mod Settling
+pub mod Spares
 pub mod Removing
 pub mod Refusing
 pub mod Regrafts

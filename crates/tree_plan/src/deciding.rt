@@ -28,6 +28,7 @@ use crate::refusing::refuse_misplaced;
 use crate::regrafting::regraft;
 use crate::removing::remove;
 use crate::settling::settle;
+use crate::spare::Spare;
 use crate::verdicts::Found;
 use crate::writing::{told_root, write};
 use schema::TreeUpdate;
@@ -127,6 +128,7 @@ fn find_shortly<L: LookUps>(
     look_ups: &mut L,
     update: &TreeUpdate,
     opened: &Opened,
+    spare: &mut Spare,
 ) -> Result<Option<SortedRows<NodeChange>>, UpdateError>
     requires old { IsOld (L.world look_ups.old) }
     requires opening { HoldsOpened (L.world look_ups.old) (update_data update.now) opened.now }
@@ -140,7 +142,7 @@ fn find_shortly<L: LookUps>(
     ensures named { IfOk result (λ rows. IfSome rows (λ _.
         IsRaisedAtLeast (L.asked look_ups.old) (length update.now.nodes.items) (L.asked look_ups.new))) }
 {
-    if let Some(changes) = find_news(alloc, look_ups, update, opened)? {
+    if let Some(changes) = find_news(alloc, look_ups, update, opened, spare)? {
         return Ok(Some(changes));
     }
     if !is_few(update) {
@@ -150,7 +152,7 @@ fn find_shortly<L: LookUps>(
         return Ok(None);
     }
     let root = full_id(opened.index, opened.root);
-    find_moves(alloc, look_ups, update, root)
+    find_moves(alloc, look_ups, update, root, spare)
 }
 
 /// The decision of changes that leave trees and focus as they were, given the old record of the update's tree. Of each change its node is
@@ -161,6 +163,7 @@ fn decide_alone<L: LookUps>(
     changes: SortedRows<NodeChange>,
     looked_up: &TreeRecord,
     before: u128,
+    spare: &mut Spare,
 ) -> Result<Decision, UpdateError>
     requires old { IsOld (L.world look_ups.old) }
     requires present { IsSome (get (L.world look_ups.old).trees 0) }
@@ -172,7 +175,7 @@ fn decide_alone<L: LookUps>(
     ensures count { OnOk result
         (IsRaisedUpTo (L.asked look_ups.old) (2 * length (L.world look_ups.old).known) (L.asked look_ups.new)) }
 {
-    let events = updates(alloc, &changes)?;
+    let events = updates(spare.take_events(), &changes)?;
     let end = end_opened(look_ups, looked_up);
     let looked = look_ups.count().saturating_sub(before);
     let nodes = changes.into_entries();
@@ -232,6 +235,31 @@ pub fn decide<L: LookUps>(
     ensures named { OnOk result
         (IsRaisedAtLeast (L.asked look_ups.old) (length update.now.nodes.items) (L.asked look_ups.new)) }
 {
+    decide_with(alloc, look_ups, update, &mut Spare::new(alloc))
+}
+
+/// Decides on an update as [`decide`] does, and writes a short decision into lists that were kept: its changes, its events, and the
+/// children that left a place.
+///
+/// # Errors
+///
+/// Returns the errors of [`decide`].
+pub fn decide_with<L: LookUps>(
+    alloc: Global,
+    look_ups: &mut L,
+    update: &TreeUpdate,
+    spare: &mut Spare,
+) -> Result<Decision, UpdateError>
+    ensures world { L.world look_ups.new ≡ L.world look_ups.old }
+    ensures old { IsOld (L.world look_ups.old) }
+    ensures err { IfErr result (λ e. IsRefusal (L.world look_ups.old) (update_data update.now) e) }
+    ensures ok { IfOk result (IsDecision (L.world look_ups.old) (update_data update.now)) }
+    ensures work { IfOk result (λ d.
+        IsWithinWork (L.world look_ups.old) (update_data update.now) d (L.asked look_ups.old) (L.asked look_ups.new)) }
+    ensures looked { IfOk result (λ d. d.looked ≡ L.asked look_ups.new - L.asked look_ups.old) }
+    ensures named { OnOk result
+        (IsRaisedAtLeast (L.asked look_ups.old) (length update.now.nodes.items) (L.asked look_ups.new)) }
+{
     let before = look_ups.count();
     let looked_up = old_record(look_ups, update);
     let opening = open_tree(look_ups, update, &looked_up)?;
@@ -241,8 +269,8 @@ pub fn decide<L: LookUps>(
         root: opening.root,
         is_first: opening.is_first,
     };
-    if let Some(changes) = find_shortly(alloc, look_ups, update, &opened)? {
-        return decide_alone(alloc, look_ups, changes, &opened.record, before);
+    if let Some(changes) = find_shortly(alloc, look_ups, update, &opened, spare)? {
+        return decide_alone(alloc, look_ups, changes, &opened.record, before, spare);
     }
     decide_by_passes(alloc, look_ups, update, opened, before)
 }

@@ -16,10 +16,12 @@ mod refusing;
 mod regrafting;
 mod removing;
 mod settling;
+mod spare;
 mod verdicts;
 mod walking;
 mod writing;
 
-pub use deciding::decide;
+pub use deciding::{decide, decide_with};
 pub use plan::{Change, Plan};
 pub use planning::plan_update;
+pub use spare::Spare;

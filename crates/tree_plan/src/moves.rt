@@ -18,6 +18,7 @@ ghost use Rattle.tree_plan.specs.Moves.{KeepsLinks, came_to, Compares, AddsNode,
 
 use crate::comparing::{Lists, child_at, full_id};
 use crate::news::{are_same_ids, is_same_id, is_same_name, refuse_twice};
+use crate::spare::Spare;
 use model::{FullNodeId, Place};
 use schema::{Node, TreeUpdate};
 use std::alloc::Global;
@@ -205,10 +206,10 @@ impl Moving {
 
 /// Compares each node of the update with its old record; `None` if more has changed than the data and the places of a few old nodes.
 fn compare_nodes<L: LookUps>(
-    alloc: Global,
     look_ups: &mut L,
     update: &TreeUpdate,
     index: u32,
+    spare: &mut Spare,
 ) -> Result<Option<Moving>, UpdateError>
     requires old { IsOld (L.world look_ups.old) }
     requires index { index ≡ index_for (L.world look_ups.old) (update_data update.now).name }
@@ -222,8 +223,8 @@ fn compare_nodes<L: LookUps>(
     ensures err { IfErr result (λ e. e ≡ Memory) }
 {
     let mut moving = Moving {
-        changes: RowList::new(alloc),
-        left: Vec::new(alloc),
+        changes: spare.take_changes(),
+        left: spare.take_left(),
     };
     for (entry, item) in update.nodes.iter().enumerate() {
         let id = full_id(index, item.0);
@@ -407,6 +408,7 @@ pub(crate) fn find_moves<L: LookUps>(
     look_ups: &mut L,
     update: &TreeUpdate,
     root: FullNodeId,
+    spare: &mut Spare,
 ) -> Result<Option<SortedRows<NodeChange>>, UpdateError>
     requires old { IsOld (L.world look_ups.old) }
     requires root { IsKeptRoot (L.world look_ups.old) (update_data update.now) root }
@@ -420,7 +422,7 @@ pub(crate) fn find_moves<L: LookUps>(
         IsRaisedAtLeast (L.asked look_ups.old) (length update.now.nodes.items) (L.asked look_ups.new))) }
 {
     refuse_twice(alloc, root.tree, update)?;
-    let Some(moving) = compare_nodes(alloc, look_ups, update, root.tree)? else {
+    let Some(moving) = compare_nodes(look_ups, update, root.tree, spare)? else {
         return Ok(None);
     };
     let Ok(changes) = moving.changes.settle() else {
@@ -440,5 +442,6 @@ pub(crate) fn find_moves<L: LookUps>(
     if !have_ways(look_ups, &moved) {
         return Ok(None);
     }
+    spare.keep_left(moving.left);
     Ok(Some(changes))
 }

@@ -87,6 +87,18 @@ record_seen d place (Listed false) = refl
 record_seen d place (Listed true) = refl
 record_seen d place (Boxed b) = refl
 
+-- a slot with a record has data
+pub some_data : (d : Option NodeData) (place : Option Place) (s : Slot) → IsSome (record_in (slot_seen d place s)) → IsSome (node_seen d s)
+some_data d place s some = go (node_seen d s) (subst IsSome (record_seen d place s) some)
+  where
+    go : (o : Option NodeData) → IsSome (option_map (placed_record place) o) → IsSome o
+    go None h = cc
+    go (Some x) h = refl
+
+pub some_record : (o : Option (Option Record)) → IsSome (record_in o) → IsSome o
+some_record None h = cc
+some_record (Some x) h = refl
+
 pub some_by : {X : Type 0} → (o : Option X) (b : Bool) → b ≡ is_none o → IsTrue (not b) → IsSome o
 some_by None b e t = let j : not b ≡ false = ap not e in cc
 some_by (Some x) b e t = refl

@@ -155,6 +155,19 @@ impl CellList {
         })
     }
 
+    /// The place and the data in the cell with a number, where there are any: so nothing is asked of the cell but where its node is.
+    #[inline(always)]
+    pub(crate) fn known(&self, number: u32) -> Kept<'_>
+        requires { IsSome (record_in (slot_of self.now.cells number)) }
+        ensures { Some (record_kept result) ≡ record_in (slot_of self.now.cells number) }
+    {
+        let at = number as usize;
+        let cell = &self.cells[at];
+        let place = &cell.place;
+        let node = known_in(cell, self.listed.as_slice(), at);
+        Kept { place, node }
+    }
+
     /// Makes room for so many cells in all: for an eighth more than that, since they come one by one.
     ///
     /// # Errors
@@ -333,6 +346,19 @@ fn node_in<'a>(cell: &'a Cell, listed: &'a [(NodeId, Node)], number: usize) -> O
             }
         }
         Slot::Boxed(slot) => (**slot).as_ref(),
+    }
+}
+
+// the data in a cell that has some
+#[inline(always)]
+fn known_in<'a>(cell: &'a Cell, listed: &'a [(NodeId, Node)], number: usize) -> &'a Node
+    requires { IsSome (node_seen (slice_get (map (λ e. e.1) listed.now) number) cell.now.slot) }
+    ensures { Some result.now ≡ node_seen (slice_get (map (λ e. e.1) listed.now) number) cell.now.slot }
+{
+    match &cell.slot {
+        Slot::Free => unreachable!(),
+        Slot::Listed(_) => &listed[number].1,
+        Slot::Boxed(slot) => (**slot).as_ref().unwrap(),
     }
 }
 

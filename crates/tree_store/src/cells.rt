@@ -98,24 +98,17 @@ impl Slots {
     pub(crate) fn record(&self, id: FullNodeId) -> Option<Kept<'_>>
         ensures { option_map record_kept result ≡ record_at self.now id }
     {
-        self.find(id)
+        self.cells.record(self.number(id)?)
     }
 
-    /// The place and data of an id that has a record. The search is inlined here, so that nothing is left of its tests of whether there is one; this
-    /// function isn't, so that walks stay short.
+    /// The place and data of an id that has a record. This function is never inlined, so that walks stay short.
     #[inline(never)]
     pub(crate) fn known_record(&self, id: FullNodeId) -> Kept<'_>
         requires { IsSome (record_at self.now id) }
         ensures { Some (record_kept result) ≡ record_at self.now id }
     {
-        self.find(id).unwrap()
-    }
-
-    #[inline(always)]
-    fn find(&self, id: FullNodeId) -> Option<Kept<'_>>
-        ensures { option_map record_kept result ≡ record_at self.now id }
-    {
-        self.cells.record(self.number(id)?)
+        let number = self.number(id).unwrap();
+        self.cells.known(number)
     }
 
     /// The number of an id's cell: the one in its row, or a guess that is right, or else the one that the index finds.

@@ -50,16 +50,16 @@ impl Store {
     }
 
     /// Writes the changes into the state, after [`Store::reserve`]. Nothing is allocated, and no node's data is copied.
-    pub fn commit(&mut self, update: TreeUpdate, decision: Decision)
-        requires ready { IsReadyFor self.old (update_data update) decision }
-        requires decided { IsDecision self.old.world (update_data update) decision }
-        ensures world { self.new.world ≡ overlaid_world self.old.world (update_data update) decision }
+    pub fn commit(&mut self, update: TreeUpdate, decision: &Decision)
+        requires ready { IsReadyFor self.old (update_data update) decision.now }
+        requires decided { IsDecision self.old.world (update_data update) decision.now }
+        ensures world { self.new.world ≡ overlaid_world self.old.world (update_data update) decision.now }
         ensures tight { IsTight self.new }
     {
         let is_new = self.tree_index(update.tree_id).is_none();
         let is_root = is_root_index(self, update.tree_id);
         self.tables
-            .write_decision(update, &decision, is_new, is_root);
+            .write_decision(update, decision, is_new, is_root);
         self.tables.nodes.know();
         self.focus = decision.focus;
     }

@@ -5,6 +5,7 @@ use schema::TreeUpdate;
 use std::alloc::Global;
 use std::marker::Model;
 use tree_changes::{Decision, UpdateError};
+use tree_plan::Spare;
 use tree_store::{Overlay, Store};
 use views::{Laid, StateRef};
 
@@ -30,6 +31,7 @@ pub struct Prepared {
     alloc: Global,
     store: Store,
     change: Change,
+    spare: Spare,
 }
 
 impl Model for Prepared {
@@ -91,6 +93,7 @@ impl Prepared {
         store: Store,
         update: TreeUpdate,
         decision: Decision,
+        spare: Spare,
     ) -> Prepared
         requires ready { IsReadyFor store (update_data update) decision }
         requires decided { IsDecision store.world (update_data update) decision }
@@ -105,6 +108,7 @@ impl Prepared {
             alloc,
             store,
             change,
+            spare,
         }
     }
 
@@ -114,6 +118,7 @@ impl Prepared {
         store: Store,
         is_host_focused: bool,
         events: Vec<PlanEvent>,
+        spare: Spare,
     ) -> Prepared
         requires { IsTight store }
         ensures { result ≡ record {
@@ -130,6 +135,7 @@ impl Prepared {
             alloc,
             store,
             change,
+            spare,
         }
     }
 
@@ -164,11 +170,13 @@ impl Prepared {
             alloc,
             mut store,
             change,
+            mut spare,
         } = self;
-        change.carry_out(&mut store);
+        change.carry_out(&mut store, &mut spare);
         Tree {
             alloc,
             state: TreeState { store },
+            spare,
         }
     }
 
@@ -180,11 +188,13 @@ impl Prepared {
             alloc,
             mut store,
             change,
+            mut spare,
         } = self;
-        change.give_up(&mut store);
+        change.give_up(&mut store, &mut spare);
         Tree {
             alloc,
             state: TreeState { store },
+            spare,
         }
     }
 }
@@ -220,15 +230,18 @@ impl Change {
         }
     }
 
-    /// Writes the change into the state that is prepared for it.
+    /// Writes the change into the state that is prepared for it, and keeps the lists of its decision.
     #[tactic(auto, using(crate::proofs::Preparing::ready, crate::proofs::Preparing::decided, crate::proofs::Preparing::shows_update, crate::proofs::Preparing::refocused, crate::proofs::Preparing::tight_refocused))]
-    fn carry_out(self, store: &mut Store)
+    fn carry_out(self, store: &mut Store, spare: &mut Spare)
         requires { IsPrepared store.old self }
         ensures world { store.new.world ≡ world_after store.old.world self }
         ensures tight { IsTight store.new }
     {
         match self {
-            Change::Update { update, decision } => store.commit(update, decision),
+            Change::Update { update, decision } => {
+                store.commit(update, &decision);
+                spare.keep(decision);
+            }
             Change::HostFocus {
                 is_host_focused,
                 ..
@@ -236,15 +249,18 @@ impl Change {
         }
     }
 
-    /// Releases what is reserved for the change in the state that is prepared for it.
+    /// Releases what is reserved for the change in the state that is prepared for it, and keeps the lists of its decision.
     #[tactic(auto, using(crate::proofs::Preparing::has_slots, crate::proofs::Preparing::tight_kept))]
-    fn give_up(self, store: &mut Store)
+    fn give_up(self, store: &mut Store, spare: &mut Spare)
         requires { IsPrepared store.old self }
         ensures world { store.new.world ≡ store.old.world }
         ensures tight { IsTight store.new }
     {
         match self {
-            Change::Update { decision, .. } => store.release(&decision),
+            Change::Update { decision, .. } => {
+                store.release(&decision);
+                spare.keep(decision);
+            }
             Change::HostFocus { .. } => {}
         }
     }

@@ -25,7 +25,7 @@ use schema::{NodeId, TreeId, TreeUpdate};
 use std::alloc::{AllocError, Global};
 use std::marker::Model;
 use tree_changes::{Decision, LookUps, UpdateError};
-use tree_plan::decide;
+use tree_plan::{Spare, decide_with};
 use tree_store::{Overlay, Store, StoreLookUps};
 use views::{Laid, NodeRef, StateRef};
 
@@ -185,6 +185,7 @@ impl TreeState {
         alloc: Global,
         update: &TreeUpdate,
         steps: &mut Steps,
+        spare: &mut Spare,
     ) -> Result<Decision, UpdateError>
         ensures err { IfErr result (λ e. IsRefusal self.now (update_data update.now) e) }
         ensures ok { IfOk result (IsDecision self.now (update_data update.now)) }
@@ -196,7 +197,7 @@ impl TreeState {
         ensures kept { steps.old ≤ steps.new }
     {
         let mut look_ups = StoreLookUps::new(&self.store, 0);
-        let decided = decide(alloc, &mut look_ups, update);
+        let decided = decide_with(alloc, &mut look_ups, update, spare);
         steps.add(look_ups.count());
         decided
     }
@@ -210,6 +211,7 @@ impl TreeState {
         decision: Decision,
         handler: &mut H,
         steps: &mut Steps,
+        spare: &mut Spare,
     ) -> Result<(), AllocError>
         requires { IsDecision self.old (update_data update) decision }
         ensures state { let u = update_data update in
@@ -234,7 +236,8 @@ impl TreeState {
         old.know();
         tell_all(old, new, decision.events.as_slice(), handler);
         steps.add(2 * change_count(&decision));
-        self.store.commit(update, decision);
+        self.store.commit(update, &decision);
+        spare.keep(decision);
         Ok(())
     }
 
@@ -244,6 +247,7 @@ impl TreeState {
         alloc: Global,
         update: TreeUpdate,
         decision: Decision,
+        spare: Spare,
     ) -> Result<Prepared, TreeState>
         requires { IsDecision self (update_data update) decision }
         ensures ok { IfOk result (λ p. IsPreparedFor self (update_data update) p
@@ -253,7 +257,7 @@ impl TreeState {
         let TreeState { mut store } = self;
         store.know();
         match store.reserve(&update, &decision) {
-            Ok(()) => Ok(Prepared::for_update(alloc, store, update, decision)),
+            Ok(()) => Ok(Prepared::for_update(alloc, store, update, decision, spare)),
             Err(_) => Err(TreeState { store }),
         }
     }
@@ -263,6 +267,7 @@ impl TreeState {
         self,
         alloc: Global,
         is_host_focused: bool,
+        spare: Spare,
     ) -> Result<Prepared, TreeState>
         ensures ok { IfOk result (IsPreparedForHost self is_host_focused) }
         ensures err { IfErr result (λ state. state ≡ self) }
@@ -271,7 +276,7 @@ impl TreeState {
             return Err(self);
         };
         let TreeState { store } = self;
-        Ok(Prepared::for_host_focus(alloc, store, is_host_focused, events))
+        Ok(Prepared::for_host_focus(alloc, store, is_host_focused, events, spare))
     }
 
     /// The events of a focus of the host.

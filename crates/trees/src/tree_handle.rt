@@ -16,14 +16,17 @@ use schema::TreeUpdate;
 use std::alloc::Global;
 use std::marker::Model;
 use tree_changes::UpdateError;
-use tree_plan::decide;
+use tree_plan::{Spare, decide};
 use tree_store::{NoRecords, Store};
 
 /// The accessibility tree of an interface: its root tree, with the trees grafted into it. It changes by updates.
+///
+/// It keeps the lists of the last short decision, emptied, for the next one: at most three, each with room for at most 64 entries.
 #[derive(Drop)]
 pub struct Tree {
     pub(crate) alloc: Global,
     pub(crate) state: TreeState,
+    pub(crate) spare: Spare,
 }
 
 impl Model for Tree {
@@ -58,6 +61,7 @@ impl Tree {
         Ok(Tree {
             alloc,
             state: TreeState { store },
+            spare: Spare::new(alloc),
         })
     }
 
@@ -112,8 +116,11 @@ impl Tree {
             OnOk result (CountsLookUps self.old u self.new steps.old steps.new) }
         ensures kept { steps.old ≤ steps.new }
     {
-        let decision = self.state.decide(self.alloc, &update, steps)?;
-        self.state.apply(update, decision, handler, steps)?;
+        let decision = self
+            .state
+            .decide(self.alloc, &update, steps, &mut self.spare)?;
+        self.state
+            .apply(update, decision, handler, steps, &mut self.spare)?;
         Ok(())
     }
 
@@ -145,12 +152,23 @@ impl Tree {
             → steps.new ≤ steps.old + allowance work) }
         ensures kept { steps.old ≤ steps.new }
     {
-        let decision = match self.state.decide(self.alloc, &update, steps) {
+        let Tree {
+            alloc,
+            state,
+            mut spare,
+        } = self;
+        let decision = match state.decide(alloc, &update, steps, &mut spare) {
             Ok(decision) => decision,
-            Err(why) => return Err(Refused { tree: self, why }),
+            Err(why) => {
+                let tree = Tree {
+                    alloc,
+                    state,
+                    spare,
+                };
+                return Err(Refused { tree, why });
+            }
         };
-        let Tree { alloc, state } = self;
-        match state.prepare(alloc, update, decision) {
+        match state.prepare(alloc, update, decision, spare) {
             Ok(prepared) => Ok(prepared),
             Err(state) => Err(wanting(alloc, state)),
         }
@@ -165,8 +183,12 @@ impl Tree {
         ensures ok { IfOk result (IsPreparedForHost self is_host_focused) }
         ensures err { IfErr result (λ r. (r.tree ≡ self) × (r.why ≡ Memory)) }
     {
-        let Tree { alloc, state } = self;
-        match state.prepare_host_focus(alloc, is_host_focused) {
+        let Tree {
+            alloc,
+            state,
+            spare,
+        } = self;
+        match state.prepare_host_focus(alloc, is_host_focused, spare) {
             Ok(prepared) => Ok(prepared),
             Err(state) => Err(wanting(alloc, state)),
         }
@@ -192,7 +214,11 @@ fn wanting(alloc: Global, state: TreeState) -> Refused
     ensures tree { result.tree ≡ state }
     ensures why { result.why ≡ Memory }
 {
-    let tree = Tree { alloc, state };
+    let tree = Tree {
+        alloc,
+        state,
+        spare: Spare::new(alloc),
+    };
     Refused {
         tree,
         why: UpdateError::Memory,

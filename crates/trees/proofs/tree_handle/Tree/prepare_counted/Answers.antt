@@ -1,4 +1,4 @@
-use Rattle.std.proofs.Common.{◌≤◌, ◌*◌, ◌+◌, refl, ap, subst, ◌∙◌, arith}
+use Rattle.std.proofs.Common.{◌≤◌, ◌*◌, ◌+◌, ap, subst, ◌∙◌, arith}
 use Rattle.schema.specs.UpdateData.{update_data}
 use Rattle.tree_changes.specs.Changes.{overlaid_world}
 use Rattle.tree_changes.specs.Decisions.{IsWithinWork}
@@ -8,7 +8,7 @@ use Rattle.trees.proofs.Deciding.{within}
 use Rattle.trees.proofs.tree_handle.Tree.prepare_counted.Goals as goal
 
 pub returns-in-Err-clause-err : goal.returns-in-Err-clause-err
-returns-in-Err-clause-err c = (refl, subst (λ w. IsRefusal w (update_data c.args.update) c.in-Err.why) c.self.view_is c.in-Err.ensures.err)
+returns-in-Err-clause-err c = (c.self.view_is, subst (λ w. IsRefusal w (update_data c.args.update) c.in-Err.why) c.self.view_is c.in-Err.ensures.err)
 
 pub returns-in-Ok-prepare-clause-steps : goal.returns-in-Ok-prepare-clause-steps
 returns-in-Ok-prepare-clause-steps c =

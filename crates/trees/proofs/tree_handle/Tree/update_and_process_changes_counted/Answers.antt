@@ -15,7 +15,8 @@ returns-in_err-decision-clause-does g c =
     let u = update_data c.args.update in
     let e = err_from_is_err_and c.from_residual.result c.from_residual.ensures.1 in
     let refusal = subst (λ x. IsRefusal x u e.0) c.self.view_is (subst (IsRefusal c.self.inside.state u) (sym e.2) c.in_err-decision.ensures.err) in
-    ([], subst (λ r. Does w (ToUpdate u) w [] (reply_of r)) (sym e.1) (does_refused w w u e.0 refusal refl), refl)
+    let left = c.self.inside.state in
+    ([], subst (λ r. Does w (ToUpdate u) left [] (reply_of r)) (sym e.1) (does_refused w left u e.0 refusal c.self.view_is), refl)
 
 pub returns-clause-does : goal.returns-clause-does
 returns-clause-does g c =

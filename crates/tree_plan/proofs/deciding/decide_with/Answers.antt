@@ -12,7 +12,7 @@ use Rattle.tree_plan.specs.News.{KeepsTree, AreAllChanges, IsOfChanges}
 use Rattle.tree_plan.specs.Passes.{HoldsOpened, IsOfName, opened_as}
 use Rattle.tree_plan.proofs.SameTrees.{later}
 use Rattle.tree_plan.proofs.Within.{root_tree_there, decided_within}
-use Rattle.tree_plan.proofs.deciding.decide.Goals as goal
+use Rattle.tree_plan.proofs.deciding.decide_with.Goals as goal
 
 pub decide_by_passes-requires-clause-begun : goal.decide_by_passes-requires-clause-begun
 decide_by_passes-requires-clause-begun g c =
