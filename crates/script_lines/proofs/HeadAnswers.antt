@@ -1,6 +1,5 @@
 -- What is answered while the head of an update is read.
-use Rattle.std.proofs.Common.{◌≡◌, ◌≢◌, ℕ, List, [], ◌∷◌, ◌++◌, Bool, Bor, true, false, true≢false, if◌then◌else◌, Option, Some, None, is_some, option_copied, option_map, Result, Ok, Err, ap, ap₂, sym, refl, subst, ◌∙◌}
-use Rattle.std.proofs.lemmas.Option.{none-some}
+use Rattle.std.proofs.Common.{◌≡◌, ℕ, List, [], ◌∷◌, ◌++◌, Bor, true, false, true≢false, Option, Some, None, is_some, option_copied, option_map, Result, Ok, Err, ap, ap₂, sym, refl, subst, ◌∙◌}
 use Rattle.std.specs.Result.{IsErrAnd}
 use Rattle.schema.specs.NodeData.{NodeData}
 use Rattle.schema.specs.UpdateData.{InfoData, UpdateData, update_data}
@@ -8,16 +7,13 @@ use Rattle.schema.specs.declared.NodeId.{NodeId}
 use Rattle.schema.specs.declared.TreeId.{TreeId}
 use Rattle.schema.specs.declared.update.TreeInfo.{TreeInfo}
 use Rattle.schema.specs.declared.update.TreeUpdate.{TreeUpdate}
-use Rattle.script_lines.specs.HeadMeaning.{by_value, field_means, finished, info_of, once_next, takes_text, update_means, value_at}
+use Rattle.script_lines.specs.HeadMeaning.{field_means, finished, info_of, once_next, takes_text, update_means, value_at}
 use Rattle.script_lines.specs.LineReading.{HeadData, no_head}
 use Rattle.script_lines.proofs.HeadMeanings.{valued_field}
-use Rattle.script_lines.proofs.HeadSteps.{ended, goes_on, stops}
-use Rattle.script_words.proofs.FieldCuts.{flag_is, flag_words}
-use Rattle.script_words.proofs.Lacking.{lacks_by}
+use Rattle.script_words.proofs.FieldReads.{ended, goes_on, no_word, some_fields, stops}
 use Rattle.script_words.specs.Cuts.{part_before, rest_behind}
-use Rattle.script_words.specs.Fields.{CutsField, Spot, after_byte, begun_by, each_word, ends_word, fields_of, name_of, one_word, words_from}
-use Rattle.script_words.specs.Fields.Spot.{Name}
-use Rattle.script_words.specs.Meaning.{Answers, next_as, next_word, onward, some_word}
+use Rattle.script_words.specs.Fields.{each_word, fields_of, one_word}
+use Rattle.script_words.specs.Meaning.{Answers, next_as, next_word, onward}
 use Rattle.script_words.specs.Reading.{Lacks}
 use Rattle.script_words.specs.WordValues.{tree_of}
 use Rattle.script_words.specs.declared.stops.Stop.{Stop}
@@ -72,19 +68,12 @@ field_read line name more left head next r cut a =
     mapped meant (Err WriteFault) b = absurd b
 
 -- no field is cut off
-pub no_field : (line : Option (List ℕ)) (head : HeadData) → next_word line ≡ None → one_word field_means (fields_of takes_text line) head ≡ None
-no_field None head e = refl
-no_field (Some text) head e =
-    let none : List ℕ = [] in
-    let empty : part_before 32 text ≡ none = no_part (part_before 32 text) (rest_behind 32 text) e in
-    let lacks : Lacks 61 none = lacks_by 61 none refl in
-    ap (λ words. one_word field_means words head) (flag_words takes_text [] text (subst (Lacks 61) (sym empty) lacks))
-    ∙ ap (λ w. onward (field_means w head) (λ next. Some (next, fields_of takes_text (rest_behind 32 text)))) empty
-    ∙ ap (λ v. onward (by_value (name_of none) v head) (λ next. Some (next, fields_of takes_text (rest_behind 32 text)))) (flag_is none lacks).1
-  where
-    no_part : (part : List ℕ) (behind : Option (List ℕ)) → some_word part behind ≡ None → part ≡ []
-    no_part [] behind e = refl
-    no_part (byte ∷ part) behind e = absurd (none-some (byte ∷ part, behind) (sym e))
+empty_name : (head : HeadData) → field_means [] head ≡ None
+unfolding part_before rest_behind
+empty_name head = refl
+
+no_field : (line : Option (List ℕ)) (head : HeadData) → next_word line ≡ None → one_word field_means (fields_of takes_text line) head ≡ None
+no_field line head e = no_word takes_text field_means line head (empty_name head) e
 
 pub no_field_read : (line left : Option (List ℕ)) (head next : HeadData) (r : Result (Unit {0}) Stop) (stop : Stop) → IsErrAnd r (λ s. s ≡ stop) → (stop ≡ BadLine) × (next_word line ≡ None)
     → Answers (one_word field_means (fields_of takes_text line) head) r (λ n done. (next ≡ n.0) × (fields_of takes_text left ≡ n.1))
@@ -92,34 +81,7 @@ no_field_read line left head next r stop is k =
     answers_err (one_word field_means (fields_of takes_text line) head) r stop (λ n done. (next ≡ n.0) × (fields_of takes_text left ≡ n.1)) is
     (answers_bad {U = Unit {0}} (one_word field_means (fields_of takes_text line) head) stop (λ n done. (next ≡ n.0) × (fields_of takes_text left ≡ n.1)) k.0 (no_field line head k.1))
 
--- a field that is cut off, by whether it has a value
-pub cut_flag : (line left : Option (List ℕ)) (name : Bor (List ℕ)) (has_value : Bool) → has_value ≡ false → CutsField line (Ok (name, has_value)) left → Lacks 61 name.now × (next_word line ≡ Some (name.now, left))
-cut_flag line left name true e cut = absurd (true≢false e)
-cut_flag line left name false e cut = cut
-
-pub cut_value : (line left : Option (List ℕ)) (name : Bor (List ℕ)) (has_value : Bool) → has_value ≡ true → CutsField line (Ok (name, has_value)) left
-    → (text : List ℕ) × (left ≡ Some text) × (line ≡ Some (name.now ++ (61 ∷ text))) × Lacks 61 name.now × Lacks 32 name.now
-cut_value line left name true e cut = cut
-cut_value line left name false e cut = absurd (true≢false (sym e))
-
 -- ---- the fields, one after another
-
-some_words : (spot : Spot) (text : List ℕ) → words_from takes_text spot text ≡ [] → ⊥
-unfolding words_from
-some_words spot [] e = cc
-some_words spot (byte ∷ text) e = by (ends_word spot byte) e
-  where
-    begun : (words : List (List ℕ)) → begun_by byte words ≡ [] → ⊥
-    begun [] e = cc
-    begun (word ∷ others) e = cc
-
-    by : (b : Bool) → (if b then [] ∷ words_from takes_text (Name []) text else begun_by byte (words_from takes_text (after_byte takes_text spot byte) text)) ≡ [] → ⊥
-    by true e = cc
-    by false e = begun (words_from takes_text (after_byte takes_text spot byte) text) e
-
-some_fields : (rest : Option (Bor (List ℕ))) → true ≡ is_some rest → fields_of takes_text (option_copied rest) ≢ []
-some_fields None t e = true≢false t
-some_fields (Some text) t e = some_words (Name []) text.now e
 
 -- a field is read, and the others mean what all meant
 pub one_read : (words left : Option (List ℕ)) (head next : HeadData) (meant : Option HeadData) (read : HeadData × List (List ℕ))
@@ -131,7 +93,7 @@ one_read words left head next meant read is same others i = ap₂ (each_word fie
 pub none_read : (rest : Option (Bor (List ℕ))) (head next : HeadData) (left : Option (List ℕ)) (meant : Option HeadData) (stop : Stop) (Q : HeadData → Unit {0} → Type 0) → true ≡ is_some rest
     → Answers {U = Unit {0}} (one_word field_means (fields_of takes_text (option_copied rest)) head) (Err stop) (λ n done. (next ≡ n.0) × (fields_of takes_text left ≡ n.1))
     → each_word field_means (fields_of takes_text (option_copied rest)) head ≡ meant → Answers meant (Err stop) Q
-none_read rest head next left meant BadLine Q t a i = stops field_means (fields_of takes_text (option_copied rest)) head meant (some_fields rest t) a i
+none_read rest head next left meant BadLine Q t a i = stops field_means (fields_of takes_text (option_copied rest)) head meant (some_fields takes_text rest t) a i
 none_read rest head next left meant Memory Q t a i = tt
 none_read rest head next left meant ReadFault Q t a i = absurd a
 none_read rest head next left meant WriteFault Q t a i = absurd a

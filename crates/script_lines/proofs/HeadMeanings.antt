@@ -1,7 +1,6 @@
 -- The fields of an update's head, as a reader goes over them.
 use Rattle.std.proofs.Common.{◌≡◌, ℕ, List, [], ◌∷◌, ◌++◌, codes, bytes_eq, true, false, Option, Some, None, option_map, append_assoc, ap, sym, refl, subst, ◌∙◌, ⊎_elim}
 use Rattle.std.proofs.lemmas.Bool.{cases_Bool, cond-false}
-use Rattle.std.proofs.lemmas.Option.{none-some, same_Some}
 use Rattle.std.proofs.lemmas.Slice.Eq.{bytes_eq-Decides}
 use Rattle.schema.specs.declared.NodeId.{NodeId}
 use Rattle.script_lines.specs.HeadMeaning.{by_value, field_means, once, once_next, takes_text, value_at, value_means}
@@ -13,7 +12,8 @@ use Rattle.script_words.specs.Meaning.{next_as, next_word, onward, some_word}
 use Rattle.script_words.specs.Reading.{Lacks}
 use Rattle.script_words.specs.Texts.{next_text, text_at, text_of}
 use Rattle.script_words.specs.WordValues.{id_of, number_of}
-use Rattle.script_words.proofs.FieldCuts.{flag_is, flag_words, name_is, name_words, plain_words, value_is}
+use Rattle.script_words.proofs.FieldReads.{flag_word}
+use Rattle.script_words.proofs.FieldCuts.{flag_is, name_is, name_words, plain_words, value_is}
 use Rattle.script_words.proofs.TextCuts.{front_of, others_of, text_words}
 
 -- the words behind what is read
@@ -145,13 +145,6 @@ valued_field line name more head e equals space =
 
 -- a name without a value is no field
 pub flag_field : (line : Option (List ℕ)) (name : List ℕ) (left : Option (List ℕ)) (head : HeadData) → next_word line ≡ Some (name, left) → Lacks 61 name → one_word field_means (fields_of takes_text line) head ≡ None
-flag_field None name left head e lacks = absurd (none-some (name, left) e)
-flag_field (Some text) name left head e lacks =
-    let is = parts (part_before 32 text) (rest_behind 32 text) e in
-    ap (λ words. one_word field_means words head) (flag_words takes_text [] text (subst (Lacks 61) (sym is) lacks))
-    ∙ ap (λ n. onward (field_means n head) (and_words (fields_of takes_text (rest_behind 32 text)))) is
-    ∙ ap (λ v. onward (by_value (name_of name) v head) (and_words (fields_of takes_text (rest_behind 32 text)))) (flag_is name lacks).1
-  where
-    parts : (part : List ℕ) (behind : Option (List ℕ)) → some_word part behind ≡ Some (name, left) → part ≡ name
-    parts [] behind e = absurd (none-some (name, left) e)
-    parts (byte ∷ part) behind e = ap (λ (w : List ℕ × Option (List ℕ)). w.0) (same_Some (byte ∷ part, behind) (name, left) e)
+flag_field line name left head e lacks =
+    flag_word takes_text field_means line name left head e lacks
+    ∙ ap (λ v. onward (by_value (name_of name) v head) (and_words (fields_of takes_text left))) (flag_is name lacks).1

@@ -1,17 +1,22 @@
 -- What stops a reading, and why.
-use Rattle.std.proofs.Common.{◌≡◌, ◌≢◌, ℕ, List, Option, Some, None, Result, Ok, Err, IfSome, MatchOption, [], ◌⊎◌, ⊎_elim, inl, inr, ap, refl, subst, sym, ◌∙◌}
+use Rattle.std.proofs.Common.{◌≡◌, ◌≢◌, ℕ, List, Option, Some, None, Result, Ok, Err, IfSome, MatchOption, codes, [], ◌⊎◌, ⊎_elim, inl, inr, ap, refl, subst, sym, ◌∙◌}
 use Rattle.schema.specs.UpdateData.{UpdateData}
 use Rattle.std.specs.Io.BufRead.{take_through}
 use Rattle.std.specs.Str.{IsUtf8}
 use Rattle.script_lines.specs.InputLines.{HasFailed, ReadsAs, ReadsLine, ReadsNext, next_number, without_end}
+use Rattle.script_lines.specs.HeadMeaning.{update_means}
+use Rattle.script_lines.specs.LineReading.{BeginsUpdate}
+use Rattle.script_lines.specs.NodeMeaning.{IsNodeLine}
 use Rattle.script_lines.specs.Taking.{Taken, TakesAs}
+use Rattle.script_nodes.specs.FieldMeaning.{node_means}
 use Rattle.script_lines.specs.declared.line_reader.Looks.{Looks}
 use Rattle.script_lines.specs.declared.lines.Line.{Line}
 use Rattle.script_lines.specs.declared.lines.Line.TheVariants as says
 use Rattle.script_lines.specs.declared.reader.ScriptCommand.{ScriptCommand}
 use Rattle.script_words.specs.declared.stops.Stop.{Stop}
 use Rattle.script_words.specs.declared.stops.Stop.TheVariants.{BadLine, Memory, ReadFault, WriteFault}
-use Rattle.script_lines.proofs.UpdateLines.{refused_update}
+use Rattle.script_lines.proofs.FirstWords.{refused_by_word}
+use Rattle.script_lines.proofs.LineWords.{node_is_line_word, update_is_line_word}
 
 -- an input that had not failed before has failed since
 pub later_failed : (before mid after : Looks) → mid.failures ≡ before.failures → HasFailed mid after → HasFailed before after
@@ -31,9 +36,9 @@ end_stops (Some u) r h e = cc
 pub refused_too : (text : List ℕ) (stop : Stop) → stop ≢ Memory → ReadsAs text (Err stop) → ReadsAs text (Err BadLine)
 refused_too text stop other h = record {
   nothing = ((λ e. cc), (λ b. let no : Err stop ≡ Ok says.Nothing = h.nothing.1 b in cc));
-  node = λ id n i k e. absurd (other (h.node id n i k e));
+  node = refused_by_word (codes "node") node_is_line_word node_means IsNodeLine text stop other h.node;
   plain = λ u n. let k = h.plain u n in (refl, k.1);
-  update = refused_update text stop other h.update;
+  update = refused_by_word (codes "update") update_is_line_word update_means BeginsUpdate text stop other h.update;
 }
 
 is_memory : (stop : Stop) → (stop ≡ Memory) ⊎ (stop ≢ Memory)

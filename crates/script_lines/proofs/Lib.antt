@@ -12,9 +12,8 @@ pub mod QuestionWords
 pub mod PlainLines
 pub mod InputFaults
 pub mod HeadMeanings
-pub mod HeadSteps
 pub mod HeadAnswers
-pub mod UpdateLines
+pub mod FirstWords
 pub mod WrittenWords
 pub mod WrittenHeads
 pub mod WrittenLines

@@ -15,6 +15,9 @@ use Rattle.script_words.proofs.Lacking.{lacks_by}
 pub node_is_line_word : IsLineWord (codes "node")
 node_is_line_word = ((lacks_by 32 (codes "node") refl, omega arith), λ e. omega (arith, e))
 
+pub update_is_line_word : IsLineWord (codes "update")
+update_is_line_word = ((lacks_by 32 (codes "update") refl, omega arith), λ e. omega (arith, e))
+
 pub end_is_line_word : IsLineWord (codes "end")
 end_is_line_word = ((lacks_by 32 (codes "end") refl, omega arith), λ e. omega (arith, e))
 

@@ -14,7 +14,9 @@ use Rattle.script_lines.specs.Commands.{Said, Sends, Turns, Prints, Asks, said}
 use Rattle.script_lines.specs.InputLines.{ReadsAs, ReadsLine, without_end}
 use Rattle.script_lines.specs.LineReading.{BeginsUpdate, IsHead}
 use Rattle.script_lines.specs.Lines.{entry_line, head_args, host_text, said_lines}
-use Rattle.script_nodes.specs.NodeReading.{IsNode}
+use Rattle.script_lines.specs.NodeMeaning.{IsNodeLine}
+use Rattle.script_nodes.specs.FieldMeaning.{node_means}
+use Rattle.script_nodes.specs.NodeReading.{IsNode, node_args}
 use Rattle.script_nodes.specs.NodeText.{node_line, node_text}
 use Rattle.script_lines.specs.Questions.{IsQuery, question_text}
 use Rattle.script_words.specs.Reading.{IsId, Lacks}
@@ -34,8 +36,11 @@ use Rattle.script_lines.specs.LineMeaning.{plain_line_means}
 use Rattle.script_words.specs.Cuts.{part_before, rest_behind}
 use Rattle.script_words.specs.Meaning.{Answers}
 use Rattle.script_lines.proofs.LineEnds.{strip_kept, strip_pushed}
+use Rattle.script_lines.proofs.LineWords.{node_is_line_word, node_line_parts}
 use Rattle.script_words.proofs.LineTexts.{IsLineText, line_by, newline_utf8}
 use Rattle.script_nodes.proofs.NodeLines.{node_text_line}
+use Rattle.script_nodes.proofs.WrittenNodes.{node_written}
+use Rattle.script_words.proofs.WrittenValues.{part_of, rest_of}
 use Rattle.script_lines.proofs.CommandLines.{head_line, host_text_line, question_text_line}
 
 -- ---- the line before a reader
@@ -155,9 +160,6 @@ query_sure q h = plain_sure (question_text q) (says.Query q) None (record { give
 end_sure : (u : UpdateData) → IsSure (codes "end") (Some u) (record { gives = Some (Sends u); begun = None })
 end_sure u = plain_sure (codes "end") says.End (Some u) (record { gives = Some (Sends u); begun = None }) end_plain end_written refl
 
-not_memory : BadLine ≡ Memory → ⊥
-not_memory e = cc
-
 head_sure : (u : UpdateData) → IsHead u → u.nodes ≡ [] → IsSure (codes "update " ++ head_args u) None (record { gives = None; begun = Some u })
 unfolding part_before rest_behind
 head_sure u h none = (
@@ -168,7 +170,17 @@ head_sure u h none = (
 )
 
 node_sure : (u : UpdateData) (id : NodeId) (n : NodeData) → IsId id → IsNode n → IsSure (node_text id n) (Some u) (record { gives = None; begun = Some (with_entry u id n) })
-node_sure u id n hi hn = (λ line r. ap (taken (Some u)) (r.node id n hi hn refl), λ r. not_memory (r.node id n hi hn refl))
+node_sure u id n hi hn =
+    let args = Some (node_args id n) in
+    let word : part_before 32 (node_text id n) ≡ codes "node" = ap (part_before 32) (node_line_parts id n) ∙ part_of 32 (codes "node") args node_is_line_word.0.0 in
+    let behind : node_means (rest_behind 32 (node_text id n)) ≡ Some (id, n) =
+    ap (λ t. node_means (rest_behind 32 t)) (node_line_parts id n) ∙ ap node_means (rest_of 32 (codes "node") args node_is_line_word.0.0) ∙ node_written id n hi hn in (
+      (λ line r.
+          let k = subst (λ o. Answers o (read line) IsNodeLine) behind (r.node word) in
+          let same = same_Some {A = NodeId × NodeData} (id, n) k.0 k.1 in
+          ap (taken (Some u)) (k.2 ∙ ap (λ (entry : NodeId × NodeData). says.Node entry.0 entry.1) (sym same))),
+      (λ r. none-some (id, n) (sym (subst (λ o. Answers o (stopped BadLine) IsNodeLine) behind (r.node word)))),
+    )
 
 -- ---- the lines of an update, after its head
 

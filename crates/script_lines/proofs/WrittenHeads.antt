@@ -9,8 +9,9 @@ use Rattle.script_lines.specs.LineReading.{HeadData, IsHead, no_head}
 use Rattle.script_lines.specs.Lines.{head_args}
 use Rattle.script_lines.proofs.HeadFields.{AreFree, Focus, HeadField, IsFree, IsHeadField, Root, Toolkit, Version, args_are_fields, fields_are_free, fields_are_head, head_fields, head_name, head_name_is_field_name, head_value, info_head, rest_text, with_head_field, with_head_fields}
 use Rattle.script_lines.proofs.HeadMeanings.{valued_field}
-use Rattle.script_lines.proofs.HeadSteps.{goes_on}
-use Rattle.script_lines.proofs.WrittenWords.{id_comes, text_comes, tree_comes}
+use Rattle.script_words.proofs.FieldReads.{goes_on}
+use Rattle.script_lines.proofs.WrittenWords.{id_comes, tree_comes}
+use Rattle.script_words.proofs.WrittenValues.{text_comes}
 use Rattle.script_words.specs.Fields.{each_word, fields_of, one_word}
 use Rattle.script_words.specs.Meaning.{next_as, onward}
 use Rattle.script_words.specs.Quoted.{quoted}

@@ -18,7 +18,8 @@ use Rattle.script_lines.specs.Questions.{IsQuery, name_and_filter, question_args
 use Rattle.script_lines.specs.declared.lines.Line.{Line}
 use Rattle.script_lines.specs.declared.lines.Line.TheVariants as says
 use Rattle.script_lines.proofs.LineWords.{end_is_line_word, host_is_line_word, host_line_parts, print_is_line_word, question_is_line_word}
-use Rattle.script_lines.proofs.WrittenWords.{at_comes, filter_comes, move_comes, name_comes, not_eq, part_of, point_comes, word_comes}
+use Rattle.script_lines.proofs.WrittenWords.{at_comes, filter_comes, move_comes, name_comes, point_comes}
+use Rattle.script_words.proofs.WrittenValues.{not_eq, part_of, word_comes}
 use Rattle.script_words.specs.Arguments.{next_at, next_filter, next_point}
 use Rattle.script_words.specs.Cuts.{part_before, rest_behind}
 use Rattle.script_words.specs.Meaning.{next_as, only, onward}
@@ -42,7 +43,7 @@ line_by word args h =
     ∙ ap (λ (o : Option (List ℕ × Option (List ℕ))). onward o (λ word. plain_means word.0 word.1)) (word_comes word args h.0)
 
 pub other_word : (word other : List ℕ) (args : Option (List ℕ)) → IsLineWord word → bytes_eq word other ≡ false → part_before 32 (word ++ after args) ≢ other
-other_word word other args h f e = true≢false (sym ((bytes_eq-Decides word other).1 (sym (part_of word args h.0.0) ∙ e)) ∙ f)
+other_word word other args h f e = true≢false (sym ((bytes_eq-Decides word other).1 (sym (part_of 32 word args h.0.0) ∙ e)) ∙ f)
 
 -- ---- the arguments of a query
 

@@ -1,11 +1,6 @@
 -- What is written of a word or a value comes next in the line, and what stands behind it is left.
-use Rattle.std.proofs.Common.{◌≡◌, ◌≢◌, ℕ, ℤ, pos, negsuc, ◌==◌, suc, List, [], ◌∷◌, ◌++◌, codes, flat_map, bytes_eq, false, Option, Some, None, option_map, arith, inl, inr, ⊎_elim, ap, ap₂, refl, sym, ◌∙◌}
-use Rattle.std.proofs.lemmas.Bool.{cases_Bool, cond-false}
-use Rattle.std.proofs.lemmas.Bool.Decides.{nat_tests}
-use Rattle.std.proofs.lemmas.Fmt.{decimal_is_IsNumeral}
-use Rattle.std.proofs.lemmas.Slice.Eq.{bytes_eq-Decides}
+use Rattle.std.proofs.Common.{◌≡◌, ℕ, ℤ, List, ◌++◌, codes, Option, Some, ap, refl, ◌∙◌}
 use Rattle.std.specs.Fmt.{decimal, signed_decimal}
-use Rattle.std.specs.Str.{IsUtf8}
 use Rattle.model.specs.declared.queries.At.{At}
 use Rattle.model.specs.declared.queries.Move.{Move}
 use Rattle.model.specs.declared.queries.NamedFilter.{NamedFilter}
@@ -16,80 +11,27 @@ use Rattle.schema.specs.declared.NodeId.{NodeId}
 use Rattle.schema.specs.declared.TreeId.{TreeId}
 use Rattle.schema.specs.declared.geometry.Point.{Point}
 use Rattle.script_words.specs.Arguments.{next_at, next_filter, next_name, next_point}
-use Rattle.script_words.specs.Cuts.{part_before, rest_behind}
-use Rattle.script_words.specs.Meaning.{next_as, next_word, onward, some_word}
+use Rattle.script_words.specs.Meaning.{next_as, onward}
 use Rattle.script_words.specs.NameLists.{all_filters, all_sides}
 use Rattle.script_words.specs.NamedIn.{first_named}
 use Rattle.script_words.specs.Names.{filter_name, move_name, side_name}
 use Rattle.script_words.specs.Parts.{at_text, name_text, point_text, tree_text}
-use Rattle.script_words.specs.Quoted.{quoted, quoted_byte}
-use Rattle.script_words.specs.Reading.{IsCount, IsId, IsName, IsNumber, IsTreeName, IsWord, Lacks, after}
-use Rattle.script_words.specs.Says.{SaysSigned, SaysTree}
-use Rattle.script_words.specs.Texts.{as_text, behind_text, next_text, unquoted}
-use Rattle.script_words.specs.WordValues.{filter_of, id_of, move_of, node_id, number_of, side_of, signed_of, tree_of}
+use Rattle.script_words.specs.Reading.{IsCount, IsId, IsName, IsNumber, IsTreeName, after}
+use Rattle.script_words.specs.WordValues.{filter_of, id_of, move_of, number_of, side_of, signed_of, tree_of}
 use Rattle.script_words.proofs.Cuts.{begins_two}
 use Rattle.script_words.proofs.Decimals.{decimal_is_word, signed_is_word}
 use Rattle.script_words.proofs.NamedTables.{first_move}
 use Rattle.script_words.proofs.NamedWords.{filter_is_word, move_is_word, side_is_word}
-use Rattle.script_words.proofs.TextSteps.{kept, read_back, text_from}
-use Rattle.script_words.proofs.TreeNames.{tree_is_word, tree_word}
-use Rattle.script_words.proofs.WordCuts.{one_taken}
-use Rattle.script_words.proofs.WordMeanings.{number_exact, signed_exact, tree_exact}
+use Rattle.script_words.proofs.TreeNames.{tree_is_word}
+use Rattle.script_words.proofs.WrittenValues.{id_written, number_written, signed_written, tree_written, value_comes}
 
--- ---- what comes next, and what is left behind it
-
-pub not_eq : (a b : ℕ) → a ≢ b → (a == b) ≡ false
-not_eq a b other = grind (arith, nat_tests, other)
-
-pub part_of : (text : List ℕ) (rest : Option (List ℕ)) → Lacks 32 text → part_before 32 (text ++ after rest) ≡ text
-unfolding part_before
-part_of [] None lacks = refl
-part_of [] (Some rest) lacks = refl
-part_of (byte ∷ text) rest lacks = cond-false _ _ _ (not_eq byte 32 (lacks 0 (omega arith))) ∙ ap (λ t. byte ∷ t) (part_of text rest (λ i l. lacks (suc i) (omega (arith, l))))
-
-rest_of : (text : List ℕ) (rest : Option (List ℕ)) → Lacks 32 text → rest_behind 32 (text ++ after rest) ≡ rest
-unfolding rest_behind
-rest_of [] None lacks = refl
-rest_of [] (Some rest) lacks = refl
-rest_of (byte ∷ text) rest lacks = cond-false _ _ _ (not_eq byte 32 (lacks 0 (omega arith))) ∙ rest_of text rest (λ i l. lacks (suc i) (omega (arith, l)))
-
-pub word_comes : (word : List ℕ) (rest : Option (List ℕ)) → IsWord word → next_word (Some (word ++ after rest)) ≡ Some (word, rest)
-word_comes [] rest h = absurd (omega (arith, h.1))
-word_comes (byte ∷ word) rest h = ap₂ some_word (part_of (byte ∷ word) rest h.0) (rest_of (byte ∷ word) rest h.0)
-
--- a value, and what is left behind it
-abbrev and_rest : {T : Type 0} → Option (List ℕ) → T → Option (T × Option (List ℕ))
-and_rest rest value = Some (value, rest)
+-- ---- an id, and a tree
 
 pub id_comes : (id : NodeId) (rest : Option (List ℕ)) → IsId id → next_as id_of (Some (decimal id.0 ++ after rest)) ≡ Some (id, rest)
-id_comes id rest h =
-    one_taken id_of (Some (decimal id.0 ++ after rest)) rest (decimal id.0) (word_comes (decimal id.0) rest (decimal_is_word id.0 h))
-    ∙ ap (λ (o : Option ℕ). onward (option_map node_id o) (and_rest rest)) ((number_exact (decimal id.0) id.0).1 (h, decimal_is_IsNumeral id.0 h))
-
-tree_says : (tree : TreeId) → IsTreeName tree → SaysTree (tree_text tree) tree
-tree_says tree h =
-    let k = tree_word tree (tree_text tree) (bytes_eq (tree_text tree) (codes "root")) h refl refl in
-    ⊎_elim (λ t. inl ((bytes_eq-Decides (tree_text tree) (codes "root")).0 t, k.0 t)) (λ f. inr (sym (k.1 f))) (cases_Bool (bytes_eq (tree_text tree) (codes "root")))
+id_comes id rest h = value_comes id_of (decimal id.0) id rest (decimal_is_word id.0 h) (id_written id h)
 
 pub tree_comes : (tree : TreeId) (rest : Option (List ℕ)) → IsTreeName tree → next_as tree_of (Some (tree_text tree ++ after rest)) ≡ Some (tree, rest)
-tree_comes tree rest h =
-    one_taken tree_of (Some (tree_text tree ++ after rest)) rest (tree_text tree) (word_comes (tree_text tree) rest (tree_is_word tree))
-    ∙ ap (λ (o : Option TreeId). onward o (and_rest rest)) ((tree_exact (tree_text tree) tree).1 (tree_says tree h))
-
-abbrev kept_before : List ℕ → Option (List ℕ) → Option (List ℕ × Option (List ℕ))
-kept_before text left = onward (as_text text) (and_rest left)
-
-behind_quote : (rest : Option (List ℕ)) → behind_text (after rest) ≡ Some rest
-behind_quote None = refl
-behind_quote (Some rest) = refl
-
-pub text_comes : (text : List ℕ) (rest : Option (List ℕ)) → IsUtf8 text → next_text (Some (quoted text ++ after rest)) ≡ Some (text, rest)
-text_comes text rest utf8 =
-    let inner = flat_map quoted_byte text ++ codes "\"" ++ after rest in
-    let line : quoted text ++ after rest ≡ 34 ∷ inner = refl in
-    text_from (quoted text ++ after rest) inner text (after rest) line (read_back inner (unquoted inner) refl text (after rest) refl)
-    ∙ ap (λ (o : Option (Option (List ℕ))). onward o (kept_before text)) (behind_quote rest)
-    ∙ ap (λ (o : Option (List ℕ)). onward o (and_rest rest)) (kept text utf8)
+tree_comes tree rest h = value_comes tree_of (tree_text tree) tree rest (tree_is_word tree) (tree_written tree h)
 
 -- ---- a node's name, a filter, a point and a position
 
@@ -111,14 +53,10 @@ first_filter filter.All = refl
 first_filter value = refl
 
 pub filter_comes : (value : NamedFilter) (rest : Option (List ℕ)) → next_filter (Some (filter_name value ++ after rest)) ≡ Some (value, rest)
-filter_comes value rest =
-    one_taken filter_of (Some (filter_name value ++ after rest)) rest (filter_name value) (word_comes (filter_name value) rest (filter_is_word value))
-    ∙ ap (λ (o : Option NamedFilter). onward o (and_rest rest)) (first_filter value)
+filter_comes value rest = value_comes filter_of (filter_name value) value rest (filter_is_word value) (first_filter value)
 
 pub move_comes : (value : Move) (rest : Option (List ℕ)) → next_as move_of (Some (move_name value ++ after rest)) ≡ Some (value, rest)
-move_comes value rest =
-    one_taken move_of (Some (move_name value ++ after rest)) rest (move_name value) (word_comes (move_name value) rest (move_is_word value))
-    ∙ ap (λ (o : Option Move). onward o (and_rest rest)) (first_move value)
+move_comes value rest = value_comes move_of (move_name value) value rest (move_is_word value) (first_move value)
 
 first_side : (value : Side) → first_named side_name (side_name value) all_sides ≡ Some value
 unfolding first_named
@@ -126,23 +64,13 @@ first_side side.Start = refl
 first_side value = refl
 
 side_comes : (value : Side) (rest : Option (List ℕ)) → next_as side_of (Some (side_name value ++ after rest)) ≡ Some (value, rest)
-side_comes value rest =
-    one_taken side_of (Some (side_name value ++ after rest)) rest (side_name value) (word_comes (side_name value) rest (side_is_word value))
-    ∙ ap (λ (o : Option Side). onward o (and_rest rest)) (first_side value)
+side_comes value rest = value_comes side_of (side_name value) value rest (side_is_word value) (first_side value)
 
 count_comes : (n : ℕ) (rest : Option (List ℕ)) → IsCount n → next_as number_of (Some (decimal n ++ after rest)) ≡ Some (n, rest)
-count_comes n rest h =
-    one_taken number_of (Some (decimal n ++ after rest)) rest (decimal n) (word_comes (decimal n) rest (decimal_is_word n h))
-    ∙ ap (λ (o : Option ℕ). onward o (and_rest rest)) ((number_exact (decimal n) n).1 (h, decimal_is_IsNumeral n h))
-
-signed_says : (z : ℤ) → IsNumber z → SaysSigned (signed_decimal z) z
-signed_says (pos n) h = inl (n, decimal_is_IsNumeral n (omega (arith, h.sfits)), refl)
-signed_says (negsuc n) h = inr (decimal (suc n), suc n, refl, decimal_is_IsNumeral (suc n) (omega (arith, h.sfits)), refl)
+count_comes n rest h = value_comes number_of (decimal n) n rest (decimal_is_word n h) (number_written n h)
 
 signed_comes : (z : ℤ) (rest : Option (List ℕ)) → IsNumber z → next_as signed_of (Some (signed_decimal z ++ after rest)) ≡ Some (z, rest)
-signed_comes z rest h =
-    one_taken signed_of (Some (signed_decimal z ++ after rest)) rest (signed_decimal z) (word_comes (signed_decimal z) rest (signed_is_word z h))
-    ∙ ap (λ (o : Option ℤ). onward o (and_rest rest)) ((signed_exact (signed_decimal z) z).1 (h, signed_says z h))
+signed_comes z rest h = value_comes signed_of (signed_decimal z) z rest (signed_is_word z h) (signed_written z h)
 
 abbrev side_behind : ℕ × Option (List ℕ) → Option (At × Option (List ℕ))
 side_behind index = onward (next_as side_of index.1) (λ side. Some (record { index = index.0; side = side.0 }, side.1))

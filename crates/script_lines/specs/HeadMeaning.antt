@@ -4,11 +4,10 @@ use Rattle.std.specs.Str.{bytes_eq}
 use Rattle.schema.specs.UpdateData.{InfoData, UpdateData}
 use Rattle.schema.specs.declared.NodeId.{NodeId}
 use Rattle.schema.specs.declared.TreeId.{TreeId}
-use Rattle.script_lines.specs.LineReading.{BeginsUpdate, HeadData, no_head}
+use Rattle.script_lines.specs.LineReading.{BeginsUpdate, HeadData, ReadsBy, no_head}
 use Rattle.script_lines.specs.declared.lines.Line.{Line}
-use Rattle.script_words.specs.Cuts.{part_before, rest_behind}
 use Rattle.script_words.specs.Fields.{each_word, fields_of, name_of, value_of}
-use Rattle.script_words.specs.Meaning.{Answers, next_as, onward}
+use Rattle.script_words.specs.Meaning.{next_as, onward}
 use Rattle.script_words.specs.Texts.{next_text, text_of}
 use Rattle.script_words.specs.WordValues.{id_of, tree_of}
 use Rattle.script_words.specs.declared.stops.Stop.{Stop}
@@ -68,7 +67,7 @@ update_means line =
 
 -- a line that begins an update is read as the update that it means, or is bad where it means none, unless memory runs out
 abbrev pub ReadsUpdate : List ℕ → Result Line Stop → Type 0
-ReadsUpdate text result = part_before 32 text ≡ codes "update" → Answers (update_means (rest_behind 32 text)) result BeginsUpdate
+ReadsUpdate text result = ReadsBy (codes "update") update_means BeginsUpdate text result
 
 -- ---- how a reader goes over it
 

@@ -2,13 +2,9 @@
 use Rattle.std.specs.Prelude.{ℕ, ◌+◌, ◌-◌, ◌^◌, min, List, [], ◌≢◌, ◌≡◌, ◌⊎◌, ◌↔◌, slice_index_or, Option, Some, None, Result, Ok, Err}
 use Rattle.std.specs.Io.BufRead.{take_through, strip_last}
 use Rattle.std.specs.Str.{IsUtf8}
-use Rattle.schema.specs.NodeData.{NodeData}
-use Rattle.schema.specs.declared.NodeId.{NodeId}
 use Rattle.script_lines.specs.HeadMeaning.{ReadsUpdate}
 use Rattle.script_lines.specs.LineMeaning.{ReadsPlain}
-use Rattle.script_nodes.specs.NodeReading.{IsNode}
-use Rattle.script_nodes.specs.NodeText.{node_text}
-use Rattle.script_words.specs.Reading.{IsId, Reads}
+use Rattle.script_lines.specs.NodeMeaning.{ReadsNode}
 use Rattle.script_lines.specs.declared.line_reader.Looks.{Looks}
 use Rattle.script_lines.specs.declared.lines.Line.{Line}
 use Rattle.script_lines.specs.declared.lines.Line.TheVariants as says
@@ -31,10 +27,10 @@ next_number n = min (n + 1) (2 ^ 64 - 1)
 abbrev pub IsBlank : List ℕ → Type 0
 IsBlank text = (text ≡ []) ⊎ (slice_index_or text 0 0 ≡ 35)
 
--- any line but that of a node is read as what it means, and the line of a node as it is written; only one that says nothing is read so
+-- any line is read as what it means; only one that says nothing is read so
 pub record ReadsAs (text : List ℕ) (result : Result Line Stop) : Type 0 where
   pub nothing : (result ≡ Ok says.Nothing) ↔ IsBlank text
-  pub node : (id : NodeId) (n : NodeData) → IsId id → IsNode n → text ≡ node_text id n → Reads result (λ read. read ≡ says.Node id n)
+  pub node : ReadsNode text result
   pub plain : ReadsPlain text result
   pub update : ReadsUpdate text result
 

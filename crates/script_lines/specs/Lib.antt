@@ -7,6 +7,7 @@ pub mod LineReading
 pub mod QuestionMeaning
 pub mod LineMeaning
 pub mod HeadMeaning
+pub mod NodeMeaning
 pub mod Commands
 pub mod Comments
 pub mod Taking

@@ -1,6 +1,6 @@
 -- The reading of a line, and of the one that begins an update.
 use Rattle.std.specs.Bool.{⊤}
-use Rattle.std.specs.Prelude.{ℕ, List, codes, Bool, true, false, Option, None, MatchOption, option_map, ◌≡◌, ◌≢◌, slice_index_or}
+use Rattle.std.specs.Prelude.{ℕ, List, codes, Bool, true, false, Option, None, Result, MatchOption, option_map, ◌≡◌, ◌≢◌, slice_index_or}
 use Rattle.std.specs.Str.{IsUtf8}
 use Rattle.std.specs.String.{string_bytes}
 use Rattle.schema.specs.UpdateData.{InfoData, UpdateData, update_data}
@@ -9,7 +9,10 @@ use Rattle.schema.specs.declared.update.TreeUpdate.{TreeUpdate}
 use Rattle.script_lines.specs.declared.heads.Head.{Head}
 use Rattle.script_lines.specs.declared.lines.Line.{Line}
 use Rattle.script_lines.specs.declared.lines.Line.TheVariants as says
+use Rattle.script_words.specs.Cuts.{part_before, rest_behind}
+use Rattle.script_words.specs.Meaning.{Answers}
 use Rattle.script_words.specs.Reading.{IsId, IsTreeName, IsWord}
+use Rattle.script_words.specs.declared.stops.Stop.{Stop}
 
 -- ---- whole lines
 
@@ -21,6 +24,10 @@ IsLineWord text = IsWord text × (slice_index_or text 0 0 ≢ 35)
 abbrev pub host_word : Bool → List ℕ
 host_word true = codes "on"
 host_word false = codes "off"
+
+-- a line that begins with this word is read as what it means, or is bad where it means nothing, unless memory runs out
+abbrev pub ReadsBy : {T : Type 0} → List ℕ → (Option (List ℕ) → Option T) → (T → Line → Type 0) → List ℕ → Result Line Stop → Type 0
+ReadsBy first meaning Has text result = part_before 32 text ≡ first → Answers (meaning (rest_behind 32 text)) result Has
 
 -- the line begins this update
 abbrev pub BeginsUpdate : UpdateData → Line → Type 0

@@ -1,16 +1,14 @@
 //! The lines of a script.
 
-ghost use Rattle.std.specs.Prelude.{ℕ, ◌≡◌, ◌≢◌, ◌↔◌, ◌++◌, IsTrue, List, Ok, Option, Some, codes, false, option_copied};
-ghost use Rattle.schema.specs.NodeData.{NodeData};
-ghost use Rattle.schema.specs.declared.NodeId.{NodeId};
+ghost use Rattle.std.specs.Prelude.{◌≡◌, ◌≢◌, ◌↔◌, IsTrue, Ok, codes};
 ghost use Rattle.script_lines.specs.InputLines.{IsBlank};
 ghost use Rattle.script_lines.specs.HeadMeaning.{ReadsUpdate, update_means};
 ghost use Rattle.script_lines.specs.LineMeaning.{ReadsPlain, host_means, is_blank, plain_means};
-ghost use Rattle.script_lines.specs.LineReading.{BeginsUpdate, IsLineWord};
+ghost use Rattle.script_lines.specs.LineReading.{BeginsUpdate};
+ghost use Rattle.script_lines.specs.NodeMeaning.{IsNodeLine, ReadsNode};
+ghost use Rattle.script_nodes.specs.FieldMeaning.{node_means};
 ghost use Rattle.script_words.specs.Meaning.{Answers, Gives};
-ghost use Rattle.script_nodes.specs.NodeReading.{IsNode, node_args};
-ghost use Rattle.script_nodes.specs.NodeText.{node_text};
-ghost use Rattle.script_words.specs.Reading.{IsId, Reads, after, unread};
+ghost use Rattle.script_words.specs.Reading.{unread};
 ghost use Rattle.script_lines.specs.declared.lines.Line.TheVariants as says;
 
 use crate::heads::update_line;
@@ -44,8 +42,7 @@ pub(crate) enum Line {
 /// Reads a line, without its line end.
 pub(crate) fn read_line(alloc: Global, line: &str) -> Result<Line, Stop>
     ensures nothing { (result ≡ Ok says.Nothing) ↔ IsBlank line.now }
-    ensures reads_node { (id : NodeId) (n : NodeData) → IsId id → IsNode n → line.now ≡ node_text id n →
-        Reads result (λ read. read ≡ says.Node id n) }
+    ensures node { ReadsNode line.now result }
     ensures means { ReadsPlain line.now result }
     ensures update { ReadsUpdate line.now result }
 {
@@ -60,7 +57,6 @@ pub(crate) fn read_line(alloc: Global, line: &str) -> Result<Line, Stop>
 /// Whether the line is empty or a comment.
 fn says_nothing(line: &str) -> bool
     ensures exact { IsTrue result ↔ IsBlank line.now }
-    ensures word { (text : List ℕ) (rest : Option (List ℕ)) → IsLineWord text → line.now ≡ text ++ after rest → result ≡ false }
     ensures blank { result ≡ is_blank line.now }
 {
     line.is_empty() || line.starts_with('#')
@@ -69,8 +65,7 @@ fn says_nothing(line: &str) -> bool
 /// The line that begins with this word, from the next word on.
 fn line_by_word(alloc: Global, word: &str, words: Words) -> Result<Line, Stop>
     ensures something { result ≢ Ok says.Nothing }
-    ensures reads_node { (id : NodeId) (n : NodeData) → IsId id → IsNode n → word.now ≡ codes "node" →
-        option_copied words.entry.rest ≡ Some (node_args id n) → Reads result (λ read. read ≡ says.Node id n) }
+    ensures node { word.now ≡ codes "node" → Answers (node_means (unread words.entry)) result IsNodeLine }
     ensures means { word.now ≢ codes "update" → word.now ≢ codes "node" → Gives (plain_means word.now (unread words.entry)) result }
     ensures update { word.now ≡ codes "update" → Answers (update_means (unread words.entry)) result BeginsUpdate }
 {

@@ -1,6 +1,7 @@
 //! Programs that read a script from standard input.
 
 ghost use Rattle.std.specs.Prelude.{◌≤◌};
+ghost use Rattle.std.specs.Process.{exit_status};
 
 use crate::arguments::{Manual, NoArguments, read_arguments};
 use crate::ends::tell_no_memory;
@@ -27,7 +28,9 @@ pub trait Program {
 }
 
 /// Runs a program on the standard streams. What it has written is there to be read before it waits for more input.
-pub fn run_program<P: Program>(rt: &HostRuntime, program: &P) -> ExitCode {
+pub fn run_program<P: Program>(rt: &HostRuntime, program: &P) -> ExitCode
+    ensures { exit_status result ≤ 4 }
+{
     let alloc = rt.alloc();
     let mut errors = rt.stderr();
     let Ok(output) = Output::new(alloc, io::writer(rt)) else {
@@ -51,11 +54,9 @@ pub fn run_program<P: Program>(rt: &HostRuntime, program: &P) -> ExitCode {
 }
 
 /// Runs a program that has no arguments on the standard streams, unless [`read_arguments`] says that it is not to run.
-pub fn run_without_arguments<P: Program>(
-    rt: &HostRuntime,
-    manual: &Manual,
-    program: &P,
-) -> ExitCode {
+pub fn run_without_arguments<P: Program>(rt: &HostRuntime, manual: &Manual, program: &P) -> ExitCode
+    ensures { exit_status result ≤ 4 }
+{
     match read_arguments(rt, manual) {
         Ok((_, NoArguments)) => run_program(rt, program),
         Err(status) => ExitCode::from(status),

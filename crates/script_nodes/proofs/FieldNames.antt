@@ -9,14 +9,15 @@ use Rattle.std.proofs.lemmas.Option.{none-some, same_Some}
 use Rattle.std.proofs.lemmas.Slice.Eq.{bytes_eq-Decides}
 use Rattle.script_nodes.specs.declared.field_kinds.Field.{Field}
 use Rattle.script_nodes.specs.FieldKinds.{all_fields, field_name}
-use Rattle.script_words.specs.NamedIn.{named_in}
-use Rattle.script_nodes.proofs.FieldTails.{named}
+use Rattle.script_nodes.specs.FieldMeaning.{field_called}
+use Rattle.script_words.specs.NamedIn.{first_named, named_in}
 use Rattle.script_nodes.proofs.FieldSteps.{named_back}
+use Rattle.script_words.proofs.NamedTables.{in_table}
 
 -- ---- what holds of all fields in the list holds of each
 
-of_named : (P : Field → Type 0) (name : List ℕ) (fields : List Field) (which : Field) → All P fields → named name fields ≡ Some which → P which
-unfolding named
+of_named : (P : Field → Type 0) (name : List ℕ) (fields : List Field) (which : Field) → All P fields → first_named field_name name fields ≡ Some which → P which
+unfolding first_named
 of_named P name [] which all e = absurd (none-some which e)
 of_named P name (f ∷ fields) which all e = ⊎_elim
     (λ t. subst P (same_Some f which (sym (cond-true _ _ _ t) ∙ e)) (All-head P f fields all))
@@ -29,38 +30,36 @@ each P all which = of_named P (field_name which) all_fields which all (named_bac
 pub each_passes : (test : Field → Bool) → list_all test all_fields ≡ true → (which : Field) → test which ≡ true
 each_passes test all = each (λ f. test f ≡ true) (AllPass-from_list_all test all_fields all)
 
--- ---- a name is that of one field
-
-pub same_name : (name : List ℕ) (one other : Field) → name ≡ field_name one → name ≡ field_name other → one ≡ other
-same_name name one other e f = same_Some one other (sym (named_back one) ∙ ap (λ n. named n all_fields) (sym e ∙ f) ∙ named_back other)
-
 -- ---- a field is found by its name in a table
 
 -- each stands beside its name
 abbrev pub AreNamed : List (Bor (List ℕ) × Field) → Type 0
 AreNamed table = map (λ e. e.0.now) table ≡ map (λ e. field_name e.1) table
 
-in_table : (name : List ℕ) (table : List (Bor (List ℕ) × Field)) → AreNamed table → named_in name table ≡ named name (map (λ e. e.1) table)
-unfolding named_in named
-in_table name [] h = refl
-in_table name (entry ∷ others) h =
-    let first : entry.0.now ≡ field_name entry.1 = ap (λ l. get_or l 0 []) h in
-    rw first (ap (λ t. if bytes_eq (field_name entry.1) name then Some entry.1 else t) (in_table name others (ap (drop 1) h)))
-
 found_by : (name : List ℕ) (other : Field) (rest : Option Field) (which : Field) (same : Bool) → bytes_eq (field_name other) name ≡ same → (if same then Some other else rest) ≡ Some which → (rest ≡ Some which → name ≡ field_name which) → name ≡ field_name which
 found_by name other rest which true is e later = sym ((bytes_eq-Decides (field_name other) name).0 is) ∙ ap field_name (same_Some other which e)
 found_by name other rest which false is e later = later e
 
 -- what is found is called so
-found : (name : List ℕ) (fields : List Field) (which : Field) → named name fields ≡ Some which → name ≡ field_name which
-unfolding named
+found : (name : List ℕ) (fields : List Field) (which : Field) → first_named field_name name fields ≡ Some which → name ≡ field_name which
+unfolding first_named
 found name [] which e = cc
-found name (other ∷ others) which e = found_by name other (named name others) which (bytes_eq (field_name other) name) refl e (found name others which)
+found name (other ∷ others) which e = found_by name other (first_named field_name name others) which (bytes_eq (field_name other) name) refl e (found name others which)
 
 pub found_or_nowhere : (name : List ℕ) (table : List (Bor (List ℕ) × Field)) → AreNamed table → map (λ e. e.1) table ≡ all_fields → (result : Option Field) → result ≡ named_in name table →
     MatchOption result ((which : Field) → name ≢ field_name which) (λ which. name ≡ field_name which)
-found_or_nowhere name table h all None e = λ which same. let no : None ≡ Some which = e ∙ in_table name table h ∙ ap (named name) all ∙ ap (λ n. named n all_fields) same ∙ named_back which in cc
-found_or_nowhere name table h all (Some which) e = found name all_fields which (sym (e ∙ in_table name table h ∙ ap (named name) all))
+found_or_nowhere name table h all None e = λ which same. let no : None ≡ Some which = e ∙ in_table field_name table h name ∙ ap (first_named field_name name) all ∙ ap (λ n. first_named field_name n all_fields) same ∙ named_back which in cc
+found_or_nowhere name table h all (Some which) e = found name all_fields which (sym (e ∙ in_table field_name table h name ∙ ap (first_named field_name name) all))
+
+-- ---- the field that a name means
+
+pub called_back : (which : Field) → field_called (field_name which) ≡ Some which
+unfolding field_called
+called_back which = named_back which
+
+pub called_so : (name : List ℕ) (which : Field) → field_called name ≡ Some which → name ≡ field_name which
+unfolding field_called
+called_so name which e = found name all_fields which e
 
 -- each field of a table has the name that it stands beside
 pub has_its_name : (table : List (Bor (List ℕ) × Field)) → AreNamed table → (i : ℕ) (d : Bor (List ℕ) × Field) → i < length table → (slice_index_or table i d).0.now ≡ field_name (slice_index_or table i d).1

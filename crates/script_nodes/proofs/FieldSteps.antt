@@ -17,7 +17,8 @@ use Rattle.script_nodes.specs.declared.field_kinds.Field.{Field}
 use Rattle.script_nodes.specs.declared.field_kinds.Field.TheVariants as field
 use Rattle.script_nodes.specs.FieldKinds.{all_fields, field_name, with_ids, with_id, with_text, with_flag, with_numbers, with_units, with_bool, with_color, with_decoration, with_number, with_count, with_actions_field}
 use Rattle.script_nodes.specs.NodeReading.{with_field, without, without_all, IsWithout}
-use Rattle.script_nodes.proofs.FieldTails.{after_name, following, named}
+use Rattle.script_nodes.proofs.FieldTails.{after_name, following}
+use Rattle.script_words.specs.NamedIn.{first_named}
 
 -- a node without all fields has nothing but its role
 pub nothing_left : (n : NodeData) → without_all all_fields n ≡ empty_node n.role
@@ -36,11 +37,11 @@ StandsAlone which n m =
 
 -- it is the first one of its name
 abbrev pub IsFound : Field → Type 0
-IsFound which = named (field_name which) all_fields ≡ Some which
+IsFound which = first_named field_name (field_name which) all_fields ≡ Some which
 
 -- all that holds of each field by computation
 of_each : (which : Field) → IsFound which × ((n m : NodeData) → StandsAlone which n m)
-unfolding with_field without_all without following after_name named
+unfolding with_field without_all without following after_name first_named
 of_each (field.Ids ids.Children) = (refl, λ n m. (refl, refl, refl, refl, λ e. e))
 of_each (field.Id id.ActiveDescendant) = (refl, λ n m. (refl, refl, refl, refl, λ e. e))
 of_each (field.Text text.Label) = (refl, λ n m. (refl, refl, refl, refl, λ e. e))

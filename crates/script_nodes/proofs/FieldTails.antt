@@ -7,11 +7,6 @@ use Rattle.std.proofs.lemmas.Slice.Eq.{bytes_eq-Decides}
 use Rattle.script_nodes.specs.declared.field_kinds.Field.{Field}
 use Rattle.script_nodes.specs.FieldKinds.{all_fields, field_name}
 
--- the first of these fields that is called so
-unfoldable pub named : List ℕ → List Field → Option Field
-named name [] = None
-named name (which ∷ others) = if bytes_eq (field_name which) name then Some which else named name others
-
 -- those of these fields that come after the one with this name
 unfoldable pub after_name : List ℕ → List Field → List Field
 after_name name [] = []

@@ -5,9 +5,11 @@ pub mod FieldTails
 pub mod FieldSteps
 pub mod FieldsLeftOut
 pub mod NodeLoop
-pub mod GivenValues
 pub mod FieldNames
 pub mod FieldNumbers
 pub mod NodeLines
 pub mod NodeFits
 pub mod Utf8
+pub mod FieldWords
+pub mod WrittenNodes
+pub mod ListedFields

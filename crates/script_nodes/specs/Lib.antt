@@ -3,5 +3,5 @@ pub mod FieldNumbers
 pub mod NodeText
 pub mod NodeReading
 pub mod ActionLists
-pub mod FieldReading
 pub mod Given
+pub mod FieldMeaning

@@ -2,15 +2,11 @@
 //!
 //! A field occurs once. A number has a minus sign if it is negative.
 
-ghost use Rattle.std.specs.Prelude.{◌<◌, ◌≡◌, ◌≢◌, ◌++◌, ℕ, [], List, OnOk, Ok, Option, Some, true, false};
-ghost use Rattle.schema.specs.NodeData.{NodeData};
-ghost use Rattle.script_nodes.specs.declared.field_kinds.Field.{Field};
-ghost use Rattle.script_nodes.specs.declared.field_kinds.Field.TheVariants as field_;
-ghost use Rattle.script_nodes.specs.declared.field_kinds.FlagField.{FlagField};
-ghost use Rattle.script_nodes.specs.FieldKinds.{flag_at, with_flag};
-ghost use Rattle.script_nodes.specs.NodeReading.{IsNode, IsWithout, with_field};
-ghost use Rattle.script_nodes.specs.NodeText.{piece, value_of};
-ghost use Rattle.script_words.specs.Reading.{Begins, Reads, after, unread};
+ghost use Rattle.std.specs.Prelude.{◌<◌, OnOk};
+ghost use Rattle.script_nodes.specs.FieldMeaning.{ReadsValue, field_means, flag_means, takes_text};
+ghost use Rattle.script_words.specs.Fields.{fields_of, one_word};
+ghost use Rattle.script_words.specs.Answering.{AnswersAs};
+ghost use Rattle.script_words.specs.Reading.{unread};
 ghost use Rattle.script_words.specs.Words.{left};
 
 use crate::field_kinds::{Field, field_named};
@@ -30,10 +26,9 @@ use std::alloc::Global;
 
 /// Reads the next field, which the node doesn't have yet.
 pub(crate) fn node_field(alloc: Global, words: &mut Words, node: &mut Node) -> Result<(), Stop>
-    ensures reads { (n : NodeData) (which : Field) (rest : Option (List ℕ)) → IsNode n
-        → after (unread words.old) ≡ piece n which ++ after rest → piece n which ≢ [] → IsWithout which node.old
-        → Reads result (λ _. (node.new ≡ with_field which n node.old) × (unread words.new ≡ rest)) }
     ensures shorter { OnOk result (left (unread words.new) < left (unread words.old)) }
+    ensures means { AnswersAs (one_word field_means (fields_of takes_text (unread words.old)) node.old) result
+        (λ read. (node.new, fields_of takes_text (unread words.new))) }
 {
     let (name, has_value) = words.field()?;
     let field = field_named(name).ok_or(Stop::BadLine)?;
@@ -45,10 +40,8 @@ pub(crate) fn node_field(alloc: Global, words: &mut Words, node: &mut Node) -> R
 
 /// Reads the value of a field, which the node doesn't have yet.
 fn field_value(alloc: Global, words: &mut Words, field: Field, node: &mut Node) -> Result<(), Stop>
-    ensures reads { (n : NodeData) (value : List ℕ) (rest : Option (List ℕ)) → IsNode n → value_of n field ≡ Some value
-        → Begins (unread words.old) value rest → IsWithout field node.old
-        → Reads result (λ _. (node.new ≡ with_field field n node.old) × (unread words.new ≡ rest)) }
     ensures shorter { OnOk result (left (unread words.new) < left (unread words.old)) }
+    ensures means { ReadsValue field words.old node.old result node.new words.new }
 {
     match field {
         Field::Ids(which) => ids_value(alloc, words, which, node),
@@ -83,8 +76,7 @@ fn field_value(alloc: Global, words: &mut Words, field: Field, node: &mut Node) 
 
 /// Sets a flag, which isn't set yet.
 fn give_flag(field: Field, node: &mut Node) -> Result<(), Stop>
-    ensures reads { (which : FlagField) → field ≡ field_.Flag which → flag_at which node.old ≡ false
-        → (result ≡ Ok tt) × (node.new ≡ with_flag which true node.old) }
+    ensures means { AnswersAs (flag_means field node.old) result (λ read. node.new) }
 {
     match field {
         Field::Flag(which) if !which.is_in(node) => {

@@ -1,17 +1,9 @@
 //! The values of a node's fields, by their kinds.
 
-ghost use Rattle.std.specs.Prelude.{ℕ, ◌<◌, ◌≡◌, ◌∷◌, [], All, List, OnOk, Option, Some, None};
-ghost use Rattle.std.specs.Fmt.{decimal, signed_decimal};
-ghost use Rattle.std.specs.Str.{IsUtf8};
-ghost use Rattle.schema.specs.declared.NodeId.{NodeId};
-ghost use Rattle.schema.specs.declared.actions.Action.{Action};
-ghost use Rattle.script_nodes.specs.ActionLists.{with_actions};
-ghost use Rattle.script_nodes.specs.FieldKinds.{ids_at, with_ids, id_at, with_id, text_at, with_text, numbers_at, with_numbers, units_at, with_units, bool_at, with_bool, color_at, with_color, decoration_at, with_decoration, number_at, with_number, count_at, with_count, actions_at, with_actions_field};
-ghost use Rattle.script_nodes.specs.FieldReading.{TakesAny, TakesFit};
-ghost use Rattle.script_words.specs.Names.{truth_name};
-ghost use Rattle.script_words.specs.Parts.{ids_text, numbers_text, units_text, color_text, decoration_text, action_list_text, id_text};
-ghost use Rattle.script_words.specs.Quoted.{quoted};
-ghost use Rattle.script_words.specs.Reading.{Begins, Reads, IsAction, IsId, IsCount, IsNumber, IsShort, IsUnits, IsColor, IsDecoration, unread};
+ghost use Rattle.std.specs.Prelude.{◌<◌, OnOk};
+ghost use Rattle.script_nodes.specs.FieldMeaning.{ReadsValue};
+ghost use Rattle.script_nodes.specs.declared.field_kinds.Field.TheVariants as field_;
+ghost use Rattle.script_words.specs.Reading.{unread};
 ghost use Rattle.script_words.specs.Words.{left};
 
 use crate::field_kinds::{
@@ -27,15 +19,15 @@ use script_words::words::Words;
 use std::alloc::Global;
 
 /// A text, which the node doesn't have yet.
+#[tactic(auto, unfolding(crate::specs::FieldMeaning::by_kind))]
 pub(crate) fn text_value(
     alloc: Global,
     words: &mut Words,
     field: TextField,
     node: &mut Node,
 ) -> Result<(), Stop>
-    ensures reads { TakesFit IsUtf8 quoted words.old words.new result
-        (text_at field node.old ≡ None) (λ value. node.new ≡ with_text field (Some value) node.old) }
     ensures shorter { OnOk result (left (unread words.new) < left (unread words.old)) }
+    ensures means { ReadsValue (field_.Text field) words.old node.old result node.new words.new }
 {
     if field.of(node).is_some() {
         return Err(Stop::BadLine);
@@ -46,17 +38,15 @@ pub(crate) fn text_value(
 }
 
 /// A list of nodes, which the node doesn't have yet.
-#[tactic(auto, using(script_words::proofs::CommaWords::ids_is_word))]
+#[tactic(auto, using(crate::proofs::ListedFields::listed_given, crate::proofs::ListedFields::listed_free), unfolding(crate::specs::FieldMeaning::by_kind))]
 pub(crate) fn ids_value(
     alloc: Global,
     words: &mut Words,
     field: IdsField,
     node: &mut Node,
 ) -> Result<(), Stop>
-    ensures reads { (id : NodeId) (others : List NodeId) (rest : Option (List ℕ)) → IsId id → All IsId others
-        → Begins (unread words.old) (ids_text id others) rest → ids_at field node.old ≡ []
-        → Reads result (λ _. (node.new ≡ with_ids field (id ∷ others) node.old) × (unread words.new ≡ rest)) }
     ensures shorter { OnOk result (left (unread words.new) < left (unread words.old)) }
+    ensures means { ReadsValue (field_.Ids field) words.old node.old result node.new words.new }
 {
     if !field.of(node).is_empty() {
         return Err(Stop::BadLine);
@@ -67,10 +57,10 @@ pub(crate) fn ids_value(
 }
 
 /// A node, which the node doesn't have yet.
+#[tactic(auto, unfolding(crate::specs::FieldMeaning::by_kind))]
 pub(crate) fn id_value(words: &mut Words, field: IdField, node: &mut Node) -> Result<(), Stop>
-    ensures reads { TakesFit IsId id_text words.old words.new result
-        (id_at field node.old ≡ None) (λ value. node.new ≡ with_id field (Some value) node.old) }
     ensures shorter { OnOk result (left (unread words.new) < left (unread words.old)) }
+    ensures means { ReadsValue (field_.Id field) words.old node.old result node.new words.new }
 {
     if field.of(node).is_some() {
         return Err(Stop::BadLine);
@@ -81,17 +71,15 @@ pub(crate) fn id_value(words: &mut Words, field: IdField, node: &mut Node) -> Re
 }
 
 /// A list of numbers, which the node doesn't have yet.
-#[tactic(auto, using(script_words::proofs::CommaWords::numbers_is_word))]
+#[tactic(auto, using(crate::proofs::ListedFields::listed_given, crate::proofs::ListedFields::listed_free), unfolding(crate::specs::FieldMeaning::by_kind))]
 pub(crate) fn numbers_value(
     alloc: Global,
     words: &mut Words,
     field: NumbersField,
     node: &mut Node,
 ) -> Result<(), Stop>
-    ensures reads { (number : ℕ) (others : List ℕ) (rest : Option (List ℕ)) → IsShort number → All IsShort others
-        → Begins (unread words.old) (numbers_text number others) rest → numbers_at field node.old ≡ []
-        → Reads result (λ _. (node.new ≡ with_numbers field (number ∷ others) node.old) × (unread words.new ≡ rest)) }
     ensures shorter { OnOk result (left (unread words.new) < left (unread words.old)) }
+    ensures means { ReadsValue (field_.Numbers field) words.old node.old result node.new words.new }
 {
     if !field.of(node).is_empty() {
         return Err(Stop::BadLine);
@@ -102,16 +90,15 @@ pub(crate) fn numbers_value(
 }
 
 /// A list of numbers in units of 1/64 pixel, which the node doesn't have yet.
-#[tactic(auto, using(script_words::proofs::CommaWords::units_is_word))]
+#[tactic(auto, unfolding(crate::specs::FieldMeaning::by_kind))]
 pub(crate) fn units_value(
     alloc: Global,
     words: &mut Words,
     field: UnitsField,
     node: &mut Node,
 ) -> Result<(), Stop>
-    ensures reads { TakesFit (All IsUnits) units_text words.old words.new result
-        (units_at field node.old ≡ None) (λ value. node.new ≡ with_units field (Some value) node.old) }
     ensures shorter { OnOk result (left (unread words.new) < left (unread words.old)) }
+    ensures means { ReadsValue (field_.Units field) words.old node.old result node.new words.new }
 {
     if field.of(node).is_some() {
         return Err(Stop::BadLine);
@@ -122,11 +109,10 @@ pub(crate) fn units_value(
 }
 
 /// A flag that may be unset, which the node doesn't have yet.
-#[tactic(auto, using(script_words::proofs::NamedWords::truth_is_word))]
+#[tactic(auto, using(script_words::proofs::WordCuts::one_taken, script_words::proofs::WordCuts::none_taken, script_words::proofs::NamedValues::truth_is), unfolding(crate::specs::FieldMeaning::by_kind))]
 pub(crate) fn bool_value(words: &mut Words, field: BoolField, node: &mut Node) -> Result<(), Stop>
-    ensures reads { TakesAny truth_name words.old words.new result
-        (bool_at field node.old ≡ None) (λ value. node.new ≡ with_bool field (Some value) node.old) }
     ensures shorter { OnOk result (left (unread words.new) < left (unread words.old)) }
+    ensures means { ReadsValue (field_.Bool field) words.old node.old result node.new words.new }
 {
     if field.of(node).is_some() {
         return Err(Stop::BadLine);
@@ -137,11 +123,10 @@ pub(crate) fn bool_value(words: &mut Words, field: BoolField, node: &mut Node) -
 }
 
 /// A colour, which the node doesn't have yet.
-#[tactic(auto, using(script_words::proofs::CommaWords::color_is_word))]
+#[tactic(auto, unfolding(crate::specs::FieldMeaning::by_kind))]
 pub(crate) fn color_value(words: &mut Words, field: ColorField, node: &mut Node) -> Result<(), Stop>
-    ensures reads { TakesFit IsColor color_text words.old words.new result
-        (color_at field node.old ≡ None) (λ value. node.new ≡ with_color field (Some value) node.old) }
     ensures shorter { OnOk result (left (unread words.new) < left (unread words.old)) }
+    ensures means { ReadsValue (field_.Color field) words.old node.old result node.new words.new }
 {
     if field.of(node).is_some() {
         return Err(Stop::BadLine);
@@ -152,15 +137,14 @@ pub(crate) fn color_value(words: &mut Words, field: ColorField, node: &mut Node)
 }
 
 /// A line above, through or below text, which the node doesn't have yet.
-#[tactic(auto, using(script_words::proofs::CommaWords::decoration_is_word))]
+#[tactic(auto, unfolding(crate::specs::FieldMeaning::by_kind))]
 pub(crate) fn decoration_value(
     words: &mut Words,
     field: DecorationField,
     node: &mut Node,
 ) -> Result<(), Stop>
-    ensures reads { TakesFit IsDecoration decoration_text words.old words.new result
-        (decoration_at field node.old ≡ None) (λ value. node.new ≡ with_decoration field (Some value) node.old) }
     ensures shorter { OnOk result (left (unread words.new) < left (unread words.old)) }
+    ensures means { ReadsValue (field_.Decoration field) words.old node.old result node.new words.new }
 {
     if field.of(node).is_some() {
         return Err(Stop::BadLine);
@@ -171,14 +155,14 @@ pub(crate) fn decoration_value(
 }
 
 /// A number, which the node doesn't have yet.
+#[tactic(auto, unfolding(crate::specs::FieldMeaning::by_kind))]
 pub(crate) fn number_value(
     words: &mut Words,
     field: NumberField,
     node: &mut Node,
 ) -> Result<(), Stop>
-    ensures reads { TakesFit IsNumber signed_decimal words.old words.new result
-        (number_at field node.old ≡ None) (λ value. node.new ≡ with_number field (Some value) node.old) }
     ensures shorter { OnOk result (left (unread words.new) < left (unread words.old)) }
+    ensures means { ReadsValue (field_.Number field) words.old node.old result node.new words.new }
 {
     if field.of(node).is_some() {
         return Err(Stop::BadLine);
@@ -189,10 +173,10 @@ pub(crate) fn number_value(
 }
 
 /// A count, which the node doesn't have yet.
+#[tactic(auto, unfolding(crate::specs::FieldMeaning::by_kind))]
 pub(crate) fn count_value(words: &mut Words, field: CountField, node: &mut Node) -> Result<(), Stop>
-    ensures reads { TakesFit IsCount decimal words.old words.new result
-        (count_at field node.old ≡ None) (λ value. node.new ≡ with_count field (Some value) node.old) }
     ensures shorter { OnOk result (left (unread words.new) < left (unread words.old)) }
+    ensures means { ReadsValue (field_.Count field) words.old node.old result node.new words.new }
 {
     if field.of(node).is_some() {
         return Err(Stop::BadLine);
@@ -203,18 +187,15 @@ pub(crate) fn count_value(words: &mut Words, field: CountField, node: &mut Node)
 }
 
 /// A set of actions, which the node doesn't have yet.
-#[tactic(auto, using(crate::proofs::ActionSets::action_list_is_word))]
+#[tactic(auto, using(crate::proofs::ListedFields::set_given, crate::proofs::ListedFields::set_free), unfolding(crate::specs::FieldMeaning::by_kind))]
 pub(crate) fn actions_value(
     alloc: Global,
     words: &mut Words,
     field: ActionsField,
     node: &mut Node,
 ) -> Result<(), Stop>
-    ensures reads { (action : Action) (others : List Action) (rest : Option (List ℕ)) → IsAction action → All IsAction others
-        → Begins (unread words.old) (action_list_text action others) rest → actions_at field node.old ≡ 0
-        → Reads result (λ _. (node.new ≡ with_actions_field field (with_actions 0 (action ∷ others)) node.old)
-        × (unread words.new ≡ rest)) }
     ensures shorter { OnOk result (left (unread words.new) < left (unread words.old)) }
+    ensures means { ReadsValue (field_.Actions field) words.old node.old result node.new words.new }
 {
     if field.is_in(node) {
         return Err(Stop::BadLine);

@@ -18,7 +18,7 @@ IsLeft {T} text P all done left = (rest : List T) × (done ++ rest ≡ all) × A
 abbrev pub IsCut : List ℕ → List ℕ → Option (List ℕ) → Type 0
 IsCut word part after = (text : List ℕ) (rest : Option (List ℕ)) → Lacks 44 text → word ≡ text ++ behind 44 rest → (part ≡ text) × (after ≡ rest)
 
-behind_listed : {T : Type 0} (text : T → List ℕ) (xs : List T) → flat_map (comma_then text) xs ≡ behind 44 (listed text xs)
+pub behind_listed : {T : Type 0} (text : T → List ℕ) (xs : List T) → flat_map (comma_then text) xs ≡ behind 44 (listed text xs)
 behind_listed text [] = refl
 behind_listed text (x ∷ xs) = refl
 

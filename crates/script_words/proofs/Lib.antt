@@ -11,7 +11,6 @@ pub mod CommaWords
 pub mod RoleWords
 pub mod CommaLists
 pub mod QuotedTexts
-pub mod Stopped
 pub mod LineTexts
 pub mod NameLines
 pub mod ValueLines
@@ -20,3 +19,7 @@ pub mod WordMeanings
 pub mod FieldCuts
 pub mod TextCuts
 pub mod TextSteps
+pub mod NamedValues
+pub mod PartMeanings
+pub mod FieldReads
+pub mod WrittenValues

@@ -10,7 +10,7 @@ use Rattle.script_words.specs.NameLists.{all_moves}
 use Rattle.script_words.specs.Names.{move_name}
 
 -- in a table of values beside their names a word is beside the first of the values with that name
-in_table : {T : Type 0} (name : T → List ℕ) (table : List (Bor (List ℕ) × T)) → map (λ e. e.0.now) table ≡ map (λ e. name e.1) table
+pub in_table : {T : Type 0} (name : T → List ℕ) (table : List (Bor (List ℕ) × T)) → map (λ e. e.0.now) table ≡ map (λ e. name e.1) table
     → (word : List ℕ) → named_in word table ≡ first_named name word (map (λ e. e.1) table)
 unfolding named_in first_named
 in_table name [] names word = refl

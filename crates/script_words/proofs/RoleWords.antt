@@ -13,11 +13,13 @@ use Rattle.schema.specs.declared.Role.{Role}
 use Rattle.schema.specs.declared.Role.TheVariants as role
 use Rattle.schema.specs.RoleNames.{role_name, role_text, other_number, with_number}
 use Rattle.schema.specs.Roles.{role_number, same_role-decides}
-use Rattle.script_words.specs.NamedIn.{named_in}
+use Rattle.script_words.specs.NamedIn.{first_named, named_in}
+use Rattle.script_words.specs.NameLists.{all_roles}
 use Rattle.script_words.specs.Reading.{IsRole, IsShort, IsWord}
 use Rattle.script_words.specs.Says.{SaysOther, SaysRole}
 use Rattle.script_words.proofs.Decimals.{decimal_lacks}
 use Rattle.script_words.proofs.Lacking.{lacks_append, lacks_by}
+use Rattle.script_words.proofs.NamedTables.{in_table}
 
 -- ---- what stands beside a word in a table, from an index on
 
@@ -38,33 +40,6 @@ named_nowhere word table i high = ap (named_in word) (drop_of_length-le table hi
 
 -- ---- the roles by their names
 
--- each role that has a name
-unfoldable pub all_roles : List Role
-all_roles =
-    role.Unknown ∷ role.Window ∷ role.ScrollView ∷ role.Paragraph ∷ role.GenericContainer ∷ role.TextRun ∷ role.Label ∷
-    role.Image ∷ role.Document ∷ role.Terminal ∷ role.TextInput ∷ role.MultilineTextInput ∷ role.SearchInput ∷
-    role.DateInput ∷ role.DateTimeInput ∷ role.WeekInput ∷ role.MonthInput ∷ role.TimeInput ∷ role.EmailInput ∷
-    role.NumberInput ∷ role.PasswordInput ∷ role.PhoneNumberInput ∷ role.UrlInput ∷ role.EditableComboBox ∷
-    role.SpinButton ∷ role.ListBox ∷ role.TabList ∷ role.AlertDialog ∷ role.Dialog ∷ role.ComboBox ∷
-    role.DisclosureTriangle ∷ role.TreeItem ∷ role.Button ∷ role.CheckBox ∷ role.DefaultButton ∷ role.Link ∷
-    role.MenuItem ∷ role.MenuItemCheckBox ∷ role.MenuItemRadio ∷ role.RadioButton ∷ role.DocBackLink ∷
-    role.DocBiblioRef ∷ role.DocGlossRef ∷ role.DocNoteRef ∷ role.ColorWell ∷ role.Grid ∷ role.MenuListPopup ∷
-    role.RadioGroup ∷ role.Slider ∷ role.Switch ∷ role.TreeGrid ∷ role.Article ∷ role.Definition ∷
-    role.DescriptionList ∷ role.GraphicsDocument ∷ role.List ∷ role.ListItem ∷ role.PdfRoot ∷ role.ProgressIndicator ∷
-    role.RootWebArea ∷ role.Term ∷ role.Timer ∷ role.Toolbar ∷ role.Tooltip ∷ role.Comment ∷ role.Tab ∷
-    role.ListBoxOption ∷ role.MenuListOption ∷ role.ListGrid ∷ role.Menu ∷ role.MenuBar ∷ role.Tree ∷ []
-
--- the first of them that is called so
-unfoldable pub role_by : List ℕ → List Role → Option Role
-role_by word [] = None
-role_by word (r ∷ others) = if bytes_eq (role_name r) word then Some r else role_by word others
-
-names_by_role : (word : List ℕ) (table : List (Bor (List ℕ) × Role)) → map (λ e. e.0.now) table ≡ map (λ e. role_name e.1) table → named_in word table ≡ role_by word (map (λ e. e.1) table)
-unfolding named_in role_by
-names_by_role word [] names = refl
-names_by_role word (entry ∷ others) names = let first : entry.0.now ≡ role_name entry.1 = cc in let rest : map (λ e. e.0.now) others ≡ map (λ e. role_name e.1) others = cc in
-    rw first (ap (λ t. if bytes_eq (role_name entry.1) word then Some entry.1 else t) (names_by_role word others rest))
-
 same_numbers : (xs ys : List Role) → map role_number xs ≡ map role_number ys → xs ≡ ys
 same_numbers [] [] e = refl
 same_numbers [] (y ∷ ys) e = cc
@@ -74,8 +49,8 @@ same_numbers (x ∷ xs) (y ∷ ys) e =
     ap₂ (λ r rs. r ∷ rs) ((same_role-decides x y).0 (eq-eqb (role_number x) (role_number y) first)) (same_numbers xs ys rest)
 
 -- a role is found by its name; an other one by none
-pub role_found : (r : Role) → (role_by (role_text r) all_roles ≡ Some r) ⊎ ((n : ℕ) × (r ≡ role.Other n) × (role_by (role_text r) all_roles ≡ None))
-unfolding role_by all_roles
+pub role_found : (r : Role) → (first_named role_name (role_text r) all_roles ≡ Some r) ⊎ ((n : ℕ) × (r ≡ role.Other n) × (first_named role_name (role_text r) all_roles ≡ None))
+unfolding first_named all_roles
 role_found (role.Other n) = inr (n, refl, refl)
 role_found _ = inl refl
 
@@ -83,7 +58,7 @@ pub role_in_table : (table : List (Bor (List ℕ) × Role)) → map (λ e. e.0.n
 unfolding all_roles
 role_in_table table names roles r =
     let all : map (λ e. e.1) table ≡ all_roles = same_numbers (map (λ e. e.1) table) all_roles (map-map role_number (λ e. e.1) table ∙ roles) in
-    let by : named_in (role_text r) table ≡ role_by (role_text r) all_roles = names_by_role (role_text r) table names ∙ ap (role_by (role_text r)) all in
+    let by : named_in (role_text r) table ≡ first_named role_name (role_text r) all_roles = in_table role_name table names (role_text r) ∙ ap (first_named role_name (role_text r)) all in
     ⊎_elim (λ e. inl (by ∙ e)) (λ k. inr (k.0, k.1, by ∙ k.2)) (role_found r)
 
 -- ---- which role a word says
@@ -97,8 +72,8 @@ no_number None t = refl
 no_number (Some n) t = absurd (true≢false (sym t))
 
 -- a role that is found is called so
-role_by_called : (word : List ℕ) (rs : List Role) (r : Role) → list_all plain rs ≡ true → role_by word rs ≡ Some r → (word ≡ role_name r) × (plain r ≡ true)
-unfolding role_by
+role_by_called : (word : List ℕ) (rs : List Role) (r : Role) → list_all plain rs ≡ true → first_named role_name word rs ≡ Some r → (word ≡ role_name r) × (plain r ≡ true)
+unfolding first_named
 role_by_called word [] r all e = absurd (none-some r e)
 role_by_called word (x ∷ rs) r all e =
     let k = and_parts (plain x) (list_all plain rs) all in
@@ -123,8 +98,8 @@ pub other_is_role : (n : ℕ) → IsShort n → IsRole (role.Other n)
 other_is_role n h code e = let same : n ≡ code = cc in subst IsShort same h
 
 -- no name in the table has a number in brackets
-other_not_by_name : (digits : List ℕ) → role_by (codes "Other(" ++ digits ++ codes ")") all_roles ≡ None
-unfolding role_by all_roles
+other_not_by_name : (digits : List ℕ) → first_named role_name (codes "Other(" ++ digits ++ codes ")") all_roles ≡ None
+unfolding first_named all_roles
 other_not_by_name digits = refl
 
 -- the name of a role, as it is said
@@ -133,9 +108,9 @@ said_text word name None s = inl s
 said_text word name (Some n) s = inr (n, refl, s)
 
 module _ (table : List (Bor (List ℕ) × Role)) (names : map (λ e. e.0.now) table ≡ map (λ e. role_name e.1) table) (roles : map (λ e. role_number e.1) table ≡ range_with_len 0 72) where
-  by_name : (word : List ℕ) → named_in word table ≡ role_by word all_roles
+  pub by_name : (word : List ℕ) → named_in word table ≡ first_named role_name word all_roles
   unfolding all_roles
-  by_name word = names_by_role word table names ∙ ap (role_by word) (same_numbers (map (λ e. e.1) table) all_roles (map-map role_number (λ e. e.1) table ∙ roles))
+  by_name word = in_table role_name table names word ∙ ap (first_named role_name word) (same_numbers (map (λ e. e.1) table) all_roles (map-map role_number (λ e. e.1) table ∙ roles))
 
   -- what the table has beside a word is what the word says
   pub table_says : (word : List ℕ) (r : Role) → named_in word table ≡ Some r → IsRole r × SaysRole word r

@@ -22,17 +22,19 @@ use Rattle.schema.specs.declared.values.Color.{Color}
 use Rattle.schema.specs.declared.values.TextDecoration.{TextDecoration}
 use Rattle.schema.specs.declared.values.TextPosition.{TextPosition}
 use Rattle.schema.specs.declared.values.TextSelection.{TextSelection}
+use Rattle.script_words.specs.NamedIn.{first_named}
+use Rattle.script_words.specs.NameLists.{all_roles}
 use Rattle.script_words.specs.Parts.{action_text, actions_value, color_text, corners_text, decoration_text, flag_text, ids_value, numbers_value, pair_text, place_text, rect_text, selection_text, translation_text, tree_text, units_text, word_field}
 use Rattle.script_words.specs.Reading.{IsAction, IsByte, IsColor, IsDecoration, IsId, IsPosition, IsRect, IsRole, IsSelection, IsShort, IsTranslation, IsUnits}
 use Rattle.script_words.proofs.LineTexts.{IsLineText, decimal_line, line_append, line_by, line_joined, line_lacking, line_nothing, listed_line, shows, units_line}
 use Rattle.script_words.proofs.NameLines.{decoration_style_line}
-use Rattle.script_words.proofs.RoleWords.{all_roles, role_by, role_found}
+use Rattle.script_words.proofs.RoleWords.{role_found}
 use Rattle.script_words.proofs.TreeNames.{uuid_lacks}
 
 -- ---- roles and actions
 
-pub role_shows : (word : List ℕ) (roles : List Role) (r : Role) → list_all (λ r. shows (role_text r)) roles ≡ true → role_by word roles ≡ Some r → shows (role_text r) ≡ true
-unfolding role_by
+pub role_shows : (word : List ℕ) (roles : List Role) (r : Role) → list_all (λ r. shows (role_text r)) roles ≡ true → first_named role_name word roles ≡ Some r → shows (role_text r) ≡ true
+unfolding first_named
 role_shows word [] r all e = absurd (none-some r e)
 role_shows word (x ∷ roles) r all e =
     let k = and_parts (shows (role_text x)) (list_all (λ r. shows (role_text r)) roles) all in

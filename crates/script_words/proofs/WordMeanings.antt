@@ -1,9 +1,13 @@
 -- The value of a word is the one that it says.
-use Rattle.std.proofs.Common.{◌≡◌, ◌≢◌, ℕ, ℤ, pos, negsuc, neg_ℤ, ◌^◌, ◌==◌, ◌&&◌, ◌<◌, ◌↔◌, ◌⊎◌, inl, inr, ⊎_elim, nat_lt, Bool, true, false, true≢false, List, [], ◌∷◌, ◌++◌, codes, length, drop, slice_index_or, bytes_eq, Option, Some, None, option_map, if◌then◌else◌, arith, ap, sym, refl, subst, ◌∙◌}
+use Rattle.std.proofs.Common.{◌≡◌, ◌≢◌, ℕ, ℤ, pos, negsuc, neg_ℤ, ◌^◌, ◌==◌, ◌&&◌, ◌<◌, ◌↔◌, ◌⊎◌, inl, inr, ⊎_elim, nat_lt, Bool, true, false, true≢false, List, [], ◌∷◌, ◌++◌, codes, length, drop, slice_index_or, bytes_eq, Option, Some, None, option_map, Result, Ok, Err, if◌then◌else◌, arith, ap, ap₂, sym, refl, subst, ◌∙◌}
+use mir.Syntax.{w32}
+use mir.Val.{of_z, to_z}
 use Rattle.std.specs.Char.{digit_value}
+use Rattle.std.specs.Result.{OkIff, result_ok}
 use Rattle.std.specs.Str.Parse.{AllDigits, IsNumeral, digits_value}
 use Rattle.std.proofs.lemmas.Bool.{cases_Bool, cond-true, cond-false}
 use Rattle.std.proofs.lemmas.Bool.Decides.{nat_tests}
+use Rattle.std.proofs.lemmas.Int.{to_z-of_z}
 use Rattle.std.proofs.lemmas.Option.{none-some, same_Some}
 use Rattle.std.proofs.lemmas.Slice.Eq.{bytes_eq-Decides}
 use Rattle.uuid.specs.Text.{parsed}
@@ -18,11 +22,11 @@ use Rattle.script_words.specs.Meaning.{onward}
 use Rattle.script_words.specs.NamedIn.{IsNamed, ReadsNamed, first_named}
 use Rattle.script_words.specs.NameLists.{all_filters, all_moves, all_sides}
 use Rattle.script_words.specs.Names.{filter_name, move_name, side_name}
-use Rattle.script_words.specs.Reading.{IsCount, IsNumber}
+use Rattle.script_words.specs.Reading.{IsByte, IsCount, IsNarrow, IsNumber, IsShort, IsUnits}
 use Rattle.script_words.specs.Says.{SaysNumber, SaysSigned, SaysTree}
-use Rattle.script_words.specs.WordValues.{are_digits, filter_of, fits_64, integer_value, is_numeral, move_of, negative_value, number_of, side_of, signed_kept, signed_of, tree_id, tree_of, unsigned_value}
+use Rattle.script_words.specs.WordValues.{are_digits, byte_of, filter_of, fits_32, fits_64, integer_value, is_numeral, kept_below, move_of, narrow_of, negative_value, number_of, short_of, side_of, signed_of, tree_id, tree_of, units_of, unsigned_value}
 use Rattle.script_words.proofs.NamedTables.{first_move}
-use Rattle.script_words.proofs.Numerals.{said_no_sign}
+use Rattle.script_words.proofs.Numerals.{said_no_sign, units_are_numbers}
 
 -- two readings that give the same values are the same
 pub same_options : {T : Type 0} (a b : Option T) (P : T → Type 0) → ((x : T) → (a ≡ Some x) ↔ P x) → ((x : T) → (b ≡ Some x) ↔ P x) → a ≡ b
@@ -52,6 +56,9 @@ lt_of a b e = grind (arith, nat_tests, e)
 
 of_lt : (a b : ℕ) → a < b → nat_lt a b ≡ true
 of_lt a b h = grind (arith, nat_tests, h)
+
+not_lt : (a b : ℕ) → (a < b → ⊥) → nat_lt a b ≡ false
+not_lt a b never = elim (cases_Bool (nat_lt a b)) [ inl t ↦ absurd (never (lt_of a b t)) | inr f ↦ f ]
 
 -- ---- numbers
 
@@ -110,19 +117,71 @@ fits_exact : (z : ℤ) → (fits_64 z ≡ true) ↔ IsNumber z
 fits_exact (pos n) = ((λ e. record { sfits = omega (arith, lt_of n (2 ^ 63) e) }), (λ h. of_lt n (2 ^ 63) (omega (arith, h.sfits))))
 fits_exact (negsuc n) = ((λ e. record { sfits = omega (arith, lt_of n (2 ^ 63) e) }), (λ h. of_lt n (2 ^ 63) (omega (arith, h.sfits))))
 
-kept_exact : (o : Option ℤ) (Says : ℤ → Type 0) → ((z : ℤ) → (o ≡ Some z) ↔ Says z) → (z : ℤ) → (onward o signed_kept ≡ Some z) ↔ (IsNumber z × Says z)
-kept_exact None Says all z = ((λ e. absurd (none-some z e)), (λ k. absurd (none-some z ((all z).1 k.1))))
-kept_exact (Some x) Says all z = (
-  (λ e. let p = if_some (fits_64 x) x z e in (subst IsNumber p.1 ((fits_exact x).0 p.0), (all z).0 (ap Some p.1))),
-  (λ k. let same = same_Some x z ((all z).1 k.1) in cond-true _ _ _ ((fits_exact x).1 (subst IsNumber (sym same) k.0)) ∙ ap Some same),
+-- of what is read, that is kept which fits
+pub kept_exact : {T : Type 0} (keeps : T → Bool) (Fits Says : T → Type 0) → ((x : T) → (keeps x ≡ true) ↔ Fits x) → (o : Option T) → ((x : T) → (o ≡ Some x) ↔ Says x)
+    → (x : T) → (onward o (λ y. if keeps y then Some y else None) ≡ Some x) ↔ (Fits x × Says x)
+kept_exact keeps Fits Says fits None all x = ((λ e. absurd (none-some x e)), (λ k. absurd (none-some x ((all x).1 k.1))))
+kept_exact keeps Fits Says fits (Some y) all x = (
+  (λ e. let p = if_some (keeps y) y x e in (subst Fits p.1 ((fits y).0 p.0), (all x).0 (ap Some p.1))),
+  (λ k. let same = same_Some y x ((all x).1 k.1) in cond-true _ _ _ ((fits y).1 (subst Fits (sym same) k.0)) ∙ ap Some same),
 )
 
 pub signed_exact : (word : List ℕ) (z : ℤ) → (signed_of word ≡ Some z) ↔ (IsNumber z × SaysSigned word z)
 unfolding signed_of
-signed_exact word z = kept_exact (integer_value word) (SaysSigned word) (integer_exact word) z
+signed_exact word z = kept_exact fits_64 IsNumber (SaysSigned word) fits_exact (integer_value word) (integer_exact word) z
 
 pub signed_is : (word : List ℕ) (r : Option ℤ) → ((z : ℤ) → (r ≡ Some z) ↔ (IsNumber z × SaysSigned word z)) → r ≡ signed_of word
 signed_is word r all = same_options r (signed_of word) (λ z. IsNumber z × SaysSigned word z) all (signed_exact word)
+
+-- ---- fewer bits
+
+-- what fits the fewer bits fits the more ones
+fewer : {Read Fits Wide Says : Type 0} → (Fits → Wide) → Read ↔ (Fits × (Wide × Says)) → Read ↔ (Fits × Says)
+fewer wider e = ((λ read. let k = e.0 read in (k.0, k.1.1)), (λ k. e.1 (k.0, (wider k.0, k.1))))
+
+below_exact : (bound n : ℕ) → (nat_lt n bound ≡ true) ↔ (n < bound)
+below_exact bound n = ((λ t. lt_of n bound t), (λ low. of_lt n bound low))
+
+pub narrow_exact : (word : List ℕ) (n : ℕ) → (narrow_of word ≡ Some n) ↔ (IsNarrow n × SaysNumber word n)
+unfolding narrow_of
+narrow_exact word n = fewer (λ low. omega (arith, low)) (kept_exact (λ m. nat_lt m (2 ^ 32)) IsNarrow (λ m. IsCount m × SaysNumber word m) (below_exact (2 ^ 32)) (number_of word) (number_exact word) n)
+
+pub short_exact : (word : List ℕ) (n : ℕ) → (short_of word ≡ Some n) ↔ (IsShort n × SaysNumber word n)
+unfolding short_of
+short_exact word n = fewer (λ low. omega (arith, low)) (kept_exact (λ m. nat_lt m (2 ^ 16)) IsShort (λ m. IsCount m × SaysNumber word m) (below_exact (2 ^ 16)) (number_of word) (number_exact word) n)
+
+pub byte_exact : (word : List ℕ) (n : ℕ) → (byte_of word ≡ Some n) ↔ (IsByte n × SaysNumber word n)
+unfolding byte_of
+byte_exact word n = fewer (λ low. omega (arith, low)) (kept_exact (λ m. nat_lt m (2 ^ 8)) IsByte (λ m. IsCount m × SaysNumber word m) (below_exact (2 ^ 8)) (number_of word) (number_exact word) n)
+
+units_exact_fit : (z : ℤ) → (fits_32 z ≡ true) ↔ IsUnits z
+units_exact_fit (pos n) = ((λ e. record { sfits = omega (arith, lt_of n (2 ^ 31) e) }), (λ h. of_lt n (2 ^ 31) (omega (arith, h.sfits))))
+units_exact_fit (negsuc n) = ((λ e. record { sfits = omega (arith, lt_of n (2 ^ 31) e) }), (λ h. of_lt n (2 ^ 31) (omega (arith, h.sfits))))
+
+pub units_exact : (word : List ℕ) (z : ℤ) → (units_of word ≡ Some z) ↔ (IsUnits z × SaysSigned word z)
+unfolding units_of
+units_exact word z = fewer (units_are_numbers z) (kept_exact fits_32 IsUnits (λ y. IsNumber y × SaysSigned word y) units_exact_fit (signed_of word) (signed_exact word) z)
+
+pub short_is : (word : List ℕ) (r : Option ℕ) → ((n : ℕ) → (r ≡ Some n) ↔ (IsShort n × SaysNumber word n)) → r ≡ short_of word
+short_is word r all = same_options r (short_of word) (λ n. IsShort n × SaysNumber word n) all (short_exact word)
+
+pub byte_is : (word : List ℕ) (r : Option ℕ) → ((n : ℕ) → (r ≡ Some n) ↔ (IsByte n × SaysNumber word n)) → r ≡ byte_of word
+byte_is word r all = same_options r (byte_of word) (λ n. IsByte n × SaysNumber word n) all (byte_exact word)
+
+pub units_is : (word : List ℕ) (r : Option ℤ) → ((z : ℤ) → (r ≡ Some z) ↔ (IsUnits z × SaysSigned word z)) → r ≡ units_of word
+units_is word r all = same_options r (units_of word) (λ z. IsUnits z × SaysSigned word z) all (units_exact word)
+
+-- one that is read, as it is kept in 32 bits
+pub units_read : (word : List ℕ) (z : ℤ) → ((x : ℤ) → (Some z ≡ Some x) ↔ (IsUnits x × SaysSigned word x)) → Some (to_z w32 (of_z w32 z)) ≡ units_of word
+units_read word z all = ap Some (to_z-of_z w32 z ((all z).0 refl).0) ∙ units_is word (Some z) all
+
+pub pair_read : (x y : ℤ) (meant : Option (ℤ × ℤ)) → IsUnits x → IsUnits y → Some (x, y) ≡ meant → Some (to_z w32 (of_z w32 x), to_z w32 (of_z w32 y)) ≡ meant
+pair_read x y meant hx hy e = ap₂ (λ (a b : ℤ). Some (a, b)) (to_z-of_z w32 x hx) (to_z-of_z w32 y hy) ∙ e
+
+-- as `try_from` has it
+pub below_kept : {E : Type 0} (bound n : ℕ) (r : Result ℕ E) → OkIff r (n < bound) n → result_ok r ≡ kept_below bound n
+below_kept bound n (Ok x) h = ap Some h.1 ∙ sym (cond-true _ _ _ (of_lt n bound h.0))
+below_kept bound n (Err e) h = sym (cond-false _ _ _ (not_lt n bound h))
 
 -- ---- trees
 

@@ -14,3 +14,5 @@ pub mod WordValues
 pub mod Arguments
 pub mod Fields
 pub mod Texts
+pub mod PartValues
+pub mod Answering

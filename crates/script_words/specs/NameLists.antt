@@ -7,6 +7,8 @@ use Rattle.model.specs.declared.queries.Side.{Side}
 use Rattle.model.specs.declared.queries.Side.TheVariants as side
 use Rattle.model.specs.declared.queries.Move.{Move}
 use Rattle.model.specs.declared.queries.Move.TheVariants as move
+use Rattle.schema.specs.declared.Role.{Role}
+use Rattle.schema.specs.declared.Role.TheVariants as role
 use Rattle.schema.specs.declared.values.Toggled.{Toggled}
 use Rattle.schema.specs.declared.values.Toggled.TheVariants as toggled
 use Rattle.schema.specs.declared.values.Live.{Live}
@@ -81,3 +83,19 @@ all_vertical_offsets = vertical_offset.Subscript ∷ vertical_offset.Superscript
 abbrev pub all_decoration_styles : List TextDecorationStyle
 all_decoration_styles =
     decoration_style.Solid ∷ decoration_style.Dotted ∷ decoration_style.Dashed ∷ decoration_style.Double ∷ decoration_style.Wavy ∷ []
+
+-- each role that has a name
+unfoldable pub all_roles : List Role
+all_roles =
+    role.Unknown ∷ role.Window ∷ role.ScrollView ∷ role.Paragraph ∷ role.GenericContainer ∷ role.TextRun ∷ role.Label ∷
+    role.Image ∷ role.Document ∷ role.Terminal ∷ role.TextInput ∷ role.MultilineTextInput ∷ role.SearchInput ∷
+    role.DateInput ∷ role.DateTimeInput ∷ role.WeekInput ∷ role.MonthInput ∷ role.TimeInput ∷ role.EmailInput ∷
+    role.NumberInput ∷ role.PasswordInput ∷ role.PhoneNumberInput ∷ role.UrlInput ∷ role.EditableComboBox ∷
+    role.SpinButton ∷ role.ListBox ∷ role.TabList ∷ role.AlertDialog ∷ role.Dialog ∷ role.ComboBox ∷
+    role.DisclosureTriangle ∷ role.TreeItem ∷ role.Button ∷ role.CheckBox ∷ role.DefaultButton ∷ role.Link ∷
+    role.MenuItem ∷ role.MenuItemCheckBox ∷ role.MenuItemRadio ∷ role.RadioButton ∷ role.DocBackLink ∷
+    role.DocBiblioRef ∷ role.DocGlossRef ∷ role.DocNoteRef ∷ role.ColorWell ∷ role.Grid ∷ role.MenuListPopup ∷
+    role.RadioGroup ∷ role.Slider ∷ role.Switch ∷ role.TreeGrid ∷ role.Article ∷ role.Definition ∷
+    role.DescriptionList ∷ role.GraphicsDocument ∷ role.List ∷ role.ListItem ∷ role.PdfRoot ∷ role.ProgressIndicator ∷
+    role.RootWebArea ∷ role.Term ∷ role.Timer ∷ role.Toolbar ∷ role.Tooltip ∷ role.Comment ∷ role.Tab ∷
+    role.ListBoxOption ∷ role.MenuListOption ∷ role.ListGrid ∷ role.Menu ∷ role.MenuBar ∷ role.Tree ∷ []

@@ -10,10 +10,20 @@ use Rattle.model.specs.declared.queries.Side.{Side}
 use Rattle.schema.specs.TreeIds.{root_tree_id}
 use Rattle.schema.specs.declared.NodeId.{NodeId}
 use Rattle.schema.specs.declared.TreeId.{TreeId}
+use Rattle.schema.specs.declared.values.AriaCurrent.{AriaCurrent}
+use Rattle.schema.specs.declared.values.HasPopup.{HasPopup}
+use Rattle.schema.specs.declared.values.Live.{Live}
+use Rattle.schema.specs.declared.values.Orientation.{Orientation}
+use Rattle.schema.specs.declared.values.SortDirection.{SortDirection}
+use Rattle.schema.specs.declared.values.TextAlign.{TextAlign}
+use Rattle.schema.specs.declared.values.TextDecorationStyle.{TextDecorationStyle}
+use Rattle.schema.specs.declared.values.TextDirection.{TextDirection}
+use Rattle.schema.specs.declared.values.Toggled.{Toggled}
+use Rattle.schema.specs.declared.values.VerticalOffset.{VerticalOffset}
 use Rattle.script_words.specs.Meaning.{onward}
 use Rattle.script_words.specs.NamedIn.{first_named}
-use Rattle.script_words.specs.NameLists.{all_filters, all_moves, all_sides}
-use Rattle.script_words.specs.Names.{filter_name, move_name, side_name}
+use Rattle.script_words.specs.NameLists.{all_currents, all_decoration_styles, all_filters, all_lives, all_moves, all_orientations, all_popups, all_sides, all_sort_directions, all_text_aligns, all_text_directions, all_toggles, all_truths, all_vertical_offsets}
+use Rattle.script_words.specs.Names.{aria_current_name, decoration_style_name, filter_name, has_popup_name, live_name, move_name, orientation_name, side_name, sort_direction_name, text_align_name, text_direction_name, toggled_name, truth_name, vertical_offset_name}
 
 -- ---- numbers
 
@@ -52,6 +62,32 @@ signed_kept z = if fits_64 z then Some z else None
 unfoldable pub signed_of : List ℕ → Option ℤ
 signed_of word = onward (integer_value word) signed_kept
 
+-- ---- fewer bits
+
+-- a number below this bound
+abbrev pub kept_below : ℕ → ℕ → Option ℕ
+kept_below bound n = if nat_lt n bound then Some n else None
+
+unfoldable pub narrow_of : List ℕ → Option ℕ
+narrow_of word = onward (number_of word) (kept_below (2 ^ 32))
+
+unfoldable pub short_of : List ℕ → Option ℕ
+short_of word = onward (number_of word) (kept_below (2 ^ 16))
+
+unfoldable pub byte_of : List ℕ → Option ℕ
+byte_of word = onward (number_of word) (kept_below (2 ^ 8))
+
+-- an integer within 32 bits
+abbrev pub fits_32 : ℤ → Bool
+fits_32 (pos n) = nat_lt n (2 ^ 31)
+fits_32 (negsuc n) = nat_lt n (2 ^ 31)
+
+abbrev pub units_kept : ℤ → Option ℤ
+units_kept z = if fits_32 z then Some z else None
+
+unfoldable pub units_of : List ℕ → Option ℤ
+units_of word = onward (signed_of word) units_kept
+
 -- ---- ids
 
 abbrev pub node_id : ℕ → NodeId
@@ -77,3 +113,36 @@ side_of word = first_named side_name word all_sides
 
 abbrev pub move_of : List ℕ → Option Move
 move_of word = first_named move_name word all_moves
+
+abbrev pub toggled_of : List ℕ → Option Toggled
+toggled_of word = first_named toggled_name word all_toggles
+
+abbrev pub truth_of : List ℕ → Option Bool
+truth_of word = first_named truth_name word all_truths
+
+abbrev pub live_of : List ℕ → Option Live
+live_of word = first_named live_name word all_lives
+
+abbrev pub orientation_of : List ℕ → Option Orientation
+orientation_of word = first_named orientation_name word all_orientations
+
+abbrev pub sort_direction_of : List ℕ → Option SortDirection
+sort_direction_of word = first_named sort_direction_name word all_sort_directions
+
+abbrev pub aria_current_of : List ℕ → Option AriaCurrent
+aria_current_of word = first_named aria_current_name word all_currents
+
+abbrev pub has_popup_of : List ℕ → Option HasPopup
+has_popup_of word = first_named has_popup_name word all_popups
+
+abbrev pub text_direction_of : List ℕ → Option TextDirection
+text_direction_of word = first_named text_direction_name word all_text_directions
+
+abbrev pub text_align_of : List ℕ → Option TextAlign
+text_align_of word = first_named text_align_name word all_text_aligns
+
+abbrev pub vertical_offset_of : List ℕ → Option VerticalOffset
+vertical_offset_of word = first_named vertical_offset_name word all_vertical_offsets
+
+abbrev pub decoration_style_of : List ℕ → Option TextDecorationStyle
+decoration_style_of word = first_named decoration_style_name word all_decoration_styles

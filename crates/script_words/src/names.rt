@@ -5,8 +5,10 @@ ghost use Rattle.std.specs.Fmt.{decimal};
 ghost use Rattle.schema.specs.RoleNames.{role_text};
 ghost use Rattle.schema.specs.declared.Role.{Role};
 ghost use Rattle.script_words.specs.NamedIn.{IsNamed, ReadsNamed, named_in};
+ghost use Rattle.script_words.specs.PartValues.{other_of, role_of};
 ghost use Rattle.script_words.specs.Reading.{IsRole, IsShort};
 ghost use Rattle.script_words.specs.Says.{SaysOther, SaysRole};
+ghost use Rattle.script_words.specs.WordValues.{short_of};
 ghost use Rattle.script_words.specs.Names.{toggled_name, truth_name, live_name, orientation_name, sort_direction_name, aria_current_name, has_popup_name, text_direction_name, text_align_name, vertical_offset_name, decoration_style_name, filter_name, side_name, move_name};
 
 use crate::tables::{
@@ -36,6 +38,7 @@ pub fn named<T: Copy>(table: &[(&str, T)], word: &str) -> Option<T>
 pub fn role_named(word: &str) -> Option<Role>
     ensures reads { (role : Role) → IsRole role → word.now ≡ role_text role → result ≡ Some role }
     ensures exact { (role : Role) → (result ≡ Some role) ↔ (IsRole role × SaysRole word.now role) }
+    ensures means { result ≡ role_of word.now }
 {
     if let Some(role) = named(named_roles(), word) {
         return Some(role);
@@ -47,6 +50,7 @@ pub fn role_named(word: &str) -> Option<Role>
 fn other_role_number(word: &str) -> Option<u16>
     ensures reads { (n : ℕ) → IsShort n → word.now ≡ codes "Other(" ++ decimal n ++ codes ")" → result ≡ Some n }
     ensures exact { (n : ℕ) → (result ≡ Some n) ↔ (IsShort n × SaysOther word.now n) }
+    ensures means { result ≡ other_of short_of word.now }
 {
     short(in_brackets(word)?)
 }

@@ -5,9 +5,12 @@ ghost use Rattle.std.specs.Fmt.{decimal};
 ghost use Rattle.schema.specs.declared.NodeId.{NodeId};
 ghost use Rattle.schema.specs.declared.values.Color.{Color};
 ghost use Rattle.schema.specs.declared.values.TextDecoration.{TextDecoration};
+ghost use Rattle.script_words.specs.Answering.{AnswersAs};
+ghost use Rattle.script_words.specs.PartValues.{color_of, decoration_of, list_of, two_bytes_of, unit_list_of};
 ghost use Rattle.script_words.specs.Parts.{color_text, decoration_text, ids_text, numbers_text, units_text};
 ghost use Rattle.script_words.specs.Reading.{IsByte, IsColor, IsDecoration, IsId, IsShort, IsUnits, Reads};
 ghost use Rattle.script_words.specs.SaysParts.{SaysBytes, SaysColor, SaysDecoration, SaysId, SaysItems, SaysShort, SaysUnitList};
+ghost use Rattle.script_words.specs.WordValues.{id_of, short_of};
 
 use crate::cutting::parts_at;
 use crate::items::items;
@@ -22,6 +25,7 @@ pub fn ids(alloc: Global, word: &str) -> Result<Vec<NodeId>, Stop>
     ensures reads { (id : NodeId) (others : List NodeId) → IsId id → All IsId others → word.now ≡ ids_text id others
         → Reads result (λ read. read.items ≡ id ∷ others) }
     ensures only { IfOk result (λ read. SaysItems SaysId (Some word.now) read.items) }
+    ensures means { AnswersAs (list_of id_of word.now) result (λ read. read.items) }
 {
     items(alloc, word)
 }
@@ -31,6 +35,7 @@ pub fn numbers(alloc: Global, word: &str) -> Result<Vec<u16>, Stop>
     ensures reads { (number : ℕ) (others : List ℕ) → IsShort number → All IsShort others → word.now ≡ numbers_text number others
         → Reads result (λ read. read.items ≡ number ∷ others) }
     ensures only { IfOk result (λ read. SaysItems SaysShort (Some word.now) read.items) }
+    ensures means { AnswersAs (list_of short_of word.now) result (λ read. read.items) }
 {
     items(alloc, word)
 }
@@ -39,6 +44,7 @@ pub fn numbers(alloc: Global, word: &str) -> Result<Vec<u16>, Stop>
 pub fn unit_list(alloc: Global, word: &str) -> Result<Vec<i32>, Stop>
     ensures reads { (units : List ℤ) → All IsUnits units → word.now ≡ units_text units → Reads result (λ read. read.items ≡ units) }
     ensures only { IfOk result (λ read. SaysUnitList word.now read.items) }
+    ensures means { AnswersAs (unit_list_of word.now) result (λ read. read.items) }
 {
     if word == "-" {
         return Ok(Vec::new(alloc));
@@ -51,6 +57,7 @@ pub fn unit_list(alloc: Global, word: &str) -> Result<Vec<i32>, Stop>
 pub fn color(word: &str) -> Option<Color>
     ensures reads { (c : Color) → IsColor c → word.now ≡ color_text c → result ≡ Some c }
     ensures only { IfSome result (λ c. IsColor c × SaysColor word.now c) }
+    ensures means { result ≡ color_of word.now }
 {
     let (red, rest) = parts_at(word, ',')?;
     let (green, rest) = parts_at(rest, ',')?;
@@ -68,6 +75,7 @@ pub fn color(word: &str) -> Option<Color>
 pub fn decoration(word: &str) -> Option<TextDecoration>
     ensures reads { (d : TextDecoration) → IsDecoration d → word.now ≡ decoration_text d → result ≡ Some d }
     ensures only { IfSome result (λ d. IsDecoration d × SaysDecoration word.now d) }
+    ensures means { result ≡ decoration_of word.now }
 {
     let (style, rest) = parts_at(word, ',')?;
     Some(TextDecoration {
@@ -82,6 +90,7 @@ fn two_bytes(word: &str) -> Option<(u8, u8)>
     ensures reads { (first second : ℕ) → IsByte first → IsByte second → word.now ≡ decimal first ++ (44 ∷ decimal second)
         → result ≡ Some (first, second) }
     ensures only { IfSome result (λ read. IsByte read.0 × IsByte read.1 × SaysBytes word.now read.0 read.1) }
+    ensures means { result ≡ two_bytes_of word.now }
 {
     let (first, second) = parts_at(word, ',')?;
     Some((byte(first)?, byte(second)?))

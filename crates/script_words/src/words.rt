@@ -28,11 +28,12 @@ ghost use Rattle.script_words.specs.SaysParts.{SaysPair, SaysPlace, SaysRect, Sa
 ghost use Rattle.script_words.specs.Words.{left};
 ghost use Rattle.script_words.specs.Arguments.{next_at, next_filter, next_name, next_point};
 ghost use Rattle.script_words.specs.Cuts.{part_before};
+ghost use Rattle.script_words.specs.PartValues.{pair_of, place_of, rect_of, selection_of, translation_of};
 ghost use Rattle.script_words.specs.Fields.{CutsField};
 ghost use Rattle.script_words.specs.Texts.{behind_text, next_text, text_at};
 ghost use Rattle.script_words.specs.declared.stops.Stop.TheVariants.{BadLine};
 ghost use Rattle.script_words.specs.Meaning.{Answers, GivesWord, Takes, TakesWord, ended, last_word, next_as};
-ghost use Rattle.script_words.specs.WordValues.{id_of, move_of, number_of, side_of, signed_of, tree_of};
+ghost use Rattle.script_words.specs.WordValues.{id_of, move_of, narrow_of, number_of, side_of, signed_of, tree_of};
 
 use crate::cutting::{cut_at, parts_at};
 use crate::names::{filter_named, move_named, side_named};
@@ -147,6 +148,7 @@ impl<'a> Words<'a> {
     pub fn narrow(&mut self) -> Result<u32, Stop>
         ensures reads { ReadsFit IsNarrow decimal self.old result self.new }
         ensures shorter { OnOk result (left (unread self.new) < left (unread self.old)) }
+        ensures takes { Takes (next_as narrow_of (unread self.old)) result (unread self.new) }
     {
         let number = number(self.word()?).ok_or(Stop::BadLine)?;
         u32::try_from(number).or(Err(Stop::BadLine))
@@ -359,6 +361,7 @@ pub fn units(word: &str) -> Option<i32>
 fn pair(word: &str) -> Option<(i32, i32)>
     ensures reads { (x y : ℤ) → IsUnits x → IsUnits y → word.now ≡ pair_text x y → result ≡ Some (x, y) }
     ensures only { IfSome result (λ read. IsUnits read.0 × IsUnits read.1 × SaysPair word.now read.0 read.1) }
+    ensures means { result ≡ pair_of word.now }
 {
     let (x, y) = parts_at(word, ',')?;
     Some((units(x)?, units(y)?))
@@ -369,6 +372,7 @@ fn pair(word: &str) -> Option<(i32, i32)>
 pub fn rect(word: &str) -> Option<Rect>
     ensures reads { (r : Rect) → IsRect r → word.now ≡ rect_text r → result ≡ Some r }
     ensures only { IfSome result (λ r. IsRect r × SaysRect word.now r) }
+    ensures means { result ≡ rect_of word.now }
 {
     let (x0, rest) = parts_at(word, ',')?;
     let (y0, rest) = parts_at(rest, ',')?;
@@ -385,6 +389,7 @@ pub fn rect(word: &str) -> Option<Rect>
 pub fn translation(word: &str) -> Option<Translation>
     ensures reads { (t : Translation) → IsTranslation t → word.now ≡ translation_text t → result ≡ Some t }
     ensures only { IfSome result (λ t. IsTranslation t × SaysTranslation word.now t) }
+    ensures means { result ≡ translation_of word.now }
 {
     let (x, y) = pair(word)?;
     Some(Translation { x, y })
@@ -395,6 +400,7 @@ pub fn translation(word: &str) -> Option<Translation>
 pub fn selection(word: &str) -> Option<TextSelection>
     ensures reads { (s : TextSelection) → IsSelection s → word.now ≡ selection_text s → result ≡ Some s }
     ensures only { IfSome result (λ s. IsSelection s × SaysSelection word.now s) }
+    ensures means { result ≡ selection_of word.now }
 {
     let (anchor, focus) = parts_at(word, ',')?;
     Some(TextSelection {
@@ -408,6 +414,7 @@ pub fn selection(word: &str) -> Option<TextSelection>
 fn place(word: &str) -> Option<TextPosition>
     ensures reads { (p : TextPosition) → IsPosition p → word.now ≡ place_text p → result ≡ Some p }
     ensures only { IfSome result (λ p. IsPosition p × SaysPlace word.now p) }
+    ensures means { result ≡ place_of word.now }
 {
     let (node, character_index) = parts_at(word, ':')?;
     Some(TextPosition {

@@ -1,7 +1,8 @@
 use Rattle.std.proofs.Common.{◌≡◌, false, rules, true}
 use Rattle.script_lines.specs.LineReading.{head_data}
 use Rattle.script_words.specs.Reading.{unread}
-use Rattle.script_lines.proofs.HeadAnswers.{cut_flag, cut_value, field_read, no_field_read}
+use Rattle.script_lines.proofs.HeadAnswers.{field_read, no_field_read}
+use Rattle.script_words.proofs.FieldReads.{cut_flag, cut_value}
 use Rattle.script_lines.proofs.HeadMeanings.{flag_field}
 use Rattle.script_lines.proofs.heads.Head.read_field.Goals as goal
 
