@@ -1,5 +1,6 @@
 //! Reading a script for the tree that it leaves.
 ghost use Rattle.std.specs.Prelude.{◌≡◌, ◌≢◌, ◌≤◌, ℕ, IfErr, List};
+ghost use Rattle.std.specs.Process.{exit_status};
 ghost use Rattle.model.specs.Events.{Event};
 ghost use Rattle.script_lines.specs.InputLines.{next_number};
 ghost use Rattle.session.specs.Replied.{IsStep};
@@ -180,7 +181,9 @@ const NOT_THERE: u8 = 1;
 /// Runs a program that prints something about the tree that the script on standard input leaves, as its arguments say, unless
 /// [`script_lines::read_arguments`] says that it is not to run. The exit status is 0 if what was asked for exists, and 1 if it doesn't;
 /// 2, 3 and 4 are as for [`crate::run_script`].
-pub fn tell_as_asked<T: Teller + Arguments>(rt: &HostRuntime, manual: &Manual) -> ExitCode {
+pub fn tell_as_asked<T: Teller + Arguments>(rt: &HostRuntime, manual: &Manual) -> ExitCode
+    ensures { exit_status result ≤ 4 }
+{
     let asked: Result<(bool, T), u8> = read_arguments(rt, manual);
     match asked {
         Ok((_, teller)) => run_program(rt, &Telling { teller }),
