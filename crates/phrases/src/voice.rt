@@ -1,5 +1,5 @@
 //! Collecting lines of speech to be written.
-ghost use Rattle.std.specs.Prelude.{◌≡◌, [], ◌++◌, OnOk, OnErr, option_copied};
+ghost use Rattle.std.specs.Prelude.{◌≡◌, [], ◌++◌, IfOk, OnOk, OnErr, option_copied};
 ghost use Rattle.phrases.specs.Sayings.{saying};
 ghost use Rattle.phrases.specs.Voices.{said_too, said_later, all_said};
 ghost use Rattle.phrases.specs.Tellings.{told};
@@ -37,6 +37,21 @@ impl Voice {
             said: String::new(alloc),
             waiting: String::new(alloc),
         }
+    }
+
+    /// A voice with the same lines.
+    ///
+    /// # Errors
+    ///
+    /// Returns `AllocError` if memory runs out.
+    pub fn copied(&self) -> Result<Voice, AllocError>
+        ensures { IfOk result (λ copy. copy ≡ self.now) }
+    {
+        Ok(Voice {
+            alloc: self.alloc,
+            said: self.said.clone()?,
+            waiting: self.waiting.clone()?,
+        })
     }
 
     /// The lines said so far.

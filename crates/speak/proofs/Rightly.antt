@@ -43,6 +43,7 @@ rightly old new s t (d ∷ ds) ready h =
     let speaks : Speaks s.0 (event old new d) m.0 = record {
       silent = one.silent;
       says = λ loud. (one.says old new (of_step old new d) (ready (was_loud s.0 m.0 one.silent loud)) loud).0;
+      kept = one.kept;
       text = one.text;
     } in
     (m, ((speaks, h.1.0.1), rightly old new m t ds (λ loud. (one.says old new (of_step old new d) (ready (was_loud s.0 m.0 one.silent loud)) loud).1) h.1.1))

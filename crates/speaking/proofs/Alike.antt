@@ -327,6 +327,7 @@ begins_alike p w v s t alike h = record {
   focus = h.focus;
   is = bare.focus (same p w v alike) h.focus h.is;
   says = λ e. says_moved p w v w v alike alike None h.focus s.voice t.voice (h.says e);
+  kept = h.kept;
   news = h.news;
   text = h.text;
 }

@@ -92,4 +92,4 @@ module _ (p : FullNodeId) (w v : World) (alike : AreAlike p w v) where
   }
 
 pub settles_alike : SettlesAlike
-settles_alike p w v focus s t alike h = record { silent = h.silent; says = λ e. let k = h.says e in (says_end p w v alike focus s.news s.text t.text s.voice t.voice k.0, k.1) }
+settles_alike p w v focus s t alike h = record { silent = h.silent; says = λ e. let k = h.says e in (says_end p w v alike focus s.news s.text t.text s.voice t.voice k.0, k.1); kept = h.kept }

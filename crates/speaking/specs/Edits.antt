@@ -121,8 +121,9 @@ pub record SaysEnd (w : World) (focus : Option FullNodeId) (n : News) (held now 
   pub text : SaysFocused w focus held now v between
   pub waited : u ≡ all_said (news_said w n between)
 
--- What is said at the end of a step, if this node is focused. A speaker whose allocation fails falls silent, and one that is
--- silent does nothing. Nothing is new after it.
+-- What is said at the end of a step, if this node is focused. A speaker whose allocation fails falls silent, and has said what it
+-- had said before; one that is silent does nothing. Nothing is new after it.
 pub record Settles (w : World) (focus : Option FullNodeId) (s t : Speaker) : Type 0 where
   pub silent : IsTrue s.is_silent → t ≡ s
   pub says : t.is_silent ≡ false → SaysEnd w focus s.news s.text t.text s.voice t.voice × (t.news ≡ no_news)
+  pub kept : IsTrue t.is_silent → t.voice ≡ s.voice

@@ -45,24 +45,27 @@ IsOfStep old new (FocusMoved before after) = ⊤
 IsOfStep old new (NodeRemoved o) = ⊤
 
 -- A speaker that knows rightly says what there is to say of an event of the step, and still knows rightly, unless an allocation
--- fails; from then on it is silent.
+-- fails; from then on it is silent, and has said what it had said before the event.
 pub record Hears (s : Speaker) (e : Event) (t : Speaker) : Type 0 where
   pub silent : IsTrue s.is_silent → t ≡ s
   pub says : (old new : World) → IsOfStep old new e → KnowsRightly old new s → t.is_silent ≡ false →
       Says e s.voice t.voice s.news t.news × KnowsRightly old new t
+  pub kept : IsTrue t.is_silent → t.voice ≡ s.voice
   pub text : t.text ≡ s.text
 
 -- the same of a speaker in a step
 pub record Speaks (s : Speaker) (e : Event) (t : Speaker) : Type 0 where
   pub silent : IsTrue s.is_silent → t ≡ s
   pub says : t.is_silent ≡ false → Says e s.voice t.voice s.news t.news
+  pub kept : IsTrue t.is_silent → t.voice ≡ s.voice
   pub text : t.text ≡ s.text
 
--- of a new tree the focus is said
+-- of a new tree the focus is said, or nothing where an allocation fails
 pub record Begins (w : World) (s t : Speaker) : Type 0 where
   pub focus : Option FullNodeId
   pub is : IsFocus w focus
   pub says : t.is_silent ≡ false → SaysMoved None (option_map (seen_in w) focus) s.voice t.voice
+  pub kept : IsTrue t.is_silent → t.voice ≡ s.voice
   pub news : t.news ≡ s.news
   pub text : t.text ≡ s.text
 

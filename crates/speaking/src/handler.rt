@@ -1,15 +1,14 @@
 //! The handler that turns events into speech.
-ghost use Rattle.std.specs.Prelude.{◌≡◌, OnOk};
+ghost use Rattle.std.specs.Prelude.{◌≡◌, OnOk, OnErr};
 ghost use Rattle.views.specs.Nodes.{seen_node, world_at};
 ghost use Rattle.speaking.specs.Above.{AreRight, IsReady};
 ghost use Rattle.speaking.specs.Events.{SaysAdded, SaysUpdated, Hears};
 
 use crate::above::LookUps;
-use crate::changes::say_change;
-use crate::dialogs::say_move;
 use crate::live::{tell_change, tell_new};
 use crate::news::News;
 use crate::speaker::Speaker;
+use crate::whole::{say_whole_change, say_whole_move};
 use accesskit_consumer::NodeRef;
 use accesskit_consumer::tree::TreeChangeHandler;
 use phrases::Voice;
@@ -30,6 +29,7 @@ fn say_updated(
         → OnOk result (SaysUpdated (seen_node o) (seen_node n) voice.old voice.new noted.old noted.new) }
     ensures known { let o = world_at old.entry in let n = world_at new.entry in
         IsReady o n looks.old → OnOk result (IsReady o n looks.new) }
+    ensures kept { OnErr result (voice.new ≡ voice.old) }
 {
     if !new.is_focused() {
         return tell_change(alloc, noted, looks, old, new);
@@ -37,7 +37,7 @@ fn say_updated(
     if !old.is_focused() {
         return Ok(());
     }
-    say_change(alloc, voice, old, new)
+    say_whole_change(alloc, voice, old, new)
 }
 
 /// Notes the text of a new node in a live region, unless the node is focused.
@@ -88,7 +88,7 @@ impl TreeChangeHandler for Speaker {
         if self.is_silent {
             return;
         }
-        let said = say_move(self.alloc, &mut self.voice, old_node, new_node);
+        let said = say_whole_move(self.alloc, &mut self.voice, old_node, new_node);
         self.is_silent = said.is_err();
     }
 

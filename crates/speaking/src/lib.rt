@@ -16,5 +16,6 @@ mod news;
 mod reading;
 mod regions;
 mod speaker;
+mod whole;
 
 pub use speaker::Speaker;

@@ -8,9 +8,9 @@ ghost use Rattle.speaking.specs.News.{no_news};
 ghost use Rattle.speaking.specs.Speakers.{said_by, waiting_in, text_held_by, news_of, fell_silent};
 
 use crate::above::LookUps;
-use crate::dialogs::say_move;
-use crate::edits::{FocusedText, say_end};
+use crate::edits::FocusedText;
 use crate::news::News;
+use crate::whole::{say_whole_end, say_whole_move};
 use accesskit_consumer::{FullNodeId, StateRef};
 use phrases::Voice;
 use std::alloc::Global;
@@ -50,13 +50,13 @@ impl Speaker {
         }
     }
 
-    /// Says the focus of a new tree. If memory runs out, the speaker falls silent.
+    /// Says the focus of a new tree. If memory runs out, the speaker falls silent, and says nothing of it.
     pub fn begin(&mut self, state: StateRef)
         requires { fell_silent self.old ≡ false }
         ensures { Begins (world_of state.entry) self.old self.new }
     {
         let focus = state.focus();
-        self.is_silent = say_move(self.alloc, &mut self.voice, None, focus.as_ref()).is_err();
+        self.is_silent = say_whole_move(self.alloc, &mut self.voice, None, focus.as_ref()).is_err();
     }
 
     /// Begins a step: forgets what was looked up in the last one. Each event that the speaker receives until it ends has to be of that
@@ -70,7 +70,7 @@ impl Speaker {
 
     /// Ends a step, after which the node with this id is focused. Now that all events were reported, all is said: assertive live regions
     /// first, then what the events said of the focus and what changed in the focused text, and then polite live regions, those in the
-    /// order of the document. If memory runs out, the speaker falls silent.
+    /// order of the document. If memory runs out, the speaker falls silent, and has said what it had said before.
     pub fn settle(&mut self, state: StateRef, focus: Option<FullNodeId>)
         ensures { Settles (world_of state.entry) focus self.old self.new }
     {
@@ -78,7 +78,7 @@ impl Speaker {
             return;
         }
         let held = self.text.take();
-        match say_end(self.alloc, &mut self.voice, held, &self.news, state, focus) {
+        match say_whole_end(self.alloc, &mut self.voice, held, &self.news, state, focus) {
             Ok(text) => {
                 self.text = text;
                 self.news = News::new(self.alloc);

@@ -13,7 +13,7 @@ pub returns : goal.returns
 returns c =
     let s = c.args.self.now in
     let said = c.note_added-noted in
-    hears_event s (NodeAdded (seen_node c.args.node.now)) _ c.if-self.false refl (λ old new of knows loud.
+    hears_event s (NodeAdded (seen_node c.args.node.now)) _ c.if-self.false refl (λ failed. refl) (λ old new of knows loud.
     let right = subst (λ (w : World). AreRight w s.looks.after) (sym of) knows.1 in
     let done = sym c.is_err-self.ensures.value ∙ loud in (
       (refl, without_error said.result done (said.ensures.says right)),
