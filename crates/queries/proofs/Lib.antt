@@ -2,4 +2,3 @@ pub mod Drained
 pub mod Fitting
 pub mod Listing
 pub mod Outcomes
-pub mod Parts

@@ -1,8 +1,8 @@
 -- Which nodes a query finds.
-use Rattle.std.specs.Prelude.{◌≡◌, ℕ, ◌==◌, Bool, true, false, ◌&&◌, ◌||◌, List, [], ◌∷◌, ◌++◌, All, filter, map, Option, Some, None, option_and_then, if◌then◌else◌}
+use Rattle.std.specs.Prelude.{◌≡◌, ℕ, Bool, true, false, ◌&&◌, List, [], ◌∷◌, ◌++◌, All, filter, map, Option, Some, None, option_and_then, if◌then◌else◌}
 use Rattle.std.specs.Option.{option_map_or}
 use Rattle.std.specs.Borrow.{Bor}
-use Rattle.std.specs.Str.{bytes_eq}
+use Rattle.matching.specs.Matches.{is_match}
 use Rattle.schema.specs.declared.Role.{Role}
 use Rattle.schema.specs.declared.Role.TheVariants.{Label}
 use Rattle.schema.specs.Roles.{same_role}
@@ -23,17 +23,6 @@ use Rattle.queries.specs.declared.by.Wanted.{Wanted}
 abbrev pub text_of : World → FullNodeId → Option (List ℕ)
 text_of w id = if says (λ d. same_role d.role Label) w id then value_of w id else label_of w id
 
--- whether a text begins with a part
-abbrev pub begins_with : List ℕ → List ℕ → Bool
-begins_with [] text = true
-begins_with (b ∷ part) [] = false
-begins_with (b ∷ part) (c ∷ text) = (b == c) && begins_with part text
-
--- whether a part stands in a text
-abbrev pub stands_in : List ℕ → List ℕ → Bool
-stands_in part [] = begins_with part []
-stands_in part (c ∷ text) = begins_with part (c ∷ text) || stands_in part text
-
 -- whether what is asked of a text holds of the text that is there; where nothing is asked it does
 abbrev pub holds_of : (List ℕ → List ℕ → Bool) → Option (Bor (List ℕ)) → Option (List ℕ) → Bool
 holds_of test None own = true
@@ -49,10 +38,11 @@ description_of w id = option_and_then (λ d. d.description) (data_of w id)
 -- whether a node has the texts that are wanted
 abbrev pub has_texts : Wanted → World → FullNodeId → Bool
 has_texts wanted w id =
-    (holds_of bytes_eq wanted.label (label_of w id) && holds_of stands_in wanted.label_part (label_of w id))
-    && (holds_of bytes_eq wanted.text (text_of w id)
-    && (holds_of bytes_eq wanted.value (value_of w id)
-    && holds_of bytes_eq wanted.description (description_of w id)))
+    (holds_of (is_match wanted.matching) wanted.label (label_of w id)
+    && holds_of (is_match (record wanted.matching { is_part = true })) wanted.label_part (label_of w id))
+    && (holds_of (is_match wanted.matching) wanted.text (text_of w id)
+    && (holds_of (is_match wanted.matching) wanted.value (value_of w id)
+    && holds_of (is_match wanted.matching) wanted.description (description_of w id)))
 
 -- whether it has the role and the texts
 abbrev pub fits : Wanted → World → FullNodeId → Bool

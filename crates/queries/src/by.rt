@@ -1,10 +1,11 @@
 //! What is searched for.
-ghost use Rattle.std.specs.Prelude.{◌≡◌, Some, None};
+ghost use Rattle.std.specs.Prelude.{◌≡◌, true, false, Some, None};
 
 use crate::condition::{AnyNode, CommonFilter, Meeting};
 use accesskit_consumer::filters::FilterResult;
 use accesskit_consumer::node::NodeRef;
 use accesskit_consumer::walks::ByFn;
+use matching::Matching;
 use schema::Role;
 
 /// The role and texts that a node has to have. What isn't asked for is `None`.
@@ -16,10 +17,13 @@ pub(crate) struct Wanted<'t> {
     pub(crate) text: Option<&'t str>,
     pub(crate) value: Option<&'t str>,
     pub(crate) description: Option<&'t str>,
+    /// How these texts are compared with those of a node.
+    pub(crate) matching: Matching,
 }
 
 /// A query: which nodes are searched, and what a node has to have. A node fits if it has all of what was asked for. Of two calls of
-/// the same method the later one counts.
+/// the same method the later one counts. Texts are compared as wholes, in their case, with spaces folded: any spaces, tabs and line
+/// ends between two words are one space, and those at either end are none.
 #[derive(Drop)]
 pub struct By<'t, F, C> {
     pub(crate) wanted: Wanted<'t>,
@@ -30,7 +34,15 @@ pub struct By<'t, F, C> {
 impl<'t> By<'t, CommonFilter, AnyNode> {
     /// The query that each node fits, of those that the common filter shows.
     pub fn new() -> By<'t, CommonFilter, AnyNode>
-        ensures { result.wanted ≡ record { role = None; label = None; label_part = None; text = None; value = None; description = None } }
+        ensures texts { result.wanted ≡ record {
+          role = None;
+          label = None;
+          label_part = None;
+          text = None;
+          value = None;
+          description = None;
+          matching = record { is_part = false; ignores_case = false; is_exact = false };
+        } }
     {
         By {
             wanted: Wanted {
@@ -40,6 +52,7 @@ impl<'t> By<'t, CommonFilter, AnyNode> {
                 text: None,
                 value: None,
                 description: None,
+                matching: Matching::whole(),
             },
             filter: CommonFilter,
             condition: AnyNode,
@@ -127,6 +140,39 @@ impl<'t, F: Drop, C: Drop> By<'t, F, C> {
     {
         let mut wanted = self.wanted;
         wanted.description = Some(description);
+        self.with(wanted)
+    }
+
+    /// The texts that are asked for may be parts of a node's.
+    pub fn partly(self) -> By<'t, F, C>
+        ensures wanted { result.wanted ≡ record self.entry.wanted { matching = record self.entry.wanted.matching { is_part = true } } }
+        ensures filter { result.filter ≡ self.entry.filter }
+        ensures condition { result.condition ≡ self.entry.condition }
+    {
+        let mut wanted = self.wanted;
+        wanted.matching.is_part = true;
+        self.with(wanted)
+    }
+
+    /// Upper-case letters of the texts are the same as their lower-case ones.
+    pub fn ignoring_case(self) -> By<'t, F, C>
+        ensures wanted { result.wanted ≡ record self.entry.wanted { matching = record self.entry.wanted.matching { ignores_case = true } } }
+        ensures filter { result.filter ≡ self.entry.filter }
+        ensures condition { result.condition ≡ self.entry.condition }
+    {
+        let mut wanted = self.wanted;
+        wanted.matching.ignores_case = true;
+        self.with(wanted)
+    }
+
+    /// Each space of the texts counts.
+    pub fn exactly(self) -> By<'t, F, C>
+        ensures wanted { result.wanted ≡ record self.entry.wanted { matching = record self.entry.wanted.matching { is_exact = true } } }
+        ensures filter { result.filter ≡ self.entry.filter }
+        ensures condition { result.condition ≡ self.entry.condition }
+    {
+        let mut wanted = self.wanted;
+        wanted.matching.is_exact = true;
         self.with(wanted)
     }
 

@@ -1,13 +1,14 @@
 //! Whether a node has what was asked for.
-ghost use Rattle.std.specs.Prelude.{◌≡◌, ◌&&◌, IfOk, option_map, string_bytes};
-ghost use Rattle.std.specs.Str.{bytes_eq};
+ghost use Rattle.std.specs.Prelude.{◌≡◌, ◌&&◌, true, IfOk, option_map, string_bytes};
+ghost use Rattle.matching.specs.Matches.{is_match};
 ghost use Rattle.views.specs.Nodes.{world_at, id_at, data_at};
 ghost use Rattle.model.specs.Labels.{label_of};
 ghost use Rattle.model.specs.Values.{value_of};
-ghost use Rattle.queries.specs.Found.{text_of, stands_in, holds_of, description_of, has_role, has_texts, fits};
+ghost use Rattle.queries.specs.Found.{text_of, holds_of, description_of, has_role, has_texts, fits};
 
 use crate::by::Wanted;
 use accesskit_consumer::node::NodeRef;
+use matching::Matching;
 use schema::Role;
 use std::alloc::{AllocError, Global};
 
@@ -22,27 +23,29 @@ pub(crate) fn text_of(alloc: Global, node: NodeRef<'_>) -> Result<Option<String>
     }
 }
 
-/// Whether the sought text, if one is sought, is the text that is there.
-fn is_text(sought: Option<&str>, own: &Option<String>) -> bool
-    ensures { result ≡ holds_of bytes_eq sought.entry (option_map string_bytes own.now) }
+/// Whether the sought text, if one is sought, is the text that is there, so compared.
+fn is_text(
+    alloc: Global,
+    how: Matching,
+    sought: Option<&str>,
+    own: &Option<String>,
+) -> Result<bool, AllocError>
+    ensures { IfOk result (λ is. is ≡ holds_of (is_match how) sought.entry (option_map string_bytes own.now)) }
 {
     match (sought, own) {
-        (None, _) => true,
-        (Some(sought), Some(own)) => sought == own.as_str(),
-        (Some(_), None) => false,
+        (None, _) => Ok(true),
+        (Some(sought), Some(own)) => how.is_match(alloc, sought, own.as_str()),
+        (Some(_), None) => Ok(false),
     }
 }
 
-/// Whether the text contains the sought part, if one is sought.
-#[tactic(auto, using(crate::proofs::Parts::contains_is_stands_in))]
-fn is_part(sought: Option<&str>, own: &Option<String>) -> bool
-    ensures { result ≡ holds_of stands_in sought.entry (option_map string_bytes own.now) }
+/// The same comparison, for which a part is enough.
+fn partly(how: Matching) -> Matching
+    ensures { result ≡ record how { is_part = true } }
 {
-    match (sought, own) {
-        (None, _) => true,
-        (Some(sought), Some(own)) => own.as_str().contains(sought),
-        (Some(_), None) => false,
-    }
+    let mut how = how;
+    how.is_part = true;
+    how
 }
 
 /// Whether the node has the role, if one is asked for.
@@ -57,39 +60,59 @@ pub(crate) fn has_role(node: NodeRef<'_>, role: Option<Role>) -> bool
 
 /// Whether the node has the label and the part of a label that are asked for. It isn't asked for its label otherwise.
 fn has_label(alloc: Global, node: NodeRef<'_>, wanted: &Wanted<'_>) -> Result<bool, AllocError>
-    ensures { let label = label_of (world_at node.entry) (id_at node.entry) in
-        IfOk result (λ has. has ≡ holds_of bytes_eq wanted.now.label label && holds_of stands_in wanted.now.label_part label) }
+    ensures { let label = label_of (world_at node.entry) (id_at node.entry) in let how = wanted.now.matching in
+        IfOk result (λ has. has ≡ holds_of (is_match how) wanted.now.label label
+        && holds_of (is_match (record how { is_part = true })) wanted.now.label_part label) }
 {
     if wanted.label.is_none() && wanted.label_part.is_none() {
         return Ok(true);
     }
     let own = node.label(alloc)?;
-    Ok(is_text(wanted.label, &own) && is_part(wanted.label_part, &own))
+    let how = wanted.matching;
+    Ok(
+        is_text(alloc, how, wanted.label, &own)?
+            && is_text(alloc, partly(how), wanted.label_part, &own)?,
+    )
 }
 
 /// Whether the node shows the text, if one is asked for.
-fn has_text(alloc: Global, node: NodeRef<'_>, text: Option<&str>) -> Result<bool, AllocError>
-    ensures { IfOk result (λ has. has ≡ holds_of bytes_eq text.entry (text_of (world_at node.entry) (id_at node.entry))) }
+fn has_text(alloc: Global, node: NodeRef<'_>, wanted: &Wanted<'_>) -> Result<bool, AllocError>
+    ensures { IfOk result (λ has. has ≡ holds_of (is_match wanted.now.matching) wanted.now.text (text_of (world_at node.entry) (id_at node.entry))) }
 {
-    Ok(text.is_none() || is_text(text, &text_of(alloc, node)?))
+    Ok(
+        wanted.text.is_none()
+            || is_text(alloc, wanted.matching, wanted.text, &text_of(alloc, node)?)?,
+    )
 }
 
 /// Whether the node has the value, if one is asked for.
-fn has_value(alloc: Global, node: NodeRef<'_>, value: Option<&str>) -> Result<bool, AllocError>
-    ensures { IfOk result (λ has. has ≡ holds_of bytes_eq value.entry (value_of (world_at node.entry) (id_at node.entry))) }
+fn has_value(alloc: Global, node: NodeRef<'_>, wanted: &Wanted<'_>) -> Result<bool, AllocError>
+    ensures { IfOk result (λ has. has ≡ holds_of (is_match wanted.now.matching) wanted.now.value (value_of (world_at node.entry) (id_at node.entry))) }
 {
-    Ok(value.is_none() || is_text(value, &node.value(alloc)?))
+    Ok(
+        wanted.value.is_none()
+            || is_text(alloc, wanted.matching, wanted.value, &node.value(alloc)?)?,
+    )
 }
 
 /// Whether the node has the description, if one is asked for.
 fn has_description(
     alloc: Global,
     node: NodeRef<'_>,
-    description: Option<&str>,
+    wanted: &Wanted<'_>,
 ) -> Result<bool, AllocError>
-    ensures { IfOk result (λ has. has ≡ holds_of bytes_eq description.entry (description_of (world_at node.entry) (id_at node.entry))) }
+    ensures { let description = description_of (world_at node.entry) (id_at node.entry) in
+        IfOk result (λ has. has ≡ holds_of (is_match wanted.now.matching) wanted.now.description description) }
 {
-    Ok(description.is_none() || is_text(description, &node.description(alloc)?))
+    Ok(
+        wanted.description.is_none()
+            || is_text(
+                alloc,
+                wanted.matching,
+                wanted.description,
+                &node.description(alloc)?,
+            )?,
+    )
 }
 
 /// Whether the node has the texts that are asked for.
@@ -98,9 +121,9 @@ fn has_texts(alloc: Global, node: NodeRef<'_>, wanted: &Wanted<'_>) -> Result<bo
 {
     Ok(
         has_label(alloc, node, wanted)?
-            && has_text(alloc, node, wanted.text)?
-            && has_value(alloc, node, wanted.value)?
-            && has_description(alloc, node, wanted.description)?,
+            && has_text(alloc, node, wanted)?
+            && has_value(alloc, node, wanted)?
+            && has_description(alloc, node, wanted)?,
     )
 }
 

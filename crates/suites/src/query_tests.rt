@@ -34,6 +34,20 @@ fn labelled<'a>(alloc: Global, state: StateRef<'a>, part: &str) -> Result<NodeRe
     state.find_one(alloc, &By::new().label_contains(part))
 }
 
+/// the button with this in its label in any case,
+fn button_like<'a>(
+    alloc: Global,
+    state: StateRef<'a>,
+    part: &str,
+) -> Result<NodeRef<'a>, QueryError> {
+    let like = By::new()
+        .role(Role::Button)
+        .label(part)
+        .partly()
+        .ignoring_case();
+    state.find_one(alloc, &like)
+}
+
 /// and all buttons.
 fn buttons<'a>(alloc: Global, state: StateRef<'a>) -> Result<Vec<NodeRef<'a>>, AllocError> {
     state.find_all(alloc, &By::new().role(Role::Button))
@@ -62,6 +76,11 @@ fn with_id<'a>(alloc: Global, state: StateRef<'a>, id: NodeId) -> Result<NodeRef
     state.find_one(alloc, &with_id)
 }
 
+/// The node with this label to the letter.
+fn exactly<'a>(alloc: Global, state: StateRef<'a>, label: &str) -> Result<NodeRef<'a>, QueryError> {
+    state.find_one(alloc, &By::new().label(label).exactly())
+}
+
 /// The id of a node that was found.
 fn id(found: Result<NodeRef, QueryError>) -> Result<u64, QueryError> {
     Ok(found?.id().node.0)
@@ -80,6 +99,9 @@ fn nodes_are_found(rt: HostRuntime) -> Result<(), Fail> {
     assert!(rt; id(button(alloc, state, "Send now"))? == 2);
     assert!(rt; id(showing(alloc, state, "Two letters"))? == 1);
     assert!(rt; id(labelled(alloc, state, "later"))? == 3);
+    assert!(rt; id(button_like(alloc, state, "LATER"))? == 3);
+    assert!(rt; id(button(alloc, state, " Send \n now"))? == 2);
+    assert!(rt; exactly(alloc, state, "Send  now").is_err());
     assert!(rt; id(with_id(alloc, state, NodeId(3)))? == 3);
     Ok(())
 }

@@ -1,0 +1,2 @@
+pub mod AriaRoles
+pub mod Names
