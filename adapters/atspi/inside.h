@@ -14,6 +14,8 @@
 #define LINK_PATHS "/org/a11y/atspi/link/"
 #define ID_FORM "%" G_GUINT32_FORMAT "/%" G_GUINT64_FORMAT
 enum { PATH_ROOM = 64 };
+#define BIT(number) (1ull << (number))
+#define HAS(bits, number) ((bits) >> (number) & 1)
 
 struct ak_atspi {
     char *name;
@@ -35,15 +37,22 @@ struct ak_atspi {
     void *data;
 };
 
+/* Holds the lock to the end of a block. */
+#define LOCKED(adapter) G_GNUC_UNUSED g_autoptr(GMutexLocker) locker = g_mutex_locker_new(&(adapter)->lock)
+
 /* A request of a client: of which object, and what it answers. The application itself is an object that is no node. */
+enum { MOST_NUMBERS = 3 };
 typedef struct {
     ak_atspi *adapter;
     const view *now;
     bool is_application;
     ak_id id;
-    GVariant *given;
+    GVariant *given; /* a tuple, or the value that a property gets */
+    int64_t numbers[MOST_NUMBERS]; /* of what is given: the numbers, in order, and the last text */
+    const char *word;
+    size_t marks;      /* of how many marks the node's text is, if it is of marks */
     const char *error; /* the name of an error, if it isn't answered */
-    char message[160];
+    char *message;
     bool is_asked; /* the application is asked for `asked`, once the lock is free, and the answer is whether it will try */
     ak_atspi_request asked;
 } request;
@@ -60,81 +69,80 @@ typedef struct {
     const method *members;
 } interface;
 #define END {NULL, NULL, NULL, NULL}
+/* What a signal tells of a node where the answer, or another one, differs. */
+typedef struct {
+    const char *member, *kind;
+    answerer answer, also;
+} told_answer;
+extern const told_answer told_answers[];
 extern const interface interfaces[];
 extern const method accessible_members[], application_members[], component_members[], action_members[], value_members[], text_members[],
-    selection_members[], hyperlink_members[], hypertext_members[], marks_members[], collection_members[];
+    selection_members[], hyperlink_members[], hypertext_members[], collection_members[], table_members[], cell_members[];
 
-/* Answers that don't depend on the node, and those that are one expression. */
-#define ANSWERS(name, answer)                 \
-    static GVariant *name(request *r) {       \
-        (void)r;                              \
-        return answer;                        \
+/* An answer that is one expression. */
+#define ANSWERS(name, answer)           \
+    static GVariant *name(request *r) { \
+        (void)r;                        \
+        return answer;                  \
     }
-GVariant *fail(request *r, const char *name, const char *message);
+/* An answer that is the text `t` if that is read, or else empty. */
+#define ANSWERS_TEXT(name, is_read)                                 \
+    static GVariant *name(request *r) {                             \
+        g_autoptr(GString) t = new_text();                          \
+        return g_variant_new_string((is_read) ? t->str : "");       \
+    }
+#define FALSE_ANSWER g_variant_new_boolean(FALSE)
+GVariant *fail(request *r, const char *name, const char *message, ...) G_GNUC_PRINTF(3, 4);
 GVariant *ask_application(request *r, ak_atspi_action action);
 
 /* ---- What is read of a node (nodes.c) */
 
-/* A text or a list that the library writes, with room for more. */
-typedef struct {
-    uint8_t *at, small[240];
-    size_t length, room;
-} text;
-typedef struct {
-    ak_id *at, small[24];
-    size_t count, room;
-} ids;
-#define NO_TEXT(t) ((t)->at = (t)->small, (t)->room = sizeof(t)->small - 1, (t)->length = 0)
-#define NO_IDS(l) ((l)->at = (l)->small, (l)->room = G_N_ELEMENTS((l)->small), (l)->count = 0)
-/* Whether the call is done, a second time if it needs more room. */
+/* Whether a call that writes a text is done, a second time if it needs more room. */
 #define READ_TEXT(t, call) ((call) == AK_DONE && (!text_grows(t) || (call) == AK_DONE))
-#define READ_IDS(l, call) ((call) == AK_DONE && (!ids_grow(l) || (call) == AK_DONE))
-#define INTO_TEXT(t) (t)->at, (t)->room, &(t)->length
-#define INTO_IDS(l) (l)->at, (l)->room, &(l)->count
-bool text_grows(text *t);
-bool ids_grow(ids *l);
-void free_text(text *t);
-void free_ids(ids *l);
-const char *chars_of(text *t);
+#define INTO_TEXT(t) (uint8_t *)(t)->str, (t)->allocated_len - 1, &(t)->len
+GString *new_text(void);
+bool text_grows(GString *t);
+/* A list of nodes is an array of ak_id. */
+#define AT(list, i) g_array_index(list, ak_id, i)
+enum { SHOWN_CHILDREN = -1, ALL_CHILDREN = -2 };
+GArray *read_ids(const view *v, ak_id id, int which);
 
+typedef bool is_node(const view *v, ak_id id);
+is_node is_there, is_shown, is_application, is_of_page, is_selected, hides_text, has_text, is_table, is_cell;
+typedef bool reads_text(const view *v, ak_id id, GString *t);
+reads_text read_name, read_description, read_text;
 bool is_same(ak_id one, ak_id other);
-bool is_there(const view *v, ak_id id);
-bool is_shown(const view *v, ak_id id);
 bool has_flag(const view *v, ak_id id, ak_flag flag);
 bool shown_parent(const view *v, ak_id id, ak_id *parent);
 int shown_index(const view *v, ak_id id);
-bool read_children(const view *v, ak_id id, ids *list);
-bool is_application(const view *v, ak_id id);
-bool read_windows(const view *v, ids *list);
+GArray *read_windows(const view *v);
 bool active_window(const view *v, ak_id *window);
+uint32_t number_of_role(const view *v, ak_id id);
 unsigned role_of(const view *v, ak_id id);
 uint64_t states_of(const view *v, ak_id id);
-bool read_name(const view *v, ak_id id, text *t);
-bool read_description(const view *v, ak_id id, text *t);
 bool read_number(const view *v, ak_id id, ak_field field, double *number);
-void hide_password(const view *v, ak_id id, text *t);
-bool read_value(const view *v, ak_id id, text *t);
-bool has_value_text(const view *v, ak_id id);
-bool hides_text(const view *v, ak_id id);
-bool has_text(const view *v, ak_id id);
-bool is_of_page(const view *v, ak_id id);
-GVariant *interfaces_of(request *r);
+void hide_password(const view *v, ak_id id, GString *t);
 GVariant *attributes_of(const view *v, ak_id id);
+bool child_at(request *r, int64_t index, ak_id *child);
 
 typedef struct {
     int x, y, width, height;
 } box;
 box box_of(ak_atspi *adapter, const ak_bounds *bounds);
 box extents(ak_atspi *adapter, const view *v, ak_id id);
-void move_box(request *r, uint32_t coordinates, int *x, int *y, int sign);
+GVariant *box_answer(request *r, box it, uint32_t coordinates);
+bool own_point(request *r, ak_point *own);
 GVariant *reference(ak_atspi *adapter, const ak_id *id);
-GVariant *application_reference(ak_atspi *adapter);
-GVariant *references(ak_atspi *adapter, const ids *list);
+GVariant *references(ak_atspi *adapter, const GArray *list);
 void path_of(ak_atspi *adapter, ak_id id, char *path);
 bool id_of_path(const char *path, ak_id *id, bool *is_application);
 
+/* ---- What is read of several nodes (sets.c, tables.c) */
+bool has_interface(const view *v, ak_id id, const method *members);
+GVariant *interfaces_of(request *r);
+bool cell_index(const view *v, ak_id id, size_t *index);
+
 /* ---- Texts (texts.c) */
-bool read_text(const view *v, ak_id id, text *t);
 int caret_of(const view *v, ak_id id);
 bool selection_of(const view *v, ak_id id, int *start, int *end);
 size_t mark_count(const view *v, ak_id id);

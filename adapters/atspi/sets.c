@@ -4,26 +4,23 @@
 
 /* ---- Interfaces */
 
-static bool can_act(const view *v, ak_id id) {
-    return has_flag(v, id, AK_CLICKABLE) || has_flag(v, id, AK_SUPPORTS_INCREMENT) || has_flag(v, id, AK_SUPPORTS_DECREMENT);
-}
-
-static bool has_interface(const view *v, ak_id id, const char *name) {
+bool has_interface(const view *v, ak_id id, const method *members) {
     double number;
     ak_bounds bounds;
     ak_id root, above;
-    switch (name[0]) {
-    case 'A': return name[2] == 'c' || (name[1] == 'c' && name[2] == 't' && can_act(v, id));
-    case 'C':
-        return name[2] == 'l' || ASK(node_bounds, v, ID(id), &bounds) == AK_DONE ||
-               (ASK(tree_root, v, &root) == AK_DONE && is_same(root, id));
-    case 'H':
-        if (name[5] == 't') return mark_count(v, id) > 0;
+    if (members == accessible_members || members == collection_members) return true;
+    if (members == component_members)
+        return ASK(node_bounds, v, ID(id), &bounds) == AK_DONE || (ASK(tree_root, v, &root) == AK_DONE && is_same(root, id));
+    if (members == action_members)
+        return has_flag(v, id, AK_CLICKABLE) || has_flag(v, id, AK_SUPPORTS_INCREMENT) || has_flag(v, id, AK_SUPPORTS_DECREMENT);
+    if (members == hyperlink_members)
         return has_flag(v, id, AK_SUPPORTS_URL) || (shown_parent(v, id, &above) && mark_count(v, above) > 0);
-    case 'S': return has_flag(v, id, AK_CONTAINER_WITH_SELECTABLE_CHILDREN);
-    case 'V': return read_number(v, id, AK_FIELD_NUMBER, &number);
-    default: return has_text(v, id) || mark_count(v, id) > 0;
-    }
+    if (members == text_members) return has_text(v, id) || mark_count(v, id) > 0;
+    if (members == hypertext_members) return mark_count(v, id) > 0;
+    if (members == selection_members) return has_flag(v, id, AK_CONTAINER_WITH_SELECTABLE_CHILDREN);
+    if (members == value_members) return read_number(v, id, AK_FIELD_NUMBER, &number);
+    if (members == table_members) return is_table(v, id);
+    return members == cell_members && is_cell(v, id);
 }
 
 GVariant *interfaces_of(request *r) {
@@ -31,8 +28,8 @@ GVariant *interfaces_of(request *r) {
     g_variant_builder_init(&b, G_VARIANT_TYPE("as"));
     char name[48];
     for (const interface *it = interfaces; it->name; it++) {
-        bool is_own = it->members == application_members ? r->is_application : it->members == accessible_members ||
-                      (!r->is_application && has_interface(r->now, r->id, it->name));
+        bool is_own = r->is_application ? it->members == accessible_members || it->members == application_members
+                                        : has_interface(r->now, r->id, it->members);
         g_snprintf(name, sizeof name, SPI "%s", it->name);
         if (is_own) g_variant_builder_add(&b, "s", name);
     }
@@ -41,32 +38,22 @@ GVariant *interfaces_of(request *r) {
 
 /* ---- Selection */
 
-static bool is_selected(const view *v, ak_id id) {
-    uint32_t value;
-    return ASK(node_state, v, ID(id), AK_STATE_SELECTED, &value) == AK_DONE && value;
-}
-
 /* The selected items of a container: how many, and the one with a number. */
-static size_t selected_items(request *r, size_t number, ak_id *found) {
-    ids items;
-    NO_IDS(&items);
+static size_t selected_items(request *r, int64_t number, ak_id *found) {
+    g_autoptr(GArray) items = read_ids(r->now, r->id, AK_LIST_ITEMS);
     size_t count = 0;
-    if (READ_IDS(&items, ASK(node_list, r->now, ID(r->id), AK_LIST_ITEMS, FILTER, INTO_IDS(&items))))
-        for (size_t i = 0; i < items.count; i++)
-            if (is_selected(r->now, items.at[i]) && count++ == number) *found = items.at[i];
-    free_ids(&items);
+    for (guint i = 0; i < items->len; i++)
+        if (is_selected(r->now, AT(items, i)) && (int64_t)count++ == number) *found = AT(items, i);
     return count;
 }
 
 static GVariant *get_selected_count(request *r) {
     ak_id none;
-    return g_variant_new_int32((int32_t)selected_items(r, SIZE_MAX, &none));
+    return g_variant_new_int32((int32_t)selected_items(r, -1, &none));
 }
 
 static bool given_item(request *r, ak_id *item) {
-    int32_t number;
-    g_variant_get(r->given, "(i)", &number);
-    return number >= 0 && selected_items(r, (size_t)number, item) > (size_t)number;
+    return r->numbers[0] >= 0 && selected_items(r, r->numbers[0], item) > (size_t)r->numbers[0];
 }
 
 static GVariant *get_selected_child(request *r) {
@@ -74,40 +61,33 @@ static GVariant *get_selected_child(request *r) {
     return reference(r->adapter, given_item(r, &found) ? &found : NULL);
 }
 
-static bool given_child(request *r, ak_id *child) {
-    int32_t index;
-    g_variant_get(r->given, "(i)", &index);
-    return index >= 0 && ASK(node_child_at, r->now, ID(r->id), FILTER, (size_t)index, child) == AK_DONE;
-}
-
 static GVariant *is_child_selected(request *r) {
     ak_id child;
-    return g_variant_new_boolean(given_child(r, &child) && is_selected(r->now, child));
+    return g_variant_new_boolean(child_at(r, r->numbers[0], &child) && is_selected(r->now, child));
 }
 
 /* An item is selected, or not any more, by a click. */
 static GVariant *click_unless(request *r, bool is_found, ak_id item, bool is_so) {
-    if (!is_found || is_selected(r->now, item) == is_so || !has_flag(r->now, item, AK_CLICKABLE)) return g_variant_new_boolean(FALSE);
+    if (!is_found || is_selected(r->now, item) == is_so || !has_flag(r->now, item, AK_CLICKABLE)) return FALSE_ANSWER;
     r->id = item;
     return ask_application(r, AK_ATSPI_CLICK);
 }
 
 static GVariant *turn_child(request *r, bool is_on) {
     ak_id child = r->id;
-    bool is_found = given_child(r, &child);
+    bool is_found = child_at(r, r->numbers[0], &child);
     return click_unless(r, is_found, child, is_on);
 }
 
 ANSWERS(select_child, turn_child(r, true))
 ANSWERS(deselect_child, turn_child(r, false))
-
 static GVariant *deselect_selected_child(request *r) {
     ak_id found = r->id;
     bool is_found = given_item(r, &found);
     return click_unless(r, is_found, found, false);
 }
 
-ANSWERS(refuse, g_variant_new_boolean(FALSE))
+ANSWERS(refuse, FALSE_ANSWER)
 const method selection_members[] = {
     {"NSelectedChildren", NULL, "i", get_selected_count}, {"GetSelectedChild", "i", "(so)", get_selected_child},
     {"IsChildSelected", "i", "b", is_child_selected}, {"SelectChild", "i", "b", select_child}, {"DeselectChild", "i", "b", deselect_child},
@@ -119,141 +99,109 @@ const method selection_members[] = {
 enum { MATCH_ALL = 1, MATCH_ANY = 2, MATCH_NONE = 3, MATCH_EMPTY = 4 };
 enum { SORT_REVERSE = 4 };
 
-/* Bits that a client wants, by words of 32, and how. */
+/* What a client wants, and how each has to be there. */
 typedef struct {
-    uint32_t words[4];
-    int how;
-} bits;
-typedef struct {
-    bits states, roles;
+    uint64_t states[2], roles[4];
     GVariant *attributes, *interfaces;
-    int of_attributes, of_interfaces;
+    int of_states, of_roles, of_attributes, of_interfaces;
     gboolean is_inverted;
 } rule;
 
-static bits read_bits(GVariant *list, int how) {
-    bits found = {{0}, how};
-    for (size_t i = 0; i < MIN(g_variant_n_children(list), 4); i++) {
-        int32_t word;
+/* Bits that a client gives by words of 32, by words of 64. */
+static void read_bits(GVariant *list, uint64_t *words, size_t count) {
+    int32_t word;
+    for (size_t i = 0; i < count; i++) words[i] = 0;
+    for (size_t i = 0; i < MIN(g_variant_n_children(list), 2 * count); i++) {
         g_variant_get_child(list, i, "i", &word);
-        found.words[i] = (uint32_t)word;
+        words[i / 2] |= (uint64_t)(uint32_t)word << i % 2 * 32;
     }
     g_variant_unref(list);
-    return found;
 }
 
-/* A node has some of what is wanted, all of it, or anything at all. */
-static bool is_match(int how, bool some, bool all, bool any, bool is_wanted) {
+/* A node has so many of those that are wanted, and so many in all. */
+static bool is_match(int how, size_t has, size_t wanted, size_t in_all) {
     switch (how) {
-    case MATCH_ALL: return all;
-    case MATCH_ANY: return some || !is_wanted;
-    case MATCH_NONE: return !some;
-    case MATCH_EMPTY: return is_wanted ? all && some : !any;
+    case MATCH_ALL: return has == wanted;
+    case MATCH_ANY: return has > 0 || wanted == 0;
+    case MATCH_NONE: return has == 0;
+    case MATCH_EMPTY: return wanted > 0 ? has == wanted : in_all == 0;
     default: return true;
     }
 }
 
-static bool match_bits(const bits *wanted, const uint32_t *found) {
-    bool some = false, all = true, any = false, is_wanted = false;
-    for (int i = 0; i < 4; i++) {
-        some |= (wanted->words[i] & found[i]) != 0;
-        all &= (wanted->words[i] & ~found[i]) == 0;
-        any |= found[i] != 0;
-        is_wanted |= wanted->words[i] != 0;
-    }
-    return is_match(wanted->how, some, all, any, is_wanted);
+static size_t bit_count(uint64_t word) {
+    return (size_t)__builtin_popcountll(word);
 }
 
 static bool match_interfaces(const rule *wanted, const view *v, ak_id id) {
-    bool some = false, all = true;
     const char *name;
     GVariantIter iter;
-    g_variant_iter_init(&iter, wanted->interfaces);
-    size_t count = g_variant_n_children(wanted->interfaces);
-    while (g_variant_iter_next(&iter, "&s", &name)) {
-        bool is_known = false;
+    size_t count = g_variant_iter_init(&iter, wanted->interfaces), has = 0;
+    while (g_variant_iter_next(&iter, "&s", &name))
         for (const interface *it = interfaces; it->name; it++)
-            is_known |= g_ascii_strcasecmp(it->name, name) == 0 && has_interface(v, id, it->name);
-        some |= is_known;
-        all &= is_known;
-    }
-    return is_match(wanted->of_interfaces, some, all, true, count > 0);
+            has += g_ascii_strcasecmp(it->name, name) == 0 && has_interface(v, id, it->members);
+    return is_match(wanted->of_interfaces, has, count, 1);
 }
 
 /* An attribute is wanted with one of several values, with colons between. */
 static bool match_attributes(const rule *wanted, const view *v, ak_id id) {
-    size_t count = g_variant_n_children(wanted->attributes);
-    if (count == 0) return true;
-    GVariant *found = g_variant_ref_sink(attributes_of(v, id));
-    bool some = false, all = true;
     const char *name, *values, *value;
     GVariantIter iter;
-    g_variant_iter_init(&iter, wanted->attributes);
+    size_t count = g_variant_iter_init(&iter, wanted->attributes), has = 0;
+    if (count == 0) return true;
+    g_autoptr(GVariant) found = g_variant_ref_sink(attributes_of(v, id));
     while (g_variant_iter_next(&iter, "{&s&s}", &name, &values)) {
-        char **each = g_strsplit(values, ":", -1);
-        bool is_so = g_variant_lookup(found, name, "&s", &value) && g_strv_contains((const char *const *)each, value);
-        g_strfreev(each);
-        some |= is_so;
-        all &= is_so;
+        g_auto(GStrv) each = g_strsplit(values, ":", -1);
+        has += g_variant_lookup(found, name, "&s", &value) && g_strv_contains((const char *const *)each, value);
     }
-    g_variant_unref(found);
-    return is_match(wanted->of_attributes, some, all, true, true);
+    return is_match(wanted->of_attributes, has, count, 1);
 }
 
 static bool matches(const rule *wanted, const view *v, ak_id id) {
-    uint32_t roles[4] = {0}, words[4] = {0};
     unsigned role = role_of(v, id);
-    roles[role / 32] = 1u << role % 32;
-    bits of_roles = wanted->roles;
-    if (of_roles.how == MATCH_ALL) of_roles.how = MATCH_ANY; /* (a node has one role) */
-    bool fits = match_bits(&of_roles, roles);
+    size_t roles = 0, has = wanted->roles[role / 64] >> role % 64 & 1;
+    for (int i = 0; i < 4; i++) roles += bit_count(wanted->roles[i]);
+    /* (a node has one role) */
+    bool fits = is_match(wanted->of_roles == MATCH_ALL ? MATCH_ANY : wanted->of_roles, has, roles, 1);
     if (fits) {
         uint64_t states = states_of(v, id);
-        words[0] = (uint32_t)states;
-        words[1] = (uint32_t)(states >> 32);
-        fits = match_bits(&wanted->states, words) && match_interfaces(wanted, v, id) && match_attributes(wanted, v, id);
+        fits = is_match(wanted->of_states, bit_count(states & wanted->states[0]), bit_count(wanted->states[0]), bit_count(states)) &&
+               match_interfaces(wanted, v, id) && match_attributes(wanted, v, id);
     }
     return fits != wanted->is_inverted;
 }
 
 /* All below a node that matches, in the order of the tree. */
-static void collect(const rule *wanted, const view *v, ak_id top, GArray *found) {
-    ids list;
-    NO_IDS(&list);
-    GArray *stack = g_array_new(FALSE, FALSE, sizeof(ak_id));
+static GArray *collect(const rule *wanted, const view *v, ak_id top) {
+    GArray *found = g_array_new(FALSE, FALSE, sizeof(ak_id));
+    g_autoptr(GArray) stack = g_array_new(FALSE, FALSE, sizeof(ak_id));
     for (ak_id at = top;;) {
-        if (read_children(v, at, &list))
-            for (size_t i = list.count; i-- > 0;) g_array_append_val(stack, list.at[i]);
-        if (stack->len == 0) break;
-        at = g_array_index(stack, ak_id, stack->len - 1);
+        g_autoptr(GArray) list = read_ids(v, at, SHOWN_CHILDREN);
+        for (guint i = list->len; i-- > 0;) g_array_append_val(stack, AT(list, i));
+        if (stack->len == 0) return found;
+        at = AT(stack, stack->len - 1);
         g_array_set_size(stack, stack->len - 1);
         if (matches(wanted, v, at)) g_array_append_val(found, at);
     }
-    g_array_unref(stack);
-    free_ids(&list);
 }
 
 static GVariant *get_matches(request *r) {
     rule wanted;
     GVariant *states, *roles;
     uint32_t sort;
-    int32_t most, of_states, of_roles;
+    int32_t most;
     gboolean traverse;
-    g_variant_get(r->given, "((@aii@a{ss}i@aii@asib)uib)", &states, &of_states, &wanted.attributes, &wanted.of_attributes, &roles,
-                  &of_roles, &wanted.interfaces, &wanted.of_interfaces, &wanted.is_inverted, &sort, &most, &traverse);
-    wanted.states = read_bits(states, of_states);
-    wanted.roles = read_bits(roles, of_roles);
-    GArray *found = g_array_new(FALSE, FALSE, sizeof(ak_id));
-    collect(&wanted, r->now, r->id, found);
-    size_t count = most > 0 ? MIN((size_t)most, found->len) : found->len;
-    GVariantBuilder b;
-    g_variant_builder_init(&b, G_VARIANT_TYPE("a(so)"));
-    for (size_t i = 0; i < count; i++)
-        g_variant_builder_add_value(&b, reference(r->adapter, &g_array_index(found, ak_id, sort == SORT_REVERSE ? found->len - 1 - i : i)));
-    g_array_unref(found);
+    g_variant_get(r->given, "((@aii@a{ss}i@aii@asib)uib)", &states, &wanted.of_states, &wanted.attributes, &wanted.of_attributes, &roles,
+                  &wanted.of_roles, &wanted.interfaces, &wanted.of_interfaces, &wanted.is_inverted, &sort, &most, &traverse);
+    read_bits(states, wanted.states, G_N_ELEMENTS(wanted.states));
+    read_bits(roles, wanted.roles, G_N_ELEMENTS(wanted.roles));
+    g_autoptr(GArray) found = collect(&wanted, r->now, r->id), turned = g_array_new(FALSE, FALSE, sizeof(ak_id));
     g_variant_unref(wanted.attributes);
     g_variant_unref(wanted.interfaces);
-    return g_variant_builder_end(&b);
+    for (guint i = found->len; sort == SORT_REVERSE && i-- > 0;) g_array_append_val(turned, AT(found, i));
+    GArray *answer = sort == SORT_REVERSE ? turned : found;
+    if (most > 0 && (guint)most < answer->len) g_array_set_size(answer, (guint)most);
+    return references(r->adapter, answer);
 }
 
 static GVariant *get_active_descendant(request *r) {

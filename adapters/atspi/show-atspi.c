@@ -43,20 +43,16 @@ static void print_trouble(const char *message, void *data) {
     fprintf(stderr, "show-atspi: %s\n", message);
 }
 
-/* The root of the root tree as the child of a window. */
+/* The root of the root tree as the child of a window: the id in the update's first line is the window's then. */
 static void put_in_window(GString *command, const char *title) {
     char *line_end = strchr(command->str, '\n'), *root = strstr(command->str, " root=");
     if (!title || !g_str_has_prefix(command->str, "update root ") || !root || root > line_end) return;
-    uint64_t id = g_ascii_strtoull(root + 6, NULL, 10);
-    const char *form = "node %" G_GUINT64_FORMAT " Window label=\"%s\" children=%" G_GUINT64_FORMAT "\n";
-    char *window = g_strdup_printf(form, G_MAXUINT64, title, id);
-    g_string_insert(command, line_end + 1 - command->str, window);
-    gssize at = root + 6 - command->str, digits = (gssize)strspn(root + 6, "0123456789");
-    g_string_erase(command, at, digits);
-    char *other = g_strdup_printf("%" G_GUINT64_FORMAT, G_MAXUINT64);
-    g_string_insert(command, at, other);
-    g_free(window);
-    g_free(other);
+    const char *rest = root + 6 + strspn(root + 6, "0123456789");
+    uint64_t id = g_ascii_strtoull(root + 6, NULL, 10), window = G_MAXUINT64;
+    const char *form = "%.*s%" G_GUINT64_FORMAT "%.*s\nnode %" G_GUINT64_FORMAT " Window label=\"%s\" children=%" G_GUINT64_FORMAT "%s";
+    g_autofree char *all = g_strdup_printf(form, (int)(root + 6 - command->str), command->str, window, (int)(line_end - rest), rest,
+                                           window, title, id, line_end);
+    g_string_assign(command, all);
 }
 
 static void free_command(gpointer command) {
@@ -67,7 +63,7 @@ static void free_command(gpointer command) {
 static GPtrArray *commands_of(const char *script, const char *title) {
     GPtrArray *found = g_ptr_array_new_with_free_func(free_command);
     GString *update = NULL;
-    char **lines = g_strsplit(script, "\n", -1);
+    g_auto(GStrv) lines = g_strsplit(script, "\n", -1);
     for (char **line = lines; *line; line++) {
         bool is_host = g_str_has_prefix(*line, "host ");
         if (!update && !is_host && !g_str_has_prefix(*line, "update ")) continue;
@@ -80,7 +76,6 @@ static GPtrArray *commands_of(const char *script, const char *title) {
         if (is_whole) g_ptr_array_add(found, into);
     }
     if (update) g_string_free(update, TRUE);
-    g_strfreev(lines);
     return found;
 }
 
@@ -129,10 +124,9 @@ static void press_key(shown *it, const char *line) {
 static gboolean read_key(GIOChannel *source, GIOCondition condition, gpointer data) {
     (void)condition;
     shown *it = data;
-    char *line = NULL;
+    g_autofree char *line = NULL;
     size_t signals, requests;
     if (g_io_channel_read_line(source, &line, NULL, NULL, NULL) != G_IO_STATUS_NORMAL || g_str_has_prefix(line, "quit")) {
-        g_free(line);
         g_main_loop_quit(it->loop);
         return G_SOURCE_REMOVE;
     }
@@ -142,15 +136,7 @@ static gboolean read_key(GIOChannel *source, GIOCondition condition, gpointer da
     else if (!carry_out_next(it)) printf("end of the script\n");
     printf("ready\n");
     fflush(stdout);
-    g_free(line);
     return G_SOURCE_CONTINUE;
-}
-
-static char *read_all(FILE *file) {
-    GString *all = g_string_new(NULL);
-    char part[65536];
-    for (size_t count; (count = fread(part, 1, sizeof part, file)) > 0;) g_string_append_len(all, part, (gssize)count);
-    return g_string_free(all, FALSE);
 }
 
 typedef struct {
@@ -201,9 +187,9 @@ int main(int argc, char **argv) {
     if (!read_options(argc, argv, &how)) return 2;
     ak_tree tree = AK_TREE_CLOSED;
     shown it = {.title = how.title, .loop = g_main_loop_new(NULL, FALSE)};
-    char *script = read_all(stdin);
-    it.commands = commands_of(script, how.title);
-    g_free(script);
+    g_autofree char *script = NULL;
+    if (g_file_get_contents("/dev/stdin", &script, NULL, NULL)) it.commands = commands_of(script, how.title);
+    else it.commands = commands_of("", NULL);
     const char *name = how.name ? how.name : "Proved";
     if (ak_tree_open(&tree) != AK_DONE || !(it.adapter = ak_atspi_new(name, &tree, print_request, print_trouble, &it))) {
         fprintf(stderr, "show-atspi: out of memory\n");

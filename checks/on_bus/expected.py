@@ -1,5 +1,6 @@
 """What AT-SPI should say of a node, by the model in Python and the tables of docs/ADAPTER.md. Only these are shared with the adapter."""
 
+import itertools
 import math
 import os
 import re
@@ -8,7 +9,8 @@ from model.fields import ROOT
 from model.hidden import hides_text, is_password, shown_label, shown_value
 from model.scripts import role_shown
 from model.texts import BULLET, MAY_BE_READ_ONLY, TEXT_INPUTS, flat_text, indexes, is_text, labelled_by
-from model.views import FILTERS, INCLUDED, ITEMS, LEFT_OUT, bounding_box, filtered_parent, hit, shown, size_and_position, upward
+from model.views import FILTERS, INCLUDED, ITEMS, LEFT_OUT, ancestors, bounding_box, filtered_parent, hit, shown, size_and_position, upward
+from model.worlds import children as all_children
 from model.worlds import effective_focus, focus, root_named
 
 PAGE = os.path.join(os.path.dirname(os.path.abspath(__file__)), "..", "..", "docs", "ADAPTER.md")
@@ -44,9 +46,14 @@ def role(world, id):
     node = world.nodes[id]
     if node.role in ("Button", "DefaultButton") and node.toggled is not None:
         return "toggle button"
-    if node.role == "MultilineTextInput" and any(world.nodes[up].role == "RootWebArea" for up in upward(world, id)):
+    if node.role == "MultilineTextInput" and is_of_page(world, id):
         return "entry"
     return ROLES.get(role_shown(node.role), "unknown")
+
+
+def is_of_page(world, id):
+    """Whether it is in a page, or is one."""
+    return any(world.nodes[up].role == "RootWebArea" for up in upward(world, id))
 
 
 def is_application(world, id):
@@ -107,8 +114,7 @@ def text(world, id):
 
 def marks(world, id):
     """How many marks are its text: one for each child, of what is in a page and has no text of its own."""
-    is_of_page = any(world.nodes[up].role == "RootWebArea" for up in upward(world, id))
-    return len(children(world, id)) if is_of_page and not is_text(world, id) else 0
+    return len(children(world, id)) if is_of_page(world, id) and not is_text(world, id) else 0
 
 
 def link(world, id):
@@ -203,6 +209,8 @@ def interfaces(world, id):
         "Hypertext": marks(world, id) > 0,
         "Value": node.number is not None,
         "Selection": node.role in CONTAINERS,
+        "Table": part(world, id) == "table",
+        "TableCell": place(world, id) is not None,
         "Hyperlink": (node.url is not None and node.role in LINKS) or link(world, id) != (-1, -1),
     }
     return ALWAYS | {word for word, is_so in found.items() if is_so}
@@ -238,6 +246,7 @@ def attributes(world, id):
         "current": node.aria_current,
         "haspopup": node.has_popup,
         "xml-roles": ARIA.get(role_shown(node.role)),
+        "table-cell-index": cell_index(place(world, id)),
     }
     if live(world, id) != "off":
         found |= {"container-live": live(world, id), "atomic": "true" if node.live_atomic else "false"}
@@ -304,3 +313,46 @@ def item_filter(world, id):
 def selected_items(world, id):
     """The selected items of a container, in order."""
     return [it for it in shown(world, item_filter, id) if world.nodes[it].selected == "true"]
+
+
+def part(world, id):
+    """What it is of a table."""
+    word = role(world, id)
+    if word in ("table", "tree table"):
+        return "table"
+    return "cell" if word in ("table cell", "column header", "row header") else "row" if word == "table row" else None
+
+
+def parts(world, id, kind):
+    """The rows of a table, or the cells of a row."""
+    below = [it for it in all_children(world, id) if not world.nodes[it].hidden]
+    return [found for it in below for found in ([it] if part(world, it) == kind else [] if part(world, it) else parts(world, it, kind))]
+
+
+def part_above(world, id, kind):
+    """The nearest part of a table above it, if it is of this kind."""
+    at = next((up for up in ancestors(world, id) if part(world, up)), None)
+    return at if at is not None and part(world, at) == kind else None
+
+
+def place(world, id):
+    """The table, the row and the column of a cell."""
+    row = part_above(world, id, "row") if part(world, id) == "cell" else None
+    table = part_above(world, row, "table") if row else None
+    rows = parts(world, table, "row") if table else []
+    if row not in rows or id not in parts(world, row, "cell"):
+        return None
+    return table, rows.index(row), parts(world, row, "cell").index(id)
+
+
+def cell_index(found):
+    """The index of a cell at a place of its table."""
+    return None if found is None else found[1] * 2**16 + found[2]
+
+
+def headers(world, id, kind):
+    """The headers with which the column of a cell begins, or its row."""
+    table, row, column = place(world, id)
+    cells = [parts(world, it, "cell") for it in parts(world, table, "row")]
+    before = cells[row][:column] if kind == "row header" else [it[column] if column < len(it) else None for it in cells[:row]]
+    return list(itertools.takewhile(lambda it: it is not None and role(world, it) == kind, before))

@@ -67,10 +67,10 @@ class Log:
     def __init__(self):
         self.file = tempfile.NamedTemporaryFile("w+", encoding="utf-8")
 
-    def has(self, words, seconds=LONGEST):
+    def has(self, words, seconds=LONGEST, count=1):
         def read():
             with open(self.file.name, encoding="utf-8") as file:
-                return words in file.read()
+                return file.read().count(words) >= count
 
         return wait_until(read, seconds)
 
@@ -101,32 +101,50 @@ def without_bus(checks, program):
 
 
 def without_registry(checks, program):
-    """A bus that has no registry: one message; when one comes, the application is found."""
+    """A bus that has no registry: one message; when one comes, the application is found. Then the bus ends, and there is another one at the
+    same address: the application is found there."""
+    registry = next((it for it in REGISTRY if os.path.exists(it)), None)
     with tempfile.TemporaryDirectory() as folder:
-        config = os.path.join(folder, "bus.conf")
+        config, address = os.path.join(folder, "bus.conf"), f"unix:path={folder}/bus"
         with open(config, "w", encoding="utf-8") as file:
             file.write(
-                f"<busconfig><type>session</type><listen>unix:dir={folder}</listen><policy context='default'>"
+                f"<busconfig><type>session</type><listen>{address}</listen><policy context='default'>"
                 "<allow send_destination='*' eavesdrop='true'/><allow eavesdrop='true'/><allow own='*'/></policy></busconfig>"
             )
-        bus = subprocess.Popen(["dbus-daemon", f"--config-file={config}", "--print-address", "--nofork"], stdout=subprocess.PIPE, text=True)
-        environment = {**os.environ, "AT_SPI_BUS_ADDRESS": bus.stdout.readline().strip()}
+        environment = {**os.environ, "AT_SPI_BUS_ADDRESS": address}
+        buses, registries = [begin_bus(config)], []
         log = Log()
-        running = start(program, "Alone", SMALL + STEP.format(1), environment=environment, stderr=log.file)
+        running = start(program, "Alone", SMALL + STEP.format(1) + STEP.format(2), environment=environment, stderr=log.file)
         checks.that(log.has("registry doesn't take"), "no message that there is no registry")
         checks.that(goes_on(running, 2), "without a registry it doesn't go on")
-        registry = next((it for it in REGISTRY if os.path.exists(it)), None)
-        if registry:
-            started = subprocess.Popen([registry], env=environment, stdout=subprocess.DEVNULL, stderr=subprocess.DEVNULL)
-            checks.that(log.has("find this application again"), "a registry that comes later isn't noticed")
-        bus.kill()
-        bus.wait()
-        checks.that(log.has("the accessibility bus is gone"), "no message that the bus is gone")
-        if registry:
-            started.kill()
-            started.wait()
+        for again in (1, 2) if registry else ():
+            registries.append(begin_registry(registry, environment))
+            checks.that(log.has("find this application again", count=again), f"registry {again} isn't noticed")
+            buses[-1].kill()
+            buses[-1].wait()
+            checks.that(log.has("the accessibility bus is gone", count=again), "no message that the bus is gone")
+            if again == 1:
+                buses.append(begin_bus(config))
+        checks.that(goes_on(running), "without its bus it doesn't go on")
+        for it in registries:
+            it.kill()
+            it.wait()
         running.say("quit")
         checks.that(running.end() == 0, "without its bus it doesn't end well")
+        if not registry:
+            buses[-1].kill()
+            buses[-1].wait()
+
+
+def begin_bus(config):
+    """A bus of its own, once it can be reached."""
+    bus = subprocess.Popen(["dbus-daemon", f"--config-file={config}", "--print-address", "--nofork"], stdout=subprocess.PIPE, text=True)
+    bus.stdout.readline()
+    return bus
+
+
+def begin_registry(registry, environment):
+    return subprocess.Popen([registry], env=environment, stdout=subprocess.DEVNULL, stderr=subprocess.DEVNULL)
 
 
 def registry_again(checks, program):
@@ -156,12 +174,12 @@ def registry_again(checks, program):
 # ---- what clients ask
 
 BAD = [
-    ("GetChildAtIndex", "Accessible", "(s)", ("x",)),
-    ("GetRole", "Accessible", "(i)", (1,)),
-    ("GetExtents", "Component", None, None),
-    ("GetText", "Text", "(i)", (1,)),
-    ("GetMatches", "Collection", "(i)", (1,)),
-    ("DoAction", "Action", "(u)", (0,)),
+    (1, "GetChildAtIndex", "Accessible", "(s)", ("x",)),
+    (1, "GetRole", "Accessible", "(i)", (1,)),
+    (1, "GetExtents", "Component", None, None),
+    (3, "GetText", "Text", "(i)", (1,)),
+    (1, "GetMatches", "Collection", "(i)", (1,)),
+    (1, "DoAction", "Action", "(u)", (0,)),
 ]
 MISSING = [("Accessible", "GetNothing"), ("Nothing", "GetRole"), ("Application", "GetLocale"), ("Text", "GetNSelections2")]
 PATHS = [NODES + it for it in ("0/999", "7/1", "0/18446744073709551616", "4294967296/1", "0/1/2", "x/1", "0", "0x1/1", "0/1_", "0/_1")]
@@ -179,9 +197,9 @@ def error_of(call):
 def wrong_calls(checks, listener):
     """What isn't there, or is of another type, is refused by name, and all else goes on."""
     button = NODES + "0/1"
-    for member, interface, types, values in BAD:
+    for node, member, interface, types, values in BAD:
         given = GLib.Variant(types, values) if types else None
-        error = error_of(lambda: listener.call(button, SPI + interface, member, given))
+        error = error_of(lambda: listener.call(f"{NODES}0/{node}", SPI + interface, member, given))
         checks.that(error == "org.freedesktop.DBus.Error.InvalidArgs", f"{member} with {types}: {error}")
     for interface, member in MISSING:
         error = error_of(lambda: listener.call(button, SPI + interface, member))

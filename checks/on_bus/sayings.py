@@ -32,6 +32,9 @@ KEYS |= {"F10": (0xFFC7, 76), "Escape": (0xFF1B, 9)}
 CODES = dict(
     a=38, b=56, c=54, d=40, e=26, f=41, g=42, h=43, i=31, k=45, l=46, m=58, n=57, o=32, p=33, q=24, r=27, s=39, t=28, u=30, v=55, w=25, x=53
 )
+# Starts Orca without a voice, for which it would wait, and without the alarm that ends it where it takes over ten seconds to start.
+START = "import runpy, shutil, sys; sys.modules['speechd'] = None; from orca import settings; settings.timeoutTime = 0"
+START += "; sys.argv[0] = shutil.which('orca'); runpy.run_path(sys.argv[0], run_name='__main__')"
 SPOKEN = re.compile(r"SPEECH OUTPUT: '(.*?)'(?:\[?\{'| \{|$)", re.M | re.S)
 # Seconds in which nothing is logged after which a step is over, and the most that are waited for what has to be said.
 SILENCE, PATIENCE = 1.0, 15
@@ -53,7 +56,7 @@ class Orca:
         path = f"{self.home.name}/bin:{os.environ['PATH']}"
         environment = {**os.environ, "HOME": self.home.name, "PATH": path, "LC_ALL": "C.UTF-8", "LANGUAGE": "en"}
         how = {"stdin": subprocess.DEVNULL, "stdout": subprocess.DEVNULL, "stderr": subprocess.DEVNULL, "env": environment}
-        self.process = subprocess.Popen(["orca", "--debug-file", os.ttyname(slave)], **how)
+        self.process = subprocess.Popen([sys.executable, "-c", START, "--debug-file", os.ttyname(slave)], **how)
         self.count = 0
         wait_until(lambda: "Screen reader on." in self.spoken() and listens(), 6 * LONGEST)
         self.hear()

@@ -11,6 +11,8 @@ from session import ROOT, SPI, Listener, Program, application, commands, id_of, 
 
 # Of how many nodes of a step what is at their centre is asked, and of how many marks of a text what they are.
 CENTRES, MARKS = 40, 3
+# Of how many rows and columns of a table the cells are read.
+CELLS = 4
 
 
 def word_of(state):
@@ -285,12 +287,49 @@ class Comparison:
             selection = node.querySelection()
             got = [id_of(selection.getSelectedChild(i).path) for i in range(selection.nSelectedChildren)]
             pairs.append(("selected", got, expected.selected_items(world, id)))
+        if "Table" in interfaces:
+            pairs += self.table(world, id, node.queryTable())
+        if "TableCell" in interfaces:
+            pairs += self.cell(world, id, node.queryTableCell())
         if "Hypertext" in interfaces:
             pairs += self.marks(world, id, node)
         elif "Text" in interfaces:
             pairs += self.texts(world, id, node.queryText())
         for what, got, told in pairs:
             self.checks.that(got == told, f"{where}: {what} is {got}, and not {told}")
+
+    @staticmethod
+    def table(world, id, table):
+        """How many rows and columns it has, what is at a few places, and the headers of these."""
+        rows = [expected.parts(world, it, "cell") for it in expected.parts(world, id, "row")]
+        pairs = [("rows, columns", (table.nRows, table.nColumns), (len(rows), max(map(len, rows), default=0)))]
+        for at, row in list(enumerate(rows))[:CELLS] + [(len(rows), [])]:
+            for column in range(min(len(row), CELLS) + 1):
+                cell = row[column] if column < len(row) else None
+                found = table.getAccessibleAt(at, column)
+                pairs.append((f"cell {at},{column}", found and id_of(found.path), cell))
+                index = expected.cell_index((id, at, column)) if cell else -1
+                pairs.append((f"index of {at},{column}", table.getIndexAt(at, column), index))
+                got = table.getRowAtIndex(index), table.getColumnAtIndex(index), table.getRowExtentAt(at, column)
+                pairs.append((f"place {index}", got, (at, column, 1) if cell else (-1, -1, 0)))
+            first = row[0] if row and expected.role(world, row[0]) == "row header" else None
+            found = table.getRowHeader(at)
+            pairs.append((f"header of row {at}", found and id_of(found.path), first))
+        for column, cell in enumerate(rows[0][:CELLS] if rows else []):
+            found = table.getColumnHeader(column)
+            told = cell if expected.role(world, cell) == "column header" else None
+            pairs.append((f"header of column {column}", found and id_of(found.path), told))
+        return pairs
+
+    @staticmethod
+    def cell(world, id, cell):
+        """Where it is in its table, and its headers."""
+        table, row, column = expected.place(world, id)
+        pairs = [("place", tuple(cell.position), (True, row, column)), ("table", cell.table.path, path_of(table))]
+        pairs.append(("spans", (cell.rowSpan, cell.columnSpan), (1, 1)))
+        for kind, found in (("row header", cell.rowHeaderCells), ("column header", cell.columnHeaderCells)):
+            pairs.append((kind, [id_of(it.path) for it in found], expected.headers(world, id, kind)))
+        return pairs
 
     def marks(self, world, id, node):
         """The text of what holds other nodes in a page: a mark for each, its box, and what it leads to."""

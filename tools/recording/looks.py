@@ -19,7 +19,8 @@ FIELD = """(() => {
 SHAPE = "[scrollX, scrollY, innerWidth, innerHeight, document.documentElement.scrollWidth, document.documentElement.scrollHeight]"
 SNAPSHOT = {"computedStyles": ["overflow-x", "overflow-y"]}
 # Attributes of elements that are read.
-ATTRIBUTES = {"type", "aria-valuetext", "aria-posinset", "aria-setsize", *TEXT_OF_DEVTOOLS, *CHOICE_OF_DEVTOOLS}
+ATTRIBUTES = {"type", "required", "aria-required", "aria-valuetext", "aria-posinset", "aria-setsize", *TEXT_OF_DEVTOOLS}
+ATTRIBUTES |= {*CHOICE_OF_DEVTOOLS}
 
 
 class Look(NamedTuple):

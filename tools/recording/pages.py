@@ -128,7 +128,7 @@ class Page:
             fields["value"] = self.flat(key).strip() if self.raw[key].get("role") in ("LabelText", "Legend") else name
         else:
             # (also a name from contents, which the library takes from fewer nodes than a browser does)
-            fields["label"] = name
+            fields["label"] = name or self.legend(key)
         fields["description"] = self.of(key, "description", str, "")
         self.put_value(key, kind, fields)
         fields["value"] = own.get("aria-valuetext") or fields.get("value")
@@ -141,6 +141,11 @@ class Page:
             word = own.get(attribute, "")
             number = int(word) if word.isascii() and word.isdigit() and len(word) < 19 else 0
             fields[field] = (number if field == "set_size" else number - 1) if number else None
+
+    def legend(self, key):
+        """The legend of a group, which Chromium names by it on the bus, and not in its answers."""
+        below = self.shown(self.of(key, "children", list, [])) if self.element(key).get("tag") == "FIELDSET" else []
+        return next((self.flat(one).strip() for one in below if self.raw[one].get("role") == "Legend"), "")
 
     def put_value(self, key, kind, fields):
         value, properties = self.raw[key].get("value"), self.properties(key)
@@ -169,6 +174,8 @@ class Page:
         properties, own = self.properties(key), self.attributes(key)
         for name, field in FLAG_OF_DEVTOOLS.items():
             fields[field] = properties.get(name) is True
+        # (of a check box it isn't a property)
+        fields["required"] = fields["required"] or "required" in own or own.get("aria-required") == "true"
         fields["read_only"] = properties.get("readonly") is True and kind in EDITS | STEPPED
         for name in ("checked", "pressed"):
             value = properties.get(name)
