@@ -59,6 +59,16 @@ def numbered_roles():
 NAME_OF_ROLE = numbered_roles()
 
 
+def aria_roles():
+    """The names of roles in ARIA, as the page on scripts lists them, each with the names of the roles that have it."""
+    with open(SCRIPT_PAGE, encoding="utf-8") as page:
+        listed = re.search(r"^## Roles$(?:.*?^```text$.*?^```$){2}.*?^```text$(.*?)^```$", page.read(), re.S | re.M).group(1)
+    return {entry.split()[0]: entry.split()[1:] for entry in listed.split(";")}
+
+
+ARIA_ROLES = aria_roles()
+
+
 def role_shown(role):
     """A role's name as programs show it: of one that is sent by a number that of the table, if it has one."""
     return NAME_OF_ROLE.get(role, role)

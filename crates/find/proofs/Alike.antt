@@ -1,11 +1,9 @@
 -- What is printed is read off the outline of a world, and off the values and labels that may be shown.
-use Rattle.std.proofs.Common.{◌≡◌, ℕ, pos, false, ◌&&◌, List, [], ◌∷◌, ◌++◌, Option, Some, None, map, refl, ap, ◌∙◌}
-use Rattle.std.specs.Prelude.{bytes_eq, codes, filter, flat_map, option_and_then, reverse, unwrap_or, if◌then◌else◌}
+use Rattle.std.proofs.Common.{◌≡◌, ℕ, pos, ◌&&◌, ◌||◌, List, [], ◌∷◌, ◌++◌, Option, Some, None, map, refl, ap, ◌∙◌}
+use Rattle.std.specs.Prelude.{codes, filter, flat_map, option_and_then, reverse, unwrap_or, if◌then◌else◌}
 use Rattle.std.specs.Option.{option_map_or}
 use Rattle.std.specs.List.{list_any}
 use Rattle.schema.specs.NodeData.{NodeData}
-use Rattle.schema.specs.Roles.{same_role}
-use Rattle.schema.specs.declared.Role.{Role}
 use Rattle.schema.specs.declared.geometry.WideRect.{WideRect}
 use Rattle.role_names.specs.Names.{shown_name}
 use Rattle.model.specs.declared.FullNodeId.{FullNodeId}
@@ -16,20 +14,24 @@ use Rattle.model.specs.Filters.{common_filter}
 use Rattle.model.specs.Forest.{IsFormed, is_same}
 use Rattle.model.specs.Geometry.{bounding_box, direct_transform, hit}
 use Rattle.model.specs.Outline.{outline}
-use Rattle.model.specs.Upward.{says, upward, is_within}
-use Rattle.model.proofs.Text.Outlines.{funext, reads_or, given_same, says_same, above_is, below_is, box_same, named_same, hit_same}
+use Rattle.model.specs.Upward.{field_at, says, upward, is_within}
+use Rattle.model.proofs.Text.Outlines.{IsBlind, funext, reads_or, given_same, says_same, above_is, below_is, box_same, named_same, hit_same}
 use Rattle.views.specs.Descendants.{shown_nodes}
 use Rattle.atree_script.specs.Printed.{id_text}
 use Rattle.atree_script.specs.Replies.{text_line}
 use Rattle.hidden_texts.specs.Alike.{DifferInPassword}
-use Rattle.hidden_texts.specs.Hidden.{hides_value, hides_label}
+use Rattle.hidden_texts.specs.Hidden.{is_in_password, hides_value, hides_label}
 use Rattle.hidden_texts.specs.Shown.{shown_value, shown_label}
-use Rattle.hidden_texts.proofs.HiddenAlike.{one, values_one, hidden_labels_one}
+use Rattle.hidden_texts.proofs.HiddenAlike.{one, in_one, values_one, hidden_labels_one}
 use Rattle.hidden_texts.proofs.ShownAlike.{value_shown, label_shown}
-use Rattle.find.specs.Found.{shown_from, is_labelled, found}
+use Rattle.find.specs.Found.{shown_from, found}
 use Rattle.find.specs.Laws.{TypingPrintsTheSame}
 use Rattle.find.specs.Middle.{middle_seen, node_at_middle}
+use Rattle.find.specs.Near.{value_text, near_line, near_lines, like_lines, role_lines, hints, sought_text, with_text_like, with_role_of}
 use Rattle.find.specs.Printed.{quoted, role_at, name_text, value_line, names_text, path_line, sides_line, hit_text, middle_line, box_text, node_text, nodes_text}
+use Rattle.find.specs.Wanted.{Sought, has_role, has_texts, is_text, sent_text}
+use Rattle.find.specs.declared.wanted.Roles.{Roles}
+use Rattle.find.specs.declared.wanted.Roles.TheVariants.{One, Aria, Any}
 
 -- ---- of the outline
 
@@ -130,16 +132,50 @@ module _ (p : FullNodeId) (w v : World) (formed : IsFormed w) (alike : DifferInP
 
   -- ---- what is found
 
-  with_role : (role : Role) → says (λ d. same_role d.role role) w ≡ says (λ d. same_role d.role role) v
-  with_role role = read_one (says (λ d. same_role d.role role)) (λ u. says_same u (λ d. same_role d.role role) (λ d. refl))
+  with_role : (sought : Sought) → says (has_role sought) w ≡ says (has_role sought) v
+  with_role sought = read_one (says (has_role sought)) (λ u. says_same u (has_role sought) (λ d. refl))
 
-  with_label : (label : Option (List ℕ)) → is_labelled label w ≡ is_labelled label v
-  with_label None = refl
-  with_label (Some label) = λ i id. option_map_or (bytes_eq label) (labels i id) false
+  within : is_in_password w ≡ is_in_password v
+  within = in_one p w v formed alike
 
-  finds : (role : Role) (label : Option (List ℕ)) (top : FullNodeId) → found role label w top ≡ found role label v top
-  finds role label top i = filter (λ id. with_role role i id && with_label label i id) (read_one shown_from shown_same i top)
+  field_one : (field : NodeData → Option (List ℕ)) → IsBlind field → field_at field w ≡ field_at field v
+  field_one field h = read_one (field_at field) (λ u. given_same u field h)
+
+  sent_one : (field : NodeData → Option (List ℕ)) → IsBlind field → sent_text field w ≡ sent_text field v
+  sent_one field h = λ i id. if within i id then None else field_one field h i id
+
+  texts : (sought : Sought) → has_texts sought w ≡ has_texts sought v
+  texts sought i id =
+      is_text sought.matching sought.label (labels i id) && is_text sought.matching sought.text (values i id)
+      && (is_text sought.matching sought.any (labels i id) || is_text sought.matching sought.any (values i id)
+      || is_text sought.matching sought.any (sent_one (λ d. d.placeholder) (λ d. refl) i id)
+      || is_text sought.matching sought.any (sent_one (λ d. d.description) (λ d. refl) i id))
+
+  finds : (sought : Sought) (top : FullNodeId) → found sought w top ≡ found sought v top
+  finds sought top i = filter (λ id. with_role sought i id && texts sought i id) (read_one shown_from shown_same i top)
+
+  -- ---- what comes near
+
+  near : (how : List ℕ) (id : FullNodeId) → near_line how w id ≡ near_line how v id
+  near how id i = codes "  " ++ how ++ id_text id ++ names i id ++ value_text (values i id) ++ codes "\n"
+
+  all_near : (how : List ℕ) (sought : Sought) (top : FullNodeId) → near_lines how w (found sought w top) ≡ near_lines how v (found sought v top)
+  all_near how sought top i = flat_map (λ id. near how id i) (finds sought top i)
+
+  likes : (top : FullNodeId) (text : Option (List ℕ)) → like_lines w top text ≡ like_lines v top text
+  likes top None = refl
+  likes top (Some text) = all_near (codes "like ") (with_text_like text) top
+
+  of_roles : (roles : Roles) (sought : Sought) (top : FullNodeId) → role_lines roles sought w top ≡ role_lines roles sought v top
+  of_roles (One role) sought top = all_near (codes "role ") (with_role_of sought) top
+  of_roles (Aria name) sought top = all_near (codes "role ") (with_role_of sought) top
+  of_roles Any sought top = refl
+
+  all_hints : (sought : Sought) (top : FullNodeId) (ids : List FullNodeId) → hints sought w top ids ≡ hints sought v top ids
+  all_hints sought top [] = λ i. likes top (sought_text sought) i ++ of_roles sought.roles sought top i
+  all_hints sought top (id ∷ ids) = refl
 
 pub typing_prints_the_same : TypingPrintsTheSame
-typing_prints_the_same p w v formed alike role label top =
-    all_nodes p w v formed alike top (found role label w top) ∙ ap (nodes_text v top) (finds p w v formed alike role label top)
+typing_prints_the_same p w v formed alike sought top =
+    (λ i. all_nodes p w v formed alike top (found sought w top) i ++ all_hints p w v formed alike sought top (found sought w top) i)
+    ∙ ap (λ ids. nodes_text v top ids ++ hints sought v top ids) (finds p w v formed alike sought top)

@@ -1,5 +1,5 @@
 -- What nothing restricts, the common filter answers for by the node alone.
-use Rattle.std.proofs.Common.{◌≡◌, Bool, true, false, cond, ◌||◌, [], Option, Some, None, refl, sym, ap, subst, ◌∙◌}
+use Rattle.std.proofs.Common.{◌≡◌, Bool, true, false, cond, ◌||◌, [], Some, None, refl, sym, ap, subst, ◌∙◌}
 use Rattle.std.specs.Prelude.{IsTrue, ◌↔◌}
 use Rattle.std.specs.BTreeMap.{is_at}
 use Rattle.std.specs.List.{list_any}

@@ -1,8 +1,11 @@
 pub mod Alike
 pub mod FoundNodes
 pub mod Freed
+pub mod Items
 pub mod Middles
-pub mod SoughtLabels
+pub mod Rooted
+pub mod ShownValues
 pub mod SoughtNames
 pub mod SoughtRoles
 pub mod Upward
+pub mod Wanting

@@ -3,6 +3,10 @@ pub mod Free
 pub mod Given
 pub mod Laws
 pub mod Middle
+pub mod Near
+pub mod Options
 pub mod Printed
 pub mod Sought
+pub mod Told
 pub mod Viewed
+pub mod Wanted

@@ -1,11 +1,15 @@
-//! The program `find ROLE [LABEL]`: reads a script, and prints the nodes of its tree with that role and label.
+//! The program `find ROLE [LABEL] [OPTION]..`: reads a script, and prints the nodes of its tree with that role and these texts.
 #![tactic(auto)]
 
+mod asked;
 mod given;
 mod manual;
+mod near;
+mod options;
 mod report;
 mod search;
 mod shown;
+mod sought_texts;
 mod wanted;
 
 use crate::manual::MANUAL;

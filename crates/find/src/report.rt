@@ -1,6 +1,6 @@
 //! Printing a node that was found.
 mod middle;
-mod names;
+pub(crate) mod names;
 
 ghost use Rattle.std.specs.Prelude.{◌≡◌, OnOk};
 ghost use Rattle.std.specs.Io.KnownBytes.{Appends};

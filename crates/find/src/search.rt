@@ -1,5 +1,5 @@
 //! Searching the tree that a script leaves.
-ghost use Rattle.std.specs.Prelude.{◌≡◌, ◌==◌, List, map, length, IfOk, All, OnOk, option_map, string_bytes};
+ghost use Rattle.std.specs.Prelude.{◌≡◌, ◌++◌, List, map, length, IfOk, All, OnOk};
 ghost use Rattle.std.specs.Io.KnownBytes.{Appends};
 ghost use Rattle.std.specs.Iterator.{IsFinite, Drains};
 ghost use Rattle.model.specs.World.{IsNode};
@@ -9,14 +9,19 @@ ghost use Rattle.views.specs.declared.node.node_ref.NodeRef.{NodeRef as ANode};
 ghost use Rattle.views.specs.Nodes.{world_at, id_at};
 ghost use Rattle.views.specs.ShownWorlds.{world_of};
 ghost use Rattle.hidden_texts.specs.Known.{AreRight};
-ghost use Rattle.find.specs.Found.{shown_from, is_labelled, is_wanted, found};
+ghost use Rattle.find.specs.Found.{shown_from, found, is_enough};
 ghost use Rattle.find.specs.Free.{AreFree};
 ghost use Rattle.find.specs.Laws.{TypingPrintsTheSame};
+ghost use Rattle.find.specs.Near.{hints};
 ghost use Rattle.find.specs.Printed.{node_text, nodes_text};
+ghost use Rattle.find.specs.Told.{told};
+ghost use Rattle.find.specs.Wanted.{is_wanted, sought_of};
 
+use crate::near::write_if_none;
 use crate::report::report;
 use crate::shown::Free;
-use crate::wanted::Wanted;
+use crate::sought_texts::has_texts;
+use crate::wanted::{Wanted, has_role};
 use accesskit_consumer::filters::FilterResult;
 use accesskit_consumer::node::{FullNodeId, NodeRef};
 use accesskit_consumer::tree::StateRef;
@@ -25,29 +30,54 @@ use hidden_texts::Passwords;
 use std::alloc::{AllocError, Global};
 use std::io::Write;
 
-/// In two worlds that differ in what is typed into a password alone, the same nodes are found, and the same is printed.
+/// In two worlds that differ in what is typed into a password alone, the same is printed.
 #[tactic(auto, using(crate::proofs::Alike::typing_prints_the_same))]
 fn typing_prints_the_same()
     ensures { TypingPrintsTheSame }
 {}
 
-/// Prints each matching node from the top on, and returns whether there is exactly one.
+/// Prints each matching node from the top on, or `none` and which nodes come near, and returns whether as many are found as are asked for.
 pub(crate) fn tell_found<O: Write>(
     alloc: Global,
     top: NodeRef,
     wanted: &Wanted,
     output: &mut O,
 ) -> Result<bool, Stop>
-    ensures printed { let w = world_at top.entry in let label = option_map string_bytes wanted.now.label in
-        let text = nodes_text w (id_at top.entry) (found wanted.now.role label w (id_at top.entry)) in
-        OnOk result (Appends (O.contents output.old) (O.contents output.new) text) }
-    ensures one { let label = option_map string_bytes wanted.now.label in
-        IfOk result (λ is_one. is_one ≡ (length (found wanted.now.role label (world_at top.entry) (id_at top.entry)) == 1)) }
+    ensures printed { OnOk result (Appends (O.contents output.old) (O.contents output.new)
+        (told (sought_of wanted.now) (world_at top.entry) (id_at top.entry))) }
+    ensures enough { let found = found (sought_of wanted.now) (world_at top.entry) (id_at top.entry) in
+        IfOk result (λ is. is ≡ is_enough wanted.now.any_number (length found)) }
 {
     let passwords = Passwords::below(alloc, top)?;
     let ids = found_ids(alloc, &passwords, top, wanted)?;
-    write_nodes(alloc, &passwords, top, &ids, output)?;
-    Ok(ids.len() == 1)
+    write_told(alloc, &passwords, top, wanted, &ids, output)?;
+    Ok(is_enough(wanted.any_number, ids.len()))
+}
+
+/// Prints each of these nodes, or `none` and which nodes come near.
+fn write_told<O: Write>(
+    alloc: Global,
+    passwords: &Passwords,
+    top: NodeRef,
+    wanted: &Wanted,
+    ids: &[FullNodeId],
+    output: &mut O,
+) -> Result<(), Stop>
+    requires nodes { All (λ id. IsNode (world_at top) id) ids.now }
+    requires known { AreRight (world_at top) passwords.now }
+    ensures { let w = world_at top.entry in let top = id_at top.entry in
+        OnOk result (Appends (O.contents output.old) (O.contents output.new)
+        (nodes_text w top ids.now ++ hints (sought_of wanted.now) w top ids.now)) }
+{
+    write_nodes(alloc, passwords, top, ids, output)?;
+    write_if_none(alloc, passwords, top, wanted, ids, output)
+}
+
+/// Whether as many nodes are found as are asked for: one, or one or more.
+fn is_enough(any_number: bool, count: usize) -> bool
+    ensures { result ≡ is_enough any_number count }
+{
+    if any_number { count > 0 } else { count == 1 }
 }
 
 /// Prints each of these nodes, or `none`.
@@ -90,15 +120,14 @@ fn write_found<O: Write>(
 }
 
 /// The ids of the matching nodes, from the top on.
-fn found_ids(
+pub(crate) fn found_ids(
     alloc: Global,
     passwords: &Passwords,
     top: NodeRef,
     wanted: &Wanted,
 ) -> Result<Vec<FullNodeId>, AllocError>
     requires { AreRight (world_at top) passwords.now }
-    ensures { let label = option_map string_bytes wanted.now.label in
-        IfOk result (λ ids. ids.items ≡ found wanted.now.role label (world_at top.entry) (id_at top.entry)) }
+    ensures { IfOk result (λ ids. ids.items ≡ found (sought_of wanted.now) (world_at top.entry) (id_at top.entry)) }
 {
     let shown = shown_ids(alloc, top)?;
     let mut ids = Vec::new(alloc);
@@ -148,7 +177,7 @@ fn ids_of<'a, W: Iterator<Item = NodeRef<'a>> + Drop>(
     Ok(ids)
 }
 
-/// Whether the node exists and has the role, and the label if one is given.
+/// Whether the node exists and has what is searched for.
 fn is_wanted(
     alloc: Global,
     passwords: &Passwords,
@@ -157,34 +186,13 @@ fn is_wanted(
     wanted: &Wanted,
 ) -> Result<bool, AllocError>
     requires { AreRight (world_of state) passwords.now }
-    ensures { let label = option_map string_bytes wanted.now.label in
-        IfOk result (λ is. is ≡ is_wanted wanted.now.role label (world_of state.entry) id) }
+    ensures { IfOk result (λ is. is ≡ is_wanted (sought_of wanted.now) (world_of state.entry) id) }
 {
     let Some(node) = state.node_by_id(id) else {
         return Ok(false);
     };
-    if node.role() != wanted.role {
+    if !has_role(node, wanted) {
         return Ok(false);
     }
-    is_labelled(alloc, passwords, node, wanted)
-}
-
-/// Whether the node shows the label, if one is given. A hidden label is never found.
-fn is_labelled(
-    alloc: Global,
-    passwords: &Passwords,
-    node: NodeRef,
-    wanted: &Wanted,
-) -> Result<bool, AllocError>
-    requires { AreRight (world_at node) passwords.now }
-    ensures { let label = option_map string_bytes wanted.now.label in
-        IfOk result (λ is. is ≡ is_labelled label (world_at node.entry) (id_at node.entry)) }
-{
-    let Some(sought) = &wanted.label else {
-        return Ok(true);
-    };
-    let Some(own) = passwords.shown_label(alloc, &node)? else {
-        return Ok(false);
-    };
-    Ok(sought.as_str() == own.as_str())
+    has_texts(alloc, passwords, node, wanted)
 }

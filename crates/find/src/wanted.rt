@@ -1,64 +1,67 @@
-//! The arguments of the program.
+//! What is searched for, and whether a node has it.
 
-ghost use Rattle.std.specs.Prelude.{◌≡◌, IfOk, option_copied, option_map, string_bytes};
-ghost use Rattle.find.specs.Given.{GivesWanted, ReadsWanted};
+ghost use Rattle.std.specs.Prelude.{◌≡◌};
+ghost use Rattle.views.specs.Nodes.{data_at};
+ghost use Rattle.find.specs.Wanted.{has_role, is_level, is_role, sought_of};
 
-use crate::given::role_given;
-use crate::search::tell_found;
-use atree_script::{ArgumentError, Arguments, Stop, Teller, miscounted};
+use accesskit_consumer::node::NodeRef;
+use aria_roles::has_aria_name;
+use matching::Matching;
 use schema::Role;
-use session::Session;
-use std::alloc::{AllocError, Global};
-use std::io::Write;
 
-/// The role and label to search for.
+/// The roles that are searched for.
+#[derive(Clone, Copy)]
+pub(crate) enum Roles {
+    /// This role.
+    One(Role),
+    /// Each role that has this name in ARIA.
+    Aria(&'static str),
+    /// Each role.
+    Any,
+}
+
+/// What is searched for: what a node has to have. Of what isn't asked for it is `None`.
 #[derive(Drop)]
 pub(crate) struct Wanted {
-    pub(crate) role: Role,
-    /// `None` matches any label.
+    pub(crate) roles: Roles,
+    /// The level in a hierarchy, as that of a heading.
+    pub(crate) level: Option<usize>,
     pub(crate) label: Option<String>,
+    /// The value, which may be made of the node's runs.
+    pub(crate) text: Option<String>,
+    /// One of the label, the value, the placeholder and the description.
+    pub(crate) any: Option<String>,
+    /// How these texts are compared with those of a node.
+    pub(crate) matching: Matching,
+    /// Whether one or more nodes may be found, in place of exactly one.
+    pub(crate) any_number: bool,
 }
 
-impl Arguments for Wanted {
-    ghost reads = { ReadsWanted };
-
-    /// A role, and a label if there is one.
-    fn from_words(alloc: Global, words: &[String]) -> Result<Wanted, ArgumentError> {
-        match words {
-            [role] => sought_by(alloc, role.as_str(), None),
-            [role, label] => sought_by(alloc, role.as_str(), Some(label.as_str())),
-            _ => Err(miscounted(words)),
-        }
-    }
-}
-
-impl Teller for Wanted {
-    /// Prints each matching node of the tree, and returns whether there is exactly one.
-    fn tell<O: Write>(
-        &self,
-        alloc: Global,
-        session: &Session,
-        output: &mut O,
-    ) -> Result<bool, Stop> {
-        tell_found(alloc, session.tree().state().root(), self, output)
-    }
-}
-
-/// The search for a role of this name, and for this label if one is given.
-fn sought_by(alloc: Global, role: &str, label: Option<&str>) -> Result<Wanted, ArgumentError>
-    ensures { GivesWanted role.now (option_copied label.entry) result }
+/// Whether a role is one of these.
+fn is_role(roles: Roles, role: Role) -> bool
+    ensures { result ≡ is_role roles role }
 {
-    let role = role_given(alloc, role)?;
-    let label = owned(alloc, label)?;
-    Ok(Wanted { role, label })
+    match roles {
+        Roles::One(sought) => role == sought,
+        Roles::Aria(name) => has_aria_name(role, name),
+        Roles::Any => true,
+    }
 }
 
-/// A copy of a text, if there is one.
-fn owned(alloc: Global, text: Option<&str>) -> Result<Option<String>, AllocError>
-    ensures { IfOk result (λ copy. option_map string_bytes copy ≡ option_copied text.entry) }
+/// Whether a level is the sought one, if one is sought.
+fn is_level(sought: Option<usize>, own: Option<usize>) -> bool
+    ensures { result ≡ is_level sought own }
 {
-    match text {
-        Some(text) => Ok(Some(String::from_str(alloc, text)?)),
-        None => Ok(None),
+    match (sought, own) {
+        (None, _) => true,
+        (Some(sought), Some(own)) => own == sought,
+        (Some(_), None) => false,
     }
+}
+
+/// Whether the node has the role and the level.
+pub(crate) fn has_role(node: NodeRef, wanted: &Wanted) -> bool
+    ensures { result ≡ has_role (sought_of wanted.now) (data_at node.entry) }
+{
+    is_role(wanted.roles, node.role()) && is_level(wanted.level, node.data().level())
 }

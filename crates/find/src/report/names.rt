@@ -16,7 +16,7 @@ use std::alloc::{AllocError, Global};
 use std::io::{self, Write};
 
 /// Writes a space, and the text in quotes, if there is one.
-fn write_in_quotes<O: Write>(text: Option<&str>, out: &mut O) -> io::Result<()>
+pub(crate) fn write_in_quotes<O: Write>(text: Option<&str>, out: &mut O) -> io::Result<()>
     ensures { OnOk result (Appends (O.contents out.old) (O.contents out.new) (quoted (option_copied text.entry))) }
 {
     let Some(text) = text else {

@@ -1,16 +1,16 @@
 use Rattle.std.proofs.Common.{rules, ◌≡◌, sym, subst}
-use Rattle.std.specs.Prelude.{All, option_map, string_bytes}
+use Rattle.std.specs.Prelude.{All}
 use Rattle.model.specs.World.{IsNode}
 use Rattle.views.specs.Nodes.{world_at, id_at}
 use Rattle.find.specs.Found.{found}
+use Rattle.find.specs.Wanted.{sought_of}
 use Rattle.find.proofs.FoundNodes.{found_are_nodes}
 use Rattle.find.proofs.search.tell_found.Goals as goal
 
-pub write_nodes-requires-clause-nodes : goal.write_nodes-requires-clause-nodes
-write_nodes-requires-clause-nodes g c =
-    let role = c.args.wanted.now.role in
-    let label = option_map string_bytes c.args.wanted.now.label in
+pub write_told-requires-clause-nodes : goal.write_told-requires-clause-nodes
+write_told-requires-clause-nodes g c =
+    let sought = sought_of c.args.wanted.now in
     let w = world_at c.args.top in
     let top = id_at c.args.top in
-    let same : c.deref.result.now ≡ found role label w top = search rules in
-    subst (All (IsNode w)) (sym same) (found_are_nodes role label w top)
+    let same : c.deref.result.now ≡ found sought w top = search rules in
+    subst (All (IsNode w)) (sym same) (found_are_nodes sought w top)

@@ -1,0 +1,17 @@
+-- What is printed of a search.
+use Rattle.std.specs.Prelude.{ℕ, List, [], ◌++◌}
+use Rattle.std.specs.Option.{option_map_or}
+use Rattle.model.specs.declared.FullNodeId.{FullNodeId}
+use Rattle.model.specs.World.{World, root_of}
+use Rattle.find.specs.Found.{found}
+use Rattle.find.specs.Wanted.{Sought}
+use Rattle.find.specs.Near.{hints}
+use Rattle.find.specs.Printed.{nodes_text}
+
+-- the nodes below a top that are found, or that there is none, and which come near
+abbrev pub told : Sought → World → FullNodeId → List ℕ
+told sought w top = nodes_text w top (found sought w top) ++ hints sought w top (found sought w top)
+
+-- the same of the whole tree
+abbrev pub told_in : Sought → World → List ℕ
+told_in sought w = option_map_or (told sought w) (root_of w 0) []
