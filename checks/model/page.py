@@ -639,9 +639,18 @@ def tells_fault(page, errors):
 
 
 def is_ended(page, told):
-    """Whether a page is a beginning of another one, and then says at once why it ends."""
-    before, note, _ = page.rpartition(b'<p class="refused">Line ')
-    return bool(note) and told.startswith(before.removesuffix(b"</section>\n")) and page.endswith(b"</html>\n")
+    """Whether a page is a beginning of another one, and then says at once why it ends, and lists its states, but for the last if that was
+    only begun."""
+    before, note, after = page.rpartition(b'<p class="refused">Line ')
+    if not note or not told.startswith(before.removesuffix(b"</section>\n")) or not page.endswith(b"</html>\n"):
+        return False
+    items, count = listed_items(after), before.count(b'<section id="state-')
+    return len(items) in (count, count - 1) and items == listed_items(told)[: len(items)]
+
+
+def listed_items(page):
+    """The items of the list at the end of a page."""
+    return re.findall(rb'<li><a href="#state-.*?</li>\n', page.rpartition(b'<nav id="states"')[2])
 
 
 def refused_in(script, page):

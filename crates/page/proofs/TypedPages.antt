@@ -1,8 +1,6 @@
 -- Pages of turns that differ in what is typed into a password.
-use Rattle.std.proofs.Common.{arith, ◌≡◌, ℕ, Bool, true, false, List, [], ◌∷◌, ◌++◌, length, map, Option, Some, None, Result, Ok, refl, sym, ap, subst, ◌∙◌}
+use Rattle.std.proofs.Common.{arith, ◌≡◌, ℕ, Bool, List, [], ◌∷◌, ◌++◌, length, map, Option, Some, None, Result, Ok, sym, ap, subst, ◌∙◌}
 use Rattle.std.specs.Prelude.{MatchOption}
-use Rattle.std.specs.Io.KnownBytes.{Appends}
-use Rattle.std.specs.List.{AllZip, FoldsTo}
 use Rattle.std.proofs.lemmas.List.{length-map, map-append}
 use Rattle.std.proofs.lemmas.Simd.{map-map}
 use Rattle.atree_script.specs.Playing.{Turn, Begun as TreeBegun, FirstRefused, Ran, Asked, Printed}
@@ -25,7 +23,7 @@ use Rattle.page.specs.declared.sections.Titled.{Titled}
 use Rattle.page.specs.Reports.{Bytes, Marked, ReportsStep}
 use Rattle.page.specs.Shown.{first_summary, pages_of, report_text, summary, Kept, Notes, Opens, Pages, Shown, Shows, ShowsState, ShowsStep, ShowsTurn, WritesTree}
 use Rattle.page.specs.States.{cause_of, counted, next_number, outcome_text, state_begun, updates_after}
-use Rattle.page.specs.TypedLaws.{titled_text, IsSameKind, PageAlike, ShownAlike, ShowsTaken, StepAlike, TurnAlike, TypingMakesTheSamePage}
+use Rattle.page.specs.TypedLaws.{titled_text, IsSameKind, PageAlike, ShownAlike, StepAlike, TurnAlike, TypingMakesTheSamePage}
 use Rattle.page.proofs.TypedReports.{step_reported, unmarked}
 
 -- ---- lists

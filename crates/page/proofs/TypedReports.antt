@@ -8,7 +8,7 @@ use Rattle.model.specs.Differences.{event}
 use Rattle.model.specs.declared.FullNodeId.{FullNodeId}
 use Rattle.model.specs.declared.events.PlanEvent.{PlanEvent}
 use Rattle.model.specs.declared.events.PlanEvent.TheVariants.{Added, Updated, FocusMoved, Removed}
-use Rattle.model.specs.Events.{Event, Told, seen_in}
+use Rattle.model.specs.Events.{Told, seen_in}
 use Rattle.model.specs.Forest.{IsFormed}
 use Rattle.model.specs.FullIds.{full_cmp}
 use Rattle.model.specs.World.{World}
@@ -17,7 +17,7 @@ use Rattle.session.specs.declared.commands.Command.{Command}
 use Rattle.session.specs.declared.commands.Reply.{Reply}
 use Rattle.session.specs.declared.commands.Reply.TheVariants as reply
 use Rattle.tree_changes.specs.declared.error.UpdateError.{UpdateError}
-use Rattle.views.specs.Nodes.{world_at, id_at, seen_node}
+use Rattle.views.specs.Nodes.{world_at, seen_node}
 use Rattle.page_states.specs.declared.found.View.{View}
 use Rattle.page_states.specs.declared.marks.Mark.{Mark}
 use Rattle.page_states.specs.declared.marks.Mark.TheVariants.{Added as WasAdded, Updated as WasUpdated}
@@ -32,7 +32,7 @@ use Rattle.page_states.proofs.WrittenAlike.{appended}
 use Rattle.page.specs.declared.sections.Outcome.{Outcome}
 use Rattle.page.specs.declared.sections.Outcome.TheVariants.{Begun, Changed, Same, Refused}
 use Rattle.page.specs.declared.tally.Tally.{Tally}
-use Rattle.page.specs.Reports.{item_begun, item_ended, list_ended, new_focus, no_events, no_tally, old_focus, Bytes, Marked, Report, Reports, ReportsStep}
+use Rattle.page.specs.Reports.{item_begun, item_ended, list_ended, new_focus, no_events, old_focus, Bytes, Marked, Report, Reports, ReportsStep}
 use Rattle.page.specs.States.{counted, is_quiet, outcome_of}
 use Rattle.page.specs.TypedLaws.{refusal_of, StepAlike}
 

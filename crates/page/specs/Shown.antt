@@ -1,15 +1,11 @@
 -- What a page shows of a script, command by command.
 use Rattle.std.specs.Prelude.{◌≡◌, ◌⊎◌, ℕ, List, [], ◌∷◌, ◌++◌, MatchOption, MatchResult, Result, Ok}
 use Rattle.std.specs.BTreeMap.{BTreeMap, IsEmpty}
-use Rattle.std.specs.Io.KnownBytes.{Appends, Keeps}
-use Rattle.atree_script.specs.Input.{Commented, start_of}
-use Rattle.atree_script.specs.declared.playing.Played.{Played}
-use Rattle.atree_script.specs.Playing.{Turn, Begun as TreeBegun, FirstRefused, Ran, Asked, Printed, Stage, no_tree, Plays}
+use Rattle.std.specs.Io.KnownBytes.{Appends}
+use Rattle.atree_script.specs.Playing.{Turn, Begun as TreeBegun, FirstRefused, Ran, Asked, Printed}
 use Rattle.atree_script.specs.Reports.{report_line}
-use Rattle.atree_script.specs.Scripts.{Writes}
 use Rattle.model.specs.declared.FullNodeId.{FullNodeId}
 use Rattle.model.specs.World.{World}
-use Rattle.script_lines.specs.Ends.{Tells, status_at_end}
 use Rattle.script_words.specs.declared.stops.Stop.{Stop}
 use Rattle.script_words.specs.declared.stops.Stop.TheVariants.{WriteFault}
 use Rattle.session.specs.declared.commands.Command.{Command}
@@ -24,10 +20,8 @@ use Rattle.page.specs.declared.sections.Outcome.{Outcome}
 use Rattle.page.specs.declared.sections.Outcome.TheVariants.{Begun, Changed, Same, Refused}
 use Rattle.page.specs.declared.sections.Summary.{Summary}
 use Rattle.page.specs.declared.sections.Titled.{Titled}
-use Rattle.page.specs.declared.stops.Ending.{Ending}
-use Rattle.page.specs.Endings.{EndsAs, told_text}
 use Rattle.page.specs.Reports.{Bytes, Marked, ReportsStep, no_tally}
-use Rattle.page.specs.States.{counted, next_number, cause_of, updates_after, state_begun, outcome_text, page_end}
+use Rattle.page.specs.States.{counted, next_number, cause_of, updates_after, state_begun, outcome_text}
 
 -- what was last shown of each node
 abbrev pub Kept : Type 0
@@ -108,6 +102,16 @@ abbrev pub report_text : Cause → Outcome → List ℕ
 report_text (Update number) (Refused why) = report_line number why
 report_text cause outcome = []
 
+-- the states before one stay listed, and that one may be listed too, with its title and its cause
+abbrev pub StayListed : List ℕ → Cause → List Titled → List Titled → Type 0
+StayListed title cause before after =
+    (after ≡ before)
+    ⊎ ((state : Titled) × (state.title.items ≡ title) × (state.summary.cause ≡ cause) × (after ≡ before ++ state ∷ []))
+
+-- nothing is reported of a state, and so it is of the list
+abbrev pub IsSilent : List ℕ → Cause → Shown → Shown → Type 0
+IsSilent title cause s t = (t.1 ≡ s.1) × StayListed title cause s.0.states t.0.states
+
 -- this is shown and reported; or the page is not written further, and nothing is reported; or standard error has an error
 abbrev pub OrStops : Result Unit Stop → Type 0 → Type 0 → Type 0
 OrStops result shown silent =
@@ -131,39 +135,14 @@ pub record ShowsTurn (title : List ℕ) (cause : Cause) (s : Shown) (old : World
 abbrev pub ShowsRun : List ℕ → World → Command → World → Shown → Result Unit Stop → Shown → Type 0
 ShowsRun title old c new s result t =
     MatchOption (cause_of old.host_focused s.0.updates c) ((new ≡ old) × (t ≡ s) × (result ≡ Ok tt))
-    (λ cause. OrStops result (ShowsTurn title cause s old c new t) (t.1 ≡ s.1))
+    (λ cause. OrStops result (ShowsTurn title cause s old c new t) (IsSilent title cause s t))
 
 -- What a command shows: the comment right before it is the title of the state that it makes. Of a query or a `print` nothing is shown.
 abbrev pub Shows : Shown → Turn → Result Unit Stop → Shown → Type 0
-Shows s (TreeBegun comment w) result t = OrStops result (ShowsFirst comment (first_summary s.0.updates Begun) w s t) (t.1 ≡ s.1)
+Shows s (TreeBegun comment w) result t =
+    OrStops result (ShowsFirst comment (first_summary s.0.updates Begun) w s t) (IsSilent comment (Update (counted s.0.updates)) s t)
 Shows s (FirstRefused comment why) result t =
-    OrStops result (RefusesFirst comment (first_summary s.0.updates (Refused why)) s t) (t.1 ≡ s.1)
+    OrStops result (RefusesFirst comment (first_summary s.0.updates (Refused why)) s t) (IsSilent comment (Update (counted s.0.updates)) s t)
 Shows s (Ran comment old c new) result t = ShowsRun comment old c new s result t
 Shows s (Asked old q new) result t = (new ≡ old) × (t ≡ s) × (result ≡ Ok tt)
 Shows s (Printed w) result t = (t ≡ s) × (result ≡ Ok tt)
-
--- the page ends as the script did, and lists its states; or the output has an error
-abbrev pub EndsPage : List Titled → Ending → Result Unit Stop → Bytes → Bytes → Type 0
-EndsPage states ending result before after =
-    Writes (page_end states ending.ended ending.line ending.message.items) ending.ended result before after
-
--- a script is run after the head of its page, and its states are shown in turn
-pub record PagesFrom (input head after told_before told_after : Bytes) (status : ℕ) : Type 0 where
-  pub unshown : Kept
-  pub nothing : IsEmpty unshown
-  pub commands : List Commented
-  pub played : Played
-  pub end : Stage × Shown
-  pub plays : Plays Shows (start_of input) (no_tree, (pages_of 0 [] unshown head, told_before)) commands played.ended played.number end
-  pub ending : Ending
-  pub ends_as : EndsAs played ending
-  pub result : Result Unit Stop
-  pub closed : Bytes
-  pub ends : EndsPage end.1.0.states ending result end.1.0.written closed
-  pub kept : Keeps closed after
-  pub tells : Tells end.1.1 told_after (told_text result ending.line ending.message.items) (status_at_end result) status
-
--- a script is run, and shown as a page; or the output has an error before its first state
-abbrev pub ShowsScript : Bytes → Bytes → Bytes → Bytes → Bytes → ℕ → Type 0
-ShowsScript input before after told_before told_after status =
-    (status ≡ 3) ⊎ ((head : Bytes) × PagesFrom input head after told_before told_after status)

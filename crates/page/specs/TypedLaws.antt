@@ -1,5 +1,5 @@
 -- A page doesn't depend on what is typed into a password, but for what tells when it was typed.
-use Rattle.std.specs.Prelude.{◌≡◌, ℕ, List, ◌++◌, map, Option, Some, None, Ok, ⊤}
+use Rattle.std.specs.Prelude.{◌≡◌, ◌≤◌, ℕ, List, map, Option, Some, None, Ok, ⊤}
 use Rattle.std.specs.List.{AllZip, FoldsTo}
 use Rattle.atree_script.specs.Playing.{Turn, Begun, FirstRefused, Ran, Asked, Printed}
 use Rattle.model.specs.AlikeRuns.{difference_of}
@@ -15,10 +15,15 @@ use Rattle.session.specs.declared.commands.Reply.TheVariants as reply
 use Rattle.tree_changes.specs.declared.error.UpdateError.{UpdateError}
 use Rattle.page_states.specs.ShownLaws.{MayDiffer}
 use Rattle.page_states.specs.WrittenLaws.{HaveSame, KeepAlike}
-use Rattle.page.specs.declared.sections.Outcome.{Outcome}
 use Rattle.page.specs.declared.sections.Summary.{Summary}
 use Rattle.page.specs.declared.sections.Titled.{Titled}
-use Rattle.page.specs.Shown.{Pages, Shown, Shows}
+use Rattle.page.specs.declared.stops.Ending.{Ending}
+use Rattle.page.specs.Endings.{told_text}
+use Rattle.page.specs.Reports.{Bytes}
+use Rattle.page.specs.Runs.{WritesPage}
+use Rattle.page.specs.Shown.{Pages, Shown}
+use Rattle.page.specs.States.{stop_text}
+use Rattle.page.specs.Turns.{ShowsTaken, TurnTaken}
 
 -- ---- turns that differ in what is typed
 
@@ -73,18 +78,6 @@ pub record PageAlike (s t : Pages) : Type 0 where
 abbrev pub ShownAlike : Shown → Shown → Type 0
 ShownAlike s t = PageAlike s.0 t.0 × HaveSame s.1 t.1
 
--- what came of each state
-abbrev pub outcomes : Shown → List Outcome
-outcomes s = map (λ it. it.summary.outcome) s.0.states
-
--- a turn, and what came of the state that it makes, if it makes one
-abbrev pub TurnTaken : Type 0
-TurnTaken = Turn × List Outcome
-
--- it is shown so, and the script goes on
-abbrev pub ShowsTaken : Shown → TurnTaken → Shown → Type 0
-ShowsTaken s turn t = Shows s turn.0 (Ok tt) t × (outcomes t ≡ outcomes s ++ turn.1)
-
 abbrev pub TakenAlike : FullNodeId → TurnTaken → TurnTaken → Type 0
 TakenAlike p turn other = TurnAlike p turn.0 other.0 × (turn.1 ≡ other.1)
 
@@ -93,3 +86,37 @@ abbrev pub TypingMakesTheSamePage : Type 0
 TypingMakesTheSamePage =
     (p : FullNodeId) (turns others : List TurnTaken) → AllZip (TakenAlike p) turns others → (s t u v : Shown) → ShownAlike s u
     → FoldsTo ShowsTaken s turns t → FoldsTo ShowsTaken u others v → ShownAlike t v
+
+-- ---- runs
+
+-- a run of the program, of which the output has had no error before its first state
+pub record PageRun : Type 0 where
+  pub input : Bytes
+  pub before : Bytes
+  pub after : Bytes
+  pub told_before : Bytes
+  pub told_after : Bytes
+  pub status : ℕ
+  pub writes : WritesPage input before after told_before told_after status
+
+-- two scripts ended alike: the page says the same of it, and the same is reported
+pub record EndAlike (e f : Ending) : Type 0 where
+  pub ended : e.ended ≡ f.ended
+  pub said : stop_text e.ended e.line e.message.items ≡ stop_text f.ended f.line f.message.items
+  pub told : told_text e.ended e.line e.message.items ≡ told_text f.ended f.line f.message.items
+
+-- Two runs up to the end of the input or to a bad line, whose outputs had the same bytes before, and whose turns differ at most in what is
+-- typed into this password, with the same outcomes. Their scripts ended alike.
+pub record RunAlike (p : FullNodeId) (one two : PageRun) : Type 0 where
+  pub before : HaveSame one.before two.before
+  pub told_before : HaveSame one.told_before two.told_before
+  pub status : one.status ≤ 2
+  pub other_status : two.status ≤ 2
+  pub turns : AllZip (TakenAlike p) one.writes.pages.turns two.writes.pages.turns
+  pub ending : EndAlike one.writes.pages.ending two.writes.pages.ending
+
+-- Such runs write the same bytes, from the head of the page to its end, and report the same, with the same status.
+abbrev pub TypingWritesTheSamePage : Type 0
+TypingWritesTheSamePage =
+    (p : FullNodeId) (one two : PageRun) → RunAlike p one two →
+    HaveSame one.after two.after × HaveSame one.told_after two.told_after × (one.status ≡ two.status)

@@ -1,6 +1,7 @@
 //! The program `page`: reads a script, and writes an HTML page with each of its states as an outline and a picture.
 #![tactic(auto)]
 
+mod head;
 mod laws;
 mod manual;
 mod pager;

@@ -3,31 +3,32 @@ ghost use Rattle.std.specs.Prelude.{◌≡◌, ◌≤◌, ◌≢◌, IfOk, Ok, O
 ghost use Rattle.atree_script.specs.Played.{PlaysOut};
 ghost use Rattle.atree_script.specs.Scripts.{Writes};
 ghost use Rattle.views.specs.ShownWorlds.{world_of};
+ghost use Rattle.page.specs.Runs.{EndsPage, PagesFrom, ShowsScript};
 ghost use Rattle.page.specs.Shown.{
   pages_of,
   report_text,
-  EndsPage,
   Notes,
   Opens,
+  IsSilent,
   OrStops,
-  PagesFrom,
   RefusesFirst,
   shown_of,
   Shows,
   ShowsFirst,
-  ShowsScript,
   ShowsState,
   ShowsStep,
   ShowsTurn,
+  StayListed,
   WritesTree,
   first_summary,
 };
 ghost use Rattle.page.specs.States.{next_number, updates_after};
 ghost use Rattle.page.specs.declared.sections.Outcome.TheVariants.{Begun, Refused};
 
+use crate::head::write_head;
 use crate::reported::{Reported, report_step};
 use crate::sections::{
-    Cause, Outcome, Summary, Titled, begin_state, cause_of, write_end, write_head, write_outcome,
+    Cause, Outcome, Summary, Titled, begin_state, cause_of, write_end, write_outcome,
 };
 use crate::stops::{Ending, end_told, ending_of};
 use crate::tally::Tally;
@@ -158,14 +159,7 @@ impl<'a, 'b, O: Write, E: Write> Player for Pager<'a, 'b, O, E> {
     /// Shows and reports why the update is refused, also if memory ran out.
     fn refuse(&mut self, comment: &[u8], refusal: UpdateError) -> Result<(), Stop> {
         let first = first_summary(self.updates, Outcome::Refused(refusal));
-        self.show_quiet(
-            comment,
-            Summary {
-                cause: first.cause,
-                outcome: first.outcome,
-                tally: first.tally,
-            },
-        )?;
+        self.show_first(comment, first.outcome)?;
         report_outcome(first.cause, first.outcome, self.errors)
     }
 
@@ -203,7 +197,8 @@ impl<'a, 'b, O: Write, E: Write> Pager<'a, 'b, O, E> {
         ensures shows { let a = self.old in let b = self.new in
             let before = shown_of a.updates a.states.items a.kept (O.contents a.output.now) (E.contents a.errors.now) in
             let after = shown_of b.updates b.states.items b.kept (O.contents b.output.now) (E.contents b.errors.now) in
-            OrStops result (ShowsTurn title.now cause before session.old command session.new after) (after.1 ≡ before.1) }
+            OrStops result (ShowsTurn title.now cause before session.old command session.new after)
+            (IsSilent title.now cause before after) }
     {
         let outcome = self.show_step(title, cause, session, command)?;
         report_outcome(cause, outcome, self.errors)
@@ -223,6 +218,7 @@ impl<'a, 'b, O: Write, E: Write> Pager<'a, 'b, O, E> {
         ensures shows { let before = pages_of self.old.updates self.old.states.items self.old.kept (O.contents self.old.output.now) in
             let after = pages_of self.new.updates self.new.states.items self.new.kept (O.contents self.new.output.now) in
             OnOk result (ShowsState title.now (first_summary self.old.updates Begun) (world_of state.entry) before after) }
+        ensures listed { StayListed title.now (first_summary self.old.updates Begun).cause self.old.states.items self.new.states.items }
     {
         let number = self.next_number();
         self.show_quiet(title, first_summary(self.updates, Outcome::Begun))?;
@@ -238,6 +234,18 @@ impl<'a, 'b, O: Write, E: Write> Pager<'a, 'b, O, E> {
         )
     }
 
+    /// Begins the state of a first update, and says what came of it.
+    fn show_first(&mut self, title: &[u8], outcome: Outcome) -> Result<(), Fault>
+        ensures output { self.new.output.ghost_name ≡ self.old.output.ghost_name }
+        ensures errors { self.new.errors ≡ self.old.errors }
+        ensures opens { let before = pages_of self.old.updates self.old.states.items self.old.kept (O.contents self.old.output.now) in
+            let after = pages_of self.new.updates self.new.states.items self.new.kept (O.contents self.new.output.now) in
+            OnOk result (Opens title.now (first_summary self.old.updates outcome) before after) }
+        ensures listed { StayListed title.now (first_summary self.old.updates outcome).cause self.old.states.items self.new.states.items }
+    {
+        self.show_quiet(title, first_summary(self.updates, outcome))
+    }
+
     /// Begins a state without events, and says what came of it.
     fn show_quiet(&mut self, title: &[u8], it: Summary) -> Result<(), Fault>
         ensures output { self.new.output.ghost_name ≡ self.old.output.ghost_name }
@@ -245,6 +253,7 @@ impl<'a, 'b, O: Write, E: Write> Pager<'a, 'b, O, E> {
         ensures opens { let before = pages_of self.old.updates self.old.states.items self.old.kept (O.contents self.old.output.now) in
             let after = pages_of self.new.updates self.new.states.items self.new.kept (O.contents self.new.output.now) in
             OnOk result (Opens title.now it before after) }
+        ensures listed { StayListed title.now it.cause self.old.states.items self.new.states.items }
     {
         begin_state(self.next_number(), title, it.cause, self.output)?;
         self.note(title, it)
@@ -263,6 +272,7 @@ impl<'a, 'b, O: Write, E: Write> Pager<'a, 'b, O, E> {
         ensures shows { let before = pages_of self.old.updates self.old.states.items self.old.kept (O.contents self.old.output.now) in
             let after = pages_of self.new.updates self.new.states.items self.new.kept (O.contents self.new.output.now) in
             IfOk result (λ outcome. ShowsStep title.now cause outcome before session.old command session.new after) }
+        ensures listed { StayListed title.now cause self.old.states.items self.new.states.items }
     {
         let number = self.next_number();
         begin_state(number, title, cause, self.output)?;
@@ -295,6 +305,7 @@ impl<'a, 'b, O: Write, E: Write> Pager<'a, 'b, O, E> {
         ensures notes { let before = pages_of self.old.updates self.old.states.items self.old.kept (O.contents self.old.output.now) in
             let after = pages_of self.new.updates self.new.states.items self.new.kept (O.contents self.new.output.now) in
             OnOk result (Notes title.now it before after) }
+        ensures listed { StayListed title.now it.cause self.old.states.items self.new.states.items }
     {
         write_outcome(self.next_number(), it.outcome, self.output)?;
         self.updates = updates_after(it.cause, self.updates);

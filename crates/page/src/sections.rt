@@ -1,4 +1,4 @@
-//! Writing the parts of a page around its states, and the head of each state.
+//! Writing the head of each state, what comes of it, and the end of a page.
 ghost use Rattle.std.specs.Prelude.{◌≡◌, OnOk};
 ghost use Rattle.std.specs.Io.KnownBytes.{Appends};
 ghost use Rattle.page.specs.States.{
@@ -35,7 +35,6 @@ ghost use Rattle.page.specs.States.{
   why_text,
 };
 
-use crate::sheet::SHEET;
 use crate::stops::Ending;
 use crate::tally::Tally;
 use accesskit_consumer::UpdateError;
@@ -80,34 +79,6 @@ pub(crate) struct Titled {
     /// The comment right before the command that makes the state; empty if no line of one is there.
     pub title: Vec<u8>,
     pub summary: Summary,
-}
-
-/// Writes the page up to its first state.
-pub(crate) fn write_head<O: Write>(out: &mut O) -> io::Result<()> {
-    out.write_all(b"<!DOCTYPE html>\n<html lang=\"en\">\n<head>\n<meta charset=\"utf-8\">\n")?;
-    out.write_all(
-        b"<meta http-equiv=\"Content-Security-Policy\" content=\"default-src 'none'; style-src 'unsafe-inline'\">\n",
-    )?;
-    out.write_all(b"<meta name=\"viewport\" content=\"width=device-width, initial-scale=1\">\n")?;
-    out.write_all(b"<title>A tree, state by state</title>\n<style>\n")?;
-    for line in &SHEET {
-        out.write_all(line.as_bytes())?;
-        out.write_all(b"\n")?;
-    }
-    out.write_all(b"</style>\n</head>\n<body>\n")?;
-    write_legend(out)?;
-    out.write_all(b"<main id=\"first\">\n")
-}
-
-/// Writes what the marks of a page mean.
-fn write_legend<O: Write>(out: &mut O) -> io::Result<()> {
-    out.write_all(b"<header><h1>A tree, state by state</h1>\n")?;
-    out.write_all(b"<p class=\"legend\"><em class=\"a\">added</em> <em class=\"u\">updated</em> ")?;
-    out.write_all(b"<em class=\"r\">removed</em> <em class=\"f\">focus</em> ")?;
-    out.write_all(b"<em class=\"h\">hidden or clipped</em></p>\n")?;
-    out.write_all(
-        b"<p><a href=\"#first\">First state</a> <a href=\"#states\">All states</a></p></header>\n",
-    )
 }
 
 /// The cause of the state that a command makes after so many updates. Setting the host's focus to its current value makes

@@ -1,4 +1,4 @@
-use Rattle.std.proofs.Common.{ℕ, refl, subst}
+use Rattle.std.proofs.Common.{ℕ, refl, subst, inr}
 use Rattle.std.specs.Io.KnownBytes.{Appends}
 use Rattle.page.specs.States.{outcome_text}
 use Rattle.page.specs.declared.sections.Titled.{Titled}
@@ -16,3 +16,8 @@ returns-clause-notes g c =
       kept = refl;
       updates = c.updates_after-self.ensures;
     }
+
+pub returns-clause-listed : goal.returns-clause-listed
+returns-clause-listed g c =
+    let kept : Titled = record { title = c.in_ok-from_slice.field-0; summary = c.args.it } in
+    inr (kept, c.in_ok-from_slice.ensures.items, refl, c.in_ok-push.ensures.items)

@@ -1,7 +1,7 @@
-use Rattle.std.proofs.Common.{ℕ, sym, subst, ◌∙◌}
+use Rattle.std.proofs.Common.{ℕ, subst}
 use Rattle.std.proofs.lemmas.Result.{on_ok_weaker}
 use Rattle.views.specs.ShownWorlds.{world_of}
-use Rattle.page.specs.Shown.{Kept, Opens, pages_of, WritesTree}
+use Rattle.page.specs.Shown.{Kept, Opens, pages_of, StayListed, WritesTree}
 use Rattle.page.specs.declared.sections.Outcome.TheVariants.{Begun}
 use Rattle.page.specs.declared.sections.Summary.{Summary}
 use Rattle.page.proofs.pager.Pager.show_begun.Goals as goal
@@ -26,3 +26,11 @@ returns-clause-shows g c =
           (subst (λ (kept : Kept). WritesTree c.next_number-number.result (world_of c.args.state) c.new-marks.result Begun (kept, written) (c.write_tree.new.kept, after)) opened.notes.kept tree);
     })
     c.write_tree.ensures
+
+pub returns-in_err-show_quiet-clause-listed : goal.returns-in_err-show_quiet-clause-listed
+returns-in_err-show_quiet-clause-listed g c =
+    subst (λ (it : Summary). StayListed c.args.title.now it.cause c.args.self.now.states.items c.show_quiet.new.self.states.items) c.first_summary.ensures c.show_quiet.ensures.listed
+
+pub returns-clause-listed : goal.returns-clause-listed
+returns-clause-listed g c =
+    subst (λ (it : Summary). StayListed c.args.title.now it.cause c.args.self.now.states.items c.show_quiet.new.self.states.items) c.first_summary.ensures c.show_quiet.ensures.listed

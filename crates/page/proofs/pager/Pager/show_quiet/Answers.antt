@@ -15,3 +15,6 @@ returns-clause-opens g c =
       notes = noted;
     })
     c.note.ensures.notes
+
+pub returns-clause-listed : goal.returns-clause-listed
+returns-clause-listed g c = c.note.ensures.listed

@@ -1,7 +1,6 @@
 use Rattle.std.proofs.Common.{ℕ, subst, ◌∙◌}
 use Rattle.std.specs.Io.KnownBytes.{Appends}
 use Rattle.model.specs.World.{World}
-use Rattle.views.specs.ShownWorlds.{world_of}
 use Rattle.page.specs.Reports.{ReportsStep}
 use Rattle.page.specs.Shown.{Kept, Notes, pages_of, summary, WritesTree}
 use Rattle.page.specs.States.{state_begun}
@@ -35,3 +34,6 @@ returns-clause-shows g c =
           (subst (λ (kept : Kept). WritesTree number c.report_step.new.session it.marks it.outcome (kept, noted) (c.write_tree.new.kept, after)) made.kept
           (subst (λ (w : World). WritesTree number w it.marks it.outcome (new.kept, noted) (c.write_tree.new.kept, after)) (c.view-state.ensures ∙ c.state.ensures ∙ c.tree.ensures) c.in_ok-write_tree.ensures));
     }
+
+pub returns-clause-listed : goal.returns-clause-listed
+returns-clause-listed g c = c.note.ensures.listed
