@@ -1,0 +1,4 @@
+pub mod Answered
+pub mod Compared
+pub mod Parts
+pub mod Rows
