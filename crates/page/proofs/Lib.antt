@@ -1,3 +1,4 @@
+pub mod Drawn
 pub mod Ended
 pub mod Failing
 pub mod Items

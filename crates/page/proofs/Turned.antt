@@ -14,15 +14,10 @@ use Rattle.script_words.specs.declared.stops.Stop.{Stop}
 use Rattle.script_words.specs.declared.stops.Stop.TheVariants.{Memory, WriteFault}
 use Rattle.session.specs.declared.commands.Command.{Command}
 use Rattle.session.specs.declared.commands.Command.TheVariants as command
-use Rattle.page_states.specs.declared.faults.Fault.{Fault}
-use Rattle.page_states.specs.declared.faults.Fault.TheVariants as fault
-use Rattle.page_states.specs.Faults.{stop_of}
 use Rattle.page.specs.declared.sections.Cause.{Cause}
 use Rattle.page.specs.declared.sections.Outcome.{Outcome}
-use Rattle.page.specs.declared.sections.Outcome.TheVariants.{Refused}
-use Rattle.page.specs.declared.sections.Summary.{Summary}
 use Rattle.page.specs.declared.sections.Titled.{Titled}
-use Rattle.page.specs.Shown.{first_summary, IsSilent, Opens, OrStops, Pages, Shown, Shows, ShowsTurn}
+use Rattle.page.specs.Shown.{Shown, Shows, ShowsTurn}
 use Rattle.page.specs.States.{cause_of}
 use Rattle.page.specs.Turns.{outcomes, ShowsTaken, Taken, Takes, TurnTaken}
 
@@ -40,21 +35,19 @@ Came s t = (came : List Outcome) × (outcomes t ≡ outcomes s ++ came)
 none_came : (s t : Shown) → t ≡ s → Came s t
 none_came s t e = ([], ap outcomes e ∙ sym (append-nil (outcomes s)))
 
-opened_came : (title : List ℕ) (it : Summary) (s t : Pages) → Opens title it s t → (came : List Outcome) × (map outcome_in t.states ≡ map outcome_in s.states ++ came)
-opened_came title it s t h = (outcome_in h.notes.state ∷ [], one_more s.states t.states h.notes.state h.notes.states)
-
 abbrev done : Result Unit Stop
 done = Ok tt
 
-ran_came : (title : List ℕ) (s : Shown) (old : World) (c : Command) (new : World) (t : Shown) (r : Result Unit Stop) (cause : Option Cause) →
-    MatchOption cause ((new ≡ old) × (t ≡ s) × (r ≡ done)) (λ cause. ShowsTurn title cause s old c new t) → Came s t
-ran_came title s old c new t r None h = none_came s t h.1
-ran_came title s old c new t r (Some cause) h = (outcome_in h.shows.notes.state ∷ [], one_more s.0.states t.0.states h.shows.notes.state h.shows.notes.states)
+ran_came : (title : List ℕ) (s : Shown) (old : World) (c : Command) (new : World) (d : Unit) (t : Shown) (cause : Option Cause) →
+    MatchOption cause ((new ≡ old) × (t ≡ s) × (Ok d ≡ done)) (λ cause. ShowsTurn title cause s old c new (Ok d) t) → Came s t
+ran_came title s old c new d t None h = none_came s t h.1
+ran_came title s old c new d t (Some cause) h =
+    let notes = h.shows.0.shown.notes in (outcome_in notes.state ∷ [], one_more s.0.states t.0.states notes.state notes.states)
 
 turn_came : (s : Shown) (turn : Turn) (d : Unit) (t : Shown) → Shows s turn (Ok d) t → Came s t
-turn_came s (TreeBegun comment w) d t h = (outcome_in h.0.opens.notes.state ∷ [], one_more s.0.states t.0.states h.0.opens.notes.state h.0.opens.notes.states)
-turn_came s (FirstRefused comment why) d t h = opened_came comment (first_summary s.0.updates (Refused why)) s.0 t.0 h.0
-turn_came s (Ran comment old c new) d t h = ran_came comment s old c new t (Ok d) (cause_of old.host_focused s.0.updates c) h
+turn_came s (TreeBegun comment w) d t h = let notes = h.0.shown.opens.notes in (outcome_in notes.state ∷ [], one_more s.0.states t.0.states notes.state notes.states)
+turn_came s (FirstRefused comment why) d t h = let notes = h.0.shown.notes in (outcome_in notes.state ∷ [], one_more s.0.states t.0.states notes.state notes.states)
+turn_came s (Ran comment old c new) d t h = ran_came comment s old c new d t (cause_of old.host_focused s.0.updates c) h
 turn_came s (Asked old q new) d t h = none_came s t h.1
 turn_came s (Printed w) d t h = none_came s t h.0
 
@@ -173,21 +166,17 @@ all_went a b (c ∷ cs) h =
 abbrev Stopped : Stop → Type 0
 Stopped stop = (stop ≡ Memory) ⊎ (stop ≡ WriteFault)
 
-by_fault : (why : Fault) (stop : Stop) → stop ≡ stop_of why → Stopped stop
-by_fault fault.Memory stop e = inl e
-by_fault fault.Output stop e = inr e
-
-or_stopped : {A : Type 0} (stop : Stop) → ((why : Fault) × (stop ≡ stop_of why) × A) ⊎ (stop ≡ WriteFault) → Stopped stop
-or_stopped stop (inl h) = by_fault h.0 stop h.1
-or_stopped stop (inr h) = inr h
+or_stopped : {A B : Type 0} (stop : Stop) → ((stop ≡ Memory) × A) ⊎ ((stop ≡ WriteFault) × B) → Stopped stop
+or_stopped stop (inl h) = inl h.0
+or_stopped stop (inr h) = inr h.0
 
 goes_on : {A : Type 0} (stop : Stop) → Err stop ≡ done → A
 goes_on stop e = let no : ⊥ = cc in absurd no
 
 ran_stopped : (title : List ℕ) (s : Shown) (old : World) (c : Command) (new : World) (t : Shown) (stop : Stop) (cause : Option Cause) →
-    MatchOption cause ((new ≡ old) × (t ≡ s) × (Err stop ≡ done)) (λ cause. OrStops (Err stop) (ShowsTurn title cause s old c new t) (IsSilent title cause s t)) → Stopped stop
+    MatchOption cause ((new ≡ old) × (t ≡ s) × (Err stop ≡ done)) (λ cause. ShowsTurn title cause s old c new (Err stop) t) → Stopped stop
 ran_stopped title s old c new t stop None h = goes_on stop h.2
-ran_stopped title s old c new t stop (Some cause) h = or_stopped stop h
+ran_stopped title s old c new t stop (Some cause) h = or_stopped stop h.shows
 
 shows_stopped : (s : Shown) (turn : Turn) (stop : Stop) (t : Shown) → Shows s turn (Err stop) t → Stopped stop
 shows_stopped s (TreeBegun comment w) stop t h = or_stopped stop h

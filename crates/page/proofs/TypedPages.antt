@@ -1,6 +1,7 @@
 -- Pages of turns that differ in what is typed into a password.
-use Rattle.std.proofs.Common.{arith, ◌≡◌, ℕ, Bool, List, [], ◌∷◌, ◌++◌, length, map, Option, Some, None, Result, Ok, sym, ap, subst, ◌∙◌}
+use Rattle.std.proofs.Common.{arith, ◌≡◌, ℕ, Bool, List, [], ◌∷◌, ◌++◌, length, map, Option, Some, None, Result, Ok, refl, sym, ap, subst, ◌∙◌}
 use Rattle.std.specs.Prelude.{MatchOption}
+use Rattle.std.specs.Io.KnownBytes.{Appends}
 use Rattle.std.proofs.lemmas.List.{length-map, map-append}
 use Rattle.std.proofs.lemmas.Simd.{map-map}
 use Rattle.atree_script.specs.Playing.{Turn, Begun as TreeBegun, FirstRefused, Ran, Asked, Printed}
@@ -21,7 +22,7 @@ use Rattle.page.specs.declared.sections.Outcome.TheVariants.{Begun, Changed, Sam
 use Rattle.page.specs.declared.sections.Summary.{Summary}
 use Rattle.page.specs.declared.sections.Titled.{Titled}
 use Rattle.page.specs.Reports.{Bytes, Marked, ReportsStep}
-use Rattle.page.specs.Shown.{first_summary, pages_of, report_text, summary, Kept, Notes, Opens, Pages, Shown, Shows, ShowsState, ShowsStep, ShowsTurn, WritesTree}
+use Rattle.page.specs.Shown.{first_summary, pages_of, report_text, summary, unwritten, Kept, Notes, Opens, Pages, Shown, Shows, ShowsState, ShowsStep, ShowsTurn, WritesTree}
 use Rattle.page.specs.States.{cause_of, counted, next_number, outcome_text, state_begun, updates_after}
 use Rattle.page.specs.TypedLaws.{titled_text, IsSameKind, PageAlike, ShownAlike, StepAlike, TurnAlike, TypingMakesTheSamePage}
 use Rattle.page.proofs.TypedReports.{step_reported, unmarked}
@@ -130,6 +131,23 @@ module _ (title other : List ℕ) (titles : title ≡ other) where
         (t.kept, t.written) (v.kept, v.written) (page.kept, page.written) h.tree tree in
         (ends, record { updates = page.updates; states = page.states; kept = all.0; written = all.1 })
 
+-- ---- what is drawn, and then written
+
+same_text : (a b : List ℕ) → Some a ≡ Some b → a ≡ b
+same_text a b e = cc
+
+none_written : (s u : Pages) → PageAlike s u → PageAlike (unwritten s) (unwritten u)
+none_written s u same = record { updates = same.updates; states = same.states; kept = same.kept; written = ([], refl, refl) }
+
+abbrev drawn_of : Pages → List ℕ → Pages
+drawn_of t text = pages_of t.updates t.states t.kept (Some text)
+
+written_same : (s t u v : Pages) (text other : List ℕ) → PageAlike s u → PageAlike (drawn_of t text) (drawn_of v other) → Appends s.written t.written text → Appends u.written v.written other → PageAlike t v
+written_same s t u v text other same drawn h g =
+    let all = drawn.written in
+    let texts : text ≡ other = same_text text all.0 all.1 ∙ sym (same_text other all.0 all.2) in
+    record { updates = drawn.updates; states = drawn.states; kept = drawn.kept; written = appended s.written u.written t.written v.written text other texts same.written h g }
+
 -- ---- turns
 
 cause_same : (c d : Command) → IsSameKind c d → (a b : Bool) → a ≡ b → (m n : ℕ) → m ≡ n → cause_of a m c ≡ cause_of b n d
@@ -148,28 +166,40 @@ stayed s t u v same h g = subst (λ x. ShownAlike x v) (sym h) (subst (ShownAlik
 module _ (p : FullNodeId) where
   run_same : (title other : List ℕ) → title ≡ other → (old : World) (c : Command) (new former : World) (d : Command) (later : World) → StepAlike p old c new former d later →
       (s t u v : Shown) → ShownAlike s u → map outcome_in t.0.states ≡ map outcome_in v.0.states → (one two : Option Cause) → one ≡ two →
-      MatchOption one ((new ≡ old) × (t ≡ s) × (done ≡ done)) (λ cause. ShowsTurn title cause s old c new t) →
-      MatchOption two ((later ≡ former) × (v ≡ u) × (done ≡ done)) (λ cause. ShowsTurn other cause u former d later v) → ShownAlike t v
+      MatchOption one ((new ≡ old) × (t ≡ s) × (done ≡ done)) (λ cause. ShowsTurn title cause s old c new done t) →
+      MatchOption two ((later ≡ former) × (v ≡ u) × (done ≡ done)) (λ cause. ShowsTurn other cause u former d later done v) → ShownAlike t v
   run_same title other titles old c new former d later alike s t u v same came None None causes h g = stayed s t u v same h.1 g.1
   run_same title other titles old c new former d later alike s t u v same came None (Some two) causes h g = let no : ⊥ = cc in absurd no
   run_same title other titles old c new former d later alike s t u v same came (Some one) None causes h g = let no : ⊥ = cc in absurd no
   run_same title other titles old c new former d later alike s t u v same came (Some one) (Some two) causes h g =
       let cause : one ≡ two = cc in
-      let both = step_same title other titles p one two cause h.outcome g.outcome old c new former d later alike s.0 t.0 u.0 v.0 same.0 h.shows g.shows came in
-      (both.1, appended s.1 u.1 t.1 v.1 (report_text one h.outcome) (report_text two g.outcome) (λ i. report_text (cause i) (both.0 i)) same.1 h.reports g.reports)
+      let mine = h.shows.0 in
+      let others = g.shows.0 in
+      let both = step_same title other titles p one two cause h.outcome g.outcome old c new former d later alike (unwritten s.0) (drawn_of t.0 mine.text) (unwritten u.0) (drawn_of v.0 others.text)
+      (none_written s.0 u.0 same.0) mine.shown others.shown came in (
+        written_same s.0 t.0 u.0 v.0 mine.text others.text same.0 both.1 mine.written others.written,
+        appended s.1 u.1 t.1 v.1 (report_text one h.outcome) (report_text two g.outcome) (λ i. report_text (cause i) (both.0 i)) same.1 h.shows.1 g.shows.1,
+      )
 
   one_turn : (turn other : Turn) → TurnAlike p turn other → (s t u v : Shown) → ShownAlike s u → map outcome_in t.0.states ≡ map outcome_in v.0.states → Shows s turn (Ok tt) t → Shows u other (Ok tt) v → ShownAlike t v
-  one_turn (TreeBegun comment w) (TreeBegun other v) alike s t u r same came h g = (
-    begun_same comment other alike.0 p (first_summary s.0.updates Begun) (first_summary u.0.updates Begun) (λ i. first_summary (same.0.updates i) Begun) w v alike.1 alike.2 s.0 t.0 u.0 r.0 same.0 h.0 g.0,
-    subst (λ o. HaveSame o r.1) (sym h.1) (subst (HaveSame s.1) (sym g.1) same.1),
-  )
+  one_turn (TreeBegun comment w) (TreeBegun other v) alike s t u r same came h g =
+      let mine = h.0 in
+      let others = g.0 in
+      let drawn = begun_same comment other alike.0 p (first_summary s.0.updates Begun) (first_summary u.0.updates Begun) (λ i. first_summary (same.0.updates i) Begun) w v alike.1 alike.2
+      (unwritten s.0) (drawn_of t.0 mine.text) (unwritten u.0) (drawn_of r.0 others.text) (none_written s.0 u.0 same.0) mine.shown others.shown in (
+        written_same s.0 t.0 u.0 r.0 mine.text others.text same.0 drawn mine.written others.written,
+        subst (λ o. HaveSame o r.1) (sym h.1) (subst (HaveSame s.1) (sym g.1) same.1),
+      )
   one_turn (FirstRefused comment why) (FirstRefused other reason) alike s t u r same came h g =
       let it : Summary = first_summary s.0.updates (Refused why) in
       let its : Summary = first_summary u.0.updates (Refused reason) in
-      let ends : Refused why ≡ Refused reason = came_same comment other alike it its (pages_of s.0.updates s.0.states s.0.kept h.0.begun) t.0 (pages_of u.0.updates u.0.states u.0.kept g.0.begun) r.0
-      same.0.states h.0.notes g.0.notes came in
-      let sums : it ≡ its = λ i. first_summary (same.0.updates i) (ends i) in (
-        opens_same comment other alike it its sums s.0 t.0 u.0 r.0 same.0 h.0 g.0,
+      let mine = h.0 in
+      let others = g.0 in
+      let ends : Refused why ≡ Refused reason = came_same comment other alike it its (pages_of s.0.updates s.0.states s.0.kept mine.shown.begun) (drawn_of t.0 mine.text)
+      (pages_of u.0.updates u.0.states u.0.kept others.shown.begun) (drawn_of r.0 others.text) same.0.states mine.shown.notes others.shown.notes came in
+      let sums : it ≡ its = λ i. first_summary (same.0.updates i) (ends i) in
+      let drawn = opens_same comment other alike it its sums (unwritten s.0) (drawn_of t.0 mine.text) (unwritten u.0) (drawn_of r.0 others.text) (none_written s.0 u.0 same.0) mine.shown others.shown in (
+        written_same s.0 t.0 u.0 r.0 mine.text others.text same.0 drawn mine.written others.written,
         appended s.1 u.1 t.1 r.1 (report_text it.cause it.outcome) (report_text its.cause its.outcome) (λ i. report_text (sums i).cause (sums i).outcome) same.1 h.1 g.1,
       )
   one_turn (Ran comment old c new) (Ran other former d later) alike s t u r same came h g =

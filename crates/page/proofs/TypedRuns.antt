@@ -1,5 +1,5 @@
 -- Runs whose turns differ in what is typed into a password.
-use Rattle.std.proofs.Common.{arith, ◌≡◌, ◌≤◌, ℕ, ◌+◌, inl, inr, List, [], ◌∷◌, ◌++◌, codes, map, Some, None, Result, Err, refl, sym, ap, subst, ◌∙◌}
+use Rattle.std.proofs.Common.{arith, ◌≡◌, ◌≤◌, ℕ, ◌+◌, inl, inr, List, [], ◌∷◌, ◌++◌, codes, map, Some, None, Result, Ok, Err, refl, sym, ap, subst, ◌∙◌}
 use Rattle.std.specs.Prelude.{◌≢◌, option_map}
 use Rattle.std.specs.BTreeMap.{IsEmpty, is_at}
 use Rattle.std.specs.Io.KnownBytes.{Appends, Keeps}
@@ -12,6 +12,7 @@ use Rattle.model.specs.FullIds.{full_cmp}
 use Rattle.script_lines.specs.Ends.{Tells, status_at_end}
 use Rattle.script_words.specs.declared.stops.Stop.{Stop}
 use Rattle.script_words.specs.declared.stops.Stop.TheVariants.{Memory, WriteFault}
+use Rattle.script_words.specs.declared.stops.Stop.TheVariants as stop
 use Rattle.page_states.specs.WrittenLaws.{last_text, HaveSame, KeepAlike}
 use Rattle.page_states.proofs.WrittenAlike.{appended}
 use Rattle.page.specs.declared.sections.Summary.{Summary}
@@ -20,7 +21,7 @@ use Rattle.page.specs.declared.stops.Ending.{Ending}
 use Rattle.page.specs.Endings.{EndsAs, EndsBy, told_text}
 use Rattle.page.specs.Heads.{page_head}
 use Rattle.page.specs.Reports.{Bytes}
-use Rattle.page.specs.Runs.{EndsPage, PagesFrom}
+use Rattle.page.specs.Runs.{EndsPage, PagesFrom, WritesEnd}
 use Rattle.page.specs.Shown.{shown_of, Kept, Shown}
 use Rattle.page.specs.States.{items_from, list_head, page_end, page_foot, section_end, state_link, stop_text, summary_text}
 use Rattle.page.specs.Turns.{ShowsTaken, TurnTaken}
@@ -73,17 +74,29 @@ kept_same a b c d same h g = (same.0, still a c same.0 same.1 h, still b d same.
 -- ---- how a run ended
 
 -- at the end of the input or at a bad line, the whole page was written
+whole_end : (ended result : Result Unit Stop) (text : List ℕ) (written closed : Bytes) → WritesEnd ended text result written closed → result ≢ Err WriteFault → (result ≡ ended) × Appends written closed text
+whole_end (Ok done) result text written closed (inl h) out = absurd (out h.0)
+whole_end (Ok done) result text written closed (inr h) out = h
+whole_end (Err stop.BadLine) result text written closed (inl h) out = absurd (out h.0)
+whole_end (Err stop.BadLine) result text written closed (inr h) out = h
+whole_end (Err stop.ReadFault) result text written closed (inl h) out = absurd (out h.0)
+whole_end (Err stop.ReadFault) result text written closed (inr h) out = h
+whole_end (Err stop.Memory) result text written closed (inl h) out = absurd (out h.0)
+whole_end (Err stop.Memory) result text written closed (inr h) out = h
+whole_end (Err stop.WriteFault) result text written closed h out = absurd (out h.0)
+
 whole_page : (states : List Titled) (ending : Ending) (result : Result Unit Stop) (written closed told told_after : Bytes) (status : ℕ) → status ≤ 2 →
     EndsPage states ending result written closed → Tells told told_after (told_text result ending.line ending.message.items) (status_at_end result) status →
     Appends written closed (page_end states ending.ended ending.line ending.message.items)
     × Appends told told_after (told_text ending.ended ending.line ending.message.items) × (status ≡ status_at_end ending.ended)
 whole_page states ending result written closed told told_after status small ends (inr failed) = absurd (omega arith)
-whole_page states ending result written closed told told_after status small (inl failed) (inl h) = let three : status ≡ 3 = h.0 ∙ ap status_at_end failed in absurd (omega arith)
-whole_page states ending result written closed told told_after status small (inr k) (inl h) = (
-  k.1,
-  subst (λ (r : Result Unit Stop). Appends told told_after (told_text r ending.line ending.message.items)) k.0 h.1,
-  h.0 ∙ ap status_at_end k.0,
-)
+whole_page states ending result written closed told told_after status small ends (inl h) =
+    let out : result ≢ Err WriteFault = λ failed. let three : status ≡ 3 = h.0 ∙ ap status_at_end failed in absurd (omega arith) in
+    let k = whole_end ending.ended result (page_end states ending.ended ending.line ending.message.items) written closed ends out in (
+      k.1,
+      subst (λ (r : Result Unit Stop). Appends told told_after (told_text r ending.line ending.message.items)) k.0 h.1,
+      h.0 ∙ ap status_at_end k.0,
+    )
 
 no_memory : (played : Played) (ending : Ending) → EndsAs played ending → played.ended ≡ Err Memory → ending.ended ≡ Err Memory
 no_memory played ending h e = (subst (λ (r : Result Unit Stop). EndsBy r played ending) e h).1 ∙ e

@@ -1,17 +1,16 @@
 -- What a page shows of a script, command by command.
-use Rattle.std.specs.Prelude.{◌≡◌, ◌⊎◌, ℕ, List, [], ◌∷◌, ◌++◌, MatchOption, MatchResult, Result, Ok}
+use Rattle.std.specs.Prelude.{◌≡◌, ◌⊎◌, ℕ, List, [], ◌∷◌, ◌++◌, MatchOption, MatchResult, Result, Ok, Some}
 use Rattle.std.specs.BTreeMap.{BTreeMap, IsEmpty}
 use Rattle.std.specs.Io.KnownBytes.{Appends}
+use Rattle.html.specs.Written.{AppendsBeginning}
 use Rattle.atree_script.specs.Playing.{Turn, Begun as TreeBegun, FirstRefused, Ran, Asked, Printed}
 use Rattle.atree_script.specs.Reports.{report_line}
 use Rattle.model.specs.declared.FullNodeId.{FullNodeId}
 use Rattle.model.specs.World.{World}
 use Rattle.script_words.specs.declared.stops.Stop.{Stop}
-use Rattle.script_words.specs.declared.stops.Stop.TheVariants.{WriteFault}
+use Rattle.script_words.specs.declared.stops.Stop.TheVariants.{Memory, WriteFault}
 use Rattle.session.specs.declared.commands.Command.{Command}
 use Rattle.page_states.specs.declared.again.Last.{Last}
-use Rattle.page_states.specs.declared.faults.Fault.{Fault}
-use Rattle.page_states.specs.Faults.{stop_of}
 use Rattle.page_states.specs.States.{WritesState}
 use Rattle.page.specs.declared.tally.Tally.{Tally}
 use Rattle.page.specs.declared.sections.Cause.{Cause}
@@ -88,7 +87,14 @@ pub record ShowsStep (title : List ℕ) (cause : Cause) (outcome : Outcome) (s :
   pub notes : Notes title (summary cause outcome tally) (pages_of s.updates s.states s.kept told) (pages_of t.updates t.states s.kept noted)
   pub tree : WritesTree (next_number s.states) new marks outcome (s.kept, noted) (t.kept, t.written)
 
--- ---- what is shown and reported of a turn
+-- a state is listed, with its title
+pub record Lists (title : List ℕ) (it : Summary) (before after : List Titled) : Type 0 where
+  pub state : Titled
+  pub titled : state.title.items ≡ title
+  pub summary : state.summary ≡ it
+  pub states : after ≡ before ++ state ∷ []
+
+-- ---- what is written and reported of a turn
 
 -- a page, and the bytes that are reported on standard error
 abbrev pub Shown : Type 0
@@ -97,52 +103,67 @@ Shown = Pages × Bytes
 abbrev pub shown_of : ℕ → List Titled → Kept → Bytes → Bytes → Shown
 shown_of updates states kept written told = (pages_of updates states kept written, told)
 
+-- a page, with nothing written yet
+abbrev pub unwritten : Pages → Pages
+unwritten s = pages_of s.updates s.states s.kept (Some [])
+
+-- how the text of a state is added to what is written: all of it, by `Appends`, or a beginning of it, by `AppendsBeginning`
+abbrev pub Adds : Type 1
+Adds = Bytes → Bytes → List ℕ → Type 0
+
+-- A state is written: its text is what is shown of it where nothing is written yet.
+pub record Writes (shows : Pages → Pages → Type 0) (adds : Adds) (s t : Pages) : Type 0 where
+  pub text : List ℕ
+  pub shown : shows (unwritten s) (pages_of t.updates t.states t.kept (Some text))
+  pub written : adds s.written t.written text
+
+-- nothing is written, reported or listed
+pub record IsSilent (s t : Shown) : Type 0 where
+  pub written : t.0.written ≡ s.0.written
+  pub told : t.1 ≡ s.1
+  pub states : t.0.states ≡ s.0.states
+
+-- Memory ran out, and nothing is written of the state. Or the output has an error: a beginning of the state is written, and nothing is
+-- reported. Or standard error has one, once all of the state is written.
+abbrev pub Stops : Stop → (Adds → Type 0) → Shown → Shown → Type 0
+Stops stop writes s t =
+    ((stop ≡ Memory) × IsSilent s t) ⊎ ((stop ≡ WriteFault) × ((writes AppendsBeginning × (t.1 ≡ s.1)) ⊎ writes Appends))
+
+-- all of a state is written, and this is reported; or it stops the script
+abbrev pub OrStops : Result Unit Stop → Type 0 → (Adds → Type 0) → Shown → Shown → Type 0
+OrStops result reports writes s t = MatchResult result (λ _. writes Appends × reports) (λ stop. Stops stop writes s t)
+
 -- what is reported of a state: of a refused update its number among the updates, and why it is refused
 abbrev pub report_text : Cause → Outcome → List ℕ
 report_text (Update number) (Refused why) = report_line number why
 report_text cause outcome = []
 
--- the states before one stay listed, and that one may be listed too, with its title and its cause
-abbrev pub StayListed : List ℕ → Cause → List Titled → List Titled → Type 0
-StayListed title cause before after =
-    (after ≡ before)
-    ⊎ ((state : Titled) × (state.title.items ≡ title) × (state.summary.cause ≡ cause) × (after ≡ before ++ state ∷ []))
-
--- nothing is reported of a state, and so it is of the list
-abbrev pub IsSilent : List ℕ → Cause → Shown → Shown → Type 0
-IsSilent title cause s t = (t.1 ≡ s.1) × StayListed title cause s.0.states t.0.states
-
--- this is shown and reported; or the page is not written further, and nothing is reported; or standard error has an error
-abbrev pub OrStops : Result Unit Stop → Type 0 → Type 0 → Type 0
-OrStops result shown silent =
-    MatchResult result (λ _. shown) (λ stop. ((why : Fault) × (stop ≡ stop_of why) × silent) ⊎ (stop ≡ WriteFault))
-
 -- a first tree is shown, of which nothing is reported
-abbrev pub ShowsFirst : List ℕ → Summary → World → Shown → Shown → Type 0
-ShowsFirst title it w s t = ShowsState title it w s.0 t.0 × (t.1 ≡ s.1)
+abbrev pub ShowsFirst : List ℕ → Summary → World → Shown → Result Unit Stop → Shown → Type 0
+ShowsFirst title it w s result t = OrStops result (t.1 ≡ s.1) (λ adds. Writes (ShowsState title it w) adds s.0 t.0) s t
 
 -- that a first update is refused is shown and reported
-abbrev pub RefusesFirst : List ℕ → Summary → Shown → Shown → Type 0
-RefusesFirst title it s t = Opens title it s.0 t.0 × Appends s.1 t.1 (report_text it.cause it.outcome)
+abbrev pub RefusesFirst : List ℕ → Summary → Shown → Result Unit Stop → Shown → Type 0
+RefusesFirst title it s result t =
+    OrStops result (Appends s.1 t.1 (report_text it.cause it.outcome)) (λ adds. Writes (Opens title it) adds s.0 t.0) s t
 
 -- the state that a step makes is shown, and its refusal is reported, if it is refused
-pub record ShowsTurn (title : List ℕ) (cause : Cause) (s : Shown) (old : World) (c : Command) (new : World) (t : Shown) : Type 0 where
+pub record ShowsTurn (title : List ℕ) (cause : Cause) (s : Shown) (old : World) (c : Command) (new : World) (result : Result Unit Stop)
+    (t : Shown) : Type 0 where
   pub outcome : Outcome
-  pub shows : ShowsStep title cause outcome s.0 old c new t.0
-  pub reports : Appends s.1 t.1 (report_text cause outcome)
+  pub shows : OrStops result (Appends s.1 t.1 (report_text cause outcome))
+      (λ adds. Writes (λ a b. ShowsStep title cause outcome a old c new b) adds s.0 t.0) s t
 
 -- a command that makes no state shows nothing
 abbrev pub ShowsRun : List ℕ → World → Command → World → Shown → Result Unit Stop → Shown → Type 0
 ShowsRun title old c new s result t =
     MatchOption (cause_of old.host_focused s.0.updates c) ((new ≡ old) × (t ≡ s) × (result ≡ Ok tt))
-    (λ cause. OrStops result (ShowsTurn title cause s old c new t) (IsSilent title cause s t))
+    (λ cause. ShowsTurn title cause s old c new result t)
 
 -- What a command shows: the comment right before it is the title of the state that it makes. Of a query or a `print` nothing is shown.
 abbrev pub Shows : Shown → Turn → Result Unit Stop → Shown → Type 0
-Shows s (TreeBegun comment w) result t =
-    OrStops result (ShowsFirst comment (first_summary s.0.updates Begun) w s t) (IsSilent comment (Update (counted s.0.updates)) s t)
-Shows s (FirstRefused comment why) result t =
-    OrStops result (RefusesFirst comment (first_summary s.0.updates (Refused why)) s t) (IsSilent comment (Update (counted s.0.updates)) s t)
+Shows s (TreeBegun comment w) result t = ShowsFirst comment (first_summary s.0.updates Begun) w s result t
+Shows s (FirstRefused comment why) result t = RefusesFirst comment (first_summary s.0.updates (Refused why)) s result t
 Shows s (Ran comment old c new) result t = ShowsRun comment old c new s result t
 Shows s (Asked old q new) result t = (new ≡ old) × (t ≡ s) × (result ≡ Ok tt)
 Shows s (Printed w) result t = (t ≡ s) × (result ≡ Ok tt)

@@ -48,8 +48,11 @@ updates_after (Update number) updates = number
 updates_after HostOn updates = updates
 updates_after HostOff updates = updates
 
+abbrev pub update_text : ℕ → List ℕ
+update_text number = codes "Update " ++ decimal number
+
 abbrev pub cause_text : Cause → List ℕ
-cause_text (Update number) = codes "Update " ++ decimal number
+cause_text (Update number) = update_text number
 cause_text HostOn = codes "The host window gets the focus"
 cause_text HostOff = codes "The host window loses the focus"
 
@@ -66,10 +69,14 @@ previous_link before =
 abbrev pub section_begun : ℕ → List ℕ
 section_begun number = codes "<section id=\"state-" ++ decimal number ++ codes "\">\n"
 
--- what a state is called after its number: by its title, if it has one, which may run from right to left
+-- a title, which may run from right to left
+abbrev pub some_title : List ℕ → List ℕ
+some_title title = codes ": <bdi>" ++ escaped title ++ codes "</bdi>"
+
+-- what a state is called after its number: by its title, if it has one
 abbrev pub title_text : List ℕ → List ℕ
 title_text [] = []
-title_text (byte ∷ bytes) = codes ": <bdi>" ++ escaped (byte ∷ bytes) ++ codes "</bdi>"
+title_text (byte ∷ bytes) = some_title (byte ∷ bytes)
 
 abbrev pub state_name : ℕ → List ℕ → List ℕ
 state_name number title = codes "State " ++ decimal number ++ title_text title
@@ -135,11 +142,8 @@ stop_text (Err why) line message = why_text why line message
 abbrev pub em_begun : List ℕ → List ℕ
 em_begun class = codes " <em class=\"" ++ class ++ codes "\">"
 
-abbrev pub em_ended : List ℕ → List ℕ
-em_ended what = what ++ codes "</em>"
-
 abbrev pub some_text : List ℕ → List ℕ → ℕ → List ℕ
-some_text class what count = em_begun class ++ (decimal count ++ codes " ") ++ em_ended what
+some_text class what count = em_begun class ++ decimal count ++ codes " " ++ what ++ codes "</em>"
 
 -- a count, unless it is 0
 abbrev pub count_text : List ℕ → List ℕ → ℕ → List ℕ

@@ -10,6 +10,7 @@ mod sections;
 mod sheet;
 mod stops;
 mod tally;
+mod writing;
 
 use atree_script::run_without_arguments;
 use manual::MANUAL;

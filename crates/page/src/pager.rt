@@ -1,16 +1,17 @@
 //! Running a script and writing a page of it.
-ghost use Rattle.std.specs.Prelude.{◌≡◌, ◌≤◌, ◌≢◌, IfOk, Ok, OnOk};
+ghost use Rattle.std.specs.Prelude.{◌≡◌, ◌≤◌, ◌≢◌, ◌⊎◌, [], IfErr, IfOk, Ok, OnErr, OnOk, Some};
+ghost use Rattle.std.specs.Io.KnownBytes.{Appends};
 ghost use Rattle.atree_script.specs.Played.{PlaysOut};
 ghost use Rattle.atree_script.specs.Scripts.{Writes};
+ghost use Rattle.html.specs.Written.{AppendsBeginning};
+ghost use Rattle.script_words.specs.declared.stops.Stop.TheVariants.{WriteFault};
 ghost use Rattle.views.specs.ShownWorlds.{world_of};
-ghost use Rattle.page.specs.Runs.{EndsPage, PagesFrom, ShowsScript};
+ghost use Rattle.page.specs.Runs.{EndsPage, OrBreaksOff, PagesFrom, ShowsScript, WritesEnd};
 ghost use Rattle.page.specs.Shown.{
   pages_of,
   report_text,
-  Notes,
+  Lists,
   Opens,
-  IsSilent,
-  OrStops,
   RefusesFirst,
   shown_of,
   Shows,
@@ -18,11 +19,10 @@ ghost use Rattle.page.specs.Shown.{
   ShowsState,
   ShowsStep,
   ShowsTurn,
-  StayListed,
   WritesTree,
   first_summary,
 };
-ghost use Rattle.page.specs.States.{next_number, updates_after};
+ghost use Rattle.page.specs.States.{next_number, page_end, updates_after};
 ghost use Rattle.page.specs.declared.sections.Outcome.TheVariants.{Begun, Refused};
 
 use crate::head::write_head;
@@ -32,6 +32,7 @@ use crate::sections::{
 };
 use crate::stops::{Ending, end_told, ending_of};
 use crate::tally::Tally;
+use crate::writing::write_bytes;
 use accesskit_consumer::{StateRef, UpdateError};
 use atree_script::{Played, Player, Program, Stop, Streams, end_run, play};
 use page_states::{Fault, Kept, Marks, write_state};
@@ -48,9 +49,10 @@ impl Program for Page {
     /// update, and one for each change of the host's focus once there is a tree. Returns the exit status as `atree`
     /// does: 0 at the end of the input; 2 for a bad line, which is reported on `errors` with what is wrong in it; 3 for an error of the
     /// input or an output; 4 if memory runs out while a line is read or a state is written, which is reported on
-    /// `errors` too. Unless an output has an error, the page is completed in each case and says why it ended; after an
-    /// error of an output nothing more is written. Each refused update is reported on `errors` too, by its number among
-    /// the updates. If memory runs out in an update, the update is refused and the script goes on.
+    /// `errors` too. Unless an output has an error, the page is completed in each case and says why it ended, and of a state
+    /// for which memory runs out it shows nothing. Where an output has an error, what is written is a beginning of the
+    /// page. Each refused update is reported on `errors` too, by its number among the updates. If memory runs out in an
+    /// update, the update is refused and the script goes on.
     fn run<R: BufRead, O: Write, E: Write>(&self, streams: &mut Streams<R, O, E>) -> u8
         ensures bound { result ≤ 4 }
         ensures not_one { result ≢ 1 }
@@ -124,11 +126,42 @@ fn play_shown<R: BufRead, O: Write, E: Write>(
 fn end_page<O: Write>(states: &[Titled], ending: &Ending, output: &mut O) -> Result<(), Stop>
     ensures { EndsPage states.now ending.now result (O.contents output.old) (O.contents output.new) }
 {
-    if ending.ended == Err(Stop::WriteFault) {
-        return ending.ended;
+    end_by(ending.ended, states, ending, output)
+}
+
+/// Ends the page of a script that ended so, unless an output had an error.
+fn end_by<O: Write>(
+    ended: Result<(), Stop>,
+    states: &[Titled],
+    ending: &Ending,
+    output: &mut O,
+) -> Result<(), Stop>
+    ensures { let text = page_end states.now ending.now.ended ending.now.line ending.now.message.items in
+        WritesEnd ended text result (O.contents output.old) (O.contents output.new) }
+{
+    match ended {
+        Ok(()) => write_whole_end(Ok(()), states, ending, output),
+        Err(Stop::BadLine) => write_whole_end(Err(Stop::BadLine), states, ending, output),
+        Err(Stop::ReadFault) => write_whole_end(Err(Stop::ReadFault), states, ending, output),
+        Err(Stop::Memory) => write_whole_end(Err(Stop::Memory), states, ending, output),
+        Err(Stop::WriteFault) => Err(Stop::WriteFault),
     }
-    write_end(states, ending, output)?;
-    ending.ended
+}
+
+/// Writes the end of the page of a script that ended so. If the output has an error, a beginning of the end is written.
+fn write_whole_end<O: Write>(
+    ended: Result<(), Stop>,
+    states: &[Titled],
+    ending: &Ending,
+    output: &mut O,
+) -> Result<(), Stop>
+    ensures { let text = page_end states.now ending.now.ended ending.now.line ending.now.message.items in
+        OrBreaksOff ended text result (O.contents output.old) (O.contents output.new) }
+{
+    match write_end(states, ending, output) {
+        Ok(()) => ended,
+        Err(_) => Err(Stop::WriteFault),
+    }
 }
 
 /// A page while it is written.
@@ -152,15 +185,12 @@ impl<'a, 'b, O: Write, E: Write> Player for Pager<'a, 'b, O, E> {
 
     /// Shows the first state, which has no events.
     fn begin(&mut self, comment: &[u8], session: &Session) -> Result<(), Stop> {
-        self.show_begun(comment, session.tree().state().view())?;
-        Ok(())
+        self.begin_tree(comment, session.tree().state().view())
     }
 
     /// Shows and reports why the update is refused, also if memory ran out.
     fn refuse(&mut self, comment: &[u8], refusal: UpdateError) -> Result<(), Stop> {
-        let first = first_summary(self.updates, Outcome::Refused(refusal));
-        self.show_first(comment, first.outcome)?;
-        report_outcome(first.cause, first.outcome, self.errors)
+        self.refuse_first(comment, refusal)
     }
 
     /// Shows the state that the command makes, and reports a refusal. Setting the host's focus to its current value makes none.
@@ -184,6 +214,42 @@ impl<'a, 'b, O: Write, E: Write> Player for Pager<'a, 'b, O, E> {
 }
 
 impl<'a, 'b, O: Write, E: Write> Pager<'a, 'b, O, E> {
+    /// Shows the first state of the tree.
+    fn begin_tree(&mut self, title: &[u8], state: StateRef) -> Result<(), Stop>
+        ensures output { self.new.output.ghost_name ≡ self.old.output.ghost_name }
+        ensures errors { self.new.errors.ghost_name ≡ self.old.errors.ghost_name }
+        ensures shows { let a = self.old in let b = self.new in
+            let before = shown_of a.updates a.states.items a.kept (O.contents a.output.now) (E.contents a.errors.now) in
+            let after = shown_of b.updates b.states.items b.kept (O.contents b.output.now) (E.contents b.errors.now) in
+            ShowsFirst title.now (first_summary a.updates Begun) (world_of state.entry) before result after }
+    {
+        match self.draw_begun(title, state) {
+            Ok(text) => write_text(&text, self.output),
+            Err(_) => Err(Stop::Memory),
+        }
+    }
+
+    /// Shows and reports that a first update is refused.
+    fn refuse_first(&mut self, title: &[u8], refusal: UpdateError) -> Result<(), Stop>
+        ensures output { self.new.output.ghost_name ≡ self.old.output.ghost_name }
+        ensures errors { self.new.errors.ghost_name ≡ self.old.errors.ghost_name }
+        ensures shows { let a = self.old in let b = self.new in
+            let before = shown_of a.updates a.states.items a.kept (O.contents a.output.now) (E.contents a.errors.now) in
+            let after = shown_of b.updates b.states.items b.kept (O.contents b.output.now) (E.contents b.errors.now) in
+            RefusesFirst title.now (first_summary a.updates (Refused refusal)) before result after }
+    {
+        let it = first_summary(self.updates, Outcome::Refused(refusal));
+        let refused = Summary {
+            cause: it.cause,
+            outcome: it.outcome,
+            tally: it.tally,
+        };
+        match self.draw_quiet(title, refused) {
+            Ok(text) => write_reported(&text, it.cause, it.outcome, self.output, self.errors),
+            Err(_) => Err(Stop::Memory),
+        }
+    }
+
     /// Runs a command, shows its events and its state, and reports a refusal.
     fn take_turn(
         &mut self,
@@ -197,11 +263,12 @@ impl<'a, 'b, O: Write, E: Write> Pager<'a, 'b, O, E> {
         ensures shows { let a = self.old in let b = self.new in
             let before = shown_of a.updates a.states.items a.kept (O.contents a.output.now) (E.contents a.errors.now) in
             let after = shown_of b.updates b.states.items b.kept (O.contents b.output.now) (E.contents b.errors.now) in
-            OrStops result (ShowsTurn title.now cause before session.old command session.new after)
-            (IsSilent title.now cause before after) }
+            ShowsTurn title.now cause before session.old command session.new result after }
     {
-        let outcome = self.show_step(title, cause, session, command)?;
-        report_outcome(cause, outcome, self.errors)
+        match self.draw_step(title, cause, session, command) {
+            Ok(it) => write_reported(&it.text, cause, it.outcome, self.output, self.errors),
+            Err(_) => Err(Stop::Memory),
+        }
     }
 
     /// The number of the next state, counted from 1.
@@ -211,18 +278,21 @@ impl<'a, 'b, O: Write, E: Write> Pager<'a, 'b, O, E> {
         (self.states.len() as u64).saturating_add(1)
     }
 
-    /// Shows the first state of the tree.
-    fn show_begun(&mut self, title: &[u8], state: StateRef) -> Result<(), Fault>
-        ensures output { self.new.output.ghost_name ≡ self.old.output.ghost_name }
+    /// Draws the first state of the tree, in memory. An error says that memory ran out.
+    fn draw_begun(&mut self, title: &[u8], state: StateRef) -> Result<Vec<u8>, Fault>
+        ensures output { self.new.output ≡ self.old.output }
         ensures errors { self.new.errors ≡ self.old.errors }
-        ensures shows { let before = pages_of self.old.updates self.old.states.items self.old.kept (O.contents self.old.output.now) in
-            let after = pages_of self.new.updates self.new.states.items self.new.kept (O.contents self.new.output.now) in
-            OnOk result (ShowsState title.now (first_summary self.old.updates Begun) (world_of state.entry) before after) }
-        ensures listed { StayListed title.now (first_summary self.old.updates Begun).cause self.old.states.items self.new.states.items }
+        ensures shows { let before = pages_of self.old.updates self.old.states.items self.old.kept (Some []) in
+            IfOk result (λ text. let after = pages_of self.new.updates self.new.states.items self.new.kept (Some text.items) in
+            ShowsState title.now (first_summary self.old.updates Begun) (world_of state.entry) before after) }
+        ensures kept { OnErr result (self.new.states.items ≡ self.old.states.items) }
     {
         let number = self.next_number();
-        self.show_quiet(title, first_summary(self.updates, Outcome::Begun))?;
+        let it = first_summary(self.updates, Outcome::Begun);
         let marks = Marks::new(self.alloc);
+        let mut text = Vec::new(self.alloc);
+        begin_state(number, title, it.cause, &mut text)?;
+        write_outcome(number, it.outcome, &mut text)?;
         write_tree(
             self.alloc,
             number,
@@ -230,61 +300,49 @@ impl<'a, 'b, O: Write, E: Write> Pager<'a, 'b, O, E> {
             state,
             &marks,
             &mut self.kept,
-            self.output,
-        )
+            &mut text,
+        )?;
+        self.list(title, it)?;
+        Ok(text)
     }
 
-    /// Begins the state of a first update, and says what came of it.
-    fn show_first(&mut self, title: &[u8], outcome: Outcome) -> Result<(), Fault>
-        ensures output { self.new.output.ghost_name ≡ self.old.output.ghost_name }
+    /// Draws a state without events and without a tree. An error says that memory ran out.
+    fn draw_quiet(&mut self, title: &[u8], it: Summary) -> Result<Vec<u8>, Fault>
+        ensures output { self.new.output ≡ self.old.output }
         ensures errors { self.new.errors ≡ self.old.errors }
-        ensures opens { let before = pages_of self.old.updates self.old.states.items self.old.kept (O.contents self.old.output.now) in
-            let after = pages_of self.new.updates self.new.states.items self.new.kept (O.contents self.new.output.now) in
-            OnOk result (Opens title.now (first_summary self.old.updates outcome) before after) }
-        ensures listed { StayListed title.now (first_summary self.old.updates outcome).cause self.old.states.items self.new.states.items }
+        ensures opens { let before = pages_of self.old.updates self.old.states.items self.old.kept (Some []) in
+            IfOk result (λ text. let after = pages_of self.new.updates self.new.states.items self.new.kept (Some text.items) in
+            Opens title.now it before after) }
+        ensures kept { OnErr result (self.new.states.items ≡ self.old.states.items) }
     {
-        self.show_quiet(title, first_summary(self.updates, outcome))
+        let number = self.next_number();
+        let mut text = Vec::new(self.alloc);
+        begin_state(number, title, it.cause, &mut text)?;
+        write_outcome(number, it.outcome, &mut text)?;
+        self.list(title, it)?;
+        Ok(text)
     }
 
-    /// Begins a state without events, and says what came of it.
-    fn show_quiet(&mut self, title: &[u8], it: Summary) -> Result<(), Fault>
-        ensures output { self.new.output.ghost_name ≡ self.old.output.ghost_name }
-        ensures errors { self.new.errors ≡ self.old.errors }
-        ensures opens { let before = pages_of self.old.updates self.old.states.items self.old.kept (O.contents self.old.output.now) in
-            let after = pages_of self.new.updates self.new.states.items self.new.kept (O.contents self.new.output.now) in
-            OnOk result (Opens title.now it before after) }
-        ensures listed { StayListed title.now it.cause self.old.states.items self.new.states.items }
-    {
-        begin_state(self.next_number(), title, it.cause, self.output)?;
-        self.note(title, it)
-    }
-
-    /// Runs a command, shows its events and its state, and returns what came of it.
-    fn show_step(
+    /// Runs a command, and draws its events and its state. An error says that memory ran out.
+    fn draw_step(
         &mut self,
         title: &[u8],
         cause: Cause,
         session: &mut Session,
         command: Command,
-    ) -> Result<Outcome, Fault>
-        ensures output { self.new.output.ghost_name ≡ self.old.output.ghost_name }
+    ) -> Result<Drawn, Fault>
+        ensures output { self.new.output ≡ self.old.output }
         ensures errors { self.new.errors ≡ self.old.errors }
-        ensures shows { let before = pages_of self.old.updates self.old.states.items self.old.kept (O.contents self.old.output.now) in
-            let after = pages_of self.new.updates self.new.states.items self.new.kept (O.contents self.new.output.now) in
-            IfOk result (λ outcome. ShowsStep title.now cause outcome before session.old command session.new after) }
-        ensures listed { StayListed title.now cause self.old.states.items self.new.states.items }
+        ensures shows { let before = pages_of self.old.updates self.old.states.items self.old.kept (Some []) in
+            IfOk result (λ it. let after = pages_of self.new.updates self.new.states.items self.new.kept (Some it.text.items) in
+            ShowsStep title.now cause it.outcome before session.old command session.new after) }
+        ensures kept { OnErr result (self.new.states.items ≡ self.old.states.items) }
     {
         let number = self.next_number();
-        begin_state(number, title, cause, self.output)?;
-        let it = report_step(self.alloc, number, session, command, self.output)?;
-        self.note(
-            title,
-            Summary {
-                cause,
-                outcome: it.outcome,
-                tally: it.tally,
-            },
-        )?;
+        let mut text = Vec::new(self.alloc);
+        begin_state(number, title, cause, &mut text)?;
+        let it = report_step(self.alloc, number, session, command, &mut text)?;
+        write_outcome(number, it.outcome, &mut text)?;
         let state = session.tree().state().view();
         write_tree(
             self.alloc,
@@ -293,27 +351,76 @@ impl<'a, 'b, O: Write, E: Write> Pager<'a, 'b, O, E> {
             state,
             &it.marks,
             &mut self.kept,
-            self.output,
+            &mut text,
         )?;
-        Ok(it.outcome)
+        self.list(
+            title,
+            Summary {
+                cause,
+                outcome: it.outcome,
+                tally: it.tally,
+            },
+        )?;
+        Ok(Drawn {
+            outcome: it.outcome,
+            text,
+        })
     }
 
-    /// Says what came of the next state, and keeps its title and its summary.
-    fn note(&mut self, title: &[u8], it: Summary) -> Result<(), Fault>
-        ensures output { self.new.output.ghost_name ≡ self.old.output.ghost_name }
+    /// Keeps the title and the summary of a state for the list of all. If memory runs out, the list stays as it was.
+    fn list(&mut self, title: &[u8], it: Summary) -> Result<(), Fault>
+        ensures output { self.new.output ≡ self.old.output }
         ensures errors { self.new.errors ≡ self.old.errors }
-        ensures notes { let before = pages_of self.old.updates self.old.states.items self.old.kept (O.contents self.old.output.now) in
-            let after = pages_of self.new.updates self.new.states.items self.new.kept (O.contents self.new.output.now) in
-            OnOk result (Notes title.now it before after) }
-        ensures listed { StayListed title.now it.cause self.old.states.items self.new.states.items }
+        ensures shown { self.new.kept ≡ self.old.kept }
+        ensures updates { OnOk result (self.new.updates ≡ updates_after it.cause self.old.updates) }
+        ensures listed { OnOk result (Lists title.now it self.old.states.items self.new.states.items) }
+        ensures kept { OnErr result (self.new.states.items ≡ self.old.states.items) }
     {
-        write_outcome(self.next_number(), it.outcome, self.output)?;
-        self.updates = updates_after(it.cause, self.updates);
         self.states.push(Titled {
             title: Vec::from_slice(self.alloc, title)?,
             summary: it,
         })?;
+        self.updates = updates_after(it.cause, self.updates);
         Ok(())
+    }
+}
+
+/// A state that is drawn, and what came of it.
+#[derive(Drop)]
+struct Drawn {
+    outcome: Outcome,
+    text: Vec<u8>,
+}
+
+/// Writes the text of a state. If the output has an error, a beginning of it is written.
+fn write_text<O: Write>(text: &[u8], output: &mut O) -> Result<(), Stop>
+    ensures written { OnOk result (Appends (O.contents output.old) (O.contents output.new) text.now) }
+    ensures cut { IfErr result (λ stop. (stop ≡ WriteFault)
+        × AppendsBeginning (O.contents output.old) (O.contents output.new) text.now) }
+{
+    match write_bytes(text, output) {
+        Ok(()) => Ok(()),
+        Err(_) => Err(Stop::WriteFault),
+    }
+}
+
+/// Writes the text of a state, and reports what came of it, unless the output has an error.
+fn write_reported<O: Write, E: Write>(
+    text: &[u8],
+    cause: Cause,
+    outcome: Outcome,
+    output: &mut O,
+    errors: &mut E,
+) -> Result<(), Stop>
+    ensures written { OnOk result (Appends (O.contents output.old) (O.contents output.new) text.now
+        × Appends (E.contents errors.old) (E.contents errors.new) (report_text cause outcome)) }
+    ensures cut { IfErr result (λ stop. (stop ≡ WriteFault)
+        × ((AppendsBeginning (O.contents output.old) (O.contents output.new) text.now × (E.contents errors.new ≡ E.contents errors.old))
+        ⊎ Appends (O.contents output.old) (O.contents output.new) text.now)) }
+{
+    match write_text(text, output) {
+        Ok(()) => report_outcome(cause, outcome, errors),
+        Err(stop) => Err(stop),
     }
 }
 

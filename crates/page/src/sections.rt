@@ -1,11 +1,13 @@
 //! Writing the head of each state, what comes of it, and the end of a page.
-ghost use Rattle.std.specs.Prelude.{◌≡◌, OnOk};
+ghost use Rattle.std.specs.Prelude.{◌≡◌, OnErr, OnOk};
 ghost use Rattle.std.specs.Io.KnownBytes.{Appends};
+ghost use Rattle.html.specs.Written.{AppendsBeginning};
 ghost use Rattle.page.specs.States.{
   cause_line,
   cause_of,
   cause_text,
   count_text,
+  em_begun,
   fault_text,
   heading,
   heading_line,
@@ -23,6 +25,7 @@ ghost use Rattle.page.specs.States.{
   same_text,
   section_end,
   some_text,
+  some_title,
   state_begun,
   state_link,
   state_link_begun,
@@ -32,11 +35,13 @@ ghost use Rattle.page.specs.States.{
   summary_text,
   tally_text,
   title_text,
+  update_text,
   why_text,
 };
 
 use crate::stops::Ending;
 use crate::tally::Tally;
+use crate::writing::{write_bytes, write_number, write_plain};
 use accesskit_consumer::UpdateError;
 use atree_script::Stop;
 use html::write_escaped_bytes;
@@ -185,14 +190,23 @@ fn write_heading_line<O: Write>(number: u64, title: &[u8], out: &mut O) -> io::R
 
 /// Writes the title of a state after its number, if it has one.
 fn write_title<O: Write>(title: &[u8], out: &mut O) -> io::Result<()>
-    ensures { OnOk result (Appends (O.contents out.old) (O.contents out.new) (title_text title.now)) }
+    ensures written { OnOk result (Appends (O.contents out.old) (O.contents out.new) (title_text title.now)) }
+    ensures cut { OnErr result (AppendsBeginning (O.contents out.old) (O.contents out.new) (title_text title.now)) }
 {
     if title.is_empty() {
         return Ok(());
     }
-    out.write_all(b": <bdi>")?;
+    write_some_title(title, out)
+}
+
+/// Writes a title after the number of a state.
+fn write_some_title<O: Write>(title: &[u8], out: &mut O) -> io::Result<()>
+    ensures written { OnOk result (Appends (O.contents out.old) (O.contents out.new) (some_title title.now)) }
+    ensures cut { OnErr result (AppendsBeginning (O.contents out.old) (O.contents out.new) (some_title title.now)) }
+{
+    write_bytes(b": <bdi>", out)?;
     write_escaped_bytes(title, out)?;
-    out.write_all(b"</bdi>")
+    write_bytes(b"</bdi>", out)
 }
 
 /// Writes the line with the cause of a state.
@@ -206,13 +220,23 @@ fn write_cause_line<O: Write>(cause: Cause, out: &mut O) -> io::Result<()>
 
 /// Writes the cause of a state.
 fn write_cause<O: Write>(cause: Cause, out: &mut O) -> io::Result<()>
-    ensures { OnOk result (Appends (O.contents out.old) (O.contents out.new) (cause_text cause)) }
+    ensures written { OnOk result (Appends (O.contents out.old) (O.contents out.new) (cause_text cause)) }
+    ensures cut { OnErr result (AppendsBeginning (O.contents out.old) (O.contents out.new) (cause_text cause)) }
 {
     match cause {
-        Cause::Update(number) => write!(out, "Update {number}"),
-        Cause::HostOn => out.write_all(b"The host window gets the focus"),
-        Cause::HostOff => out.write_all(b"The host window loses the focus"),
+        Cause::Update(number) => write_update(number, out),
+        Cause::HostOn => write_bytes(b"The host window gets the focus", out),
+        Cause::HostOff => write_bytes(b"The host window loses the focus", out),
     }
+}
+
+/// Writes which update made a state.
+fn write_update<O: Write>(number: u64, out: &mut O) -> io::Result<()>
+    ensures written { OnOk result (Appends (O.contents out.old) (O.contents out.new) (update_text number)) }
+    ensures cut { OnErr result (AppendsBeginning (O.contents out.old) (O.contents out.new) (update_text number)) }
+{
+    write_bytes(b"Update ", out)?;
+    write_number(number, out)
 }
 
 /// Writes the outcome of a state.
@@ -242,22 +266,28 @@ fn write_same<O: Write>(before: u64, out: &mut O) -> io::Result<()>
 
 /// Ends the page: says why the script stopped before its end, if it did, and lists the states.
 pub(crate) fn write_end<O: Write>(states: &[Titled], ending: &Ending, out: &mut O) -> io::Result<()>
-    ensures { OnOk result (Appends (O.contents out.old) (O.contents out.new)
+    ensures written { OnOk result (Appends (O.contents out.old) (O.contents out.new)
+        (page_end states.now ending.now.ended ending.now.line ending.now.message.items)) }
+    ensures cut { OnErr result (AppendsBeginning (O.contents out.old) (O.contents out.new)
         (page_end states.now ending.now.ended ending.now.line ending.now.message.items)) }
 {
     end_section(states, out)?;
     write_stop(ending.ended, ending.line, &ending.message, out)?;
-    out.write_all(b"</main>\n<nav id=\"states\" aria-label=\"States\"><h2>States</h2><ol>\n")?;
+    write_bytes(
+        b"</main>\n<nav id=\"states\" aria-label=\"States\"><h2>States</h2><ol>\n",
+        out,
+    )?;
     write_items(states, out)?;
-    out.write_all(b"</ol></nav>\n</body>\n</html>\n")
+    write_bytes(b"</ol></nav>\n</body>\n</html>\n", out)
 }
 
 /// Ends the last of these states, if there is one.
 fn end_section<O: Write>(states: &[Titled], out: &mut O) -> io::Result<()>
-    ensures { OnOk result (Appends (O.contents out.old) (O.contents out.new) (section_end states.now)) }
+    ensures written { OnOk result (Appends (O.contents out.old) (O.contents out.new) (section_end states.now)) }
+    ensures cut { OnErr result (AppendsBeginning (O.contents out.old) (O.contents out.new) (section_end states.now)) }
 {
     match states.first() {
-        Some(_) => out.write_all(b"</section>\n"),
+        Some(_) => write_bytes(b"</section>\n", out),
         None => Ok(()),
     }
 }
@@ -269,7 +299,8 @@ fn write_stop<O: Write>(
     message: &[u8],
     out: &mut O,
 ) -> io::Result<()>
-    ensures { OnOk result (Appends (O.contents out.old) (O.contents out.new) (stop_text ended line message.now)) }
+    ensures written { OnOk result (Appends (O.contents out.old) (O.contents out.new) (stop_text ended line message.now)) }
+    ensures cut { OnErr result (AppendsBeginning (O.contents out.old) (O.contents out.new) (stop_text ended line message.now)) }
 {
     match ended {
         Ok(()) => Ok(()),
@@ -279,7 +310,8 @@ fn write_stop<O: Write>(
 
 /// Writes why the script stopped: of a bad line this message, and otherwise the line and a reason.
 fn write_why<O: Write>(stop: Stop, line: u64, message: &[u8], out: &mut O) -> io::Result<()>
-    ensures { OnOk result (Appends (O.contents out.old) (O.contents out.new) (why_text stop line message.now)) }
+    ensures written { OnOk result (Appends (O.contents out.old) (O.contents out.new) (why_text stop line message.now)) }
+    ensures cut { OnErr result (AppendsBeginning (O.contents out.old) (O.contents out.new) (why_text stop line message.now)) }
 {
     match stop {
         Stop::BadLine => write_fault(message, out),
@@ -291,32 +323,38 @@ fn write_why<O: Write>(stop: Stop, line: u64, message: &[u8], out: &mut O) -> io
 
 /// Writes that the script stopped at a bad line, with what is wrong in it.
 fn write_fault<O: Write>(message: &[u8], out: &mut O) -> io::Result<()>
-    ensures { OnOk result (Appends (O.contents out.old) (O.contents out.new) (fault_text message.now)) }
+    ensures written { OnOk result (Appends (O.contents out.old) (O.contents out.new) (fault_text message.now)) }
+    ensures cut { OnErr result (AppendsBeginning (O.contents out.old) (O.contents out.new) (fault_text message.now)) }
 {
-    out.write_all(b"<p class=\"refused\">The script stops at ")?;
+    write_bytes(b"<p class=\"refused\">The script stops at ", out)?;
     write_escaped_bytes(message, out)?;
-    out.write_all(b"</p>\n")
+    write_bytes(b"</p>\n", out)
 }
 
 /// Writes why the script stopped at a line.
 fn write_reason<O: Write>(line: u64, reason: &str, out: &mut O) -> io::Result<()>
-    ensures { OnOk result (Appends (O.contents out.old) (O.contents out.new) (reason_text line reason.now)) }
+    ensures written { OnOk result (Appends (O.contents out.old) (O.contents out.new) (reason_text line reason.now)) }
+    ensures cut { OnErr result (AppendsBeginning (O.contents out.old) (O.contents out.new) (reason_text line reason.now)) }
 {
     begin_stop(line, out)?;
-    out.write_all(reason.as_bytes())?;
-    out.write_all(b"</p>\n")
+    write_plain(reason, out)?;
+    write_bytes(b"</p>\n", out)
 }
 
 /// Writes at which line the script stopped.
 fn begin_stop<O: Write>(line: u64, out: &mut O) -> io::Result<()>
-    ensures { OnOk result (Appends (O.contents out.old) (O.contents out.new) (stop_begun line)) }
+    ensures written { OnOk result (Appends (O.contents out.old) (O.contents out.new) (stop_begun line)) }
+    ensures cut { OnErr result (AppendsBeginning (O.contents out.old) (O.contents out.new) (stop_begun line)) }
 {
-    write!(out, "<p class=\"refused\">Line {line}: ")
+    write_bytes(b"<p class=\"refused\">Line ", out)?;
+    write_number(line, out)?;
+    write_bytes(b": ", out)
 }
 
 /// Writes an item for each state, counted from 1.
 fn write_items<O: Write>(states: &[Titled], out: &mut O) -> io::Result<()>
-    ensures { OnOk result (Appends (O.contents out.old) (O.contents out.new) (items_from 1 states.now)) }
+    ensures written { OnOk result (Appends (O.contents out.old) (O.contents out.new) (items_from 1 states.now)) }
+    ensures cut { OnErr result (AppendsBeginning (O.contents out.old) (O.contents out.new) (items_from 1 states.now)) }
 {
     for (index, it) in states.iter().enumerate() {
         write_item(index + 1, it, out)?;
@@ -326,25 +364,28 @@ fn write_items<O: Write>(states: &[Titled], out: &mut O) -> io::Result<()>
 
 /// Writes an item for a state, as a link to it.
 fn write_item<O: Write>(number: usize, it: &Titled, out: &mut O) -> io::Result<()>
-    ensures { OnOk result (Appends (O.contents out.old) (O.contents out.new) (item_text number it.now)) }
+    ensures written { OnOk result (Appends (O.contents out.old) (O.contents out.new) (item_text number it.now)) }
+    ensures cut { OnErr result (AppendsBeginning (O.contents out.old) (O.contents out.new) (item_text number it.now)) }
 {
     begin_item(number, &it.title, out)?;
     write_summary(it.summary, out)?;
-    out.write_all(b"</li>\n")
+    write_bytes(b"</li>\n", out)
 }
 
 /// Writes what made a state, which ends the small letters, and what came of it, in short.
 fn write_summary<O: Write>(it: Summary, out: &mut O) -> io::Result<()>
-    ensures { OnOk result (Appends (O.contents out.old) (O.contents out.new) (summary_text it)) }
+    ensures written { OnOk result (Appends (O.contents out.old) (O.contents out.new) (summary_text it)) }
+    ensures cut { OnErr result (AppendsBeginning (O.contents out.old) (O.contents out.new) (summary_text it)) }
 {
     write_cause(it.cause, out)?;
-    out.write_all(b"</small>")?;
+    write_bytes(b"</small>", out)?;
     write_outcome_word(it.outcome, it.tally, out)
 }
 
 /// Begins an item with a link to its state.
 fn begin_item<O: Write>(number: usize, title: &[u8], out: &mut O) -> io::Result<()>
-    ensures { OnOk result (Appends (O.contents out.old) (O.contents out.new) (state_link number title.now)) }
+    ensures written { OnOk result (Appends (O.contents out.old) (O.contents out.new) (state_link number title.now)) }
+    ensures cut { OnErr result (AppendsBeginning (O.contents out.old) (O.contents out.new) (state_link number title.now)) }
 {
     begin_state_link(number, out)?;
     write_state_word(number, title, out)
@@ -352,35 +393,42 @@ fn begin_item<O: Write>(number: usize, title: &[u8], out: &mut O) -> io::Result<
 
 /// Begins an item, and a link to a state in it.
 fn begin_state_link<O: Write>(number: usize, out: &mut O) -> io::Result<()>
-    ensures { OnOk result (Appends (O.contents out.old) (O.contents out.new) (state_link_begun number)) }
+    ensures written { OnOk result (Appends (O.contents out.old) (O.contents out.new) (state_link_begun number)) }
+    ensures cut { OnErr result (AppendsBeginning (O.contents out.old) (O.contents out.new) (state_link_begun number)) }
 {
-    write!(out, "<li><a href=\"#state-{number}\">")
+    write_bytes(b"<li><a href=\"#state-", out)?;
+    write_number(number as u64, out)?;
+    write_bytes(b"\">", out)
 }
 
 /// Writes the text of a link to a state, ends it, and begins small letters.
 fn write_state_word<O: Write>(number: usize, title: &[u8], out: &mut O) -> io::Result<()>
-    ensures { OnOk result (Appends (O.contents out.old) (O.contents out.new) (state_word number title.now)) }
+    ensures written { OnOk result (Appends (O.contents out.old) (O.contents out.new) (state_word number title.now)) }
+    ensures cut { OnErr result (AppendsBeginning (O.contents out.old) (O.contents out.new) (state_word number title.now)) }
 {
-    write!(out, "State {number}")?;
+    write_bytes(b"State ", out)?;
+    write_number(number as u64, out)?;
     write_title(title, out)?;
-    out.write_all(b"</a> <small>")
+    write_bytes(b"</a> <small>", out)
 }
 
 /// Writes what came of a state, in short.
 fn write_outcome_word<O: Write>(outcome: Outcome, tally: Tally, out: &mut O) -> io::Result<()>
-    ensures { OnOk result (Appends (O.contents out.old) (O.contents out.new) (outcome_word outcome tally)) }
+    ensures written { OnOk result (Appends (O.contents out.old) (O.contents out.new) (outcome_word outcome tally)) }
+    ensures cut { OnErr result (AppendsBeginning (O.contents out.old) (O.contents out.new) (outcome_word outcome tally)) }
 {
     match outcome {
-        Outcome::Begun => out.write_all(b" begun"),
+        Outcome::Begun => write_bytes(b" begun", out),
         Outcome::Changed => write_tally(tally, out),
-        Outcome::Same => out.write_all(b" unchanged"),
-        Outcome::Refused(_) => out.write_all(b" <em class=\"r\">refused</em>"),
+        Outcome::Same => write_bytes(b" unchanged", out),
+        Outcome::Refused(_) => write_bytes(b" <em class=\"r\">refused</em>", out),
     }
 }
 
 /// Writes the numbers of nodes added, updated and removed, and whether the focus moved.
 fn write_tally<O: Write>(tally: Tally, out: &mut O) -> io::Result<()>
-    ensures { OnOk result (Appends (O.contents out.old) (O.contents out.new) (tally_text tally)) }
+    ensures written { OnOk result (Appends (O.contents out.old) (O.contents out.new) (tally_text tally)) }
+    ensures cut { OnErr result (AppendsBeginning (O.contents out.old) (O.contents out.new) (tally_text tally)) }
 {
     write_count("a", "added", tally.added, out)?;
     write_count("u", "updated", tally.updated, out)?;
@@ -390,7 +438,8 @@ fn write_tally<O: Write>(tally: Tally, out: &mut O) -> io::Result<()>
 
 /// Writes a count that isn't 0.
 fn write_count<O: Write>(class: &str, what: &str, count: u64, out: &mut O) -> io::Result<()>
-    ensures { OnOk result (Appends (O.contents out.old) (O.contents out.new) (count_text class.now what.now count)) }
+    ensures written { OnOk result (Appends (O.contents out.old) (O.contents out.new) (count_text class.now what.now count)) }
+    ensures cut { OnErr result (AppendsBeginning (O.contents out.old) (O.contents out.new) (count_text class.now what.now count)) }
 {
     if count == 0 {
         return Ok(());
@@ -400,9 +449,22 @@ fn write_count<O: Write>(class: &str, what: &str, count: u64, out: &mut O) -> io
 
 /// Writes a count.
 fn write_some<O: Write>(class: &str, what: &str, count: u64, out: &mut O) -> io::Result<()>
-    ensures { OnOk result (Appends (O.contents out.old) (O.contents out.new) (some_text class.now what.now count)) }
+    ensures written { OnOk result (Appends (O.contents out.old) (O.contents out.new) (some_text class.now what.now count)) }
+    ensures cut { OnErr result (AppendsBeginning (O.contents out.old) (O.contents out.new) (some_text class.now what.now count)) }
 {
-    write!(out, " <em class=\"{class}\">")?;
-    write!(out, "{count} ")?;
-    write!(out, "{what}</em>")
+    begin_em(class, out)?;
+    write_number(count, out)?;
+    write_bytes(b" ", out)?;
+    write_plain(what, out)?;
+    write_bytes(b"</em>", out)
+}
+
+/// Begins a mark of this class.
+fn begin_em<O: Write>(class: &str, out: &mut O) -> io::Result<()>
+    ensures written { OnOk result (Appends (O.contents out.old) (O.contents out.new) (em_begun class.now)) }
+    ensures cut { OnErr result (AppendsBeginning (O.contents out.old) (O.contents out.new) (em_begun class.now)) }
+{
+    write_bytes(b" <em class=\"", out)?;
+    write_plain(class, out)?;
+    write_bytes(b"\">", out)
 }

@@ -1,12 +1,25 @@
-use Rattle.std.proofs.Common.{◌++◌, codes}
+use Rattle.std.proofs.Common.{[], ◌∷◌, ◌++◌, codes}
+use Rattle.std.proofs.lemmas.Result.{on_err_weaker, on_ok_weaker}
 use Rattle.std.proofs.KnownBytes.{Appends-trans}
-use Rattle.std.proofs.lemmas.Result.{on_ok_weaker}
 use Rattle.html.specs.Escaped.{escaped}
+use Rattle.html.proofs.Beginnings.{at_err, of_joined, past}
 use Rattle.page.proofs.sections.write_fault.Goals as goal
 
-pub returns : goal.returns
-returns g c =
-    let begun = codes "<p class=\"refused\">The script stops at " in
-    let shown = escaped c.args.message.now in
-    let so_far = Appends-trans _ _ _ begun shown c.in_ok-write_all.ensures.bytes c.in_ok-write_escaped_bytes.ensures.written in
-    on_ok_weaker c.write_all-2.result (Appends-trans _ _ _ (begun ++ shown) (codes "</p>\n") so_far) c.write_all-2.ensures.bytes
+pub returns-in_err-write_bytes-clause-cut : goal.returns-in_err-write_bytes-clause-cut
+returns-in_err-write_bytes-clause-cut g c =
+    at_err _ (of_joined _ _ (codes "<p class=\"refused\">The script stops at ") ((escaped c.args.message.now) ∷ (codes "</p>\n") ∷ []) c.in_err-write_bytes.ensures.cut)
+
+pub returns-in_err-write_escaped_bytes-clause-cut : goal.returns-in_err-write_escaped_bytes-clause-cut
+returns-in_err-write_escaped_bytes-clause-cut g c =
+    let before = c.in_ok-write_bytes.ensures.written in
+    at_err _ (of_joined _ _ (codes "<p class=\"refused\">The script stops at " ++ escaped c.args.message.now) ((codes "</p>\n") ∷ []) (past _ _ _ (codes "<p class=\"refused\">The script stops at ") (escaped c.args.message.now) before c.in_err-write_escaped_bytes.ensures.cut))
+
+pub returns-clause-cut : goal.returns-clause-cut
+returns-clause-cut g c =
+    let before = (Appends-trans _ _ _ (codes "<p class=\"refused\">The script stops at ") (escaped c.args.message.now) c.in_ok-write_bytes.ensures.written c.in_ok-write_escaped_bytes.ensures.written) in
+    on_err_weaker _ (past _ _ _ (codes "<p class=\"refused\">The script stops at " ++ escaped c.args.message.now) (codes "</p>\n") before) c.write_bytes-2.ensures.cut
+
+pub returns-clause-written : goal.returns-clause-written
+returns-clause-written g c =
+    let before = (Appends-trans _ _ _ (codes "<p class=\"refused\">The script stops at ") (escaped c.args.message.now) c.in_ok-write_bytes.ensures.written c.in_ok-write_escaped_bytes.ensures.written) in
+    on_ok_weaker c.write_bytes-2.result (Appends-trans _ _ _ (codes "<p class=\"refused\">The script stops at " ++ escaped c.args.message.now) (codes "</p>\n") before) c.write_bytes-2.ensures.written

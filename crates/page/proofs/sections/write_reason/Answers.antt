@@ -1,16 +1,25 @@
-use Rattle.std.proofs.Common.{List, ℕ, ◌++◌, codes, subst}
+use Rattle.std.proofs.Common.{[], ◌∷◌, ◌++◌, codes}
+use Rattle.std.proofs.lemmas.Result.{on_err_weaker, on_ok_weaker}
 use Rattle.std.proofs.KnownBytes.{Appends-trans}
-use Rattle.std.proofs.lemmas.Result.{on_ok_weaker}
-use Rattle.std.specs.Io.KnownBytes.{Appends}
+use Rattle.html.proofs.Beginnings.{at_err, of_joined, past}
 use Rattle.page.specs.States.{stop_begun}
 use Rattle.page.proofs.sections.write_reason.Goals as goal
 
-pub returns : goal.returns
-returns g c =
-    let begun = stop_begun c.args.line in
-    let why = c.args.reason.now in
-    let first = g.O.Write.contents c.begin_stop.new.out in
-    let second = g.O.Write.contents c.write_all.new.self in
-    let said = subst (λ (text : List ℕ). Appends first second text) c.as_bytes.ensures.value c.in_ok-write_all.ensures.bytes in
-    let so_far = Appends-trans _ _ _ begun why c.in_ok-begin_stop.ensures said in
-    on_ok_weaker c.write_all-2.result (Appends-trans _ _ _ (begun ++ why) (codes "</p>\n") so_far) c.write_all-2.ensures.bytes
+pub returns-in_err-begin_stop-clause-cut : goal.returns-in_err-begin_stop-clause-cut
+returns-in_err-begin_stop-clause-cut g c =
+    at_err _ (of_joined _ _ (stop_begun c.args.line) (c.args.reason.now ∷ (codes "</p>\n") ∷ []) c.in_err-begin_stop.ensures.cut)
+
+pub returns-in_err-write_plain-clause-cut : goal.returns-in_err-write_plain-clause-cut
+returns-in_err-write_plain-clause-cut g c =
+    let before = c.in_ok-begin_stop.ensures.written in
+    at_err _ (of_joined _ _ (stop_begun c.args.line ++ c.args.reason.now) ((codes "</p>\n") ∷ []) (past _ _ _ (stop_begun c.args.line) (c.args.reason.now) before c.in_err-write_plain.ensures.cut))
+
+pub returns-clause-cut : goal.returns-clause-cut
+returns-clause-cut g c =
+    let before = (Appends-trans _ _ _ (stop_begun c.args.line) (c.args.reason.now) c.in_ok-begin_stop.ensures.written c.in_ok-write_plain.ensures.written) in
+    on_err_weaker _ (past _ _ _ (stop_begun c.args.line ++ c.args.reason.now) (codes "</p>\n") before) c.write_bytes.ensures.cut
+
+pub returns-clause-written : goal.returns-clause-written
+returns-clause-written g c =
+    let before = (Appends-trans _ _ _ (stop_begun c.args.line) (c.args.reason.now) c.in_ok-begin_stop.ensures.written c.in_ok-write_plain.ensures.written) in
+    on_ok_weaker c.write_bytes.result (Appends-trans _ _ _ (stop_begun c.args.line ++ c.args.reason.now) (codes "</p>\n") before) c.write_bytes.ensures.written
